@@ -1,0 +1,3 @@
+pub mod ByteClass
+pub mod Slice
+pub mod StringKind

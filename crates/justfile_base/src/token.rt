@@ -1,0 +1,30 @@
+ghost use Rattle.std.specs.Prelude.{◌≡◌};
+ghost use Rattle.justfile_base.specs.Slice.{IsWithin, slice_of};
+
+use crate::token_kind::TokenKind;
+
+/// A part of a source text, with its kind and its place. Lines and columns count from 0, columns
+/// in bytes.
+#[derive(Clone, Copy, Debug, PartialEq, Eq, PartialOrd, Ord)]
+pub struct Token<'src> {
+    pub column: usize,
+    pub kind: TokenKind,
+    /// The number of bytes.
+    pub length: usize,
+    pub line: usize,
+    /// The number of bytes of the source before the token.
+    pub offset: usize,
+    /// The path of the source.
+    pub path: &'src str,
+    pub src: &'src str,
+    pub ghost in_source: { IsWithin src.now offset length },
+}
+
+impl<'src> Token<'src> {
+    /// The part of the source that the token is.
+    pub fn lexeme(&self) -> &'src str
+        ensures { result.now ≡ slice_of self.now.src.now self.now.offset self.now.length }
+    {
+        &self.src[self.offset..self.offset + self.length]
+    }
+}

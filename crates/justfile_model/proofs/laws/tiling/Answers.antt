@@ -1,0 +1,5 @@
+use Rattle.justfile_model.proofs.LexedLaws.{joined}
+use Rattle.justfile_model.proofs.laws.tiling.Goals as goal
+
+pub returns : goal.returns
+returns c = joined

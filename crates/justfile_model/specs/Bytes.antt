@@ -1,0 +1,63 @@
+-- Bytes by class, and runs of bytes. A place past the end of a text reads as 0.
+use Rattle.std.specs.Prelude.{ℕ, Bool, true, false, ◌&&◌, ◌||◌, ◌==◌, nat_lt, List, [], ◌∷◌, drop, slice_index, if◌then◌else◌, chars}
+use Rattle.std.specs.List.{prefix_len, list_any}
+use Rattle.justfile_base.specs.ByteClass.{class_of}
+use Rattle.justfile_base.specs.declared.byte_class.ByteClass.{ByteClass}
+use Rattle.justfile_base.specs.declared.byte_class.ByteClass.TheVariants.{Blank, LineFeed, CarriageReturn, IdentifierStart, IdentifierContinue, Quote, Opener, Closer, Fixed, Lead, Other}
+
+abbrev pub blank : ByteClass → Bool
+blank Blank = true
+blank _ = false
+
+abbrev pub in_word : ByteClass → Bool
+in_word IdentifierStart = true
+in_word IdentifierContinue = true
+in_word _ = false
+
+-- space, tab, CR, LF
+abbrev pub white : ByteClass → Bool
+white Blank = true
+white CarriageReturn = true
+white LineFeed = true
+white _ = false
+
+abbrev pub line_feed : ByteClass → Bool
+line_feed LineFeed = true
+line_feed _ = false
+
+abbrev pub is_blank : ℕ → Bool
+is_blank b = blank (class_of b)
+
+abbrev pub is_word : ℕ → Bool
+is_word b = in_word (class_of b)
+
+abbrev pub blank_len : List ℕ → ℕ
+blank_len = prefix_len is_blank
+
+abbrev pub word_len : List ℕ → ℕ
+word_len = prefix_len is_word
+
+-- a line end is at the front: LF, or CR and LF
+abbrev pub is_line_end : List ℕ → Bool
+is_line_end bs = slice_index bs 0 == 10 || slice_index bs 0 == 13 && slice_index bs 1 == 10
+
+abbrev pub is_interpolation_start : List ℕ → Bool
+is_interpolation_start bs = slice_index bs 0 == 123 && slice_index bs 1 == 123
+
+abbrev pub is_interpolation_end : List ℕ → Bool
+is_interpolation_end bs = slice_index bs 0 == 125 && slice_index bs 1 == 125
+
+-- four braces, which are text
+abbrev pub is_interpolation_escape : List ℕ → Bool
+is_interpolation_escape bs = is_interpolation_start bs && is_interpolation_start (drop 2 bs)
+
+abbrev pub is_mixed : List ℕ → Bool
+is_mixed bs = list_any (λ b. b == 32) bs && list_any (λ b. b == 9) bs
+
+-- the run of white bytes at the front, of which some before may have ended in a line feed, ends in one, and another byte follows it
+unfoldable pub closes_levels : Bool → List ℕ → Bool
+closes_levels last [] = false
+closes_levels last (b ∷ bs) = if white (class_of b) then closes_levels (line_feed (class_of b)) bs else last
+
+abbrev pub first_char : List ℕ → ℕ
+first_char bs = slice_index (chars bs) 0

@@ -1,0 +1,42 @@
+-- Why no token comes next.
+use Rattle.std.specs.Prelude.{ℕ, List}
+use Rattle.justfile_base.specs.declared.delimiter.Delimiter.{Delimiter}
+use Rattle.justfile_base.specs.declared.compile_error_kind.CompileErrorKind.{CompileErrorKind}
+use Rattle.justfile_base.specs.declared.compile_error_kind.CompileErrorKind.TheVariants as kinds
+use Rattle.justfile_model.specs.Tok.{Tok}
+
+pub data LexicalFault : Type 0 where
+  EscapeEndOfFile : LexicalFault
+  InconsistentLeadingWhitespace : (expected found : List ℕ) → LexicalFault
+  InvalidEscapeSequence : (character : ℕ) → LexicalFault
+  MismatchedClosingDelimiter : (close : Delimiter) (line : ℕ) (opener : Delimiter) → LexicalFault
+  MixedLeadingWhitespace : (whitespace : List ℕ) → LexicalFault
+  UnexpectedCharacter : (expected : List ℕ) → LexicalFault
+  UnexpectedClosingDelimiter : (close : Delimiter) → LexicalFault
+  UnexpectedEndOfToken : (expected : List ℕ) → LexicalFault
+  UnknownStartOfToken : (start : ℕ) → LexicalFault
+  UnpairedCarriageReturn : LexicalFault
+  UnterminatedBacktick : LexicalFault
+  UnterminatedInterpolation : LexicalFault
+  UnterminatedString : LexicalFault
+
+abbrev pub lexical_fault_of : CompileErrorKind → LexicalFault
+lexical_fault_of kinds.EscapeEndOfFile = EscapeEndOfFile
+lexical_fault_of (kinds.InconsistentLeadingWhitespace expected found) = InconsistentLeadingWhitespace expected.now found.now
+lexical_fault_of (kinds.InvalidEscapeSequence character) = InvalidEscapeSequence character
+lexical_fault_of (kinds.MismatchedClosingDelimiter close line opener) = MismatchedClosingDelimiter close line opener
+lexical_fault_of (kinds.MixedLeadingWhitespace whitespace) = MixedLeadingWhitespace whitespace.now
+lexical_fault_of (kinds.UnexpectedCharacter expected) = UnexpectedCharacter expected.items
+lexical_fault_of (kinds.UnexpectedClosingDelimiter close) = UnexpectedClosingDelimiter close
+lexical_fault_of (kinds.UnexpectedEndOfToken expected) = UnexpectedEndOfToken expected.items
+lexical_fault_of (kinds.UnknownStartOfToken start) = UnknownStartOfToken start
+lexical_fault_of kinds.UnpairedCarriageReturn = UnpairedCarriageReturn
+lexical_fault_of kinds.UnterminatedBacktick = UnterminatedBacktick
+lexical_fault_of kinds.UnterminatedInterpolation = UnterminatedInterpolation
+lexical_fault_of kinds.UnterminatedString = UnterminatedString
+
+pub data Refusal : Type 0 where
+  -- a fault with the bytes of the rest that follow the first ones
+  Here : (fault : LexicalFault) (skip span : ℕ) → Refusal
+  -- the interpolation that begins with this token has no end
+  Unclosed : Tok → Refusal

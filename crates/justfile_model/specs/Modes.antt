@@ -1,0 +1,82 @@
+-- What the earlier tokens say of the next. In a list of earlier tokens the last comes first.
+use Rattle.std.specs.Prelude.{ℕ, ◌+◌, ◌-◌, Bool, true, false, not, ◌||◌, ◌==◌, List, [], ◌∷◌, length, slice_index, Option, Some, None, is_some}
+use Rattle.std.specs.List.{count_by}
+use Rattle.std.specs.Str.{bytes_eq}
+use Rattle.justfile_base.specs.declared.delimiter.Delimiter.{Delimiter}
+use Rattle.justfile_base.specs.declared.delimiter.Delimiter.TheVariants.{Brace, Bracket, FormatString, Paren}
+use Rattle.justfile_model.specs.declared.open_delimiter.OpenDelimiter.{OpenDelimiter}
+use Rattle.justfile_base.specs.declared.token_kind.TokenKind.{TokenKind}
+use Rattle.justfile_base.specs.declared.token_kind.TokenKind.TheVariants.{BraceL, BraceR, BracketL, BracketR, Colon, Dedent, Eol, FormatStringEnd, FormatStringStart, Identifier, Indent, InterpolationStart, InterpolationEnd, ParenL, ParenR, Whitespace}
+use Rattle.justfile_model.specs.Places.{is_newline}
+use Rattle.justfile_model.specs.Tok.{Tok}
+use Rattle.justfile_base.specs.StringKind.{kind_of}
+
+pub record Mode : Type 0 where
+  -- the open delimiters and the levels, the innermost first
+  pub openers : List OpenDelimiter
+  pub levels : List (List ℕ)
+  -- a colon came since the last dedent
+  pub colon : Bool
+  pub in_body : Bool
+  -- the start of the open interpolation
+  pub interpolation : Option Tok
+  -- nothing of the line came yet
+  pub line_start : Bool
+  -- the last token is the identifier f
+  pub behind_f : Bool
+
+abbrev pub tail_of : {A : Type 0} → List A → List A
+tail_of [] = []
+tail_of (x ∷ xs) = xs
+
+abbrev pub first_of : {A : Type 0} → List A → Option A
+first_of [] = None
+first_of (x ∷ xs) = Some x
+
+abbrev pub is_empty : {A : Type 0} → List A → Bool
+is_empty [] = true
+is_empty (x ∷ xs) = false
+
+-- the last byte is LF
+abbrev pub ends_in_newline : List ℕ → Bool
+ends_in_newline bs = slice_index bs (length bs - 1) == 10
+
+abbrev pub opener : Delimiter → ℕ → OpenDelimiter
+opener d n = record { delimiter = d; line = n }
+
+abbrev pub after : TokenKind → Tok → Mode → Mode
+after BraceL t m = record m { openers = opener Brace t.line ∷ m.openers; line_start = false; behind_f = false }
+after BracketL t m = record m { openers = opener Bracket t.line ∷ m.openers; line_start = false; behind_f = false }
+after ParenL t m = record m { openers = opener Paren t.line ∷ m.openers; line_start = false; behind_f = false }
+after FormatStringStart t m = record m { openers = opener (FormatString (kind_of t.lexeme)) (t.line + count_by is_newline t.lexeme) ∷ m.openers; line_start = false; behind_f = false }
+after BraceR t m = record m { openers = tail_of m.openers; line_start = false; behind_f = false }
+after BracketR t m = record m { openers = tail_of m.openers; line_start = false; behind_f = false }
+after ParenR t m = record m { openers = tail_of m.openers; line_start = false; behind_f = false }
+after FormatStringEnd t m = record m { openers = tail_of m.openers; line_start = false; behind_f = false }
+after Colon t m = record m { colon = true; line_start = false; behind_f = false }
+after Indent t m = record m { levels = t.lexeme ∷ m.levels; in_body = m.in_body || m.colon; line_start = false; behind_f = false }
+after Dedent t m = record m { levels = tail_of m.levels; colon = false; in_body = false; behind_f = false }
+after InterpolationStart t m = record m { interpolation = Some t; line_start = false; behind_f = false }
+after InterpolationEnd t m = record m { interpolation = None; line_start = false; behind_f = false }
+after Eol t m = record m { line_start = true; behind_f = false }
+after Whitespace t m = record m { line_start = ends_in_newline t.lexeme; behind_f = false }
+after Identifier t m = record m { line_start = false; behind_f = bytes_eq t.lexeme (102 ∷ []) }
+after _ t m = record m { line_start = false; behind_f = false }
+
+abbrev pub start : Mode
+start = record { openers = []; levels = []; colon = false; in_body = false; interpolation = None; line_start = true; behind_f = false }
+
+abbrev pub mode : List Tok → Mode
+mode [] = start
+mode (t ∷ earlier) = after t.kind t (mode earlier)
+
+abbrev pub innermost_of : List (List ℕ) → List ℕ
+innermost_of [] = []
+innermost_of (l ∷ ls) = l
+
+abbrev pub innermost : Mode → List ℕ
+innermost m = innermost_of m.levels
+
+-- a delimiter or an interpolation is open
+abbrev pub nested : Mode → Bool
+nested m = not (is_empty m.openers) || is_some m.interpolation

@@ -1,0 +1,238 @@
+-- The next token.
+use Rattle.std.specs.Prelude.{ℕ, zero, suc, ◌+◌, Bool, true, false, not, ◌||◌, ◌&&◌, ◌==◌, nat_eq, List, [], ◌∷◌, length, take, drop, slice_index, if◌then◌else◌, Option, Some, None, Result, Ok, Err}
+use Rattle.std.specs.List.{list_any, starts_with}
+use Rattle.std.specs.Char.{len_utf8}
+use Rattle.std.specs.Str.{bytes_eq}
+use Rattle.justfile_base.specs.declared.byte_class.ByteClass.{ByteClass}
+use Rattle.justfile_base.specs.declared.byte_class.ByteClass.TheVariants as classes
+use Rattle.justfile_base.specs.declared.delimiter.Delimiter.{Delimiter}
+use Rattle.justfile_base.specs.declared.delimiter.Delimiter.TheVariants.{Brace, Bracket, FormatString, Paren}
+use Rattle.justfile_base.specs.declared.string_kind.StringDelimiter.{StringDelimiter}
+use Rattle.justfile_base.specs.declared.string_kind.StringDelimiter.TheVariants as delimiters
+use Rattle.justfile_base.specs.declared.string_kind.StringKind.{StringKind}
+use Rattle.justfile_model.specs.declared.raw_text.RawText.TheVariants as raw_texts
+use Rattle.justfile_base.specs.declared.token_kind.TokenKind.{TokenKind}
+use Rattle.justfile_base.specs.declared.token_kind.TokenKind.TheVariants.{AmpersandAmpersand, Asterisk, At, Backtick, BangEquals, BangTilde, Bang, BarBar, BraceL, BraceR, BracketL, BracketR, ByteOrderMark, Colon, ColonColon, ColonEquals, Comma, Comment, Dedent, Dollar, Eof, Eol, Equals, EqualsEquals, EqualsTilde, FormatStringContinue, FormatStringEnd, FormatStringStart, Identifier, Indent, InterpolationEnd, InterpolationStart, ParenL, ParenR, Plus, PlusPlus, QuestionMark, Slash, StringToken, Text, Whitespace}
+use Rattle.justfile_base.specs.ByteClass.{class_of}
+use Rattle.justfile_model.specs.Bytes.{blank_len, word_len, is_line_end, is_interpolation_start, is_interpolation_end, is_mixed, closes_levels, first_char}
+use Rattle.justfile_base.specs.StringKind.{delimiter_len, kind_of}
+use Rattle.justfile_model.specs.LiteralText.{raw_len}
+use Rattle.justfile_model.specs.Tok.{Tok}
+use Rattle.justfile_model.specs.declared.open_delimiter.OpenDelimiter.{OpenDelimiter}
+use Rattle.justfile_model.specs.Modes.{Mode, first_of, is_empty, innermost, nested}
+use Rattle.justfile_model.specs.LexicalFault.{LexicalFault, EscapeEndOfFile, InconsistentLeadingWhitespace, InvalidEscapeSequence, MismatchedClosingDelimiter, MixedLeadingWhitespace, UnexpectedCharacter, UnexpectedClosingDelimiter, UnexpectedEndOfToken, UnknownStartOfToken, UnpairedCarriageReturn, UnterminatedBacktick, UnterminatedString, Refusal, Here, Unclosed}
+
+-- the kind and the length of a token, or why there is none
+abbrev pub Found : Type 0
+Found = Result (TokenKind × ℕ) Refusal
+
+-- Fixed tokens, by the first byte and the second.
+abbrev pub one : TokenKind → Found
+one kind = Ok (kind, 1)
+
+abbrev pub two : TokenKind → Found
+two kind = Ok (kind, 2)
+
+-- a byte that has to come twice
+abbrev pub twice : ℕ → TokenKind → List ℕ → Found
+twice b kind rest =
+    if slice_index rest 1 == b then two kind
+    else if length (drop 1 rest) == 0 then Err (Here (UnexpectedEndOfToken (b ∷ [])) 1 0)
+    else Err (Here (UnexpectedCharacter (b ∷ [])) 1 (len_utf8 (first_char (drop 1 rest))))
+
+unfoldable pub fixed : ℕ → List ℕ → Found
+fixed b rest =
+    let c = slice_index rest 1 in
+    if b == 33 then (if c == 61 then two BangEquals else if c == 126 then two BangTilde else one Bang)
+    else if b == 38 then twice 38 AmpersandAmpersand rest
+    else if b == 124 then twice 124 BarBar rest
+    else if b == 43 then (if c == 43 then two PlusPlus else one Plus)
+    else if b == 61 then (if c == 61 then two EqualsEquals else if c == 126 then two EqualsTilde else one Equals)
+    else if b == 58 then (if c == 61 then two ColonEquals else if c == 58 then two ColonColon else one Colon)
+    else if b == 36 then one Dollar
+    else if b == 42 then one Asterisk
+    else if b == 44 then one Comma
+    else if b == 47 then one Slash
+    else if b == 63 then one QuestionMark
+    else one At
+
+abbrev pub opening : ℕ → Found
+opening b = if b == 40 then one ParenL else if b == 91 then one BracketL else one BraceL
+
+-- Literals.
+abbrev pub unterminated : StringDelimiter → LexicalFault
+unterminated delimiters.Backtick = UnterminatedBacktick
+unterminated _ = UnterminatedString
+
+abbrev pub literal_kind : StringDelimiter → TokenKind
+literal_kind delimiters.Backtick = Backtick
+literal_kind _ = StringToken
+
+abbrev pub is_backtick : StringDelimiter → Bool
+is_backtick delimiters.Backtick = true
+is_backtick _ = false
+
+-- a literal or a literal_part of a format string, of which the first bytes are known: unterminated, or up to two braces, or up to the delimiter
+abbrev pub literal_part_by : StringKind → (format : Bool) → (opener inside : ℕ) → (more whole : TokenKind) → List ℕ → Found
+literal_part_by k format opener inside more whole rest =
+    if inside == length (drop opener rest) then Err (Here (unterminated k.delimiter) 0 opener)
+    else if format && is_interpolation_start (drop inside (drop opener rest)) then Ok (more, opener + inside + 2)
+    else Ok (whole, opener + inside + delimiter_len k)
+
+unfoldable pub literal_part : StringKind → (format : Bool) → (opener : ℕ) → (more whole : TokenKind) → List ℕ → Found
+literal_part k format opener more whole rest = literal_part_by k format opener (raw_len (raw_texts.Literal k format) (drop opener rest)) more whole rest
+
+abbrev pub literal : Mode → List ℕ → Found
+literal m rest =
+    let k = kind_of rest in
+    literal_part k (m.behind_f && not (is_backtick k.delimiter)) (delimiter_len k) FormatStringStart (literal_kind k.delimiter) rest
+
+-- Closing delimiters: one has to match the innermost open one.
+abbrev pub is_same : Delimiter → Delimiter → Bool
+is_same Brace Brace = true
+is_same Bracket Bracket = true
+is_same Paren Paren = true
+is_same _ _ = false
+
+abbrev pub close : Option OpenDelimiter → Delimiter → TokenKind → Found
+close None delimiter kind = Err (Here (UnexpectedClosingDelimiter delimiter) 0 0)
+close (Some o) delimiter kind = if is_same o.delimiter delimiter then one kind else Err (Here (MismatchedClosingDelimiter delimiter o.line o.delimiter) 0 0)
+
+abbrev pub format_of : Delimiter → Option StringKind
+format_of (FormatString k) = Some k
+format_of _ = None
+
+abbrev pub format_kind : Option OpenDelimiter → Option StringKind
+format_kind None = None
+format_kind (Some o) = format_of o.delimiter
+
+abbrev pub brace_by : Option StringKind → Option OpenDelimiter → List ℕ → Found
+brace_by None last rest = close last Brace BraceR
+brace_by (Some k) last rest = if is_interpolation_end rest then literal_part k true 2 FormatStringContinue FormatStringEnd rest else close last Brace BraceR
+
+abbrev pub closing : Option OpenDelimiter → ℕ → List ℕ → Found
+closing last b rest =
+    if b == 41 then close last Paren ParenR
+    else if b == 93 then close last Bracket BracketR
+    else brace_by (format_kind last) last rest
+
+abbrev pub line_end : Mode → ℕ → Found
+line_end m n = if nested m then Ok (Whitespace, n) else Ok (Eol, n)
+
+abbrev pub unknown : List ℕ → Found
+unknown rest = Err (Here (UnknownStartOfToken (first_char rest)) 0 (len_utf8 (first_char rest)))
+
+-- a backslash, which only a line end may follow
+abbrev pub escape : List ℕ → Found
+escape rest =
+    let c = slice_index rest 1 in
+    if c == 10 then Ok (Whitespace, 2 + blank_len (drop 2 rest))
+    else if c == 13 then (if slice_index rest 2 == 10 then Ok (Whitespace, 3 + blank_len (drop 3 rest)) else Err (Here UnpairedCarriageReturn 0 2))
+    else if length (drop 1 rest) == 0 then Err (Here EscapeEndOfFile 0 1)
+    else Err (Here (InvalidEscapeSequence (first_char (drop 1 rest))) 0 1)
+
+abbrev pub lead : List ℕ → Found
+lead rest = if first_char rest == 65279 then Ok (ByteOrderMark, 3) else unknown rest
+
+abbrev pub other : List ℕ → Found
+other rest =
+    if slice_index rest 0 == 35 then Ok (Comment, raw_len raw_texts.Comment rest)
+    else if slice_index rest 0 == 92 then escape rest
+    else unknown rest
+
+-- the token at the front of the rest of the text, outside body text, by the class of its first byte
+unfoldable pub inline : Mode → ByteClass → List ℕ → Found
+inline m classes.Blank rest = Ok (Whitespace, blank_len rest)
+inline m classes.LineFeed rest = line_end m 1
+inline m classes.CarriageReturn rest = if slice_index rest 1 == 10 then line_end m 2 else Err (Here UnpairedCarriageReturn 0 1)
+inline m classes.IdentifierStart rest = Ok (Identifier, word_len rest)
+inline m classes.IdentifierContinue rest = unknown rest
+inline m classes.Quote rest = literal m rest
+inline m classes.Opener rest = opening (slice_index rest 0)
+inline m classes.Closer rest = closing (first_of m.openers) (slice_index rest 0) rest
+inline m classes.Fixed rest = fixed (slice_index rest 0) rest
+inline m classes.Lead rest = lead rest
+inline m classes.Other rest = other rest
+
+abbrev pub normal : Mode → List ℕ → Found
+normal m rest = inline m (class_of (slice_index rest 0)) rest
+
+-- the token at the front of the rest of a body's line, of which so many bytes are text
+abbrev pub text_or : ℕ → ℕ → Found
+text_or zero b = if b == 10 then Ok (Eol, 1) else if b == 13 then Ok (Eol, 2) else Ok (InterpolationStart, 2)
+text_or (suc n) b = Ok (Text, suc n)
+
+unfoldable pub body : List ℕ → Found
+body rest = text_or (raw_len raw_texts.Body rest) (slice_index rest 0)
+
+-- at the end of the text each level is closed
+abbrev pub levels_end : List (List ℕ) → Found
+levels_end levels = if is_empty levels then Ok (Eof, 0) else Ok (Dedent, 0)
+
+abbrev pub at_end_by : Option Tok → List (List ℕ) → Found
+at_end_by (Some t) levels = Err (Unclosed t)
+at_end_by None levels = levels_end levels
+
+abbrev pub at_end : Mode → Found
+at_end m = at_end_by m.interpolation m.levels
+
+-- Where no layout token is asked for, the place decides.
+pub data Place : Type 0 where
+  InText : Place
+  InInterpolation : Place
+  Inline : Place
+
+abbrev pub place_by : Bool → Option Tok → Place
+place_by in_body (Some t) = InInterpolation
+place_by true None = InText
+place_by false None = Inline
+
+abbrev pub interpolated : Mode → List ℕ → Found
+interpolated m rest = if is_empty m.openers && is_interpolation_end rest then Ok (InterpolationEnd, 2) else normal m rest
+
+abbrev pub token_in : Place → Mode → List ℕ → Found
+token_in InText m rest = body rest
+token_in InInterpolation m rest = interpolated m rest
+token_in Inline m rest = normal m rest
+
+unfoldable pub inside : Mode → List ℕ → Found
+inside m rest = token_in (place_by m.in_body m.interpolation) m rest
+
+-- Layout.
+-- so many blanks, or none and the place decides
+abbrev pub blanks_or : ℕ → Mode → List ℕ → Found
+blanks_or zero m rest = inside m rest
+blanks_or (suc n) m rest = Ok (Whitespace, suc n)
+
+-- the literal_part of the leading blanks that may not mix spaces and tabs
+abbrev pub seen : Mode → List ℕ → List ℕ
+seen m found = if m.in_body then take (length (innermost m)) found else found
+
+abbrev pub is_level : List (List ℕ) → List ℕ → Bool
+is_level levels found = is_empty found || list_any (λ l. bytes_eq l found) levels
+
+abbrev pub ends_here : List ℕ → Bool
+ends_here behind = is_line_end behind || is_empty behind
+
+-- the blanks that are found, and what is behind them
+unfoldable pub layout : Mode → (found behind rest : List ℕ) → Found
+layout m found behind rest =
+    if nested m then blanks_or (length found) m rest
+    else if ends_here behind then (if not (is_empty m.levels) && closes_levels false rest then Ok (Dedent, 0) else blanks_or (length found) m rest)
+    else if bytes_eq found (innermost m) then blanks_or (length found) m rest
+    else if is_level m.levels found then Ok (Dedent, 0)
+    else if m.in_body && starts_with nat_eq found (innermost m) then blanks_or (length (innermost m)) m rest
+    else if is_mixed (seen m found) then Err (Here (MixedLeadingWhitespace (seen m found)) 0 (length (seen m found)))
+    else if not (starts_with nat_eq found (innermost m)) then Err (Here (InconsistentLeadingWhitespace (innermost m) found) 0 (length found))
+    else Ok (Indent, length found)
+
+abbrev pub at_line_start : Mode → List ℕ → Found
+at_line_start m rest = layout m (take (blank_len rest) rest) (drop (blank_len rest) rest) rest
+
+abbrev pub next_by : Bool → Mode → List ℕ → Found
+next_by true m rest = at_line_start m rest
+next_by false m rest = inside m rest
+
+unfoldable pub next : Mode → List ℕ → Found
+next m [] = at_end m
+next m (b ∷ bs) = next_by m.line_start m (b ∷ bs)

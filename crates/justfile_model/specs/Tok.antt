@@ -1,0 +1,15 @@
+-- Tokens without their path and their source.
+use Rattle.std.specs.Prelude.{ℕ, List}
+use Rattle.justfile_base.specs.declared.token_kind.TokenKind.{TokenKind}
+use Rattle.justfile_base.specs.declared.token.Token.{Token}
+use Rattle.justfile_base.specs.Slice.{slice_of}
+
+pub record Tok : Type 0 where
+  pub kind : TokenKind
+  pub lexeme : List ℕ
+  pub offset : ℕ
+  pub line : ℕ
+  pub column : ℕ
+
+abbrev pub tok_of : Token → Tok
+tok_of t = record { kind = t.kind; lexeme = slice_of t.src.now t.offset t.length; offset = t.offset; line = t.line; column = t.column }

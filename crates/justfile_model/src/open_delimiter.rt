@@ -1,0 +1,9 @@
+use justfile_base::Delimiter;
+
+/// An open delimiter, and the line on which it was opened; for a format string the line on which
+/// its first part ends.
+#[derive(Clone, Copy, Debug, PartialEq, Eq)]
+pub struct OpenDelimiter {
+    pub delimiter: Delimiter,
+    pub line: usize,
+}
