@@ -1,8 +1,17 @@
 pub mod Bytes
+pub mod Files
+pub mod Grammar
 pub mod LexicalFault
 pub mod Lexed
 pub mod LiteralText
+pub mod Literals
 pub mod Modes
 pub mod Next
+pub mod NormalShape
 pub mod Places
+pub mod Printing
+pub mod Reader
+pub mod Recursive
+pub mod SignificantTokens
 pub mod Tok
+pub mod Tree

@@ -1,0 +1,95 @@
+-- The grammar: which significant tokens are which tree. In `Rule leaf spot Open depth tree tokens rest` the tokens begin with the
+-- tree, and rest is what follows it; `leaf` and `spot` say what the tree keeps of a token; `depth` expressions are open around it,
+-- and `Open` says at which depth, before which token, an expression may be entered.
+use Rattle.std.specs.Prelude.{◌≡◌, ℕ, ◌+◌, ◌<◌, List, [], ◌∷◌, Option, Some, None, codes}
+use Rattle.std.specs.Str.{trim_end}
+use Rattle.justfile_base.specs.declared.token_kind.TokenKind.{TokenKind}
+use Rattle.justfile_base.specs.declared.token_kind.TokenKind.TheVariants as kinds
+use Rattle.justfile_model.specs.Tok.{Tok}
+use Rattle.justfile_model.specs.SignificantTokens.{SignificantToken}
+use Rattle.justfile_model.specs.Tree as tree
+use Rattle.justfile_model.specs.Tree.{Expr, Item}
+
+-- the next token, if there is one
+abbrev pub front : List SignificantToken → Option SignificantToken
+front [] = None
+front (t ∷ ts) = Some t
+
+abbrev pub IsKind : TokenKind → SignificantToken → Type 0
+IsKind kind t = t.tok.kind ≡ kind
+
+-- an identifier that spells the word
+pub record IsWord (word : List ℕ) (t : SignificantToken) : Type 0 where
+  pub is_name : IsKind kinds.Identifier t
+  pub spelled : t.tok.lexeme ≡ word
+
+module _ {A B : Type 0} (leaf : Tok → A) (spot : Tok → B) (Open : ℕ → Option SignificantToken → Type 0) where
+  -- a value: a string literal, or a name other than `if` and `assert`
+  pub data Value : ℕ → Expr A B → List SignificantToken → List SignificantToken → Type 0 where
+    literal : {depth : ℕ} {token : SignificantToken} {rest : List SignificantToken} → IsKind kinds.StringToken token
+        → Value depth (tree.StringLiteral (leaf token.tok)) (token ∷ rest) rest
+    variable : {depth : ℕ} {name : SignificantToken} {rest : List SignificantToken} → IsKind kinds.Identifier name
+        → (IsWord (codes "if") name → ⊥) → (IsWord (codes "assert") name → ⊥)
+        → Value depth (tree.Variable (leaf name.tok)) (name ∷ rest) rest
+
+  -- an expression: a value
+  pub data Expression : ℕ → Expr A B → List SignificantToken → List SignificantToken → Type 0 where
+    value : {depth : ℕ} {e : Expr A B} {tokens rest : List SignificantToken} → Open depth (front tokens)
+        → Value (depth + 1) e tokens rest
+        → Expression depth e tokens rest
+
+  -- an item that stands on a line: a comment, or NAME `:=` expression
+  pub data OnLine : Item A B → List SignificantToken → List SignificantToken → Type 0 where
+    comment : {token : SignificantToken} {rest : List SignificantToken} → IsKind kinds.Comment token
+        → OnLine (tree.Comment (trim_end token.tok.lexeme)) (token ∷ rest) rest
+    assignment : {e : Expr A B} {name operator : SignificantToken} {tokens rest : List SignificantToken} → IsKind kinds.Identifier name
+        → IsKind kinds.ColonEquals operator → Expression 0 e tokens rest
+        → OnLine (tree.Assignment (leaf name.tok) e) (name ∷ operator ∷ tokens) rest
+
+  mutual
+    -- items from the start of a line to the end of the file
+    pub data Items : List (Item A B) → List SignificantToken → Type 0 where
+      end : {token : SignificantToken} → IsKind kinds.Eof token
+          → Items [] (token ∷ [])
+      blank : {items : List (Item A B)} {token : SignificantToken} {rest : List SignificantToken} → IsKind kinds.Eol token
+          → Items items rest
+          → Items (tree.Newline ∷ items) (token ∷ rest)
+      item : {i : Item A B} {items : List (Item A B)} {tokens rest : List SignificantToken} → OnLine i tokens rest
+          → Behind items rest
+          → Items (i ∷ items) tokens
+
+    -- behind an item a comment may trail it, which is an item of its own
+    pub data Behind : List (Item A B) → List SignificantToken → Type 0 where
+      trailing : {items : List (Item A B)} {token : SignificantToken} {rest : List SignificantToken} → IsKind kinds.Comment token
+          → LineEnd items rest
+          → Behind (tree.Comment (trim_end token.tok.lexeme) ∷ items) (token ∷ rest)
+      bare : {items : List (Item A B)} {tokens : List SignificantToken} → LineEnd items tokens
+          → Behind items tokens
+
+    -- then the line ends, or the file does
+    pub data LineEnd : List (Item A B) → List SignificantToken → Type 0 where
+      line_end : {items : List (Item A B)} {token : SignificantToken} {rest : List SignificantToken} → IsKind kinds.Eol token
+          → Items items rest
+          → LineEnd (tree.Newline ∷ items) (token ∷ rest)
+      file_end : {token : SignificantToken} → IsKind kinds.Eof token
+          → LineEnd [] (token ∷ [])
+
+  -- a file may begin with a byte order mark
+  pub data File : List (Item A B) → List SignificantToken → Type 0 where
+    marked : {items : List (Item A B)} {token : SignificantToken} {rest : List SignificantToken} → IsKind kinds.ByteOrderMark token
+        → Items items rest
+        → File items (token ∷ rest)
+    unmarked : {items : List (Item A B)} {tokens : List SignificantToken} → Items items tokens
+        → File items tokens
+
+-- fewer expressions than the limit are open
+abbrev pub Under : ℕ → ℕ → Option SignificantToken → Type 0
+Under limit depth at = depth < limit
+
+-- the limit of depth
+abbrev pub Limited : ℕ → Option SignificantToken → Type 0
+Limited = Under 256
+
+-- no limit
+abbrev pub Free : ℕ → Option SignificantToken → Type 0
+Free depth at = Unit {0}

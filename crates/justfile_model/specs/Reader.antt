@@ -1,0 +1,148 @@
+-- Reading significant tokens from left to right, up to the first refusal. That it agrees with the grammar is a law.
+use Rattle.std.specs.Prelude.{ℕ, ◌+◌, Bool, true, false, not, ◌||◌, ◌&&◌, List, [], ◌∷◌, ◌++◌, length, Option, Some, None, is_some, Result, Ok, Err, nat_lt, if◌then◌else◌, codes}
+use Rattle.std.specs.Str.{bytes_eq, trim_end}
+use denote.Enum.Bare.{sameb}
+use Rattle.justfile_base.specs.contracts.token_kind.TokenKind.{the_type}
+use Rattle.justfile_base.specs.declared.token_kind.TokenKind.{TokenKind}
+use Rattle.justfile_base.specs.declared.token_kind.TokenKind.TheVariants as kinds
+use Rattle.justfile_model.specs.Tok.{Tok}
+use Rattle.justfile_model.specs.SignificantTokens.{SignificantToken}
+use Rattle.justfile_model.specs.Tree as tree
+use Rattle.justfile_model.specs.Tree.{Expr, Item, Tree}
+use Rattle.justfile_model.specs.Grammar.{front}
+use Rattle.justfile_model.specs.Literals.{Answers, cooked_text}
+use Rattle.justfile_model.specs.Recursive.{recursive}
+
+-- why tokens are refused, and at which one; none where the tokens are at an end
+pub data Refusal : Type 0 where
+  -- no rule goes on with this token
+  Unexpected : (token : Option SignificantToken) → Refusal
+  -- too many expressions are open
+  TooDeep : (token : Option SignificantToken) → Refusal
+  -- the literal has no text
+  NotCooked : (token : Option SignificantToken) → Refusal
+
+infixl 10 ◌>>=◌
+abbrev pub ◌>>=◌ : {A B : Type 0} → Result A Refusal → (A → Result B Refusal) → Result B Refusal
+(Ok x) >>= f = f x
+(Err e) >>= f = Err e
+
+-- what was read, and the tokens behind it
+abbrev pub Read : Type 0 → Type 0
+Read A = Result (A × List SignificantToken) Refusal
+
+unfoldable pub refused : (Option SignificantToken → Refusal) → List SignificantToken → Refusal
+refused at tokens = at (front tokens)
+
+-- `==` on kinds
+unfoldable pub same_kind : TokenKind → TokenKind → Bool
+same_kind = sameb the_type
+
+-- the next token if it is of this kind, and the tokens behind it
+unfoldable pub accept : TokenKind → List SignificantToken → Option (SignificantToken × List SignificantToken)
+accept kind [] = None
+accept kind (t ∷ ts) = if same_kind t.tok.kind kind then Some (t, ts) else None
+
+unfoldable pub is_word : List ℕ → SignificantToken → Bool
+is_word word t = same_kind t.tok.kind kinds.Identifier && bytes_eq t.tok.lexeme word
+
+-- an identifier that isn't `if` or `assert`
+unfoldable pub is_variable : SignificantToken → Bool
+is_variable t = same_kind t.tok.kind kinds.Identifier && not (bytes_eq t.tok.lexeme (codes "if") || bytes_eq t.tok.lexeme (codes "assert"))
+
+unfoldable pub accept_variable : List SignificantToken → Option (SignificantToken × List SignificantToken)
+accept_variable [] = None
+accept_variable (t ∷ ts) = if is_variable t then Some (t, ts) else None
+
+-- goes on by whether a token was taken
+abbrev pub choose : {A : Type 0} → Option (SignificantToken × List SignificantToken) → A → (SignificantToken × List SignificantToken → A) → A
+choose None otherwise taken = otherwise
+choose (Some x) otherwise taken = taken x
+
+unfoldable pub expect : TokenKind → List SignificantToken → Read SignificantToken
+expect kind tokens = choose (accept kind tokens) (Err (refused Unexpected tokens)) (λ x. Ok x)
+
+-- a comment is kept without the white space at its end
+abbrev pub comment_item : SignificantToken → Item Tok Tok
+comment_item t = tree.Comment (trim_end t.tok.lexeme)
+
+module _ (expander : Answers) where
+  -- a string literal that has a text
+  unfoldable pub literal_of : SignificantToken × List SignificantToken → Read (Expr Tok Tok)
+  literal_of x = if is_some (cooked_text expander x.0.tok.lexeme) then Ok (tree.StringLiteral x.0.tok, x.1) else Err (NotCooked (Some x.0))
+
+  unfoldable pub value : ℕ → List SignificantToken → Read (Expr Tok Tok)
+  value depth tokens =
+      choose (accept kinds.StringToken tokens)
+      (choose (accept_variable tokens) (Err (refused Unexpected tokens)) (λ x. Ok (tree.Variable x.0.tok, x.1)))
+      literal_of
+
+  unfoldable pub expression : ℕ → List SignificantToken → Read (Expr Tok Tok)
+  expression depth tokens = if nat_lt depth 256 then value (depth + 1) tokens else Err (refused TooDeep tokens)
+
+  unfoldable pub assignment : List SignificantToken → Read (Item Tok Tok)
+  assignment tokens = do
+    name ← expect kinds.Identifier tokens
+    operator ← expect kinds.ColonEquals name.1
+    e ← expression 0 operator.1
+    Ok (tree.Assignment name.0.tok e.0, e.1)
+
+  unfoldable pub on_line : List SignificantToken → Read (Item Tok Tok)
+  on_line tokens = choose (accept kinds.Comment tokens) (assignment tokens) (λ c. Ok (comment_item c.0, c.1))
+
+  -- the end of the line is an item; the end of the file is none, and is left
+  unfoldable pub line_end : List SignificantToken → Read Tree
+  line_end tokens =
+      choose (accept kinds.Eof tokens)
+      (do
+        newline ← expect kinds.Eol tokens
+        Ok (tree.Newline ∷ [], newline.1))
+      (λ x. Ok ([], tokens))
+
+  -- a trailing comment, and the line's end
+  unfoldable pub behind : List SignificantToken → Read Tree
+  behind tokens =
+      choose (accept kinds.Comment tokens)
+      (line_end tokens)
+      (λ c. do
+        end ← line_end c.1
+        Ok (comment_item c.0 ∷ end.0, end.1))
+
+  -- the items of a line: none but its end, or an item and what is behind it
+  unfoldable pub line : List SignificantToken → Read Tree
+  line tokens =
+      choose (accept kinds.Eol tokens)
+      (do
+        i ← on_line tokens
+        b ← behind i.1
+        Ok (i.0 ∷ b.0, b.1))
+      (λ newline. Ok (tree.Newline ∷ [], newline.1))
+
+  -- these items before what is read
+  unfoldable pub with_front : Tree → Result Tree Refusal → Result Tree Refusal
+  with_front items read = do
+    more ← read
+    Ok (items ++ more)
+
+  -- nothing stands behind the end of the file
+  unfoldable pub at_end : List SignificantToken → Result Tree Refusal
+  at_end [] = Ok []
+  at_end (t ∷ ts) = Err (refused Unexpected (t ∷ ts))
+
+  unfoldable pub items_rule : (List SignificantToken → Result Tree Refusal) → List SignificantToken → Result Tree Refusal
+  items_rule read tokens =
+      choose (accept kinds.Eof tokens)
+      (do
+        l ← line tokens
+        with_front l.0 (read l.1))
+      (λ end. at_end end.1)
+
+  abbrev pub stop : List SignificantToken → Result Tree Refusal
+  stop tokens = Err (Unexpected None)
+
+  -- the items up to the end of the file
+  unfoldable pub items : List SignificantToken → Result Tree Refusal
+  items = recursive length stop items_rule
+
+  unfoldable pub file : List SignificantToken → Result Tree Refusal
+  file tokens = choose (accept kinds.ByteOrderMark tokens) (items tokens) (λ mark. items mark.1)

@@ -1,0 +1,23 @@
+-- What the parser reads: all tokens but whitespace.
+use Rattle.std.specs.Prelude.{ℕ, Bool, true, false, cond, List, [], ◌∷◌}
+use Rattle.justfile_base.specs.declared.token_kind.TokenKind.{TokenKind}
+use Rattle.justfile_base.specs.declared.token_kind.TokenKind.TheVariants.{Whitespace}
+use Rattle.justfile_model.specs.Tok.{Tok}
+
+-- a token, and whether it is glued to the one before: no token stands between
+pub record SignificantToken : Type 0 where
+  pub tok : Tok
+  pub glued : Bool
+
+abbrev pub is_whitespace : TokenKind → Bool
+is_whitespace Whitespace = true
+is_whitespace _ = false
+
+-- the tokens but for whitespace, of which the first is glued or not
+abbrev pub significant_from : Bool → List Tok → List SignificantToken
+significant_from glued [] = []
+significant_from glued (t ∷ ts) = cond (is_whitespace t.kind) (significant_from false ts) (record { tok = t; glued = glued } ∷ significant_from true ts)
+
+-- nothing stands before the first token, so it is glued to none
+abbrev pub significant_tokens : List Tok → List SignificantToken
+significant_tokens = significant_from false
