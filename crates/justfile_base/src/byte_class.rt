@@ -1,5 +1,10 @@
 ghost use Rattle.std.specs.Prelude.{◌≡◌};
-ghost use Rattle.justfile_base.specs.ByteClass.{class_of, begins_fixed};
+ghost use Rattle.justfile_base.specs.ByteClass.{class_of};
+
+use self::ByteClass::{
+    Blank, CarriageReturn as Return, Closer, Fixed, IdentifierContinue as Continue,
+    IdentifierStart as Start, Lead, LineFeed, Opener, Other, Quote,
+};
 
 /// What a byte may begin.
 #[derive(Clone, Copy, Debug, PartialEq, Eq)]
@@ -17,49 +22,33 @@ pub enum ByteClass {
     Other,
 }
 
-fn begins_fixed(byte: u8) -> bool
-    ensures { result ≡ begins_fixed byte }
-{
-    byte == b'!'
-        || byte == b'&'
-        || byte == b'|'
-        || byte == b'+'
-        || byte == b'='
-        || byte == b':'
-        || byte == b'$'
-        || byte == b'*'
-        || byte == b','
-        || byte == b'/'
-        || byte == b'?'
-        || byte == b'@'
-}
+/// The class of each byte.
+static CLASSES: [ByteClass; 256] = [
+    Other, Other, Other, Other, Other, Other, Other, Other, Other, Blank, LineFeed, Other, Other,
+    Return, Other, Other, Other, Other, Other, Other, Other, Other, Other, Other, Other, Other,
+    Other, Other, Other, Other, Other, Other, Blank, Fixed, Quote, Other, Fixed, Other, Fixed,
+    Quote, Opener, Closer, Fixed, Fixed, Fixed, Continue, Other, Fixed, Continue, Continue,
+    Continue, Continue, Continue, Continue, Continue, Continue, Continue, Continue, Fixed, Other,
+    Other, Fixed, Other, Fixed, Fixed, Start, Start, Start, Start, Start, Start, Start, Start,
+    Start, Start, Start, Start, Start, Start, Start, Start, Start, Start, Start, Start, Start,
+    Start, Start, Start, Start, Start, Opener, Other, Closer, Other, Start, Quote, Start, Start,
+    Start, Start, Start, Start, Start, Start, Start, Start, Start, Start, Start, Start, Start,
+    Start, Start, Start, Start, Start, Start, Start, Start, Start, Start, Start, Opener, Fixed,
+    Closer, Other, Other, Other, Other, Other, Other, Other, Other, Other, Other, Other, Other,
+    Other, Other, Other, Other, Other, Other, Other, Other, Other, Other, Other, Other, Other,
+    Other, Other, Other, Other, Other, Other, Other, Other, Other, Other, Other, Other, Other,
+    Other, Other, Other, Other, Other, Other, Other, Other, Other, Other, Other, Other, Other,
+    Other, Other, Other, Other, Other, Other, Other, Other, Other, Other, Other, Other, Other,
+    Other, Other, Other, Other, Lead, Lead, Lead, Lead, Lead, Lead, Lead, Lead, Lead, Lead, Lead,
+    Lead, Lead, Lead, Lead, Lead, Lead, Lead, Lead, Lead, Lead, Lead, Lead, Lead, Lead, Lead, Lead,
+    Lead, Lead, Lead, Lead, Lead, Lead, Lead, Lead, Lead, Lead, Lead, Lead, Lead, Lead, Lead, Lead,
+    Lead, Lead, Lead, Lead, Lead, Lead, Lead, Lead, Other, Other, Other, Other, Other, Other,
+    Other, Other, Other, Other, Other,
+];
 
 /// The class of a byte.
-#[tactic(auto, unfolding(crate::specs::ByteClass::class_of))]
 pub fn byte_class(byte: u8) -> ByteClass
     ensures { result ≡ class_of byte }
 {
-    if byte == b' ' || byte == b'\t' {
-        ByteClass::Blank
-    } else if byte == b'\n' {
-        ByteClass::LineFeed
-    } else if byte == b'\r' {
-        ByteClass::CarriageReturn
-    } else if byte.is_ascii_alphabetic() || byte == b'_' {
-        ByteClass::IdentifierStart
-    } else if byte.is_ascii_digit() || byte == b'-' {
-        ByteClass::IdentifierContinue
-    } else if byte == b'\'' || byte == b'"' || byte == b'`' {
-        ByteClass::Quote
-    } else if byte == b'(' || byte == b'[' || byte == b'{' {
-        ByteClass::Opener
-    } else if byte == b')' || byte == b']' || byte == b'}' {
-        ByteClass::Closer
-    } else if begins_fixed(byte) {
-        ByteClass::Fixed
-    } else if byte > 193 && byte < 245 {
-        ByteClass::Lead
-    } else {
-        ByteClass::Other
-    }
+    CLASSES[byte as usize]
 }

@@ -8,6 +8,10 @@ pub enum CompileErrorKind<'src> {
         expected: &'src str,
         found: &'src str,
     },
+    /// A fault of the program and not of the text.
+    Internal {
+        message: &'static str,
+    },
     InvalidEscapeSequence {
         character: char,
     },

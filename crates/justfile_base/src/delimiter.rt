@@ -1,3 +1,6 @@
+ghost use Rattle.std.specs.Prelude.{◌≡◌};
+ghost use Rattle.justfile_base.specs.Delimiter.{open_text, close_text};
+
 use crate::string_kind::StringKind;
 
 /// What may be open while a text is lexed.
@@ -8,4 +11,30 @@ pub enum Delimiter {
     /// The part of a format string that holds an expression.
     FormatString(StringKind),
     Paren,
+}
+
+impl Delimiter {
+    /// The text that opens it.
+    pub fn open(self) -> &'static str
+        ensures { result.now ≡ open_text self }
+    {
+        match self {
+            Delimiter::Brace => "{",
+            Delimiter::Bracket => "[",
+            Delimiter::FormatString(_) => "{{",
+            Delimiter::Paren => "(",
+        }
+    }
+
+    /// The text that closes it.
+    pub fn close(self) -> &'static str
+        ensures { result.now ≡ close_text self }
+    {
+        match self {
+            Delimiter::Brace => "}",
+            Delimiter::Bracket => "]",
+            Delimiter::FormatString(_) => "}}",
+            Delimiter::Paren => ")",
+        }
+    }
 }

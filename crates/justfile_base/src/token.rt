@@ -1,6 +1,8 @@
 ghost use Rattle.std.specs.Prelude.{◌≡◌};
 ghost use Rattle.justfile_base.specs.Slice.{IsWithin, slice_of};
 
+use crate::compile_error::CompileError;
+use crate::compile_error_kind::CompileErrorKind;
 use crate::token_kind::TokenKind;
 
 /// A part of a source text, with its kind and its place. Lines and columns count from 0, columns
@@ -26,5 +28,12 @@ impl<'src> Token<'src> {
         ensures { result.now ≡ slice_of self.now.src.now self.now.offset self.now.length }
     {
         &self.src[self.offset..self.offset + self.length]
+    }
+    /// A refusal that stands at the token.
+    pub fn error(&self, kind: CompileErrorKind<'src>) -> CompileError<'src>
+        ensures kind { result.kind ≡ kind.entry }
+        ensures token { result.token ≡ self.now }
+    {
+        CompileError::new(*self, kind)
     }
 }

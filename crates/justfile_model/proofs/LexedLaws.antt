@@ -1,5 +1,5 @@
 -- A text has one list of tokens, or one fault.
-use Rattle.std.proofs.Common.{◌≡◌, ◌≢◌, ℕ, ◌+◌, ◌<◌, ◌≤◌, List, [], ◌∷◌, ◌++◌, length, take, drop, Ok, Err, refl, sym, ap, subst, ◌∙◌, ⊎_elim, arith}
+use Rattle.std.proofs.Common.{zero, suc, ◌≡◌, ◌≢◌, ℕ, ◌+◌, ◌-◌, ◌<◌, ◌≤◌, List, [], ◌∷◌, ◌++◌, length, get_or, take, drop, Ok, Err, refl, sym, ap, subst, ◌∙◌, ⊎_elim, arith}
 use Rattle.std.specs.Prelude.{reverse}
 use Rattle.std.proofs.lemmas.Bool.{cases_lt}
 use Rattle.std.proofs.lemmas.List.{reverse-reverse}
@@ -11,12 +11,14 @@ use Rattle.justfile_model.specs.Next.{Found}
 use Rattle.justfile_model.specs.Tok.{Tok}
 use Rattle.justfile_model.specs.LexicalFault.{LexicalFault, Refusal, Here, Unclosed}
 use Rattle.std.specs.Str.{IsUtf8, IsCharBoundary}
-use Rattle.std.specs.List.{flat_map}
-use Rattle.std.proofs.Math.Seq.{take-add}
-use Rattle.std.proofs.lemmas.List.{reverse-append, flat_map_more, append-nil, append_assoc, take_all, length-drop}
+use Rattle.std.specs.List.{All, flat_map}
+use Rattle.std.specs.List.Sorted.{IsNonDecreasingBy}
+use Rattle.std.proofs.Math.Seq.{get_or-append_seam, take-add}
+use Rattle.std.proofs.lemmas.List.Sorted.{IsNonDecreasingBy-push, IsNonDecreasingBy-short}
+use Rattle.std.proofs.lemmas.List.{get_or-reverse, length-reverse, reverse-append, flat_map_more, append-nil, append_assoc, take_all, length-drop}
 use Rattle.std.proofs.lemmas.Str.{IsCharBoundary-start, IsCharBoundary-from_rest, IsUtf8-drop}
 use Rattle.justfile_model.proofs.NextLaws.{token_cut}
-use Rattle.justfile_model.specs.Lexed.{next_of, IsSpan, Follows, end_of, StandsAt, IsNext, Begins, Lexed, IsFault}
+use Rattle.justfile_model.specs.Lexed.{next_of, IsSpan, EndsInEof, Follows, end_of, Stands, StandsAt, IsNext, Begins, Lexed, IsFault}
 
 ok_inside : (x y : TokenKind × ℕ) → ◌≡◌ {A = Found} (Ok x) (Ok y) → x ≡ y
 ok_inside x y h = cc
@@ -124,7 +126,7 @@ module _ (text : List ℕ) where
   abbrev lexeme_of : Tok → List ℕ
   lexeme_of t = t.lexeme
 
-  end_cuts : (e : List Tok) → IsUtf8 text → Begins text e → IsCharBoundary text (end_of e)
+  pub end_cuts : (e : List Tok) → IsUtf8 text → Begins text e → IsCharBoundary text (end_of e)
   end_cuts [] u b = IsCharBoundary-start text u
   end_cuts (t ∷ e) u b =
       let at = end_cuts e u b.0 in
@@ -141,20 +143,63 @@ module _ (text : List ℕ) where
       ∙ sym (take-add (end_of e) (length t.lexeme) text)
       ∙ ap (λ n. take (n + length t.lexeme) text) (sym one.offset_is)
 
-  nil : (xs : List ℕ) → length xs ≡ 0 → xs ≡ []
+  pub nil : (xs : List ℕ) → length xs ≡ 0 → xs ≡ []
   nil [] h = refl
   nil (x ∷ xs) h = absurd (omega arith)
 
-  pub joined : (ts : List Tok) → IsUtf8 text → Lexed text ts → flat_map lexeme_of ts ≡ text
-  joined ts u p =
+  in_front : (ts : List Tok) (p : Lexed text ts) → ts ≡ reverse p.earlier ++ (p.last ∷ [])
+  in_front ts p = sym (reverse-reverse ts) ∙ ap reverse p.are ∙ reverse-append (p.last ∷ []) p.earlier
+
+  no_eof : (e : List Tok) → Begins text e → All (λ t. t.kind ≢ Eof) e
+  no_eof [] b k d l = absurd (omega arith)
+  no_eof (t ∷ e) b zero d l = b.2
+  no_eof (t ∷ e) b (suc k) d l = no_eof e b.0 k d (omega arith)
+
+  at_end_of : (ts : List Tok) (p : Lexed text ts) → IsUtf8 text → (end_of p.earlier ≡ length text) × (p.last.lexeme ≡ [])
+  at_end_of ts p u =
       let at = end_cuts p.earlier u p.begins in
       let found = subst (λ k. next_of text p.earlier ≡ Ok (k, length p.last.lexeme)) p.is_end p.is_next.found in
       let ends = (token_cut _ _ (IsUtf8-drop text (end_of p.earlier) u at) _ _ found).2 in
-      let whole : length text ≤ end_of p.earlier = omega (arith, ends.0, length-drop (end_of p.earlier) text) in
-      let none : p.last.lexeme ≡ [] = nil p.last.lexeme ends.1 in
-      let order : ts ≡ reverse p.earlier ++ (p.last ∷ []) = sym (reverse-reverse ts) ∙ ap reverse p.are ∙ reverse-append (p.last ∷ []) p.earlier in
-      ap (flat_map lexeme_of) order
+      (omega (arith, ends.0, at.0, length-drop (end_of p.earlier) text), nil p.last.lexeme ends.1)
+
+  pub ended : (ts : List Tok) → IsUtf8 text → Lexed text ts → EndsInEof text ts
+  ended ts u p =
+      let ends = at_end_of ts p u in
+      record {
+        front = reverse p.earlier;
+        last = p.last;
+        are = in_front ts p;
+        is_end = p.is_end;
+        lexeme_is = ends.1;
+        offset_is = p.is_next.stands.offset_is ∙ ends.0;
+        only_there = λ k d l.
+            let l' : k < length p.earlier = omega (arith, l, length-reverse p.earlier) in
+            subst (λ (t : Tok). t.kind ≢ Eof) (sym (get_or-reverse p.earlier k d l')) (no_eof p.earlier p.begins (length p.earlier - 1 - k) d (omega arith));
+      }
+
+  pub joined : (ts : List Tok) → IsUtf8 text → Lexed text ts → flat_map lexeme_of ts ≡ text
+  joined ts u p =
+      let ends = at_end_of ts p u in
+      ap (flat_map lexeme_of) (in_front ts p)
       ∙ sym (flat_map_more lexeme_of [] (reverse p.earlier) p.last)
-      ∙ (λ i. tiled p.earlier p.begins i ++ none i)
+      ∙ (λ i. tiled p.earlier p.begins i ++ ends.1 i)
       ∙ append-nil (take (end_of p.earlier) text)
-      ∙ take_all (end_of p.earlier) text whole
+      ∙ take_all (end_of p.earlier) text (omega (arith, ends.0))
+
+  -- each token begins where the one before it ends
+  pushed : (e : List Tok) (t : Tok) → Begins text e → Stands text e t → IsNonDecreasingBy (λ t. t.offset) (reverse e) → IsNonDecreasingBy (λ t. t.offset) (reverse e ++ (t ∷ []))
+  pushed e t b s h = IsNonDecreasingBy-push (λ t. t.offset) (reverse e) t h (λ d l. go e s d l)
+    where
+      go : (e : List Tok) → Stands text e t → (d : Tok) → 0 < length (reverse e) → (get_or (reverse e) (length (reverse e) - 1) d).offset ≤ t.offset
+      go [] s d l = absurd (omega arith)
+      go (u ∷ e) s d l =
+          let n : length (reverse (u ∷ e)) - 1 ≡ length e = omega (arith, length-reverse (u ∷ e)) in
+          let at : get_or (reverse (u ∷ e)) (length (reverse (u ∷ e)) - 1) d ≡ u = ap (λ n. get_or (reverse (u ∷ e)) n d) n ∙ ap (λ l. get_or l (length e) d) (reverse-append (u ∷ []) e) ∙ ap (λ n. get_or (reverse e ++ (u ∷ [])) n d) (sym (length-reverse e)) ∙ get_or-append_seam (reverse e) u [] d in
+          omega (arith, ap (λ (t : Tok). t.offset) at, s.offset_is)
+
+  rising : (e : List Tok) → Begins text e → IsNonDecreasingBy (λ t. t.offset) (reverse e)
+  rising [] b = IsNonDecreasingBy-short (λ t. t.offset) [] (omega arith)
+  rising (t ∷ e) b = subst (IsNonDecreasingBy (λ t. t.offset)) (sym (reverse-append (t ∷ []) e)) (pushed e t b.0 b.1.stands (rising e b.0))
+
+  pub offsets_rise : (ts : List Tok) → Lexed text ts → IsNonDecreasingBy (λ t. t.offset) ts
+  offsets_rise ts p = subst (IsNonDecreasingBy (λ t. t.offset)) (sym (in_front ts p)) (pushed p.earlier p.last p.begins p.is_next.stands (rising p.earlier p.begins))

@@ -1,5 +1,5 @@
 -- A token ends between two characters, and only the last one and a dedent have no bytes.
-use Rattle.std.proofs.Common.{zero, suc, ◌≡◌, ℕ, ◌+◌, ◌<◌, ◌≤◌, Bool, true, false, cond, eqb, ltb, List, [], ◌∷◌, ◌⊎◌, inl, inr, length, get_or, take, drop, Option, Some, None, Ok, Err, refl, sym, ap, subst, ⊎_elim, arith, length-drop}
+use Rattle.std.proofs.Common.{zero, suc, ◌≡◌, ℕ, ◌+◌, ◌-◌, ◌<◌, ◌≤◌, Bool, true, false, cond, eqb, ltb, List, [], ◌∷◌, ◌⊎◌, inl, inr, length, get_or, take, drop, Option, Some, None, Ok, Err, refl, sym, ap, subst, ◌∙◌, ⊎_elim, arith, length-drop, get_or-drop}
 use Rattle.std.specs.Prelude.{◌||◌, ◌&&◌, not, nat_eq}
 use Rattle.std.specs.List.{starts_with}
 use Rattle.std.specs.Char.{len_utf8}
@@ -28,16 +28,23 @@ use Rattle.justfile_model.specs.declared.open_delimiter.OpenDelimiter.{OpenDelim
 use Rattle.justfile_model.specs.Modes.{Mode, first_of, is_empty, innermost, innermost_of, nested}
 use Rattle.justfile_model.specs.LexicalFault.{LexicalFault, Refusal, Here, Unclosed}
 use Rattle.justfile_model.specs.Next.{Found, twice, fixed, opening, literal_part, literal, literal_kind, is_same, close, format_kind, brace_by, closing, line_end, unknown, escape, inline, normal, text_or, body, at_end_by, Place, InText, InInterpolation, Inline, place_by, interpolated, token_in, inside, blanks_or, seen, is_level, ends_here, layout, at_line_start, next_by, next}
-use Rattle.justfile_model.proofs.CutLemmas.{class_fact, after_byte, run_cuts, run_positive, blank_ascii, word_ascii, first_cuts, eq_from, ne_from, there, past_byte, raw_cuts, raw_stops, raw_within, delimiter_is}
+use Rattle.justfile_model.proofs.CutLemmas.{class_fact, after_byte, run_cuts, run_positive, blank_ascii, word_ascii, first_cuts, ne_from, there, past_byte, raw_cuts, raw_stops, raw_within, delimiter_is, delimiter_last, mark_last, comment_last, body_last, run_last, word_no_newline, blank_no_newline, not_newline, is_line_feed, eq_from}
 
 -- a token takes bytes, or is the end, or closes a level
 abbrev pub Moves : Mode → TokenKind → ℕ → Type 0
 Moves m k n = (0 < n) ⊎ ((k ≡ Eof) ⊎ ((k ≡ Dedent) × (0 < length m.levels)))
 
--- only where the text ends does the last token come
+-- the last byte of a token is a newline
+abbrev pub ends_line : List ℕ → ℕ → Bool
+ends_line rest n = eqb (get_or rest (n - 1) 0) 10
+
+-- Eof comes only where the text ends, a dedent has no bytes, a line end ends in a newline, and besides it only whitespace may
 abbrev pub EndsAt : List ℕ → TokenKind → ℕ → Type 0
 EndsAt rest Eof n = (length rest ≡ 0) × (n ≡ 0)
-EndsAt rest _ n = Unit {0}
+EndsAt rest Dedent n = n ≡ 0
+EndsAt rest Eol n = ends_line rest n ≡ true
+EndsAt rest Whitespace n = Unit {0}
+EndsAt rest _ n = ends_line rest n ≡ false
 
 abbrev pub RefusedCuts : List ℕ → Refusal → Type 0
 RefusedCuts rest (Here p skip n) = IsCharBoundary rest skip × IsCharBoundary rest (skip + n)
@@ -66,35 +73,45 @@ module _ (m : Mode) (rest : List ℕ) where
     start = IsCharBoundary-start rest u
 
     -- a fixed token of two bytes
-    two_cuts : (c : ℕ) (k : TokenKind) → EndsAt rest k 2 → (ltb 0 c && ltb c 128) ≡ true → eqb (get_or rest 1 0) c ≡ true → Cuts m rest (Ok (k, 2))
-    two_cuts c k e small h = token_cuts k 2 e (past_byte rest 1 c 2 u h small (omega arith)) (omega arith)
+    two_cuts : (c : ℕ) (k : TokenKind) → (eqb (get_or rest 1 0) c ≡ true → EndsAt rest k 2) → (ltb 0 c && ltb c 128) ≡ true → eqb (get_or rest 1 0) c ≡ true → Cuts m rest (Ok (k, 2))
+    two_cuts c k e small h = token_cuts k 2 (e h) (past_byte rest 1 c 2 u h small (omega arith)) (omega arith)
 
-    twice_cuts : (c : ℕ) (k : TokenKind) → EndsAt rest k 2 → (ltb 0 c && ltb c 128) ≡ true → 0 < length rest → IsCharBoundary rest 1 → Cuts m rest (twice c k rest)
+    twice_cuts : (c : ℕ) (k : TokenKind) → (eqb (get_or rest 1 0) c ≡ true → EndsAt rest k 2) → (ltb 0 c && ltb c 128) ≡ true → 0 < length rest → IsCharBoundary rest 1 → Cuts m rest (twice c k rest)
     twice_cuts c k e small l b =
         if_cuts (eqb (get_or rest 1 0) c) (two_cuts c k e small) (λ _.
         if_cuts (eqb (length (drop 1 rest)) 0) (λ _. record { by_case = (b, b) }) (λ more.
         let some : 0 < length (drop 1 rest) = omega (arith, length-drop 1 rest, ne_from (length (drop 1 rest)) 0 more) in
         record { by_case = (b, IsCharBoundary-from_rest rest 1 _ l (first_cuts (drop 1 rest) some (IsUtf8-drop rest 1 u b))) }))
 
-    fixed_cuts : 0 < length rest → IsCharBoundary rest 1 → (b : ℕ) → Cuts m rest (fixed b rest)
+    fixed_cuts : 0 < length rest → IsCharBoundary rest 1 → ends_line rest 1 ≡ false → (b : ℕ) → Cuts m rest (fixed b rest)
     unfolding fixed
-    fixed_cuts l one b =
+    fixed_cuts l one clean b =
         let single = λ (k : TokenKind) (e : EndsAt rest k 1). token_cuts k 1 e one (omega arith) in
         let c = get_or rest 1 0 in
-        if_cuts (eqb b 33) (λ _. if_cuts (eqb c 61) (two_cuts 61 _ tt refl) (λ _. if_cuts (eqb c 126) (two_cuts 126 _ tt refl) (λ _. single _ tt))) (λ _.
-        if_cuts (eqb b 38) (λ _. twice_cuts 38 _ tt refl l one) (λ _.
-        if_cuts (eqb b 124) (λ _. twice_cuts 124 _ tt refl l one) (λ _.
-        if_cuts (eqb b 43) (λ _. if_cuts (eqb c 43) (two_cuts 43 _ tt refl) (λ _. single _ tt)) (λ _.
-        if_cuts (eqb b 61) (λ _. if_cuts (eqb c 61) (two_cuts 61 _ tt refl) (λ _. if_cuts (eqb c 126) (two_cuts 126 _ tt refl) (λ _. single _ tt))) (λ _.
-        if_cuts (eqb b 58) (λ _. if_cuts (eqb c 61) (two_cuts 61 _ tt refl) (λ _. if_cuts (eqb c 58) (two_cuts 58 _ tt refl) (λ _. single _ tt))) (λ _.
-        if_cuts (eqb b 36) (λ _. single _ tt) (λ _.
-        if_cuts (eqb b 42) (λ _. single _ tt) (λ _.
-        if_cuts (eqb b 44) (λ _. single _ tt) (λ _.
-        if_cuts (eqb b 47) (λ _. single _ tt) (λ _.
-        if_cuts (eqb b 63) (λ _. single _ tt) (λ _. single _ tt)))))))))))
+        if_cuts (eqb b 33) (λ _. if_cuts (eqb c 61) (two_cuts 61 _ (not_newline _ 61 refl) refl) (λ _. if_cuts (eqb c 126) (two_cuts 126 _ (not_newline _ 126 refl) refl) (λ _. single _ clean))) (λ _.
+        if_cuts (eqb b 38) (λ _. twice_cuts 38 _ (not_newline _ 38 refl) refl l one) (λ _.
+        if_cuts (eqb b 124) (λ _. twice_cuts 124 _ (not_newline _ 124 refl) refl l one) (λ _.
+        if_cuts (eqb b 43) (λ _. if_cuts (eqb c 43) (two_cuts 43 _ (not_newline _ 43 refl) refl) (λ _. single _ clean)) (λ _.
+        if_cuts (eqb b 61) (λ _. if_cuts (eqb c 61) (two_cuts 61 _ (not_newline _ 61 refl) refl) (λ _. if_cuts (eqb c 126) (two_cuts 126 _ (not_newline _ 126 refl) refl) (λ _. single _ clean))) (λ _.
+        if_cuts (eqb b 58) (λ _. if_cuts (eqb c 61) (two_cuts 61 _ (not_newline _ 61 refl) refl) (λ _. if_cuts (eqb c 58) (two_cuts 58 _ (not_newline _ 58 refl) refl) (λ _. single _ clean))) (λ _.
+        if_cuts (eqb b 36) (λ _. single _ clean) (λ _.
+        if_cuts (eqb b 42) (λ _. single _ clean) (λ _.
+        if_cuts (eqb b 44) (λ _. single _ clean) (λ _.
+        if_cuts (eqb b 47) (λ _. single _ clean) (λ _.
+        if_cuts (eqb b 63) (λ _. single _ clean) (λ _. single _ clean)))))))))))
 
-    -- a literal_part of a literal, of which the first bytes are known
-    part_cuts : (k : StringKind) (format : Bool) (n : ℕ) (more whole : TokenKind) → ((i : ℕ) → EndsAt rest more i) → ((i : ℕ) → EndsAt rest whole i) → IsCharBoundary rest n → 0 < n → Cuts m rest (literal_part k format n more whole rest)
+    delimiter_positive : (b : Bool) → 0 < cond b 3 1
+    delimiter_positive true = omega arith
+    delimiter_positive false = omega arith
+
+    -- the last byte of a token whose last bytes are behind others
+    last_behind : (n k i : ℕ) → 0 < i → ends_line (drop k (drop n rest)) i ≡ false → ends_line rest (n + k + i) ≡ false
+    last_behind n k i l h =
+        let at : n + (k + (i - 1)) ≡ n + k + i - 1 = omega arith in
+        subst (λ j. eqb (get_or rest j 0) 10 ≡ false) at (subst (λ (x : ℕ). eqb x 10 ≡ false) (get_or-drop k (drop n rest) (i - 1) 0 ∙ get_or-drop n rest (k + (i - 1)) 0) h)
+
+    -- a part of a literal, of which the first bytes are known
+    part_cuts : (k : StringKind) (format : Bool) (n : ℕ) (more whole : TokenKind) → ((i : ℕ) → ends_line rest i ≡ false → EndsAt rest more i) → ((i : ℕ) → ends_line rest i ≡ false → EndsAt rest whole i) → IsCharBoundary rest n → 0 < n → Cuts m rest (literal_part k format n more whole rest)
     unfolding literal_part
     part_cuts k format n more whole em ew b p =
         let behind = drop n rest in
@@ -103,13 +120,18 @@ module _ (m : Mode) (rest : List ℕ) where
         let ub = IsUtf8-drop rest n u b in
         let cut = raw_cuts s behind in
         let uc = IsUtf8-drop behind len ub cut in
+        let last = λ (i : ℕ) (l : 0 < i) (h : ends_line (drop len behind) i ≡ false). last_behind n len i l h in
         let at = λ (i : ℕ) (c : IsCharBoundary (drop len behind) i). IsCharBoundary-from_rest rest n (len + i) b.0 (IsCharBoundary-from_rest behind len i cut.0 c) in
         if_cuts (eqb len (length behind)) (λ _. here_cuts _ n start b) (λ inside.
         let l : len < length behind = omega (arith, raw_within s behind, ne_from len (length behind) inside) in
         let stop = raw_stops s behind l in
         if_cuts (format && is_interpolation_start (drop len behind))
-        (λ h. token_cuts more _ (em _) (subst (IsCharBoundary rest) (omega arith) (at 2 (past_byte (drop len behind) 1 123 2 uc (second (drop len behind) h) refl (omega arith)))) (omega arith))
-        (λ h. token_cuts whole _ (ew _) (subst (IsCharBoundary rest) (omega arith) (at (delimiter_len k) (delimiter_is k (drop len behind) (one_left (is_delimiter k (drop len behind)) (format && is_interpolation_start (drop len behind)) stop h) uc))) (omega arith)))
+        (λ h.
+        let brace = second (drop len behind) h in
+        token_cuts more _ (em _ (last 2 (omega arith) (not_newline (get_or (drop len behind) 1 0) 123 refl brace))) (subst (IsCharBoundary rest) (omega arith) (at 2 (past_byte (drop len behind) 1 123 2 uc brace refl (omega arith)))) (omega arith))
+        (λ h.
+        let delimiter = one_left (is_delimiter k (drop len behind)) (format && is_interpolation_start (drop len behind)) stop h in
+        token_cuts whole _ (ew _ (last (delimiter_len k) (delimiter_positive k.indented) (delimiter_last k (drop len behind) delimiter))) (subst (IsCharBoundary rest) (omega arith) (at (delimiter_len k) (delimiter_is k (drop len behind) delimiter uc))) (omega arith)))
       where
         second : (bs : List ℕ) → (format && is_interpolation_start bs) ≡ true → eqb (get_or bs 1 0) 123 ≡ true
         second bs h = (and_parts (eqb (get_or bs 0 0) 123) (eqb (get_or bs 1 0) 123) (and_parts format _ h).1).1
@@ -120,18 +142,14 @@ module _ (m : Mode) (rest : List ℕ) where
 
     literal_cuts : 0 < length rest → IsCharBoundary rest 1 → (0 < get_or rest 0 0) × (get_or rest 0 0 < 128) → Cuts m rest (literal m rest)
     literal_cuts l one small =
-        part_cuts k _ (delimiter_len k) _ _ (λ _. tt) (kinds k.delimiter) opened (positive k.indented)
+        part_cuts k _ (delimiter_len k) _ _ (λ _ h. h) (kinds k.delimiter) opened (delimiter_positive k.indented)
       where
         k : StringKind
         k = kind_of rest
 
-        kinds : (d : StringDelimiter) (i : ℕ) → EndsAt rest (literal_kind d) i
-        kinds delimiters.Backtick i = tt
-        kinds _ i = tt
-
-        positive : (b : Bool) → 0 < cond b 3 1
-        positive true = omega arith
-        positive false = omega arith
+        kinds : (d : StringDelimiter) (i : ℕ) → ends_line rest i ≡ false → EndsAt rest (literal_kind d) i
+        kinds delimiters.Backtick i h = h
+        kinds _ i h = h
 
         third : (a b c : ℕ) → (eqb b a && eqb c a) ≡ true → c ≡ a
         third a b c h = grind (arith, nat_tests)
@@ -147,25 +165,25 @@ module _ (m : Mode) (rest : List ℕ) where
     close_cuts None d k e one = here_cuts _ 0 start start
     close_cuts (Some o) d k e one = if_cuts (is_same o.delimiter d) (λ _. token_cuts k 1 e one (omega arith)) (λ _. here_cuts _ 0 start start)
 
-    brace_cuts : (f : Option StringKind) (os : Option OpenDelimiter) → IsCharBoundary rest 1 → Cuts m rest (brace_by f os rest)
-    brace_cuts None os one = close_cuts os Brace BraceR tt one
-    brace_cuts (Some k) os one =
+    brace_cuts : (f : Option StringKind) (os : Option OpenDelimiter) → IsCharBoundary rest 1 → ends_line rest 1 ≡ false → Cuts m rest (brace_by f os rest)
+    brace_cuts None os one clean = close_cuts os Brace BraceR clean one
+    brace_cuts (Some k) os one clean =
         if_cuts (is_interpolation_end rest)
-        (λ h. part_cuts k true 2 FormatStringContinue FormatStringEnd (λ _. tt) (λ _. tt) (past_byte rest 1 125 2 u (and_parts (eqb (get_or rest 0 0) 125) _ h).1 refl (omega arith)) (omega arith))
-        (λ _. close_cuts os Brace BraceR tt one)
+        (λ h. part_cuts k true 2 FormatStringContinue FormatStringEnd (λ _ h. h) (λ _ h. h) (past_byte rest 1 125 2 u (and_parts (eqb (get_or rest 0 0) 125) _ h).1 refl (omega arith)) (omega arith))
+        (λ _. close_cuts os Brace BraceR clean one)
 
-    closing_cuts : (os : Option OpenDelimiter) (b : ℕ) → IsCharBoundary rest 1 → Cuts m rest (closing os b rest)
-    closing_cuts os b one =
-        if_cuts (eqb b 41) (λ _. close_cuts os Paren ParenR tt one) (λ _.
-        if_cuts (eqb b 93) (λ _. close_cuts os Bracket BracketR tt one) (λ _. brace_cuts (format_kind os) os one))
+    closing_cuts : (os : Option OpenDelimiter) (b : ℕ) → IsCharBoundary rest 1 → ends_line rest 1 ≡ false → Cuts m rest (closing os b rest)
+    closing_cuts os b one clean =
+        if_cuts (eqb b 41) (λ _. close_cuts os Paren ParenR clean one) (λ _.
+        if_cuts (eqb b 93) (λ _. close_cuts os Bracket BracketR clean one) (λ _. brace_cuts (format_kind os) os one clean))
 
-    opening_cuts : (b : ℕ) → IsCharBoundary rest 1 → Cuts m rest (opening b)
-    opening_cuts b one =
-        if_cuts (eqb b 40) (λ _. token_cuts _ 1 tt one (omega arith)) (λ _.
-        if_cuts (eqb b 91) (λ _. token_cuts _ 1 tt one (omega arith)) (λ _. token_cuts _ 1 tt one (omega arith)))
+    opening_cuts : (b : ℕ) → IsCharBoundary rest 1 → ends_line rest 1 ≡ false → Cuts m rest (opening b)
+    opening_cuts b one clean =
+        if_cuts (eqb b 40) (λ _. token_cuts _ 1 clean one (omega arith)) (λ _.
+        if_cuts (eqb b 91) (λ _. token_cuts _ 1 clean one (omega arith)) (λ _. token_cuts _ 1 clean one (omega arith)))
 
-    line_end_cuts : (n : ℕ) → IsCharBoundary rest n → 0 < n → Cuts m rest (line_end m n)
-    line_end_cuts n b l = if_cuts (nested m) (λ _. token_cuts Whitespace n tt b l) (λ _. token_cuts Eol n tt b l)
+    line_end_cuts : (n : ℕ) → IsCharBoundary rest n → 0 < n → ends_line rest n ≡ true → Cuts m rest (line_end m n)
+    line_end_cuts n b l h = if_cuts (nested m) (λ _. token_cuts Whitespace n tt b l) (λ _. token_cuts Eol n h b l)
 
     unknown_cuts : 0 < length rest → Cuts m rest (unknown rest)
     unknown_cuts l = here_cuts _ _ start (first_cuts rest l u)
@@ -201,19 +219,21 @@ module _ (m : Mode) (rest : List ℕ) where
     inline_cuts : 0 < length rest → (k : ByteClass) → class_of (get_or rest 0 0) ≡ k → Cuts m rest (inline m k rest)
     unfolding inline
     inline_cuts l classes.Blank e = token_cuts _ _ tt (run_cuts is_blank blank_ascii rest _ u (omega arith)) (run_positive is_blank rest l (ap Rattle.justfile_model.specs.Bytes.blank e))
-    inline_cuts l classes.LineFeed e = line_end_cuts 1 (after_byte rest 0 1 u l (class_fact _ _ e).1 (omega arith)) (omega arith)
+    inline_cuts l classes.LineFeed e = line_end_cuts 1 (after_byte rest 0 1 u l (class_fact _ _ e).1 (omega arith)) (omega arith) (is_line_feed _ _ e)
     inline_cuts l classes.CarriageReturn e =
-        if_cuts (eqb (get_or rest 1 0) 10) (λ h. line_end_cuts 2 (past_byte rest 1 10 2 u h refl (omega arith)) (omega arith)) (λ _. here_cuts _ 1 start (after_byte rest 0 1 u l (class_fact _ _ e).1 (omega arith)))
-    inline_cuts l classes.IdentifierStart e = token_cuts _ _ tt (run_cuts is_word word_ascii rest _ u (omega arith)) (run_positive is_word rest l (ap Rattle.justfile_model.specs.Bytes.in_word e))
+        if_cuts (eqb (get_or rest 1 0) 10) (λ h. line_end_cuts 2 (past_byte rest 1 10 2 u h refl (omega arith)) (omega arith) h) (λ _. here_cuts _ 1 start (after_byte rest 0 1 u l (class_fact _ _ e).1 (omega arith)))
+    inline_cuts l classes.IdentifierStart e =
+        let some = run_positive is_word rest l (ap Rattle.justfile_model.specs.Bytes.in_word e) in
+        token_cuts _ _ (run_last is_word word_no_newline rest _ (omega arith) some) (run_cuts is_word word_ascii rest _ u (omega arith)) some
     inline_cuts l classes.IdentifierContinue e = unknown_cuts l
     inline_cuts l classes.Quote e = literal_cuts l (after_byte rest 0 1 u l (class_fact _ _ e).1 (omega arith)) (class_fact _ _ e)
-    inline_cuts l classes.Opener e = opening_cuts (get_or rest 0 0) (after_byte rest 0 1 u l (class_fact _ _ e).1 (omega arith))
-    inline_cuts l classes.Closer e = closing_cuts (first_of m.openers) (get_or rest 0 0) (after_byte rest 0 1 u l (class_fact _ _ e).1 (omega arith))
-    inline_cuts l classes.Fixed e = fixed_cuts l (after_byte rest 0 1 u l (class_fact _ _ e).1 (omega arith)) (get_or rest 0 0)
+    inline_cuts l classes.Opener e = opening_cuts (get_or rest 0 0) (after_byte rest 0 1 u l (class_fact _ _ e).1 (omega arith)) (is_line_feed _ _ e)
+    inline_cuts l classes.Closer e = closing_cuts (first_of m.openers) (get_or rest 0 0) (after_byte rest 0 1 u l (class_fact _ _ e).1 (omega arith)) (is_line_feed _ _ e)
+    inline_cuts l classes.Fixed e = fixed_cuts l (after_byte rest 0 1 u l (class_fact _ _ e).1 (omega arith)) (is_line_feed _ _ e) (get_or rest 0 0)
     inline_cuts l classes.Lead e =
-        if_cuts (eqb (first_char rest) 65279) (λ h. token_cuts _ 3 tt (mark_cuts l h) (omega arith)) (λ _. unknown_cuts l)
+        if_cuts (eqb (first_char rest) 65279) (λ h. token_cuts _ 3 (mark_last rest u l h) (mark_cuts l h) (omega arith)) (λ _. unknown_cuts l)
     inline_cuts l classes.Other e =
-        if_cuts (eqb (get_or rest 0 0) 35) (λ h. token_cuts _ _ tt (raw_cuts raw_texts.Comment rest) (comment_positive l h)) (λ _.
+        if_cuts (eqb (get_or rest 0 0) 35) (λ h. token_cuts _ _ (comment_last rest (comment_positive l h)) (raw_cuts raw_texts.Comment rest) (comment_positive l h)) (λ _.
         if_cuts (eqb (get_or rest 0 0) 92) (λ h. escape_cuts (past_byte rest 0 92 1 u h refl (omega arith))) (λ _. unknown_cuts l))
 
     normal_cuts : 0 < length rest → Cuts m rest (normal m rest)
@@ -230,17 +250,17 @@ module _ (m : Mode) (rest : List ℕ) where
         opening_second bs h e f = grind (arith, nat_tests)
 
         by : (n : ℕ) → n ≡ raw_len raw_texts.Body rest → Cuts m rest (text_or n (get_or rest 0 0))
-        by (suc n) e = token_cuts _ _ tt (subst (IsCharBoundary rest) (sym e) (raw_cuts raw_texts.Body rest)) (omega arith)
+        by (suc n) e = token_cuts _ _ (subst (λ n. ends_line rest n ≡ false) (sym e) (body_last rest (omega (arith, e)))) (subst (IsCharBoundary rest) (sym e) (raw_cuts raw_texts.Body rest)) (omega arith)
         by zero e =
             let stop = raw_stops raw_texts.Body rest (omega (arith, e, l)) in
             let front = subst (λ n. (is_line_end (drop n rest) || is_interpolation_start (drop n rest)) ≡ true) (sym e) stop in
-            if_cuts (eqb (get_or rest 0 0) 10) (λ h. token_cuts _ 1 tt (past_byte rest 0 10 1 u h refl (omega arith)) (omega arith)) (λ no_lf.
-            if_cuts (eqb (get_or rest 0 0) 13) (λ h. two_cuts 10 _ tt refl (crlf_second rest front h)) (λ no_cr.
-            two_cuts 123 _ tt refl (opening_second rest front no_lf no_cr)))
+            if_cuts (eqb (get_or rest 0 0) 10) (λ h. token_cuts _ 1 h (past_byte rest 0 10 1 u h refl (omega arith)) (omega arith)) (λ no_lf.
+            if_cuts (eqb (get_or rest 0 0) 13) (λ h. two_cuts 10 _ (λ h. h) refl (crlf_second rest front h)) (λ no_cr.
+            two_cuts 123 _ (not_newline _ 123 refl) refl (opening_second rest front no_lf no_cr)))
 
     interpolated_cuts : 0 < length rest → Cuts m rest (interpolated m rest)
     interpolated_cuts l =
-        if_cuts (is_empty m.openers && is_interpolation_end rest) (λ h. two_cuts 125 _ tt refl (and_parts (eqb (get_or rest 0 0) 125) _ (and_parts (is_empty m.openers) _ h).1).1) (λ _. normal_cuts l)
+        if_cuts (is_empty m.openers && is_interpolation_end rest) (λ h. two_cuts 125 _ (not_newline _ 125 refl) refl (and_parts (eqb (get_or rest 0 0) 125) _ (and_parts (is_empty m.openers) _ h).1).1) (λ _. normal_cuts l)
 
     inside_cuts : 0 < length rest → Cuts m rest (inside m rest)
     unfolding inside
@@ -257,7 +277,7 @@ module _ (m : Mode) (rest : List ℕ) where
     blanks_cuts l (suc n) h = token_cuts Whitespace (suc n) tt (run_cuts is_blank blank_ascii rest (suc n) u h) (omega arith)
 
     dedent_cuts : 0 < length m.levels → Cuts m rest (Ok (Dedent, 0))
-    dedent_cuts h = record { by_case = (start, inr (inr (refl, h)), tt) }
+    dedent_cuts h = record { by_case = (start, inr (inr (refl, h)), refl) }
 
     some_level : {A : Type 0} (xs : List A) (b : Bool) → (not (is_empty xs) && b) ≡ true → 0 < length xs
     some_level [] b h = cc
@@ -294,7 +314,8 @@ module _ (m : Mode) (rest : List ℕ) where
         if_cuts (m.in_body && starts_with nat_eq found level) (λ e. blanks_cuts l (length level) (omega (arith, h, begins_within m.in_body found level e))) (λ _.
         if_cuts (is_mixed (seen m found)) (λ _. here_cuts _ _ start (cut _ (seen_within m.in_body (length level) found))) (λ _.
         if_cuts (not (starts_with nat_eq found level)) (λ _. here_cuts _ _ start (cut (length found) (omega arith))) (λ _.
-        token_cuts _ _ tt (cut (length found) (omega arith)) (found_positive m.levels found some))))))))
+        let some' = found_positive m.levels found some in
+        token_cuts _ _ (run_last is_blank blank_no_newline rest _ h some') (cut (length found) (omega arith)) some')))))))
 
     at_line_start_cuts : 0 < length rest → Cuts m rest (at_line_start m rest)
     at_line_start_cuts l = layout_cuts l _ _ (omega (arith, length-take (blank_len rest) rest))
@@ -306,7 +327,7 @@ module _ (m : Mode) (rest : List ℕ) where
 at_end_cuts : (m : Mode) → IsUtf8 [] → (o : Option Tok) (ls : List (List ℕ)) → ls ≡ m.levels → Cuts m [] (at_end_by o ls)
 at_end_cuts m u (Some t) ls e = record { by_case = tt }
 at_end_cuts m u None [] e = record { by_case = (IsCharBoundary-start [] u, inr (inl refl), (refl, refl)) }
-at_end_cuts m u None (l ∷ ls) e = record { by_case = (IsCharBoundary-start [] u, inr (inr (refl, omega (arith, ap length e))), tt) }
+at_end_cuts m u None (l ∷ ls) e = record { by_case = (IsCharBoundary-start [] u, inr (inr (refl, omega (arith, ap length e))), refl) }
 
 next_cuts : (m : Mode) (rest : List ℕ) → IsUtf8 rest → Cuts m rest (next m rest)
 unfolding next

@@ -1,5 +1,6 @@
 -- The tokens of a text.
-use Rattle.std.specs.Prelude.{◌≡◌, ◌≢◌, ℕ, ◌+◌, List, [], ◌∷◌, length, drop, reverse, Ok, Err}
+use Rattle.std.specs.Prelude.{◌≡◌, ◌≢◌, ℕ, ◌+◌, List, [], ◌∷◌, ◌++◌, ◌⊎◌, length, drop, reverse, Ok, Err}
+use Rattle.std.specs.List.{All}
 use Rattle.justfile_base.specs.declared.token_kind.TokenKind.TheVariants.{Eof, Unspecified}
 use Rattle.justfile_base.specs.Slice.{slice_of}
 use Rattle.justfile_model.specs.Tok.{Tok}
@@ -8,7 +9,7 @@ use Rattle.justfile_model.specs.Places.{line_at, column_at}
 use Rattle.justfile_model.specs.LexicalFault.{LexicalFault, UnterminatedInterpolation, Refusal, Here, Unclosed}
 use Rattle.justfile_model.specs.Next.{Found, next}
 
--- where the tokens end. In a list of earlier tokens the last comes first
+-- where the earlier tokens end; in their list the last one comes first
 abbrev pub end_of : List Tok → ℕ
 end_of [] = 0
 end_of (t ∷ earlier) = t.offset + length t.lexeme
@@ -38,6 +39,7 @@ abbrev pub Begins : List ℕ → List Tok → Type 0
 Begins text [] = Unit {0}
 Begins text (t ∷ earlier) = Begins text earlier × IsNext text earlier t × (t.kind ≢ Eof)
 
+-- these are all the tokens of the text
 pub record Lexed (text : List ℕ) (tokens : List Tok) : Type 0 where
   pub earlier : List Tok
   pub last : Tok
@@ -45,6 +47,16 @@ pub record Lexed (text : List ℕ) (tokens : List Tok) : Type 0 where
   pub begins : Begins text earlier
   pub is_next : IsNext text earlier last
   pub is_end : last.kind ≡ Eof
+
+-- the last of the tokens, and no other, is Eof: it has no bytes, and is at the end of the text
+pub record EndsInEof (text : List ℕ) (tokens : List Tok) : Type 0 where
+  pub front : List Tok
+  pub last : Tok
+  pub are : tokens ≡ front ++ (last ∷ [])
+  pub is_end : last.kind ≡ Eof
+  pub lexeme_is : last.lexeme ≡ []
+  pub offset_is : last.offset ≡ length text
+  pub only_there : All (λ t. t.kind ≢ Eof) front
 
 -- the same from the first token on: these tokens, and no others, follow the earlier ones
 abbrev pub Follows : List ℕ → List Tok → List Tok → Type 0
@@ -64,3 +76,7 @@ pub record IsFault (text : List ℕ) (fault : LexicalFault) (span : Tok) : Type 
   pub refusal : Refusal
   pub refused : next_of text earlier ≡ Err refusal
   pub spans : IsSpan text earlier refusal fault span
+
+-- the text has tokens, or it has a fault
+abbrev pub IsAnswered : List ℕ → Type 0
+IsAnswered text = ((tokens : List Tok) × Lexed text tokens) ⊎ ((fault : LexicalFault) × (span : Tok) × IsFault text fault span)

@@ -5,6 +5,7 @@ use Rattle.justfile_base.specs.declared.compile_error_kind.CompileErrorKind.{Com
 use Rattle.justfile_base.specs.declared.compile_error_kind.CompileErrorKind.TheVariants as kinds
 use Rattle.justfile_model.specs.Tok.{Tok}
 
+-- the faults of lexing, with what their messages say; a character is its number
 pub data LexicalFault : Type 0 where
   EscapeEndOfFile : LexicalFault
   InconsistentLeadingWhitespace : (expected found : List ℕ) → LexicalFault
@@ -19,7 +20,10 @@ pub data LexicalFault : Type 0 where
   UnterminatedBacktick : LexicalFault
   UnterminatedInterpolation : LexicalFault
   UnterminatedString : LexicalFault
+  -- a fault of another layer, which no text has
+  NotLexical : LexicalFault
 
+-- the fault that an error of the code is
 abbrev pub lexical_fault_of : CompileErrorKind → LexicalFault
 lexical_fault_of kinds.EscapeEndOfFile = EscapeEndOfFile
 lexical_fault_of (kinds.InconsistentLeadingWhitespace expected found) = InconsistentLeadingWhitespace expected.now found.now
@@ -34,9 +38,11 @@ lexical_fault_of kinds.UnpairedCarriageReturn = UnpairedCarriageReturn
 lexical_fault_of kinds.UnterminatedBacktick = UnterminatedBacktick
 lexical_fault_of kinds.UnterminatedInterpolation = UnterminatedInterpolation
 lexical_fault_of kinds.UnterminatedString = UnterminatedString
+lexical_fault_of _ = NotLexical
 
+-- a fault, and where it points to
 pub data Refusal : Type 0 where
-  -- a fault with the bytes of the rest that follow the first ones
+  -- a fault, whose span begins so many bytes behind the earlier tokens and is so many bytes long
   Here : (fault : LexicalFault) (skip span : ℕ) → Refusal
   -- the interpolation that begins with this token has no end
   Unclosed : Tok → Refusal

@@ -1,11 +1,15 @@
 -- The texts that literals stand for.
-use Rattle.std.specs.Prelude.{◌≡◌, ℕ, ◌-◌, Bool, ◌&&◌, ◌||◌, ◌==◌, List, [], ◌∷◌, length, take, drop, if◌then◌else◌, Option, Some, None, Result}
+use Rattle.std.specs.Prelude.{◌≡◌, ℕ, ◌-◌, Bool, ◌&&◌, ◌||◌, ◌==◌, ◌⊎◌, List, [], ◌∷◌, length, take, drop, if◌then◌else◌, Option, Some, None, Result}
 use Rattle.std.specs.List.{list_any}
 use Rattle.justfile_base.specs.StringKind.{kind_of, escapes}
 
 -- what an expander answers for a text: the expanded text, or the text of its refusal; none for a text that it was not asked for
 abbrev pub Answers : Type 0
 Answers = List ℕ → Option (Result (List ℕ) (List ℕ))
+
+-- the one answers what the other does, or not at all
+abbrev pub Within : Answers → Answers → Type 0
+Within some all = (text : List ℕ) → (some text ≡ None) ⊎ (some text ≡ all text)
 
 -- a backslash in a literal that has escapes
 abbrev pub has_escape : List ℕ → Bool

@@ -11,39 +11,47 @@ use Rattle.justfile_model.specs.Places.{is_newline}
 use Rattle.justfile_model.specs.Tok.{Tok}
 use Rattle.justfile_base.specs.StringKind.{kind_of}
 
+-- what the next token depends on, besides the text that is left
 pub record Mode : Type 0 where
-  -- the open delimiters and the levels, the innermost first
+  -- the open delimiters, the innermost first
   pub openers : List OpenDelimiter
+  -- the blanks of the open indents, the innermost first; below them is the empty level, which is not listed
   pub levels : List (List ℕ)
   -- a colon came since the last dedent
   pub colon : Bool
+  -- an indent came behind such a colon
   pub in_body : Bool
   -- the start of the open interpolation
   pub interpolation : Option Tok
-  -- nothing of the line came yet
+  -- the next token is at column 0, if text is left
   pub line_start : Bool
-  -- the last token is the identifier f
+  -- the last token is the identifier `f`
   pub behind_f : Bool
 
+-- all but the first
 abbrev pub tail_of : {A : Type 0} → List A → List A
 tail_of [] = []
 tail_of (x ∷ xs) = xs
 
+-- the first, if any
 abbrev pub first_of : {A : Type 0} → List A → Option A
 first_of [] = None
 first_of (x ∷ xs) = Some x
 
+-- there are none
 abbrev pub is_empty : {A : Type 0} → List A → Bool
 is_empty [] = true
 is_empty (x ∷ xs) = false
 
--- the last byte is LF
+-- the last byte is a newline
 abbrev pub ends_in_newline : List ℕ → Bool
 ends_in_newline bs = slice_index bs (length bs - 1) == 10
 
+-- a delimiter that was opened on this line
 abbrev pub opener : Delimiter → ℕ → OpenDelimiter
 opener d n = record { delimiter = d; line = n }
 
+-- what a token changes
 abbrev pub after : TokenKind → Tok → Mode → Mode
 after BraceL t m = record m { openers = opener Brace t.line ∷ m.openers; line_start = false; behind_f = false }
 after BracketL t m = record m { openers = opener Bracket t.line ∷ m.openers; line_start = false; behind_f = false }
@@ -63,17 +71,21 @@ after Whitespace t m = record m { line_start = ends_in_newline t.lexeme; behind_
 after Identifier t m = record m { line_start = false; behind_f = bytes_eq t.lexeme (102 ∷ []) }
 after _ t m = record m { line_start = false; behind_f = false }
 
+-- before the first token
 abbrev pub start : Mode
 start = record { openers = []; levels = []; colon = false; in_body = false; interpolation = None; line_start = true; behind_f = false }
 
+-- what the earlier tokens leave
 abbrev pub mode : List Tok → Mode
 mode [] = start
 mode (t ∷ earlier) = after t.kind t (mode earlier)
 
+-- the current level: the innermost one, or the empty one
 abbrev pub innermost_of : List (List ℕ) → List ℕ
 innermost_of [] = []
 innermost_of (l ∷ ls) = l
 
+-- the current level of a mode
 abbrev pub innermost : Mode → List ℕ
 innermost m = innermost_of m.levels
 

@@ -1,4 +1,4 @@
--- The next token.
+-- The next token, from the mode and the rest of the text.
 use Rattle.std.specs.Prelude.{ℕ, zero, suc, ◌+◌, Bool, true, false, not, ◌||◌, ◌&&◌, ◌==◌, nat_eq, List, [], ◌∷◌, length, take, drop, slice_index, if◌then◌else◌, Option, Some, None, Result, Ok, Err}
 use Rattle.std.specs.List.{list_any, starts_with}
 use Rattle.std.specs.Char.{len_utf8}
@@ -22,24 +22,27 @@ use Rattle.justfile_model.specs.declared.open_delimiter.OpenDelimiter.{OpenDelim
 use Rattle.justfile_model.specs.Modes.{Mode, first_of, is_empty, innermost, nested}
 use Rattle.justfile_model.specs.LexicalFault.{LexicalFault, EscapeEndOfFile, InconsistentLeadingWhitespace, InvalidEscapeSequence, MismatchedClosingDelimiter, MixedLeadingWhitespace, UnexpectedCharacter, UnexpectedClosingDelimiter, UnexpectedEndOfToken, UnknownStartOfToken, UnpairedCarriageReturn, UnterminatedBacktick, UnterminatedString, Refusal, Here, Unclosed}
 
--- the kind and the length of a token, or why there is none
+-- the kind of the next token and its length in bytes, or why there is none
 abbrev pub Found : Type 0
 Found = Result (TokenKind × ℕ) Refusal
 
 -- Fixed tokens, by the first byte and the second.
+-- a token of one byte
 abbrev pub one : TokenKind → Found
 one kind = Ok (kind, 1)
 
+-- a token of two bytes
 abbrev pub two : TokenKind → Found
 two kind = Ok (kind, 2)
 
--- a byte that has to come twice
+-- a byte that has to come twice: where another character follows, or the text ends, it is refused there
 abbrev pub twice : ℕ → TokenKind → List ℕ → Found
 twice b kind rest =
     if slice_index rest 1 == b then two kind
     else if length (drop 1 rest) == 0 then Err (Here (UnexpectedEndOfToken (b ∷ [])) 1 0)
     else Err (Here (UnexpectedCharacter (b ∷ [])) 1 (len_utf8 (first_char (drop 1 rest))))
 
+-- the longest fixed token that begins with this byte
 unfoldable pub fixed : ℕ → List ℕ → Found
 fixed b rest =
     let c = slice_index rest 1 in
@@ -56,73 +59,87 @@ fixed b rest =
     else if b == 63 then one QuestionMark
     else one At
 
+-- an opening delimiter
 abbrev pub opening : ℕ → Found
 opening b = if b == 40 then one ParenL else if b == 91 then one BracketL else one BraceL
 
 -- Literals.
+-- the fault of a literal without an end
 abbrev pub unterminated : StringDelimiter → LexicalFault
 unterminated delimiters.Backtick = UnterminatedBacktick
 unterminated _ = UnterminatedString
 
+-- the kind of token that a literal is
 abbrev pub literal_kind : StringDelimiter → TokenKind
 literal_kind delimiters.Backtick = Backtick
 literal_kind _ = StringToken
 
+-- the quote is a backtick
 abbrev pub is_backtick : StringDelimiter → Bool
 is_backtick delimiters.Backtick = true
 is_backtick _ = false
 
--- a literal or a literal_part of a format string, of which the first bytes are known: unterminated, or up to two braces, or up to the delimiter
+-- a literal, or a part of a format string, whose opener is so many bytes long and whose inside is so many: it has no end, or it ends with `{{` and more follows, or with the delimiter
 abbrev pub literal_part_by : StringKind → (format : Bool) → (opener inside : ℕ) → (more whole : TokenKind) → List ℕ → Found
 literal_part_by k format opener inside more whole rest =
     if inside == length (drop opener rest) then Err (Here (unterminated k.delimiter) 0 opener)
     else if format && is_interpolation_start (drop inside (drop opener rest)) then Ok (more, opener + inside + 2)
     else Ok (whole, opener + inside + delimiter_len k)
 
+-- the same, with the inside read up to its first end
 unfoldable pub literal_part : StringKind → (format : Bool) → (opener : ℕ) → (more whole : TokenKind) → List ℕ → Found
 literal_part k format opener more whole rest = literal_part_by k format opener (raw_len (raw_texts.Literal k format) (drop opener rest)) more whole rest
 
+-- a literal; right behind the identifier `f` quotes open a format string, and a backtick never does
 abbrev pub literal : Mode → List ℕ → Found
 literal m rest =
     let k = kind_of rest in
     literal_part k (m.behind_f && not (is_backtick k.delimiter)) (delimiter_len k) FormatStringStart (literal_kind k.delimiter) rest
 
 -- Closing delimiters: one has to match the innermost open one.
+-- two delimiters are the same; a format string has no closing one
 abbrev pub is_same : Delimiter → Delimiter → Bool
 is_same Brace Brace = true
 is_same Bracket Bracket = true
 is_same Paren Paren = true
 is_same _ _ = false
 
+-- a closing delimiter, where this is the innermost open one
 abbrev pub close : Option OpenDelimiter → Delimiter → TokenKind → Found
 close None delimiter kind = Err (Here (UnexpectedClosingDelimiter delimiter) 0 0)
 close (Some o) delimiter kind = if is_same o.delimiter delimiter then one kind else Err (Here (MismatchedClosingDelimiter delimiter o.line o.delimiter) 0 0)
 
+-- the kind of literal of a format string
 abbrev pub format_of : Delimiter → Option StringKind
 format_of (FormatString k) = Some k
 format_of _ = None
 
+-- the same of the innermost open delimiter, if it is a format string
 abbrev pub format_kind : Option OpenDelimiter → Option StringKind
 format_kind None = None
 format_kind (Some o) = format_of o.delimiter
 
+-- a closing brace; `}}` goes on with the innermost format string
 abbrev pub brace_by : Option StringKind → Option OpenDelimiter → List ℕ → Found
 brace_by None last rest = close last Brace BraceR
 brace_by (Some k) last rest = if is_interpolation_end rest then literal_part k true 2 FormatStringContinue FormatStringEnd rest else close last Brace BraceR
 
+-- `)`, `]` or `}`
 abbrev pub closing : Option OpenDelimiter → ℕ → List ℕ → Found
 closing last b rest =
     if b == 41 then close last Paren ParenR
     else if b == 93 then close last Bracket BracketR
     else brace_by (format_kind last) last rest
 
+-- a line end of so many bytes: whitespace while a delimiter or an interpolation is open
 abbrev pub line_end : Mode → ℕ → Found
 line_end m n = if nested m then Ok (Whitespace, n) else Ok (Eol, n)
 
+-- a character that begins no token
 abbrev pub unknown : List ℕ → Found
 unknown rest = Err (Here (UnknownStartOfToken (first_char rest)) 0 (len_utf8 (first_char rest)))
 
--- a backslash, which only a line end may follow
+-- a backslash, which only a line end may follow: it is whitespace with the blanks behind the line end
 abbrev pub escape : List ℕ → Found
 escape rest =
     let c = slice_index rest 1 in
@@ -131,16 +148,18 @@ escape rest =
     else if length (drop 1 rest) == 0 then Err (Here EscapeEndOfFile 0 1)
     else Err (Here (InvalidEscapeSequence (first_char (drop 1 rest))) 0 1)
 
+-- the first byte of a character beyond ASCII: the byte order mark alone begins a token
 abbrev pub lead : List ℕ → Found
 lead rest = if first_char rest == 65279 then Ok (ByteOrderMark, 3) else unknown rest
 
+-- a comment, a backslash, or what begins no token
 abbrev pub other : List ℕ → Found
 other rest =
     if slice_index rest 0 == 35 then Ok (Comment, raw_len raw_texts.Comment rest)
     else if slice_index rest 0 == 92 then escape rest
     else unknown rest
 
--- the token at the front of the rest of the text, outside body text, by the class of its first byte
+-- the same by the class of the first byte
 unfoldable pub inline : Mode → ByteClass → List ℕ → Found
 inline m classes.Blank rest = Ok (Whitespace, blank_len rest)
 inline m classes.LineFeed rest = line_end m 1
@@ -154,67 +173,77 @@ inline m classes.Fixed rest = fixed (slice_index rest 0) rest
 inline m classes.Lead rest = lead rest
 inline m classes.Other rest = other rest
 
+-- the token at the front of the rest, outside body text
 abbrev pub normal : Mode → List ℕ → Found
 normal m rest = inline m (class_of (slice_index rest 0)) rest
 
--- the token at the front of the rest of a body's line, of which so many bytes are text
+-- in a body: so many bytes of text, or, where there are none, the line end or `{{` that begins with this byte
 abbrev pub text_or : ℕ → ℕ → Found
 text_or zero b = if b == 10 then Ok (Eol, 1) else if b == 13 then Ok (Eol, 2) else Ok (InterpolationStart, 2)
 text_or (suc n) b = Ok (Text, suc n)
 
+-- the token at the front of the rest of a body's line
 unfoldable pub body : List ℕ → Found
 body rest = text_or (raw_len raw_texts.Body rest) (slice_index rest 0)
 
--- at the end of the text each level is closed
+-- at the end of the text each level is closed, then comes Eof
 abbrev pub levels_end : List (List ℕ) → Found
 levels_end levels = if is_empty levels then Ok (Eof, 0) else Ok (Dedent, 0)
 
+-- an open interpolation is refused first; open delimiters are not
 abbrev pub at_end_by : Option Tok → List (List ℕ) → Found
 at_end_by (Some t) levels = Err (Unclosed t)
 at_end_by None levels = levels_end levels
 
+-- at the end of the text
 abbrev pub at_end : Mode → Found
 at_end m = at_end_by m.interpolation m.levels
 
--- Where no layout token is asked for, the place decides.
+-- Where no layout token is asked for: in the text of a body, in an interpolation, or elsewhere.
 pub data Place : Type 0 where
   InText : Place
   InInterpolation : Place
   Inline : Place
 
+-- an interpolation comes before the body that it is in
 abbrev pub place_by : Bool → Option Tok → Place
 place_by in_body (Some t) = InInterpolation
 place_by true None = InText
 place_by false None = Inline
 
+-- in an interpolation: `}}` ends it where no delimiter is open
 abbrev pub interpolated : Mode → List ℕ → Found
 interpolated m rest = if is_empty m.openers && is_interpolation_end rest then Ok (InterpolationEnd, 2) else normal m rest
 
+-- the next token of a place
 abbrev pub token_in : Place → Mode → List ℕ → Found
 token_in InText m rest = body rest
 token_in InInterpolation m rest = interpolated m rest
 token_in Inline m rest = normal m rest
 
+-- the next token where no layout token is asked for
 unfoldable pub inside : Mode → List ℕ → Found
 inside m rest = token_in (place_by m.in_body m.interpolation) m rest
 
 -- Layout.
--- so many blanks, or none and the place decides
+-- so many blanks as whitespace, or, where there are none, the token that follows
 abbrev pub blanks_or : ℕ → Mode → List ℕ → Found
 blanks_or zero m rest = inside m rest
 blanks_or (suc n) m rest = Ok (Whitespace, suc n)
 
--- the literal_part of the leading blanks that may not mix spaces and tabs
+-- the leading blanks that may not mix spaces and tabs: in a body the first ones, as many as the level has, else all
 abbrev pub seen : Mode → List ℕ → List ℕ
 seen m found = if m.in_body then take (length (innermost m)) found else found
 
+-- the blanks are an open level, or the empty one
 abbrev pub is_level : List (List ℕ) → List ℕ → Bool
 is_level levels found = is_empty found || list_any (λ l. bytes_eq l found) levels
 
+-- the line is blank: a line end or the end of the text is behind its blanks
 abbrev pub ends_here : List ℕ → Bool
 ends_here behind = is_line_end behind || is_empty behind
 
--- the blanks that are found, and what is behind them
+-- the run of blanks that is found at column 0, and what is behind it: the first of these that fits. Something is open; the line is blank, and levels may close; the current level; another open level, so that one closes; more blanks of a body's line; mixed; not begun by the level; a new level
 unfoldable pub layout : Mode → (found behind rest : List ℕ) → Found
 layout m found behind rest =
     if nested m then blanks_or (length found) m rest
@@ -226,13 +255,16 @@ layout m found behind rest =
     else if not (starts_with nat_eq found (innermost m)) then Err (Here (InconsistentLeadingWhitespace (innermost m) found) 0 (length found))
     else Ok (Indent, length found)
 
+-- the next token at column 0
 abbrev pub at_line_start : Mode → List ℕ → Found
 at_line_start m rest = layout m (take (blank_len rest) rest) (drop (blank_len rest) rest) rest
 
+-- the next token where text is left
 abbrev pub next_by : Bool → Mode → List ℕ → Found
 next_by true m rest = at_line_start m rest
 next_by false m rest = inside m rest
 
+-- the next token
 unfoldable pub next : Mode → List ℕ → Found
 next m [] = at_end m
 next m (b ∷ bs) = next_by m.line_start m (b ∷ bs)

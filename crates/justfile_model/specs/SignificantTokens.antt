@@ -1,7 +1,7 @@
 -- What the parser reads: all tokens but whitespace.
-use Rattle.std.specs.Prelude.{ℕ, Bool, true, false, cond, List, [], ◌∷◌}
+use Rattle.std.specs.Prelude.{ℕ, ◌+◌, Bool, true, false, cond, List, [], ◌∷◌}
 use Rattle.justfile_base.specs.declared.token_kind.TokenKind.{TokenKind}
-use Rattle.justfile_base.specs.declared.token_kind.TokenKind.TheVariants.{Whitespace}
+use Rattle.justfile_base.specs.declared.token_kind.TokenKind.TheVariants.{Identifier, Whitespace}
 use Rattle.justfile_model.specs.Tok.{Tok}
 
 -- a token, and whether it is glued to the one before: no token stands between
@@ -21,3 +21,12 @@ significant_from glued (t ∷ ts) = cond (is_whitespace t.kind) (significant_fro
 -- nothing stands before the first token, so it is glued to none
 abbrev pub significant_tokens : List Tok → List SignificantToken
 significant_tokens = significant_from false
+
+abbrev pub is_identifier : TokenKind → Bool
+is_identifier Identifier = true
+is_identifier _ = false
+
+-- how many of the tokens are identifiers
+abbrev pub identifiers : List SignificantToken → ℕ
+identifiers [] = 0
+identifiers (t ∷ ts) = cond (is_identifier t.tok.kind) 1 0 + identifiers ts

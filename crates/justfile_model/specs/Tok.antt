@@ -4,6 +4,7 @@ use Rattle.justfile_base.specs.declared.token_kind.TokenKind.{TokenKind}
 use Rattle.justfile_base.specs.declared.token.Token.{Token}
 use Rattle.justfile_base.specs.Slice.{slice_of}
 
+-- a token: its kind, its bytes, and the place where it begins
 pub record Tok : Type 0 where
   pub kind : TokenKind
   pub lexeme : List ℕ
@@ -11,5 +12,10 @@ pub record Tok : Type 0 where
   pub line : ℕ
   pub column : ℕ
 
+-- the token of this kind, with these bytes, at this place
+abbrev pub tok : TokenKind → List ℕ → (offset line column : ℕ) → Tok
+tok kind lexeme offset line column = record { kind = kind; lexeme = lexeme; offset = offset; line = line; column = column }
+
+-- a token of the code, by its bytes
 abbrev pub tok_of : Token → Tok
 tok_of t = record { kind = t.kind; lexeme = slice_of t.src.now t.offset t.length; offset = t.offset; line = t.line; column = t.column }

@@ -1,10 +1,13 @@
 //! Laws of the definitions, each the contract of a function that does nothing.
-ghost use Rattle.std.specs.Prelude.{◌≡◌, ℕ, List, []};
+ghost use Rattle.std.specs.Prelude.{◌≡◌, ℕ, ◌<◌, ◌&&◌, ◌==◌, List, [], length};
 ghost use Rattle.std.specs.List.{flat_map};
+ghost use Rattle.std.specs.List.Sorted.{IsNonDecreasingBy};
 ghost use Rattle.std.specs.Str.{IsUtf8};
 ghost use Rattle.justfile_model.specs.Tok.{Tok};
 ghost use Rattle.justfile_model.specs.LexicalFault.{LexicalFault};
-ghost use Rattle.justfile_model.specs.Lexed.{Lexed, Follows, IsFault};
+ghost use Rattle.justfile_model.specs.Modes.{mode};
+ghost use Rattle.justfile_model.specs.Places.{column_at};
+ghost use Rattle.justfile_model.specs.Lexed.{Begins, EndsInEof, Follows, IsAnswered, IsFault, Lexed, end_of};
 
 /// A text has at most one list of tokens, and none beside a fault.
 pub fn one_answer()
@@ -21,4 +24,27 @@ pub fn tiling()
 /// Tokens that follow one after another from the first on are the tokens of the text.
 pub fn in_order()
     ensures { (text : List ℕ) (ts : List Tok) → Follows text [] ts → Lexed text ts }
+{}
+
+/// From token to token the offset never falls.
+pub fn offsets_rise()
+    ensures { (text : List ℕ) (ts : List Tok) → Lexed text ts → IsNonDecreasingBy (λ t. t.offset) ts }
+{}
+
+/// The last token, and it alone, is the empty `Eof`, which stands at the end of the text.
+pub fn eof_is_last()
+    ensures { (text : List ℕ) (ts : List Tok) → IsUtf8 text → Lexed text ts → EndsInEof text ts }
+{}
+
+/// Where text is left, a place is at column 0 exactly where the mode says that a line starts: at
+/// the start of the text, and after a token that ends a line. The end of a text that is not empty
+/// is at no column 0.
+pub fn lines_start_at_column_0()
+    ensures text_left { (text : List ℕ) (earlier : List Tok) → IsUtf8 text → Begins text earlier → end_of earlier < length text → (mode earlier).line_start ≡ (column_at text (end_of earlier) == 0) }
+    ensures no_text_left { (text : List ℕ) → 0 < length text → 0 < column_at text (length text) }
+{}
+
+/// Each text has tokens or a fault.
+pub fn answer_for_all()
+    ensures { (text : List ℕ) → IsUtf8 text → IsAnswered text }
 {}

@@ -1,0 +1,2 @@
+mod ByteTable
+mod TokenStart

@@ -1,0 +1,95 @@
+-- The grammar over trees and over shapes: a tree derives if its shape does.
+use Rattle.std.proofs.Common.{◌≡◌, ℕ, List, [], ◌∷◌, ◌++◌, map, Option, refl, sym, subst, ap, ◌∙◌}
+use Rattle.std.proofs.lemmas.List.{map-append}
+use Rattle.justfile_model.specs.Tok.{Tok}
+use Rattle.justfile_model.specs.SignificantTokens.{SignificantToken}
+use Rattle.justfile_model.specs.Tree as tree
+use Rattle.justfile_model.specs.Tree.{Expr, Item, Tree, Shape, over_expr, over_item, lexeme, nothing, itself, shape_of}
+use Rattle.justfile_model.specs.Grammar.{front, File}
+use Rattle.justfile_model.specs.Literals.{Answers, Cooks}
+use Rattle.justfile_model.specs.Files.{VersionNumbers, expr_literals, item_literals, literals, FileDerives, ShapeDerives}
+use Rattle.justfile_model.proofs.Agreement.{one_tree}
+use Rattle.justfile_model.proofs.Carry as c
+use Rattle.justfile_model.proofs.Carry.{Same, Pairs, nil, cons}
+
+abbrev same_leaf : {A : Type 0} → A → A
+same_leaf x = x
+
+-- ---- leaves replaced by themselves
+
+expr_itself : {A B : Type 0} (e : Expr A B) → over_expr same_leaf same_leaf e ≡ e
+expr_itself (tree.StringLiteral token) = refl
+expr_itself (tree.Variable name) = refl
+
+item_itself : {A B : Type 0} (i : Item A B) → over_item same_leaf same_leaf i ≡ i
+item_itself (tree.Assignment name value) = ap (tree.Assignment name) (expr_itself value)
+item_itself (tree.Comment text) = refl
+item_itself tree.Newline = refl
+
+pub items_itself : {A B : Type 0} (items : List (Item A B)) → map (over_item same_leaf same_leaf) items ≡ items
+items_itself [] = refl
+items_itself (i ∷ items) = λ k. item_itself i k ∷ items_itself items k
+
+-- ---- the literals of a shape are the lexemes of the tree's
+
+expr_lexemes : (e : Expr Tok Tok) → expr_literals (over_expr lexeme nothing e) ≡ map lexeme (expr_literals e)
+expr_lexemes (tree.StringLiteral token) = refl
+expr_lexemes (tree.Variable name) = refl
+
+item_lexemes : (i : Item Tok Tok) → item_literals (over_item lexeme nothing i) ≡ map lexeme (item_literals i)
+item_lexemes (tree.Assignment name value) = expr_lexemes value
+item_lexemes (tree.Comment text) = refl
+item_lexemes tree.Newline = refl
+
+pub lexemes : (t : Tree) → literals (shape_of t) ≡ map lexeme (literals t)
+lexemes [] = refl
+lexemes (i ∷ t) = (λ k. item_lexemes i k ++ lexemes t k) ∙ sym (map-append lexeme (item_literals i) (literals t))
+
+-- ---- the same tokens
+
+equal_pairs : (ts : List SignificantToken) → Pairs (λ t u. t ≡ u) ts ts
+equal_pairs [] = nil
+equal_pairs (t ∷ ts) = cons refl (equal_pairs ts)
+
+pairs_equal : {ts us : List SignificantToken} → Pairs (λ t u. t ≡ u) ts us → ts ≡ us
+pairs_equal nil = refl
+pairs_equal (cons e es) = λ i. e i ∷ pairs_equal es i
+
+equal_same : (t u : SignificantToken) → t ≡ u → Same t u
+equal_same t u e = record { kind = ap (λ (x : SignificantToken). x.tok.kind) e; lexeme = ap (λ (x : SignificantToken). x.tok.lexeme) e; glued = ap (λ (x : SignificantToken). x.glued) e }
+
+equal_lexemes : (t u : SignificantToken) → t ≡ u → u.tok.lexeme ≡ t.tok.lexeme
+equal_lexemes t u e = sym (ap (λ (x : SignificantToken). x.tok.lexeme) e)
+
+module _ (Open : ℕ → Option SignificantToken → Type 0) where
+  still : (d : ℕ) (ts us : List SignificantToken) → Pairs (λ t u. t ≡ u) ts us → Open d (front ts) → Open d (front us)
+  still d ts us s o = subst (λ x. Open d (front x)) (pairs_equal s) o
+
+  -- a tree's derivation is one of its shape
+  pub forget : {all : Tree} {ts : List SignificantToken} → File itself itself Open all ts → File lexeme nothing Open (shape_of all) ts
+  forget {all} {ts} h =
+      let x = c.file itself itself Open (λ t u. t ≡ u) equal_same lexeme nothing Open lexeme nothing same_leaf same_leaf equal_lexemes (λ t u s. refl) still h ts (equal_pairs ts) in
+      subst (λ y. File lexeme nothing Open y ts) (sym (items_itself x.tree) ∙ x.alike) x.derives
+
+  -- a shape's derivation is that of a tree with this shape
+  pub lift : {shape : Shape} {ts : List SignificantToken} → File lexeme nothing Open shape ts → (all : Tree) × File itself itself Open all ts × (shape_of all ≡ shape)
+  lift {shape} {ts} h =
+      let x = c.file lexeme nothing Open (λ t u. t ≡ u) equal_same itself itself Open same_leaf same_leaf lexeme nothing equal_lexemes (λ t u s. refl) still h ts (equal_pairs ts) in
+      (x.tree, x.derives, x.alike ∙ items_itself shape)
+
+-- ---- files
+
+module _ (expander : Answers) (current : VersionNumbers) (tokens : List SignificantToken) where
+  pub file_forgets : (all : Tree) → FileDerives expander current tokens all → ShapeDerives expander current tokens (shape_of all)
+  file_forgets all h = record { derives = forget _ h.derives; cooked = h.cooked; cooks = subst (λ l. Cooks expander l h.cooked) (sym (lexemes all)) h.cooks }
+
+  pub file_lifts : (shape : Shape) → ShapeDerives expander current tokens shape → (all : Tree) × FileDerives expander current tokens all × (shape_of all ≡ shape)
+  file_lifts shape h =
+      let x = lift _ h.derives in
+      (x.0, record { derives = x.1; cooked = h.cooked; cooks = subst (λ l. Cooks expander l h.cooked) (ap literals (sym x.2) ∙ lexemes x.0) h.cooks }, x.2)
+
+  pub one_shape : (shape other : Shape) → ShapeDerives expander current tokens shape → ShapeDerives expander current tokens other → shape ≡ other
+  one_shape shape other h q =
+      let x = file_lifts shape h in
+      let y = file_lifts other q in
+      sym x.2 ∙ ap shape_of (one_tree expander current tokens x.0 y.0 x.1 y.1) ∙ y.2

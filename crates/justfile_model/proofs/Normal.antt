@@ -1,0 +1,66 @@
+-- The normal shape is its own, and has the same literals and bindings.
+use Rattle.std.proofs.Common.{◌≡◌, [], ◌∷◌, ◌++◌, refl, ap, ◌∙◌, arith}
+use Rattle.justfile_model.specs.Tree.{Assignment, Comment, Newline, Shape}
+use Rattle.justfile_model.specs.Files.{expr_literals, literals, bindings}
+use Rattle.justfile_model.specs.NormalShape.{behind_newline, normal_rest, normal}
+
+behind_twice : (r : Shape) → normal_rest r ≡ r → normal_rest (behind_newline r) ≡ behind_newline r
+behind_twice [] h = refl
+behind_twice (Newline ∷ []) h = refl
+behind_twice (Newline ∷ Newline ∷ r) h = h
+behind_twice (Newline ∷ Assignment name value ∷ r) h = ap behind_newline h
+behind_twice (Newline ∷ Comment text ∷ r) h = ap behind_newline h
+behind_twice (Assignment name value ∷ r) h = ap behind_newline h
+behind_twice (Comment text ∷ r) h = ap behind_newline h
+
+rest_twice : (s : Shape) → normal_rest (normal_rest s) ≡ normal_rest s
+rest_twice [] = refl
+rest_twice (Newline ∷ s) = behind_twice (normal_rest s) (rest_twice s)
+rest_twice (Assignment name value ∷ s) = ap (λ (r : Shape). Assignment name value ∷ r) (rest_twice s)
+rest_twice (Comment text ∷ s) = ap (λ (r : Shape). Comment text ∷ r) (rest_twice s)
+
+normal_of : (r : Shape) → normal_rest r ≡ r → normal r ≡ r
+normal_of [] h = refl
+normal_of (i ∷ r) h = h
+
+pub normal_twice : (s : Shape) → normal (normal s) ≡ normal s
+normal_twice [] = refl
+normal_twice (i ∷ s) = normal_of (normal_rest (i ∷ s)) (rest_twice (i ∷ s))
+
+behind_literals : (r : Shape) → literals (behind_newline r) ≡ literals r
+behind_literals [] = refl
+behind_literals (Newline ∷ []) = refl
+behind_literals (Newline ∷ Newline ∷ r) = refl
+behind_literals (Newline ∷ Assignment name value ∷ r) = refl
+behind_literals (Newline ∷ Comment text ∷ r) = refl
+behind_literals (Assignment name value ∷ r) = refl
+behind_literals (Comment text ∷ r) = refl
+
+rest_literals : (s : Shape) → literals (normal_rest s) ≡ literals s
+rest_literals [] = refl
+rest_literals (Newline ∷ s) = behind_literals (normal_rest s) ∙ rest_literals s
+rest_literals (Assignment name value ∷ s) = ap (λ l. expr_literals value ++ l) (rest_literals s)
+rest_literals (Comment text ∷ s) = rest_literals s
+
+pub normal_literals : (s : Shape) → literals (normal s) ≡ literals s
+normal_literals [] = refl
+normal_literals (i ∷ s) = rest_literals (i ∷ s)
+
+behind_bindings : (r : Shape) → bindings (behind_newline r) ≡ bindings r
+behind_bindings [] = omega arith
+behind_bindings (Newline ∷ []) = omega arith
+behind_bindings (Newline ∷ Newline ∷ r) = omega arith
+behind_bindings (Newline ∷ Assignment name value ∷ r) = omega arith
+behind_bindings (Newline ∷ Comment text ∷ r) = omega arith
+behind_bindings (Assignment name value ∷ r) = omega arith
+behind_bindings (Comment text ∷ r) = omega arith
+
+rest_bindings : (s : Shape) → bindings (normal_rest s) ≡ bindings s
+rest_bindings [] = omega arith
+rest_bindings (Newline ∷ s) = omega (arith, behind_bindings (normal_rest s), rest_bindings s)
+rest_bindings (Assignment name value ∷ s) = omega (arith, rest_bindings s)
+rest_bindings (Comment text ∷ s) = omega (arith, rest_bindings s)
+
+pub normal_bindings : (s : Shape) → bindings (normal s) ≡ bindings s
+normal_bindings [] = refl
+normal_bindings (i ∷ s) = rest_bindings (i ∷ s)

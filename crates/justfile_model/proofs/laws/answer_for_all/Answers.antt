@@ -1,0 +1,5 @@
+use Rattle.justfile_model.proofs.AnswerLaws.{answered}
+use Rattle.justfile_model.proofs.laws.answer_for_all.Goals as goal
+
+pub returns : goal.returns
+returns c = answered

@@ -1,0 +1,5 @@
+use Rattle.justfile_model.proofs.LexedLaws.{ended}
+use Rattle.justfile_model.proofs.laws.eof_is_last.Goals as goal
+
+pub returns : goal.returns
+returns c = ended

@@ -1,0 +1,48 @@
+//! Laws of the grammar, each the contract of a function that does nothing.
+ghost use Rattle.std.specs.Prelude.{◌≡◌, ◌≤◌, ℕ, ◌+◌, List, map, Ok, Some};
+ghost use Rattle.justfile_base.specs.declared.token_kind.TokenKind.TheVariants.{Identifier};
+ghost use Rattle.justfile_model.specs.Files.{VersionNumbers, FileTree, FileDerives, ShapeDerives, literals, bindings};
+ghost use Rattle.justfile_model.specs.Literals.{Answers, Within, Cooks};
+ghost use Rattle.justfile_model.specs.NormalShape.{normal};
+ghost use Rattle.justfile_model.specs.Reader.{accept, assignment, file, items, with_front};
+ghost use Rattle.justfile_model.specs.SignificantTokens.{SignificantToken, identifiers};
+ghost use Rattle.justfile_model.specs.Tok.{Tok};
+ghost use Rattle.justfile_model.specs.Tree.{Item, Tree, Shape, lexeme, shape_of};
+
+/// The reader and the grammar agree, and tokens derive at most one tree.
+pub fn reads()
+    ensures sound { (E : Answers) (V : VersionNumbers) (ts : List SignificantToken) (tree : Tree) → file E ts ≡ Ok tree → FileDerives E V ts tree }
+    ensures complete { (E : Answers) (V : VersionNumbers) (ts : List SignificantToken) (tree : Tree) → FileDerives E V ts tree → file E ts ≡ Ok tree }
+    // In what is read yet no expression is too deep.
+    ensures free { (E : Answers) (ts : List SignificantToken) (tree : Tree) (cooked : List (List ℕ)) → FileTree ts tree → Cooks E (map lexeme (literals tree)) cooked → file E ts ≡ Ok tree }
+    ensures one { (E : Answers) (V : VersionNumbers) (ts : List SignificantToken) (tree other : Tree) → FileDerives E V ts tree → FileDerives E V ts other → tree ≡ other }
+{}
+
+/// A tree has at most as many bindings as its tokens have identifiers, and those of what was read first are some of them.
+pub fn counts()
+    ensures whole { (E : Answers) (ts : List SignificantToken) (tree : Tree) → file E ts ≡ Ok tree → bindings tree ≤ identifiers ts }
+    ensures first { (E : Answers) (done : Tree) (ts : List SignificantToken) (tree : Tree) → with_front E done (items E ts) ≡ Ok tree → bindings done ≤ bindings tree }
+    ensures next { (E : Answers) (done : Tree) (ts : List SignificantToken) (tree : Tree) → with_front E done (items E ts) ≡ Ok tree → (x : SignificantToken × List SignificantToken) → accept Identifier ts ≡ Some x → bindings done + 1 ≤ bindings tree }
+    ensures assigned { (E : Answers) (done : Tree) (ts : List SignificantToken) (tree : Tree) → with_front E done (items E ts) ≡ Ok tree → (x : Item Tok Tok × List SignificantToken) → assignment E ts ≡ Ok x → bindings done + 1 ≤ bindings tree }
+{}
+
+/// A tree derives where its shape does, and tokens derive at most one shape, whose literals have one row of texts.
+pub fn shapes()
+    ensures forget { (E : Answers) (V : VersionNumbers) (ts : List SignificantToken) (tree : Tree) → FileDerives E V ts tree → ShapeDerives E V ts (shape_of tree) }
+    ensures lift { (E : Answers) (V : VersionNumbers) (ts : List SignificantToken) (shape : Shape) → ShapeDerives E V ts shape → (tree : Tree) × FileDerives E V ts tree × (shape_of tree ≡ shape) }
+    ensures one { (E : Answers) (V : VersionNumbers) (ts : List SignificantToken) (shape other : Shape) → ShapeDerives E V ts shape → ShapeDerives E V ts other → shape ≡ other }
+    ensures texts { (E : Answers) (lexemes texts others : List (List ℕ)) → Cooks E lexemes texts → Cooks E lexemes others → texts ≡ others }
+{}
+
+/// The normal shape is its own, and has the same literals and as many bindings.
+pub fn normal_twice()
+    ensures twice { (s : Shape) → normal (normal s) ≡ normal s }
+    ensures same_literals { (s : Shape) → literals (normal s) ≡ literals s }
+    ensures same_bindings { (s : Shape) → bindings (normal s) ≡ bindings s }
+{}
+
+/// What derives where an expander answers less derives where it answers more.
+pub fn expanders()
+    ensures tree { (E F : Answers) → Within E F → (V : VersionNumbers) (ts : List SignificantToken) (tree : Tree) → FileDerives E V ts tree → FileDerives F V ts tree }
+    ensures shape { (E F : Answers) → Within E F → (V : VersionNumbers) (ts : List SignificantToken) (shape : Shape) → ShapeDerives E V ts shape → ShapeDerives F V ts shape }
+{}
