@@ -1,2 +1,5 @@
 mod ByteTable
 mod TokenStart
+pub mod IndentationLemmas
+pub mod PathLemmas
+pub mod VersionLemmas

@@ -1,0 +1,65 @@
+ghost use Rattle.std.specs.Prelude.{◌≡◌, IfOk, Some};
+
+use crate::format_string_part::FormatStringPart;
+use crate::string_kind::StringKind;
+use crate::token::Token;
+use std::alloc::{AllocError, Global};
+use std::fmt;
+
+/// A literal, or a part of a format string between interpolations.
+#[derive(Debug, Drop, PartialEq, Eq, PartialOrd, Ord)]
+pub struct StringLiteral<'src> {
+    /// The text that the literal stands for.
+    pub cooked: String,
+    /// Whether the text is to be expanded as a shell would.
+    pub expand: bool,
+    pub kind: StringKind,
+    /// The part of a format string that the literal is, if it is one.
+    pub part: Option<FormatStringPart>,
+    /// The literal with its delimiters.
+    pub token: Token<'src>,
+}
+
+impl<'src> StringLiteral<'src> {
+    ghost use Rattle.justfile_base.specs.StringLiteral.{IsSameLiteral, literal_marks};
+
+    /// The same literal once more.
+    pub fn clone(&self, alloc: Global) -> Result<Self, AllocError>
+        ensures { IfOk result (λ copy. IsSameLiteral copy self.now) }
+    {
+        Ok(StringLiteral {
+            cooked: self.cooked.as_str().to_string(alloc)?,
+            expand: self.expand,
+            kind: self.kind,
+            part: self.part,
+            token: self.token,
+        })
+    }
+
+    /// What stands before the opening delimiter.
+    pub fn marks(&self) -> &'static str
+        ensures { result.now ≡ literal_marks self.now }
+    {
+        let begins_format_string = matches!(
+            self.part,
+            Some(FormatStringPart::Start | FormatStringPart::Single)
+        );
+        match (self.expand, begins_format_string) {
+            (true, true) => "xf",
+            (true, false) => "x",
+            (false, true) => "f",
+            (false, false) => "",
+        }
+    }
+}
+
+impl fmt::Display for StringLiteral<'_> {
+    ghost use Rattle.justfile_base.specs.StringLiteral.{literal_text};
+
+    ghost output = { λ literal. Some (literal_text literal) };
+
+    fn fmt<W: fmt::Write>(&self, f: &mut fmt::Formatter<W>) -> fmt::Result {
+        f.write_str(self.marks())?;
+        f.write_str(self.token.lexeme())
+    }
+}

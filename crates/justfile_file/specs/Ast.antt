@@ -1,0 +1,21 @@
+-- What the definitions see of a file.
+use Rattle.std.specs.Prelude.{ℕ, List, map}
+use Rattle.std.specs.List.{flat_map}
+use Rattle.justfile_model.specs.Tree.{Tree, Shape, shape_of}
+use Rattle.justfile_file.specs.declared.ast.Ast.{Ast}
+use Rattle.justfile_file.specs.Item.{item_of, item_cooked, item_numbers}
+
+abbrev pub tree_of : Ast → Tree
+tree_of ast = map item_of ast.items.items
+
+-- its tree without places
+abbrev pub ast_shape : Ast → Shape
+ast_shape ast = shape_of (tree_of ast)
+
+-- the texts of its literals, in order
+abbrev pub cooked_texts : Ast → List (List ℕ)
+cooked_texts ast = flat_map item_cooked ast.items.items
+
+-- the numbers of its bindings, in order
+abbrev pub binding_numbers : Ast → List ℕ
+binding_numbers ast = flat_map item_numbers ast.items.items

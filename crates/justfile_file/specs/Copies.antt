@@ -1,0 +1,33 @@
+-- Copies.
+use Rattle.std.specs.Prelude.{◌≡◌, string_bytes}
+use Rattle.std.specs.List.{AllZip}
+use Rattle.justfile_base.specs.Modulepath.{names_of}
+use Rattle.justfile_tree.specs.declared.expression.Expression.{Expression}
+use Rattle.justfile_tree.specs.Copies.{IsSameExpression}
+use Rattle.justfile_file.specs.declared.ast.Ast.{Ast}
+use Rattle.justfile_file.specs.declared.binding.Binding.{Binding}
+use Rattle.justfile_file.specs.declared.item.Item.{Item}
+use Rattle.justfile_file.specs.declared.item.Item.TheVariants.{Assignment, Comment, Newline}
+
+-- the same fields
+pub record IsSameAssignment (copy original : Binding Expression) : Type 0 where
+  pub file_depth : copy.file_depth ≡ original.file_depth
+  pub name : copy.name ≡ original.name
+  pub number : copy.number ≡ original.number
+  pub prelude : copy.prelude ≡ original.prelude
+  pub «private» : copy.private ≡ original.private
+  pub value : IsSameExpression copy.value original.value
+
+-- the same case with the same fields
+abbrev pub IsSameItem : (copy original : Item) → Type 0
+IsSameItem (Assignment copy) (Assignment original) = IsSameAssignment copy original
+IsSameItem (Comment copy) (Comment original) = copy ≡ original
+IsSameItem Newline Newline = Unit {0}
+IsSameItem _ _ = ⊥
+
+-- the same file, in memory of its own
+pub record IsSameAst (copy original : Ast) : Type 0 where
+  pub items : AllZip IsSameItem copy.items.items original.items.items
+  pub module_path : names_of copy.module_path ≡ names_of original.module_path
+  pub unstable_features : original.unstable_features.keys ≡ copy.unstable_features.keys
+  pub working_directory : string_bytes copy.working_directory ≡ string_bytes original.working_directory

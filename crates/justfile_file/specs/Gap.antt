@@ -1,0 +1,50 @@
+-- Printing from left to right: what stands between items.
+use Rattle.std.specs.Prelude.{ℕ, List, [], ◌∷◌, ◌++◌, codes}
+use Rattle.justfile_model.specs.Tree as tree
+use Rattle.justfile_model.specs.Tree.{Shape}
+use Rattle.justfile_model.specs.Printing.{piece, item_text}
+use Rattle.justfile_file.specs.declared.gap.Gap.{Gap}
+use Rattle.justfile_file.specs.declared.gap.Gap.TheVariants.{Start, Item, Line, Blank}
+
+-- what is printed of a gap
+abbrev pub gap_text : Gap → List ℕ
+gap_text Start = []
+gap_text Item = codes " "
+gap_text Line = codes "\n"
+gap_text Blank = codes "\n\n"
+
+-- with one more line end; two are as many as are printed
+abbrev pub wider : Gap → Gap
+wider Start = Line
+wider Item = Line
+wider Line = Blank
+wider Blank = Blank
+
+abbrev pub ItemShape : Type 0
+ItemShape = tree.Item (List ℕ) (Unit {0})
+
+-- the gap behind an item
+abbrev pub next_gap : Gap → ItemShape → Gap
+next_gap gap tree.Newline = wider gap
+next_gap gap _ = Item
+
+-- what is printed of an item behind a gap: line ends wait for the item that follows them
+abbrev pub step_text : Gap → ItemShape → List ℕ
+step_text gap tree.Newline = []
+step_text gap (tree.Assignment name value) = gap_text gap ++ item_text (tree.Assignment name value)
+step_text gap (tree.Comment text) = gap_text gap ++ text
+
+-- what is printed of items behind a gap
+abbrev pub front_text : Gap → Shape → List ℕ
+front_text gap [] = []
+front_text gap (i ∷ items) = step_text gap i ++ front_text (next_gap gap i) items
+
+-- the gap behind items
+abbrev pub last_gap : Gap → Shape → Gap
+last_gap gap [] = gap
+last_gap gap (i ∷ items) = last_gap (next_gap gap i) items
+
+-- a file that has an item ends in one newline
+abbrev pub end_text : {X : Type 0} → List X → List ℕ
+end_text [] = []
+end_text (i ∷ items) = codes "\n"

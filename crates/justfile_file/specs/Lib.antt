@@ -1,0 +1,5 @@
+pub mod Assignment
+pub mod Ast
+pub mod Copies
+pub mod Gap
+pub mod Item

@@ -1,0 +1,52 @@
+ghost use Rattle.std.specs.Prelude.{◌++◌, OnOk, OnErr, IfOk, codes};
+ghost use Rattle.justfile_base.specs.Token.{lexeme_of};
+ghost use Rattle.justfile_file.specs.Assignment.{assignment_text};
+ghost use Rattle.justfile_file.specs.Copies.{IsSameAssignment};
+
+use crate::binding::Binding;
+use justfile_tree::{Expression, Sink, put_piece, write_expression};
+use std::alloc::{AllocError, Global};
+use std::fmt;
+
+/// An assignment: a name and the expression that it stands for.
+pub type Assignment<'src> = Binding<'src, Expression<'src>>;
+
+impl<'src> Binding<'src, Expression<'src>> {
+    /// The same assignment once more.
+    pub fn clone(&self, alloc: Global) -> Result<Self, AllocError>
+        ensures { IfOk result (λ copy. IsSameAssignment copy self.now) }
+    {
+        Ok(Binding {
+            file_depth: self.file_depth,
+            name: self.name,
+            number: self.number,
+            prelude: self.prelude,
+            private: self.private,
+            value: self.value.clone(alloc)?,
+        })
+    }
+}
+
+/// Puts the text of an assignment.
+pub(crate) fn write_assignment<S: Sink>(
+    assignment: &Assignment<'_>,
+    sink: &mut S,
+) -> Result<(), S::Fault>
+    ensures ok { OnOk result (S.took sink.old (assignment_text assignment.now) sink.new) }
+    ensures err { OnErr result (S.failed sink.old (assignment_text assignment.now) sink.new) }
+{
+    sink.put(assignment.name.lexeme())?;
+    put_piece(" := ", sink)?;
+    write_expression(&assignment.value, sink)?;
+    Ok(())
+}
+
+impl fmt::Display for Binding<'_, Expression<'_>> {
+    ghost use Rattle.std.specs.Prelude.{Some};
+
+    ghost output = { λ assignment. Some (assignment_text assignment) };
+
+    fn fmt<W: fmt::Write>(&self, f: &mut fmt::Formatter<W>) -> fmt::Result {
+        write_assignment(self, f)
+    }
+}

@@ -1,0 +1,119 @@
+ghost use Rattle.std.specs.Prelude.{◌≡◌, OnOk, OnErr, IfOk, string_bytes, true, None};
+ghost use Rattle.justfile_base.specs.Indentation.{indentation_text};
+ghost use Rattle.justfile_model.specs.NormalShape.{normal};
+ghost use Rattle.justfile_model.specs.Printing.{text};
+ghost use Rattle.std.specs.Prelude.{map};
+ghost use Rattle.std.specs.List.{AllZip};
+ghost use Rattle.justfile_file.specs.Ast.{ast_shape};
+ghost use Rattle.justfile_file.specs.Copies.{IsSameItem};
+ghost use Rattle.justfile_file.specs.Gap.{front_text, end_text};
+ghost use Rattle.justfile_file.specs.Item.{item_shape};
+ghost use Rattle.justfile_file.specs.declared.gap.Gap.TheVariants.{Start};
+
+use crate::gap::Gap;
+use crate::item::{Item, write_step};
+use justfile_base::{Indentation, Modulepath, UnstableFeature};
+use justfile_tree::Sink;
+use std::alloc::{AllocError, Global};
+use std::collections::BTreeSet;
+
+/// A file that was parsed.
+#[derive(Debug, Drop)]
+pub struct Ast<'src> {
+    pub items: Vec<Item<'src>>,
+    /// The names of the modules that the file lies in.
+    pub module_path: Modulepath,
+    /// What the file uses that only an unstable justfile may.
+    pub unstable_features: BTreeSet<UnstableFeature>,
+    /// Where the file's recipes run.
+    pub working_directory: String,
+}
+
+impl<'src> Ast<'src> {
+    ghost use Rattle.justfile_file.specs.Copies.{IsSameAst};
+
+    /// The indentation that the file sets for itself: none yet.
+    pub fn indentation(&self) -> Option<Indentation>
+        ensures { result ≡ None }
+    {
+        None
+    }
+
+    /// Whether the printed text parses back: true of every file yet.
+    pub fn printable(&self) -> bool
+        ensures { result ≡ true }
+    {
+        true
+    }
+
+    /// The same file once more.
+    pub fn clone(&self, alloc: Global) -> Result<Self, AllocError>
+        ensures { IfOk result (λ copy. IsSameAst copy self.now) }
+    {
+        Ok(Ast {
+            items: copied(alloc, &self.items)?,
+            module_path: self.module_path.clone(alloc)?,
+            unstable_features: self.unstable_features.clone()?,
+            working_directory: self.working_directory.as_str().to_string(alloc)?,
+        })
+    }
+
+    /// The canonical text of the file, with this indentation of the lines of bodies.
+    pub fn print(&self, alloc: Global, indentation: Indentation) -> Result<String, AllocError>
+        ensures { IfOk result (λ printed. string_bytes printed ≡ text (normal (ast_shape self.now)) (indentation_text indentation)) }
+    {
+        let mut printed = String::new(alloc);
+        write_ast(self, indentation, &mut printed)?;
+        Ok(printed)
+    }
+}
+
+/// The same items once more.
+fn copied<'src>(alloc: Global, items: &[Item<'src>]) -> Result<Vec<Item<'src>>, AllocError>
+    ensures { IfOk result (λ copies. AllZip IsSameItem copies.items items.now) }
+{
+    let mut copies = Vec::new(alloc);
+    for item in items {
+        let copy = item.clone(alloc)?;
+        copies.push(copy)?;
+    }
+    Ok(copies)
+}
+
+/// Puts the items of a file, but for the line ends at the end.
+fn write_items<S: Sink>(items: &[Item<'_>], sink: &mut S) -> Result<(), S::Fault>
+    ensures ok { OnOk result (S.took sink.old (front_text Start (map item_shape items.now)) sink.new) }
+    ensures err { OnErr result (S.failed sink.old (front_text Start (map item_shape items.now)) sink.new) }
+{
+    let mut gap = Gap::Start;
+    for item in items {
+        gap = write_step(item, gap, sink)?;
+    }
+    Ok(())
+}
+
+/// Puts the newline at the end of a file that has an item.
+fn write_end<S: Sink>(items: &[Item<'_>], sink: &mut S) -> Result<(), S::Fault>
+    ensures ok { OnOk result (S.took sink.old (end_text (map item_shape items.now)) sink.new) }
+    ensures err { OnErr result (S.failed sink.old (end_text (map item_shape items.now)) sink.new) }
+{
+    if items.is_empty() {
+        return Ok(());
+    }
+    sink.put("\n")
+}
+
+/// The walk over a file.
+pub(crate) fn write_ast<S: Sink>(
+    ast: &Ast<'_>,
+    indentation: Indentation,
+    sink: &mut S,
+) -> Result<(), S::Fault>
+    ensures ok { OnOk result (S.took sink.old (text (normal (ast_shape ast.now)) (indentation_text indentation)) sink.new) }
+    ensures err { OnErr result (S.failed sink.old (text (normal (ast_shape ast.now)) (indentation_text indentation)) sink.new) }
+{
+    let _ = indentation;
+    write_items(&ast.items, sink)?;
+    write_end(&ast.items, sink)?;
+    Ok(())
+}

@@ -1,0 +1,77 @@
+ghost use Rattle.std.specs.Prelude.{◌≡◌, OnOk, OnErr, IfOk, string_bytes};
+ghost use Rattle.justfile_model.specs.Printing.{item_text};
+ghost use Rattle.justfile_file.specs.Gap.{gap_text, next_gap, step_text};
+ghost use Rattle.justfile_file.specs.Item.{item_shape};
+
+use crate::assignment::{Assignment, write_assignment};
+use crate::gap::Gap;
+use justfile_base::Indentation;
+use justfile_tree::Sink;
+use std::alloc::{AllocError, Global};
+
+/// What stands on the lines of a file.
+#[derive(Debug, Drop)]
+pub enum Item<'src> {
+    Assignment(Assignment<'src>),
+    /// A comment without the white space at its end.
+    Comment(&'src str),
+    /// The end of a line, or a blank line.
+    Newline,
+}
+
+impl<'src> Item<'src> {
+    ghost use Rattle.justfile_file.specs.Copies.{IsSameItem};
+
+    /// The same item once more.
+    pub fn clone(&self, alloc: Global) -> Result<Self, AllocError>
+        ensures { IfOk result (λ copy. IsSameItem copy self.now) }
+    {
+        match self {
+            Item::Assignment(assignment) => {
+                let assignment = assignment.clone(alloc)?;
+                Ok(Item::Assignment(assignment))
+            }
+            Item::Comment(text) => Ok(Item::Comment(text)),
+            Item::Newline => Ok(Item::Newline),
+        }
+    }
+
+    /// The text of the item, at an indentation of the lines of bodies.
+    pub fn print(&self, alloc: Global, indentation: Indentation) -> Result<String, AllocError>
+        ensures { IfOk result (λ printed. string_bytes printed ≡ item_text (item_shape self.now)) }
+    {
+        let _ = indentation;
+        let mut printed = String::new(alloc);
+        write_item(self, &mut printed)?;
+        Ok(printed)
+    }
+}
+
+/// Puts the text of an item.
+pub(crate) fn write_item<S: Sink>(item: &Item<'_>, sink: &mut S) -> Result<(), S::Fault>
+    ensures ok { OnOk result (S.took sink.old (item_text (item_shape item.now)) sink.new) }
+    ensures err { OnErr result (S.failed sink.old (item_text (item_shape item.now)) sink.new) }
+{
+    match item {
+        Item::Assignment(assignment) => write_assignment(assignment, sink),
+        Item::Comment(text) => sink.put(text),
+        Item::Newline => Ok(()),
+    }
+}
+
+/// Puts what is printed of an item behind a gap: a line end waits for the item that follows it.
+/// Answers the gap behind the item.
+pub(crate) fn write_step<S: Sink>(item: &Item<'_>, gap: Gap, sink: &mut S) -> Result<Gap, S::Fault>
+    ensures gap { IfOk result (λ behind. behind ≡ next_gap gap (item_shape item.now)) }
+    ensures ok { OnOk result (S.took sink.old (step_text gap (item_shape item.now)) sink.new) }
+    ensures err { OnErr result (S.failed sink.old (step_text gap (item_shape item.now)) sink.new) }
+{
+    match item {
+        Item::Newline => Ok(gap.wider()),
+        Item::Assignment(_) | Item::Comment(_) => {
+            sink.put(gap.text())?;
+            write_item(item, sink)?;
+            Ok(Gap::Item)
+        }
+    }
+}

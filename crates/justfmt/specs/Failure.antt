@@ -1,0 +1,9 @@
+-- Exit statuses.
+use Rattle.std.specs.Prelude.{ℕ}
+use Rattle.justfmt.specs.declared.failure.Failure.{Failure}
+use Rattle.justfmt.specs.declared.failure.Failure.TheVariants.{Refused, NotPrintable}
+
+abbrev pub status_of : Failure → ℕ
+status_of Refused = 2
+status_of NotPrintable = 2
+status_of _ = 3

@@ -1,0 +1,42 @@
+//! Formats the justfile on standard input.
+#![tactic(auto)]
+
+mod failure;
+mod formatting;
+mod run;
+mod unchanged;
+
+use crate::run::run;
+use std::env;
+use std::io::{self, ErrorKind};
+use std::process::ExitCode;
+
+/// The arguments behind the program's name. An argument that isn't UTF-8 makes them `?`, which is
+/// no argument of the program.
+fn arguments(rt: &HostRuntime) -> io::Result<Vec<String>> {
+    let alloc = rt.alloc();
+    let mut arguments = Vec::new(alloc);
+    match env::args(rt) {
+        Ok(all) => {
+            for argument in all.skip(1) {
+                arguments.push(argument)?;
+            }
+        }
+        Err(error) if error.kind() == ErrorKind::InvalidData => {
+            arguments.push("?".to_string(alloc)?)?;
+        }
+        Err(error) => return Err(error),
+    }
+    Ok(arguments)
+}
+
+fn main(rt: HostRuntime) -> ExitCode {
+    let mut reader = rt.stdin();
+    let mut writer = rt.stdout();
+    let mut errors = rt.stderr();
+    let status = match arguments(&rt) {
+        Ok(arguments) => run(rt.alloc(), &arguments, &mut reader, &mut writer, &mut errors),
+        Err(_) => failure::report(failure::Failure::Memory, &mut errors),
+    };
+    ExitCode::from(status)
+}
