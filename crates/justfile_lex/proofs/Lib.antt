@@ -1,0 +1,5 @@
+pub mod LexerLemmas
+pub mod Pieces
+pub mod PlaceLemmas
+pub mod StackLemmas
+pub mod WhiteRunLemmas

@@ -1,0 +1,35 @@
+-- Stacks whose innermost part stands last in the code and first in the definitions, and runs.
+use Rattle.std.proofs.Common.{◌≡◌, ℕ, suc, ◌+◌, Bool, true, false, cond, eqb, List, [], ◌∷◌, length, take, refl, sym, ap, ◌∙◌, arith}
+use Rattle.std.specs.Prelude.{reverse, map, ◌||◌}
+use Rattle.std.specs.List.{list_any, prefix_len}
+use Rattle.std.specs.Str.{bytes_eq}
+use denote.Ref.{Bor}
+use Rattle.std.proofs.lemmas.List.{reverse-append}
+use Rattle.std.proofs.lemmas.List.Folds.{list_any-append}
+use Rattle.justfile_model.specs.Next.{is_level}
+
+or_swap : (a b : Bool) → (a || (b || false)) ≡ (b || a)
+or_swap true true = refl
+or_swap true false = refl
+or_swap false true = refl
+or_swap false false = refl
+
+any_reverse : {A : Type 0} (p : A → Bool) (xs : List A) → list_any p (reverse xs) ≡ list_any p xs
+any_reverse p [] = refl
+any_reverse p (x ∷ xs) = ap (list_any p) (reverse-append (x ∷ []) xs) ∙ list_any-append p (reverse xs) (x ∷ []) ∙ ap (λ b. b || (p x || false)) (any_reverse p xs) ∙ or_swap (list_any p xs) (p x)
+
+any_map : (levels : List (Bor (List ℕ))) (text : List ℕ) → list_any (λ t. bytes_eq t.now text) levels ≡ list_any (λ t. bytes_eq t text) (map (λ t. t.now) levels)
+any_map [] text = refl
+any_map (l ∷ ls) text = ap (λ b. bytes_eq l.now text || b) (any_map ls text)
+
+pub level_is : (levels : List (Bor (List ℕ))) (text : List ℕ) → eqb (length text) 0 ≡ false → list_any (λ t. bytes_eq t.now text) levels ≡ is_level (reverse (map (λ t. t.now) levels)) text
+level_is levels [] h = cc
+level_is levels (b ∷ bs) h = any_map levels (b ∷ bs) ∙ sym (any_reverse (λ t. bytes_eq t (b ∷ bs)) (map (λ t. t.now) levels))
+
+pub run_take : (p : ℕ → Bool) (bs : List ℕ) → prefix_len p (take (prefix_len p bs) bs) ≡ length (take (prefix_len p bs) bs)
+run_take p [] = refl
+run_take p (b ∷ bs) = go (p b) refl (run_take p bs)
+  where
+    go : (t : Bool) → p b ≡ t → prefix_len p (take (prefix_len p bs) bs) ≡ length (take (prefix_len p bs) bs) → prefix_len p (take (cond t (1 + prefix_len p bs) 0) (b ∷ bs)) ≡ length (take (cond t (1 + prefix_len p bs) 0) (b ∷ bs))
+    go true e ih = let s : 1 + prefix_len p bs ≡ suc (prefix_len p bs) = omega arith in rw s (rw e (omega (arith, ih)))
+    go false e ih = refl

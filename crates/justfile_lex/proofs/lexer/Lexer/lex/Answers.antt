@@ -1,0 +1,60 @@
+use Rattle.std.proofs.Common.{◌≢◌, sym, ap, subst, ◌∙◌, rules, drop, drop-drop}
+use Rattle.std.specs.Str.{IsUtf8}
+use Rattle.std.proofs.lemmas.Str.{IsCharBoundary-from_rest}
+use Rattle.justfile_base.specs.declared.token_kind.TokenKind.TheVariants.{Eof}
+use Rattle.justfile_model.specs.Tok.{tok_of}
+use Rattle.justfile_model.specs.LexicalFault.{UnterminatedInterpolation, lexical_fault_of}
+use Rattle.justfile_model.specs.Next.{next}
+use Rattle.justfile_model.specs.Lexed.{IsFault}
+use Rattle.justfile_model.proofs.NextLaws.{token_cut}
+use Rattle.justfile_lex.specs.Modes.{mode_of}
+use Rattle.justfile_model.specs.Answers.{IsFrom}
+use Rattle.justfile_lex.specs.WhiteRun.{IsRunOf}
+use Rattle.justfile_lex.proofs.WhiteRunLemmas.{run_on}
+use Rattle.justfile_lex.proofs.LexerLemmas.{goes_down, lexes_on, unclosed_fault, from_open}
+use Rattle.justfile_lex.proofs.lexer.Lexer.lex.Goals as goal
+
+pub returns-in-Some-clause-fault : goal.returns-in-Some-clause-fault
+returns-in-Some-clause-fault c =
+    let l = c.tokens.lexer in
+    let t = c.in-Some.start in
+    let lexing = c.tokens.invariant.lexing in
+    let fault = unclosed_fault l t lexing c.in-Some.ensures.0 c.in-Some.ensures.1 in
+    let from = from_open l t lexing c.in-Some.ensures.1 in
+    record {
+      fault = UnterminatedInterpolation;
+      kind_is = ap lexical_fault_of c.new.ensures.kind;
+      is_fault = subst (λ u. IsFault c.args.src.now UnterminatedInterpolation (tok_of u)) (sym c.new.ensures.token) (subst (λ s. IsFault s UnterminatedInterpolation (tok_of t)) c.tokens.invariant.src_is fault);
+      from = subst (IsFrom c.args.path.now c.args.src.now) (sym c.new.ensures.token) (subst (λ p. IsFrom p c.args.src.now t) c.tokens.invariant.path_is (subst (λ s. IsFrom l.path.now s t) c.tokens.invariant.src_is from));
+    }
+
+pub push-requires-clause-cut : goal.push-requires-clause-cut
+push-requires-clause-cut c =
+    let l = c.tokens.lexer in
+    let found = ap (next (mode_of l.mode)) (sym c.rest.ensures) ∙ sym c.in-Ok.ensures.found in
+    (token_cut _ _ (subst IsUtf8 c.rest.ensures c.rest.utf8) _ _ found).0
+
+pub tokens-smaller : goal.tokens-smaller
+tokens-smaller c =
+    let l = c.tokens.lexer in
+    let found = ap (next (mode_of l.mode)) (sym c.rest.ensures) ∙ sym c.in-Ok.ensures.found in
+    let cut = token_cut _ _ (subst IsUtf8 c.rest.ensures c.rest.utf8) _ _ found in
+    let end = IsCharBoundary-from_rest _ _ _ c.tokens.invariant.lexing.at_end.cut.0 cut.0 in
+    let ne : c.in-Ok.kind ≢ Eof = search (rules, c.if-eq.ensures) in
+    goes_down l _ _ _ c.in_ok-push-in-Ok.ensures end.0 cut.1 ne
+
+pub tokens-preserved : goal.tokens-preserved
+tokens-preserved c =
+    let old = c.tokens.lexer in
+    let new = c.push.new.self in
+    let run = c.next.new.run in
+    let pushes = c.in_ok-push-in-Ok.ensures in
+    let ne : c.in-Ok.kind ≢ Eof = search (rules, c.if-eq.ensures) in
+    let behind = run_on (drop old.offset old.src.now) run c.in-Ok.length (subst (λ bs. IsRunOf bs run) c.rest.ensures c.in-Ok.ensures.run) in
+    let there = drop-drop c.in-Ok.length old.offset old.src.now ∙ (λ i. drop (sym pushes.offset_is i) (sym pushes.src_is i).now) in
+    record {
+      lexing = lexes_on old new c.in-Ok.kind c.in-Ok.length c.tokens.invariant.lexing pushes ne;
+      run = subst (λ bs. IsRunOf bs run) there behind;
+      path_is = ap (λ (p : _). p.now) pushes.path_is ∙ c.tokens.invariant.path_is;
+      src_is = ap (λ (s : _). s.now) pushes.src_is ∙ c.tokens.invariant.src_is;
+    }

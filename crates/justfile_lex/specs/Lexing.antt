@@ -1,0 +1,52 @@
+-- The state of the lexer.
+use Rattle.std.specs.Prelude.{◌≡◌, ℕ, ◌+◌, List, ◌∷◌, map, reverse, All, IfSome}
+use Rattle.std.specs.Str.{IsCharBoundary}
+use Rattle.justfile_base.specs.declared.token_kind.TokenKind.{TokenKind}
+use Rattle.justfile_lex.specs.declared.lexer.Lexer.{Lexer}
+use Rattle.justfile_base.specs.Slice.{slice_of}
+use Rattle.justfile_model.specs.Places.{IsPlace}
+use Rattle.justfile_model.specs.Tok.{Tok, tok_of}
+use Rattle.justfile_model.specs.Modes.{mode, after}
+use Rattle.justfile_model.specs.Answers.{IsFrom}
+use Rattle.justfile_lex.specs.Modes.{mode_of}
+use Rattle.justfile_model.specs.Lexed.{end_of, IsNext, Begins}
+
+-- the tokens so far, the last first
+abbrev pub earlier : Lexer → List Tok
+earlier l = reverse (map tok_of l.tokens.items)
+
+-- the place is the end of the tokens so far
+pub record IsAtEnd (l : Lexer) : Type 0 where
+  pub offset_is : l.offset ≡ end_of (earlier l)
+  pub cut : IsCharBoundary l.src.now l.offset
+  pub place : IsPlace l.src.now l.offset l.place.line l.place.column
+
+-- the tokens so far are the right ones
+pub record IsLexing (l : Lexer) : Type 0 where
+  pub at_end : IsAtEnd l
+  pub mode_is : mode_of l.mode ≡ mode (earlier l)
+  pub begins : Begins l.src.now (earlier l)
+  pub sources : All (IsFrom l.path.now l.src.now) l.tokens.items
+  pub interpolation_is : IfSome l.mode.interpolation (IsFrom l.path.now l.src.now)
+
+-- the token of this kind and length at the lexer's place
+pub record IsAt (l : Lexer) (kind : TokenKind) (len : ℕ) (t : Tok) : Type 0 where
+  pub kind_is : t.kind ≡ kind
+  pub offset_is : t.offset ≡ l.offset
+  pub lexeme_is : t.lexeme ≡ slice_of l.src.now l.offset len
+  pub line_is : t.line ≡ l.place.line
+  pub column_is : t.column ≡ l.place.column
+
+-- the next token, of this kind and length, has joined the tokens
+pub record Pushes (old new : Lexer) (kind : TokenKind) (len : ℕ) : Type 0 where
+  pub token : Tok
+  pub kind_is : token.kind ≡ kind
+  pub is_next : IsNext old.src.now (earlier old) token
+  pub joined : earlier new ≡ token ∷ earlier old
+  pub mode_is : mode_of new.mode ≡ after token.kind token (mode_of old.mode)
+  pub sources : All (IsFrom new.path.now new.src.now) new.tokens.items
+  pub interpolation_is : IfSome new.mode.interpolation (IsFrom new.path.now new.src.now)
+  pub path_is : new.path ≡ old.path
+  pub src_is : new.src ≡ old.src
+  pub offset_is : new.offset ≡ old.offset + len
+  pub at_end : IsAtEnd new

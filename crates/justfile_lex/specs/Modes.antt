@@ -1,0 +1,28 @@
+-- The code's mode. Its stacks have the innermost last.
+use Rattle.std.specs.Prelude.{map, reverse, option_map, Option, None, Some}
+use Rattle.justfile_base.specs.declared.token.Token.{Token}
+use Rattle.justfile_base.specs.declared.token_kind.TokenKind.{TokenKind}
+use Rattle.justfile_base.specs.declared.token_kind.TokenKind.TheVariants.{InterpolationStart, InterpolationEnd}
+use Rattle.justfile_model.specs.Tok.{tok_of}
+use Rattle.justfile_model.specs.Modes.{Mode}
+use Rattle.justfile_lex.specs.declared.mode.Mode.{Mode as CodeMode}
+
+abbrev pub mode_of : CodeMode → Mode
+mode_of m = record {
+  openers = reverse m.openers.items;
+  levels = reverse (map (λ level. level.now) m.levels.items);
+  colon = m.colon;
+  in_body = m.in_body;
+  interpolation = option_map tok_of m.interpolation;
+  line_start = m.line_start;
+  behind_f = m.behind_f;
+}
+
+-- the start of the open interpolation, after one more token
+abbrev pub interpolation_by : TokenKind → Token → Option Token → Option Token
+interpolation_by InterpolationStart t before = Some t
+interpolation_by InterpolationEnd t before = None
+interpolation_by _ t before = before
+
+abbrev pub interpolation_after : Token → Option Token → Option Token
+interpolation_after t before = interpolation_by t.kind t before

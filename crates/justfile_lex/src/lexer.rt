@@ -1,0 +1,196 @@
+ghost use Rattle.std.specs.Prelude.{◌≡◌, ◌+◌, ◌≤◌, ◌||◌, ◌==◌, length, drop, map, Ok, Err, IfOk, OnOk, IfErr, All, MatchOption, None, Some};
+ghost use Rattle.std.specs.Str.{IsCharBoundary, IsUtf8};
+ghost use Rattle.std.specs.Char.{is_ascii_alphabetic, is_ascii_digit};
+ghost use Rattle.justfile_base.specs.Slice.{IsWithin};
+ghost use Rattle.justfile_base.specs.declared.token_kind.TokenKind.TheVariants.{Unspecified};
+ghost use Rattle.justfile_model.specs.Next.{next};
+ghost use Rattle.justfile_model.specs.Tok.{tok_of};
+ghost use Rattle.justfile_model.specs.Lexed.{Lexed, StandsAt, end_of};
+ghost use Rattle.justfile_model.specs.Answers.{IsFrom, IsLexicalError, IsLexerFault};
+ghost use Rattle.justfile_lex.specs.Modes.{mode_of};
+ghost use Rattle.justfile_lex.specs.Found.{refused_of};
+
+use crate::layout;
+use crate::mode::Mode;
+use crate::place::{Place, place_after};
+use crate::refusal::Refusal;
+use crate::white_run::WhiteRun;
+use justfile_base::{CompileError, CompileErrorKind, CompileResult, Fault, Token, TokenKind};
+use std::alloc::{AllocError, Global};
+
+/// Cuts a text into tokens.
+#[derive(Drop)]
+pub struct Lexer<'src> {
+    mode: Mode<'src>,
+    /// Where the next token begins, in bytes.
+    offset: usize,
+    path: &'src str,
+    /// The line and the column of the offset.
+    place: Place,
+    src: &'src str,
+    /// The tokens so far.
+    tokens: Vec<Token<'src>>,
+}
+
+impl<'src> Lexer<'src> {
+    ghost use Rattle.justfile_lex.specs.Lexing.{earlier, IsLexing, Pushes, IsAt};
+
+    /// What begins an interpolation.
+    pub const INTERPOLATION_START: &'static str = "{{";
+    /// What ends an interpolation.
+    pub const INTERPOLATION_END: &'static str = "}}";
+    /// What stands in text for two opening braces.
+    pub const INTERPOLATION_ESCAPE: &'static str = "{{{{";
+
+    /// The tokens of a text, in order and joined to the whole text, the empty `Eof` last. Each has
+    /// this path and this source.
+    ///
+    /// # Errors
+    ///
+    /// `Compile` if the text has a lexical fault, with the first one's kind and place; `Memory` if
+    /// memory is wanting.
+    pub fn lex(
+        alloc: Global,
+        path: &'src str,
+        src: &'src str,
+    ) -> CompileResult<'src, Vec<Token<'src>>>
+        ensures tokens { IfOk result (λ tokens. Lexed src.now (map tok_of tokens.items)) }
+        ensures source { IfOk result (λ tokens. All (IsFrom path.now src.now) tokens.items) }
+        ensures fault { IfErr result (IsLexerFault path.now src.now) }
+    {
+        let mut lexer = Lexer::new(alloc, path, src);
+        let mut run = WhiteRun::before(src);
+        'tokens: loop {
+            if let Some(start) = lexer.unclosed() {
+                let kind = CompileErrorKind::UnterminatedInterpolation;
+                return Err(Fault::Compile(CompileError::new(start, kind)));
+            }
+            match layout::next(&lexer.mode, &mut run, lexer.rest()) {
+                Ok((kind, length)) => {
+                    lexer.push(kind, length)?;
+                    if kind == TokenKind::Eof {
+                        return Ok(lexer.tokens);
+                    }
+                }
+                Err(refusal) => return Err(Fault::Compile(lexer.error(alloc, refusal)?)),
+            }
+        }
+    }
+
+    /// Whether an identifier may begin with the character.
+    pub fn is_identifier_start(c: char) -> bool
+        ensures { result ≡ (is_ascii_alphabetic c || c == 95) }
+    {
+        c.is_ascii_alphabetic() || c == '_'
+    }
+
+    /// Whether an identifier may go on with the character.
+    pub fn is_identifier_continue(c: char) -> bool
+        ensures { result ≡ (is_ascii_alphabetic c || c == 95 || is_ascii_digit c || c == 45) }
+    {
+        Self::is_identifier_start(c) || c.is_ascii_digit() || c == '-'
+    }
+
+    fn new(alloc: Global, path: &'src str, src: &'src str) -> Self
+        ensures lexing { IsLexing result }
+        ensures offset { result.offset ≡ 0 }
+        ensures path { result.path.now ≡ path.now }
+        ensures src { result.src.now ≡ src.now }
+    {
+        Lexer {
+            mode: Mode::new(alloc),
+            offset: 0,
+            path,
+            place: Place { line: 0, column: 0 },
+            src,
+            tokens: Vec::new(alloc),
+        }
+    }
+
+    /// The text behind the tokens so far.
+    fn rest(&self) -> &'src str
+        requires { IsCharBoundary self.now.src.now self.now.offset }
+        ensures { result.now ≡ drop self.now.offset self.now.src.now }
+    {
+        &self.src[self.offset..]
+    }
+
+    /// The start of the interpolation that is open at the end of the text.
+    fn unclosed(&self) -> Option<Token<'src>>
+        requires { IsCharBoundary self.now.src.now self.now.offset }
+        ensures { MatchOption result (length (drop self.now.offset self.now.src.now) ≡ 0 → self.now.mode.interpolation ≡ None) (λ t. (length (drop self.now.offset self.now.src.now) ≡ 0) × (self.now.mode.interpolation ≡ Some t)) }
+    {
+        if self.rest().is_empty() {
+            self.mode.interpolation
+        } else {
+            None
+        }
+    }
+
+    /// A token of this kind and length at the place.
+    fn token(&self, kind: TokenKind, length: usize) -> Token<'src>
+        requires { IsWithin self.now.src.now self.now.offset length }
+        ensures at { IsAt self.now kind length (tok_of result) }
+        ensures source { IsFrom self.now.path.now self.now.src.now result }
+    {
+        Token {
+            column: self.place.column,
+            kind,
+            length,
+            line: self.place.line,
+            offset: self.offset,
+            path: self.path,
+            src: self.src,
+        }
+    }
+
+    /// The bytes at which an error points, behind some others.
+    fn span(&self, skip: usize, length: usize) -> Token<'src>
+        requires lexing { IsLexing self.now }
+        requires within { IsWithin self.now.src.now (self.now.offset + skip) length }
+        ensures at { StandsAt self.now.src.now (end_of (earlier self.now) + skip) (tok_of result) }
+        ensures kind { result.kind ≡ Unspecified }
+        ensures length { result.length ≡ length }
+        ensures source { IsFrom self.now.path.now self.now.src.now result }
+    {
+        let offset = self.offset + skip;
+        let place = place_after(self.src.as_bytes(), self.place, self.offset, offset);
+        Token {
+            column: place.column,
+            kind: TokenKind::Unspecified,
+            length,
+            line: place.line,
+            offset,
+            path: self.path,
+            src: self.src,
+        }
+    }
+
+    /// The error that a refusal is here.
+    fn error(&self, alloc: Global, refusal: Refusal<'src>) -> Result<CompileError<'src>, AllocError>
+        requires lexing { IsLexing self.now }
+        requires utf8 { IsUtf8 self.now.src.now }
+        requires refused { next (mode_of self.now.mode) (drop self.now.offset self.now.src.now) ≡ Err (refused_of refusal) }
+        ensures { IfOk result (IsLexicalError self.now.path.now self.now.src.now) }
+    {
+        let token = self.span(refusal.skip, refusal.length);
+        let kind = refusal.fault.into_kind(alloc)?;
+        Ok(CompileError::new(token, kind))
+    }
+
+    /// Adds the next token.
+    fn push(&mut self, kind: TokenKind, length: usize) -> Result<(), AllocError>
+        requires lexing { IsLexing self.old }
+        requires cut { IsCharBoundary (drop self.old.offset self.old.src.now) length }
+        requires found { next (mode_of self.old.mode) (drop self.old.offset self.old.src.now) ≡ Ok (kind, length) }
+        ensures { OnOk result (Pushes self.old self.new kind length) }
+    {
+        let token = self.token(kind, length);
+        self.mode.note(token)?;
+        self.tokens.push(token)?;
+        let end = self.offset + length;
+        self.place = place_after(self.src.as_bytes(), self.place, self.offset, end);
+        self.offset = end;
+        Ok(())
+    }
+}

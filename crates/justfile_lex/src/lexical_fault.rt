@@ -1,0 +1,88 @@
+ghost use Rattle.std.specs.Prelude.{◌≡◌, IfOk};
+ghost use Rattle.justfile_model.specs.LexicalFault.{lexical_fault_of};
+ghost use Rattle.justfile_lex.specs.Found.{fault_of};
+
+use justfile_base::{CompileErrorKind, Delimiter};
+use std::alloc::{AllocError, Global};
+
+/// Why no token comes next, said without memory. An interpolation without an end is found apart.
+#[derive(Clone, Copy, Debug)]
+pub(crate) enum LexicalFault<'src> {
+    EscapeEndOfFile,
+    InconsistentLeadingWhitespace {
+        expected: &'src str,
+        found: &'src str,
+    },
+    InvalidEscapeSequence {
+        character: char,
+    },
+    MismatchedClosingDelimiter {
+        close: Delimiter,
+        open_line: usize,
+        opener: Delimiter,
+    },
+    MixedLeadingWhitespace {
+        whitespace: &'src str,
+    },
+    UnexpectedCharacter {
+        expected: char,
+    },
+    UnexpectedClosingDelimiter {
+        close: Delimiter,
+    },
+    UnexpectedEndOfToken {
+        expected: char,
+    },
+    UnknownStartOfToken {
+        start: char,
+    },
+    UnpairedCarriageReturn,
+    UnterminatedBacktick,
+    UnterminatedString,
+}
+
+impl<'src> LexicalFault<'src> {
+    /// The same as an error's kind. Memory is wanted for the expected characters alone.
+    pub(crate) fn into_kind(self, alloc: Global) -> Result<CompileErrorKind<'src>, AllocError>
+        ensures { IfOk result (λ kind. lexical_fault_of kind ≡ fault_of self.entry) }
+    {
+        Ok(match self {
+            LexicalFault::EscapeEndOfFile => CompileErrorKind::EscapeEndOfFile,
+            LexicalFault::InconsistentLeadingWhitespace { expected, found } => {
+                CompileErrorKind::InconsistentLeadingWhitespace { expected, found }
+            }
+            LexicalFault::InvalidEscapeSequence { character } => {
+                CompileErrorKind::InvalidEscapeSequence { character }
+            }
+            LexicalFault::MismatchedClosingDelimiter {
+                close,
+                open_line,
+                opener,
+            } => CompileErrorKind::MismatchedClosingDelimiter {
+                close,
+                open_line,
+                opener,
+            },
+            LexicalFault::MixedLeadingWhitespace { whitespace } => {
+                CompileErrorKind::MixedLeadingWhitespace { whitespace }
+            }
+            LexicalFault::UnexpectedCharacter { expected } => {
+                let expected = vec![in alloc; expected]?;
+                CompileErrorKind::UnexpectedCharacter { expected }
+            }
+            LexicalFault::UnexpectedClosingDelimiter { close } => {
+                CompileErrorKind::UnexpectedClosingDelimiter { close }
+            }
+            LexicalFault::UnexpectedEndOfToken { expected } => {
+                let expected = vec![in alloc; expected]?;
+                CompileErrorKind::UnexpectedEndOfToken { expected }
+            }
+            LexicalFault::UnknownStartOfToken { start } => {
+                CompileErrorKind::UnknownStartOfToken { start }
+            }
+            LexicalFault::UnpairedCarriageReturn => CompileErrorKind::UnpairedCarriageReturn,
+            LexicalFault::UnterminatedBacktick => CompileErrorKind::UnterminatedBacktick,
+            LexicalFault::UnterminatedString => CompileErrorKind::UnterminatedString,
+        })
+    }
+}

@@ -1,0 +1,16 @@
+//! The lexer of justfiles.
+#![tactic(auto)]
+
+mod bytes;
+mod layout;
+mod lexer;
+mod lexical_fault;
+mod literal;
+mod mode;
+mod place;
+mod raw_text;
+mod refusal;
+mod scan;
+mod white_run;
+
+pub use crate::lexer::Lexer;

@@ -1,0 +1,173 @@
+ghost use Rattle.std.specs.Prelude.{◌≡◌, ◌≤◌, ◌<◌, length};
+ghost use Rattle.justfile_base.specs.StringKind.{delimiter_len, kind_of};
+ghost use Rattle.justfile_model.specs.Next.{unterminated, literal_kind, is_backtick, literal_part, literal, is_same, close, format_of, format_kind, brace_by, closing};
+ghost use Rattle.justfile_lex.specs.Modes.{mode_of};
+ghost use Rattle.justfile_lex.specs.Found.{fault_of, found_of};
+
+use crate::bytes::{after, is_interpolation_end, is_interpolation_start};
+use crate::lexical_fault::LexicalFault;
+use crate::mode::Mode;
+use crate::raw_text::{delimiter_len, kind_of, raw_len};
+use crate::refusal::{Found, refused};
+use justfile_base::{Delimiter, StringDelimiter, StringKind, TokenKind};
+use justfile_model::{OpenDelimiter, RawText};
+
+fn unterminated<'src>(delimiter: StringDelimiter) -> LexicalFault<'src>
+    ensures { fault_of result ≡ unterminated delimiter }
+{
+    match delimiter {
+        StringDelimiter::Backtick => LexicalFault::UnterminatedBacktick,
+        _ => LexicalFault::UnterminatedString,
+    }
+}
+
+fn literal_kind(delimiter: StringDelimiter) -> TokenKind
+    ensures { result ≡ literal_kind delimiter }
+{
+    match delimiter {
+        StringDelimiter::Backtick => TokenKind::Backtick,
+        _ => TokenKind::StringToken,
+    }
+}
+
+fn is_backtick(delimiter: StringDelimiter) -> bool
+    ensures { result ≡ is_backtick delimiter }
+{
+    matches!(delimiter, StringDelimiter::Backtick)
+}
+
+/// A literal or a part of a format string, of which the first bytes are known: the kind is `more`
+/// where an interpolation follows, else `whole`.
+#[tactic(auto, unfolding(justfile_model::specs::Next::literal_part))]
+fn literal_part<'src>(
+    kind: StringKind,
+    format: bool,
+    opener: usize,
+    more: TokenKind,
+    whole: TokenKind,
+    rest: &[u8],
+) -> Found<'src>
+    requires { opener ≤ length rest.now }
+    ensures { found_of result ≡ literal_part kind format opener more whole rest.now }
+{
+    let behind = after(rest, opener);
+    let inside = raw_len(RawText::Literal(kind, format), behind);
+    if inside == behind.len() {
+        refused(unterminated(kind.delimiter), 0, opener)
+    } else if format && is_interpolation_start(after(behind, inside)) {
+        Ok((more, opener + inside + 2))
+    } else {
+        Ok((whole, opener + inside + delimiter_len(kind)))
+    }
+}
+
+/// A string, a backtick, or the start of a format string.
+pub(crate) fn literal<'src>(mode: &Mode<'src>, rest: &[u8]) -> Found<'src>
+    requires { delimiter_len (kind_of rest.now) ≤ length rest.now }
+    ensures { found_of result ≡ literal (mode_of mode.now) rest.now }
+{
+    let kind = kind_of(rest);
+    let format = mode.behind_f && !is_backtick(kind.delimiter);
+    literal_part(
+        kind,
+        format,
+        delimiter_len(kind),
+        TokenKind::FormatStringStart,
+        literal_kind(kind.delimiter),
+        rest,
+    )
+}
+
+fn is_same(opener: Delimiter, close: Delimiter) -> bool
+    ensures { result ≡ is_same opener close }
+{
+    matches!(
+        (opener, close),
+        (Delimiter::Brace, Delimiter::Brace)
+            | (Delimiter::Bracket, Delimiter::Bracket)
+            | (Delimiter::Paren, Delimiter::Paren)
+    )
+}
+
+/// A closing delimiter, which has to match the innermost open one.
+fn close<'src>(last: Option<OpenDelimiter>, delimiter: Delimiter, kind: TokenKind) -> Found<'src>
+    ensures { found_of result ≡ close last delimiter kind }
+{
+    match last {
+        None => refused(
+            LexicalFault::UnexpectedClosingDelimiter { close: delimiter },
+            0,
+            0,
+        ),
+        Some(opener) => {
+            if is_same(opener.delimiter, delimiter) {
+                Ok((kind, 1))
+            } else {
+                refused(
+                    LexicalFault::MismatchedClosingDelimiter {
+                        close: delimiter,
+                        open_line: opener.line,
+                        opener: opener.delimiter,
+                    },
+                    0,
+                    0,
+                )
+            }
+        }
+    }
+}
+
+fn format_of(delimiter: Delimiter) -> Option<StringKind>
+    ensures { result ≡ format_of delimiter }
+{
+    match delimiter {
+        Delimiter::FormatString(kind) => Some(kind),
+        _ => None,
+    }
+}
+
+/// The kind of the format string that is the innermost open delimiter.
+fn format_kind(last: Option<OpenDelimiter>) -> Option<StringKind>
+    ensures { result ≡ format_kind last }
+{
+    match last {
+        None => None,
+        Some(opener) => format_of(opener.delimiter),
+    }
+}
+
+/// A closing brace, or two that go on with a format string.
+fn closing_brace<'src>(last: Option<OpenDelimiter>, rest: &[u8]) -> Found<'src>
+    requires { 0 < length rest.now }
+    ensures { found_of result ≡ brace_by (format_kind last) last rest.now }
+{
+    match format_kind(last) {
+        None => close(last, Delimiter::Brace, TokenKind::BraceR),
+        Some(kind) => {
+            if is_interpolation_end(rest) {
+                literal_part(
+                    kind,
+                    true,
+                    2,
+                    TokenKind::FormatStringContinue,
+                    TokenKind::FormatStringEnd,
+                    rest,
+                )
+            } else {
+                close(last, Delimiter::Brace, TokenKind::BraceR)
+            }
+        }
+    }
+}
+
+/// The token that begins with a closing delimiter, where this one is the innermost open.
+pub(crate) fn closing<'src>(last: Option<OpenDelimiter>, byte: u8, rest: &[u8]) -> Found<'src>
+    requires { 0 < length rest.now }
+    ensures { found_of result ≡ closing last byte rest.now }
+{
+    match byte {
+        b')' => close(last, Delimiter::Paren, TokenKind::ParenR),
+        b']' => close(last, Delimiter::Bracket, TokenKind::BracketR),
+        _ => closing_brace(last, rest),
+    }
+}

@@ -1,0 +1,195 @@
+ghost use Rattle.std.specs.Prelude.{◌≡◌, ◌||◌, ◌+◌, ◌≤◌, map, not, length, ◌==◌, ◌∷◌, OnOk, None, true, false};
+ghost use Rattle.std.specs.List.{list_any, count_by};
+ghost use Rattle.std.specs.Str.{bytes_eq};
+ghost use Rattle.justfile_model.specs.Places.{is_newline};
+ghost use Rattle.justfile_model.specs.Modes.{ends_in_newline};
+
+use crate::raw_text::kind_of;
+use justfile_base::{Delimiter, Token, TokenKind};
+use justfile_model::OpenDelimiter;
+use std::alloc::{AllocError, Global};
+
+/// What the earlier tokens say of the next.
+#[derive(Drop)]
+pub(crate) struct Mode<'src> {
+    /// Whether the last token is the identifier `f`.
+    pub(crate) behind_f: bool,
+    /// Whether a colon came since the last dedent.
+    pub(crate) colon: bool,
+    /// Whether the lines are those of a body.
+    pub(crate) in_body: bool,
+    /// The start of the open interpolation.
+    pub(crate) interpolation: Option<Token<'src>>,
+    /// The open levels, the innermost last.
+    pub(crate) levels: Vec<&'src str>,
+    /// Whether nothing of the line came yet.
+    pub(crate) line_start: bool,
+    /// The open delimiters, the innermost last.
+    pub(crate) openers: Vec<OpenDelimiter>,
+}
+
+/// Whether one of the texts is this one.
+fn contains(texts: &[&str], text: &str) -> bool
+    ensures { result ≡ list_any (λ t. bytes_eq t.now text.now) texts.now }
+{
+    texts.iter().any(|t| *t == text)
+}
+
+/// How many newlines there are.
+fn newlines(bytes: &[u8]) -> usize
+    ensures { result ≡ count_by is_newline bytes.now }
+{
+    bytes.iter().filter(|b| **b == b'\n').count()
+}
+
+/// Whether the last byte is a newline.
+fn ends_in_newline(bytes: &[u8]) -> bool
+    ensures { result ≡ ends_in_newline bytes.now }
+{
+    match bytes.last() {
+        Some(byte) => *byte == b'\n',
+        None => false,
+    }
+}
+
+impl<'src> Mode<'src> {
+    ghost use Rattle.justfile_model.specs.Modes.{mode, after, innermost, nested, start, is_empty, first_of, tail_of, opener};
+    ghost use Rattle.justfile_model.specs.Next.{is_level};
+    ghost use Rattle.justfile_model.specs.Tok.{tok_of};
+    ghost use Rattle.justfile_lex.specs.Modes.{mode_of, interpolation_after};
+    ghost use Rattle.std.specs.Prelude.{[]};
+
+    pub(crate) fn new(alloc: Global) -> Self
+        ensures mode { mode_of result ≡ start }
+        ensures interpolation { result.interpolation ≡ None }
+    {
+        Mode {
+            behind_f: false,
+            colon: false,
+            in_body: false,
+            interpolation: None,
+            levels: Vec::new(alloc),
+            line_start: true,
+            openers: Vec::new(alloc),
+        }
+    }
+
+    /// The innermost level.
+    pub(crate) fn level(&self) -> &'src str
+        ensures { result.now ≡ innermost (mode_of self.now) }
+    {
+        match self.levels.last() {
+            Some(level) => level,
+            None => "",
+        }
+    }
+
+    /// The innermost open delimiter.
+    pub(crate) fn opener(&self) -> Option<OpenDelimiter>
+        ensures { result ≡ first_of (mode_of self.now).openers }
+    {
+        match self.openers.last() {
+            Some(opener) => Some(*opener),
+            None => None,
+        }
+    }
+
+    /// Whether no delimiter is open.
+    pub(crate) fn nothing_open(&self) -> bool
+        ensures { result ≡ is_empty (mode_of self.now).openers }
+    {
+        self.openers.is_empty()
+    }
+
+    /// Whether no level is open.
+    pub(crate) fn no_level(&self) -> bool
+        ensures { result ≡ is_empty (mode_of self.now).levels }
+    {
+        self.levels.is_empty()
+    }
+
+    /// Whether a delimiter or an interpolation is open.
+    pub(crate) fn is_nested(&self) -> bool
+        ensures { result ≡ nested (mode_of self.now) }
+    {
+        !self.nothing_open() || self.interpolation.is_some()
+    }
+
+    /// Whether the text is one of the levels, of which the lowest is empty.
+    pub(crate) fn is_level(&self, text: &str) -> bool
+        ensures { result ≡ is_level (mode_of self.now).levels text.now }
+    {
+        text.is_empty() || contains(&self.levels, text)
+    }
+
+    fn open(&mut self, delimiter: Delimiter, line: usize) -> Result<(), AllocError>
+        ensures mode { OnOk result (mode_of self.new ≡ record (mode_of self.old) { openers = opener delimiter line ∷ (mode_of self.old).openers }) }
+        ensures interpolation { self.new.interpolation ≡ self.old.interpolation }
+    {
+        self.openers.push(OpenDelimiter { delimiter, line })?;
+        Ok(())
+    }
+
+    fn close(&mut self)
+        ensures mode { mode_of self.new ≡ record (mode_of self.old) { openers = tail_of (mode_of self.old).openers } }
+        ensures interpolation { self.new.interpolation ≡ self.old.interpolation }
+    {
+        let _ = self.openers.pop();
+    }
+
+    fn indent(&mut self, level: &'src str) -> Result<(), AllocError>
+        ensures mode { OnOk result (mode_of self.new ≡ record (mode_of self.old) { levels = level.now ∷ (mode_of self.old).levels; in_body = (mode_of self.old).in_body || (mode_of self.old).colon }) }
+        ensures interpolation { self.new.interpolation ≡ self.old.interpolation }
+    {
+        self.levels.push(level)?;
+        self.in_body = self.in_body || self.colon;
+        Ok(())
+    }
+
+    fn dedent(&mut self)
+        ensures mode { mode_of self.new ≡ record (mode_of self.old) { levels = tail_of (mode_of self.old).levels; colon = false; in_body = false } }
+        ensures interpolation { self.new.interpolation ≡ self.old.interpolation }
+    {
+        let _ = self.levels.pop();
+        self.colon = false;
+        self.in_body = false;
+    }
+
+    /// Takes note of one more token.
+    pub(crate) fn note(&mut self, token: Token<'src>) -> Result<(), AllocError>
+        requires { token.line ≤ token.offset }
+        ensures mode { OnOk result (mode_of self.new ≡ after token.entry.kind (tok_of token.entry) (mode_of self.old)) }
+        ensures interpolation { OnOk result (self.new.interpolation ≡ interpolation_after token.entry self.old.interpolation) }
+    {
+        let line_start = self.line_start;
+        self.line_start = false;
+        self.behind_f = false;
+        match token.kind {
+            TokenKind::BraceL => self.open(Delimiter::Brace, token.line)?,
+            TokenKind::BracketL => self.open(Delimiter::Bracket, token.line)?,
+            TokenKind::ParenL => self.open(Delimiter::Paren, token.line)?,
+            TokenKind::FormatStringStart => {
+                let bytes = token.lexeme().as_bytes();
+                let line = token.line + newlines(bytes);
+                self.open(Delimiter::FormatString(kind_of(bytes)), line)?
+            }
+            TokenKind::BraceR
+            | TokenKind::BracketR
+            | TokenKind::ParenR
+            | TokenKind::FormatStringEnd => self.close(),
+            TokenKind::Colon => self.colon = true,
+            TokenKind::Indent => self.indent(token.lexeme())?,
+            TokenKind::Dedent => {
+                self.dedent();
+                self.line_start = line_start;
+            }
+            TokenKind::InterpolationStart => self.interpolation = Some(token),
+            TokenKind::InterpolationEnd => self.interpolation = None,
+            TokenKind::Eol => self.line_start = true,
+            TokenKind::Whitespace => self.line_start = ends_in_newline(token.lexeme().as_bytes()),
+            TokenKind::Identifier => self.behind_f = token.lexeme() == "f",
+            _ => {}
+        }
+        Ok(())
+    }
+}

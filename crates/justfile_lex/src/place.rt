@@ -1,0 +1,41 @@
+ghost use Rattle.std.specs.Prelude.{◌+◌, ◌<◌, ◌≤◌, length};
+ghost use Rattle.justfile_model.specs.Places.{IsPlace};
+
+/// A line and a column, from 0, in bytes.
+#[derive(Clone, Copy, Debug, PartialEq, Eq)]
+pub(crate) struct Place {
+    pub(crate) line: usize,
+    pub(crate) column: usize,
+}
+
+/// The place after the byte at `at`.
+fn after_byte(bytes: &[u8], place: Place, at: usize) -> Place
+    requires within { at < length bytes.now }
+    requires start { IsPlace bytes.now at place.line place.column }
+    ensures { IsPlace bytes.now (at + 1) result.line result.column }
+{
+    if bytes[at] == b'\n' && at + 1 < bytes.len() {
+        return Place {
+            line: place.line + 1,
+            column: 0,
+        };
+    }
+    Place {
+        line: place.line,
+        column: place.column + 1,
+    }
+}
+
+/// The place of `to`, from the place of `from`.
+pub(crate) fn place_after(bytes: &[u8], start: Place, from: usize, to: usize) -> Place
+    requires order { from ≤ to }
+    requires within { to ≤ length bytes.now }
+    requires start { IsPlace bytes.now from start.line start.column }
+    ensures { IsPlace bytes.now to result.line result.column }
+{
+    let mut place = start;
+    for at in from..to {
+        place = after_byte(bytes, place, at);
+    }
+    place
+}

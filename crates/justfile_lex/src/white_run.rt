@@ -1,0 +1,65 @@
+ghost use Rattle.std.specs.Prelude.{◌≡◌, false};
+ghost use Rattle.justfile_model.specs.Bytes.{white, line_feed, closes_levels};
+
+use crate::bytes::{byte_at, line_feed, white};
+use justfile_base::byte_class::byte_class;
+
+/// The run of white bytes that was looked at last. Levels close before each of its blank lines or
+/// before none, so one look serves them all, and lexing stays linear in the text.
+#[derive(Clone, Copy, Debug)]
+pub(crate) struct WhiteRun {
+    /// How many bytes of the text are behind it.
+    behind: usize,
+    /// Whether levels close before its blank lines.
+    closes: bool,
+}
+
+impl WhiteRun {
+    ghost use Rattle.justfile_lex.specs.WhiteRun.{IsRunOf};
+
+    /// The empty run before a text.
+    pub(crate) fn before(text: &str) -> Self
+        ensures { IsRunOf text.now result }
+    {
+        WhiteRun {
+            behind: text.len(),
+            closes: false,
+        }
+    }
+
+    /// The run at the front.
+    #[tactic(auto, using(crate::proofs::WhiteRunLemmas::white_loop))]
+    fn at_front(bytes: &[u8]) -> Self
+        ensures run { IsRunOf bytes.now result }
+        ensures closes { result.closes ≡ closes_levels false bytes.now }
+    {
+        let mut closes = false;
+        for at in 0..bytes.len() {
+            let class = byte_class(byte_at(bytes, at));
+            if !white(class) {
+                return WhiteRun {
+                    behind: bytes.len() - at,
+                    closes,
+                };
+            }
+            closes = line_feed(class);
+        }
+        WhiteRun {
+            behind: 0,
+            closes: false,
+        }
+    }
+
+    /// Whether the run of white bytes at the front of the rest ends in a line feed, and another byte
+    /// follows it.
+    pub(crate) fn closes_levels(&mut self, rest: &[u8]) -> bool
+        requires { IsRunOf rest.now self.old }
+        ensures answer { result ≡ closes_levels false rest.now }
+        ensures run { IsRunOf rest.now self.new }
+    {
+        if rest.len() <= self.behind {
+            *self = WhiteRun::at_front(rest);
+        }
+        self.closes
+    }
+}
