@@ -1,7 +1,7 @@
 ghost use Rattle.std.specs.Prelude.{◌≡◌, ◌<◌, ◌&&◌, nat_eq, length, None};
 ghost use Rattle.std.specs.List.{starts_with};
 ghost use Rattle.justfile_model.specs.Bytes.{blank_len};
-ghost use Rattle.justfile_model.specs.Next.{at_end, blanks_or, seen, ends_here, layout, at_line_start, next};
+ghost use Rattle.justfile_model.specs.Next.{at_end, blanks_or, tested_blanks, is_blank_line, layout, at_line_start, next};
 ghost use Rattle.justfile_lex.specs.Layouts.{indent};
 ghost use Rattle.justfile_lex.specs.Modes.{mode_of};
 ghost use Rattle.justfile_lex.specs.Found.{found_of};
@@ -40,9 +40,9 @@ fn blanks_or<'src>(count: usize, mode: &Mode<'src>, rest: &'src str) -> Found<'s
 }
 
 /// The part of the leading blanks that may not mix spaces and tabs.
-fn seen<'src>(mode: &Mode<'src>, found: &'src str) -> &'src str
+fn tested_blanks<'src>(mode: &Mode<'src>, found: &'src str) -> &'src str
     requires { blank_len found.now ≡ length found.now }
-    ensures { result.now ≡ seen (mode_of mode.now) found.now }
+    ensures { result.now ≡ tested_blanks (mode_of mode.now) found.now }
 {
     if mode.in_body {
         blanks(found, mode.level().len().min(found.len()))
@@ -52,8 +52,8 @@ fn seen<'src>(mode: &Mode<'src>, found: &'src str) -> &'src str
 }
 
 /// Whether a line end or the end of the text is here.
-fn ends_here(behind: &[u8]) -> bool
-    ensures { result ≡ ends_here behind.now }
+fn is_blank_line(behind: &[u8]) -> bool
+    ensures { result ≡ is_blank_line behind.now }
 {
     is_line_end(behind) || behind.is_empty()
 }
@@ -71,12 +71,14 @@ fn indent<'src>(mode: &Mode<'src>, found: &'src str) -> Found<'src>
     ensures { found_of result ≡ indent (mode_of mode.now) found.now }
 {
     let level = mode.level();
-    let seen = seen(mode, found);
-    if is_mixed(seen.as_bytes()) {
+    let tested_blanks = tested_blanks(mode, found);
+    if is_mixed(tested_blanks.as_bytes()) {
         return refused(
-            LexicalFault::MixedLeadingWhitespace { whitespace: seen },
+            LexicalFault::MixedLeadingWhitespace {
+                whitespace: tested_blanks,
+            },
             0,
-            seen.len(),
+            tested_blanks.len(),
         );
     }
     if !begins(found.as_bytes(), level.as_bytes()) {
@@ -108,7 +110,7 @@ fn at_line_start<'src>(mode: &Mode<'src>, run: &mut WhiteRun, rest: &'src str) -
     if mode.is_nested() {
         return blanks_or(found.len(), mode, rest);
     }
-    if ends_here(behind) {
+    if is_blank_line(behind) {
         if !mode.no_level() && run.closes_levels(bytes) {
             return Ok((TokenKind::Dedent, 0));
         }

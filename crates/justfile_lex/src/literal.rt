@@ -1,13 +1,13 @@
 ghost use Rattle.std.specs.Prelude.{◌≡◌, ◌≤◌, ◌<◌, length};
 ghost use Rattle.justfile_base.specs.StringKind.{delimiter_len, kind_of};
-ghost use Rattle.justfile_model.specs.Next.{unterminated, literal_kind, is_backtick, literal_part, literal, is_same, close, format_of, format_kind, brace_by, closing};
+ghost use Rattle.justfile_model.specs.Next.{unterminated, is_backtick, literal_part, literal, is_same, close, format_of, format_kind, brace_by, closing};
 ghost use Rattle.justfile_lex.specs.Modes.{mode_of};
 ghost use Rattle.justfile_lex.specs.Found.{fault_of, found_of};
 
 use crate::bytes::{after, is_interpolation_end, is_interpolation_start};
 use crate::lexical_fault::LexicalFault;
 use crate::mode::Mode;
-use crate::raw_text::{delimiter_len, kind_of, raw_len};
+use crate::raw_text::{kind_of, raw_len};
 use crate::refusal::{Found, refused};
 use justfile_base::{Delimiter, StringDelimiter, StringKind, TokenKind};
 use justfile_model::{OpenDelimiter, RawText};
@@ -18,15 +18,6 @@ fn unterminated<'src>(delimiter: StringDelimiter) -> LexicalFault<'src>
     match delimiter {
         StringDelimiter::Backtick => LexicalFault::UnterminatedBacktick,
         _ => LexicalFault::UnterminatedString,
-    }
-}
-
-fn literal_kind(delimiter: StringDelimiter) -> TokenKind
-    ensures { result ≡ literal_kind delimiter }
-{
-    match delimiter {
-        StringDelimiter::Backtick => TokenKind::Backtick,
-        _ => TokenKind::StringToken,
     }
 }
 
@@ -57,7 +48,7 @@ fn literal_part<'src>(
     } else if format && is_interpolation_start(after(behind, inside)) {
         Ok((more, opener + inside + 2))
     } else {
-        Ok((whole, opener + inside + delimiter_len(kind)))
+        Ok((whole, opener + inside + kind.delimiter_len()))
     }
 }
 
@@ -71,9 +62,9 @@ pub(crate) fn literal<'src>(mode: &Mode<'src>, rest: &[u8]) -> Found<'src>
     literal_part(
         kind,
         format,
-        delimiter_len(kind),
+        kind.delimiter_len(),
         TokenKind::FormatStringStart,
-        literal_kind(kind.delimiter),
+        kind.token_kind(),
         rest,
     )
 }

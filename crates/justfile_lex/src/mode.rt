@@ -53,7 +53,7 @@ fn ends_in_newline(bytes: &[u8]) -> bool
 }
 
 impl<'src> Mode<'src> {
-    ghost use Rattle.justfile_model.specs.Modes.{mode, after, innermost, nested, start, is_empty, first_of, tail_of, opener};
+    ghost use Rattle.justfile_model.specs.Modes.{mode, after, innermost, nested, start, is_empty, head_of, tail_of, opener};
     ghost use Rattle.justfile_model.specs.Next.{is_level};
     ghost use Rattle.justfile_model.specs.Tok.{tok_of};
     ghost use Rattle.justfile_lex.specs.Modes.{mode_of, interpolation_after};
@@ -86,7 +86,7 @@ impl<'src> Mode<'src> {
 
     /// The innermost open delimiter.
     pub(crate) fn opener(&self) -> Option<OpenDelimiter>
-        ensures { result ≡ first_of (mode_of self.now).openers }
+        ensures { result ≡ head_of (mode_of self.now).openers }
     {
         match self.openers.last() {
             Some(opener) => Some(*opener),

@@ -1,6 +1,6 @@
 ghost use Rattle.std.specs.Prelude.{◌≡◌};
 ghost use Rattle.justfile_model.specs.declared.raw_text.RawText.TheVariants.{Literal};
-ghost use Rattle.justfile_base.specs.StringKind.{quote_of, escapes, delimiter_len, delimiter_at, kind_of};
+ghost use Rattle.justfile_base.specs.StringKind.{quote_of, delimiter_at, kind_of};
 ghost use Rattle.justfile_model.specs.LiteralText.{is_delimiter, hides, ends, raw_len, pieces_len};
 
 use crate::bytes::{after, byte_at, is_interpolation_escape, is_interpolation_start, is_line_end};
@@ -15,20 +15,6 @@ fn quote_of(delimiter: StringDelimiter) -> u8
         StringDelimiter::QuoteDouble => b'"',
         StringDelimiter::QuoteSingle => b'\'',
     }
-}
-
-/// Whether a backslash hides what follows it.
-fn escapes(delimiter: StringDelimiter) -> bool
-    ensures { result ≡ escapes delimiter }
-{
-    matches!(delimiter, StringDelimiter::QuoteDouble)
-}
-
-/// The length of a delimiter, in bytes.
-pub(crate) fn delimiter_len(kind: StringKind) -> usize
-    ensures { result ≡ delimiter_len kind }
-{
-    if kind.indented { 3 } else { 1 }
 }
 
 /// Whether the closing delimiter is at the front.
@@ -69,7 +55,7 @@ pub(crate) fn kind_of(rest: &[u8]) -> StringKind
 fn literal_hides(kind: StringKind, format: bool, rest: &[u8]) -> usize
     ensures { result ≡ hides (Literal kind format) rest.now }
 {
-    if escapes(kind.delimiter) && byte_at(rest, 0) == b'\\' {
+    if kind.processes_escape_sequences() && byte_at(rest, 0) == b'\\' {
         if format && is_interpolation_escape(after(rest, 1)) {
             4
         } else {

@@ -21,13 +21,13 @@ use Rattle.justfile_base.specs.declared.token_kind.TokenKind.{TokenKind}
 use Rattle.justfile_base.specs.declared.token_kind.TokenKind.TheVariants.{BraceR, BracketR, Dedent, Eof, Eol, FormatStringContinue, FormatStringEnd, ParenR, Whitespace}
 use Rattle.justfile_base.specs.ByteClass.{class_of}
 use Rattle.justfile_model.specs.Bytes.{is_blank, is_word, blank_len, is_line_end, is_interpolation_start, is_interpolation_end, is_mixed, closes_levels, first_char}
-use Rattle.justfile_base.specs.StringKind.{delimiter_len, kind_of}
+use Rattle.justfile_base.specs.StringKind.{delimiter_len, kind_of, token_kind_of}
 use Rattle.justfile_model.specs.LiteralText.{raw_len, is_delimiter}
 use Rattle.justfile_model.specs.Tok.{Tok}
 use Rattle.justfile_model.specs.declared.open_delimiter.OpenDelimiter.{OpenDelimiter}
-use Rattle.justfile_model.specs.Modes.{Mode, first_of, is_empty, innermost, innermost_of, nested}
+use Rattle.justfile_model.specs.Modes.{Mode, head_of, is_empty, innermost, innermost_of, nested}
 use Rattle.justfile_model.specs.LexicalFault.{LexicalFault, Refusal, Here, Unclosed}
-use Rattle.justfile_model.specs.Next.{Found, twice, fixed, opening, literal_part, literal, literal_kind, is_same, close, format_kind, brace_by, closing, line_end, unknown, escape, inline, normal, text_or, body, at_end_by, Place, InText, InInterpolation, Inline, place_by, interpolated, token_in, inside, blanks_or, seen, is_level, ends_here, layout, at_line_start, next_by, next}
+use Rattle.justfile_model.specs.Next.{Found, twice, fixed, opening, literal_part, literal, is_same, close, format_kind, brace_by, closing, line_end, unknown, escape, inline, normal, text_or, body, at_end_by, Region, InText, InInterpolation, Inline, region_by, interpolated, token_in_region, inside, blanks_or, tested_blanks, is_level, is_blank_line, layout, at_line_start, next_by, next}
 use Rattle.justfile_model.proofs.CutLemmas.{class_fact, after_byte, run_cuts, run_positive, blank_ascii, word_ascii, first_cuts, ne_from, there, past_byte, raw_cuts, raw_stops, raw_within, delimiter_is, delimiter_last, mark_last, comment_last, body_last, run_last, word_no_newline, blank_no_newline, not_newline, is_line_feed, eq_from}
 
 -- a token takes bytes, or is the end, or closes a level
@@ -147,7 +147,7 @@ module _ (m : Mode) (rest : List ℕ) where
         k : StringKind
         k = kind_of rest
 
-        kinds : (d : StringDelimiter) (i : ℕ) → ends_line rest i ≡ false → EndsAt rest (literal_kind d) i
+        kinds : (d : StringDelimiter) (i : ℕ) → ends_line rest i ≡ false → EndsAt rest (token_kind_of d) i
         kinds delimiters.Backtick i h = h
         kinds _ i h = h
 
@@ -228,7 +228,7 @@ module _ (m : Mode) (rest : List ℕ) where
     inline_cuts l classes.IdentifierContinue e = unknown_cuts l
     inline_cuts l classes.Quote e = literal_cuts l (after_byte rest 0 1 u l (class_fact _ _ e).1 (omega arith)) (class_fact _ _ e)
     inline_cuts l classes.Opener e = opening_cuts (get_or rest 0 0) (after_byte rest 0 1 u l (class_fact _ _ e).1 (omega arith)) (is_line_feed _ _ e)
-    inline_cuts l classes.Closer e = closing_cuts (first_of m.openers) (get_or rest 0 0) (after_byte rest 0 1 u l (class_fact _ _ e).1 (omega arith)) (is_line_feed _ _ e)
+    inline_cuts l classes.Closer e = closing_cuts (head_of m.openers) (get_or rest 0 0) (after_byte rest 0 1 u l (class_fact _ _ e).1 (omega arith)) (is_line_feed _ _ e)
     inline_cuts l classes.Fixed e = fixed_cuts l (after_byte rest 0 1 u l (class_fact _ _ e).1 (omega arith)) (is_line_feed _ _ e) (get_or rest 0 0)
     inline_cuts l classes.Lead e =
         if_cuts (eqb (first_char rest) 65279) (λ h. token_cuts _ 3 (mark_last rest u l h) (mark_cuts l h) (omega arith)) (λ _. unknown_cuts l)
@@ -264,9 +264,9 @@ module _ (m : Mode) (rest : List ℕ) where
 
     inside_cuts : 0 < length rest → Cuts m rest (inside m rest)
     unfolding inside
-    inside_cuts l = by (place_by m.in_body m.interpolation)
+    inside_cuts l = by (region_by m.in_body m.interpolation)
       where
-        by : (p : Place) → Cuts m rest (token_in p m rest)
+        by : (p : Region) → Cuts m rest (token_in_region p m rest)
         by InText = body_cuts l
         by InInterpolation = interpolated_cuts l
         by Inline = normal_cuts l
@@ -308,11 +308,11 @@ module _ (m : Mode) (rest : List ℕ) where
         let cut = λ (k : ℕ) (le : k ≤ length found). run_cuts is_blank blank_ascii rest k u (omega (arith, le, h)) in
         let blanks = blanks_cuts l (length found) h in
         if_cuts (nested m) (λ _. blanks) (λ _.
-        if_cuts (ends_here behind) (λ _. if_cuts (not (is_empty m.levels) && closes_levels false rest) (λ e. dedent_cuts (some_level m.levels _ e)) (λ _. blanks)) (λ _.
+        if_cuts (is_blank_line behind) (λ _. if_cuts (not (is_empty m.levels) && closes_levels false rest) (λ e. dedent_cuts (some_level m.levels _ e)) (λ _. blanks)) (λ _.
         if_cuts (bytes_eq found level) (λ _. blanks) (λ other.
         if_cuts (is_level m.levels found) (λ e. dedent_cuts (has_level m.levels found other e)) (λ some.
         if_cuts (m.in_body && starts_with nat_eq found level) (λ e. blanks_cuts l (length level) (omega (arith, h, begins_within m.in_body found level e))) (λ _.
-        if_cuts (is_mixed (seen m found)) (λ _. here_cuts _ _ start (cut _ (seen_within m.in_body (length level) found))) (λ _.
+        if_cuts (is_mixed (tested_blanks m found)) (λ _. here_cuts _ _ start (cut _ (seen_within m.in_body (length level) found))) (λ _.
         if_cuts (not (starts_with nat_eq found level)) (λ _. here_cuts _ _ start (cut (length found) (omega arith))) (λ _.
         let some' = found_positive m.levels found some in
         token_cuts _ _ (run_last is_blank blank_no_newline rest _ h some') (cut (length found) (omega arith)) some')))))))

@@ -34,9 +34,9 @@ tail_of [] = []
 tail_of (x ∷ xs) = xs
 
 -- the first, if any
-abbrev pub first_of : {A : Type 0} → List A → Option A
-first_of [] = None
-first_of (x ∷ xs) = Some x
+abbrev pub head_of : {A : Type 0} → List A → Option A
+head_of [] = None
+head_of (x ∷ xs) = Some x
 
 -- there are none
 abbrev pub is_empty : {A : Type 0} → List A → Bool

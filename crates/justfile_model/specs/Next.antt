@@ -15,11 +15,11 @@ use Rattle.justfile_base.specs.declared.token_kind.TokenKind.{TokenKind}
 use Rattle.justfile_base.specs.declared.token_kind.TokenKind.TheVariants.{AmpersandAmpersand, Asterisk, At, Backtick, BangEquals, BangTilde, Bang, BarBar, BraceL, BraceR, BracketL, BracketR, ByteOrderMark, Colon, ColonColon, ColonEquals, Comma, Comment, Dedent, Dollar, Eof, Eol, Equals, EqualsEquals, EqualsTilde, FormatStringContinue, FormatStringEnd, FormatStringStart, Identifier, Indent, InterpolationEnd, InterpolationStart, ParenL, ParenR, Plus, PlusPlus, QuestionMark, Slash, StringToken, Text, Whitespace}
 use Rattle.justfile_base.specs.ByteClass.{class_of}
 use Rattle.justfile_model.specs.Bytes.{blank_len, word_len, is_line_end, is_interpolation_start, is_interpolation_end, is_mixed, closes_levels, first_char}
-use Rattle.justfile_base.specs.StringKind.{delimiter_len, kind_of}
+use Rattle.justfile_base.specs.StringKind.{delimiter_len, kind_of, token_kind_of}
 use Rattle.justfile_model.specs.LiteralText.{raw_len}
 use Rattle.justfile_model.specs.Tok.{Tok}
 use Rattle.justfile_model.specs.declared.open_delimiter.OpenDelimiter.{OpenDelimiter}
-use Rattle.justfile_model.specs.Modes.{Mode, first_of, is_empty, innermost, nested}
+use Rattle.justfile_model.specs.Modes.{Mode, head_of, is_empty, innermost, nested}
 use Rattle.justfile_model.specs.LexicalFault.{LexicalFault, EscapeEndOfFile, InconsistentLeadingWhitespace, InvalidEscapeSequence, MismatchedClosingDelimiter, MixedLeadingWhitespace, UnexpectedCharacter, UnexpectedClosingDelimiter, UnexpectedEndOfToken, UnknownStartOfToken, UnpairedCarriageReturn, UnterminatedBacktick, UnterminatedString, Refusal, Here, Unclosed}
 
 -- the kind of the next token and its length in bytes, or why there is none
@@ -69,11 +69,6 @@ abbrev pub unterminated : StringDelimiter → LexicalFault
 unterminated delimiters.Backtick = UnterminatedBacktick
 unterminated _ = UnterminatedString
 
--- the kind of token that a literal is
-abbrev pub literal_kind : StringDelimiter → TokenKind
-literal_kind delimiters.Backtick = Backtick
-literal_kind _ = StringToken
-
 -- the quote is a backtick
 abbrev pub is_backtick : StringDelimiter → Bool
 is_backtick delimiters.Backtick = true
@@ -94,7 +89,7 @@ literal_part k format opener more whole rest = literal_part_by k format opener (
 abbrev pub literal : Mode → List ℕ → Found
 literal m rest =
     let k = kind_of rest in
-    literal_part k (m.behind_f && not (is_backtick k.delimiter)) (delimiter_len k) FormatStringStart (literal_kind k.delimiter) rest
+    literal_part k (m.behind_f && not (is_backtick k.delimiter)) (delimiter_len k) FormatStringStart (token_kind_of k.delimiter) rest
 
 -- Closing delimiters: one has to match the innermost open one.
 -- two delimiters are the same; a format string has no closing one
@@ -168,7 +163,7 @@ inline m classes.IdentifierStart rest = Ok (Identifier, word_len rest)
 inline m classes.IdentifierContinue rest = unknown rest
 inline m classes.Quote rest = literal m rest
 inline m classes.Opener rest = opening (slice_index rest 0)
-inline m classes.Closer rest = closing (first_of m.openers) (slice_index rest 0) rest
+inline m classes.Closer rest = closing (head_of m.openers) (slice_index rest 0) rest
 inline m classes.Fixed rest = fixed (slice_index rest 0) rest
 inline m classes.Lead rest = lead rest
 inline m classes.Other rest = other rest
@@ -200,30 +195,30 @@ abbrev pub at_end : Mode → Found
 at_end m = at_end_by m.interpolation m.levels
 
 -- Where no layout token is asked for: in the text of a body, in an interpolation, or elsewhere.
-pub data Place : Type 0 where
-  InText : Place
-  InInterpolation : Place
-  Inline : Place
+pub data Region : Type 0 where
+  InText : Region
+  InInterpolation : Region
+  Inline : Region
 
 -- an interpolation comes before the body that it is in
-abbrev pub place_by : Bool → Option Tok → Place
-place_by in_body (Some t) = InInterpolation
-place_by true None = InText
-place_by false None = Inline
+abbrev pub region_by : Bool → Option Tok → Region
+region_by in_body (Some t) = InInterpolation
+region_by true None = InText
+region_by false None = Inline
 
 -- in an interpolation: `}}` ends it where no delimiter is open
 abbrev pub interpolated : Mode → List ℕ → Found
 interpolated m rest = if is_empty m.openers && is_interpolation_end rest then Ok (InterpolationEnd, 2) else normal m rest
 
 -- the next token of a place
-abbrev pub token_in : Place → Mode → List ℕ → Found
-token_in InText m rest = body rest
-token_in InInterpolation m rest = interpolated m rest
-token_in Inline m rest = normal m rest
+abbrev pub token_in_region : Region → Mode → List ℕ → Found
+token_in_region InText m rest = body rest
+token_in_region InInterpolation m rest = interpolated m rest
+token_in_region Inline m rest = normal m rest
 
 -- the next token where no layout token is asked for
 unfoldable pub inside : Mode → List ℕ → Found
-inside m rest = token_in (place_by m.in_body m.interpolation) m rest
+inside m rest = token_in_region (region_by m.in_body m.interpolation) m rest
 
 -- Layout.
 -- so many blanks as whitespace, or, where there are none, the token that follows
@@ -232,26 +227,26 @@ blanks_or zero m rest = inside m rest
 blanks_or (suc n) m rest = Ok (Whitespace, suc n)
 
 -- the leading blanks that may not mix spaces and tabs: in a body the first ones, as many as the level has, else all
-abbrev pub seen : Mode → List ℕ → List ℕ
-seen m found = if m.in_body then take (length (innermost m)) found else found
+abbrev pub tested_blanks : Mode → List ℕ → List ℕ
+tested_blanks m found = if m.in_body then take (length (innermost m)) found else found
 
 -- the blanks are an open level, or the empty one
 abbrev pub is_level : List (List ℕ) → List ℕ → Bool
 is_level levels found = is_empty found || list_any (λ l. bytes_eq l found) levels
 
 -- the line is blank: a line end or the end of the text is behind its blanks
-abbrev pub ends_here : List ℕ → Bool
-ends_here behind = is_line_end behind || is_empty behind
+abbrev pub is_blank_line : List ℕ → Bool
+is_blank_line behind = is_line_end behind || is_empty behind
 
 -- the run of blanks that is found at column 0, and what is behind it: the first of these that fits. Something is open; the line is blank, and levels may close; the current level; another open level, so that one closes; more blanks of a body's line; mixed; not begun by the level; a new level
 unfoldable pub layout : Mode → (found behind rest : List ℕ) → Found
 layout m found behind rest =
     if nested m then blanks_or (length found) m rest
-    else if ends_here behind then (if not (is_empty m.levels) && closes_levels false rest then Ok (Dedent, 0) else blanks_or (length found) m rest)
+    else if is_blank_line behind then (if not (is_empty m.levels) && closes_levels false rest then Ok (Dedent, 0) else blanks_or (length found) m rest)
     else if bytes_eq found (innermost m) then blanks_or (length found) m rest
     else if is_level m.levels found then Ok (Dedent, 0)
     else if m.in_body && starts_with nat_eq found (innermost m) then blanks_or (length (innermost m)) m rest
-    else if is_mixed (seen m found) then Err (Here (MixedLeadingWhitespace (seen m found)) 0 (length (seen m found)))
+    else if is_mixed (tested_blanks m found) then Err (Here (MixedLeadingWhitespace (tested_blanks m found)) 0 (length (tested_blanks m found)))
     else if not (starts_with nat_eq found (innermost m)) then Err (Here (InconsistentLeadingWhitespace (innermost m) found) 0 (length found))
     else Ok (Indent, length found)
 
