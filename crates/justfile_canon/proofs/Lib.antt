@@ -1,0 +1,14 @@
+pub mod Canon
+pub mod Comments
+pub mod DerivesBack
+pub mod Facts
+pub mod Fixed
+pub mod Good
+pub mod Inline
+pub mod LexesBack
+pub mod Lines
+pub mod Literals
+pub mod Reading
+pub mod RoundTrip
+pub mod Sound
+pub mod Written

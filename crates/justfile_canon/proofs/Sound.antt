@@ -1,0 +1,270 @@
+-- Along the tokens of any text each significant one has its fact, and no comment follows a comment in a line.
+use Rattle.std.proofs.Common.{◌≡◌, ◌≢◌, ℕ, zero, suc, ◌+◌, Bool, true, false, cond, eqb, List, [], ◌∷◌, ◌++◌, length, get_or, take, drop, Option, Some, None, Ok, Err, refl, sym, ap, ◌∙◌, subst, arith, append_assoc, take-append-drop}
+use Rattle.std.specs.Prelude.{◌&&◌, ◌||◌, not, is_some, reverse}
+use Rattle.std.specs.Str.{IsUtf8, IsCharBoundary}
+use Rattle.std.proofs.lemmas.Bool.{and_parts}
+use Rattle.std.proofs.lemmas.Bool.Decides.{nat_tests}
+use Rattle.std.proofs.lemmas.List.{reverse-append, reverse-reverse}
+use Rattle.std.proofs.lemmas.Str.{IsUtf8-take, IsUtf8-drop}
+use Rattle.justfile_base.specs.declared.token_kind.TokenKind.{TokenKind}
+use Rattle.justfile_base.specs.declared.token_kind.TokenKind.TheVariants as kinds
+use Rattle.justfile_base.specs.ByteClass.{class_of}
+use Rattle.justfile_base.specs.Slice.{slice_of}
+use Rattle.justfile_model.specs.declared.open_delimiter.OpenDelimiter.{OpenDelimiter}
+use Rattle.justfile_model.specs.Bytes.{is_line_end, is_interpolation_end}
+use Rattle.justfile_model.specs.LiteralText.{pieces_len}
+use Rattle.justfile_model.specs.Tok.{Tok}
+use Rattle.justfile_model.specs.SignificantTokens.{SignificantToken, is_whitespace, significant_from}
+use Rattle.justfile_model.specs.Modes.{Mode, mode, start, after, is_empty, tail_of, nested}
+use Rattle.justfile_model.specs.Lexed.{end_of, IsNext, Begins, Lexed}
+use Rattle.justfile_model.specs.Next.{Found, inline, inside, body, line_end, Region, InText, InInterpolation, Inline, token_in_region, at_end_by, is_blank_line, next_by, next}
+use Rattle.justfile_model.proofs.NextLaws.{token_cut}
+use Rattle.justfile_canon.proofs.Reading.{take_front, drop_front, drop_drop}
+use Rattle.justfile_canon.proofs.Inline.{IsName}
+use Rattle.justfile_canon.proofs.Good.{IsString}
+use Rattle.justfile_canon.proofs.Literals.{front_byte}
+use Rattle.justfile_canon.proofs.Facts.{WasComment, Fact, fact_of}
+
+-- ---- where a line ends
+
+abbrev EndsBy : Mode → Found → Type 0
+EndsBy m (Ok x) = (x.0 ≢ kinds.Comment) × (x.0 ≡ kinds.Whitespace → nested m ≡ true)
+EndsBy m (Err r) = Unit {0}
+
+record EndsLine (m : Mode) (found : Found) : Type 0 where
+  ends : EndsBy m found
+
+line_end_ends : (m : Mode) (n : ℕ) → EndsLine m (line_end m n)
+line_end_ends m n = by (nested m) refl
+  where
+    by : (b : Bool) → nested m ≡ b → EndsLine m (cond b (Ok (kinds.Whitespace, n)) (Ok (kinds.Eol, n)))
+    by true e = record { ends = (λ h. cc, λ h. e) }
+    by false e = record { ends = (λ h. cc, λ h. cc) }
+
+interpolation_ends : (m : Mode) (b : Bool) {found : Found} → EndsLine m found → EndsLine m (cond b (Ok (kinds.InterpolationEnd, 2)) found)
+interpolation_ends m true h = record { ends = (λ e. cc, λ e. cc) }
+interpolation_ends m false h = h
+
+feed_ends : (m : Mode) (bs : List ℕ) (p : Region) → EndsLine m (token_in_region p m (10 ∷ bs))
+unfolding inline body class_of pieces_len
+feed_ends m bs InText = record { ends = (λ h. cc, λ h. cc) }
+feed_ends m bs InInterpolation = interpolation_ends m (is_empty m.openers && is_interpolation_end (10 ∷ bs)) (line_end_ends m 1)
+feed_ends m bs Inline = line_end_ends m 1
+
+return_ends : (m : Mode) (bs : List ℕ) (p : Region) → EndsLine m (token_in_region p m (13 ∷ 10 ∷ bs))
+unfolding inline body class_of pieces_len
+return_ends m bs InText = record { ends = (λ h. cc, λ h. cc) }
+return_ends m bs InInterpolation = interpolation_ends m (is_empty m.openers && is_interpolation_end (13 ∷ 10 ∷ bs)) (line_end_ends m 2)
+return_ends m bs Inline = line_end_ends m 2
+
+inside_ends : (m : Mode) (b : ℕ) (bs : List ℕ) → is_line_end (b ∷ bs) ≡ true → EndsLine m (inside m (b ∷ bs))
+unfolding inside
+inside_ends m b bs h = by (eqb b 10) refl
+  where
+    by : (t : Bool) → eqb b 10 ≡ t → EndsLine m (inside m (b ∷ bs))
+    by true e = let at : b ≡ 10 = grind (arith, nat_tests) in subst (λ x. EndsLine m (inside m (x ∷ bs))) (sym at) (feed_ends m bs _)
+    by false e =
+        let crlf : (eqb b 13 && eqb (get_or bs 0 0) 10) ≡ true = sym (ap (λ t. t || (eqb b 13 && eqb (get_or bs 0 0) 10)) e) ∙ h in
+        let parts = and_parts (eqb b 13) _ crlf in
+        let at : b ≡ 13 = grind (arith, nat_tests) in
+        let on = front_byte bs 10 (omega arith) parts.1 in
+        subst (λ x. EndsLine m (inside m (x ∷ bs))) (sym at) (subst (λ x. EndsLine m (inside m (13 ∷ x))) (sym on) (return_ends m (drop 1 bs) _))
+
+at_end_ends : (m : Mode) (o : Option Tok) (ls : List (List ℕ)) → EndsLine m (at_end_by o ls)
+at_end_ends m (Some t) ls = record { ends = tt }
+at_end_ends m None [] = record { ends = (λ e. cc, λ e. cc) }
+at_end_ends m None (l ∷ ls) = record { ends = (λ e. cc, λ e. cc) }
+
+-- at the end of a line no comment is next, and whitespace only where something is open
+next_ends : (m : Mode) (rest : List ℕ) → m.line_start ≡ false → is_blank_line rest ≡ true → EndsLine m (next m rest)
+unfolding next
+next_ends m [] s h = at_end_ends m m.interpolation m.levels
+next_ends m (b ∷ bs) s h = subst (λ t. EndsLine m (next_by t m (b ∷ bs))) (sym s) (inside_ends m b bs (left (is_line_end (b ∷ bs)) h))
+  where
+    left : (a : Bool) → (a || false) ≡ true → a ≡ true
+    left true e = refl
+    left false e = e
+
+-- ---- what is open around a token
+
+pub record Around : Type 0 where
+  pub delimiters : ℕ
+  pub interpolation : Bool
+
+abbrev less : ℕ → ℕ
+less zero = zero
+less (suc n) = n
+
+abbrev none : ℕ → Bool
+none zero = true
+none (suc n) = false
+
+abbrev pub around : TokenKind → Around → Around
+around kinds.BraceL s = record s { delimiters = suc s.delimiters }
+around kinds.BracketL s = record s { delimiters = suc s.delimiters }
+around kinds.ParenL s = record s { delimiters = suc s.delimiters }
+around kinds.FormatStringStart s = record s { delimiters = suc s.delimiters }
+around kinds.BraceR s = record s { delimiters = less s.delimiters }
+around kinds.BracketR s = record s { delimiters = less s.delimiters }
+around kinds.ParenR s = record s { delimiters = less s.delimiters }
+around kinds.FormatStringEnd s = record s { delimiters = less s.delimiters }
+around kinds.InterpolationStart s = record s { interpolation = true }
+around kinds.InterpolationEnd s = record s { interpolation = false }
+around _ s = s
+
+-- nothing is open
+abbrev pub calm : Around → Bool
+calm s = none s.delimiters && not s.interpolation
+
+record IsAround (m : Mode) (s : Around) : Type 0 where
+  delimiters : length m.openers ≡ s.delimiters
+  interpolation : is_some m.interpolation ≡ s.interpolation
+
+fewer : (os : List OpenDelimiter) (n : ℕ) → length os ≡ n → length (tail_of os) ≡ less n
+fewer [] n e = sym (ap less (sym e))
+fewer (o ∷ os) n e = ap less e
+
+around_after : (k : TokenKind) (t : Tok) (m : Mode) (s : Around) → IsAround m s → IsAround (after k t m) (around k s)
+around_after kinds.BraceL t m s h = record { delimiters = ap suc h.delimiters; interpolation = h.interpolation }
+around_after kinds.BracketL t m s h = record { delimiters = ap suc h.delimiters; interpolation = h.interpolation }
+around_after kinds.ParenL t m s h = record { delimiters = ap suc h.delimiters; interpolation = h.interpolation }
+around_after kinds.FormatStringStart t m s h = record { delimiters = ap suc h.delimiters; interpolation = h.interpolation }
+around_after kinds.BraceR t m s h = record { delimiters = fewer m.openers s.delimiters h.delimiters; interpolation = h.interpolation }
+around_after kinds.BracketR t m s h = record { delimiters = fewer m.openers s.delimiters h.delimiters; interpolation = h.interpolation }
+around_after kinds.ParenR t m s h = record { delimiters = fewer m.openers s.delimiters h.delimiters; interpolation = h.interpolation }
+around_after kinds.FormatStringEnd t m s h = record { delimiters = fewer m.openers s.delimiters h.delimiters; interpolation = h.interpolation }
+around_after kinds.InterpolationStart t m s h = record { delimiters = h.delimiters; interpolation = refl }
+around_after kinds.InterpolationEnd t m s h = record { delimiters = h.delimiters; interpolation = refl }
+around_after _ t m s h = record { delimiters = h.delimiters; interpolation = h.interpolation }
+
+calm_not_nested : (m : Mode) (s : Around) → IsAround m s → calm s ≡ true → nested m ≡ false
+calm_not_nested m s h c =
+    let parts = and_parts (none s.delimiters) (not s.interpolation) c in
+    by m.openers s.delimiters h.delimiters parts.0 (is_some m.interpolation) s.interpolation h.interpolation parts.1
+  where
+    by : (os : List OpenDelimiter) (n : ℕ) → length os ≡ n → none n ≡ true → (i j : Bool) → i ≡ j → not j ≡ true → (not (is_empty os) || i) ≡ false
+    by [] n e z i true same c = cc
+    by [] n e z i false same c = same
+    by (o ∷ os) zero e z i j same c = absurd (omega arith)
+    by (o ∷ os) (suc n) e z i j same c = cc
+
+-- ---- along the tokens
+
+pub record LexedComment (l : List ℕ) : Type 0 where
+  pub behind : List ℕ
+  pub was : WasComment l behind
+
+abbrev pub LexemeFact : TokenKind → List ℕ → Type 0
+LexemeFact kinds.Identifier l = IsName l
+LexemeFact kinds.StringToken l = IsString l
+LexemeFact kinds.Comment l = LexedComment l
+LexemeFact _ l = Unit {0}
+
+lexeme_fact : (k : TokenKind) (l behind : List ℕ) → Fact k l behind → LexemeFact k l
+lexeme_fact kinds.Identifier l behind f = f
+lexeme_fact kinds.StringToken l behind f = f
+lexeme_fact kinds.Comment l behind f = record { behind = behind; was = f }
+lexeme_fact _ l behind f = tt
+
+-- what is known of a token; a comment is the token before it, or not
+pub record Known (s : Around) (comment : Bool) (t : Tok) : Type 0 where
+  pub fact : LexemeFact t.kind t.lexeme
+  pub utf8 : IsUtf8 t.lexeme
+  pub apart : comment ≡ true → calm s ≡ true → t.kind ≢ kinds.Comment
+
+abbrev pub is_comment : TokenKind → Bool
+is_comment kinds.Comment = true
+is_comment _ = false
+
+abbrev pub Sound : Around → Bool → List SignificantToken → Type 0
+Sound s comment [] = Unit {0}
+Sound s comment (t ∷ ts) = Known s comment t.tok × Sound (around t.tok.kind s) (is_comment t.tok.kind) ts
+
+-- each token is the next one in the mode that those before it leave
+abbrev Runs : Mode → List ℕ → List Tok → Type 0
+Runs m rest [] = Unit {0}
+Runs m rest (t ∷ ts) = (behind : List ℕ) × (rest ≡ t.lexeme ++ behind) × (next m rest ≡ Ok (t.kind, length t.lexeme)) × Runs (after t.kind t m) behind ts
+
+whitespace_kind : (k : TokenKind) → is_whitespace k ≡ true → k ≡ kinds.Whitespace
+whitespace_kind kinds.Whitespace h = refl
+whitespace_kind _ h = cc
+
+comment_kind : (k : TokenKind) → is_comment k ≡ true → k ≡ kinds.Comment
+comment_kind kinds.Comment h = refl
+comment_kind _ h = cc
+
+sound : (ts : List Tok) (m : Mode) (rest : List ℕ) (s : Around) (comment glued : Bool) → IsUtf8 rest → IsAround m s → Runs m rest ts
+    → (comment ≡ true → calm s ≡ true → (is_blank_line rest ≡ true) × (m.line_start ≡ false)) → Sound s comment (significant_from glued ts)
+sound [] m rest s comment glued u a r p = tt
+sound (t ∷ ts) m rest s comment glued u a r p =
+    by (is_whitespace t.kind) refl
+    (λ s' c' g' a' p'. sound ts (after t.kind t m) behind s' c' g' (subst IsUtf8 behind_is (IsUtf8-drop rest (length t.lexeme) u cut)) a' r.3 p')
+  where
+    behind : List ℕ
+    behind = r.0
+
+    cut : IsCharBoundary rest (length t.lexeme)
+    cut = (token_cut m rest u t.kind (length t.lexeme) r.2).0
+
+    lexeme_is : take (length t.lexeme) rest ≡ t.lexeme
+    lexeme_is = ap (take (length t.lexeme)) r.1 ∙ take_front t.lexeme behind
+
+    behind_is : drop (length t.lexeme) rest ≡ behind
+    behind_is = ap (drop (length t.lexeme)) r.1 ∙ drop_front t.lexeme behind
+
+    fact : Fact t.kind t.lexeme behind
+    fact = fact_of m t.kind t.lexeme behind (sym (ap (next m) r.1) ∙ r.2)
+
+    ended : comment ≡ true → calm s ≡ true → EndsLine m (Ok (t.kind, length t.lexeme))
+    ended c q = subst (EndsLine m) r.2 (next_ends m rest (p c q).1 (p c q).0)
+
+    known : Known s comment t
+    known = record {
+      fact = lexeme_fact t.kind t.lexeme behind fact;
+      utf8 = subst IsUtf8 lexeme_is (IsUtf8-take rest (length t.lexeme) u cut);
+      apart = λ c q. (ended c q).ends.0;
+    }
+
+    around' : IsAround (after t.kind t m) (around t.kind s)
+    around' = around_after t.kind t m s a
+
+    by : (w : Bool) → is_whitespace t.kind ≡ w
+        → ((s' : Around) (c' g' : Bool) → IsAround (after t.kind t m) s' → (c' ≡ true → calm s' ≡ true → (is_blank_line behind ≡ true) × ((after t.kind t m).line_start ≡ false)) → Sound s' c' (significant_from g' ts))
+        → Sound s comment (cond w (significant_from false ts) (record { tok = t; glued = glued } ∷ significant_from true ts))
+    by true e ih =
+        let kind = whitespace_kind t.kind e in
+        ih s comment false (subst (λ k. IsAround (after t.kind t m) (around k s)) kind around') (λ c q. let bad : true ≡ false = sym ((ended c q).ends.1 kind) ∙ calm_not_nested m s a q in cc)
+    by false e ih = (
+      known,
+      ih (around t.kind s) (is_comment t.kind) true around' (λ c q.
+          let kind = comment_kind t.kind c in
+          let was : WasComment t.lexeme behind = subst (λ k. Fact k t.lexeme behind) kind fact in
+          (was.stop, ap (λ k. (after k t m).line_start) kind)),
+    )
+
+-- ---- of a text
+
+-- before the first token nothing is open
+abbrev pub outside : Around
+outside = record { delimiters = 0; interpolation = false }
+
+module _ (text : List ℕ) where
+  runs_one : (e : List Tok) (t : Tok) (ts : List Tok) → IsNext text e t → Runs (mode (t ∷ e)) (drop (end_of (t ∷ e)) text) ts → Runs (mode e) (drop (end_of e) text) (t ∷ ts)
+  runs_one e t ts n r =
+      let rest : List ℕ = drop (end_of e) text in
+      let lexeme : t.lexeme ≡ take (length t.lexeme) rest = n.stands.lexeme_is ∙ ap (λ o. slice_of text o (length t.lexeme)) n.stands.offset_is in
+      let behind : drop (end_of (t ∷ e)) text ≡ drop (length t.lexeme) rest = ap (λ o. drop (o + length t.lexeme) text) n.stands.offset_is ∙ drop_drop (end_of e) (length t.lexeme) text in
+      (drop (length t.lexeme) rest, sym (take-append-drop (length t.lexeme) rest) ∙ ap (λ l. l ++ drop (length t.lexeme) rest) (sym lexeme), n.found, subst (λ b. Runs (mode (t ∷ e)) b ts) behind r)
+
+  runs_from : (e ts : List Tok) → Begins text e → Runs (mode e) (drop (end_of e) text) ts → Runs start text (reverse e ++ ts)
+  runs_from [] ts b r = r
+  runs_from (t ∷ e) ts b r =
+      let moved : reverse e ++ (t ∷ ts) ≡ reverse (t ∷ e) ++ ts = sym (append_assoc (reverse e) (t ∷ []) ts) ∙ ap (λ l. l ++ ts) (sym (reverse-append (t ∷ []) e)) in
+      subst (Runs start text) moved (runs_from e (t ∷ ts) b.0 (runs_one e t ts b.1 r))
+
+  -- each significant token of a text has its fact
+  pub lexed_sound : (tokens : List Tok) → IsUtf8 text → Lexed text tokens → Sound outside false (significant_from false tokens)
+  lexed_sound tokens u l =
+      let order : reverse l.earlier ++ (l.last ∷ []) ≡ tokens = sym (sym (reverse-reverse tokens) ∙ ap reverse l.are ∙ reverse-append (l.last ∷ []) l.earlier) in
+      let runs = runs_from l.earlier (l.last ∷ []) l.begins (runs_one l.earlier l.last [] l.is_next tt) in
+      sound tokens start text outside false false u (record { delimiters = refl; interpolation = refl }) (subst (Runs start text) order runs) (λ c q. cc)

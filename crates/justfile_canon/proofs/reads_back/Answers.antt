@@ -1,0 +1,5 @@
+use Rattle.justfile_canon.proofs.RoundTrip.{back, apart, alike, fixed}
+use Rattle.justfile_canon.proofs.reads_back.Goals as goal
+
+pub returns : goal.returns
+returns c = record { back = back; apart = apart; alike = alike; fixed = fixed }

@@ -1,0 +1,32 @@
+-- What a text derives, and what is printed of it.
+use Rattle.std.specs.Prelude.{◌≡◌, ℕ, List, map}
+use Rattle.std.specs.Str.{IsUtf8}
+use Rattle.justfile_model.specs.Tok.{Tok}
+use Rattle.justfile_model.specs.Lexed.{Lexed}
+use Rattle.justfile_model.specs.SignificantTokens.{significant_tokens}
+use Rattle.justfile_model.specs.Tree.{Tree, Shape, lexeme, shape_of}
+use Rattle.justfile_model.specs.NormalShape.{normal}
+use Rattle.justfile_model.specs.Printing.{text}
+use Rattle.justfile_model.specs.Literals.{Answers, Cooks}
+use Rattle.justfile_model.specs.Files.{VersionNumbers, FileDerives, literals, bindings}
+
+-- the tree of a text, under an expander and a running version
+pub record TextDerives (expander : Answers) (current : VersionNumbers) (source : List ℕ) (tree : Tree) : Type 0 where
+  pub utf8 : IsUtf8 source
+  pub tokens : List Tok
+  pub lexed : Lexed source tokens
+  pub file : FileDerives expander current (significant_tokens tokens) tree
+
+-- what is printed of a shape
+abbrev pub printed : Shape → (indentation : List ℕ) → List ℕ
+printed shape indentation = text (normal shape) indentation
+
+-- The text derives the normal form of the shape, with the same texts of literals and as many bindings, and is what is printed of that.
+pub record ReadsBack (expander : Answers) (current : VersionNumbers) (shape : Shape) (indentation source : List ℕ) : Type 0 where
+  pub tree : Tree
+  pub derives : TextDerives expander current source tree
+  pub same_shape : shape_of tree ≡ normal shape
+  pub same_lexemes : map lexeme (literals tree) ≡ literals shape
+  pub same_texts : (texts : List (List ℕ)) → Cooks expander (literals shape) texts → Cooks expander (map lexeme (literals tree)) texts
+  pub same_bindings : bindings tree ≡ bindings shape
+  pub printed_again : printed (shape_of tree) indentation ≡ source
