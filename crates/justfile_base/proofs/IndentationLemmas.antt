@@ -1,11 +1,14 @@
 -- Texts of equal bytes.
-use Rattle.std.proofs.Common.{◌≡◌, ◌<◌, ℕ, Bool, true, false, ◌==◌, List, [], ◌∷◌, length, slice_index, replicate, Some, None, if◌then◌else◌, arith, refl, eq-eqb, inl, inr}
+use Rattle.std.proofs.Common.{◌≡◌, ◌<◌, ℕ, Bool, true, false, ◌==◌, List, [], ◌∷◌, zero, suc, IsTrue, length, slice_index, replicate, Some, None, if◌then◌else◌, arith, refl, eq-eqb, inl, inr}
 use Rattle.std.specs.List.{list_all}
 use Rattle.std.proofs.lemmas.Bool.{eqb-true}
 use Rattle.std.proofs.lemmas.Bool.Decides.{eqb_tells}
 use Rattle.std.proofs.lemmas.Grind.{common_steps}
+use Rattle.std.proofs.lemmas.List.{length-replicate}
+use Rattle.std.proofs.lemmas.List.Elements.{All-replicate}
 use Rattle.std.proofs.lemmas.List.Sums.{AllPass-from_list_all, list_all-from_AllPass}
-use Rattle.justfile_base.specs.Indentation.{IsIndentation, indentation_refusal, is_blank}
+use Rattle.justfile_base.specs.declared.indentation.Indentation.{Indentation}
+use Rattle.justfile_base.specs.Indentation.{IsIndentation, indentation_refusal, indentation_text, is_blank}
 
 pub replicate_all : (x : ℕ) (xs : List ℕ) → list_all (λ b. b == x) xs ≡ true → replicate (length xs) x ≡ xs
 replicate_all x [] h = refl
@@ -40,3 +43,15 @@ indentation_read text e =
 
 pub indentation_taken : (text : List ℕ) → IsIndentation text → indentation_refusal text ≡ None
 indentation_taken text is = rw (positive_test (length text) is.nonempty, is.blank, all_equal text is) refl
+
+replicate_is : (n c : ℕ) → 0 < n → IsTrue (is_blank c) → IsIndentation (replicate n c)
+replicate_is zero c h b = absurd (omega arith)
+replicate_is (suc n) c h b = record {
+  nonempty = simp length-replicate (omega arith);
+  equal = All-replicate (λ x. x ≡ c) (suc n) c refl;
+  blank = b;
+}
+
+-- the text of an indentation is one
+pub indentation_text_is : (i : Indentation) → IsIndentation (indentation_text i)
+indentation_text_is i = replicate_is i.count i.character i.is_positive i.is_blank

@@ -3,3 +3,4 @@ pub mod Ast
 pub mod Copies
 pub mod Gap
 pub mod Item
+pub mod PrintsBack

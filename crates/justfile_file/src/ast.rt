@@ -8,6 +8,7 @@ ghost use Rattle.justfile_file.specs.Ast.{ast_shape};
 ghost use Rattle.justfile_file.specs.Copies.{IsSameItem};
 ghost use Rattle.justfile_file.specs.Gap.{front_text, end_text};
 ghost use Rattle.justfile_file.specs.Item.{item_shape};
+ghost use Rattle.justfile_file.specs.PrintsBack.{PrintsBack};
 ghost use Rattle.justfile_file.specs.declared.gap.Gap.TheVariants.{Start};
 
 use crate::gap::Gap;
@@ -60,7 +61,8 @@ impl<'src> Ast<'src> {
 
     /// The canonical text of the file, with this indentation of the lines of bodies.
     pub fn print(&self, alloc: Global, indentation: Indentation) -> Result<String, AllocError>
-        ensures { IfOk result (λ printed. string_bytes printed ≡ text (normal (ast_shape self.now)) (indentation_text indentation)) }
+        ensures text { IfOk result (λ printed. string_bytes printed ≡ text (normal (ast_shape self.now)) (indentation_text indentation)) }
+        ensures reads_back { IfOk result (λ printed. PrintsBack (ast_shape self.now) (indentation_text indentation) (string_bytes printed)) }
     {
         let mut printed = String::new(alloc);
         write_ast(self, indentation, &mut printed)?;

@@ -1,0 +1,11 @@
+use Rattle.std.proofs.Common.{◌++◌, ◌∙◌, ap}
+use Rattle.justfile_base.specs.Indentation.{indentation_text}
+use Rattle.justfile_base.proofs.IndentationLemmas.{indentation_text_is}
+use Rattle.justfile_canon.specs.RoundTrip.{printed}
+use Rattle.justfile_file.specs.Ast.{ast_shape}
+use Rattle.justfile_file.proofs.PrintedBack.{prints_back}
+use Rattle.justfile_file.proofs.ast.Ast.print.Goals as goal
+
+pub returns-clause-reads_back : goal.returns-clause-reads_back
+returns-clause-reads_back c =
+    prints_back (ast_shape c.args.self.now) (indentation_text c.args.indentation) _ (indentation_text_is c.args.indentation) (c.in_ok-write_ast.ensures.ok ∙ ap (λ b. b ++ printed (ast_shape c.args.self.now) (indentation_text c.args.indentation)) c.new-printed.ensures.bytes)
