@@ -12,3 +12,4 @@ pub mod Reading
 pub mod RoundTrip
 pub mod Sound
 pub mod Written
+pub mod Quoted
