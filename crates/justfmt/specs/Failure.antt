@@ -7,3 +7,9 @@ abbrev pub status_of : Failure → ℕ
 status_of Refused = 2
 status_of NotPrintable = 2
 status_of _ = 3
+
+-- it says nothing of the text
+abbrev pub IsOfMachine : Failure → Type 0
+IsOfMachine Refused = ⊥
+IsOfMachine NotPrintable = ⊥
+IsOfMachine _ = Unit {0}

@@ -4,6 +4,8 @@
 mod failure;
 mod formatting;
 mod run;
+#[cfg(test)]
+mod tests;
 mod unchanged;
 
 use crate::run::run;
@@ -35,7 +37,13 @@ fn main(rt: HostRuntime) -> ExitCode {
     let mut writer = rt.stdout();
     let mut errors = rt.stderr();
     let status = match arguments(&rt) {
-        Ok(arguments) => run(rt.alloc(), &arguments, &mut reader, &mut writer, &mut errors),
+        Ok(arguments) => run(
+            rt.alloc(),
+            &arguments,
+            &mut reader,
+            &mut writer,
+            &mut errors,
+        ),
         Err(_) => failure::report(failure::Failure::Memory, &mut errors),
     };
     ExitCode::from(status)

@@ -1,3 +1,9 @@
+ghost use Rattle.std.specs.Prelude.{◌≡◌, ◌≤◌, [], ◌∷◌, map, codes, true, false, Ok, Err, IfOk, IfErr, IfSome, OnOk, string_bytes};
+ghost use Rattle.std.specs.Io.KnownBytes.{Appends};
+ghost use Rattle.justfmt.specs.declared.failure.Failure.TheVariants as failures;
+ghost use Rattle.justfmt.specs.Failure.{IsOfMachine};
+ghost use Rattle.justfmt.specs.Formatting.{IsFormatted, IsRefused, Formats, Differs};
+
 use crate::failure::{Failure, report};
 use crate::formatting::formatted;
 use std::alloc::Global;
@@ -13,16 +19,35 @@ enum Task {
     Check,
 }
 
-fn task(arguments: &[String]) -> Result<Task, Failure> {
-    match arguments {
-        [] => Ok(Task::Format),
-        [argument] if argument.as_str() == "--check" => Ok(Task::Check),
-        _ => Err(Failure::Usage),
+impl Task {
+    ghost use Rattle.justfmt.specs.declared.run.Task.TheVariants.{Check, Format};
+
+    /// What the arguments ask for.
+    fn of(arguments: &[String]) -> Result<Task, Failure>
+        ensures format { result ≡ Ok Format → map string_bytes arguments.now ≡ [] }
+        ensures check { result ≡ Ok Check → map string_bytes arguments.now ≡ codes "--check" ∷ [] }
+        ensures format_asked { map string_bytes arguments.now ≡ [] → result ≡ Ok Format }
+        ensures check_asked { map string_bytes arguments.now ≡ codes "--check" ∷ [] → result ≡ Ok Check }
+        ensures usage { IfErr result (λ e. e ≡ failures.Usage) }
+    {
+        match arguments {
+            [] => Ok(Task::Format),
+            [argument] => {
+                if argument.as_str() == "--check" {
+                    return Ok(Task::Check);
+                }
+                Err(Failure::Usage)
+            }
+            _ => Err(Failure::Usage),
+        }
     }
 }
 
 /// All that the reader gives.
-fn read_all<R: Read>(alloc: Global, reader: &mut R) -> Result<Vec<u8>, Failure> {
+fn read_all<R: Read>(alloc: Global, reader: &mut R) -> Result<Vec<u8>, Failure>
+    ensures ok { IfOk result (λ bytes. IfSome (R.remaining reader.old) (λ source. bytes.items ≡ source)) }
+    ensures err { IfErr result IsOfMachine }
+{
     let mut bytes = Vec::new(alloc);
     match reader.read_to_end(&mut bytes) {
         Ok(_) => Ok(bytes),
@@ -31,47 +56,71 @@ fn read_all<R: Read>(alloc: Global, reader: &mut R) -> Result<Vec<u8>, Failure> 
     }
 }
 
-fn write_all<W: Write>(text: &str, writer: &mut W) -> Result<(), Failure> {
+fn write_all<W: Write>(text: &str, writer: &mut W) -> Result<(), Failure>
+    ensures ok { OnOk result (Appends (W.contents writer.old) (W.contents writer.new) text.now) }
+    ensures err { IfErr result IsOfMachine }
+{
     if writer.write_all(text.as_bytes()).is_err() || writer.flush().is_err() {
         return Err(Failure::Writing);
     }
     Ok(())
 }
 
-fn carry_out<R: Read, W: Write>(
-    alloc: Global,
-    arguments: &[String],
-    reader: &mut R,
-    writer: &mut W,
-) -> Result<u8, Failure> {
-    let task = task(arguments)?;
+/// Writes the canonical text of what the reader gives.
+fn format<R: Read, W: Write>(alloc: Global, reader: &mut R, writer: &mut W) -> Result<(), Failure>
+    ensures ok { OnOk result (IfSome (R.remaining reader.old) (λ source. Formats source (W.contents writer.old) (W.contents writer.new))) }
+    ensures refused { result ≡ Err failures.Refused → IfSome (R.remaining reader.old) IsRefused }
+    ensures printable { result ≡ Err failures.NotPrintable → ⊥ }
+{
     let bytes = read_all(alloc, reader)?;
     let Ok(source) = str::from_utf8(&bytes) else {
         return Err(Failure::NotUtf8);
     };
-    let printed = formatted(alloc, source)?;
-    match task {
-        Task::Check if source == printed.as_str() => Ok(0),
-        Task::Check => Ok(1),
-        Task::Format => {
-            write_all(printed.as_str(), writer)?;
-            Ok(0)
-        }
-    }
+    let canonical = formatted(alloc, source)?;
+    write_all(canonical.as_str(), writer)
 }
 
-/// Formats what the reader gives, or checks it with the one argument `--check`, and answers the
-/// exit status: 0 for a text that was written or is canonical, 1 for one that isn't, 2 for one
-/// that can't be formatted, 3 where the program was called wrongly or the machine failed it.
+/// Whether what the reader gives is its own canonical text.
+fn check<R: Read>(alloc: Global, reader: &mut R) -> Result<bool, Failure>
+    ensures same { result ≡ Ok true → IfSome (R.remaining reader.old) (λ source. IsFormatted source source) }
+    ensures differs { result ≡ Ok false → IfSome (R.remaining reader.old) Differs }
+    ensures refused { result ≡ Err failures.Refused → IfSome (R.remaining reader.old) IsRefused }
+    ensures printable { result ≡ Err failures.NotPrintable → ⊥ }
+{
+    let bytes = read_all(alloc, reader)?;
+    let Ok(source) = str::from_utf8(&bytes) else {
+        return Err(Failure::NotUtf8);
+    };
+    let canonical = formatted(alloc, source)?;
+    Ok(source == canonical.as_str())
+}
+
+/// Formats what the reader gives, or with the one argument `--check` says whether it is canonical.
+/// Answers the exit status: 0 for a text that was written or is canonical, 1 for one that isn't, 2
+/// for one that can't be formatted, 3 where the program was called wrongly or the machine failed it.
 pub fn run<R: Read, W: Write, E: Write>(
     alloc: Global,
     arguments: &[String],
     reader: &mut R,
     writer: &mut W,
     errors: &mut E,
-) -> u8 {
-    match carry_out(alloc, arguments, reader, writer) {
-        Ok(status) => status,
+) -> u8
+    ensures statuses { result ≤ 3 }
+    ensures formatted { map string_bytes arguments.now ≡ [] → result ≡ 0 → IfSome (R.remaining reader.old) (λ source. Formats source (W.contents writer.old) (W.contents writer.new)) }
+    ensures canonical { map string_bytes arguments.now ≡ codes "--check" ∷ [] → result ≡ 0 → IfSome (R.remaining reader.old) (λ source. IsFormatted source source) }
+    ensures differs { result ≡ 1 → IfSome (R.remaining reader.old) Differs }
+    ensures refused { result ≡ 2 → IfSome (R.remaining reader.old) IsRefused }
+{
+    match Task::of(arguments) {
+        Ok(Task::Format) => match format(alloc, reader, writer) {
+            Ok(()) => 0,
+            Err(failure) => report(failure, errors),
+        },
+        Ok(Task::Check) => match check(alloc, reader) {
+            Ok(true) => 0,
+            Ok(false) => 1,
+            Err(failure) => report(failure, errors),
+        },
         Err(failure) => report(failure, errors),
     }
 }

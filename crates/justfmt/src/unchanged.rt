@@ -2,6 +2,7 @@ use justfile_syntax::expander::{ExpandFault, Expander};
 use std::alloc::Global;
 
 /// An expander that leaves texts as they are.
+#[derive(Clone, Copy, Debug)]
 pub struct Unchanged;
 
 impl Expander for Unchanged {

@@ -1,0 +1,110 @@
+//! The syntax of justfiles, each part under the module that it belongs to.
+#![tactic(auto)]
+
+pub mod assignment {
+    pub use justfile_file::Assignment;
+}
+
+pub mod ast {
+    pub use justfile_file::Ast;
+}
+
+pub mod binding {
+    pub use justfile_file::Binding;
+}
+
+pub mod byte_class {
+    pub use justfile_base::byte_class::{ByteClass, byte_class};
+}
+
+pub mod compile_error {
+    pub use justfile_base::CompileError;
+}
+
+pub mod compile_error_kind {
+    pub use justfile_base::CompileErrorKind;
+}
+
+pub mod delimiter {
+    pub use justfile_base::Delimiter;
+}
+
+pub mod expander {
+    pub use justfile_base::{ExpandFault, Expander};
+}
+
+pub mod expression {
+    pub use justfile_tree::Expression;
+}
+
+pub mod fault {
+    pub use justfile_base::{CompileResult, Fault};
+}
+
+pub mod indentation {
+    pub use justfile_base::Indentation;
+}
+
+pub mod item {
+    pub use justfile_base::ItemKind;
+    pub use justfile_file::Item;
+}
+
+pub mod keyed {
+    pub use justfile_base::Keyed;
+}
+
+pub mod keyword {
+    pub use justfile_base::Keyword;
+}
+
+pub mod lexer {
+    pub use justfile_lex::Lexer;
+}
+
+pub mod modulepath {
+    pub use justfile_base::Modulepath;
+}
+
+pub mod name {
+    pub use justfile_base::Name;
+}
+
+pub mod namepath {
+    pub use justfile_base::Namepath;
+}
+
+pub mod numerator {
+    pub use justfile_base::{Number, Numerator};
+}
+
+pub mod source {
+    pub use justfile_base::Source;
+}
+
+pub mod string_kind {
+    pub use justfile_base::{StringDelimiter, StringKind};
+}
+
+pub mod string_literal {
+    pub use justfile_base::{FormatStringPart, StringLiteral};
+}
+
+pub mod token {
+    pub use justfile_base::Token;
+}
+
+pub mod token_kind {
+    pub use justfile_base::TokenKind;
+}
+
+pub mod unstable_feature {
+    pub use justfile_base::UnstableFeature;
+}
+
+pub mod version {
+    pub use justfile_base::Version;
+}
+
+#[cfg(test)]
+mod tests;

@@ -1,0 +1,37 @@
+-- What the program makes of a justfile.
+use Rattle.std.specs.Prelude.{◌≡◌, ◌≢◌, ℕ, List, Option, Some, Ok, codes}
+use Rattle.std.specs.Io.KnownBytes.{Appends}
+use Rattle.justfile_model.specs.Files.{VersionNumbers}
+use Rattle.justfile_model.specs.Literals.{Answers}
+use Rattle.justfile_model.specs.Tree.{Tree, shape_of}
+use Rattle.justfile_canon.specs.RoundTrip.{TextDerives, printed}
+
+-- the expander that leaves each text as it is
+abbrev pub unchanged : Answers
+unchanged text = Some (Ok text)
+
+-- the version of the language
+abbrev pub current : VersionNumbers
+current = record { major = 1; minor = 58; patch = 0 }
+
+-- the text is a justfile, and this is its canonical text, with four spaces before the lines of bodies
+pub record IsFormatted (source canonical : List ℕ) : Type 0 where
+  pub tree : Tree
+  pub derives : TextDerives unchanged current source tree
+  pub is : canonical ≡ printed (shape_of tree) (codes "    ")
+
+-- the text is no justfile
+pub record IsRefused (source : List ℕ) : Type 0 where
+  pub derives_none : (tree : Tree) → TextDerives unchanged current source tree → ⊥
+
+-- the canonical text was written behind what was written before
+pub record Formats (source : List ℕ) (old new : Option (List ℕ)) : Type 0 where
+  pub canonical : List ℕ
+  pub formatted : IsFormatted source canonical
+  pub written : Appends old new canonical
+
+-- the text is a justfile, but its canonical text is another
+pub record Differs (source : List ℕ) : Type 0 where
+  pub canonical : List ℕ
+  pub formatted : IsFormatted source canonical
+  pub differs : canonical ≢ source
