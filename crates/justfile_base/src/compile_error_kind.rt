@@ -1,4 +1,5 @@
 use crate::delimiter::Delimiter;
+use crate::token_kind::TokenKind;
 
 /// Why a text is refused.
 #[derive(Debug, Drop)]
@@ -23,6 +24,8 @@ pub enum CompileErrorKind<'src> {
     MixedLeadingWhitespace {
         whitespace: &'src str,
     },
+    /// Too many expressions are open.
+    ParsingRecursionDepthExceeded,
     UnexpectedCharacter {
         expected: Vec<char>,
     },
@@ -31,6 +34,11 @@ pub enum CompileErrorKind<'src> {
     },
     UnexpectedEndOfToken {
         expected: Vec<char>,
+    },
+    /// No rule goes on with the token.
+    UnexpectedToken {
+        expected: Vec<TokenKind>,
+        found: TokenKind,
     },
     UnknownStartOfToken {
         start: char,

@@ -82,6 +82,11 @@ pub mod source {
     pub use justfile_base::Source;
 }
 
+pub mod parser {
+    pub use justfile_parse::Parser;
+    pub use justfile_parse::significant::significant;
+}
+
 pub mod string_kind {
     pub use justfile_base::{StringDelimiter, StringKind};
 }

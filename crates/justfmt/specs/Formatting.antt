@@ -4,6 +4,8 @@ use Rattle.std.specs.Io.KnownBytes.{Appends}
 use Rattle.justfile_model.specs.Files.{VersionNumbers}
 use Rattle.justfile_model.specs.Literals.{Answers}
 use Rattle.justfile_model.specs.Tree.{Tree, shape_of}
+use Rattle.justfile_file.specs.Ast.{tree_of}
+use Rattle.justfile_file.specs.declared.ast.Ast.{Ast}
 use Rattle.justfile_canon.specs.RoundTrip.{TextDerives, printed}
 
 -- the expander that leaves each text as it is
@@ -35,3 +37,7 @@ pub record Differs (source : List ℕ) : Type 0 where
   pub canonical : List ℕ
   pub formatted : IsFormatted source canonical
   pub differs : canonical ≢ source
+
+-- the file is that of the text
+pub record IsFileOf (source : List ℕ) (ast : Ast) : Type 0 where
+  pub derives : TextDerives unchanged current source (tree_of ast)

@@ -1,20 +1,30 @@
+ghost use Rattle.std.specs.Prelude.{◌≡◌, Err, IfOk, string_bytes};
+ghost use Rattle.justfmt.specs.declared.failure.Failure.TheVariants as failures;
+ghost use Rattle.justfmt.specs.Formatting.{IsFileOf, IsFormatted, IsRefused};
+
 use crate::failure::Failure;
 use crate::unchanged::Unchanged;
-use justfile_syntax::compile_error::Fault;
+use justfile_syntax::ast::Ast;
+use justfile_syntax::fault::Fault;
 use justfile_syntax::numerator::Numerator;
-use justfile_syntax::parser::{Parser, Source};
+use justfile_syntax::parser::Parser;
+use justfile_syntax::source::Source;
 use justfile_syntax::version::Version;
 use std::alloc::Global;
 
-/// The version of the language that is formatted.
+/// The version of the language.
 const CURRENT: Version = Version {
     major: 1,
     minor: 58,
     patch: 0,
 };
 
-/// The canonical text of a justfile.
-pub fn formatted(alloc: Global, source: &str) -> Result<String, Failure> {
+/// The file that a text is, read as the root file `justfile`.
+fn parsed(alloc: Global, source: &str) -> Result<Ast<'_>, Failure>
+    ensures ok { IfOk result (IsFileOf source.now) }
+    ensures refused { result ≡ Err failures.Refused → IsRefused source.now }
+    ensures printable { result ≡ Err failures.NotPrintable → ⊥ }
+{
     let mut numerator = Numerator::new(0);
     let place = Source {
         file_depth: 0,
@@ -22,7 +32,7 @@ pub fn formatted(alloc: Global, source: &str) -> Result<String, Failure> {
         namepath: None,
         working_directory: "",
     };
-    let parsed = Parser::parse_source(
+    match Parser::parse_source(
         alloc,
         &mut numerator,
         "justfile",
@@ -30,13 +40,21 @@ pub fn formatted(alloc: Global, source: &str) -> Result<String, Failure> {
         source,
         &Unchanged,
         CURRENT,
-    );
-    let ast = match parsed {
-        Ok(ast) => ast,
-        Err(Fault::Compile(_)) => return Err(Failure::Refused),
-        Err(Fault::Memory) => return Err(Failure::Memory),
-        Err(Fault::Numbers) => return Err(Failure::Numbers),
-    };
+    ) {
+        Ok(ast) => Ok(ast),
+        Err(Fault::Compile(_)) => Err(Failure::Refused),
+        Err(Fault::Memory) => Err(Failure::Memory),
+        Err(Fault::Numbers) => Err(Failure::Numbers),
+    }
+}
+
+/// The canonical text of a justfile.
+pub fn formatted(alloc: Global, source: &str) -> Result<String, Failure>
+    ensures ok { IfOk result (λ text. IsFormatted source.now (string_bytes text)) }
+    ensures refused { result ≡ Err failures.Refused → IsRefused source.now }
+    ensures printable { result ≡ Err failures.NotPrintable → ⊥ }
+{
+    let ast = parsed(alloc, source)?;
     if !ast.printable() {
         return Err(Failure::NotPrintable);
     }

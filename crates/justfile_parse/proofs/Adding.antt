@@ -1,0 +1,94 @@
+-- The parser adds items.
+use Rattle.std.proofs.Common.{◌≡◌, ℕ, Bool, ◌+◌, List, [], ◌∷◌, ◌++◌, Some, None, Result, IfOk, sym, ap, ◌∙◌, subst}
+use Rattle.std.specs.Borrow.{Bor}
+use Rattle.justfile_base.specs.declared.token.Token.{Token}
+use Rattle.justfile_file.specs.Item.{item_of, item_numbers}
+use Rattle.justfile_file.specs.declared.item.Item.{Item}
+use Rattle.justfile_base.specs.declared.token_kind.TokenKind.TheVariants as kinds
+use Rattle.justfile_model.specs.Files.{NumbersFrom, bindings, item_bindings}
+use Rattle.justfile_model.specs.Reader.{Read, accept, comment_item, on_line, line_end, behind, line}
+use Rattle.justfile_model.specs.SignificantTokens.{SignificantToken}
+use Rattle.justfile_model.specs.Tok.{Tok}
+use Rattle.justfile_model.specs.Tree as tree
+use Rattle.justfile_model.specs.Tree.{Tree}
+use Rattle.justfile_parse.specs.declared.stop.Stop.{Stop}
+use Rattle.justfile_parse.specs.declared.stop.Stop.TheVariants.{Refused, Memory, Numbers}
+use Rattle.justfile_parse.proofs.Lines.{behind_comment, line_fails, line_short}
+use Rattle.justfile_parse.specs.Given.{IsInTable, IsGivenItem, IsGivenItems, IsPlainItem}
+use Rattle.justfile_parse.specs.Reading.{IsPast, StopsAt, after, answers_by, refusal_at}
+use Rattle.justfile_parse.specs.View.{rest_of, IsSameRun, IsGivenBy, AddsPlain, Adds}
+use Rattle.justfile_parse.specs.declared.parser.Parser.{Parser}
+use Rattle.justfile_parse.proofs.GivenLemmas.{given_push, given_plain}
+
+module _ {X : Type 0} (answer : X → List ℕ → Result (List ℕ) (List ℕ)) (p : Parser X) where
+  pub plain_none : (items : List Item) → AddsPlain answer p items items
+  plain_none items = record { adds = λ first next h. h }
+
+  pub plain_item : (items new : List Item) (item : Item) → new ≡ items ++ item ∷ [] → IsPlainItem item → AddsPlain answer p items new
+  plain_item items new item is plain =
+      record {
+        adds = λ first next h.
+            let P : List Item → Type 0 = λ l. IsGivenBy answer p first next l in
+            subst P (sym is) (given_plain _ _ _ first next items h item plain);
+      }
+
+  pub adds_plain : (items new : List Item) (got gets : ℕ) → AddsPlain answer p items new → gets ≡ got → Adds answer p got gets items new
+  adds_plain items new got gets h is = record { adds = λ first so_far. let P : ℕ → Type 0 = λ n. IsGivenBy answer p first n new in subst P (sym is) (h.adds first got so_far) }
+
+  pub adds_item : (items new : List Item) (item : Item) (got gets : ℕ) → new ≡ items ++ item ∷ [] → IsGivenItem (answers_by answer p.expander.now) (IsInTable p.tokens.now) p.file_depth item → NumbersFrom got (item_numbers item) → gets ≡ got + item_bindings (item_of item) → Adds answer p got gets items new
+  adds_item items new item got gets is given numbers counted =
+      record {
+        adds = λ first so_far.
+            let P : List Item → Type 0 = λ l. IsGivenBy answer p first gets l in
+            let Q : ℕ → Type 0 = λ n. IsGivenBy answer p first n (items ++ item ∷ []) in
+            subst P (sym is) (subst Q (sym counted) (given_push _ _ _ first got items so_far item given numbers));
+      }
+
+  module _ (q : Parser X) (same : IsSameRun p q) where
+    pub there : (first next : ℕ) (items : List Item) → IsGivenBy answer p first next items → IsGivenBy answer q first next items
+    there first next items h =
+        let P : Bor X → Type 0 = λ e. IsGivenItems (answers_by answer e.now) (IsInTable p.tokens.now) p.file_depth first next items in
+        let Q : Bor (List (Token × Bool)) → Type 0 = λ t. IsGivenItems (answers_by answer q.expander.now) (IsInTable t.now) p.file_depth first next items in
+        let R : ℕ → Type 0 = λ d. IsGivenItems (answers_by answer q.expander.now) (IsInTable q.tokens.now) d first next items in
+        subst R (sym same.file_depth) (subst Q (sym same.tokens) (subst P (sym same.expander) h))
+
+    pub back : (first next : ℕ) (items : List Item) → IsGivenBy answer q first next items → IsGivenBy answer p first next items
+    back first next items h =
+        let P : Bor X → Type 0 = λ e. IsGivenItems (answers_by answer e.now) (IsInTable p.tokens.now) p.file_depth first next items in
+        let Q : Bor (List (Token × Bool)) → Type 0 = λ t. IsGivenItems (answers_by answer q.expander.now) (IsInTable t.now) p.file_depth first next items in
+        let R : ℕ → Type 0 = λ d. IsGivenItems (answers_by answer q.expander.now) (IsInTable q.tokens.now) d first next items in
+        subst P same.expander (subst Q same.tokens (subst R same.file_depth h))
+
+    pub plain_later : (items new : List Item) → AddsPlain answer q items new → AddsPlain answer p items new
+    plain_later items new h = record { adds = λ first next so_far. back first next new (h.adds first next (there first next items so_far)) }
+
+    pub plain_then : (items more new : List Item) → AddsPlain answer p items more → AddsPlain answer q more new → AddsPlain answer p items new
+    plain_then items more new h k = record { adds = λ first next so_far. (plain_later more new k).adds first next (h.adds first next so_far) }
+
+    pub adds_then : (items more new : List Item) (got gets : ℕ) → Adds answer p got gets items more → AddsPlain answer q more new → Adds answer p got gets items new
+    adds_then items more new got gets h k = record { adds = λ first so_far. (plain_later more new k).adds first gets (h.adds first so_far) }
+
+    pub adds_later : (items new : List Item) (got gets : ℕ) → Adds answer q got gets items new → Adds answer p got gets items new
+    adds_later items new got gets h = record { adds = λ first so_far. back first gets new (h.adds first (there first got items so_far)) }
+
+    -- a comment that trails an item, and what is behind it
+    pub behind_after : (done more : Tree) (c : SignificantToken) → accept kinds.Comment (rest_of p) ≡ Some (c, rest_of q) → more ≡ done ++ comment_item c ∷ []
+        → after more (line_end (answers_by answer q.expander.now) (rest_of q)) ≡ after done (behind (answers_by answer p.expander.now) (rest_of p))
+    behind_after done more c taken is =
+        ap (λ (e : Bor X). after more (line_end (answers_by answer e.now) (rest_of q))) same.expander
+        ∙ ap (λ (t : Tree). after t (line_end (answers_by answer p.expander.now) (rest_of q))) is
+        ∙ sym (behind_comment (answers_by answer p.expander.now) done (rest_of p) c (rest_of q) taken)
+
+    read_there : rest_of q ≡ rest_of p → on_line (answers_by answer q.expander.now) (rest_of q) ≡ on_line (answers_by answer p.expander.now) (rest_of p)
+    read_there here = ap (λ (e : Bor X). on_line (answers_by answer e.now) (rest_of q)) same.expander ∙ ap (on_line (answers_by answer p.expander.now)) here
+
+    -- the first item of a line is refused
+    pub line_stops : (stop : Stop) (left : List SignificantToken) (n : ℕ) (done : Tree)
+        → accept kinds.Eol (rest_of p) ≡ None → rest_of q ≡ rest_of p
+        → StopsAt stop left (IfOk (on_line (answers_by answer q.expander.now) (rest_of q)) (λ x. IsPast n (item_bindings x.0))) (on_line (answers_by answer q.expander.now) (rest_of q))
+        → StopsAt stop left (IfOk (line (answers_by answer p.expander.now) (rest_of p)) (λ x. IsPast n (bindings x.0))) (after done (line (answers_by answer p.expander.now) (rest_of p)))
+    line_stops (Refused r) left n done none here h = line_fails (answers_by answer p.expander.now) done (rest_of p) (refusal_at r left) none (sym (read_there here) ∙ h)
+    line_stops Memory left n done none here h = tt
+    line_stops Numbers left n done none here h =
+        let P : Read (tree.Item Tok Tok) → Type 0 = λ found. IfOk found (λ x. IsPast n (item_bindings x.0)) in
+        line_short (answers_by answer p.expander.now) n (rest_of p) none (subst P (read_there here) h)

@@ -1,0 +1,11 @@
+pub mod Adding
+pub mod Derived
+pub mod GivenLemmas
+pub mod Lines
+pub mod LiteralLemmas
+pub mod Loop
+pub mod Parsed
+pub mod Readings
+pub mod Rest
+pub mod SignificantLemmas
+pub mod Values

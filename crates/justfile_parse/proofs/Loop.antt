@@ -1,0 +1,141 @@
+-- The loop over lines.
+use Rattle.std.proofs.Common.{◌≡◌, ℕ, ◌+◌, ◌≤◌, List, [], ◌∷◌, ◌++◌, map, Some, None, Result, Ok, Err, IfOk, refl, sym, ap, ◌∙◌, subst, arith}
+use Rattle.std.specs.Borrow.{Bor}
+use Rattle.justfile_base.specs.Numerator.{bindings_of, constants_of, recipes_of}
+use Rattle.justfile_base.specs.declared.numerator.Numerator.{Numerator}
+use Rattle.justfile_base.specs.declared.token_kind.TokenKind.TheVariants as kinds
+use Rattle.justfile_file.specs.Item.{item_of}
+use Rattle.justfile_file.specs.declared.item.Item.{Item}
+use Rattle.justfile_model.specs.Files.{bindings}
+use Rattle.justfile_model.specs.Literals.{Answers}
+use Rattle.justfile_model.specs.Reader.{Refusal, Read, accept, at_end, line, with_front, items}
+use Rattle.justfile_model.specs.SignificantTokens.{SignificantToken, identifiers}
+use Rattle.justfile_model.specs.Tree.{Tree}
+use Rattle.justfile_model.proofs.Counting.{bindings_append, line_bindings, done_counts}
+use Rattle.justfile_model.proofs.Reading.{items_begin, items_go_on, items_end, items_fail, items_fail_behind}
+use Rattle.justfile_parse.proofs.Adding.{adds_later}
+use Rattle.justfile_parse.specs.Reading.{IsMoved, IsPast, StopsAt, after, answers_by, refusal_at}
+use Rattle.justfile_parse.specs.View.{Adds, IsGivenBy, IsSameRun, rest_of}
+use Rattle.justfile_parse.specs.declared.parser.Parser.{Parser}
+use Rattle.justfile_parse.specs.declared.stop.Stop.{Stop}
+use Rattle.justfile_parse.specs.declared.stop.Stop.TheVariants.{Refused, Memory, Numbers}
+
+-- ---- what was read behind other items
+
+pub taken : (done all : Tree) (rest : List SignificantToken) (found : Read Tree) → after done found ≡ Ok (all, rest) → (more : Tree) × (found ≡ Ok (more, rest)) × (done ++ more ≡ all)
+unfolding after
+taken done all rest (Ok x) h =
+    let pair : ◌≡◌ {A = Tree × List SignificantToken} (done ++ x.0, x.1) (all, rest) = inside _ _ h in
+    (x.0, ap (λ (r : List SignificantToken). Ok (x.0, r)) (ap (λ (p : Tree × List SignificantToken). p.1) pair), ap (λ (p : Tree × List SignificantToken). p.0) pair)
+  where
+    inside : (a b : Tree × List SignificantToken) → ◌≡◌ {A = Read Tree} (Ok a) (Ok b) → a ≡ b
+    inside a b h = cc
+taken done all rest (Err e) h = cc
+
+pub refused_first : (done : Tree) (e : Refusal) (found : Read Tree) → after done found ≡ Err e → found ≡ Err e
+unfolding after
+refused_first done e (Ok x) h = cc
+refused_first done e (Err f) h = ap (λ (g : Refusal). Err g) (inside f e h)
+  where
+    inside : (a b : Refusal) → ◌≡◌ {A = Read Tree} (Err a) (Err b) → a ≡ b
+    inside a b h = cc
+
+-- ---- the state before a line
+
+-- from one place to another these items were read
+pub record IsReadTo {X : Type 0} (answer : X → List ℕ → Result (List ℕ) (List ℕ)) (p q : Parser X) (first next : Numerator) (done : List Item) : Type 0 where
+  pub same : IsSameRun p q
+  pub value : with_front (answers_by answer p.expander.now) (map item_of done) (items (answers_by answer p.expander.now) (rest_of q)) ≡ items (answers_by answer p.expander.now) (rest_of p)
+  pub given : IsGivenBy answer p (bindings_of first) (bindings_of next) done
+  pub least : bindings_of first ≤ bindings_of next
+  pub most : bindings_of next + identifiers (rest_of q) ≤ bindings_of first + identifiers (rest_of p)
+  pub constants : constants_of next ≡ constants_of first
+  pub recipes : recipes_of next ≡ recipes_of first
+
+module _ {X : Type 0} (answer : X → List ℕ → Result (List ℕ) (List ℕ)) where
+  pub begins : (p : Parser X) (first : Numerator) → IsReadTo answer p p first first []
+  begins p first =
+      record {
+        same = record { tokens = refl; expander = refl; file_depth = refl; depth = refl };
+        value = items_begin (answers_by answer p.expander.now) (items (answers_by answer p.expander.now) (rest_of p));
+        given = record { given = λ k d h. absurd (omega arith); numbered = tt; counted = omega arith };
+        least = omega arith;
+        most = omega arith;
+        constants = refl;
+        recipes = refl;
+      }
+
+  same_run : (p q r : Parser X) → IsSameRun p q → IsSameRun q r → IsSameRun p r
+  same_run p q r a b = record { tokens = b.tokens ∙ a.tokens; expander = b.expander ∙ a.expander; file_depth = b.file_depth ∙ a.file_depth; depth = b.depth ∙ a.depth }
+
+  module _ (p q a : Parser X) (first next : Numerator) (done : List Item) (so_far : IsReadTo answer p q first next done) (same : IsSameRun q a) (none : accept kinds.Eof (rest_of q) ≡ None) (here : rest_of a ≡ rest_of q) where
+    -- what is read at `a` is what is read at `q`
+    line_there : line (answers_by answer a.expander.now) (rest_of a) ≡ line (answers_by answer p.expander.now) (rest_of q)
+    line_there = ap (λ (e : Bor X). line (answers_by answer e.now) (rest_of a)) (same.expander ∙ so_far.same.expander) ∙ ap (line (answers_by answer p.expander.now)) here
+
+    pub goes_on : (b : Parser X) (then : Numerator) (new : List Item) → IsSameRun a b
+        → after (map item_of done) (line (answers_by answer a.expander.now) (rest_of a)) ≡ Ok (map item_of new, rest_of b)
+        → Adds answer a (bindings_of next) (bindings_of then) done new
+        → bindings_of next ≤ bindings_of then → constants_of then ≡ constants_of next → recipes_of then ≡ recipes_of next
+        → IsReadTo answer p b first then new
+    goes_on b then new same2 value adds least constants recipes =
+        let E = answers_by answer p.expander.now in
+        let t = taken (map item_of done) (map item_of new) (rest_of b) _ value in
+        let read : line E (rest_of q) ≡ Ok (t.0, rest_of b) = sym line_there ∙ t.1 in
+        let given : IsGivenBy answer p (bindings_of first) (bindings_of then) new = (adds_later answer p a (same_run p q a so_far.same same) done new (bindings_of next) (bindings_of then) adds).adds (bindings_of first) so_far.given in
+        record {
+          same = same_run p a b (same_run p q a so_far.same same) same2;
+          value =
+              ap (λ (l : Tree). with_front E l (items E (rest_of b))) (sym t.2)
+              ∙ sym (items_go_on E (map item_of done) (rest_of q) t.0 (rest_of b) none read)
+              ∙ so_far.value;
+          given = given;
+          least = omega (arith, so_far.least);
+          most = omega (arith, so_far.most, given.counted, so_far.given.counted, ap bindings t.2, bindings_append (map item_of done) t.0, line_bindings E (rest_of q) (t.0, rest_of b) read);
+          constants = constants ∙ so_far.constants;
+          recipes = recipes ∙ so_far.recipes;
+        }
+
+    -- a line is refused, or wants a number
+    wants : (found : Read Tree) → line (answers_by answer p.expander.now) (rest_of q) ≡ found → IfOk found (λ x. IsPast (bindings_of next) (bindings x.0))
+        → (all : Tree) → with_front (answers_by answer p.expander.now) (map item_of done) (items (answers_by answer p.expander.now) (rest_of q)) ≡ Ok all → IsPast (bindings_of first) (bindings all)
+    wants (Ok x) is h all whole =
+        let E = answers_by answer p.expander.now in
+        let on = items_go_on E (map item_of done) (rest_of q) x.0 x.1 none is in
+        omega (arith, so_far.given.counted, bindings_append (map item_of done) x.0, done_counts E (map item_of done ++ x.0) x.1 all (sym on ∙ whole))
+    wants (Err e) is h all whole =
+        let E = answers_by answer p.expander.now in
+        let fails = items_fail E (map item_of done) (rest_of q) e none is in
+        let both : ◌≡◌ {A = Result Tree Refusal} (Err e) (Ok all) = sym fails ∙ whole in
+        absurd (cc)
+
+    short : (found : Result Tree Refusal) → items (answers_by answer p.expander.now) (rest_of p) ≡ found → IfOk (line (answers_by answer p.expander.now) (rest_of q)) (λ x. IsPast (bindings_of next) (bindings x.0)) → IfOk found (λ tree. IsPast (bindings_of first) (bindings tree))
+    short (Ok all) is h = wants (line (answers_by answer p.expander.now) (rest_of q)) refl h all (so_far.value ∙ is)
+    short (Err e) is h = tt
+
+    pub stops : (stop : Stop) (left : List SignificantToken)
+        → StopsAt stop left (IfOk (line (answers_by answer a.expander.now) (rest_of a)) (λ x. IsPast (bindings_of next) (bindings x.0))) (after (map item_of done) (line (answers_by answer a.expander.now) (rest_of a)))
+        → StopsAt stop left (IfOk (items (answers_by answer p.expander.now) (rest_of p)) (λ tree. IsPast (bindings_of first) (bindings tree))) (items (answers_by answer p.expander.now) (rest_of p))
+    stops (Refused r) left h =
+        let E = answers_by answer p.expander.now in
+        sym so_far.value ∙ items_fail E (map item_of done) (rest_of q) (refusal_at r left) none (sym line_there ∙ refused_first (map item_of done) (refusal_at r left) _ h)
+    stops Memory left h = tt
+    stops Numbers left h =
+        let P : Read Tree → Type 0 = λ found. IfOk found (λ x. IsPast (bindings_of next) (bindings x.0)) in
+        short (items (answers_by answer p.expander.now) (rest_of p)) refl (subst P line_there h)
+
+  module _ (p q : Parser X) (first next : Numerator) (done : List Item) (so_far : IsReadTo answer p q first next done) where
+    pub ends : (expander : Answers) (end : SignificantToken) (rest : List SignificantToken) → accept kinds.Eof (rest_of q) ≡ Some (end, rest) → at_end expander rest ≡ Ok [] → items (answers_by answer p.expander.now) (rest_of p) ≡ Ok (map item_of done)
+    unfolding at_end
+    ends expander end [] is nothing = sym so_far.value ∙ items_end (answers_by answer p.expander.now) (map item_of done) (rest_of q) end is
+    ends expander end (t ∷ ts) is nothing = cc
+
+    pub goes_past : (expander : Answers) (end : SignificantToken) (rest : List SignificantToken) (IsShort : Type 0) (stop : Stop) → accept kinds.Eof (rest_of q) ≡ Some (end, rest) → StopsAt stop rest ⊥ (at_end expander rest) → StopsAt stop rest IsShort (items (answers_by answer p.expander.now) (rest_of p))
+    unfolding at_end
+    goes_past expander end [] IsShort (Refused r) is h = cc
+    goes_past expander end (t ∷ ts) IsShort (Refused r) is h = sym so_far.value ∙ items_fail_behind (answers_by answer p.expander.now) (map item_of done) (rest_of q) end t ts is ∙ h
+    goes_past expander end rest IsShort Memory is h = tt
+    goes_past expander end rest IsShort Numbers is h = absurd h
+
+    pub moved : IsMoved first next (identifiers (rest_of p))
+    moved = record { least = so_far.least; most_is = omega (arith, so_far.most); constants = so_far.constants; recipes = so_far.recipes }

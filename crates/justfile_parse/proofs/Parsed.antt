@@ -1,0 +1,230 @@
+-- What is read of a table, and what that says of the tokens.
+use Rattle.std.proofs.Common.{◌≡◌, ℕ, ◌<◌, ◌≤◌, Bool, true, false, not, ◌||◌, ◌&&◌, cond, IsTrue, rules, List, [], ◌∷◌, ◌++◌, map, length, All, Contains, Some, None, Option, Result, Ok, Err, IfOk, IfSome, IfNone, inr, refl, sym, ap, ◌∙◌, subst, arith}
+use Rattle.std.specs.Prelude.{reverse}
+use Rattle.std.specs.List.{list_all, flat_map}
+use Rattle.std.proofs.lemmas.Bool.Decides.{nat_tests}
+use Rattle.std.proofs.lemmas.List.{length-map, reverse-append, reverse-reverse}
+use Rattle.std.proofs.lemmas.List.Elements.{All-contains, All-head, All-tail, All-weaker}
+use denote.Enum.Bare.{same_true}
+use Rattle.justfile_base.specs.Numerator.{bindings_of}
+use Rattle.justfile_base.specs.Token.{lexeme_of}
+use Rattle.justfile_base.specs.contracts.token_kind.TokenKind.{the_type}
+use Rattle.justfile_base.specs.declared.fault.Fault.{Fault}
+use Rattle.justfile_base.specs.declared.fault.Fault.TheVariants as faults
+use Rattle.justfile_base.specs.declared.numerator.Numerator.{Numerator}
+use Rattle.justfile_base.specs.declared.token.Token.{Token}
+use Rattle.justfile_base.specs.declared.token_kind.TokenKind.TheVariants as kinds
+use Rattle.justfile_canon.proofs.Quoted.{AreQuoted, IsQuoted, lexed_quoted}
+use Rattle.justfile_file.specs.Item.{item_of, item_cooked}
+use Rattle.justfile_file.specs.declared.ast.Ast.{Ast}
+use Rattle.justfile_file.specs.declared.binding.Binding.{Binding}
+use Rattle.justfile_file.specs.declared.item.Item.{Item}
+use Rattle.justfile_file.specs.declared.item.Item.TheVariants.{Assignment, Comment, Newline}
+use Rattle.justfile_model.specs.Answers.{IsFrom}
+use Rattle.justfile_model.specs.Files.{VersionNumbers, FileDerives, NumbersSuffice, bindings, expr_literals, literals}
+use Rattle.justfile_model.specs.Lexed.{Lexed}
+use Rattle.justfile_model.specs.Literals.{Answers, cooked_text, Cooks}
+use Rattle.justfile_model.specs.Reader as reader
+use Rattle.justfile_model.specs.Reader.{same_kind, choose}
+use Rattle.justfile_model.specs.SignificantTokens.{SignificantToken, is_whitespace, identifiers, significant_from, significant_tokens}
+use Rattle.justfile_model.specs.Tok.{Tok, tok_of}
+use Rattle.justfile_model.specs.Tree.{Tree, lexeme}
+use Rattle.justfile_model.proofs.Agreement.{sound, complete}
+use Rattle.justfile_model.proofs.Steps.{after_accept}
+use Rattle.justfile_parse.specs.Given.{IsGivenItem, IsGivenExpression, IsInTable}
+use Rattle.justfile_parse.specs.Literal.{is_quoted, is_sound}
+use Rattle.justfile_parse.specs.Parsing.{HasNoTree, IsFaultOf, IsOneLex, IsParsed, IsParsedText, IsRead, IsUnparsed, IsUnread}
+use Rattle.justfile_parse.specs.Reading.{IsEnd, IsPast, StopsAt}
+use Rattle.justfile_parse.specs.Significant.{significant_of}
+use Rattle.justfile_parse.specs.declared.stop.Stop.{Stop}
+use Rattle.justfile_parse.specs.declared.stop.Stop.TheVariants as stops
+use Rattle.justfile_parse.proofs.Values.{plain_text}
+use Rattle.justfile_tree.specs.Expression.{expr_of, expr_cooked}
+use Rattle.justfile_tree.specs.declared.expression.Expression.{Expression}
+use Rattle.justfile_tree.specs.declared.expression.Expression.TheVariants as expressions
+
+-- ---- the byte order mark
+
+pub accept_fewer : (ts rest : List SignificantToken) (t : SignificantToken) → reader.accept kinds.ByteOrderMark ts ≡ Some (t, rest) → identifiers rest ≤ identifiers ts
+accept_fewer ts rest t =
+    after_accept kinds.ByteOrderMark ts (λ o. o ≡ Some (t, rest) → identifiers rest ≤ identifiers ts) (λ _ e. cc)
+    (λ u us split _ e. omega (arith, ap identifiers split, ap (λ (p : SignificantToken × List SignificantToken). identifiers p.1) (inside _ _ e)))
+  where
+    inside : (a b : SignificantToken × List SignificantToken) → ◌≡◌ {A = Option (SignificantToken × List SignificantToken)} (Some a) (Some b) → a ≡ b
+    inside a b h = cc
+
+module _ (ts rest : List SignificantToken) where
+  pub mark_fewer : (o : Option (Token × Bool)) → IfSome o (λ entry. reader.accept kinds.ByteOrderMark ts ≡ Some (significant_of entry, rest)) → IfNone o (rest ≡ ts) → identifiers rest ≤ identifiers ts
+  mark_fewer None some none = omega (arith, ap identifiers none)
+  mark_fewer (Some entry) some none = accept_fewer ts rest (significant_of entry) some
+
+  pub mark_is : (expander : Answers) (o : Option (Token × Bool)) → IfSome o (λ entry. reader.accept kinds.ByteOrderMark ts ≡ Some (significant_of entry, rest)) → IfNone o (reader.accept kinds.ByteOrderMark ts ≡ None) → IfNone o (rest ≡ ts)
+      → reader.file expander ts ≡ reader.items expander rest
+  unfolding reader.file
+  mark_is expander None some none same = rw none (ap (reader.items expander) (sym same))
+  mark_is expander (Some entry) some none same = rw some refl
+
+-- ---- faults
+
+ok_is_no_error : (e : reader.Refusal) (tree : Tree) (found : Result Tree reader.Refusal) → found ≡ Err e → found ≡ Ok tree → ⊥
+ok_is_no_error e tree found h k = let both : ◌≡◌ {A = Result Tree reader.Refusal} (Err e) (Ok tree) = sym h ∙ k in cc
+
+pub unread : (read : Result Tree reader.Refusal) (table : List (Token × Bool)) (old new : Numerator) (left : List SignificantToken) (stop : Stop) (fault : Fault)
+    → StopsAt stop left (IfOk read (λ tree. IsPast (bindings_of old) (bindings tree))) read → IsEnd (bindings_of new) stop → IsFaultOf table stop fault → IsUnread read (IsInTable table) old new fault
+unread read table old new left (stops.Refused r) (faults.Compile e) h end is = (λ tree k. ok_is_no_error _ tree read h k, is.0, is.1)
+unread read table old new left (stops.Refused r) faults.Memory h end is = absurd is
+unread read table old new left (stops.Refused r) faults.Numbers h end is = absurd is
+unread read table old new left stops.Memory (faults.Compile e) h end is = absurd is
+unread read table old new left stops.Memory faults.Memory h end is = tt
+unread read table old new left stops.Memory faults.Numbers h end is = absurd is
+unread read table old new left stops.Numbers (faults.Compile e) h end is = absurd is
+unread read table old new left stops.Numbers faults.Memory h end is = absurd is
+unread read table old new left stops.Numbers faults.Numbers h end is = (end, h)
+
+-- ---- the tokens of one lex
+
+longer : (b : Bool) (t : SignificantToken) (ts us : List SignificantToken) → 0 < length ts → 0 < length (cond b ts (t ∷ us))
+longer true t ts us h = h
+longer false t ts us h = omega arith
+
+some_significant : (glued : Bool) (ts : List Tok) (last : Tok) → last.kind ≡ kinds.Eof → 0 < length (significant_from glued (ts ++ last ∷ []))
+some_significant glued [] last h =
+    let P : Bool → Type 0 = λ b. 0 < length (cond {A = List SignificantToken} b [] (record { tok = last; glued = glued } ∷ [])) in
+    let e : is_whitespace last.kind ≡ false = ap is_whitespace h in
+    subst P (sym e) (omega arith)
+some_significant glued (t ∷ ts) last h = longer (is_whitespace t.kind) (record { tok = t; glued = glued }) (significant_from false (ts ++ last ∷ [])) (significant_from true (ts ++ last ∷ [])) (some_significant false ts last h)
+
+in_front : (text : List ℕ) (ts : List Tok) (l : Lexed text ts) → ts ≡ reverse l.earlier ++ (l.last ∷ [])
+in_front text ts l = sym (reverse-reverse ts) ∙ ap reverse l.are ∙ reverse-append (l.last ∷ []) l.earlier
+
+pub nonempty : (text : List ℕ) (ts : List Tok) (table : List (Token × Bool)) → Lexed text ts → map significant_of table ≡ significant_tokens ts → 0 < length table
+nonempty text ts table l is =
+    let n : 0 < length (significant_from false (reverse l.earlier ++ l.last ∷ [])) = some_significant false (reverse l.earlier) l.last l.is_end in
+    omega (arith, n, ap (λ (us : List Tok). length (significant_from false us)) (in_front text ts l), ap length is, length-map table significant_of)
+
+quoted_test : (bytes : List ℕ) → IsQuoted bytes → is_quoted bytes ≡ true
+quoted_test bytes h = grind (arith, nat_tests, h.long, h.first, h.last)
+
+sound_by : (b quoted : Bool) → (b ≡ true → quoted ≡ true) → (not b || quoted) ≡ true
+sound_by true quoted h = h refl
+sound_by false quoted h = refl
+
+sound_entry : (entry : Token × Bool) → (entry.0.kind ≡ kinds.StringToken → IsQuoted (lexeme_of entry.0)) → is_sound entry ≡ true
+unfolding same_kind
+sound_entry entry h = sound_by (same_kind entry.0.kind kinds.StringToken) (is_quoted (lexeme_of entry.0)) (λ e. quoted_test (lexeme_of entry.0) (h (same_true the_type tt _ _ e)))
+
+both : (a b : Bool) → a ≡ true → b ≡ true → (a && b) ≡ true
+both true b h k = k
+both false b h k = cc
+
+sound_table : (table : List (Token × Bool)) → AreQuoted (map significant_of table) → list_all is_sound table ≡ true
+sound_table [] h = refl
+sound_table (entry ∷ table) h = both (is_sound entry) (list_all is_sound table) (sound_entry entry h.0) (sound_table table h.1)
+
+pub sound_lex : (tokens : List Token) (table : List (Token × Bool)) → IsOneLex tokens → map significant_of table ≡ significant_tokens (map tok_of tokens) → IsTrue (list_all is_sound table)
+sound_lex tokens table l is =
+    let e : list_all is_sound table ≡ true = sound_table table (subst AreQuoted (sym is) (lexed_quoted l.text (map tok_of tokens) l.utf8 l.lexed)) in
+    search (rules, e)
+
+-- ---- what was given
+
+in_tokens : (tokens : List Token) (table : List (Token × Bool)) → All (λ entry. Contains tokens entry.0) table → (t : Token) → IsInTable table t → Contains tokens t
+in_tokens tokens table all t h = All-contains (λ (entry : Token × Bool). Contains tokens entry.0) table (t, h.glued) all h.among
+
+module _ (expander : Answers) (P Q : Token → Type 0) (weaker : (t : Token) → P t → Q t) where
+  given_expression : (e : Expression) → IsGivenExpression expander P e → IsGivenExpression expander Q e
+  given_expression (expressions.StringLiteral l) h = record { among = weaker l.token h.among; cooked = h.cooked; expand = h.expand; kind = h.kind; part = h.part }
+  given_expression (expressions.Variable name number) h = (weaker name.token h.0, h.1)
+
+  pub given_weaker : (file_depth : ℕ) (i : Item) → IsGivenItem expander P file_depth i → IsGivenItem expander Q file_depth i
+  given_weaker file_depth (Assignment a) h =
+      record {
+        among = weaker a.name.token h.among;
+        file_depth_is = h.file_depth_is;
+        prelude = h.prelude;
+        private = h.private;
+        value = given_expression a.value h.value;
+      }
+  given_weaker file_depth (Comment text) h = tt
+  given_weaker file_depth Newline h = tt
+
+module _ (expander : Answers) (P : Token → Type 0) (items : List Item) (more : Cooks expander (map lexeme (literals (map item_of items))) (flat_map item_cooked items)) where
+  binding_cooks : (a : Binding Expression) → IsGivenExpression expander P a.value → Cooks expander (map lexeme (literals (map item_of (Assignment a ∷ items)))) (flat_map item_cooked (Assignment a ∷ items))
+  binding_cooks a h = by_value a.value h
+    where
+      by_value : (e : Expression) → IsGivenExpression expander P e → Cooks expander (map lexeme (expr_literals (expr_of e) ++ literals (map item_of items))) (expr_cooked e ++ flat_map item_cooked items)
+      by_value (expressions.StringLiteral l) g = (ap (cooked_text expander) (plain_text l g.expand g.part) ∙ g.cooked, more)
+      by_value (expressions.Variable name number) g = more
+
+  item_cooks : (file_depth : ℕ) (i : Item) → IsGivenItem expander P file_depth i → Cooks expander (map lexeme (literals (map item_of (i ∷ items)))) (flat_map item_cooked (i ∷ items))
+  item_cooks file_depth (Assignment a) h = binding_cooks a h.value
+  item_cooks file_depth (Comment text) h = more
+  item_cooks file_depth Newline h = more
+
+-- the literals' texts are theirs
+pub cooks_of : (expander : Answers) (P : Token → Type 0) (file_depth : ℕ) (items : List Item) → All (IsGivenItem expander P file_depth) items → Cooks expander (map lexeme (literals (map item_of items))) (flat_map item_cooked items)
+cooks_of expander P file_depth [] all = tt
+cooks_of expander P file_depth (i ∷ items) all =
+    item_cooks expander P items (cooks_of expander P file_depth items (All-tail (IsGivenItem expander P file_depth) i items all)) file_depth i (All-head (IsGivenItem expander P file_depth) i items all)
+
+-- ---- what is read derives
+
+pub given_tokens : (expander : Answers) (tokens : List Token) (table : List (Token × Bool)) (file_depth : ℕ) (items : List Item) → All (λ entry. Contains tokens entry.0) table → All (IsGivenItem expander (IsInTable table) file_depth) items → All (IsGivenItem expander (Contains tokens) file_depth) items
+given_tokens expander tokens table file_depth items all =
+    All-weaker (IsGivenItem expander (IsInTable table) file_depth) (IsGivenItem expander (Contains tokens) file_depth) (given_weaker expander (IsInTable table) (Contains tokens) (in_tokens tokens table all) file_depth) items
+
+module _ (expander : Answers) (current : VersionNumbers) (tokens : List Token) (table : List (Token × Bool)) (old new : Numerator) (is : map significant_of table ≡ significant_tokens (map tok_of tokens)) where
+  found : (tree : Tree) → FileDerives expander current (significant_tokens (map tok_of tokens)) tree → reader.file expander (map significant_of table) ≡ Ok tree
+  found tree d = ap (reader.file expander) is ∙ complete expander current (significant_tokens (map tok_of tokens)) tree d
+
+  pub derives_of : (tree : Tree) → reader.file expander (map significant_of table) ≡ Ok tree → FileDerives expander current (significant_tokens (map tok_of tokens)) tree
+  derives_of tree h = sound expander current (significant_tokens (map tok_of tokens)) tree (sym (ap (reader.file expander) is) ∙ h)
+
+  too_few : (tree : Tree) (read : Result Tree reader.Refusal) → read ≡ Ok tree → IfOk read (λ t. IsPast (bindings_of old) (bindings t)) → NumbersSuffice (bindings_of old) tree → ⊥
+  too_few tree read e h s = let past : IsPast (bindings_of old) (bindings tree) = (let P : Result Tree reader.Refusal → Type 0 = λ r. IfOk r (λ t. IsPast (bindings_of old) (bindings t)) in subst P e h) in omega arith
+
+  pub unparsed_of : All (λ entry. Contains tokens entry.0) table → (fault : Fault)
+      → IsUnread (reader.file expander (map significant_of table)) (IsInTable table) old new fault
+      → IsUnparsed expander current (map tok_of tokens) (Contains tokens) old new fault
+  unparsed_of all (faults.Compile e) h = (λ tree d. h.0 tree (found tree d), in_tokens tokens table all e.token h.1, h.2)
+  unparsed_of all faults.Memory h = tt
+  unparsed_of all faults.Numbers h = (h.0, λ tree d s. too_few tree _ (found tree d) h.1 s)
+
+  pub parsed_of : All (λ entry. Contains tokens entry.0) table → (file_depth : ℕ) (ast : Ast)
+      → IsRead expander (IsInTable table) file_depth (map significant_of table) old new ast.items.items → ast.unstable_features.keys ≡ []
+      → IsParsed expander current (map tok_of tokens) (Contains tokens) file_depth old new ast
+  parsed_of all file_depth ast h stable =
+      record {
+        derives = derives_of (map item_of ast.items.items) h.read;
+        cooks = cooks_of expander (IsInTable table) file_depth ast.items.items h.given.given;
+        numbered = h.given.numbered;
+        counted = h.given.counted;
+        given = given_tokens expander tokens table file_depth ast.items.items all h.given.given;
+        stable = stable;
+      }
+
+-- ---- a text
+
+module _ (expander : Answers) (current : VersionNumbers) (path src : List ℕ) (tokens : List Token) (lexed : Lexed src (map tok_of tokens)) (all : All (IsFrom path src) tokens) (old new : Numerator) where
+  from_tokens : (t : Token) → Contains tokens t → IsFrom path src t
+  from_tokens t h = All-contains (IsFrom path src) tokens t all h
+
+  pub no_tree : (fault : Fault) → IsUnparsed expander current (map tok_of tokens) (Contains tokens) old new fault → HasNoTree expander current path src old new fault
+  no_tree (faults.Compile e) h = inr (record { tokens = map tok_of tokens; lexed = lexed; unparsed = (h.0, from_tokens e.token h.1, h.2) })
+  no_tree faults.Memory h = tt
+  no_tree faults.Numbers h = record { tokens = map tok_of tokens; lexed = lexed; unparsed = h }
+
+  pub text_parsed : (file_depth : ℕ) (ast : Ast) → IsParsed expander current (map tok_of tokens) (Contains tokens) file_depth old new ast → IsParsedText expander current path src file_depth old new ast
+  text_parsed file_depth ast h =
+      record {
+        tokens = map tok_of tokens;
+        lexed = lexed;
+        parsed = record {
+          derives = h.derives;
+          cooks = h.cooks;
+          numbered = h.numbered;
+          counted = h.counted;
+          given = All-weaker (IsGivenItem expander (Contains tokens) file_depth) (IsGivenItem expander (IsFrom path src) file_depth) (given_weaker expander (Contains tokens) (IsFrom path src) from_tokens file_depth) ast.items.items h.given;
+          stable = h.stable;
+        };
+      }

@@ -1,0 +1,54 @@
+use Rattle.std.proofs.Common.{rules, sym, subst, List, map, All}
+use Rattle.std.proofs.lemmas.Result.{IfErr-weaker, IfOk-weaker}
+use Rattle.justfile_base.specs.declared.token.Token.{Token}
+use Rattle.justfile_model.specs.Answers.{IsFrom}
+use Rattle.justfile_model.specs.Lexed.{Lexed}
+use Rattle.justfile_model.specs.SignificantTokens.{identifiers, significant_tokens}
+use Rattle.justfile_model.specs.Tok.{Tok, tok_of}
+use Rattle.justfile_model.proofs.LexedLaws.{one_list}
+use Rattle.justfile_parse.specs.Parsing.{version_numbers}
+use Rattle.justfile_parse.specs.Reading.{IsMoved, answers_by}
+use Rattle.justfile_parse.proofs.Derived.{lexer_refuses, parser_refuses, text_derives}
+use Rattle.justfile_parse.proofs.Parsed.{no_tree, text_parsed}
+use Rattle.justfile_parse.proofs.parser.Parser.parse_source.Goals as goal
+
+pub returns-clause-no_tree : goal.returns-clause-no_tree
+returns-clause-no_tree g c =
+    let P : List Token → Type 0 = λ ts. Lexed c.args.src.now (map tok_of ts) in
+    let Q : List Token → Type 0 = λ ts. All (IsFrom c.args.path.now c.args.src.now) ts in
+    IfErr-weaker c.parse.result _ _
+    (no_tree (answers_by g.X.Expander.answer c.args.expander.now) (version_numbers c.args.current) c.args.path.now c.args.src.now c.as_slice.result.now
+    (subst P (sym c.as_slice.ensures.value) c.in_ok-tokens.ensures.tokens) (subst Q (sym c.as_slice.ensures.value) c.in_ok-tokens.ensures.source) c.args.numerator.now c.parse.new.numerator)
+    c.parse.ensures.unparsed
+
+pub returns-clause-parsed : goal.returns-clause-parsed
+returns-clause-parsed g c =
+    let P : List Token → Type 0 = λ ts. Lexed c.args.src.now (map tok_of ts) in
+    let Q : List Token → Type 0 = λ ts. All (IsFrom c.args.path.now c.args.src.now) ts in
+    IfOk-weaker c.parse.result _ _
+    (text_parsed (answers_by g.X.Expander.answer c.args.expander.now) (version_numbers c.args.current) c.args.path.now c.args.src.now c.as_slice.result.now
+    (subst P (sym c.as_slice.ensures.value) c.in_ok-tokens.ensures.tokens) (subst Q (sym c.as_slice.ensures.value) c.in_ok-tokens.ensures.source) c.args.numerator.now c.parse.new.numerator c.args.source.now.file_depth)
+    c.parse.ensures.parsed
+
+pub returns-clause-moved : goal.returns-clause-moved
+returns-clause-moved g c tokens lexed =
+    let P : List Token → Type 0 = λ ts. Lexed c.args.src.now (map tok_of ts) in
+    let Q : List Tok → Type 0 = λ ts. IsMoved c.args.numerator.now c.parse.new.numerator (identifiers (significant_tokens ts)) in
+    subst Q (one_list c.args.src.now _ tokens (subst P (sym c.as_slice.ensures.value) c.in_ok-tokens.ensures.tokens) lexed) c.parse.ensures.moved
+
+pub returns-clause-derives : goal.returns-clause-derives
+returns-clause-derives g c =
+    IfOk-weaker c.parse.result _ _
+    (text_derives (answers_by g.X.Expander.answer c.args.expander.now) (version_numbers c.args.current) c.args.path.now c.args.src.now c.utf8.src c.args.source.now.file_depth c.args.numerator.now c.parse.new.numerator)
+    (returns-clause-parsed g c)
+
+pub returns-clause-derives_none : goal.returns-clause-derives_none
+returns-clause-derives_none g c =
+    IfErr-weaker c.parse.result _ _
+    (parser_refuses (answers_by g.X.Expander.answer c.args.expander.now) (version_numbers c.args.current) c.args.path.now c.args.src.now c.args.numerator.now c.parse.new.numerator)
+    (returns-clause-no_tree g c)
+
+pub returns-in_err-tokens-clause-derives_none : goal.returns-in_err-tokens-clause-derives_none
+returns-in_err-tokens-clause-derives_none g c =
+    let refused = lexer_refuses (answers_by g.X.Expander.answer c.args.expander.now) (version_numbers c.args.current) c.args.path.now c.args.src.now c.in_err-tokens.field-0.0 c.in_err-tokens.ensures.fault in
+    search (rules, refused)

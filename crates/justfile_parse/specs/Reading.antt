@@ -1,0 +1,60 @@
+-- What a function of the parser returns is what the definitions read.
+use Rattle.std.specs.Prelude.{◌≡◌, ◌<◌, ◌≤◌, ℕ, ◌+◌, ◌++◌, ◌-◌, ◌^◌, List, Some, Result, Ok, Err}
+use Rattle.justfile_base.specs.Numerator.{bindings_of, constants_of, recipes_of}
+use Rattle.justfile_base.specs.declared.numerator.Numerator.{Numerator}
+use Rattle.justfile_model.specs.Grammar.{front}
+use Rattle.justfile_model.specs.Literals.{Answers}
+use Rattle.justfile_model.specs.Reader as reader
+use Rattle.justfile_model.specs.Reader.{◌>>=◌, Read}
+use Rattle.justfile_model.specs.SignificantTokens.{SignificantToken}
+use Rattle.justfile_model.specs.Tree.{Tree}
+use Rattle.justfile_parse.specs.declared.stop.Refusal.{Refusal}
+use Rattle.justfile_parse.specs.declared.stop.Refusal.TheVariants.{Unexpected, TooDeep, NotCooked}
+use Rattle.justfile_parse.specs.declared.stop.Stop.{Stop}
+use Rattle.justfile_parse.specs.declared.stop.Stop.TheVariants.{Refused, Memory, Numbers}
+
+-- the expander's answers: it has one for each text
+abbrev pub answers_by : {X : Type 0} → (X → List ℕ → Result (List ℕ) (List ℕ)) → X → Answers
+answers_by answer expander text = Some (answer expander text)
+
+-- the refusal of the next token
+abbrev pub refusal_at : Refusal → List SignificantToken → reader.Refusal
+refusal_at Unexpected tokens = reader.Unexpected (front tokens)
+refusal_at TooDeep tokens = reader.TooDeep (front tokens)
+refusal_at NotCooked tokens = reader.NotCooked (front tokens)
+
+-- Where reading stopped, the next of the tokens that are left is refused, or a number is wanting. Want of memory says nothing.
+abbrev pub StopsAt : {Y : Type 0} → Stop → (left : List SignificantToken) → (IsShort : Type 0) → Result Y reader.Refusal → Type 0
+StopsAt (Refused refusal) left IsShort read = read ≡ Err (refusal_at refusal left)
+StopsAt Memory left IsShort read = Unit {0}
+StopsAt Numbers left IsShort read = IsShort
+
+-- what was returned, seen by `view`, is what is read, or says why not
+abbrev pub GivesNumbered : {X Y : Type 0} → (X → Y) → Result X Stop → (left : List SignificantToken) → (IsShort : Type 0) → Result Y reader.Refusal → Type 0
+GivesNumbered view (Ok x) left IsShort read = read ≡ Ok (view x)
+GivesNumbered view (Err stop) left IsShort read = StopsAt stop left IsShort read
+
+-- the same where no number is wanted
+abbrev pub Gives : {X Y : Type 0} → (X → Y) → Result X Stop → List SignificantToken → Result Y reader.Refusal → Type 0
+Gives view result left read = GivesNumbered view result left ⊥ read
+
+-- the counter, up by so many numbers, is past its end
+abbrev pub IsPast : ℕ → ℕ → Type 0
+IsPast counter wanted = 2 ^ 32 - 1 < counter + wanted
+
+-- items that are read behind others
+unfoldable pub after : Tree → Read Tree → Read Tree
+after done read = read >>= λ x. Ok (done ++ x.0, x.1)
+
+-- the counter where a number was wanting
+abbrev pub IsEnd : ℕ → Stop → Type 0
+IsEnd counter Numbers = counter ≡ 2 ^ 32 - 1
+IsEnd counter (Refused refusal) = Unit {0}
+IsEnd counter Memory = Unit {0}
+
+-- nothing but bindings was numbered, and at most so many
+pub record IsMoved (old new : Numerator) (most : ℕ) : Type 0 where
+  pub least : bindings_of old ≤ bindings_of new
+  pub most_is : bindings_of new ≤ bindings_of old + most
+  pub constants : constants_of new ≡ constants_of old
+  pub recipes : recipes_of new ≡ recipes_of old

@@ -1,0 +1,9 @@
+-- The table of significant tokens.
+use Rattle.std.specs.Prelude.{Bool}
+use Rattle.justfile_base.specs.declared.token.Token.{Token}
+use Rattle.justfile_model.specs.Tok.{tok_of}
+use Rattle.justfile_model.specs.SignificantTokens.{SignificantToken}
+
+-- what the definitions see of an entry: a token, and whether it is glued to the one before
+abbrev pub significant_of : Token × Bool → SignificantToken
+significant_of entry = record { tok = tok_of entry.0; glued = entry.1 }

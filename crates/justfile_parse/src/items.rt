@@ -1,0 +1,197 @@
+ghost use Rattle.std.specs.Prelude.{◌≡◌, ◌<◌, ◌≤◌, ◌+◌, [], ◌∷◌, ◌++◌, map, IfOk, OnOk, OnErr, IfErr};
+ghost use Rattle.std.specs.Str.{trim_end};
+ghost use Rattle.justfile_base.specs.Numerator.{bindings_of, constants_of, number_of, recipes_of};
+ghost use Rattle.justfile_base.specs.Token.{lexeme_of};
+ghost use Rattle.justfile_file.specs.Item.{item_of, item_numbers};
+ghost use Rattle.justfile_file.specs.declared.item.Item.TheVariants as items;
+ghost use Rattle.justfile_model.specs.Files.{NumbersFrom, bindings, item_bindings};
+ghost use Rattle.justfile_model.specs.Reader as reader;
+ghost use Rattle.justfile_model.specs.SignificantTokens.{identifiers};
+ghost use Rattle.justfile_model.specs.Tree as tree;
+ghost use Rattle.justfile_parse.specs.Given.{IsInTable, IsGivenBinding, IsGivenItem, IsPlainItem, is_private};
+ghost use Rattle.justfile_parse.specs.Reading.{Gives, GivesNumbered, IsEnd, IsMoved, IsPast, after, answers_by};
+ghost use Rattle.justfile_parse.specs.declared.stop.Stop.TheVariants as stops;
+
+use crate::parser::Parser;
+use crate::stop::Stop;
+use justfile_base::{Expander, Name, Numerator, Token, TokenKind};
+use justfile_file::{Assignment, Binding, Item};
+
+impl<'src, X: Expander> Parser<'_, 'src, X> {
+    ghost use Rattle.justfile_parse.specs.View.{Adds, AddsPlain, IsGivenBy, IsSameRun, rest_of};
+
+    /// The items of a file, where no expression is open.
+    pub(crate) fn parse_file(&mut self, numerator: &mut Numerator) -> Result<Vec<Item<'src>>, Stop>
+        requires { self.old.depth ≡ 0 }
+        ensures tokens { self.new.tokens ≡ self.old.tokens }
+        ensures value { let read = reader.file (answers_by X.answer self.old.expander.now) (rest_of self.old) in GivesNumbered (λ items. map item_of items.items) result (rest_of self.new) (IfOk read (λ tree. IsPast (bindings_of numerator.old) (bindings tree))) read }
+        ensures given { IfOk result (λ items. IsGivenBy X.answer self.old (bindings_of numerator.old) (bindings_of numerator.new) items.items) }
+        ensures moved { IsMoved numerator.old numerator.new (identifiers (rest_of self.old)) }
+        ensures end { IfErr result (IsEnd (bindings_of numerator.new)) }
+    {
+        self.accept_mark();
+        self.parse_items(numerator)
+    }
+
+    /// The items up to the end of the file, where no expression is open.
+    fn parse_items(&mut self, numerator: &mut Numerator) -> Result<Vec<Item<'src>>, Stop>
+        requires { self.old.depth ≡ 0 }
+        ensures tokens { self.new.tokens ≡ self.old.tokens }
+        ensures value { let read = reader.items (answers_by X.answer self.old.expander.now) (rest_of self.old) in GivesNumbered (λ items. map item_of items.items) result (rest_of self.new) (IfOk read (λ tree. IsPast (bindings_of numerator.old) (bindings tree))) read }
+        ensures given { IfOk result (λ items. IsGivenBy X.answer self.old (bindings_of numerator.old) (bindings_of numerator.new) items.items) }
+        ensures moved { IsMoved numerator.old numerator.new (identifiers (rest_of self.old)) }
+        ensures end { IfErr result (IsEnd (bindings_of numerator.new)) }
+    {
+        let mut items = Vec::new(self.alloc);
+        'lines: loop {
+            if let Some(_end) = self.accept(TokenKind::Eof) {
+                self.expect_nothing()?;
+                return Ok(items);
+            }
+            self.parse_line(&mut items, numerator)?;
+        }
+    }
+
+    /// The items of a line.
+    #[tactic(auto, using(crate::proofs::Lines::line_blank, crate::proofs::Lines::line_fails, crate::proofs::Lines::line_goes_on, crate::proofs::Lines::line_short, crate::proofs::Adding::plain_item, crate::proofs::Adding::adds_plain, crate::proofs::Adding::adds_item, crate::proofs::Adding::adds_then))]
+    fn parse_line(
+        &mut self,
+        items: &mut Vec<Item<'src>>,
+        numerator: &mut Numerator,
+    ) -> Result<(), Stop>
+        requires { self.old.depth ≡ 0 }
+        ensures same { OnOk result (IsSameRun self.old self.new) }
+        ensures tokens { self.new.tokens ≡ self.old.tokens }
+        ensures progress { OnOk result (self.old.next < self.new.next) }
+        ensures value { let read = reader.line (answers_by X.answer self.old.expander.now) (rest_of self.old) in GivesNumbered (λ _. (map item_of items.new.items, rest_of self.new)) result (rest_of self.new) (IfOk read (λ x. IsPast (bindings_of numerator.old) (bindings x.0))) (after (map item_of items.old.items) read) }
+        ensures given { OnOk result (Adds X.answer self.old (bindings_of numerator.old) (bindings_of numerator.new) items.old.items items.new.items) }
+        ensures least { bindings_of numerator.old ≤ bindings_of numerator.new }
+        ensures most { bindings_of numerator.new ≤ bindings_of numerator.old + identifiers (rest_of self.old) }
+        ensures constants { constants_of numerator.new ≡ constants_of numerator.old }
+        ensures recipes { recipes_of numerator.new ≡ recipes_of numerator.old }
+        ensures end { IfErr result (IsEnd (bindings_of numerator.new)) }
+    {
+        if let Some(_newline) = self.accept(TokenKind::Eol) {
+            push(items, Item::Newline)?;
+            return Ok(());
+        }
+        let item = self.parse_item(numerator)?;
+        push(items, item)?;
+        self.parse_behind(items)?;
+        Ok(())
+    }
+
+    /// What begins a line that is not blank.
+    #[tactic(auto, using(crate::proofs::GivenLemmas::plain_given, crate::proofs::GivenLemmas::plain_numbers, crate::proofs::GivenLemmas::plain_bindings), unfolding(justfile_model::specs::Reader::on_line))]
+    fn parse_item(&mut self, numerator: &mut Numerator) -> Result<Item<'src>, Stop>
+        requires { self.old.depth ≡ 0 }
+        ensures same { OnOk result (IsSameRun self.old self.new) }
+        ensures tokens { self.new.tokens ≡ self.old.tokens }
+        ensures progress { OnOk result (self.old.next < self.new.next) }
+        ensures value { let read = reader.on_line (answers_by X.answer self.old.expander.now) (rest_of self.old) in GivesNumbered (λ i. (item_of i, rest_of self.new)) result (rest_of self.new) (IfOk read (λ x. IsPast (bindings_of numerator.old) (item_bindings x.0))) read }
+        ensures given { IfOk result (IsGivenItem (answers_by X.answer self.old.expander.now) (IsInTable self.old.tokens.now) self.old.file_depth) }
+        ensures numbers { IfOk result (λ i. NumbersFrom (bindings_of numerator.old) (item_numbers i)) }
+        ensures counted { IfOk result (λ i. bindings_of numerator.new ≡ bindings_of numerator.old + item_bindings (item_of i)) }
+        ensures least { bindings_of numerator.old ≤ bindings_of numerator.new }
+        ensures most { bindings_of numerator.new ≤ bindings_of numerator.old + identifiers (rest_of self.old) }
+        ensures constants { constants_of numerator.new ≡ constants_of numerator.old }
+        ensures recipes { recipes_of numerator.new ≡ recipes_of numerator.old }
+        ensures end { IfErr result (IsEnd (bindings_of numerator.new)) }
+    {
+        if let Some((comment, _)) = self.accept(TokenKind::Comment) {
+            return Ok(comment_item(comment));
+        }
+        let assignment = self.parse_assignment(numerator)?;
+        Ok(Item::Assignment(assignment))
+    }
+
+    /// NAME `:=` expression, where no expression is open.
+    #[tactic(auto, unfolding(justfile_model::specs::Reader::assignment))]
+    fn parse_assignment(&mut self, numerator: &mut Numerator) -> Result<Assignment<'src>, Stop>
+        requires { self.old.depth ≡ 0 }
+        ensures same { OnOk result (IsSameRun self.old self.new) }
+        ensures tokens { self.new.tokens ≡ self.old.tokens }
+        ensures progress { OnOk result (self.old.next < self.new.next) }
+        ensures value { let read = reader.assignment (answers_by X.answer self.old.expander.now) (rest_of self.old) in GivesNumbered (λ a. (item_of (items.Assignment a), rest_of self.new)) result (rest_of self.new) (IfOk read (λ x. IsPast (bindings_of numerator.old) (item_bindings x.0))) read }
+        ensures given { IfOk result (IsGivenBinding (answers_by X.answer self.old.expander.now) (IsInTable self.old.tokens.now) self.old.file_depth) }
+        ensures number { IfOk result (λ a. a.number ≡ number_of (bindings_of numerator.old)) }
+        ensures counted { OnOk result (bindings_of numerator.new ≡ bindings_of numerator.old + 1) }
+        ensures uncounted { OnErr result (bindings_of numerator.new ≡ bindings_of numerator.old) }
+        ensures constants { constants_of numerator.new ≡ constants_of numerator.old }
+        ensures recipes { recipes_of numerator.new ≡ recipes_of numerator.old }
+        ensures end { IfErr result (IsEnd (bindings_of numerator.new)) }
+    {
+        let (token, _) = self.expect(TokenKind::Identifier)?;
+        self.expect(TokenKind::ColonEquals)?;
+        let value = self.parse_expression()?;
+        let Some(number) = numerator.next_binding() else {
+            return Err(Stop::Numbers);
+        };
+        Ok(Binding {
+            file_depth: self.file_depth,
+            name: Name::from_identifier(token),
+            number,
+            prelude: false,
+            private: is_private(token.lexeme().as_bytes()),
+            value,
+        })
+    }
+
+    /// What stands behind an item: a comment that trails it, and the end of the line.
+    #[tactic(auto, using(crate::proofs::Lines::behind_comment, crate::proofs::Lines::behind_bare, crate::proofs::Adding::plain_item, crate::proofs::Adding::plain_later, crate::proofs::Adding::plain_then))]
+    fn parse_behind(&mut self, items: &mut Vec<Item<'src>>) -> Result<(), Stop>
+        ensures same { OnOk result (IsSameRun self.old self.new) }
+        ensures tokens { self.new.tokens ≡ self.old.tokens }
+        ensures progress { OnOk result (self.old.next ≤ self.new.next) }
+        ensures value { Gives (λ _. (map item_of items.new.items, rest_of self.new)) result (rest_of self.new) (after (map item_of items.old.items) (reader.behind (answers_by X.answer self.old.expander.now) (rest_of self.old))) }
+        ensures given { OnOk result (AddsPlain X.answer self.old items.old.items items.new.items) }
+    {
+        match self.accept(TokenKind::Comment) {
+            Some((comment, _)) => {
+                push(items, comment_item(comment))?;
+                self.parse_line_end(items)
+            }
+            None => self.parse_line_end(items),
+        }
+    }
+
+    /// The end of a line, which is an item, or that of the file, which is left.
+    #[tactic(auto, using(crate::proofs::Lines::line_end_closes, crate::proofs::Lines::line_end_newline, crate::proofs::Lines::line_end_fails, crate::proofs::Adding::plain_item, crate::proofs::Adding::plain_none, crate::proofs::Adding::plain_later))]
+    fn parse_line_end(&mut self, items: &mut Vec<Item<'src>>) -> Result<(), Stop>
+        ensures same { OnOk result (IsSameRun self.old self.new) }
+        ensures tokens { self.new.tokens ≡ self.old.tokens }
+        ensures progress { OnOk result (self.old.next ≤ self.new.next) }
+        ensures value { Gives (λ _. (map item_of items.new.items, rest_of self.new)) result (rest_of self.new) (after (map item_of items.old.items) (reader.line_end (answers_by X.answer self.old.expander.now) (rest_of self.old))) }
+        ensures given { OnOk result (AddsPlain X.answer self.old items.old.items items.new.items) }
+    {
+        if let Some(_end) = self.next_if(TokenKind::Eof) {
+            return Ok(());
+        }
+        self.expect(TokenKind::Eol)?;
+        push(items, Item::Newline)?;
+        Ok(())
+    }
+}
+
+fn is_private(name: &[u8]) -> bool
+    ensures { result ≡ is_private name.now }
+{
+    name.first() == Some(&b'_')
+}
+
+/// A comment, without the white space at its end.
+fn comment_item<'src>(comment: Token<'src>) -> Item<'src>
+    ensures is { item_of result ≡ tree.Comment (trim_end (lexeme_of comment.entry)) }
+    ensures plain { IsPlainItem result }
+{
+    Item::Comment(comment.lexeme().trim_end())
+}
+
+fn push<'src>(items: &mut Vec<Item<'src>>, item: Item<'src>) -> Result<(), Stop>
+    ensures items { OnOk result (items.new.items ≡ items.old.items ++ item.entry ∷ []) }
+    ensures tree { OnOk result (map item_of items.new.items ≡ map item_of items.old.items ++ item_of item.entry ∷ []) }
+    ensures memory { IfErr result (λ stop. stop ≡ stops.Memory) }
+{
+    items.push(item)?;
+    Ok(())
+}

@@ -1,0 +1,186 @@
+ghost use Rattle.std.specs.Prelude.{◌≡◌, ◌<◌, ◌≤◌, ◌+◌, [], ◌∷◌, length, map, IsTrue, IfOk, OnOk, OnSome, IfSome, IfNone, IfErr, Some, None};
+ghost use Rattle.std.specs.List.{list_all};
+ghost use Rattle.justfile_base.specs.CompileErrorKind.{internal_message};
+ghost use Rattle.justfile_model.specs.Grammar.{front};
+ghost use Rattle.justfile_model.specs.Reader as reader;
+ghost use Rattle.justfile_model.specs.SignificantTokens.{identifiers};
+ghost use Rattle.justfile_parse.specs.Given.{IsInTable};
+ghost use Rattle.justfile_parse.specs.Literal.{is_sound};
+ghost use Rattle.justfile_parse.specs.Parsing.{IsFaultOf, IsRead, IsUnread};
+ghost use Rattle.justfile_parse.specs.Reading.{Gives, IsMoved, answers_by};
+ghost use Rattle.justfile_parse.specs.Significant.{significant_of};
+
+use crate::stop::{Refusal, Stop};
+use justfile_base::{
+    CompileErrorKind, CompileResult, Expander, Fault, Numerator, Token, TokenKind,
+};
+use justfile_file::Item;
+use std::alloc::Global;
+
+/// A token, and whether it is glued to the one before.
+pub(crate) type Entry<'src> = (Token<'src>, bool);
+
+/// Reads a table of significant tokens from left to right.
+#[derive(Drop)]
+pub struct Parser<'run, 'src, X> {
+    pub(crate) alloc: Global,
+    /// How many expressions are open.
+    pub(crate) depth: usize,
+    pub(crate) expander: &'run X,
+    /// How many files include the one that is read.
+    pub(crate) file_depth: u32,
+    /// The index of the next token.
+    pub(crate) next: usize,
+    pub(crate) tokens: &'run [(Token<'src>, bool)],
+    ghost within: { next ≤ length tokens.now },
+    ghost shallow: { depth ≤ 256 },
+    ghost nonempty: { 0 < length tokens.now },
+    ghost sound: { IsTrue (list_all is_sound tokens.now) },
+}
+
+impl<'run, 'src, X: Expander> Parser<'run, 'src, X> {
+    ghost use Rattle.justfile_parse.specs.View.{IsSameRun, rest_at, rest_of};
+
+    /// The next token; it is not taken yet.
+    #[tactic(auto, using(crate::proofs::Rest::rest_here, crate::proofs::Rest::rest_end, crate::proofs::Rest::in_table, crate::proofs::Rest::sound_at))]
+    pub(crate) fn peek(&self) -> Option<Entry<'src>>
+        ensures within { OnSome result (self.now.next < length self.now.tokens.now) }
+        ensures some { IfSome result (λ entry. rest_of self.now ≡ significant_of entry ∷ rest_at self.now.tokens.now (self.now.next + 1)) }
+        ensures none { IfNone result (rest_of self.now ≡ []) }
+        ensures among { IfSome result (λ entry. IsInTable self.now.tokens.now entry.0) }
+        ensures sound { IfSome result (λ entry. IsTrue (is_sound entry)) }
+    {
+        if self.next < self.tokens.len() {
+            Some(self.tokens[self.next])
+        } else {
+            None
+        }
+    }
+
+    /// The next token if it is of this kind; it is not taken yet.
+    #[tactic(auto, unfolding(justfile_model::specs::Reader::accept, justfile_model::specs::Reader::same_kind))]
+    pub(crate) fn next_if(&self, kind: TokenKind) -> Option<Entry<'src>>
+        ensures within { OnSome result (self.now.next < length self.now.tokens.now) }
+        ensures some { IfSome result (λ entry. reader.accept kind (rest_of self.now) ≡ Some (significant_of entry, rest_at self.now.tokens.now (self.now.next + 1))) }
+        ensures none { IfNone result (reader.accept kind (rest_of self.now) ≡ None) }
+        ensures among { IfSome result (λ entry. IsInTable self.now.tokens.now entry.0) }
+        ensures kind { IfSome result (λ entry. entry.0.kind ≡ kind) }
+        ensures sound { IfSome result (λ entry. IsTrue (is_sound entry)) }
+        ensures front { IfSome result (λ entry. front (rest_of self.now) ≡ Some (significant_of entry)) }
+    {
+        match self.peek() {
+            Some(entry) => {
+                if entry.0.kind == kind {
+                    Some(entry)
+                } else {
+                    None
+                }
+            }
+            None => None,
+        }
+    }
+
+    /// Takes the next token if it is of this kind.
+    pub(crate) fn accept(&mut self, kind: TokenKind) -> Option<Entry<'src>>
+        ensures same { IsSameRun self.old self.new }
+        ensures some { IfSome result (λ entry. reader.accept kind (rest_of self.old) ≡ Some (significant_of entry, rest_of self.new)) }
+        ensures none { IfNone result (reader.accept kind (rest_of self.old) ≡ None) }
+        ensures same_rest { IfNone result (rest_of self.new ≡ rest_of self.old) }
+        ensures stays { IfNone result (self.new.next ≡ self.old.next) }
+        ensures progress { OnSome result (self.old.next < self.new.next) }
+        ensures among { IfSome result (λ entry. IsInTable self.old.tokens.now entry.0) }
+        ensures kind { IfSome result (λ entry. entry.0.kind ≡ kind) }
+    {
+        let entry = self.next_if(kind)?;
+        self.next += 1;
+        Some(entry)
+    }
+
+    /// Takes the next token, which has to be of this kind.
+    #[tactic(auto, unfolding(justfile_model::specs::Reader::expect, justfile_model::specs::Reader::refused))]
+    pub(crate) fn expect(&mut self, kind: TokenKind) -> Result<Entry<'src>, Stop>
+        ensures same { IsSameRun self.old self.new }
+        ensures value { Gives (λ entry. (significant_of entry, rest_of self.new)) result (rest_of self.new) (reader.expect kind (rest_of self.old)) }
+        ensures progress { OnOk result (self.old.next < self.new.next) }
+        ensures among { IfOk result (λ entry. IsInTable self.old.tokens.now entry.0) }
+        ensures kind { IfOk result (λ entry. entry.0.kind ≡ kind) }
+    {
+        self.accept(kind).ok_or(Stop::Refused(Refusal::Unexpected))
+    }
+
+    /// Takes the byte order mark that a file may begin with.
+    pub(crate) fn accept_mark(&mut self)
+        ensures same { IsSameRun self.old self.new }
+        ensures value { reader.file (answers_by X.answer self.old.expander.now) (rest_of self.old) ≡ reader.items (answers_by X.answer self.old.expander.now) (rest_of self.new) }
+        ensures fewer { identifiers (rest_of self.new) ≤ identifiers (rest_of self.old) }
+    {
+        let _mark = self.accept(TokenKind::ByteOrderMark);
+    }
+
+    /// Nothing may stand behind the end of the file.
+    #[tactic(auto, unfolding(justfile_model::specs::Reader::at_end, justfile_model::specs::Reader::refused))]
+    pub(crate) fn expect_nothing(&self) -> Result<(), Stop>
+        ensures { Gives (λ _. []) result (rest_of self.now) (reader.at_end (answers_by X.answer self.now.expander.now) (rest_of self.now)) }
+    {
+        match self.peek() {
+            Some(_entry) => Err(Stop::Refused(Refusal::Unexpected)),
+            None => Ok(()),
+        }
+    }
+
+    /// The fault for which reading stopped. It stands at the next token, or at the last where none
+    /// is left.
+    #[tactic(auto, using(crate::proofs::Rest::in_table))]
+    fn fault(&self, stop: Stop) -> Fault<'src>
+        ensures { IsFaultOf self.now.tokens.now stop result }
+    {
+        let refusal = match stop {
+            Stop::Refused(refusal) => refusal,
+            Stop::Memory => return Fault::Memory,
+            Stop::Numbers => return Fault::Numbers,
+        };
+        let (token, _) = self.tokens[self.next.min(self.tokens.len() - 1)];
+        Fault::Compile(token.error(self.error_kind(refusal, token.kind)))
+    }
+
+    /// The kind of the error for which a token is refused.
+    fn error_kind(&self, refusal: Refusal, found: TokenKind) -> CompileErrorKind<'src>
+        ensures { internal_message result ≡ None }
+    {
+        match refusal {
+            Refusal::TooDeep => CompileErrorKind::ParsingRecursionDepthExceeded,
+            Refusal::Unexpected | Refusal::NotCooked => CompileErrorKind::UnexpectedToken {
+                expected: Vec::new(self.alloc),
+                found,
+            },
+        }
+    }
+
+    /// The items of the file that a table of tokens is.
+    pub(crate) fn parse_table(
+        alloc: Global,
+        file_depth: u32,
+        numerator: &mut Numerator,
+        tokens: &'run [Entry<'src>],
+        expander: &'run X,
+    ) -> CompileResult<'src, Vec<Item<'src>>>
+        requires nonempty { 0 < length tokens.now }
+        requires sound { IsTrue (list_all is_sound tokens.now) }
+        ensures ok { IfOk result (λ items. IsRead (answers_by X.answer expander.now) (IsInTable tokens.now) file_depth (map significant_of tokens.now) numerator.old numerator.new items.items) }
+        ensures err { IfErr result (IsUnread (reader.file (answers_by X.answer expander.now) (map significant_of tokens.now)) (IsInTable tokens.now) numerator.old numerator.new) }
+        ensures moved { IsMoved numerator.old numerator.new (identifiers (map significant_of tokens.now)) }
+    {
+        let mut parser = Parser {
+            alloc,
+            depth: 0,
+            expander,
+            file_depth,
+            next: 0,
+            tokens,
+        };
+        match parser.parse_file(numerator) {
+            Ok(items) => Ok(items),
+            Err(stop) => Err(parser.fault(stop)),
+        }
+    }
+}
