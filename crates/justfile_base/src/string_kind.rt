@@ -83,6 +83,18 @@ impl StringKind {
         self.indented
     }
 
+    /// The kind of the literal that begins with these bytes. A byte past their end counts as 0, and
+    /// one that is no quote as `'`.
+    pub fn of_opening(bytes: &[u8]) -> Self
+        ensures { result ≡ kind_of bytes.now }
+    {
+        let quote = byte_at(bytes, 0);
+        StringKind {
+            delimiter: delimiter_of(quote).unwrap_or(StringDelimiter::QuoteSingle),
+            indented: byte_at(bytes, 1) == quote && byte_at(bytes, 2) == quote,
+        }
+    }
+
     /// The kind of the literal that a text begins with: tripled wherever three quotes stand.
     #[tactic(auto, using(crate::proofs::TokenStart::begins_with_delimiter))]
     pub fn from_token_start(token_start: &str) -> Option<Self>
@@ -110,6 +122,13 @@ impl StringKind {
             })),
         }
     }
+}
+
+/// The byte at a place, and 0 past the end.
+fn byte_at(bytes: &[u8], at: usize) -> u8
+    ensures { result ≡ slice_index bytes.now at }
+{
+    if at < bytes.len() { bytes[at] } else { 0 }
 }
 
 /// Whether the text begins with a byte that stands three times.

@@ -7,7 +7,7 @@ ghost use Rattle.justfile_lex.specs.Found.{fault_of, found_of};
 use crate::bytes::{after, is_interpolation_end, is_interpolation_start};
 use crate::lexical_fault::LexicalFault;
 use crate::mode::Mode;
-use crate::raw_text::{kind_of, raw_len};
+use crate::raw_text::raw_len;
 use crate::refusal::{Found, refused};
 use justfile_base::{Delimiter, StringDelimiter, StringKind, TokenKind};
 use justfile_model::{OpenDelimiter, RawText};
@@ -57,7 +57,7 @@ pub(crate) fn literal<'src>(mode: &Mode<'src>, rest: &[u8]) -> Found<'src>
     requires { delimiter_len (kind_of rest.now) ≤ length rest.now }
     ensures { found_of result ≡ literal (mode_of mode.now) rest.now }
 {
-    let kind = kind_of(rest);
+    let kind = StringKind::of_opening(rest);
     let format = mode.behind_f && !is_backtick(kind.delimiter);
     literal_part(
         kind,

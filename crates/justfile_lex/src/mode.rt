@@ -4,8 +4,7 @@ ghost use Rattle.std.specs.Str.{bytes_eq};
 ghost use Rattle.justfile_model.specs.Places.{is_newline};
 ghost use Rattle.justfile_model.specs.Modes.{ends_in_newline};
 
-use crate::raw_text::kind_of;
-use justfile_base::{Delimiter, Token, TokenKind};
+use justfile_base::{Delimiter, StringKind, Token, TokenKind};
 use justfile_model::OpenDelimiter;
 use std::alloc::{AllocError, Global};
 
@@ -171,7 +170,7 @@ impl<'src> Mode<'src> {
             TokenKind::FormatStringStart => {
                 let bytes = token.lexeme().as_bytes();
                 let line = token.line + newlines(bytes);
-                self.open(Delimiter::FormatString(kind_of(bytes)), line)?
+                self.open(Delimiter::FormatString(StringKind::of_opening(bytes)), line)?
             }
             TokenKind::BraceR
             | TokenKind::BracketR

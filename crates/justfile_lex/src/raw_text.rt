@@ -1,6 +1,6 @@
 ghost use Rattle.std.specs.Prelude.{◌≡◌};
 ghost use Rattle.justfile_model.specs.declared.raw_text.RawText.TheVariants.{Literal};
-ghost use Rattle.justfile_base.specs.StringKind.{quote_of, delimiter_at, kind_of};
+ghost use Rattle.justfile_base.specs.StringKind.{quote_of};
 ghost use Rattle.justfile_model.specs.LiteralText.{is_delimiter, hides, ends, raw_len, pieces_len};
 
 use crate::bytes::{after, byte_at, is_interpolation_escape, is_interpolation_start, is_line_end};
@@ -26,29 +26,6 @@ fn is_delimiter(kind: StringKind, rest: &[u8]) -> bool
         byte_at(rest, 0) == quote && byte_at(rest, 1) == quote && byte_at(rest, 2) == quote
     } else {
         byte_at(rest, 0) == quote
-    }
-}
-
-fn delimiter_at(byte: u8) -> StringDelimiter
-    ensures { result ≡ delimiter_at byte }
-{
-    if byte == b'`' {
-        StringDelimiter::Backtick
-    } else if byte == b'"' {
-        StringDelimiter::QuoteDouble
-    } else {
-        StringDelimiter::QuoteSingle
-    }
-}
-
-/// The kind of the literal at the front.
-pub(crate) fn kind_of(rest: &[u8]) -> StringKind
-    ensures { result ≡ kind_of rest.now }
-{
-    let quote = byte_at(rest, 0);
-    StringKind {
-        delimiter: delimiter_at(quote),
-        indented: byte_at(rest, 1) == quote && byte_at(rest, 2) == quote,
     }
 }
 

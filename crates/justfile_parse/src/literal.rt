@@ -1,11 +1,10 @@
-ghost use Rattle.std.specs.Prelude.{◌≡◌, ◌==◌, None, IfOk, IsTrue, MatchOption, slice_index};
+ghost use Rattle.std.specs.Prelude.{◌≡◌, ◌==◌, None, IfOk, IsTrue, MatchOption};
 ghost use Rattle.std.specs.List.{list_any};
-ghost use Rattle.justfile_base.specs.StringKind.{delimiter_at, kind_of};
 ghost use Rattle.justfile_base.specs.Token.{lexeme_of};
 ghost use Rattle.justfile_model.specs.Literals.{Answers, cooked_text, has_escape, between_quotes};
 ghost use Rattle.justfile_parse.specs.Literal.{is_quoted, IsPlain};
 
-use justfile_base::{StringDelimiter, StringKind, StringLiteral, Token};
+use justfile_base::{StringKind, StringLiteral, Token};
 use std::alloc::{AllocError, Global};
 
 /// The literal that a token is; none for tripled literals and escapes, which are not read yet.
@@ -17,7 +16,7 @@ pub(crate) fn string_literal<'src>(
     ensures { IfOk result (λ literal. MatchOption literal ((expander : Answers) → cooked_text expander (lexeme_of token.entry) ≡ None) (IsPlain token.entry)) }
 {
     let lexeme = token.lexeme();
-    let kind = kind_of(lexeme.as_bytes());
+    let kind = StringKind::of_opening(lexeme.as_bytes());
     if kind.indented || has_escape(lexeme.as_bytes()) {
         return Ok(None);
     }
@@ -41,38 +40,11 @@ fn between_quotes(lexeme: &str) -> &str
 fn has_escape(lexeme: &[u8]) -> bool
     ensures { result ≡ has_escape lexeme.now }
 {
-    kind_of(lexeme).processes_escape_sequences() && has_backslash(lexeme)
+    StringKind::of_opening(lexeme).processes_escape_sequences() && has_backslash(lexeme)
 }
 
 fn has_backslash(bytes: &[u8]) -> bool
     ensures { result ≡ list_any (λ b. b == 92) bytes.now }
 {
     bytes.iter().any(|byte| *byte == b'\\')
-}
-
-fn byte_at(bytes: &[u8], at: usize) -> u8
-    ensures { result ≡ slice_index bytes.now at }
-{
-    if at < bytes.len() { bytes[at] } else { 0 }
-}
-
-fn delimiter_at(byte: u8) -> StringDelimiter
-    ensures { result ≡ delimiter_at byte }
-{
-    match byte {
-        b'`' => StringDelimiter::Backtick,
-        b'"' => StringDelimiter::QuoteDouble,
-        _ => StringDelimiter::QuoteSingle,
-    }
-}
-
-/// How the literal is delimited.
-fn kind_of(lexeme: &[u8]) -> StringKind
-    ensures { result ≡ kind_of lexeme.now }
-{
-    let quote = byte_at(lexeme, 0);
-    StringKind {
-        delimiter: delimiter_at(quote),
-        indented: byte_at(lexeme, 1) == quote && byte_at(lexeme, 2) == quote,
-    }
 }
