@@ -1,9 +1,9 @@
 pub mod Adding
-pub mod Derived
 pub mod GivenLemmas
 pub mod Lines
 pub mod LiteralLemmas
 pub mod Loop
+pub mod NotInternal
 pub mod Parsed
 pub mod Readings
 pub mod Rest

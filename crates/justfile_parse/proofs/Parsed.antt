@@ -1,5 +1,5 @@
 -- What is read of a table, and what that says of the tokens.
-use Rattle.std.proofs.Common.{◌≡◌, ℕ, ◌<◌, ◌≤◌, Bool, true, false, not, ◌||◌, ◌&&◌, cond, IsTrue, rules, List, [], ◌∷◌, ◌++◌, map, length, All, Contains, Some, None, Option, Result, Ok, Err, IfOk, IfSome, IfNone, inr, refl, sym, ap, ◌∙◌, subst, arith}
+use Rattle.std.proofs.Common.{◌≡◌, ℕ, ◌<◌, ◌≤◌, Bool, true, false, not, ◌||◌, ◌&&◌, cond, IsTrue, rules, List, [], ◌∷◌, ◌++◌, map, length, All, Contains, Some, None, Option, Result, Ok, Err, IfOk, IfSome, IfNone, inl, inr, refl, sym, ap, ◌∙◌, subst, arith}
 use Rattle.std.specs.Prelude.{reverse}
 use Rattle.std.specs.List.{list_all, flat_map}
 use Rattle.std.proofs.lemmas.Bool.Decides.{nat_tests}
@@ -14,21 +14,25 @@ use Rattle.justfile_base.specs.declared.fault.Fault.TheVariants as faults
 use Rattle.justfile_base.specs.declared.numerator.Numerator.{Numerator}
 use Rattle.justfile_base.specs.declared.token.Token.{Token}
 use Rattle.justfile_base.specs.declared.token_kind.TokenKind.TheVariants as kinds
+use Rattle.std.specs.Str.{IsUtf8}
+use Rattle.justfile_canon.specs.RoundTrip.{TextDerives}
 use Rattle.justfile_canon.proofs.Quoted.{AreQuoted, IsQuoted, lexed_quoted}
 use Rattle.justfile_file.specs.Item.{item_of, item_cooked}
 use Rattle.justfile_file.specs.declared.ast.Ast.{Ast}
 use Rattle.justfile_file.specs.declared.binding.Binding.{Binding}
 use Rattle.justfile_file.specs.declared.item.Item.{Item}
 use Rattle.justfile_file.specs.declared.item.Item.TheVariants.{Assignment, Comment, Newline}
-use Rattle.justfile_model.specs.Answers.{IsFrom}
+use Rattle.justfile_model.specs.Answers.{IsFrom, IsLexerFault}
 use Rattle.justfile_model.specs.Files.{VersionNumbers, FileDerives, NumbersSuffice, bindings, expr_literals, literals}
-use Rattle.justfile_model.specs.Lexed.{Lexed}
+use Rattle.justfile_model.specs.Lexed.{Lexed, IsFault}
+use Rattle.justfile_model.specs.LexicalFault.{LexicalFault}
 use Rattle.justfile_model.specs.Literals.{Answers, cooked_text, Cooks}
 use Rattle.justfile_model.specs.Reader as reader
 use Rattle.justfile_model.specs.Reader.{same_kind, choose}
 use Rattle.justfile_model.specs.SignificantTokens.{SignificantToken, is_whitespace, identifiers, significant_from, significant_tokens}
 use Rattle.justfile_model.specs.Tok.{Tok, tok_of}
 use Rattle.justfile_model.specs.Tree.{Tree, lexeme}
+use Rattle.justfile_model.proofs.LexedLaws.{one_list, never_both}
 use Rattle.justfile_model.proofs.Agreement.{sound, complete}
 use Rattle.justfile_model.proofs.Steps.{after_accept}
 use Rattle.justfile_parse.specs.Given.{IsGivenItem, IsGivenExpression, IsInTable}
@@ -38,6 +42,7 @@ use Rattle.justfile_parse.specs.Reading.{IsEnd, IsPast, StopsAt}
 use Rattle.justfile_parse.specs.Significant.{significant_of}
 use Rattle.justfile_parse.specs.declared.stop.Stop.{Stop}
 use Rattle.justfile_parse.specs.declared.stop.Stop.TheVariants as stops
+use Rattle.justfile_parse.proofs.NotInternal.{not_internal}
 use Rattle.justfile_parse.proofs.Values.{plain_text}
 use Rattle.justfile_tree.specs.Expression.{expr_of, expr_cooked}
 use Rattle.justfile_tree.specs.declared.expression.Expression.{Expression}
@@ -196,35 +201,52 @@ module _ (expander : Answers) (current : VersionNumbers) (tokens : List Token) (
   parsed_of all file_depth ast h stable =
       record {
         derives = derives_of (map item_of ast.items.items) h.read;
-        cooks = cooks_of expander (IsInTable table) file_depth ast.items.items h.given.given;
-        numbered = h.given.numbered;
-        counted = h.given.counted;
-        given = given_tokens expander tokens table file_depth ast.items.items all h.given.given;
-        stable = stable;
+        filled = record {
+          cooks = cooks_of expander (IsInTable table) file_depth ast.items.items h.given.given;
+          numbered = h.given.numbered;
+          counted = h.given.counted;
+          given = given_tokens expander tokens table file_depth ast.items.items all h.given.given;
+          stable = stable;
+        };
       }
 
 -- ---- a text
 
-module _ (expander : Answers) (current : VersionNumbers) (path src : List ℕ) (tokens : List Token) (lexed : Lexed src (map tok_of tokens)) (all : All (IsFrom path src) tokens) (old new : Numerator) where
+module _ (expander : Answers) (current : VersionNumbers) (path src : List ℕ) (utf8 : IsUtf8 src) (tokens : List Token) (lexed : Lexed src (map tok_of tokens)) (all : All (IsFrom path src) tokens) (old new : Numerator) where
   from_tokens : (t : Token) → Contains tokens t → IsFrom path src t
   from_tokens t h = All-contains (IsFrom path src) tokens t all h
 
+  derives_tokens : (tree : Tree) → TextDerives expander current src tree → FileDerives expander current (significant_tokens (map tok_of tokens)) tree
+  derives_tokens tree d =
+      let P : List Tok → Type 0 = λ ts. FileDerives expander current (significant_tokens ts) tree in
+      subst P (one_list src d.tokens (map tok_of tokens) d.lexed lexed) d.file
+
   pub no_tree : (fault : Fault) → IsUnparsed expander current (map tok_of tokens) (Contains tokens) old new fault → HasNoTree expander current path src old new fault
-  no_tree (faults.Compile e) h = inr (record { tokens = map tok_of tokens; lexed = lexed; unparsed = (h.0, from_tokens e.token h.1, h.2) })
+  no_tree (faults.Compile e) h = record { derives_none = λ tree d. h.0 tree (derives_tokens tree d); from = from_tokens e.token h.1; not_internal = h.2; cause = inr (map tok_of tokens, lexed) }
   no_tree faults.Memory h = tt
-  no_tree faults.Numbers h = record { tokens = map tok_of tokens; lexed = lexed; unparsed = h }
+  no_tree faults.Numbers h = (h.0, λ tree d suffice. h.1 tree (derives_tokens tree d) suffice)
 
   pub text_parsed : (file_depth : ℕ) (ast : Ast) → IsParsed expander current (map tok_of tokens) (Contains tokens) file_depth old new ast → IsParsedText expander current path src file_depth old new ast
   text_parsed file_depth ast h =
       record {
-        tokens = map tok_of tokens;
-        lexed = lexed;
-        parsed = record {
-          derives = h.derives;
-          cooks = h.cooks;
-          numbered = h.numbered;
-          counted = h.counted;
-          given = All-weaker (IsGivenItem expander (Contains tokens) file_depth) (IsGivenItem expander (IsFrom path src) file_depth) (given_weaker expander (Contains tokens) (IsFrom path src) from_tokens file_depth) ast.items.items h.given;
-          stable = h.stable;
+        derives = record { utf8 = utf8; tokens = map tok_of tokens; lexed = lexed; file = h.derives };
+        filled = record {
+          cooks = h.filled.cooks;
+          numbered = h.filled.numbered;
+          counted = h.filled.counted;
+          given = All-weaker (IsGivenItem expander (Contains tokens) file_depth) (IsGivenItem expander (IsFrom path src) file_depth) (given_weaker expander (Contains tokens) (IsFrom path src) from_tokens file_depth) ast.items.items h.filled.given;
+          stable = h.filled.stable;
         };
       }
+
+-- a text with a fault of lexing has no tree
+pub lexical : (expander : Answers) (current : VersionNumbers) (path src : List ℕ) (numerator : Numerator) (fault : Fault) → IsLexerFault path src fault → HasNoTree expander current path src numerator numerator fault
+lexical expander current path src numerator (faults.Compile e) h =
+    record {
+      derives_none = λ tree d. never_both src d.tokens h.fault (tok_of e.token) d.lexed h.is_fault;
+      from = h.from;
+      not_internal = not_internal src e.kind (tok_of e.token) (let P : LexicalFault → Type 0 = λ f. IsFault src f (tok_of e.token) in subst P (sym h.kind_is) h.is_fault);
+      cause = inl (h, refl);
+    }
+lexical expander current path src numerator faults.Memory h = tt
+lexical expander current path src numerator faults.Numbers h = absurd h

@@ -2,12 +2,14 @@
 use Rattle.std.specs.Prelude.{◌≡◌, ℕ, ◌⊎◌, ◌+◌, ◌-◌, ◌^◌, Bool, List, [], map, All, None, Result, Ok, IfOk}
 use Rattle.std.specs.Str.{IsUtf8}
 use Rattle.justfile_base.specs.CompileErrorKind.{internal_message}
+use Rattle.justfile_base.specs.declared.compile_error.CompileError.{CompileError}
 use Rattle.justfile_base.specs.Numerator.{bindings_of}
 use Rattle.justfile_base.specs.declared.fault.Fault.{Fault}
 use Rattle.justfile_base.specs.declared.fault.Fault.TheVariants as faults
 use Rattle.justfile_base.specs.declared.numerator.Numerator.{Numerator}
 use Rattle.justfile_base.specs.declared.token.Token.{Token}
 use Rattle.justfile_base.specs.declared.version.Version.{Version}
+use Rattle.justfile_canon.specs.RoundTrip.{TextDerives}
 use Rattle.justfile_file.specs.Ast.{tree_of, cooked_texts, binding_numbers}
 use Rattle.justfile_file.specs.Item.{item_of}
 use Rattle.justfile_file.specs.declared.ast.Ast.{Ast}
@@ -20,7 +22,6 @@ use Rattle.justfile_model.specs.Reader as reader
 use Rattle.justfile_model.specs.SignificantTokens.{SignificantToken, significant_tokens}
 use Rattle.justfile_model.specs.Tok.{Tok, tok_of}
 use Rattle.justfile_model.specs.Tree.{Tree, lexeme}
-use Rattle.justfile_canon.specs.RoundTrip.{TextDerives}
 use Rattle.justfile_parse.specs.Given.{IsGivenItem, IsGivenItems, IsInTable}
 use Rattle.justfile_parse.specs.Reading.{IsPast}
 use Rattle.justfile_parse.specs.declared.stop.Stop.{Stop}
@@ -54,44 +55,44 @@ pub record IsOneLex (tokens : List Token) : Type 0 where
   pub lexed : Lexed text (map tok_of tokens)
   pub source : All (λ t. t.src.now ≡ text) tokens
 
--- The file's tokens derive its tree. Its literals have their texts, its bindings the numbers from the numerator's next on, and its
--- parts what the parser gives them. It uses nothing unstable.
-pub record IsParsed (expander : Answers) (current : VersionNumbers) (tokens : List Tok) (IsToken : Token → Type 0) (file_depth : ℕ) (old new : Numerator) (ast : Ast) : Type 0 where
-  pub derives : FileDerives expander current (significant_tokens tokens) (tree_of ast)
+-- What a file has beside its tree: its literals their texts, its bindings the numbers from the numerator's next on, its parts what the
+-- parser gives them. It uses nothing unstable.
+pub record IsFilled (expander : Answers) (IsToken : Token → Type 0) (file_depth : ℕ) (old new : Numerator) (ast : Ast) : Type 0 where
   pub cooks : Cooks expander (map lexeme (literals (tree_of ast))) (cooked_texts ast)
   pub numbered : NumbersFrom (bindings_of old) (binding_numbers ast)
   pub counted : bindings_of new ≡ bindings_of old + bindings (tree_of ast)
   pub given : All (IsGivenItem expander IsToken file_depth) ast.items.items
   pub stable : ast.unstable_features.keys ≡ []
 
--- The fault says why there is no tree: no tree derives, which an error at one of the tokens says and never as a fault of the program, or the numbers don't suffice. Want
--- of memory says nothing.
+-- the file's tokens derive its tree
+pub record IsParsed (expander : Answers) (current : VersionNumbers) (tokens : List Tok) (IsToken : Token → Type 0) (file_depth : ℕ) (old new : Numerator) (ast : Ast) : Type 0 where
+  pub derives : FileDerives expander current (significant_tokens tokens) (tree_of ast)
+  pub filled : IsFilled expander IsToken file_depth old new ast
+
+-- The fault says why there is no tree: no tree derives, which an error says at one of the tokens and never as a fault of the program, or
+-- the numbers don't suffice. Want of memory says nothing.
 abbrev pub IsUnparsed : Answers → VersionNumbers → List Tok → (Token → Type 0) → Numerator → Numerator → Fault → Type 0
 IsUnparsed expander current tokens IsToken old new (faults.Compile e) = ((tree : Tree) → FileDerives expander current (significant_tokens tokens) tree → ⊥) × IsToken e.token × (internal_message e.kind ≡ None)
 IsUnparsed expander current tokens IsToken old new faults.Memory = Unit {0}
 IsUnparsed expander current tokens IsToken old new faults.Numbers =
     (bindings_of new ≡ 2 ^ 32 - 1) × ((tree : Tree) → FileDerives expander current (significant_tokens tokens) tree → NumbersSuffice (bindings_of old) tree → ⊥)
 
--- the text has tokens, which are parsed
+-- the text derives the file's tree
 pub record IsParsedText (expander : Answers) (current : VersionNumbers) (path src : List ℕ) (file_depth : ℕ) (old new : Numerator) (ast : Ast) : Type 0 where
-  pub tokens : List Tok
-  pub lexed : Lexed src tokens
-  pub parsed : IsParsed expander current tokens (IsFrom path src) file_depth old new ast
+  pub derives : TextDerives expander current src (tree_of ast)
+  pub filled : IsFilled expander (IsFrom path src) file_depth old new ast
 
--- the text has tokens, and the fault says why they are not parsed
-pub record IsUnparsedText (expander : Answers) (current : VersionNumbers) (path src : List ℕ) (old new : Numerator) (fault : Fault) : Type 0 where
-  pub tokens : List Tok
-  pub lexed : Lexed src tokens
-  pub unparsed : IsUnparsed expander current tokens (IsFrom path src) old new fault
+-- The text derives no tree, which the error says at a part of the text and never as a fault of the program: it is the fault of lexing,
+-- which leaves the numerator as it was, or the text has tokens.
+pub record IsTreeless (expander : Answers) (current : VersionNumbers) (path src : List ℕ) (old new : Numerator) (e : CompileError) : Type 0 where
+  pub derives_none : (tree : Tree) → TextDerives expander current src tree → ⊥
+  pub from : IsFrom path src e.token
+  pub not_internal : internal_message e.kind ≡ None
+  pub cause : (IsLexicalError path src e × (new ≡ old)) ⊎ ((tokens : List Tok) × Lexed src tokens)
 
--- The fault says why the text has no tree: it has no tokens, which an error says and leaves the numerator as it was, or its tokens
--- are no file. Want of memory says nothing.
+-- the fault says why a text has no tree, or that the numbers don't suffice; want of memory says nothing
 abbrev pub HasNoTree : Answers → VersionNumbers → (path src : List ℕ) → Numerator → Numerator → Fault → Type 0
-HasNoTree expander current path src old new (faults.Compile e) = (IsLexicalError path src e × (new ≡ old)) ⊎ IsUnparsedText expander current path src old new (faults.Compile e)
+HasNoTree expander current path src old new (faults.Compile e) = IsTreeless expander current path src old new e
 HasNoTree expander current path src old new faults.Memory = Unit {0}
-HasNoTree expander current path src old new faults.Numbers = IsUnparsedText expander current path src old new faults.Numbers
-
--- an error says that the text derives no tree
-abbrev pub DerivesNone : Answers → VersionNumbers → (src : List ℕ) → Fault → Type 0
-DerivesNone expander current src (faults.Compile e) = (tree : Tree) → TextDerives expander current src tree → ⊥
-DerivesNone expander current src _ = Unit {0}
+HasNoTree expander current path src old new faults.Numbers =
+    (bindings_of new ≡ 2 ^ 32 - 1) × ((tree : Tree) → TextDerives expander current src tree → NumbersSuffice (bindings_of old) tree → ⊥)

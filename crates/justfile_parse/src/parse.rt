@@ -1,12 +1,10 @@
 ghost use Rattle.std.specs.Prelude.{◌≡◌, List, map, Contains, IfOk, IfErr, string_bytes};
 ghost use Rattle.justfile_base.specs.Modulepath.{module_names, names_of};
 ghost use Rattle.justfile_base.specs.Numerator.{constants_of, recipes_of};
-ghost use Rattle.justfile_canon.specs.RoundTrip.{TextDerives};
-ghost use Rattle.justfile_file.specs.Ast.{tree_of};
 ghost use Rattle.justfile_model.specs.Lexed.{Lexed};
 ghost use Rattle.justfile_model.specs.SignificantTokens.{identifiers, significant_tokens};
 ghost use Rattle.justfile_model.specs.Tok.{Tok, tok_of};
-ghost use Rattle.justfile_parse.specs.Parsing.{DerivesNone, HasNoTree, IsOneLex, IsParsed, IsParsedText, IsUnparsed, version_numbers};
+ghost use Rattle.justfile_parse.specs.Parsing.{HasNoTree, IsOneLex, IsParsed, IsParsedText, IsUnparsed, version_numbers};
 ghost use Rattle.justfile_parse.specs.Reading.{IsMoved, answers_by};
 
 use crate::parser::Parser;
@@ -72,8 +70,6 @@ impl<'src, X: Expander> Parser<'_, 'src, X> {
         expander: &X,
         current: Version,
     ) -> CompileResult<'src, Ast<'src>>
-        ensures derives { IfOk result (λ ast. TextDerives (answers_by X.answer expander.now) (version_numbers current) src.now (tree_of ast)) }
-        ensures derives_none { IfErr result (DerivesNone (answers_by X.answer expander.now) (version_numbers current) src.now) }
         ensures parsed { IfOk result (IsParsedText (answers_by X.answer expander.now) (version_numbers current) path.now src.now source.now.file_depth numerator.old numerator.new) }
         ensures module_path { IfOk result (λ ast. names_of ast.module_path ≡ module_names source.now.namepath) }
         ensures working_directory { IfOk result (λ ast. string_bytes ast.working_directory ≡ source.now.working_directory.now) }

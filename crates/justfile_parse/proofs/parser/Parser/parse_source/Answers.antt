@@ -1,5 +1,5 @@
-use Rattle.std.proofs.Common.{rules, sym, subst, List, map, All}
-use Rattle.std.proofs.lemmas.Result.{IfErr-weaker, IfOk-weaker}
+use Rattle.std.proofs.Common.{sym, subst, List, map, All}
+use Rattle.std.proofs.lemmas.Result.{err_from_is_err_and, IfErr-weaker, IfOk-weaker}
 use Rattle.justfile_base.specs.declared.token.Token.{Token}
 use Rattle.justfile_model.specs.Answers.{IsFrom}
 use Rattle.justfile_model.specs.Lexed.{Lexed}
@@ -8,8 +8,7 @@ use Rattle.justfile_model.specs.Tok.{Tok, tok_of}
 use Rattle.justfile_model.proofs.LexedLaws.{one_list}
 use Rattle.justfile_parse.specs.Parsing.{version_numbers}
 use Rattle.justfile_parse.specs.Reading.{IsMoved, answers_by}
-use Rattle.justfile_parse.proofs.Derived.{lexer_refuses, parser_refuses, text_derives}
-use Rattle.justfile_parse.proofs.Parsed.{no_tree, text_parsed}
+use Rattle.justfile_parse.proofs.Parsed.{lexical, no_tree, text_parsed}
 use Rattle.justfile_parse.proofs.parser.Parser.parse_source.Goals as goal
 
 pub returns-clause-no_tree : goal.returns-clause-no_tree
@@ -17,7 +16,7 @@ returns-clause-no_tree g c =
     let P : List Token → Type 0 = λ ts. Lexed c.args.src.now (map tok_of ts) in
     let Q : List Token → Type 0 = λ ts. All (IsFrom c.args.path.now c.args.src.now) ts in
     IfErr-weaker c.parse.result _ _
-    (no_tree (answers_by g.X.Expander.answer c.args.expander.now) (version_numbers c.args.current) c.args.path.now c.args.src.now c.as_slice.result.now
+    (no_tree (answers_by g.X.Expander.answer c.args.expander.now) (version_numbers c.args.current) c.args.path.now c.args.src.now c.utf8.src c.as_slice.result.now
     (subst P (sym c.as_slice.ensures.value) c.in_ok-tokens.ensures.tokens) (subst Q (sym c.as_slice.ensures.value) c.in_ok-tokens.ensures.source) c.args.numerator.now c.parse.new.numerator)
     c.parse.ensures.unparsed
 
@@ -26,7 +25,7 @@ returns-clause-parsed g c =
     let P : List Token → Type 0 = λ ts. Lexed c.args.src.now (map tok_of ts) in
     let Q : List Token → Type 0 = λ ts. All (IsFrom c.args.path.now c.args.src.now) ts in
     IfOk-weaker c.parse.result _ _
-    (text_parsed (answers_by g.X.Expander.answer c.args.expander.now) (version_numbers c.args.current) c.args.path.now c.args.src.now c.as_slice.result.now
+    (text_parsed (answers_by g.X.Expander.answer c.args.expander.now) (version_numbers c.args.current) c.args.path.now c.args.src.now c.utf8.src c.as_slice.result.now
     (subst P (sym c.as_slice.ensures.value) c.in_ok-tokens.ensures.tokens) (subst Q (sym c.as_slice.ensures.value) c.in_ok-tokens.ensures.source) c.args.numerator.now c.parse.new.numerator c.args.source.now.file_depth)
     c.parse.ensures.parsed
 
@@ -36,19 +35,7 @@ returns-clause-moved g c tokens lexed =
     let Q : List Tok → Type 0 = λ ts. IsMoved c.args.numerator.now c.parse.new.numerator (identifiers (significant_tokens ts)) in
     subst Q (one_list c.args.src.now _ tokens (subst P (sym c.as_slice.ensures.value) c.in_ok-tokens.ensures.tokens) lexed) c.parse.ensures.moved
 
-pub returns-clause-derives : goal.returns-clause-derives
-returns-clause-derives g c =
-    IfOk-weaker c.parse.result _ _
-    (text_derives (answers_by g.X.Expander.answer c.args.expander.now) (version_numbers c.args.current) c.args.path.now c.args.src.now c.utf8.src c.args.source.now.file_depth c.args.numerator.now c.parse.new.numerator)
-    (returns-clause-parsed g c)
-
-pub returns-clause-derives_none : goal.returns-clause-derives_none
-returns-clause-derives_none g c =
-    IfErr-weaker c.parse.result _ _
-    (parser_refuses (answers_by g.X.Expander.answer c.args.expander.now) (version_numbers c.args.current) c.args.path.now c.args.src.now c.args.numerator.now c.parse.new.numerator)
-    (returns-clause-no_tree g c)
-
-pub returns-in_err-tokens-clause-derives_none : goal.returns-in_err-tokens-clause-derives_none
-returns-in_err-tokens-clause-derives_none g c =
-    let refused = lexer_refuses (answers_by g.X.Expander.answer c.args.expander.now) (version_numbers c.args.current) c.args.path.now c.args.src.now c.in_err-tokens.field-0.0 c.in_err-tokens.ensures.fault in
-    search (rules, refused)
+pub returns-in_err-tokens-clause-no_tree : goal.returns-in_err-tokens-clause-no_tree
+returns-in_err-tokens-clause-no_tree g c =
+    let p = err_from_is_err_and c.from_residual.result c.from_residual.ensures.1 in
+    rw (p.1, p.2) (lexical (answers_by g.X.Expander.answer c.args.expander.now) (version_numbers c.args.current) c.args.path.now c.args.src.now c.args.numerator.now c.in_err-tokens.field-0.0 c.in_err-tokens.ensures.fault)
