@@ -1,5 +1,5 @@
 -- Printing from left to right gives the text of the normal shape.
-use Rattle.std.proofs.Common.{Result, Ok, Err, OnErr, ◌≡◌, ℕ, suc, ◌+◌, ◌<◌, List, [], ◌∷◌, ◌++◌, length, take, drop, get_or, map, codes, refl, sym, ap, ◌∙◌, subst, append_assoc, append-nil, arith}
+use Rattle.std.proofs.Common.{Result, Ok, Err, OnErr, ◌≡◌, ℕ, ◌+◌, ◌<◌, List, [], ◌∷◌, ◌++◌, length, take, drop, get_or, map, codes, refl, sym, ap, ◌∙◌, subst, append_assoc, append-nil}
 use Rattle.std.proofs.lemmas.List.{take_more, map-append, take-append-drop}
 use Rattle.justfile_model.specs.Tree as tree
 use Rattle.justfile_model.specs.Tree.{Shape}
@@ -7,7 +7,7 @@ use Rattle.justfile_model.specs.NormalShape.{behind_newline, normal_rest, normal
 use Rattle.justfile_model.specs.Printing.{piece, item_text, item_end, text}
 use Rattle.justfile_file.specs.declared.gap.Gap.{Gap}
 use Rattle.justfile_file.specs.declared.gap.Gap.TheVariants.{Start, Item, Line, Blank}
-use Rattle.justfile_file.specs.Gap.{ItemShape, gap_text, wider, next_gap, step_text, front_text, last_gap, end_text}
+use Rattle.justfile_file.specs.Gap.{ItemShape, gap_text, next_gap, step_text, front_text, last_gap, end_text}
 
 -- items from a gap to the end of the file
 abbrev tail_text : Gap → Shape → List ℕ

@@ -1,2 +1,4 @@
+pub mod Copied
 pub mod Gaps
 pub mod PrintedBack
+pub mod SigilLaws

@@ -1,11 +1,9 @@
 -- Printing promises what the round trip proves.
-use Rattle.std.proofs.Common.{◌≡◌, ℕ, List, Ok, Err, Result, IfOk, string_bytes, sym, ap, ◌∙◌, subst}
+use Rattle.std.proofs.Common.{◌≡◌, ℕ, List, sym, ap, ◌∙◌, subst}
 use Rattle.justfile_base.specs.Indentation.{IsIndentation}
-use Rattle.justfile_model.specs.Tree.{Tree, Shape, shape_of}
+use Rattle.justfile_model.specs.Tree.{Shape, shape_of}
 use Rattle.justfile_model.specs.NormalShape.{normal}
-use Rattle.justfile_model.specs.Literals.{Answers}
-use Rattle.justfile_model.specs.Files.{VersionNumbers}
-use Rattle.justfile_canon.specs.RoundTrip.{TextDerives, ReadsBack, printed}
+use Rattle.justfile_canon.specs.RoundTrip.{ReadsBack, printed}
 use Rattle.justfile_canon.proofs.RoundTrip.{back, apart}
 use Rattle.justfile_file.specs.PrintsBack.{PrintsBack}
 

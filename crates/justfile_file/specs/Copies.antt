@@ -6,8 +6,11 @@ use Rattle.justfile_tree.specs.declared.expression.Expression.{Expression}
 use Rattle.justfile_tree.specs.Copies.{IsSameExpression}
 use Rattle.justfile_file.specs.declared.ast.Ast.{Ast}
 use Rattle.justfile_file.specs.declared.binding.Binding.{Binding}
+use Rattle.justfile_file.specs.declared.fragment.Fragment.{Fragment}
+use Rattle.justfile_file.specs.declared.fragment.Fragment.TheVariants.{Interpolation, Text}
 use Rattle.justfile_file.specs.declared.item.Item.{Item}
 use Rattle.justfile_file.specs.declared.item.Item.TheVariants.{Assignment, Comment, Newline}
+use Rattle.justfile_file.specs.declared.line.Line.{Line}
 
 -- the same fields
 pub record IsSameAssignment (copy original : Binding Expression) : Type 0 where
@@ -24,6 +27,17 @@ IsSameItem (Assignment copy) (Assignment original) = IsSameAssignment copy origi
 IsSameItem (Comment copy) (Comment original) = copy ≡ original
 IsSameItem Newline Newline = Unit {0}
 IsSameItem _ _ = ⊥
+
+-- the same case with the same fields
+abbrev pub IsSameFragment : (copy original : Fragment) → Type 0
+IsSameFragment (Interpolation copy) (Interpolation original) = IsSameExpression copy original
+IsSameFragment (Text copy) (Text original) = copy ≡ original
+IsSameFragment _ _ = ⊥
+
+-- the same fragments and the same number
+pub record IsSameLine (copy original : Line) : Type 0 where
+  pub fragments : AllZip IsSameFragment copy.fragments.items original.fragments.items
+  pub number : copy.number ≡ original.number
 
 -- the same file, in memory of its own
 pub record IsSameAst (copy original : Ast) : Type 0 where

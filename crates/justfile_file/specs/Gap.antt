@@ -2,7 +2,7 @@
 use Rattle.std.specs.Prelude.{ℕ, List, [], ◌∷◌, ◌++◌, codes}
 use Rattle.justfile_model.specs.Tree as tree
 use Rattle.justfile_model.specs.Tree.{Shape}
-use Rattle.justfile_model.specs.Printing.{piece, item_text}
+use Rattle.justfile_model.specs.Printing.{item_text}
 use Rattle.justfile_file.specs.declared.gap.Gap.{Gap}
 use Rattle.justfile_file.specs.declared.gap.Gap.TheVariants.{Start, Item, Line, Blank}
 

@@ -4,10 +4,16 @@
 pub mod assignment;
 pub mod ast;
 pub mod binding;
+pub mod fragment;
 mod gap;
 pub mod item;
+pub mod line;
+pub mod sigil;
 
 pub use crate::assignment::Assignment;
 pub use crate::ast::Ast;
 pub use crate::binding::Binding;
+pub use crate::fragment::Fragment;
 pub use crate::item::Item;
+pub use crate::line::Line;
+pub use crate::sigil::Sigil;

@@ -41,6 +41,10 @@ pub mod fault {
     pub use justfile_base::{CompileResult, Fault};
 }
 
+pub mod fragment {
+    pub use justfile_file::Fragment;
+}
+
 pub mod indentation {
     pub use justfile_base::Indentation;
 }
@@ -62,6 +66,19 @@ pub mod lexer {
     pub use justfile_lex::Lexer;
 }
 
+pub mod laws {
+    pub use justfile_canon::reads_back;
+    pub use justfile_model::grammar_laws::{counts, expanders, normal_twice, reads, shapes};
+    pub use justfile_model::laws::{
+        answer_for_all, eof_is_last, in_order, lines_start_at_column_0, offsets_rise, one_answer,
+        tiling,
+    };
+}
+
+pub mod line {
+    pub use justfile_file::Line;
+}
+
 pub mod modulepath {
     pub use justfile_base::Modulepath;
 }
@@ -76,6 +93,10 @@ pub mod namepath {
 
 pub mod numerator {
     pub use justfile_base::{Number, Numerator};
+}
+
+pub mod sigil {
+    pub use justfile_file::Sigil;
 }
 
 pub mod source {

@@ -1,1 +1,3 @@
+mod files;
 mod lexer;
+mod line;

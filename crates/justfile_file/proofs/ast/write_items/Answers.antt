@@ -1,4 +1,4 @@
-use Rattle.std.proofs.Common.{List, ℕ, arith}
+use Rattle.std.proofs.Common.{arith}
 use Rattle.justfile_file.specs.Item.{item_shape}
 use Rattle.justfile_file.proofs.Gaps.{at_err, took_next, failed_next, gap_next}
 use Rattle.justfile_file.proofs.ast.write_items.Goals as goal

@@ -1,0 +1,114 @@
+ghost use Rattle.std.specs.Prelude.{◌≡◌, ◌↔◌, IfOk, IsTrue};
+ghost use Rattle.std.specs.List.{AllZip, Contains};
+ghost use Rattle.std.specs.Option.{option_copied};
+ghost use Rattle.justfile_file.specs.Copies.{IsSameFragment, IsSameLine};
+ghost use Rattle.justfile_file.specs.Line.{IsComment, IsContinuation, IsEmpty, IsShebang, HasSigil, first_text, last_text};
+ghost use Rattle.justfile_file.specs.Sigil.{IsSigilOf};
+
+use crate::fragment::Fragment;
+use crate::sigil::Sigil;
+use std::alloc::{AllocError, Global};
+use std::collections::BTreeSet;
+
+/// A line of a recipe's body.
+#[derive(Debug, Drop)]
+pub struct Line<'src> {
+    pub fragments: Vec<Fragment<'src>>,
+    /// The line of the source that it stands on, from 0.
+    pub number: usize,
+}
+
+impl<'src> Line<'src> {
+    /// The same line once more.
+    pub fn clone(&self, alloc: Global) -> Result<Self, AllocError>
+        ensures { IfOk result (λ copy. IsSameLine copy self.now) }
+    {
+        Ok(Line {
+            fragments: copied(alloc, &self.fragments)?,
+            number: self.number,
+        })
+    }
+
+    /// Whether the line begins with a text that begins `#`.
+    pub fn is_comment(&self) -> bool
+        ensures { IsTrue result ↔ IsComment self.now }
+    {
+        self.first().is_some_and(|text| text.starts_with('#'))
+    }
+
+    /// Whether the line ends with a text that ends in a backslash.
+    pub fn is_continuation(&self) -> bool
+        ensures { IsTrue result ↔ IsContinuation self.now }
+    {
+        self.last().is_some_and(|text| text.ends_with('\\'))
+    }
+
+    /// Whether nothing is on the line.
+    pub fn is_empty(&self) -> bool
+        ensures { IsTrue result ↔ IsEmpty self.now }
+    {
+        self.fragments.is_empty()
+    }
+
+    /// Whether the line begins with a text that begins `#!`.
+    pub fn is_shebang(&self) -> bool
+        ensures { IsTrue result ↔ IsShebang self.now }
+    {
+        self.first().is_some_and(|text| text.starts_with("#!"))
+    }
+
+    /// The sigils at the front of the line, each once. `?` is one only with guards.
+    pub fn sigils(&self, alloc: Global, guards: bool) -> Result<BTreeSet<Sigil>, AllocError>
+        ensures { IfOk result (λ sigils. (s : Sigil) → Contains sigils.keys s ↔ HasSigil guards self.now s) }
+    {
+        match self.first() {
+            Some(text) => front_sigils(alloc, text.as_bytes(), guards),
+            None => Ok(BTreeSet::new(alloc)),
+        }
+    }
+
+    /// The text that the line begins with, if it begins with one.
+    fn first(&self) -> Option<&'src str>
+        ensures { option_copied result ≡ first_text self.now }
+    {
+        self.fragments.first()?.text()
+    }
+
+    /// The text that the line ends with, if it ends with one.
+    fn last(&self) -> Option<&'src str>
+        ensures { option_copied result ≡ last_text self.now }
+    {
+        self.fragments.last()?.text()
+    }
+}
+
+/// The same fragments once more.
+fn copied<'src>(
+    alloc: Global,
+    fragments: &[Fragment<'src>],
+) -> Result<Vec<Fragment<'src>>, AllocError>
+    ensures { IfOk result (λ copies. AllZip IsSameFragment copies.items fragments.now) }
+{
+    let mut copies = Vec::new(alloc);
+    for fragment in fragments {
+        let copy = fragment.clone(alloc)?;
+        copies.push(copy)?;
+    }
+    Ok(copies)
+}
+
+/// The sigils at the front of a text, up to another byte or one that stood before.
+fn front_sigils(alloc: Global, text: &[u8], guards: bool) -> Result<BTreeSet<Sigil>, AllocError>
+    ensures { IfOk result (λ sigils. (s : Sigil) → Contains sigils.keys s ↔ IsSigilOf guards text.now s) }
+{
+    let mut sigils = BTreeSet::new(alloc);
+    for &byte in text {
+        let Some(sigil) = Sigil::of_byte(byte, guards) else {
+            break;
+        };
+        if !sigils.insert(sigil)? {
+            break;
+        }
+    }
+    Ok(sigils)
+}

@@ -1,0 +1,202 @@
+//! That parsing, copying and printing succeed where there is memory, and what they answer.
+
+use crate::ast::Ast;
+use crate::expander::{ExpandFault, Expander};
+use crate::expression::Expression;
+use crate::fault::{CompileResult, Fault};
+use crate::indentation::Indentation;
+use crate::item::Item;
+use crate::lexer::Lexer;
+use crate::numerator::{Number, Numerator};
+use crate::parser::{Parser, significant};
+use crate::source::Source;
+use crate::token_kind::TokenKind;
+use crate::version::Version;
+use std::alloc::Global;
+use std::process::Abort;
+use std::test::Fail;
+
+const CURRENT: Version = Version {
+    major: 1,
+    minor: 58,
+    patch: 0,
+};
+
+/// An expander that leaves each text as it is.
+struct Unchanged;
+
+impl Expander for Unchanged {
+    ghost use Rattle.std.specs.Prelude.{Ok};
+
+    ghost answer = { λ _ text. Ok text };
+
+    fn expand(&self, alloc: Global, text: &str) -> Result<String, ExpandFault> {
+        Ok(text.to_string(alloc)?)
+    }
+}
+
+/// The file that a text is, which takes its numbers from the numerator.
+fn parse<'src>(
+    alloc: Global,
+    numerator: &mut Numerator,
+    text: &'src str,
+) -> CompileResult<'src, Ast<'src>> {
+    let source = Source {
+        file_depth: 2,
+        import_offsets: &[],
+        namepath: None,
+        working_directory: "/home",
+    };
+    Parser::parse_source(
+        alloc, numerator, "justfile", &source, text, &Unchanged, CURRENT,
+    )
+}
+
+/// The same, for a text that is a file.
+fn parsed<'src>(alloc: Global, first: u32, text: &'src str) -> Result<Ast<'src>, Fail> {
+    let mut numerator = Numerator::new(first);
+    match parse(alloc, &mut numerator, text) {
+        Ok(ast) => Ok(ast),
+        Err(Fault::Compile(_)) => Err(Fail::from("refused")),
+        Err(Fault::Memory) => Err(Fail::from("no memory")),
+        Err(Fault::Numbers) => Err(Fail::from("no numbers")),
+    }
+}
+
+/// What is seen of an item, in a line.
+fn shown(alloc: Global, item: &Item<'_>) -> Result<String, Fail> {
+    Ok(match item {
+        Item::Assignment(assignment) => {
+            let name = assignment.name;
+            let number = assignment.number.0;
+            let file_depth = assignment.file_depth;
+            let private = assignment.private;
+            match &assignment.value {
+                Expression::StringLiteral { string_literal } => {
+                    let cooked = string_literal.cooked.as_str();
+                    format!(in alloc; "{name} {number} {file_depth} {private} text {cooked:?}")?
+                }
+                Expression::Variable { name: variable, .. } => {
+                    format!(in alloc; "{name} {number} {file_depth} {private} name {variable}")?
+                }
+            }
+        }
+        Item::Comment(text) => format!(in alloc; "comment {text:?}")?,
+        Item::Newline => "newline".to_string(alloc)?,
+    })
+}
+
+#[test]
+fn items(rt: HostRuntime) -> Result<(), Fail> {
+    const ROWS: &[&str] = &[
+        "comment \"# top\"",
+        "newline",
+        "a 7 2 false text \"x \\\\y\"",
+        "comment \"# c\"",
+        "newline",
+        "newline",
+        "_b 8 2 true name a",
+        "newline",
+    ];
+    let ast = parsed(rt.alloc(), 7, "# top \na  :=  'x \\y'  # c  \n\n_b:=a\n")?;
+    assert_eq!(rt; ast.items.len(), ROWS.len());
+    for (item, row) in ast.items.iter().zip(ROWS) {
+        assert_eq!(rt; shown(rt.alloc(), item)?.as_str(), *row);
+    }
+    assert_eq!(rt; ast.working_directory.as_str(), "/home");
+    assert!(rt; ast.unstable_features.is_empty());
+    assert!(rt; ast.printable());
+    assert_eq!(rt; ast.indentation(), None);
+    Ok(())
+}
+
+#[test]
+fn copies(rt: HostRuntime) -> Result<(), Fail> {
+    let ast = parsed(rt.alloc(), 0, "a:='x' # c\n\n\n\nb:=a")?;
+    let copy = ast.clone(rt.alloc())?;
+    assert_eq!(rt; copy.items.len(), ast.items.len());
+    for (item, original) in copy.items.iter().zip(&ast.items) {
+        assert_eq!(rt;
+            shown(rt.alloc(), item)?.as_str(),
+            shown(rt.alloc(), original)?.as_str()
+        );
+    }
+    let printed = copy.print(rt.alloc(), Indentation::default())?;
+    assert_eq!(rt; printed.as_str(), "a := 'x' # c\n\n\nb := a\n");
+    let item = copy.items.first().ok_or("no item")?;
+    assert_eq!(rt;
+        item.print(rt.alloc(), Indentation::default())?.as_str(),
+        "a := 'x'"
+    );
+    if let Item::Assignment(assignment) = item {
+        assert_eq!(rt; assignment.to_string(rt.alloc())?.as_str(), "a := 'x'");
+        assert_eq!(rt; assignment.value.to_string(rt.alloc())?.as_str(), "'x'");
+    }
+    Ok(())
+}
+
+#[test]
+fn significant_tokens(rt: HostRuntime) -> Result<(), Fail> {
+    const ROWS: &[(TokenKind, bool)] = &[
+        (TokenKind::Identifier, false),
+        (TokenKind::ColonEquals, false),
+        (TokenKind::Identifier, true),
+        (TokenKind::Comment, false),
+        (TokenKind::Eof, true),
+    ];
+    let Ok(tokens) = Lexer::lex(rt.alloc(), "justfile", "a :=b #c") else {
+        return Err(Fail::from("refused"));
+    };
+    let table = significant(rt.alloc(), tokens.as_slice())?;
+    assert_eq!(rt; table.len(), ROWS.len());
+    for ((token, glued), (kind, mark)) in table.iter().zip(ROWS) {
+        assert_eq!(rt; (token.kind, *glued), (*kind, *mark));
+    }
+    Ok(())
+}
+
+#[test]
+fn numbers(rt: HostRuntime) -> Result<(), Fail> {
+    let ast = parsed(rt.alloc(), 4294967294, "a := b\n")?;
+    let number = match ast.items.first() {
+        Some(Item::Assignment(assignment)) => Some(assignment.number),
+        _ => None,
+    };
+    assert_eq!(rt; number, Some(Number(4294967294)));
+    let mut numerator = Numerator::new(4294967295);
+    assert!(rt;
+        matches!(
+            parse(rt.alloc(), &mut numerator, "a := b\n"),
+            Err(Fault::Numbers)
+        )
+    );
+    assert!(rt; matches!(parse(rt.alloc(), &mut numerator, "# a\n"), Ok(_)));
+    assert_eq!(rt; numerator.next_binding(), None);
+    assert_eq!(rt; numerator.next_recipe(), Some(Number(0)));
+    Ok(())
+}
+
+#[test]
+fn refusals(rt: HostRuntime) -> Result<(), Fail> {
+    const ROWS: &[(&str, usize)] = &[
+        ("a :=", 4),
+        ("a := if\n", 5),
+        ("a := assert\n", 5),
+        ("a := f 'x'\n", 7),
+        ("a := x'y'\n", 6),
+        ("a := '''x'''\n", 5),
+        ("a := \"\\n\"\n", 5),
+        ("  a := b\n", 0),
+        ("a\r:= b\n", 1),
+    ];
+    for (text, offset) in ROWS {
+        let mut numerator = Numerator::new(0);
+        let answer = parse(rt.alloc(), &mut numerator, text);
+        let refused = match &answer {
+            Err(Fault::Compile(error)) => Some(error.token.offset),
+            _ => None,
+        };
+        assert_eq!(rt; refused, Some(*offset), "{text:?}");
+    }
+    Ok(())
+}
