@@ -1,9 +1,8 @@
-ghost use Rattle.std.specs.Prelude.{◌≡◌, OnOk, OnErr, IfOk, string_bytes, true, None};
+ghost use Rattle.std.specs.Prelude.{◌≡◌, OnOk, OnErr, IfOk, map, string_bytes, true, None};
+ghost use Rattle.std.specs.List.{AllZip};
 ghost use Rattle.justfile_base.specs.Indentation.{indentation_text};
 ghost use Rattle.justfile_model.specs.NormalShape.{normal};
 ghost use Rattle.justfile_model.specs.Printing.{text};
-ghost use Rattle.std.specs.Prelude.{map};
-ghost use Rattle.std.specs.List.{AllZip};
 ghost use Rattle.justfile_file.specs.Ast.{ast_shape};
 ghost use Rattle.justfile_file.specs.Copies.{IsSameItem};
 ghost use Rattle.justfile_file.specs.Gap.{front_text, end_text};
@@ -33,14 +32,14 @@ pub struct Ast<'src> {
 impl<'src> Ast<'src> {
     ghost use Rattle.justfile_file.specs.Copies.{IsSameAst};
 
-    /// The indentation that the file sets for itself: none yet.
+    /// The indentation that the file sets for itself: none so far.
     pub fn indentation(&self) -> Option<Indentation>
         ensures { result ≡ None }
     {
         None
     }
 
-    /// Whether the printed text parses back: true of every file yet.
+    /// Whether the printed text parses back: true of every file so far.
     pub fn printable(&self) -> bool
         ensures { result ≡ true }
     {

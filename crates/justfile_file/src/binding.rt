@@ -1,4 +1,4 @@
-use justfile_base::{Name, Number};
+use justfile_base::{Keyed, Name, Number};
 
 /// What a name stands for.
 #[derive(Debug, Drop)]
@@ -11,4 +11,15 @@ pub struct Binding<'src, V> {
     /// Whether lists of variables leave it out.
     pub private: bool,
     pub value: V,
+}
+
+/// The key of a binding is its name.
+impl<'src, V> Keyed<'src> for Binding<'src, V> {
+    ghost use Rattle.justfile_base.specs.Name.{name_text};
+
+    ghost key_text = { λ binding. name_text binding.name };
+
+    fn key(&self) -> &'src str {
+        self.name.token.lexeme()
+    }
 }

@@ -1,9 +1,10 @@
 //! Laws of the grammar, each the contract of a function that does nothing.
-ghost use Rattle.std.specs.Prelude.{◌≡◌, ◌≤◌, ℕ, ◌+◌, List, map, Ok, Some};
+ghost use Rattle.std.specs.Prelude.{◌≡◌, ◌<◌, ◌≤◌, ℕ, ◌+◌, List, length, map, slice_index, Ok, Some};
 ghost use Rattle.justfile_base.specs.declared.token_kind.TokenKind.TheVariants.{Identifier};
-ghost use Rattle.justfile_model.specs.Files.{VersionNumbers, FileTree, FileDerives, ShapeDerives, literals, bindings};
+ghost use Rattle.justfile_model.specs.Files.{VersionNumbers, FileTree, FileDerives, NumbersFrom, ShapeDerives, literals, bindings};
 ghost use Rattle.justfile_model.specs.Literals.{Answers, Within, Cooks};
 ghost use Rattle.justfile_model.specs.NormalShape.{normal};
+ghost use Rattle.justfile_model.specs.Printing.{text};
 ghost use Rattle.justfile_model.specs.Reader.{accept, assignment, file, items, with_front};
 ghost use Rattle.justfile_model.specs.SignificantTokens.{SignificantToken, identifiers};
 ghost use Rattle.justfile_model.specs.Tok.{Tok};
@@ -45,4 +46,14 @@ pub fn normal_twice()
 pub fn expanders()
     ensures tree { (E F : Answers) → Within E F → (V : VersionNumbers) (ts : List SignificantToken) (tree : Tree) → FileDerives E V ts tree → FileDerives F V ts tree }
     ensures shape { (E F : Answers) → Within E F → (V : VersionNumbers) (ts : List SignificantToken) (shape : Shape) → ShapeDerives E V ts shape → ShapeDerives F V ts shape }
+{}
+
+/// The printed text is a function of the normal shape and the indentation.
+pub fn printing()
+    ensures { (s r : Shape) (indentation : List ℕ) → normal s ≡ normal r → text (normal s) indentation ≡ text (normal r) indentation }
+{}
+
+/// The numbers that one parse gives are distinct, and rise in the order of parsing.
+pub fn numbers_rise()
+    ensures { (first : ℕ) (numbers : List ℕ) → NumbersFrom first numbers → (i j : ℕ) → i < j → j < length numbers → slice_index numbers i < slice_index numbers j }
 {}

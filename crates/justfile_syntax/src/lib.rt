@@ -68,7 +68,9 @@ pub mod lexer {
 
 pub mod laws {
     pub use justfile_canon::reads_back;
-    pub use justfile_model::grammar_laws::{counts, expanders, normal_twice, reads, shapes};
+    pub use justfile_model::grammar_laws::{
+        counts, expanders, normal_twice, numbers_rise, printing, reads, shapes,
+    };
     pub use justfile_model::laws::{
         answer_for_all, eof_is_last, in_order, lines_start_at_column_0, offsets_rise, one_answer,
         tiling,

@@ -1,5 +1,6 @@
 -- What the program makes of a justfile.
 use Rattle.std.specs.Prelude.{◌≡◌, ◌≢◌, ℕ, List, Option, Some, Ok, codes}
+use Rattle.std.specs.Str.{IsUtf8}
 use Rattle.std.specs.Io.KnownBytes.{Appends}
 use Rattle.justfile_model.specs.Files.{VersionNumbers}
 use Rattle.justfile_model.specs.Literals.{Answers}
@@ -22,8 +23,9 @@ pub record IsFormatted (source canonical : List ℕ) : Type 0 where
   pub derives : TextDerives unchanged current source tree
   pub is : canonical ≡ printed (shape_of tree) (codes "    ")
 
--- the text is no justfile
+-- the bytes are a text that is no justfile
 pub record IsRefused (source : List ℕ) : Type 0 where
+  pub utf8 : IsUtf8 source
   pub derives_none : (tree : Tree) → TextDerives unchanged current source tree → ⊥
 
 -- the canonical text was written behind what was written before

@@ -56,6 +56,17 @@ fn read_all<R: Read>(alloc: Global, reader: &mut R) -> Result<Vec<u8>, Failure>
     }
 }
 
+/// The text that the bytes are.
+fn text_of(bytes: &[u8]) -> Result<&str, Failure>
+    ensures ok { IfOk result (λ text. text.now ≡ bytes.now) }
+    ensures err { IfErr result IsOfMachine }
+{
+    match str::from_utf8(bytes) {
+        Ok(text) => Ok(text),
+        Err(_) => Err(Failure::NotUtf8),
+    }
+}
+
 fn write_all<W: Write>(text: &str, writer: &mut W) -> Result<(), Failure>
     ensures ok { OnOk result (Appends (W.contents writer.old) (W.contents writer.new) text.now) }
     ensures err { IfErr result IsOfMachine }
@@ -71,11 +82,10 @@ fn format<R: Read, W: Write>(alloc: Global, reader: &mut R, writer: &mut W) -> R
     ensures ok { OnOk result (IfSome (R.remaining reader.old) (λ source. Formats source (W.contents writer.old) (W.contents writer.new))) }
     ensures refused { result ≡ Err failures.Refused → IfSome (R.remaining reader.old) IsRefused }
     ensures printable { result ≡ Err failures.NotPrintable → ⊥ }
+    ensures writes_nothing { result ≡ Err failures.Refused → writer.new ≡ writer.old }
 {
     let bytes = read_all(alloc, reader)?;
-    let Ok(source) = str::from_utf8(&bytes) else {
-        return Err(Failure::NotUtf8);
-    };
+    let source = text_of(&bytes)?;
     let canonical = formatted(alloc, source)?;
     write_all(canonical.as_str(), writer)
 }
@@ -88,9 +98,7 @@ fn check<R: Read>(alloc: Global, reader: &mut R) -> Result<bool, Failure>
     ensures printable { result ≡ Err failures.NotPrintable → ⊥ }
 {
     let bytes = read_all(alloc, reader)?;
-    let Ok(source) = str::from_utf8(&bytes) else {
-        return Err(Failure::NotUtf8);
-    };
+    let source = text_of(&bytes)?;
     let canonical = formatted(alloc, source)?;
     Ok(source == canonical.as_str())
 }
@@ -106,10 +114,17 @@ pub fn run<R: Read, W: Write, E: Write>(
     errors: &mut E,
 ) -> u8
     ensures statuses { result ≤ 3 }
+    ensures usage { (map string_bytes arguments.now ≡ [] → ⊥) → (map string_bytes arguments.now ≡ codes "--check" ∷ [] → ⊥) → result ≡ 3 }
+    ensures usage_reads_nothing { (map string_bytes arguments.now ≡ [] → ⊥) → (map string_bytes arguments.now ≡ codes "--check" ∷ [] → ⊥) → reader.new ≡ reader.old }
+
     ensures formatted { map string_bytes arguments.now ≡ [] → result ≡ 0 → IfSome (R.remaining reader.old) (λ source. Formats source (W.contents writer.old) (W.contents writer.new)) }
     ensures canonical { map string_bytes arguments.now ≡ codes "--check" ∷ [] → result ≡ 0 → IfSome (R.remaining reader.old) (λ source. IsFormatted source source) }
-    ensures differs { result ≡ 1 → IfSome (R.remaining reader.old) Differs }
+    ensures differs { result ≡ 1 → (map string_bytes arguments.now ≡ codes "--check" ∷ []) × IfSome (R.remaining reader.old) Differs }
     ensures refused { result ≡ 2 → IfSome (R.remaining reader.old) IsRefused }
+
+    ensures written_asked { (map string_bytes arguments.now ≡ [] → ⊥) → writer.new ≡ writer.old }
+    ensures refused_writes_nothing { result ≡ 2 → writer.new ≡ writer.old }
+    ensures silent { result ≤ 1 → errors.new ≡ errors.old }
 {
     match Task::of(arguments) {
         Ok(Task::Format) => match format(alloc, reader, writer) {

@@ -1,0 +1,5 @@
+use Rattle.justfile_model.proofs.Numbers.{rise}
+use Rattle.justfile_model.proofs.grammar_laws.numbers_rise.Goals as goal
+
+pub returns : goal.returns
+returns c = rise
