@@ -64,7 +64,8 @@ is_interpolation_escape bs = is_interpolation_start bs && is_interpolation_start
 abbrev pub is_mixed : List ℕ → Bool
 is_mixed bs = list_any (λ b. b == 32) bs && list_any (λ b. b == 9) bs
 
--- the longest run of white bytes at the front ends in a line feed, and another byte follows it; an empty run ends in one where the flag says that the byte before it was one
+-- the longest run of white bytes at the front ends in a line feed, and another byte follows it; an empty run ends in one
+-- where the flag says that the byte before it was one
 unfoldable pub closes_levels : Bool → List ℕ → Bool
 closes_levels last [] = false
 closes_levels last (b ∷ bs) = if white (class_of b) then closes_levels (line_feed (class_of b)) bs else last

@@ -22,7 +22,8 @@ is_delimiter k bs =
     if k.indented then slice_index bs 0 == quote_of k.delimiter && slice_index bs 1 == quote_of k.delimiter && slice_index bs 2 == quote_of k.delimiter
     else slice_index bs 0 == quote_of k.delimiter
 
--- how many bytes the first one hides: in double quotes a backslash hides the next byte, or in a format string all of a `{{{{`; in a format string and in body text the first brace of a `{{{{` hides the others
+-- How many bytes the first one hides. In double quotes a backslash hides the next byte, or in a format string all of a
+-- `{{{{`. In a format string and in body text the first brace of a `{{{{` hides the others.
 abbrev pub hides : RawText → List ℕ → ℕ
 hides Comment bs = 0
 hides Body bs = if is_interpolation_escape bs then 3 else 0

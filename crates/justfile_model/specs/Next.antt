@@ -74,7 +74,8 @@ abbrev pub is_backtick : StringDelimiter → Bool
 is_backtick delimiters.Backtick = true
 is_backtick _ = false
 
--- a literal, or a part of a format string, whose opener is so many bytes long and whose inside is so many: it has no end, or it ends with `{{` and more follows, or with the delimiter
+-- a literal, or a part of a format string, whose opener is so many bytes long and whose inside is so many: it has no end,
+-- or it ends with `{{` and more follows, or with the delimiter
 abbrev pub literal_part_by : StringKind → (format : Bool) → (opener inside : ℕ) → (more whole : TokenKind) → List ℕ → Found
 literal_part_by k format opener inside more whole rest =
     if inside == length (drop opener rest) then Err (Here (unterminated k.delimiter) 0 opener)
@@ -238,7 +239,10 @@ is_level levels found = is_empty found || list_any (λ l. bytes_eq l found) leve
 abbrev pub is_blank_line : List ℕ → Bool
 is_blank_line behind = is_line_end behind || is_empty behind
 
--- the run of blanks that is found at column 0, and what is behind it: the first of these that fits. Something is open; the line is blank, and levels may close; the current level; another open level, so that one closes; more blanks of a body's line; mixed; not begun by the level; a new level
+-- The run of blanks that is found at column 0, and what is behind it. The first of these that fits: a delimiter or an
+-- interpolation is open; the line is blank, and levels may close; the blanks are the current level; they are another open
+-- level, so that one closes; in a body they go on behind the level; they mix spaces and tabs; they don't begin with the
+-- level; they are a new level.
 unfoldable pub layout : Mode → (found behind rest : List ℕ) → Found
 layout m found behind rest =
     if nested m then blanks_or (length found) m rest
