@@ -1,3 +1,11 @@
+pub mod Bodies
+pub mod BodyDerives
+pub mod BodyFacts
+pub mod BodyFollows
+pub mod BodyGood
+pub mod BodyLines
+pub mod BodyTokens
+pub mod BodyUtf8
 pub mod Canon
 pub mod Comments
 pub mod DerivesBack
@@ -8,8 +16,9 @@ pub mod Inline
 pub mod LexesBack
 pub mod Lines
 pub mod Literals
+pub mod Quoted
+pub mod RawTexts
 pub mod Reading
 pub mod RoundTrip
 pub mod Sound
 pub mod Written
-pub mod Quoted

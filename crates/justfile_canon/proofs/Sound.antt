@@ -181,7 +181,7 @@ Sound s comment [] = Unit {0}
 Sound s comment (t ∷ ts) = Known s comment t.tok × Sound (around t.tok.kind s) (is_comment t.tok.kind) ts
 
 -- each token is the next one in the mode that those before it leave
-abbrev Runs : Mode → List ℕ → List Tok → Type 0
+abbrev pub Runs : Mode → List ℕ → List Tok → Type 0
 Runs m rest [] = Unit {0}
 Runs m rest (t ∷ ts) = (behind : List ℕ) × (rest ≡ t.lexeme ++ behind) × (next m rest ≡ Ok (t.kind, length t.lexeme)) × Runs (after t.kind t m) behind ts
 
@@ -249,14 +249,14 @@ abbrev pub outside : Around
 outside = record { delimiters = 0; interpolation = false }
 
 module _ (text : List ℕ) where
-  runs_one : (e : List Tok) (t : Tok) (ts : List Tok) → IsNext text e t → Runs (mode (t ∷ e)) (drop (end_of (t ∷ e)) text) ts → Runs (mode e) (drop (end_of e) text) (t ∷ ts)
+  pub runs_one : (e : List Tok) (t : Tok) (ts : List Tok) → IsNext text e t → Runs (mode (t ∷ e)) (drop (end_of (t ∷ e)) text) ts → Runs (mode e) (drop (end_of e) text) (t ∷ ts)
   runs_one e t ts n r =
       let rest : List ℕ = drop (end_of e) text in
       let lexeme : t.lexeme ≡ take (length t.lexeme) rest = n.stands.lexeme_is ∙ ap (λ o. slice_of text o (length t.lexeme)) n.stands.offset_is in
       let behind : drop (end_of (t ∷ e)) text ≡ drop (length t.lexeme) rest = ap (λ o. drop (o + length t.lexeme) text) n.stands.offset_is ∙ drop_drop (end_of e) (length t.lexeme) text in
       (drop (length t.lexeme) rest, sym (take-append-drop (length t.lexeme) rest) ∙ ap (λ l. l ++ drop (length t.lexeme) rest) (sym lexeme), n.found, subst (λ b. Runs (mode (t ∷ e)) b ts) behind r)
 
-  runs_from : (e ts : List Tok) → Begins text e → Runs (mode e) (drop (end_of e) text) ts → Runs start text (reverse e ++ ts)
+  pub runs_from : (e ts : List Tok) → Begins text e → Runs (mode e) (drop (end_of e) text) ts → Runs start text (reverse e ++ ts)
   runs_from [] ts b r = r
   runs_from (t ∷ e) ts b r =
       let moved : reverse e ++ (t ∷ ts) ≡ reverse (t ∷ e) ++ ts = sym (append_assoc (reverse e) (t ∷ []) ts) ∙ ap (λ l. l ++ ts) (sym (reverse-append (t ∷ []) e)) in
