@@ -1,39 +1,38 @@
 -- The parser adds items.
-use Rattle.std.proofs.Common.{◌≡◌, ℕ, Bool, ◌+◌, List, [], ◌∷◌, ◌++◌, Some, None, Result, IfOk, sym, ap, ◌∙◌, subst}
+use Rattle.std.proofs.Common.{◌≡◌, ℕ, Bool, ◌+◌, List, [], ◌∷◌, ◌++◌, Some, None, Result, sym, ap, ◌∙◌, subst}
 use Rattle.std.specs.Borrow.{Bor}
 use Rattle.justfile_base.specs.declared.token.Token.{Token}
 use Rattle.justfile_file.specs.Item.{item_of, item_numbers}
 use Rattle.justfile_file.specs.declared.item.Item.{Item}
 use Rattle.justfile_base.specs.declared.token_kind.TokenKind.TheVariants as kinds
-use Rattle.justfile_model.specs.Files.{NumbersFrom, bindings, item_bindings}
-use Rattle.justfile_model.specs.Reader.{Read, accept, comment_item, on_line, line_end, behind, line}
+use Rattle.justfile_model.specs.Files.{NumbersFrom, item_bindings}
+use Rattle.justfile_model.specs.Reader.{accept, comment_item, on_line, line_end, behind, line}
 use Rattle.justfile_model.specs.SignificantTokens.{SignificantToken}
-use Rattle.justfile_model.specs.Tok.{Tok}
-use Rattle.justfile_model.specs.Tree as tree
 use Rattle.justfile_model.specs.Tree.{Tree}
 use Rattle.justfile_parse.specs.declared.stop.Stop.{Stop}
 use Rattle.justfile_parse.specs.declared.stop.Stop.TheVariants.{Refused, Memory, Numbers}
-use Rattle.justfile_parse.proofs.Lines.{behind_comment, line_fails, line_short}
-use Rattle.justfile_parse.specs.Given.{IsInTable, IsGivenItem, IsGivenItems, IsPlainItem}
-use Rattle.justfile_parse.specs.Reading.{IsPast, StopsAt, after, answers_by, refusal_at}
-use Rattle.justfile_parse.specs.View.{rest_of, IsSameRun, IsGivenBy, AddsPlain, Adds}
+use Rattle.justfile_parse.proofs.Lines.{behind_comment, line_fails}
+use Rattle.justfile_parse.specs.Given.{IsInTable, IsGivenItem, IsGivenItems, IsUnnumberedItem}
+use Rattle.justfile_parse.specs.Reading.{StopsAt, after, answers_by, refusal_at}
+use Rattle.justfile_parse.specs.WantsNumber.{LacksNumber}
+use Rattle.justfile_parse.specs.View.{rest_of, IsSameRun, IsGivenBy, AddsUnnumbered, Adds}
 use Rattle.justfile_parse.specs.declared.parser.Parser.{Parser}
-use Rattle.justfile_parse.proofs.GivenLemmas.{given_push, given_plain}
+use Rattle.justfile_parse.proofs.GivenLemmas.{given_push, given_unnumbered}
 
 module _ {X : Type 0} (answer : X → List ℕ → Result (List ℕ) (List ℕ)) (p : Parser X) where
-  pub plain_none : (items : List Item) → AddsPlain answer p items items
-  plain_none items = record { adds = λ first next h. h }
+  pub unnumbered_none : (items : List Item) → AddsUnnumbered answer p items items
+  unnumbered_none items = record { adds = λ first next h. h }
 
-  pub plain_item : (items new : List Item) (item : Item) → new ≡ items ++ item ∷ [] → IsPlainItem item → AddsPlain answer p items new
-  plain_item items new item is plain =
+  pub unnumbered_item : (items new : List Item) (item : Item) → new ≡ items ++ item ∷ [] → IsUnnumberedItem item → AddsUnnumbered answer p items new
+  unnumbered_item items new item is unnumbered =
       record {
         adds = λ first next h.
             let P : List Item → Type 0 = λ l. IsGivenBy answer p first next l in
-            subst P (sym is) (given_plain _ _ _ first next items h item plain);
+            subst P (sym is) (given_unnumbered _ _ _ first next items h item unnumbered);
       }
 
-  pub adds_plain : (items new : List Item) (got gets : ℕ) → AddsPlain answer p items new → gets ≡ got → Adds answer p got gets items new
-  adds_plain items new got gets h is = record { adds = λ first so_far. let P : ℕ → Type 0 = λ n. IsGivenBy answer p first n new in subst P (sym is) (h.adds first got so_far) }
+  pub adds_unnumbered : (items new : List Item) (got gets : ℕ) → AddsUnnumbered answer p items new → gets ≡ got → Adds answer p got gets items new
+  adds_unnumbered items new got gets h is = record { adds = λ first so_far. let P : ℕ → Type 0 = λ n. IsGivenBy answer p first n new in subst P (sym is) (h.adds first got so_far) }
 
   pub adds_item : (items new : List Item) (item : Item) (got gets : ℕ) → new ≡ items ++ item ∷ [] → IsGivenItem (answers_by answer p.expander.now) (IsInTable p.tokens.now) p.file_depth item → NumbersFrom got (item_numbers item) → gets ≡ got + item_bindings (item_of item) → Adds answer p got gets items new
   adds_item items new item got gets is given numbers counted =
@@ -59,14 +58,14 @@ module _ {X : Type 0} (answer : X → List ℕ → Result (List ℕ) (List ℕ))
         let R : ℕ → Type 0 = λ d. IsGivenItems (answers_by answer q.expander.now) (IsInTable q.tokens.now) d first next items in
         subst P same.expander (subst Q same.tokens (subst R same.file_depth h))
 
-    pub plain_later : (items new : List Item) → AddsPlain answer q items new → AddsPlain answer p items new
-    plain_later items new h = record { adds = λ first next so_far. back first next new (h.adds first next (there first next items so_far)) }
+    pub unnumbered_later : (items new : List Item) → AddsUnnumbered answer q items new → AddsUnnumbered answer p items new
+    unnumbered_later items new h = record { adds = λ first next so_far. back first next new (h.adds first next (there first next items so_far)) }
 
-    pub plain_then : (items more new : List Item) → AddsPlain answer p items more → AddsPlain answer q more new → AddsPlain answer p items new
-    plain_then items more new h k = record { adds = λ first next so_far. (plain_later more new k).adds first next (h.adds first next so_far) }
+    pub unnumbered_then : (items more new : List Item) → AddsUnnumbered answer p items more → AddsUnnumbered answer q more new → AddsUnnumbered answer p items new
+    unnumbered_then items more new h k = record { adds = λ first next so_far. (unnumbered_later more new k).adds first next (h.adds first next so_far) }
 
-    pub adds_then : (items more new : List Item) (got gets : ℕ) → Adds answer p got gets items more → AddsPlain answer q more new → Adds answer p got gets items new
-    adds_then items more new got gets h k = record { adds = λ first so_far. (plain_later more new k).adds first gets (h.adds first so_far) }
+    pub adds_then : (items more new : List Item) (got gets : ℕ) → Adds answer p got gets items more → AddsUnnumbered answer q more new → Adds answer p got gets items new
+    adds_then items more new got gets h k = record { adds = λ first so_far. (unnumbered_later more new k).adds first gets (h.adds first so_far) }
 
     pub adds_later : (items new : List Item) (got gets : ℕ) → Adds answer q got gets items new → Adds answer p got gets items new
     adds_later items new got gets h = record { adds = λ first so_far. back first gets new (h.adds first (there first got items so_far)) }
@@ -85,10 +84,11 @@ module _ {X : Type 0} (answer : X → List ℕ → Result (List ℕ) (List ℕ))
     -- the first item of a line is refused
     pub line_stops : (stop : Stop) (left : List SignificantToken) (n : ℕ) (done : Tree)
         → accept kinds.Eol (rest_of p) ≡ None → rest_of q ≡ rest_of p
-        → StopsAt stop left (IfOk (on_line (answers_by answer q.expander.now) (rest_of q)) (λ x. IsPast n (item_bindings x.0))) (on_line (answers_by answer q.expander.now) (rest_of q))
-        → StopsAt stop left (IfOk (line (answers_by answer p.expander.now) (rest_of p)) (λ x. IsPast n (bindings x.0))) (after done (line (answers_by answer p.expander.now) (rest_of p)))
+        → StopsAt stop left (LacksNumber (answers_by answer q.expander.now) (rest_of q) n) (on_line (answers_by answer q.expander.now) (rest_of q))
+        → StopsAt stop left (LacksNumber (answers_by answer p.expander.now) (rest_of p) n) (after done (line (answers_by answer p.expander.now) (rest_of p)))
     line_stops (Refused r) left n done none here h = line_fails (answers_by answer p.expander.now) done (rest_of p) (refusal_at r left) none (sym (read_there here) ∙ h)
     line_stops Memory left n done none here h = tt
     line_stops Numbers left n done none here h =
-        let P : Read (tree.Item Tok Tok) → Type 0 = λ found. IfOk found (λ x. IsPast n (item_bindings x.0)) in
-        line_short (answers_by answer p.expander.now) n (rest_of p) none (subst P (read_there here) h)
+        let P : Bor X → Type 0 = λ e. LacksNumber (answers_by answer e.now) (rest_of q) n in
+        let Q : List SignificantToken → Type 0 = λ ts. LacksNumber (answers_by answer p.expander.now) ts n in
+        subst Q here (subst P same.expander h)

@@ -11,7 +11,7 @@ use Rattle.justfile_file.specs.declared.item.Item.TheVariants.{Assignment, Comme
 use Rattle.justfile_model.specs.Files.{NumbersFrom, bindings, item_bindings}
 use Rattle.justfile_model.specs.Literals.{Answers}
 use Rattle.justfile_model.proofs.Counting.{bindings_append}
-use Rattle.justfile_parse.specs.Given.{IsGivenItem, IsGivenItems, IsPlainItem}
+use Rattle.justfile_parse.specs.Given.{IsGivenItem, IsGivenItems, IsUnnumberedItem}
 
 -- an item gets as many numbers as it has bindings
 numbers_from : (first counter : ℕ) (items : List Item) (more : List ℕ) → NumbersFrom first (flat_map item_numbers items) → counter ≡ first + bindings (map item_of items) → NumbersFrom counter more → NumbersFrom first (flat_map item_numbers items ++ more)
@@ -20,31 +20,31 @@ numbers_from first counter (Assignment a ∷ items) more h e h2 = (h.0, numbers_
 numbers_from first counter (Comment text ∷ items) more h e h2 = numbers_from first counter items more h (omega arith) h2
 numbers_from first counter (Newline ∷ items) more h e h2 = numbers_from first counter items more h (omega arith) h2
 
--- an item that gets nothing has no number
-module _ (item : Item) (plain : IsPlainItem item) where
-  pub plain_given : (expander : Answers) (IsToken : Token → Type 0) (file_depth : ℕ) → IsGivenItem expander IsToken file_depth item
-  plain_given expander IsToken file_depth = plain_is item plain
+-- an item that gets no number has none, nor anything else
+module _ (item : Item) (unnumbered : IsUnnumberedItem item) where
+  pub unnumbered_given : (expander : Answers) (IsToken : Token → Type 0) (file_depth : ℕ) → IsGivenItem expander IsToken file_depth item
+  unnumbered_given expander IsToken file_depth = is item unnumbered
     where
-      plain_is : (item : Item) → IsPlainItem item → IsGivenItem expander IsToken file_depth item
-      plain_is (Assignment a) h = absurd h
-      plain_is (Comment text) h = tt
-      plain_is Newline h = tt
+      is : (item : Item) → IsUnnumberedItem item → IsGivenItem expander IsToken file_depth item
+      is (Assignment a) h = absurd h
+      is (Comment text) h = tt
+      is Newline h = tt
 
-  pub plain_numbers : (next : ℕ) → NumbersFrom next (item_numbers item)
-  plain_numbers next = plain_is item plain
+  pub unnumbered_numbers : (next : ℕ) → NumbersFrom next (item_numbers item)
+  unnumbered_numbers next = is item unnumbered
     where
-      plain_is : (item : Item) → IsPlainItem item → NumbersFrom next (item_numbers item)
-      plain_is (Assignment a) h = absurd h
-      plain_is (Comment text) h = tt
-      plain_is Newline h = tt
+      is : (item : Item) → IsUnnumberedItem item → NumbersFrom next (item_numbers item)
+      is (Assignment a) h = absurd h
+      is (Comment text) h = tt
+      is Newline h = tt
 
-  pub plain_bindings : ◌≡◌ {A = ℕ} (item_bindings (item_of item)) 0
-  plain_bindings = plain_is item plain
+  pub unnumbered_bindings : ◌≡◌ {A = ℕ} (item_bindings (item_of item)) 0
+  unnumbered_bindings = is item unnumbered
     where
-      plain_is : (item : Item) → IsPlainItem item → ◌≡◌ {A = ℕ} (item_bindings (item_of item)) 0
-      plain_is (Assignment a) h = absurd h
-      plain_is (Comment text) h = refl
-      plain_is Newline h = refl
+      is : (item : Item) → IsUnnumberedItem item → ◌≡◌ {A = ℕ} (item_bindings (item_of item)) 0
+      is (Assignment a) h = absurd h
+      is (Comment text) h = refl
+      is Newline h = refl
 
 module _ (expander : Answers) (IsToken : Token → Type 0) (file_depth first next : ℕ) (items : List Item) (so_far : IsGivenItems expander IsToken file_depth first next items) where
   pub given_push : (item : Item) → IsGivenItem expander IsToken file_depth item → NumbersFrom next (item_numbers item) → IsGivenItems expander IsToken file_depth first (next + item_bindings (item_of item)) (items ++ item ∷ [])
@@ -57,8 +57,8 @@ module _ (expander : Answers) (IsToken : Token → Type 0) (file_depth first nex
         counted = omega (arith, so_far.counted, ap bindings (map-append item_of items (item ∷ [])), bindings_append (map item_of items) (item_of item ∷ []));
       }
 
-  pub given_plain : (item : Item) → IsPlainItem item → IsGivenItems expander IsToken file_depth first next (items ++ item ∷ [])
-  given_plain item plain =
+  pub given_unnumbered : (item : Item) → IsUnnumberedItem item → IsGivenItems expander IsToken file_depth first next (items ++ item ∷ [])
+  given_unnumbered item unnumbered =
       let P : ℕ → Type 0 = λ n. IsGivenItems expander IsToken file_depth first n (items ++ item ∷ []) in
-      let same : next + item_bindings (item_of item) ≡ next = omega (arith, plain_bindings item plain) in
-      subst P same (given_push item (plain_given item plain expander IsToken file_depth) (plain_numbers item plain next))
+      let same : next + item_bindings (item_of item) ≡ next = omega (arith, unnumbered_bindings item unnumbered) in
+      subst P same (given_push item (unnumbered_given item unnumbered expander IsToken file_depth) (unnumbered_numbers item unnumbered next))

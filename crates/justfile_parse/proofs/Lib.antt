@@ -9,3 +9,4 @@ pub mod Readings
 pub mod Rest
 pub mod SignificantLemmas
 pub mod Values
+pub mod Wanted

@@ -1,8 +1,8 @@
 -- The reader of lines, as the parser goes over it.
-use Rattle.std.proofs.Common.{◌≡◌, ℕ, ◌+◌, ◌≤◌, List, [], ◌∷◌, ◌++◌, Some, None, Ok, Err, IfOk, refl, ap, sym, arith}
+use Rattle.std.proofs.Common.{◌≡◌, ◌+◌, ◌≤◌, List, [], ◌∷◌, ◌++◌, Some, None, Ok, Err, refl, ap, sym}
 use Rattle.std.proofs.lemmas.List.{append-nil, append_assoc}
 use Rattle.justfile_base.specs.declared.token_kind.TokenKind.TheVariants as kinds
-use Rattle.justfile_model.specs.Files.{bindings, item_bindings}
+use Rattle.justfile_model.specs.Files.{item_bindings}
 use Rattle.justfile_model.specs.Literals.{Answers}
 use Rattle.justfile_model.specs.Reader.{Refusal, ◌>>=◌, Read, accept, expect, comment_item, assignment, on_line, line_end, behind, line}
 use Rattle.justfile_model.specs.SignificantTokens.{SignificantToken, identifiers}
@@ -10,7 +10,7 @@ use Rattle.justfile_model.specs.Tok.{Tok}
 use Rattle.justfile_model.specs.Tree as tree
 use Rattle.justfile_model.specs.Tree.{Item, Tree}
 use Rattle.justfile_model.proofs.Counting.{assignment_bindings}
-use Rattle.justfile_parse.specs.Reading.{IsPast, after}
+use Rattle.justfile_parse.specs.Reading.{after}
 
 module _ (expander : Answers) (done : Tree) (ts : List SignificantToken) where
   pub line_end_closes : (end : SignificantToken × List SignificantToken) → accept kinds.Eof ts ≡ Some end → after done (line_end expander ts) ≡ Ok (done, ts)
@@ -54,20 +54,6 @@ module _ (expander : Answers) (done : Tree) (ts : List SignificantToken) where
   pub line_goes_on : (i : Item Tok Tok) (rest : List SignificantToken) → accept kinds.Eol ts ≡ None → on_line expander ts ≡ Ok (i, rest) → after done (line expander ts) ≡ after (done ++ i ∷ []) (behind expander rest)
   unfolding line
   line_goes_on i rest h1 h2 = rw (h1, h2) (then_behind i (behind expander rest))
-
--- a line wants the numbers that its first item does
-module _ (expander : Answers) (n : ℕ) (ts : List SignificantToken) where
-  short_behind : (i : Item Tok Tok) (found : Read Tree) → IsPast n (item_bindings i) → IfOk {T = Tree × List SignificantToken} (found >>= λ b. Ok (i ∷ b.0, b.1)) (λ x. IsPast n (bindings x.0))
-  short_behind i (Ok x) h = omega arith
-  short_behind i (Err e) h = tt
-
-  short_line : (found : Read (Item Tok Tok)) → IfOk found (λ x. IsPast n (item_bindings x.0)) → IfOk {T = Tree × List SignificantToken} (found >>= λ i. behind expander i.1 >>= λ b. Ok (i.0 ∷ b.0, b.1)) (λ x. IsPast n (bindings x.0))
-  short_line (Ok x) h = short_behind x.0 (behind expander x.1) h
-  short_line (Err e) h = tt
-
-  pub line_short : accept kinds.Eol ts ≡ None → IfOk (on_line expander ts) (λ x. IsPast n (item_bindings x.0)) → IfOk (line expander ts) (λ x. IsPast n (bindings x.0))
-  unfolding line
-  line_short none h = rw none (short_line (on_line expander ts) h)
 
 -- an assignment has an identifier
 pub assignment_identifiers : (expander : Answers) (ts rest : List SignificantToken) (i : Item Tok Tok) → assignment expander ts ≡ Ok (i, rest) → item_bindings i + identifiers rest ≤ identifiers ts

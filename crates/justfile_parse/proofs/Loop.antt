@@ -1,5 +1,5 @@
 -- The loop over lines.
-use Rattle.std.proofs.Common.{◌≡◌, ℕ, ◌+◌, ◌≤◌, List, [], ◌∷◌, ◌++◌, map, Some, None, Result, Ok, Err, IfOk, refl, sym, ap, ◌∙◌, subst, arith}
+use Rattle.std.proofs.Common.{◌≡◌, ℕ, ◌+◌, ◌≤◌, List, [], ◌∷◌, ◌++◌, map, Some, None, Result, Ok, Err, refl, sym, ap, ◌∙◌, subst, arith}
 use Rattle.std.specs.Borrow.{Bor}
 use Rattle.justfile_base.specs.Numerator.{bindings_of, constants_of, recipes_of}
 use Rattle.justfile_base.specs.declared.numerator.Numerator.{Numerator}
@@ -8,13 +8,15 @@ use Rattle.justfile_file.specs.Item.{item_of}
 use Rattle.justfile_file.specs.declared.item.Item.{Item}
 use Rattle.justfile_model.specs.Files.{bindings}
 use Rattle.justfile_model.specs.Literals.{Answers}
-use Rattle.justfile_model.specs.Reader.{Refusal, Read, accept, at_end, line, with_front, items}
+use Rattle.justfile_model.specs.Reader.{Refusal, Read, accept, at_end, line, items}
 use Rattle.justfile_model.specs.SignificantTokens.{SignificantToken, identifiers}
 use Rattle.justfile_model.specs.Tree.{Tree}
-use Rattle.justfile_model.proofs.Counting.{bindings_append, line_bindings, done_counts}
-use Rattle.justfile_model.proofs.Reading.{items_begin, items_go_on, items_end, items_fail, items_fail_behind}
+use Rattle.justfile_model.proofs.Counting.{bindings_append, line_bindings}
+use Rattle.justfile_model.proofs.Reading.{items_end, items_fail, items_fail_behind}
 use Rattle.justfile_parse.proofs.Adding.{adds_later}
-use Rattle.justfile_parse.specs.Reading.{IsMoved, IsPast, StopsAt, after, answers_by, refusal_at}
+use Rattle.justfile_parse.specs.Reading.{IsMoved, StopsAt, after, answers_by, refusal_at}
+use Rattle.justfile_parse.proofs.Wanted.{lines_items}
+use Rattle.justfile_parse.specs.WantsNumber.{AreLines, LacksNumber, LinesWantNumber, none, more}
 use Rattle.justfile_parse.specs.View.{Adds, IsGivenBy, IsSameRun, rest_of}
 use Rattle.justfile_parse.specs.declared.parser.Parser.{Parser}
 use Rattle.justfile_parse.specs.declared.stop.Stop.{Stop}
@@ -45,7 +47,7 @@ refused_first done e (Err f) h = ap (λ (g : Refusal). Err g) (inside f e h)
 -- from one place to another these items were read
 pub record IsReadTo {X : Type 0} (answer : X → List ℕ → Result (List ℕ) (List ℕ)) (p q : Parser X) (first next : Numerator) (done : List Item) : Type 0 where
   pub same : IsSameRun p q
-  pub value : with_front (answers_by answer p.expander.now) (map item_of done) (items (answers_by answer p.expander.now) (rest_of q)) ≡ items (answers_by answer p.expander.now) (rest_of p)
+  pub lines : AreLines (answers_by answer p.expander.now) (rest_of p) (map item_of done) (rest_of q)
   pub given : IsGivenBy answer p (bindings_of first) (bindings_of next) done
   pub least : bindings_of first ≤ bindings_of next
   pub most : bindings_of next + identifiers (rest_of q) ≤ bindings_of first + identifiers (rest_of p)
@@ -57,7 +59,7 @@ module _ {X : Type 0} (answer : X → List ℕ → Result (List ℕ) (List ℕ))
   begins p first =
       record {
         same = record { tokens = refl; expander = refl; file_depth = refl; depth = refl };
-        value = items_begin (answers_by answer p.expander.now) (items (answers_by answer p.expander.now) (rest_of p));
+        lines = none;
         given = record { given = λ k d h. absurd (omega arith); numbered = tt; counted = omega arith };
         least = omega arith;
         most = omega arith;
@@ -85,10 +87,7 @@ module _ {X : Type 0} (answer : X → List ℕ → Result (List ℕ) (List ℕ))
         let given : IsGivenBy answer p (bindings_of first) (bindings_of then) new = (adds_later answer p a (same_run p q a so_far.same same) done new (bindings_of next) (bindings_of then) adds).adds (bindings_of first) so_far.given in
         record {
           same = same_run p a b (same_run p q a so_far.same same) same2;
-          value =
-              ap (λ (l : Tree). with_front E l (items E (rest_of b))) (sym t.2)
-              ∙ sym (items_go_on E (map item_of done) (rest_of q) t.0 (rest_of b) none read)
-              ∙ so_far.value;
+          lines = subst (λ (l : Tree). AreLines E (rest_of p) l (rest_of b)) t.2 (more so_far.lines read);
           given = given;
           least = omega (arith, so_far.least);
           most = omega (arith, so_far.most, given.counted, so_far.given.counted, ap bindings t.2, bindings_append (map item_of done) t.0, line_bindings E (rest_of q) (t.0, rest_of b) read);
@@ -97,43 +96,35 @@ module _ {X : Type 0} (answer : X → List ℕ → Result (List ℕ) (List ℕ))
         }
 
     -- a line is refused, or wants a number
-    wants : (found : Read Tree) → line (answers_by answer p.expander.now) (rest_of q) ≡ found → IfOk found (λ x. IsPast (bindings_of next) (bindings x.0))
-        → (all : Tree) → with_front (answers_by answer p.expander.now) (map item_of done) (items (answers_by answer p.expander.now) (rest_of q)) ≡ Ok all → IsPast (bindings_of first) (bindings all)
-    wants (Ok x) is h all whole =
-        let E = answers_by answer p.expander.now in
-        let on = items_go_on E (map item_of done) (rest_of q) x.0 x.1 none is in
-        omega (arith, so_far.given.counted, bindings_append (map item_of done) x.0, done_counts E (map item_of done ++ x.0) x.1 all (sym on ∙ whole))
-    wants (Err e) is h all whole =
-        let E = answers_by answer p.expander.now in
-        let fails = items_fail E (map item_of done) (rest_of q) e none is in
-        let both : ◌≡◌ {A = Result Tree Refusal} (Err e) (Ok all) = sym fails ∙ whole in
-        absurd (cc)
-
-    short : (found : Result Tree Refusal) → items (answers_by answer p.expander.now) (rest_of p) ≡ found → IfOk (line (answers_by answer p.expander.now) (rest_of q)) (λ x. IsPast (bindings_of next) (bindings x.0)) → IfOk found (λ tree. IsPast (bindings_of first) (bindings tree))
-    short (Ok all) is h = wants (line (answers_by answer p.expander.now) (rest_of q)) refl h all (so_far.value ∙ is)
-    short (Err e) is h = tt
-
     pub stops : (stop : Stop) (left : List SignificantToken)
-        → StopsAt stop left (IfOk (line (answers_by answer a.expander.now) (rest_of a)) (λ x. IsPast (bindings_of next) (bindings x.0))) (after (map item_of done) (line (answers_by answer a.expander.now) (rest_of a)))
-        → StopsAt stop left (IfOk (items (answers_by answer p.expander.now) (rest_of p)) (λ tree. IsPast (bindings_of first) (bindings tree))) (items (answers_by answer p.expander.now) (rest_of p))
+        → StopsAt stop left (LacksNumber (answers_by answer a.expander.now) (rest_of a) (bindings_of next)) (after (map item_of done) (line (answers_by answer a.expander.now) (rest_of a)))
+        → StopsAt stop left (LinesWantNumber (answers_by answer p.expander.now) (rest_of p) (bindings_of first)) (items (answers_by answer p.expander.now) (rest_of p))
     stops (Refused r) left h =
         let E = answers_by answer p.expander.now in
-        sym so_far.value ∙ items_fail E (map item_of done) (rest_of q) (refusal_at r left) none (sym line_there ∙ refused_first (map item_of done) (refusal_at r left) _ h)
+        sym (lines_items E (rest_of p) so_far.lines) ∙ items_fail E (map item_of done) (rest_of q) (refusal_at r left) none (sym line_there ∙ refused_first (map item_of done) (refusal_at r left) _ h)
     stops Memory left h = tt
     stops Numbers left h =
-        let P : Read Tree → Type 0 = λ found. IfOk found (λ x. IsPast (bindings_of next) (bindings x.0)) in
-        short (items (answers_by answer p.expander.now) (rest_of p)) refl (subst P line_there h)
+        let E = answers_by answer p.expander.now in
+        let P : Bor X → Type 0 = λ e. LacksNumber (answers_by answer e.now) (rest_of a) (bindings_of next) in
+        let Q : List SignificantToken → Type 0 = λ ts. LacksNumber E ts (bindings_of next) in
+        let R : ℕ → Type 0 = λ n. LacksNumber E (rest_of q) n in
+        record {
+          done = map item_of done;
+          left = rest_of q;
+          lines = so_far.lines;
+          lacks = subst R so_far.given.counted (subst Q here (subst P (same.expander ∙ so_far.same.expander) h));
+        }
 
   module _ (p q : Parser X) (first next : Numerator) (done : List Item) (so_far : IsReadTo answer p q first next done) where
     pub ends : (expander : Answers) (end : SignificantToken) (rest : List SignificantToken) → accept kinds.Eof (rest_of q) ≡ Some (end, rest) → at_end expander rest ≡ Ok [] → items (answers_by answer p.expander.now) (rest_of p) ≡ Ok (map item_of done)
     unfolding at_end
-    ends expander end [] is nothing = sym so_far.value ∙ items_end (answers_by answer p.expander.now) (map item_of done) (rest_of q) end is
+    ends expander end [] is nothing = sym (lines_items (answers_by answer p.expander.now) (rest_of p) so_far.lines) ∙ items_end (answers_by answer p.expander.now) (map item_of done) (rest_of q) end is
     ends expander end (t ∷ ts) is nothing = cc
 
     pub goes_past : (expander : Answers) (end : SignificantToken) (rest : List SignificantToken) (IsShort : Type 0) (stop : Stop) → accept kinds.Eof (rest_of q) ≡ Some (end, rest) → StopsAt stop rest ⊥ (at_end expander rest) → StopsAt stop rest IsShort (items (answers_by answer p.expander.now) (rest_of p))
     unfolding at_end
     goes_past expander end [] IsShort (Refused r) is h = cc
-    goes_past expander end (t ∷ ts) IsShort (Refused r) is h = sym so_far.value ∙ items_fail_behind (answers_by answer p.expander.now) (map item_of done) (rest_of q) end t ts is ∙ h
+    goes_past expander end (t ∷ ts) IsShort (Refused r) is h = sym (lines_items (answers_by answer p.expander.now) (rest_of p) so_far.lines) ∙ items_fail_behind (answers_by answer p.expander.now) (map item_of done) (rest_of q) end t ts is ∙ h
     goes_past expander end rest IsShort Memory is h = tt
     goes_past expander end rest IsShort Numbers is h = absurd h
 

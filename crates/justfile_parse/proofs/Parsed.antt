@@ -1,5 +1,5 @@
 -- What is read of a table, and what that says of the tokens.
-use Rattle.std.proofs.Common.{◌≡◌, ℕ, ◌<◌, ◌≤◌, Bool, true, false, not, ◌||◌, ◌&&◌, cond, IsTrue, rules, List, [], ◌∷◌, ◌++◌, map, length, All, Contains, Some, None, Option, Result, Ok, Err, IfOk, IfSome, IfNone, inl, inr, refl, sym, ap, ◌∙◌, subst, arith}
+use Rattle.std.proofs.Common.{◌≡◌, ℕ, ◌<◌, ◌≤◌, Bool, true, false, not, ◌||◌, ◌&&◌, cond, IsTrue, rules, List, [], ◌∷◌, ◌++◌, map, length, All, Contains, Some, None, Option, Result, Ok, Err, IfSome, IfNone, inl, inr, refl, sym, ap, ◌∙◌, subst, arith}
 use Rattle.std.specs.Prelude.{reverse}
 use Rattle.std.specs.List.{list_all, flat_map}
 use Rattle.std.proofs.lemmas.Bool.Decides.{nat_tests}
@@ -23,7 +23,7 @@ use Rattle.justfile_file.specs.declared.binding.Binding.{Binding}
 use Rattle.justfile_file.specs.declared.item.Item.{Item}
 use Rattle.justfile_file.specs.declared.item.Item.TheVariants.{Assignment, Comment, Newline}
 use Rattle.justfile_model.specs.Answers.{IsFrom, IsLexerFault}
-use Rattle.justfile_model.specs.Files.{VersionNumbers, FileDerives, NumbersSuffice, bindings, expr_literals, literals}
+use Rattle.justfile_model.specs.Files.{VersionNumbers, FileDerives, expr_literals, literals}
 use Rattle.justfile_model.specs.Lexed.{Lexed, IsFault}
 use Rattle.justfile_model.specs.LexicalFault.{LexicalFault}
 use Rattle.justfile_model.specs.Literals.{Answers, cooked_text, Cooks}
@@ -37,13 +37,15 @@ use Rattle.justfile_model.proofs.Agreement.{sound, complete}
 use Rattle.justfile_model.proofs.Steps.{after_accept}
 use Rattle.justfile_parse.specs.Given.{IsGivenItem, IsGivenExpression, IsInTable}
 use Rattle.justfile_parse.specs.Literal.{is_quoted, is_sound}
-use Rattle.justfile_parse.specs.Parsing.{HasNoTree, IsFaultOf, IsOneLex, IsParsed, IsParsedText, IsRead, IsUnparsed, IsUnread}
-use Rattle.justfile_parse.specs.Reading.{IsEnd, IsPast, StopsAt}
+use Rattle.justfile_parse.specs.Parsing.{HasNoTree, IsOneLex, IsParsed, IsParsedText, IsUnparsed}
+use Rattle.justfile_parse.specs.Reading.{IsEnd, IsFaultOf, IsRead, IsUnread, StopsAt}
 use Rattle.justfile_parse.specs.Significant.{significant_of}
+use Rattle.justfile_parse.specs.WantsNumber.{WantsNumber}
 use Rattle.justfile_parse.specs.declared.stop.Stop.{Stop}
 use Rattle.justfile_parse.specs.declared.stop.Stop.TheVariants as stops
 use Rattle.justfile_parse.proofs.NotInternal.{not_internal}
 use Rattle.justfile_parse.proofs.Values.{plain_text}
+use Rattle.justfile_parse.proofs.Wanted.{never_suffice}
 use Rattle.justfile_tree.specs.Expression.{expr_of, expr_cooked}
 use Rattle.justfile_tree.specs.declared.expression.Expression.{Expression}
 use Rattle.justfile_tree.specs.declared.expression.Expression.TheVariants as expressions
@@ -74,17 +76,17 @@ module _ (ts rest : List SignificantToken) where
 ok_is_no_error : (e : reader.Refusal) (tree : Tree) (found : Result Tree reader.Refusal) → found ≡ Err e → found ≡ Ok tree → ⊥
 ok_is_no_error e tree found h k = let both : ◌≡◌ {A = Result Tree reader.Refusal} (Err e) (Ok tree) = sym h ∙ k in cc
 
-pub unread : (read : Result Tree reader.Refusal) (table : List (Token × Bool)) (old new : Numerator) (left : List SignificantToken) (stop : Stop) (fault : Fault)
-    → StopsAt stop left (IfOk read (λ tree. IsPast (bindings_of old) (bindings tree))) read → IsEnd (bindings_of new) stop → IsFaultOf table stop fault → IsUnread read (IsInTable table) old new fault
-unread read table old new left (stops.Refused r) (faults.Compile e) h end is = (λ tree k. ok_is_no_error _ tree read h k, is.0, is.1)
-unread read table old new left (stops.Refused r) faults.Memory h end is = absurd is
-unread read table old new left (stops.Refused r) faults.Numbers h end is = absurd is
-unread read table old new left stops.Memory (faults.Compile e) h end is = absurd is
-unread read table old new left stops.Memory faults.Memory h end is = tt
-unread read table old new left stops.Memory faults.Numbers h end is = absurd is
-unread read table old new left stops.Numbers (faults.Compile e) h end is = absurd is
-unread read table old new left stops.Numbers faults.Memory h end is = absurd is
-unread read table old new left stops.Numbers faults.Numbers h end is = (end, h)
+pub unread : (expander : Answers) (tokens : List SignificantToken) (table : List (Token × Bool)) (old new : Numerator) (left : List SignificantToken) (stop : Stop) (fault : Fault)
+    → StopsAt stop left (WantsNumber expander tokens (bindings_of old)) (reader.file expander tokens) → IsEnd (bindings_of new) stop → IsFaultOf table stop fault → IsUnread expander tokens (IsInTable table) old new fault
+unread expander tokens table old new left (stops.Refused r) (faults.Compile e) h end is = (λ tree k. ok_is_no_error _ tree (reader.file expander tokens) h k, is.0, is.1)
+unread expander tokens table old new left (stops.Refused r) faults.Memory h end is = absurd is
+unread expander tokens table old new left (stops.Refused r) faults.Numbers h end is = absurd is
+unread expander tokens table old new left stops.Memory (faults.Compile e) h end is = absurd is
+unread expander tokens table old new left stops.Memory faults.Memory h end is = tt
+unread expander tokens table old new left stops.Memory faults.Numbers h end is = absurd is
+unread expander tokens table old new left stops.Numbers (faults.Compile e) h end is = absurd is
+unread expander tokens table old new left stops.Numbers faults.Memory h end is = absurd is
+unread expander tokens table old new left stops.Numbers faults.Numbers h end is = (end, h)
 
 -- ---- the tokens of one lex
 
@@ -185,15 +187,17 @@ module _ (expander : Answers) (current : VersionNumbers) (tokens : List Token) (
   pub derives_of : (tree : Tree) → reader.file expander (map significant_of table) ≡ Ok tree → FileDerives expander current (significant_tokens (map tok_of tokens)) tree
   derives_of tree h = sound expander current (significant_tokens (map tok_of tokens)) tree (sym (ap (reader.file expander) is) ∙ h)
 
-  too_few : (tree : Tree) (read : Result Tree reader.Refusal) → read ≡ Ok tree → IfOk read (λ t. IsPast (bindings_of old) (bindings t)) → NumbersSuffice (bindings_of old) tree → ⊥
-  too_few tree read e h s = let past : IsPast (bindings_of old) (bindings tree) = (let P : Result Tree reader.Refusal → Type 0 = λ r. IfOk r (λ t. IsPast (bindings_of old) (bindings t)) in subst P e h) in omega arith
-
   pub unparsed_of : All (λ entry. Contains tokens entry.0) table → (fault : Fault)
-      → IsUnread (reader.file expander (map significant_of table)) (IsInTable table) old new fault
+      → IsUnread expander (map significant_of table) (IsInTable table) old new fault
       → IsUnparsed expander current (map tok_of tokens) (Contains tokens) old new fault
   unparsed_of all (faults.Compile e) h = (λ tree d. h.0 tree (found tree d), in_tokens tokens table all e.token h.1, h.2)
   unparsed_of all faults.Memory h = tt
-  unparsed_of all faults.Numbers h = (h.0, λ tree d s. too_few tree _ (found tree d) h.1 s)
+  unparsed_of all faults.Numbers h =
+      let P : List SignificantToken → Type 0 = λ ts. WantsNumber expander ts (bindings_of old) in
+      let wants = subst P is h.1 in
+      let read : (tree : Tree) → FileDerives expander current (significant_tokens (map tok_of tokens)) tree → reader.file expander (significant_tokens (map tok_of tokens)) ≡ Ok tree
+      = λ tree d. complete expander current (significant_tokens (map tok_of tokens)) tree d in
+      (h.0, wants, λ tree d s. never_suffice expander (significant_tokens (map tok_of tokens)) (bindings_of old) tree wants (read tree d) s)
 
   pub parsed_of : All (λ entry. Contains tokens entry.0) table → (file_depth : ℕ) (ast : Ast)
       → IsRead expander (IsInTable table) file_depth (map significant_of table) old new ast.items.items → ast.unstable_features.keys ≡ []
@@ -224,7 +228,7 @@ module _ (expander : Answers) (current : VersionNumbers) (path src : List ℕ) (
   pub no_tree : (fault : Fault) → IsUnparsed expander current (map tok_of tokens) (Contains tokens) old new fault → HasNoTree expander current path src old new fault
   no_tree (faults.Compile e) h = record { derives_none = λ tree d. h.0 tree (derives_tokens tree d); from = from_tokens e.token h.1; not_internal = h.2; cause = inr (map tok_of tokens, lexed) }
   no_tree faults.Memory h = tt
-  no_tree faults.Numbers h = (h.0, λ tree d suffice. h.1 tree (derives_tokens tree d) suffice)
+  no_tree faults.Numbers h = (h.0, record { tokens = map tok_of tokens; lexed = lexed; wants = h.1 }, λ tree d suffice. h.2 tree (derives_tokens tree d) suffice)
 
   pub text_parsed : (file_depth : ℕ) (ast : Ast) → IsParsed expander current (map tok_of tokens) (Contains tokens) file_depth old new ast → IsParsedText expander current path src file_depth old new ast
   text_parsed file_depth ast h =

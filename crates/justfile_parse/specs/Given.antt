@@ -47,11 +47,11 @@ IsGivenItem expander IsToken file_depth (Assignment binding) = IsGivenBinding ex
 IsGivenItem expander IsToken file_depth (Comment text) = Unit {0}
 IsGivenItem expander IsToken file_depth Newline = Unit {0}
 
--- an item that gets nothing
-abbrev pub IsPlainItem : Item → Type 0
-IsPlainItem (Assignment binding) = ⊥
-IsPlainItem (Comment text) = Unit {0}
-IsPlainItem Newline = Unit {0}
+-- an item that gets no number
+abbrev pub IsUnnumberedItem : Item → Type 0
+IsUnnumberedItem (Assignment binding) = ⊥
+IsUnnumberedItem (Comment text) = Unit {0}
+IsUnnumberedItem Newline = Unit {0}
 
 -- Items, read so far from a file whose first binding gets the first number, where the next one gets the next number.
 pub record IsGivenItems (expander : Answers) (IsToken : Token → Type 0) (file_depth first next : ℕ) (items : List Item) : Type 0 where

@@ -4,3 +4,4 @@ pub mod Parsing
 pub mod Reading
 pub mod Significant
 pub mod View
+pub mod WantsNumber

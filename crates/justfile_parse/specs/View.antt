@@ -27,7 +27,7 @@ abbrev pub IsGivenBy : {X : Type 0} → (X → List ℕ → Result (List ℕ) (L
 IsGivenBy answer p = IsGivenItems (answers_by answer p.expander.now) (IsInTable p.tokens.now) p.file_depth
 
 -- the parser added items that get no number
-pub record AddsPlain {X : Type 0} (answer : X → List ℕ → Result (List ℕ) (List ℕ)) (p : Parser X) (old new : List Item) : Type 0 where
+pub record AddsUnnumbered {X : Type 0} (answer : X → List ℕ → Result (List ℕ) (List ℕ)) (p : Parser X) (old new : List Item) : Type 0 where
   pub adds : (first next : ℕ) → IsGivenBy answer p first next old → IsGivenBy answer p first next new
 
 -- the parser added items, and the next binding got one number and gets another now

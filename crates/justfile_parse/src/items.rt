@@ -4,12 +4,13 @@ ghost use Rattle.justfile_base.specs.Numerator.{bindings_of, constants_of, numbe
 ghost use Rattle.justfile_base.specs.Token.{lexeme_of};
 ghost use Rattle.justfile_file.specs.Item.{item_of, item_numbers};
 ghost use Rattle.justfile_file.specs.declared.item.Item.TheVariants as items;
-ghost use Rattle.justfile_model.specs.Files.{NumbersFrom, bindings, item_bindings};
+ghost use Rattle.justfile_model.specs.Files.{NumbersFrom, item_bindings};
 ghost use Rattle.justfile_model.specs.Reader as reader;
 ghost use Rattle.justfile_model.specs.SignificantTokens.{identifiers};
 ghost use Rattle.justfile_model.specs.Tree as tree;
-ghost use Rattle.justfile_parse.specs.Given.{IsInTable, IsGivenBinding, IsGivenItem, IsPlainItem, is_private};
-ghost use Rattle.justfile_parse.specs.Reading.{Gives, GivesNumbered, IsEnd, IsMoved, IsPast, after, answers_by};
+ghost use Rattle.justfile_parse.specs.Given.{IsInTable, IsGivenBinding, IsGivenItem, IsUnnumberedItem, is_private};
+ghost use Rattle.justfile_parse.specs.Reading.{Gives, GivesNumbered, IsEnd, IsMoved, after, answers_by};
+ghost use Rattle.justfile_parse.specs.WantsNumber.{LacksNumber, LinesWantNumber, WantsNumber};
 ghost use Rattle.justfile_parse.specs.declared.stop.Stop.TheVariants as stops;
 
 use crate::parser::Parser;
@@ -18,13 +19,13 @@ use justfile_base::{Expander, Name, Numerator, Token, TokenKind};
 use justfile_file::{Assignment, Binding, Item};
 
 impl<'src, X: Expander> Parser<'_, 'src, X> {
-    ghost use Rattle.justfile_parse.specs.View.{Adds, AddsPlain, IsGivenBy, IsSameRun, rest_of};
+    ghost use Rattle.justfile_parse.specs.View.{Adds, AddsUnnumbered, IsGivenBy, IsSameRun, rest_of};
 
     /// The items of a file, where no expression is open.
     pub(crate) fn parse_file(&mut self, numerator: &mut Numerator) -> Result<Vec<Item<'src>>, Stop>
         requires { self.old.depth ≡ 0 }
         ensures tokens { self.new.tokens ≡ self.old.tokens }
-        ensures value { let read = reader.file (answers_by X.answer self.old.expander.now) (rest_of self.old) in GivesNumbered (λ items. map item_of items.items) result (rest_of self.new) (IfOk read (λ tree. IsPast (bindings_of numerator.old) (bindings tree))) read }
+        ensures value { GivesNumbered (λ items. map item_of items.items) result (rest_of self.new) (WantsNumber (answers_by X.answer self.old.expander.now) (rest_of self.old) (bindings_of numerator.old)) (reader.file (answers_by X.answer self.old.expander.now) (rest_of self.old)) }
         ensures given { IfOk result (λ items. IsGivenBy X.answer self.old (bindings_of numerator.old) (bindings_of numerator.new) items.items) }
         ensures moved { IsMoved numerator.old numerator.new (identifiers (rest_of self.old)) }
         ensures end { IfErr result (IsEnd (bindings_of numerator.new)) }
@@ -37,7 +38,7 @@ impl<'src, X: Expander> Parser<'_, 'src, X> {
     fn parse_items(&mut self, numerator: &mut Numerator) -> Result<Vec<Item<'src>>, Stop>
         requires { self.old.depth ≡ 0 }
         ensures tokens { self.new.tokens ≡ self.old.tokens }
-        ensures value { let read = reader.items (answers_by X.answer self.old.expander.now) (rest_of self.old) in GivesNumbered (λ items. map item_of items.items) result (rest_of self.new) (IfOk read (λ tree. IsPast (bindings_of numerator.old) (bindings tree))) read }
+        ensures value { GivesNumbered (λ items. map item_of items.items) result (rest_of self.new) (LinesWantNumber (answers_by X.answer self.old.expander.now) (rest_of self.old) (bindings_of numerator.old)) (reader.items (answers_by X.answer self.old.expander.now) (rest_of self.old)) }
         ensures given { IfOk result (λ items. IsGivenBy X.answer self.old (bindings_of numerator.old) (bindings_of numerator.new) items.items) }
         ensures moved { IsMoved numerator.old numerator.new (identifiers (rest_of self.old)) }
         ensures end { IfErr result (IsEnd (bindings_of numerator.new)) }
@@ -53,7 +54,7 @@ impl<'src, X: Expander> Parser<'_, 'src, X> {
     }
 
     /// The items of a line.
-    #[tactic(auto, using(crate::proofs::Lines::line_blank, crate::proofs::Lines::line_fails, crate::proofs::Lines::line_goes_on, crate::proofs::Lines::line_short, crate::proofs::Adding::plain_item, crate::proofs::Adding::adds_plain, crate::proofs::Adding::adds_item, crate::proofs::Adding::adds_then))]
+    #[tactic(auto, using(crate::proofs::Lines::line_blank, crate::proofs::Lines::line_fails, crate::proofs::Lines::line_goes_on, crate::proofs::Adding::unnumbered_item, crate::proofs::Adding::adds_unnumbered, crate::proofs::Adding::adds_item, crate::proofs::Adding::adds_then))]
     fn parse_line(
         &mut self,
         items: &mut Vec<Item<'src>>,
@@ -63,7 +64,7 @@ impl<'src, X: Expander> Parser<'_, 'src, X> {
         ensures same { OnOk result (IsSameRun self.old self.new) }
         ensures tokens { self.new.tokens ≡ self.old.tokens }
         ensures progress { OnOk result (self.old.next < self.new.next) }
-        ensures value { let read = reader.line (answers_by X.answer self.old.expander.now) (rest_of self.old) in GivesNumbered (λ _. (map item_of items.new.items, rest_of self.new)) result (rest_of self.new) (IfOk read (λ x. IsPast (bindings_of numerator.old) (bindings x.0))) (after (map item_of items.old.items) read) }
+        ensures value { GivesNumbered (λ _. (map item_of items.new.items, rest_of self.new)) result (rest_of self.new) (LacksNumber (answers_by X.answer self.old.expander.now) (rest_of self.old) (bindings_of numerator.old)) (after (map item_of items.old.items) (reader.line (answers_by X.answer self.old.expander.now) (rest_of self.old))) }
         ensures given { OnOk result (Adds X.answer self.old (bindings_of numerator.old) (bindings_of numerator.new) items.old.items items.new.items) }
         ensures least { bindings_of numerator.old ≤ bindings_of numerator.new }
         ensures most { bindings_of numerator.new ≤ bindings_of numerator.old + identifiers (rest_of self.old) }
@@ -82,13 +83,13 @@ impl<'src, X: Expander> Parser<'_, 'src, X> {
     }
 
     /// What begins a line that is not blank.
-    #[tactic(auto, using(crate::proofs::GivenLemmas::plain_given, crate::proofs::GivenLemmas::plain_numbers, crate::proofs::GivenLemmas::plain_bindings), unfolding(justfile_model::specs::Reader::on_line))]
+    #[tactic(auto, using(crate::proofs::GivenLemmas::unnumbered_given, crate::proofs::GivenLemmas::unnumbered_numbers, crate::proofs::GivenLemmas::unnumbered_bindings), unfolding(justfile_model::specs::Reader::on_line))]
     fn parse_item(&mut self, numerator: &mut Numerator) -> Result<Item<'src>, Stop>
         requires { self.old.depth ≡ 0 }
         ensures same { OnOk result (IsSameRun self.old self.new) }
         ensures tokens { self.new.tokens ≡ self.old.tokens }
         ensures progress { OnOk result (self.old.next < self.new.next) }
-        ensures value { let read = reader.on_line (answers_by X.answer self.old.expander.now) (rest_of self.old) in GivesNumbered (λ i. (item_of i, rest_of self.new)) result (rest_of self.new) (IfOk read (λ x. IsPast (bindings_of numerator.old) (item_bindings x.0))) read }
+        ensures value { GivesNumbered (λ i. (item_of i, rest_of self.new)) result (rest_of self.new) (LacksNumber (answers_by X.answer self.old.expander.now) (rest_of self.old) (bindings_of numerator.old)) (reader.on_line (answers_by X.answer self.old.expander.now) (rest_of self.old)) }
         ensures given { IfOk result (IsGivenItem (answers_by X.answer self.old.expander.now) (IsInTable self.old.tokens.now) self.old.file_depth) }
         ensures numbers { IfOk result (λ i. NumbersFrom (bindings_of numerator.old) (item_numbers i)) }
         ensures counted { IfOk result (λ i. bindings_of numerator.new ≡ bindings_of numerator.old + item_bindings (item_of i)) }
@@ -112,7 +113,7 @@ impl<'src, X: Expander> Parser<'_, 'src, X> {
         ensures same { OnOk result (IsSameRun self.old self.new) }
         ensures tokens { self.new.tokens ≡ self.old.tokens }
         ensures progress { OnOk result (self.old.next < self.new.next) }
-        ensures value { let read = reader.assignment (answers_by X.answer self.old.expander.now) (rest_of self.old) in GivesNumbered (λ a. (item_of (items.Assignment a), rest_of self.new)) result (rest_of self.new) (IfOk read (λ x. IsPast (bindings_of numerator.old) (item_bindings x.0))) read }
+        ensures value { GivesNumbered (λ a. (item_of (items.Assignment a), rest_of self.new)) result (rest_of self.new) (LacksNumber (answers_by X.answer self.old.expander.now) (rest_of self.old) (bindings_of numerator.old)) (reader.assignment (answers_by X.answer self.old.expander.now) (rest_of self.old)) }
         ensures given { IfOk result (IsGivenBinding (answers_by X.answer self.old.expander.now) (IsInTable self.old.tokens.now) self.old.file_depth) }
         ensures number { IfOk result (λ a. a.number ≡ number_of (bindings_of numerator.old)) }
         ensures counted { OnOk result (bindings_of numerator.new ≡ bindings_of numerator.old + 1) }
@@ -138,13 +139,13 @@ impl<'src, X: Expander> Parser<'_, 'src, X> {
     }
 
     /// What stands behind an item: a comment that trails it, and the end of the line.
-    #[tactic(auto, using(crate::proofs::Lines::behind_comment, crate::proofs::Lines::behind_bare, crate::proofs::Adding::plain_item, crate::proofs::Adding::plain_later, crate::proofs::Adding::plain_then))]
+    #[tactic(auto, using(crate::proofs::Lines::behind_comment, crate::proofs::Lines::behind_bare, crate::proofs::Adding::unnumbered_item, crate::proofs::Adding::unnumbered_later, crate::proofs::Adding::unnumbered_then))]
     fn parse_behind(&mut self, items: &mut Vec<Item<'src>>) -> Result<(), Stop>
         ensures same { OnOk result (IsSameRun self.old self.new) }
         ensures tokens { self.new.tokens ≡ self.old.tokens }
         ensures progress { OnOk result (self.old.next ≤ self.new.next) }
         ensures value { Gives (λ _. (map item_of items.new.items, rest_of self.new)) result (rest_of self.new) (after (map item_of items.old.items) (reader.behind (answers_by X.answer self.old.expander.now) (rest_of self.old))) }
-        ensures given { OnOk result (AddsPlain X.answer self.old items.old.items items.new.items) }
+        ensures given { OnOk result (AddsUnnumbered X.answer self.old items.old.items items.new.items) }
     {
         match self.accept(TokenKind::Comment) {
             Some((comment, _)) => {
@@ -156,13 +157,13 @@ impl<'src, X: Expander> Parser<'_, 'src, X> {
     }
 
     /// The end of a line, which is an item, or that of the file, which is left.
-    #[tactic(auto, using(crate::proofs::Lines::line_end_closes, crate::proofs::Lines::line_end_newline, crate::proofs::Lines::line_end_fails, crate::proofs::Adding::plain_item, crate::proofs::Adding::plain_none, crate::proofs::Adding::plain_later))]
+    #[tactic(auto, using(crate::proofs::Lines::line_end_closes, crate::proofs::Lines::line_end_newline, crate::proofs::Lines::line_end_fails, crate::proofs::Adding::unnumbered_item, crate::proofs::Adding::unnumbered_none, crate::proofs::Adding::unnumbered_later))]
     fn parse_line_end(&mut self, items: &mut Vec<Item<'src>>) -> Result<(), Stop>
         ensures same { OnOk result (IsSameRun self.old self.new) }
         ensures tokens { self.new.tokens ≡ self.old.tokens }
         ensures progress { OnOk result (self.old.next ≤ self.new.next) }
         ensures value { Gives (λ _. (map item_of items.new.items, rest_of self.new)) result (rest_of self.new) (after (map item_of items.old.items) (reader.line_end (answers_by X.answer self.old.expander.now) (rest_of self.old))) }
-        ensures given { OnOk result (AddsPlain X.answer self.old items.old.items items.new.items) }
+        ensures given { OnOk result (AddsUnnumbered X.answer self.old items.old.items items.new.items) }
     {
         if let Some(_end) = self.next_if(TokenKind::Eof) {
             return Ok(());
@@ -182,7 +183,7 @@ fn is_private(name: &[u8]) -> bool
 /// A comment, without the white space at its end.
 fn comment_item<'src>(comment: Token<'src>) -> Item<'src>
     ensures is { item_of result ≡ tree.Comment (trim_end (lexeme_of comment.entry)) }
-    ensures plain { IsPlainItem result }
+    ensures unnumbered { IsUnnumberedItem result }
 {
     Item::Comment(comment.lexeme().trim_end())
 }

@@ -6,9 +6,9 @@ ghost use Rattle.justfile_model.specs.Reader as reader;
 ghost use Rattle.justfile_model.specs.SignificantTokens.{identifiers};
 ghost use Rattle.justfile_parse.specs.Given.{IsInTable};
 ghost use Rattle.justfile_parse.specs.Literal.{is_sound};
-ghost use Rattle.justfile_parse.specs.Parsing.{IsFaultOf, IsRead, IsUnread};
-ghost use Rattle.justfile_parse.specs.Reading.{Gives, IsMoved, answers_by};
+ghost use Rattle.justfile_parse.specs.Reading.{Gives, IsFaultOf, IsMoved, IsRead, IsUnread, answers_by};
 ghost use Rattle.justfile_parse.specs.Significant.{significant_of};
+ghost use Rattle.justfile_parse.specs.WantsNumber.{behind_mark};
 
 use crate::stop::{Refusal, Stop};
 use justfile_base::{
@@ -112,6 +112,7 @@ impl<'run, 'src, X: Expander> Parser<'run, 'src, X> {
     pub(crate) fn accept_mark(&mut self)
         ensures same { IsSameRun self.old self.new }
         ensures value { reader.file (answers_by X.answer self.old.expander.now) (rest_of self.old) ≡ reader.items (answers_by X.answer self.old.expander.now) (rest_of self.new) }
+        ensures behind { rest_of self.new ≡ behind_mark (rest_of self.old) }
         ensures fewer { identifiers (rest_of self.new) ≤ identifiers (rest_of self.old) }
     {
         let _mark = self.accept(TokenKind::ByteOrderMark);
@@ -167,7 +168,7 @@ impl<'run, 'src, X: Expander> Parser<'run, 'src, X> {
         requires nonempty { 0 < length tokens.now }
         requires sound { IsTrue (list_all is_sound tokens.now) }
         ensures ok { IfOk result (λ items. IsRead (answers_by X.answer expander.now) (IsInTable tokens.now) file_depth (map significant_of tokens.now) numerator.old numerator.new items.items) }
-        ensures err { IfErr result (IsUnread (reader.file (answers_by X.answer expander.now) (map significant_of tokens.now)) (IsInTable tokens.now) numerator.old numerator.new) }
+        ensures err { IfErr result (IsUnread (answers_by X.answer expander.now) (map significant_of tokens.now) (IsInTable tokens.now) numerator.old numerator.new) }
         ensures moved { IsMoved numerator.old numerator.new (identifiers (map significant_of tokens.now)) }
     {
         let mut parser = Parser {

@@ -1,7 +1,7 @@
-ghost use Rattle.std.specs.Prelude.{◌≡◌, [], ◌∷◌, ◌++◌, map, All, Contains, IfOk, OnOk};
+ghost use Rattle.std.specs.Prelude.{◌≡◌, [], ◌∷◌, ◌++◌, map, IfOk, OnOk};
 ghost use Rattle.justfile_model.specs.SignificantTokens.{is_whitespace, significant_tokens};
 ghost use Rattle.justfile_model.specs.Tok.{tok_of};
-ghost use Rattle.justfile_parse.specs.Significant.{significant_of};
+ghost use Rattle.justfile_parse.specs.Significant.{significant_of, without_whitespace};
 
 use justfile_base::{Token, TokenKind};
 use std::alloc::{AllocError, Global};
@@ -13,7 +13,7 @@ pub fn significant<'src>(
     tokens: &[Token<'src>],
 ) -> Result<Vec<(Token<'src>, bool)>, AllocError>
     ensures table { IfOk result (λ table. map significant_of table.items ≡ significant_tokens (map tok_of tokens.now)) }
-    ensures tokens { IfOk result (λ table. All (λ entry. Contains tokens.now entry.0) table.items) }
+    ensures tokens { IfOk result (λ table. map (λ entry. entry.0) table.items ≡ without_whitespace tokens.now) }
 {
     let mut table = Vec::new(alloc);
     let mut glued = false;

@@ -1,7 +1,6 @@
 //! That parsing, copying and printing succeed where there is memory, and what they answer.
 
 use crate::ast::Ast;
-use crate::expander::{ExpandFault, Expander};
 use crate::expression::Expression;
 use crate::fault::{CompileResult, Fault};
 use crate::indentation::Indentation;
@@ -10,30 +9,11 @@ use crate::lexer::Lexer;
 use crate::numerator::{Number, Numerator};
 use crate::parser::{Parser, significant};
 use crate::source::Source;
+use crate::tests::support::{CURRENT, Unchanged};
 use crate::token_kind::TokenKind;
-use crate::version::Version;
 use std::alloc::Global;
 use std::process::Abort;
 use std::test::Fail;
-
-const CURRENT: Version = Version {
-    major: 1,
-    minor: 58,
-    patch: 0,
-};
-
-/// An expander that leaves each text as it is.
-struct Unchanged;
-
-impl Expander for Unchanged {
-    ghost use Rattle.std.specs.Prelude.{Ok};
-
-    ghost answer = { λ _ text. Ok text };
-
-    fn expand(&self, alloc: Global, text: &str) -> Result<String, ExpandFault> {
-        Ok(text.to_string(alloc)?)
-    }
-}
 
 /// The file that a text is, which takes its numbers from the numerator.
 fn parse<'src>(
@@ -122,7 +102,7 @@ fn copies(rt: HostRuntime) -> Result<(), Fail> {
         );
     }
     let printed = copy.print(rt.alloc(), Indentation::default())?;
-    assert_eq!(rt; printed.as_str(), "a := 'x' # c\n\n\nb := a\n");
+    assert_eq!(rt; printed.as_str(), "a := 'x' # c\n\nb := a\n");
     let item = copy.items.first().ok_or("no item")?;
     assert_eq!(rt;
         item.print(rt.alloc(), Indentation::default())?.as_str(),

@@ -8,6 +8,7 @@ use Rattle.justfile_parse.specs.Significant.{significant_of}
 use Rattle.justfile_parse.specs.Parsing.{version_numbers}
 use Rattle.justfile_parse.specs.Reading.{answers_by}
 use Rattle.justfile_parse.proofs.Parsed.{nonempty, parsed_of, sound_lex, unparsed_of}
+use Rattle.justfile_parse.proofs.SignificantLemmas.{entries_among}
 use Rattle.justfile_parse.proofs.parser.Parser.parse.Goals as goal
 
 pub parse_table-requires-clause-nonempty : goal.parse_table-requires-clause-nonempty
@@ -26,11 +27,11 @@ returns-in_err-items-clause-unparsed g c =
     let Q : List (Token × Bool) → Type 0 = λ t. All (λ entry. Contains c.args.tokens.now entry.0) t in
     rw (p.1, p.2)
     (unparsed_of (answers_by g.X.Expander.answer c.args.expander.now) (version_numbers c.args.current) c.args.tokens.now c.as_slice.result.now c.args.numerator.now c.parse_table.new.numerator
-    (ap (map significant_of) c.as_slice.ensures.value ∙ c.in_ok-table.ensures.table) (subst Q (sym c.as_slice.ensures.value) c.in_ok-table.ensures.tokens) c.in_err-items.field-0.0 c.in_err-items.ensures.err)
+    (ap (map significant_of) c.as_slice.ensures.value ∙ c.in_ok-table.ensures.table) (subst Q (sym c.as_slice.ensures.value) (entries_among c.args.tokens.now c.in_ok-table.table.items c.in_ok-table.ensures.tokens)) c.in_err-items.field-0.0 c.in_err-items.ensures.err)
 
 pub returns-clause-parsed : goal.returns-clause-parsed
 returns-clause-parsed g c =
     let Q : List (Token × Bool) → Type 0 = λ t. All (λ entry. Contains c.args.tokens.now entry.0) t in
     parsed_of (answers_by g.X.Expander.answer c.args.expander.now) (version_numbers c.args.current) c.args.tokens.now c.as_slice.result.now c.args.numerator.now c.parse_table.new.numerator
-    (ap (map significant_of) c.as_slice.ensures.value ∙ c.in_ok-table.ensures.table) (subst Q (sym c.as_slice.ensures.value) c.in_ok-table.ensures.tokens) c.args.file_depth _
+    (ap (map significant_of) c.as_slice.ensures.value ∙ c.in_ok-table.ensures.table) (subst Q (sym c.as_slice.ensures.value) (entries_among c.args.tokens.now c.in_ok-table.table.items c.in_ok-table.ensures.tokens)) c.args.file_depth _
     c.in_ok-items.ensures.ok c.new.ensures.empty

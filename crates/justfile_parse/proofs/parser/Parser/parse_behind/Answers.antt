@@ -4,7 +4,7 @@ use Rattle.justfile_file.specs.Item.{item_of}
 use Rattle.justfile_model.specs.Tok.{Tok}
 use Rattle.justfile_model.specs.Tree.{Item, Tree}
 use Rattle.justfile_parse.specs.Significant.{significant_of}
-use Rattle.justfile_parse.proofs.Adding.{behind_after, plain_item, plain_then}
+use Rattle.justfile_parse.proofs.Adding.{behind_after, unnumbered_item, unnumbered_then}
 use Rattle.justfile_parse.proofs.Readings.{gives_alike}
 use Rattle.justfile_parse.proofs.parser.Parser.parse_behind.Goals as goal
 
@@ -20,6 +20,6 @@ returns-in_ok-push-in-Some-clause-value g c =
 pub returns-in_ok-push-in-Some-clause-given : goal.returns-in_ok-push-in-Some-clause-given
 returns-in_ok-push-in-Some-clause-given g c =
     on_ok_weaker c.parse_line_end.result
-    (λ h. plain_then g.X.Expander.answer c.args.self.now c.accept.new.self c.accept.ensures.same _ _ _
-    (plain_item g.X.Expander.answer c.args.self.now _ _ c.comment_item.result c.in_ok-push-in-Some.ensures.items c.comment_item.ensures.plain) h)
+    (λ h. unnumbered_then g.X.Expander.answer c.args.self.now c.accept.new.self c.accept.ensures.same _ _ _
+    (unnumbered_item g.X.Expander.answer c.args.self.now _ _ c.comment_item.result c.in_ok-push-in-Some.ensures.items c.comment_item.ensures.unnumbered) h)
     c.parse_line_end.ensures.given
