@@ -1,9 +1,8 @@
 -- What a file derives.
 use Rattle.std.specs.Prelude.{◌≡◌, ℕ, ◌+◌, ◌-◌, ◌^◌, ◌≤◌, List, [], ◌∷◌, ◌++◌, map}
-use Rattle.justfile_model.specs.Tok.{Tok}
 use Rattle.justfile_model.specs.SignificantTokens.{SignificantToken}
 use Rattle.justfile_model.specs.Tree.{Expr, StringLiteral, Variable, Item, Assignment, Comment, Newline, Tree, Shape, lexeme, nothing, itself}
-use Rattle.justfile_model.specs.Grammar.{File, Free, Under, Limited}
+use Rattle.justfile_model.specs.Grammar.{File, Free, Limited}
 use Rattle.justfile_model.specs.Literals.{Answers, Cooks}
 
 -- a version of the program: three numbers

@@ -12,7 +12,7 @@ use Rattle.justfile_base.specs.declared.string_kind.StringDelimiter.TheVariants 
 use Rattle.justfile_base.specs.declared.string_kind.StringKind.{StringKind}
 use Rattle.justfile_model.specs.declared.raw_text.RawText.TheVariants as raw_texts
 use Rattle.justfile_base.specs.declared.token_kind.TokenKind.{TokenKind}
-use Rattle.justfile_base.specs.declared.token_kind.TokenKind.TheVariants.{AmpersandAmpersand, Asterisk, At, Backtick, BangEquals, BangTilde, Bang, BarBar, BraceL, BraceR, BracketL, BracketR, ByteOrderMark, Colon, ColonColon, ColonEquals, Comma, Comment, Dedent, Dollar, Eof, Eol, Equals, EqualsEquals, EqualsTilde, FormatStringContinue, FormatStringEnd, FormatStringStart, Identifier, Indent, InterpolationEnd, InterpolationStart, ParenL, ParenR, Plus, PlusPlus, QuestionMark, Slash, StringToken, Text, Whitespace}
+use Rattle.justfile_base.specs.declared.token_kind.TokenKind.TheVariants.{AmpersandAmpersand, Asterisk, At, BangEquals, BangTilde, Bang, BarBar, BraceL, BraceR, BracketL, BracketR, ByteOrderMark, Colon, ColonColon, ColonEquals, Comma, Comment, Dedent, Dollar, Eof, Eol, Equals, EqualsEquals, EqualsTilde, FormatStringContinue, FormatStringEnd, FormatStringStart, Identifier, Indent, InterpolationEnd, InterpolationStart, ParenL, ParenR, Plus, PlusPlus, QuestionMark, Slash, Text, Whitespace}
 use Rattle.justfile_base.specs.ByteClass.{class_of}
 use Rattle.justfile_model.specs.Bytes.{blank_len, word_len, is_line_end, is_interpolation_start, is_interpolation_end, is_mixed, closes_levels, first_char}
 use Rattle.justfile_base.specs.StringKind.{delimiter_len, kind_of, token_kind_of}

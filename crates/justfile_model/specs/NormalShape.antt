@@ -1,6 +1,6 @@
 -- The shape that printing keeps: between other items at most two line ends in a run, and one behind the last.
-use Rattle.std.specs.Prelude.{List, [], ◌∷◌}
-use Rattle.justfile_model.specs.Tree.{Item, Assignment, Comment, Newline, Shape}
+use Rattle.std.specs.Prelude.{[], ◌∷◌}
+use Rattle.justfile_model.specs.Tree.{Assignment, Comment, Newline, Shape}
 
 -- a line end before these: none before the one at the end, and at most two before another item
 abbrev pub behind_newline : Shape → Shape

@@ -1,5 +1,5 @@
 -- The printed text, of a normal shape at an indentation.
-use Rattle.std.specs.Prelude.{ℕ, Bool, true, false, ◌||◌, cond, List, [], ◌∷◌, ◌++◌, codes}
+use Rattle.std.specs.Prelude.{ℕ, Bool, true, false, List, [], ◌∷◌, ◌++◌, codes}
 use Rattle.justfile_model.specs.Tree.{Expr, StringLiteral, Variable, Item, Assignment, Comment, Newline, Shape}
 
 -- a piece that is the same in every text; kept folded, so that a text stays a row of pieces

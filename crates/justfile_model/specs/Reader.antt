@@ -1,5 +1,5 @@
 -- Reading significant tokens from left to right, up to the first refusal. That it agrees with the grammar is a law.
-use Rattle.std.specs.Prelude.{ℕ, ◌+◌, Bool, true, false, not, ◌||◌, ◌&&◌, List, [], ◌∷◌, ◌++◌, length, Option, Some, None, is_some, Result, Ok, Err, nat_lt, if◌then◌else◌, codes}
+use Rattle.std.specs.Prelude.{ℕ, ◌+◌, Bool, not, ◌||◌, ◌&&◌, List, [], ◌∷◌, ◌++◌, length, Option, Some, None, is_some, Result, Ok, Err, nat_lt, if◌then◌else◌, codes}
 use Rattle.std.specs.Str.{bytes_eq, trim_end}
 use denote.Enum.Bare.{sameb}
 use Rattle.justfile_base.specs.contracts.token_kind.TokenKind.{the_type}

@@ -1,6 +1,6 @@
 -- Syntax trees, over what stands at their leaves: `A` where a shape keeps a lexeme, `B` where it keeps nothing of a token.
 -- In a tree both are tokens; in a shape they are lexemes, and nothing.
-use Rattle.std.specs.Prelude.{ℕ, List, [], ◌∷◌, map}
+use Rattle.std.specs.Prelude.{ℕ, List, map}
 use Rattle.justfile_model.specs.Tok.{Tok}
 
 pub data Expr (A B : Type 0) : Type 0 where
