@@ -1,5 +1,5 @@
 -- The printed text, of a normal shape at an indentation.
-use Rattle.std.specs.Prelude.{ℕ, Bool, true, false, List, [], ◌∷◌, ◌++◌, codes}
+use Rattle.std.specs.Prelude.{ℕ, List, [], ◌∷◌, ◌++◌, codes}
 use Rattle.justfile_model.specs.Tree.{Expr, StringLiteral, Variable, Item, Assignment, Comment, Newline, Shape}
 
 -- a piece that is the same in every text; kept folded, so that a text stays a row of pieces
@@ -14,10 +14,6 @@ abbrev pub item_text : Item (List ℕ) (Unit {0}) → List ℕ
 item_text (Assignment name value) = name ++ piece (codes " := ") ++ expr_text value
 item_text (Comment text) = text
 item_text Newline = []
-
-abbrev pub is_newline_item : {A B : Type 0} → Item A B → Bool
-is_newline_item Newline = true
-is_newline_item _ = false
 
 -- what stands behind an item: a newline behind a line end, a space between two others
 abbrev pub item_end : {A B : Type 0} → Item A B → List (Item A B) → List ℕ
