@@ -8,7 +8,7 @@ use Rattle.justfile_model.specs.Tree.{Tree, Shape, lexeme, shape_of}
 use Rattle.justfile_model.specs.NormalShape.{normal}
 use Rattle.justfile_model.specs.Printing.{text}
 use Rattle.justfile_model.specs.Literals.{Answers, Cooks}
-use Rattle.justfile_model.specs.Files.{VersionNumbers, FileDerives, literals, bindings}
+use Rattle.justfile_model.specs.Files.{VersionNumbers, FileDerives, literals, bindings, recipes}
 
 -- the tree of a text, under an expander and a running version
 pub record TextDerives (expander : Answers) (current : VersionNumbers) (source : List ℕ) (tree : Tree) : Type 0 where
@@ -21,7 +21,8 @@ pub record TextDerives (expander : Answers) (current : VersionNumbers) (source :
 abbrev pub printed : Shape → (indentation : List ℕ) → List ℕ
 printed shape indentation = text (normal shape) indentation
 
--- The text derives the normal form of the shape, with the same texts of literals and as many bindings, and is what is printed of that.
+-- The text derives the normal form of the shape, with the same texts of literals, as many bindings and as many recipes, and is what is
+-- printed of that.
 pub record ReadsBack (expander : Answers) (current : VersionNumbers) (shape : Shape) (indentation source : List ℕ) : Type 0 where
   pub tree : Tree
   pub derives : TextDerives expander current source tree
@@ -29,4 +30,5 @@ pub record ReadsBack (expander : Answers) (current : VersionNumbers) (shape : Sh
   pub same_lexemes : map lexeme (literals tree) ≡ literals shape
   pub same_texts : (texts : List (List ℕ)) → Cooks expander (literals shape) texts → Cooks expander (map lexeme (literals tree)) texts
   pub same_bindings : bindings tree ≡ bindings shape
+  pub same_recipes : recipes tree ≡ recipes shape
   pub printed_again : printed (shape_of tree) indentation ≡ source

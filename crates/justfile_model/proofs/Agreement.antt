@@ -1,7 +1,7 @@
 -- The reader and the grammar agree.
 use Rattle.std.proofs.Common.{◌≡◌, ℕ, List, map, Result, Ok, sym, ◌∙◌}
 use Rattle.justfile_model.specs.SignificantTokens.{SignificantToken}
-use Rattle.justfile_model.specs.Tree.{Tree, lexeme}
+use Rattle.justfile_model.specs.Tree.{Tree, lexeme, itself, line_of}
 use Rattle.justfile_model.specs.Literals.{Answers, Cooks}
 use Rattle.justfile_model.specs.Files.{VersionNumbers, literals, FileTree, FileDerives}
 use Rattle.justfile_model.specs.Reader.{Refusal, file}
@@ -10,7 +10,6 @@ use Rattle.justfile_model.proofs.Complete.{file_read}
 use Rattle.justfile_model.proofs.Depth.{file_limited}
 use Rattle.justfile_model.proofs.Sound.{IsWhole, File, file_sound}
 use Rattle.justfile_model.proofs.Steps.{known}
-use Rattle.justfile_model.specs.Tree.{itself}
 
 module _ (expander : Answers) (current : VersionNumbers) (tokens : List SignificantToken) where
   pub sound : (tree : Tree) → file expander tokens ≡ Ok tree → FileDerives expander current tokens tree
@@ -30,4 +29,4 @@ module _ (expander : Answers) (current : VersionNumbers) (tokens : List Signific
 
 -- without the limit of depth
 pub free : (expander : Answers) (tokens : List SignificantToken) (tree : Tree) (cooked : List (List ℕ)) → FileTree tokens tree → Cooks expander (map lexeme (literals tree)) cooked → file expander tokens ≡ Ok tree
-free expander tokens tree cooked h cooks = file_read expander (file_limited itself itself h) (all_cook expander (literals tree) cooked cooks)
+free expander tokens tree cooked h cooks = file_read expander (file_limited itself itself line_of h) (all_cook expander (literals tree) cooked cooks)

@@ -2,18 +2,28 @@
 use Rattle.std.proofs.Common.{◌≡◌, true, ℕ, List, [], ◌∷◌, ◌++◌, map, Option, Some, None, is_some, refl, sym, subst, ap, ◌∙◌}
 use Rattle.std.proofs.lemmas.List.{append_assoc}
 use Rattle.justfile_model.specs.Tok.{Tok}
-use Rattle.justfile_model.specs.Tree.{Item, lexeme}
+use Rattle.justfile_model.specs.Tree.{Fragment, Text, Interpolation, BodyLine, Line, Item, before, trimmed, lexeme}
 use Rattle.justfile_model.specs.Literals.{Answers, cooked_text, Cooks}
-use Rattle.justfile_model.specs.Files.{item_literals, literals}
+use Rattle.justfile_model.specs.Files.{expr_literals, fragments_literals, body_literals, item_literals, literals}
 
 -- each of the literals has a text
 abbrev pub AllCook : Answers → List Tok → Type 0
 AllCook expander [] = Unit {0}
 AllCook expander (t ∷ ts) = (is_some (cooked_text expander t.lexeme) ≡ true) × AllCook expander ts
 
-pub literals_append : {A B : Type 0} (is js : List (Item A B)) → literals (is ++ js) ≡ literals is ++ literals js
+pub literals_append : {A B C : Type 0} (is js : List (Item A B C)) → literals (is ++ js) ≡ literals is ++ literals js
 literals_append [] js = refl
 literals_append (i ∷ is) js = ap (λ l. item_literals i ++ l) (literals_append is js) ∙ sym (append_assoc (item_literals i) (literals is) (literals js))
+
+before_literals : {A B C : Type 0} (l : BodyLine A B C) (ls : List (BodyLine A B C)) → body_literals (before l ls) ≡ body_literals (l ∷ ls)
+before_literals (Line number []) [] = refl
+before_literals (Line number []) (l ∷ ls) = refl
+before_literals (Line number (f ∷ fragments)) ls = refl
+
+-- no literal stands in an empty line
+pub trimmed_literals : {A B C : Type 0} (ls : List (BodyLine A B C)) → body_literals (trimmed ls) ≡ body_literals ls
+trimmed_literals [] = refl
+trimmed_literals (Line number fragments ∷ ls) = before_literals (Line number fragments) (trimmed ls) ∙ ap (λ l. fragments_literals fragments ++ l) (trimmed_literals ls)
 
 module _ (expander : Answers) where
   pub both_cook : (ts us : List Tok) → AllCook expander ts → AllCook expander us → AllCook expander (ts ++ us)
@@ -28,7 +38,16 @@ module _ (expander : Answers) where
   then_cook [] us a = a
   then_cook (t ∷ ts) us a = then_cook ts us a.1
 
-  pub items_cook : (is js : List (Item Tok Tok)) → AllCook expander (literals is) → AllCook expander (literals js) → AllCook expander (literals (is ++ js))
+  -- a fragment, and those behind it
+  pub fragments_cook : {B : Type 0} (f : Fragment Tok B) (more : List (Fragment Tok B)) → AllCook expander (fragments_literals (f ∷ [])) → AllCook expander (fragments_literals more) → AllCook expander (fragments_literals (f ∷ more))
+  fragments_cook (Text token) more a b = b
+  fragments_cook (Interpolation value) more a b = both_cook (expr_literals value) (fragments_literals more) (first_cook (expr_literals value) [] a) b
+
+  -- a line, and those behind it
+  pub lines_cook : {B C : Type 0} (l : BodyLine Tok B C) (more : List (BodyLine Tok B C)) → AllCook expander (body_literals (l ∷ [])) → AllCook expander (body_literals more) → AllCook expander (body_literals (l ∷ more))
+  lines_cook (Line number fragments) more a b = both_cook (fragments_literals fragments) (body_literals more) (first_cook (fragments_literals fragments) [] a) b
+
+  pub items_cook : {B C : Type 0} (is js : List (Item Tok B C)) → AllCook expander (literals is) → AllCook expander (literals js) → AllCook expander (literals (is ++ js))
   items_cook is js a b = subst (AllCook expander) (sym (literals_append is js)) (both_cook (literals is) (literals js) a b)
 
   text_inside : (o : Option (List ℕ)) → is_some o ≡ true → (text : List ℕ) × (o ≡ Some text)

@@ -4,10 +4,10 @@ use Rattle.std.proofs.lemmas.List.{map-append}
 use Rattle.justfile_model.specs.Tok.{Tok}
 use Rattle.justfile_model.specs.SignificantTokens.{SignificantToken}
 use Rattle.justfile_model.specs.Tree as tree
-use Rattle.justfile_model.specs.Tree.{Expr, Item, Tree, Shape, over_expr, over_item, lexeme, nothing, itself, shape_of}
+use Rattle.justfile_model.specs.Tree.{Expr, Fragment, BodyLine, Line, Item, Tree, Shape, over_expr, over_fragment, over_line, over_item, lexeme, nothing, itself, line_of, shape_of}
 use Rattle.justfile_model.specs.Grammar.{front, File}
 use Rattle.justfile_model.specs.Literals.{Answers, Cooks}
-use Rattle.justfile_model.specs.Files.{VersionNumbers, expr_literals, item_literals, literals, FileDerives, ShapeDerives}
+use Rattle.justfile_model.specs.Files.{VersionNumbers, expr_literals, fragments_literals, body_literals, item_literals, literals, FileDerives, ShapeDerives}
 use Rattle.justfile_model.proofs.Agreement.{one_tree}
 use Rattle.justfile_model.proofs.Carry as c
 use Rattle.justfile_model.proofs.Carry.{Same, Pairs, nil, cons}
@@ -21,12 +21,22 @@ expr_itself : {A B : Type 0} (e : Expr A B) → over_expr same_leaf same_leaf e 
 expr_itself (tree.StringLiteral token) = refl
 expr_itself (tree.Variable name) = refl
 
-item_itself : {A B : Type 0} (i : Item A B) → over_item same_leaf same_leaf i ≡ i
+fragments_itself : {A B : Type 0} (fragments : List (Fragment A B)) → map (over_fragment same_leaf same_leaf) fragments ≡ fragments
+fragments_itself [] = refl
+fragments_itself (tree.Text token ∷ fragments) = λ k. tree.Text token ∷ fragments_itself fragments k
+fragments_itself (tree.Interpolation value ∷ fragments) = λ k. tree.Interpolation (expr_itself value k) ∷ fragments_itself fragments k
+
+body_itself : {A B C : Type 0} (body : List (BodyLine A B C)) → map (over_line same_leaf same_leaf same_leaf) body ≡ body
+body_itself [] = refl
+body_itself (Line number fragments ∷ body) = λ k. Line number (fragments_itself fragments k) ∷ body_itself body k
+
+item_itself : {A B C : Type 0} (i : Item A B C) → over_item same_leaf same_leaf same_leaf i ≡ i
 item_itself (tree.Assignment name value) = ap (tree.Assignment name) (expr_itself value)
 item_itself (tree.Comment text) = refl
 item_itself tree.Newline = refl
+item_itself (tree.Recipe name body) = ap (tree.Recipe name) (body_itself body)
 
-pub items_itself : {A B : Type 0} (items : List (Item A B)) → map (over_item same_leaf same_leaf) items ≡ items
+pub items_itself : {A B C : Type 0} (items : List (Item A B C)) → map (over_item same_leaf same_leaf same_leaf) items ≡ items
 items_itself [] = refl
 items_itself (i ∷ items) = λ k. item_itself i k ∷ items_itself items k
 
@@ -36,10 +46,22 @@ expr_lexemes : (e : Expr Tok Tok) → expr_literals (over_expr lexeme nothing e)
 expr_lexemes (tree.StringLiteral token) = refl
 expr_lexemes (tree.Variable name) = refl
 
-item_lexemes : (i : Item Tok Tok) → item_literals (over_item lexeme nothing i) ≡ map lexeme (item_literals i)
+fragments_lexemes : (fragments : List (Fragment Tok Tok)) → fragments_literals (map (over_fragment lexeme nothing) fragments) ≡ map lexeme (fragments_literals fragments)
+fragments_lexemes [] = refl
+fragments_lexemes (tree.Text token ∷ fragments) = fragments_lexemes fragments
+fragments_lexemes (tree.Interpolation value ∷ fragments) =
+    (λ k. expr_lexemes value k ++ fragments_lexemes fragments k) ∙ sym (map-append lexeme (expr_literals value) (fragments_literals fragments))
+
+body_lexemes : (body : List (BodyLine Tok Tok ℕ)) → body_literals (map (over_line lexeme nothing nothing) body) ≡ map lexeme (body_literals body)
+body_lexemes [] = refl
+body_lexemes (Line number fragments ∷ body) =
+    (λ k. fragments_lexemes fragments k ++ body_lexemes body k) ∙ sym (map-append lexeme (fragments_literals fragments) (body_literals body))
+
+item_lexemes : (i : Item Tok Tok ℕ) → item_literals (over_item lexeme nothing nothing i) ≡ map lexeme (item_literals i)
 item_lexemes (tree.Assignment name value) = expr_lexemes value
 item_lexemes (tree.Comment text) = refl
 item_lexemes tree.Newline = refl
+item_lexemes (tree.Recipe name body) = body_lexemes body
 
 pub lexemes : (t : Tree) → literals (shape_of t) ≡ map lexeme (literals t)
 lexemes [] = refl
@@ -66,15 +88,15 @@ module _ (Open : ℕ → Option SignificantToken → Type 0) where
   still d ts us s o = subst (λ x. Open d (front x)) (pairs_equal s) o
 
   -- a tree's derivation is one of its shape
-  pub forget : {all : Tree} {ts : List SignificantToken} → File itself itself Open all ts → File lexeme nothing Open (shape_of all) ts
+  pub forget : {all : Tree} {ts : List SignificantToken} → File itself itself line_of Open all ts → File lexeme nothing nothing Open (shape_of all) ts
   forget {all} {ts} h =
-      let x = c.file itself itself Open (λ t u. t ≡ u) equal_same lexeme nothing Open lexeme nothing same_leaf same_leaf equal_lexemes (λ t u s. refl) still h ts (equal_pairs ts) in
-      subst (λ y. File lexeme nothing Open y ts) (sym (items_itself x.tree) ∙ x.alike) x.derives
+      let x = c.file itself itself line_of Open (λ t u. t ≡ u) equal_same lexeme nothing nothing Open lexeme nothing nothing same_leaf same_leaf same_leaf equal_lexemes (λ t u s. refl) (λ t u s. refl) still h ts (equal_pairs ts) in
+      subst (λ y. File lexeme nothing nothing Open y ts) (sym (items_itself x.tree) ∙ x.alike) x.derives
 
   -- a shape's derivation is that of a tree with this shape
-  pub lift : {shape : Shape} {ts : List SignificantToken} → File lexeme nothing Open shape ts → (all : Tree) × File itself itself Open all ts × (shape_of all ≡ shape)
+  pub lift : {shape : Shape} {ts : List SignificantToken} → File lexeme nothing nothing Open shape ts → (all : Tree) × File itself itself line_of Open all ts × (shape_of all ≡ shape)
   lift {shape} {ts} h =
-      let x = c.file lexeme nothing Open (λ t u. t ≡ u) equal_same itself itself Open same_leaf same_leaf lexeme nothing equal_lexemes (λ t u s. refl) still h ts (equal_pairs ts) in
+      let x = c.file lexeme nothing nothing Open (λ t u. t ≡ u) equal_same itself itself line_of Open same_leaf same_leaf same_leaf lexeme nothing nothing equal_lexemes (λ t u s. refl) (λ t u s. refl) still h ts (equal_pairs ts) in
       (x.tree, x.derives, x.alike ∙ items_itself shape)
 
 -- ---- files

@@ -9,7 +9,7 @@ use Rattle.justfile_base.specs.declared.token_kind.TokenKind.{TokenKind}
 use Rattle.justfile_base.specs.declared.token_kind.TokenKind.TheVariants as kinds
 use Rattle.justfile_model.specs.SignificantTokens.{SignificantToken}
 use Rattle.justfile_model.specs.Grammar.{IsKind, IsWord}
-use Rattle.justfile_model.specs.Reader.{Refusal, Unexpected, ◌>>=◌, same_kind, is_variable, accept, accept_variable, choose, expect, refused}
+use Rattle.justfile_model.specs.Reader.{Refusal, Unexpected, ◌>>=◌, same_kind, is_variable, accept, accept_variable, choose, expect, next_are, refused}
 
 -- the next token isn't of this kind
 abbrev pub NotNext : TokenKind → List SignificantToken → Type 0
@@ -29,11 +29,22 @@ pub after_test : {A : Type 0} (b : Bool) (x y : A) (P : A → Type 0) → (b ≡
 after_test true x y P then otherwise = then refl
 after_test false x y P then otherwise = otherwise refl
 
+pub test_alike : {A : Type 0} (b : Bool) (x y z : A) → (b ≡ false → y ≡ z) → cond b x y ≡ cond b x z
+test_alike true x y z h = refl
+test_alike false x y z h = h refl
+
 -- what is known of an answer
 pub known : {A : Type 0} {found : Result A Refusal} (x : A) (Q : A → Type 0) → found ≡ Ok x → IfOk found Q → Q x
 known x Q e h = let P : Result _ Refusal → Type 0 = λ o. IfOk o Q in subst P e h
 
 -- ---- a token of a kind
+
+is_false : (b : Bool) → (b ≡ true → ⊥) → b ≡ false
+is_false true h = absurd (h refl)
+is_false false h = refl
+
+true_not_false : (b : Bool) → b ≡ true → b ≡ false → ⊥
+true_not_false b e f = cc
 
 tested : (kind : TokenKind) (t : SignificantToken) (ts : List SignificantToken) (P : Option (SignificantToken × List SignificantToken) → Type 0) → (IsKind kind t → P (Some (t, ts))) → ((IsKind kind t → ⊥) → P None) → (b : Bool) → same_kind t.tok.kind kind ≡ b → P (cond b (Some (t, ts)) None)
 unfolding same_kind
@@ -55,6 +66,41 @@ unfolding accept same_kind
 accept_left kind [] h = refl
 accept_left kind (t ∷ ts) h = ap (λ b. cond b (Some (t, ts)) None) (false_same the_type tt _ _ h)
 
+-- ---- tokens of these kinds
+
+-- the next tokens are of these kinds
+abbrev pub AreNext : List TokenKind → List SignificantToken → Type 0
+AreNext [] ts = Unit {0}
+AreNext (kind ∷ kinds) [] = ⊥
+AreNext (kind ∷ kinds) (t ∷ ts) = IsKind kind t × AreNext kinds ts
+
+pub are_next : (kinds : List TokenKind) (ts : List SignificantToken) → next_are kinds ts ≡ true → AreNext kinds ts
+unfolding next_are same_kind
+are_next [] ts h = tt
+are_next (kind ∷ kinds) [] h = cc
+are_next (kind ∷ kinds) (t ∷ ts) h =
+    let parts = and_parts (same_kind t.tok.kind kind) (next_are kinds ts) h in
+    (same_true the_type tt _ _ parts.0, are_next kinds ts parts.1)
+
+both_true : (x y : Bool) → x ≡ true → y ≡ true → (x && y) ≡ true
+both_true x y e f = rw (e, f) refl
+
+pub next_taken : (kinds : List TokenKind) (ts : List SignificantToken) → AreNext kinds ts → next_are kinds ts ≡ true
+unfolding next_are same_kind
+next_taken [] ts h = refl
+next_taken (kind ∷ kinds) [] h = absurd h
+next_taken (kind ∷ kinds) (t ∷ ts) h = both_true (same_kind t.tok.kind kind) (next_are kinds ts) (true_same the_type _ _ h.0) (next_taken kinds ts h.1)
+
+pub next_left : (kinds : List TokenKind) (ts : List SignificantToken) → (AreNext kinds ts → ⊥) → next_are kinds ts ≡ false
+next_left kinds ts h = is_false (next_are kinds ts) (λ e. h (are_next kinds ts e))
+
+pub not_next : (kinds : List TokenKind) (ts : List SignificantToken) → next_are kinds ts ≡ false → AreNext kinds ts → ⊥
+not_next kinds ts e h = true_not_false (next_are kinds ts) (next_taken kinds ts h) e
+
+-- no such token comes next
+pub accept_none : (kind : TokenKind) (ts : List SignificantToken) → accept kind ts ≡ None → NotNext kind ts
+accept_none kind ts = after_accept kind ts (λ o. o ≡ None → NotNext kind ts) (λ not e. not) (λ t rest split is e. cc)
+
 -- ---- a name other than `if` and `assert`
 
 pub record IsVariable (t : SignificantToken) : Type 0 where
@@ -69,13 +115,6 @@ neither true y h = cc
 
 all_true : (x y z : Bool) → x ≡ true → y ≡ false → z ≡ false → (x && not (y || z)) ≡ true
 all_true x y z e f g = rw (e, f, g) refl
-
-is_false : (b : Bool) → (b ≡ true → ⊥) → b ≡ false
-is_false true h = absurd (h refl)
-is_false false h = refl
-
-true_not_false : (b : Bool) → b ≡ true → b ≡ false → ⊥
-true_not_false b e f = cc
 
 variable_is : (t : SignificantToken) → is_variable t ≡ true → IsVariable t
 unfolding is_variable same_kind
@@ -127,8 +166,8 @@ variable_shorter ts p = cut_shorter ts (accept_variable ts) p (after_variable ts
 
 -- ---- choices
 
-pub choose_alike : {A : Type 0} (o : Option (SignificantToken × List SignificantToken)) (x y : A) (f g : SignificantToken × List SignificantToken → A) → x ≡ y → ((p : SignificantToken × List SignificantToken) → o ≡ Some p → f p ≡ g p) → choose o x f ≡ choose o y g
-choose_alike None x y f g e h = e
+pub choose_alike : {A : Type 0} (o : Option (SignificantToken × List SignificantToken)) (x y : A) (f g : SignificantToken × List SignificantToken → A) → (o ≡ None → x ≡ y) → ((p : SignificantToken × List SignificantToken) → o ≡ Some p → f p ≡ g p) → choose o x f ≡ choose o y g
+choose_alike None x y f g e h = e refl
 choose_alike (Some p) x y f g e h = h p refl
 
 pub after_choose : {A : Type 0} (kind : TokenKind) (ts : List SignificantToken) (x : A) (f : SignificantToken × List SignificantToken → A) (P : A → Type 0) → (NotNext kind ts → P x) → ((t : SignificantToken) (rest : List SignificantToken) → ts ≡ t ∷ rest → IsKind kind t → P (f (t, rest))) → P (choose (accept kind ts) x f)

@@ -1,7 +1,7 @@
 -- What a file derives.
 use Rattle.std.specs.Prelude.{◌≡◌, ℕ, ◌+◌, ◌-◌, ◌^◌, ◌≤◌, List, [], ◌∷◌, ◌++◌, map}
 use Rattle.justfile_model.specs.SignificantTokens.{SignificantToken}
-use Rattle.justfile_model.specs.Tree.{Expr, StringLiteral, Variable, Item, Assignment, Comment, Newline, Tree, Shape, lexeme, nothing, itself}
+use Rattle.justfile_model.specs.Tree.{Expr, StringLiteral, Variable, Fragment, Text, Interpolation, BodyLine, Line, Item, Assignment, Comment, Newline, Recipe, Tree, Shape, lexeme, nothing, itself, line_of}
 use Rattle.justfile_model.specs.Grammar.{File, Free, Limited}
 use Rattle.justfile_model.specs.Literals.{Answers, Cooks}
 
@@ -16,46 +16,69 @@ abbrev pub expr_literals : {A B : Type 0} → Expr A B → List A
 expr_literals (StringLiteral token) = token ∷ []
 expr_literals (Variable name) = []
 
-abbrev pub item_literals : {A B : Type 0} → Item A B → List A
+abbrev pub fragments_literals : {A B : Type 0} → List (Fragment A B) → List A
+fragments_literals [] = []
+fragments_literals (Text token ∷ fragments) = fragments_literals fragments
+fragments_literals (Interpolation value ∷ fragments) = expr_literals value ++ fragments_literals fragments
+
+abbrev pub body_literals : {A B C : Type 0} → List (BodyLine A B C) → List A
+body_literals [] = []
+body_literals (Line number fragments ∷ lines) = fragments_literals fragments ++ body_literals lines
+
+abbrev pub item_literals : {A B C : Type 0} → Item A B C → List A
 item_literals (Assignment name value) = expr_literals value
 item_literals (Comment text) = []
 item_literals Newline = []
+item_literals (Recipe name body) = body_literals body
 
-abbrev pub literals : {A B : Type 0} → List (Item A B) → List A
+abbrev pub literals : {A B C : Type 0} → List (Item A B C) → List A
 literals [] = []
 literals (i ∷ items) = item_literals i ++ literals items
 
 -- how many numbers of bindings an item takes
-abbrev pub item_bindings : {A B : Type 0} → Item A B → ℕ
+abbrev pub item_bindings : {A B C : Type 0} → Item A B C → ℕ
 item_bindings (Assignment name value) = 1
 item_bindings (Comment text) = 0
 item_bindings Newline = 0
+item_bindings (Recipe name body) = 0
 
-abbrev pub bindings : {A B : Type 0} → List (Item A B) → ℕ
+abbrev pub bindings : {A B C : Type 0} → List (Item A B C) → ℕ
 bindings [] = 0
 bindings (i ∷ items) = item_bindings i + bindings items
+
+-- how many numbers of recipes an item takes
+abbrev pub item_recipes : {A B C : Type 0} → Item A B C → ℕ
+item_recipes (Assignment name value) = 0
+item_recipes (Comment text) = 0
+item_recipes Newline = 0
+item_recipes (Recipe name body) = 1
+
+abbrev pub recipes : {A B C : Type 0} → List (Item A B C) → ℕ
+recipes [] = 0
+recipes (i ∷ items) = item_recipes i + recipes items
 
 -- numbers that count up from the first
 abbrev pub NumbersFrom : ℕ → List ℕ → Type 0
 NumbersFrom first [] = Unit {0}
 NumbersFrom first (n ∷ ns) = (n ≡ first) × NumbersFrom (first + 1) ns
 
--- the numbers suffice, where the counter of bindings stands there
-abbrev pub NumbersSuffice : {A B : Type 0} → ℕ → List (Item A B) → Type 0
-NumbersSuffice counter items = counter + bindings items ≤ 2 ^ 32 - 1
+-- the numbers suffice, where the counters of bindings and of recipes stand there
+pub record NumbersSuffice {A B C : Type 0} (binding recipe : ℕ) (items : List (Item A B C)) : Type 0 where
+  pub bindings_suffice : binding + bindings items ≤ 2 ^ 32 - 1
+  pub recipes_suffice : recipe + recipes items ≤ 2 ^ 32 - 1
 
 -- the grammar alone: no limit of depth, and any text in a literal
 abbrev pub FileTree : List SignificantToken → Tree → Type 0
-FileTree tokens tree = File itself itself Free tree tokens
+FileTree tokens tree = File itself itself line_of Free tree tokens
 
 -- the tree of a file's tokens, under an expander and a running version
 pub record FileDerives (expander : Answers) (current : VersionNumbers) (tokens : List SignificantToken) (tree : Tree) : Type 0 where
-  pub derives : File itself itself Limited tree tokens
+  pub derives : File itself itself line_of Limited tree tokens
   pub cooked : List (List ℕ)
   pub cooks : Cooks expander (map lexeme (literals tree)) cooked
 
 -- the same of a shape
 pub record ShapeDerives (expander : Answers) (current : VersionNumbers) (tokens : List SignificantToken) (shape : Shape) : Type 0 where
-  pub derives : File lexeme nothing Limited shape tokens
+  pub derives : File lexeme nothing nothing Limited shape tokens
   pub cooked : List (List ℕ)
   pub cooks : Cooks expander (literals shape) cooked

@@ -1,6 +1,6 @@
 -- The shape that printing keeps: between other items at most two line ends in a run, and one behind the last.
 use Rattle.std.specs.Prelude.{[], ◌∷◌}
-use Rattle.justfile_model.specs.Tree.{Assignment, Comment, Newline, Shape}
+use Rattle.justfile_model.specs.Tree.{Assignment, Comment, Newline, Recipe, Shape}
 
 -- a line end before these: none before the one at the end, and at most two before another item
 abbrev pub behind_newline : Shape → Shape
@@ -14,6 +14,7 @@ normal_rest [] = Newline ∷ []
 normal_rest (Newline ∷ items) = behind_newline (normal_rest items)
 normal_rest (Assignment name value ∷ items) = Assignment name value ∷ normal_rest items
 normal_rest (Comment text ∷ items) = Comment text ∷ normal_rest items
+normal_rest (Recipe name body ∷ items) = Recipe name body ∷ normal_rest items
 
 abbrev pub normal : Shape → Shape
 normal [] = []

@@ -1,6 +1,7 @@
 -- The printed text, of a normal shape at an indentation.
-use Rattle.std.specs.Prelude.{ℕ, List, [], ◌∷◌, ◌++◌, codes}
-use Rattle.justfile_model.specs.Tree.{Expr, StringLiteral, Variable, Item, Assignment, Comment, Newline, Shape}
+use Rattle.std.specs.Prelude.{ℕ, Bool, true, not, ◌&&◌, List, [], ◌∷◌, ◌++◌, ◌==◌, false, codes}
+use Rattle.std.specs.List.{flat_map}
+use Rattle.justfile_model.specs.Tree.{Expr, StringLiteral, Variable, Fragment, Text, Interpolation, BodyLine, Line, Item, Assignment, Comment, Newline, Recipe, Shape}
 
 -- a piece that is the same in every text; kept folded, so that a text stays a row of pieces
 unfoldable pub piece : List ℕ → List ℕ
@@ -10,19 +11,57 @@ abbrev pub expr_text : Expr (List ℕ) (Unit {0}) → List ℕ
 expr_text (StringLiteral lexeme) = lexeme
 expr_text (Variable name) = name
 
-abbrev pub item_text : Item (List ℕ) (Unit {0}) → List ℕ
-item_text (Assignment name value) = name ++ piece (codes " := ") ++ expr_text value
-item_text (Comment text) = text
-item_text Newline = []
+abbrev pub fragment_text : Fragment (List ℕ) (Unit {0}) → List ℕ
+fragment_text (Text lexeme) = lexeme
+fragment_text (Interpolation value) = piece (codes "{{ ") ++ expr_text value ++ piece (codes " }}")
+
+-- a line of a body; one that is empty has no indentation
+abbrev pub line_text : (indentation : List ℕ) → BodyLine (List ℕ) (Unit {0}) (Unit {0}) → List ℕ
+line_text indentation (Line number []) = []
+line_text indentation (Line number fragments) = indentation ++ flat_map fragment_text fragments
+
+-- each line of a body on a line of its own, behind the one before
+abbrev pub body_text : (indentation : List ℕ) → List (BodyLine (List ℕ) (Unit {0}) (Unit {0})) → List ℕ
+body_text indentation = flat_map (λ line. piece (codes "\n") ++ line_text indentation line)
+
+abbrev pub item_text : Item (List ℕ) (Unit {0}) (Unit {0}) → (indentation : List ℕ) → List ℕ
+item_text (Assignment name value) indentation = name ++ piece (codes " := ") ++ expr_text value
+item_text (Comment text) indentation = text
+item_text Newline indentation = []
+item_text (Recipe name body) indentation = name ++ piece (codes ":") ++ body_text indentation body
 
 -- what stands behind an item: a newline behind a line end, a space between two others
-abbrev pub item_end : {A B : Type 0} → Item A B → List (Item A B) → List ℕ
+abbrev pub item_end : {A B C : Type 0} → Item A B C → List (Item A B C) → List ℕ
 item_end Newline items = piece (codes "\n")
 item_end i [] = []
 item_end i (Newline ∷ items) = []
 item_end i (j ∷ items) = piece (codes " ")
 
--- the text of a file; bodies alone are indented
+-- the text of a file; the lines of bodies alone are indented
 abbrev pub text : Shape → (indentation : List ℕ) → List ℕ
 text [] indentation = []
-text (i ∷ items) indentation = item_text i ++ item_end i items ++ text items indentation
+text (i ∷ items) indentation = item_text i indentation ++ item_end i items ++ text items indentation
+
+abbrev pub ends_in_return : List ℕ → Bool
+ends_in_return [] = false
+ends_in_return (b ∷ []) = b == 13
+ends_in_return (b ∷ bs) = ends_in_return bs
+
+-- its last fragment is no text that ends in a carriage return, which would be read as part of the line's end
+abbrev pub printable_fragments : {B : Type 0} → List (Fragment (List ℕ) B) → Bool
+printable_fragments [] = true
+printable_fragments (Text lexeme ∷ []) = not (ends_in_return lexeme)
+printable_fragments (f ∷ fragments) = printable_fragments fragments
+
+abbrev pub printable_body : {B C : Type 0} → List (BodyLine (List ℕ) B C) → Bool
+printable_body [] = true
+printable_body (Line number fragments ∷ lines) = printable_fragments fragments && printable_body lines
+
+abbrev pub printable_item : {B C : Type 0} → Item (List ℕ) B C → Bool
+printable_item (Recipe name body) = printable_body body
+printable_item _ = true
+
+-- no line of a body ends in a carriage return
+abbrev pub printable : {B C : Type 0} → List (Item (List ℕ) B C) → Bool
+printable [] = true
+printable (i ∷ items) = printable_item i && printable items

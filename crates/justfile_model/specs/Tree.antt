@@ -1,24 +1,45 @@
--- Syntax trees, over what stands at their leaves: `A` where a shape keeps a lexeme, `B` where it keeps nothing of a token.
--- In a tree both are tokens; in a shape they are lexemes, and nothing.
-use Rattle.std.specs.Prelude.{ℕ, List, map}
+-- Syntax trees, over what stands at their leaves: `A` where a shape keeps a lexeme, `B` where it keeps nothing of a token, `C` where a
+-- tree keeps the line of a token. In a tree these are tokens, tokens and numbers; in a shape lexemes, nothing and nothing.
+use Rattle.std.specs.Prelude.{ℕ, List, [], ◌∷◌, map}
 use Rattle.justfile_model.specs.Tok.{Tok}
 
 pub data Expr (A B : Type 0) : Type 0 where
   StringLiteral : (token : A) → Expr A B
   Variable : (name : A) → Expr A B
 
-pub data Item (A B : Type 0) : Type 0 where
-  Assignment : (name : A) (value : Expr A B) → Item A B
+-- a part of a line of a body: text that stands for itself, or an expression between `{{` and `}}`
+pub data Fragment (A B : Type 0) : Type 0 where
+  Text : (token : A) → Fragment A B
+  Interpolation : (value : Expr A B) → Fragment A B
+
+-- a line of a body, and the line of the file that it begins on
+pub data BodyLine (A B C : Type 0) : Type 0 where
+  Line : (number : C) (fragments : List (Fragment A B)) → BodyLine A B C
+
+pub data Item (A B C : Type 0) : Type 0 where
+  Assignment : (name : A) (value : Expr A B) → Item A B C
   -- a comment without the white space at its end
-  Comment : (text : List ℕ) → Item A B
+  Comment : (text : List ℕ) → Item A B C
   -- the end of a line, or a blank line
-  Newline : Item A B
+  Newline : Item A B C
+  -- a recipe and the lines of its body; none if it has no body
+  Recipe : (name : A) (body : List (BodyLine A B C)) → Item A B C
 
 abbrev pub Tree : Type 0
-Tree = List (Item Tok Tok)
+Tree = List (Item Tok Tok ℕ)
 
 abbrev pub Shape : Type 0
-Shape = List (Item (List ℕ) (Unit {0}))
+Shape = List (Item (List ℕ) (Unit {0}) (Unit {0}))
+
+-- a line before others that are left once empty lines at the end are left out
+abbrev pub before : {A B C : Type 0} → BodyLine A B C → List (BodyLine A B C) → List (BodyLine A B C)
+before (Line number []) [] = []
+before l ls = l ∷ ls
+
+-- lines without the empty ones at the end
+abbrev pub trimmed : {A B C : Type 0} → List (BodyLine A B C) → List (BodyLine A B C)
+trimmed [] = []
+trimmed (l ∷ ls) = before l (trimmed ls)
 
 -- what is at the leaves replaced
 module _ {A B C D : Type 0} (f : A → C) (g : B → D) where
@@ -26,22 +47,36 @@ module _ {A B C D : Type 0} (f : A → C) (g : B → D) where
   over_expr (StringLiteral token) = StringLiteral (f token)
   over_expr (Variable name) = Variable (f name)
 
-  abbrev pub over_item : Item A B → Item C D
-  over_item (Assignment name value) = Assignment (f name) (over_expr value)
+  abbrev pub over_fragment : Fragment A B → Fragment C D
+  over_fragment (Text token) = Text (f token)
+  over_fragment (Interpolation value) = Interpolation (over_expr value)
+
+module _ {A B C D E F : Type 0} (f : A → D) (g : B → E) (h : C → F) where
+  abbrev pub over_line : BodyLine A B C → BodyLine D E F
+  over_line (Line number fragments) = Line (h number) (map (over_fragment f g) fragments)
+
+  abbrev pub over_item : Item A B C → Item D E F
+  over_item (Assignment name value) = Assignment (f name) (over_expr f g value)
   over_item (Comment text) = Comment text
   over_item Newline = Newline
+  over_item (Recipe name body) = Recipe (f name) (map over_line body)
 
 -- what a shape keeps of a token
 abbrev pub lexeme : Tok → List ℕ
 lexeme t = t.lexeme
 
-abbrev pub nothing : Tok → Unit {0}
-nothing t = tt
+-- what a shape keeps of a place
+abbrev pub nothing : {X : Type 0} → X → Unit {0}
+nothing x = tt
 
 -- what a tree keeps of a token
 abbrev pub itself : Tok → Tok
 itself t = t
 
+-- the line that a token begins on
+abbrev pub line_of : Tok → ℕ
+line_of t = t.line
+
 -- the tree without its places
 abbrev pub shape_of : Tree → Shape
-shape_of = map (over_item lexeme nothing)
+shape_of = map (over_item lexeme nothing nothing)

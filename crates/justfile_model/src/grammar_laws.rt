@@ -1,11 +1,11 @@
 //! Laws of the grammar, each the contract of a function that does nothing.
-ghost use Rattle.std.specs.Prelude.{◌≡◌, ◌<◌, ◌≤◌, ℕ, ◌+◌, List, length, map, slice_index, Ok, Some};
-ghost use Rattle.justfile_base.specs.declared.token_kind.TokenKind.TheVariants.{Identifier};
-ghost use Rattle.justfile_model.specs.Files.{VersionNumbers, FileTree, FileDerives, NumbersFrom, ShapeDerives, literals, bindings};
+ghost use Rattle.std.specs.Prelude.{◌≡◌, ◌<◌, ◌≤◌, ℕ, ◌+◌, List, [], ◌∷◌, length, map, slice_index, Ok, Some, true, false};
+ghost use Rattle.justfile_base.specs.declared.token_kind.TokenKind.TheVariants.{ColonEquals, Identifier};
+ghost use Rattle.justfile_model.specs.Files.{VersionNumbers, FileTree, FileDerives, NumbersFrom, ShapeDerives, literals, bindings, recipes};
 ghost use Rattle.justfile_model.specs.Literals.{Answers, Within, Cooks};
 ghost use Rattle.justfile_model.specs.NormalShape.{normal};
-ghost use Rattle.justfile_model.specs.Printing.{text};
-ghost use Rattle.justfile_model.specs.Reader.{accept, assignment, file, items, with_front};
+ghost use Rattle.justfile_model.specs.Printing.{printable, text};
+ghost use Rattle.justfile_model.specs.Reader.{accept, assignment, file, items, next_are, recipe, with_front};
 ghost use Rattle.justfile_model.specs.SignificantTokens.{SignificantToken, identifiers};
 ghost use Rattle.justfile_model.specs.Tok.{Tok};
 ghost use Rattle.justfile_model.specs.Tree.{Item, Tree, Shape, lexeme, shape_of};
@@ -19,12 +19,17 @@ pub fn reads()
     ensures one { (E : Answers) (V : VersionNumbers) (ts : List SignificantToken) (tree other : Tree) → FileDerives E V ts tree → FileDerives E V ts other → tree ≡ other }
 {}
 
-/// A tree has at most as many bindings as its tokens have identifiers, and those of what was read first are some of them.
+/// A tree has at most as many bindings and recipes as its tokens have identifiers, and those of what was read first are
+/// some of them.
 pub fn counts()
-    ensures whole { (E : Answers) (ts : List SignificantToken) (tree : Tree) → file E ts ≡ Ok tree → bindings tree ≤ identifiers ts }
+    ensures whole { (E : Answers) (ts : List SignificantToken) (tree : Tree) → file E ts ≡ Ok tree → bindings tree + recipes tree ≤ identifiers ts }
     ensures first { (E : Answers) (done : Tree) (ts : List SignificantToken) (tree : Tree) → with_front E done (items E ts) ≡ Ok tree → bindings done ≤ bindings tree }
-    ensures next { (E : Answers) (done : Tree) (ts : List SignificantToken) (tree : Tree) → with_front E done (items E ts) ≡ Ok tree → (x : SignificantToken × List SignificantToken) → accept Identifier ts ≡ Some x → bindings done + 1 ≤ bindings tree }
-    ensures assigned { (E : Answers) (done : Tree) (ts : List SignificantToken) (tree : Tree) → with_front E done (items E ts) ≡ Ok tree → (x : Item Tok Tok × List SignificantToken) → assignment E ts ≡ Ok x → bindings done + 1 ≤ bindings tree }
+    ensures first_recipes { (E : Answers) (done : Tree) (ts : List SignificantToken) (tree : Tree) → with_front E done (items E ts) ≡ Ok tree → recipes done ≤ recipes tree }
+    // A name before `:=` is a binding's, and any other name that begins a line is a recipe's.
+    ensures next { (E : Answers) (done : Tree) (ts : List SignificantToken) (tree : Tree) → with_front E done (items E ts) ≡ Ok tree → next_are (Identifier ∷ ColonEquals ∷ []) ts ≡ true → bindings done + 1 ≤ bindings tree }
+    ensures next_recipe { (E : Answers) (done : Tree) (ts : List SignificantToken) (tree : Tree) → with_front E done (items E ts) ≡ Ok tree → (x : SignificantToken × List SignificantToken) → accept Identifier ts ≡ Some x → next_are (Identifier ∷ ColonEquals ∷ []) ts ≡ false → recipes done + 1 ≤ recipes tree }
+    ensures assigned { (E : Answers) (done : Tree) (ts : List SignificantToken) (tree : Tree) → with_front E done (items E ts) ≡ Ok tree → (x : Item Tok Tok ℕ × List SignificantToken) → assignment E ts ≡ Ok x → bindings done + 1 ≤ bindings tree }
+    ensures headed { (E : Answers) (done : Tree) (ts : List SignificantToken) (tree : Tree) → with_front E done (items E ts) ≡ Ok tree → (x : Item Tok Tok ℕ × List SignificantToken) → recipe E ts ≡ Ok x → recipes done + 1 ≤ recipes tree }
 {}
 
 /// A tree derives where its shape does, and tokens derive at most one shape, whose literals have one row of texts.
@@ -35,11 +40,13 @@ pub fn shapes()
     ensures texts { (E : Answers) (lexemes texts others : List (List ℕ)) → Cooks E lexemes texts → Cooks E lexemes others → texts ≡ others }
 {}
 
-/// The normal shape is its own, and has the same literals and as many bindings.
+/// The normal shape is its own, has the same literals, as many bindings and as many recipes, and is printable where the shape is.
 pub fn normal_twice()
     ensures twice { (s : Shape) → normal (normal s) ≡ normal s }
     ensures same_literals { (s : Shape) → literals (normal s) ≡ literals s }
     ensures same_bindings { (s : Shape) → bindings (normal s) ≡ bindings s }
+    ensures same_recipes { (s : Shape) → recipes (normal s) ≡ recipes s }
+    ensures same_printable { (s : Shape) → printable (normal s) ≡ printable s }
 {}
 
 /// What derives where an expander answers less derives where it answers more.
