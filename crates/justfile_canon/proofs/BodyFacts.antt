@@ -18,14 +18,15 @@ use Rattle.justfile_model.specs.SignificantTokens.{SignificantToken, is_whitespa
 use Rattle.justfile_model.specs.Modes.{Mode, start, after, is_empty, tail_of, innermost_of}
 use Rattle.justfile_model.specs.Lexed.{Lexed}
 use Rattle.justfile_model.specs.Next.{Found, inline, inside, body, text_or, InText, region_by, token_in_region, at_end_by, is_level, is_blank_line, next}
+use Rattle.justfile_model.specs.Printing.{ends_in_return}
 use Rattle.justfile_model.proofs.CutLemmas.{is_line_feed}
 use Rattle.justfile_canon.proofs.Reading.{take_front, drop_front}
 use Rattle.justfile_canon.proofs.Inline.{Each, head_is}
 use Rattle.justfile_canon.proofs.Lines.{at_item, item_next}
 use Rattle.justfile_canon.proofs.BodyLines.{IsRaw, IsWhite, white_blanks, closes_over, no_feed, swapped}
-use Rattle.justfile_canon.proofs.RawTexts.{scan, NoFeed, text_no_feed, text_rest, ends_in_return, raw_newline, raw_braces}
+use Rattle.justfile_canon.proofs.RawTexts.{scan, NoFeed, text_no_feed, text_rest, raw_newline, raw_braces}
 use Rattle.justfile_canon.proofs.Sound.{Runs, runs_one, runs_from}
-use Rattle.justfile_canon.proofs.Bodies.{pale}
+use Rattle.justfile_canon.proofs.Good.{pale}
 use Rattle.justfile_canon.proofs.BodyTokens.{InBody, Clear, At, First, Start, Amid, front, past, Ready, Seen, Empty, NotFirst, Closing, AtEnd, AtBlankLine, AtLevel, TokenFact, token_fact, no_interpolation, in_body_there, stops_here, not_blank_past, past_line_end}
 
 -- ---- runs of blanks

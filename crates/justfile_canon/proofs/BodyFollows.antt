@@ -1,31 +1,21 @@
 -- What is printed behind a body in normal form: nothing, or an item, with line ends before it or not.
 use Rattle.std.proofs.Common.{◌≡◌, ℕ, Bool, true, false, List, [], ◌∷◌, refl, ap, arith}
-use Rattle.std.specs.Prelude.{◌||◌, not}
+use Rattle.std.specs.Prelude.{not}
 use Rattle.justfile_base.specs.ByteClass.{class_of}
 use Rattle.justfile_model.specs.Bytes.{white}
 use Rattle.justfile_model.specs.Modes.{is_empty}
 use Rattle.justfile_model.specs.NormalShape.{behind_newline, normal_rest}
 use Rattle.justfile_model.specs.Tree as tree
 use Rattle.justfile_model.specs.Tree.{Shape}
-use Rattle.justfile_canon.proofs.Canon.{text_on}
-use Rattle.justfile_canon.proofs.Good.{AtStart}
+use Rattle.justfile_canon.proofs.Canon.{Entry, text_on}
+use Rattle.justfile_canon.proofs.Good.{AtStart, blank_only, follows_body}
 use Rattle.justfile_canon.proofs.BodyLines.{ends_body, ends_at_item, ends_at_blank_line}
-
--- line ends alone
-abbrev pub blank_only : Shape → Bool
-blank_only [] = true
-blank_only (tree.Newline ∷ items) = blank_only items
-blank_only (i ∷ items) = false
-
--- nothing, or not line ends alone
-abbrev pub follows_body : Shape → Bool
-follows_body items = is_empty items || not (blank_only items)
 
 -- what stands behind a line end of a normal shape, or at its front
 record Rest (items : Shape) : Type 0 where
   alone : blank_only items ≡ true → items ≡ tree.Newline ∷ []
 
-abbrev behind : Shape → Shape
+abbrev pub behind : Shape → Shape
 behind [] = []
 behind (i ∷ items) = items
 
@@ -33,16 +23,13 @@ newline_rest : (items : Shape) → Rest items → Rest (behind_newline items)
 newline_rest [] h = record { alone = λ e. refl }
 newline_rest (tree.Newline ∷ []) h = record { alone = λ e. refl }
 newline_rest (tree.Newline ∷ tree.Newline ∷ items) h = h
-newline_rest (tree.Newline ∷ tree.Assignment name value ∷ items) h = record { alone = λ e. cc }
-newline_rest (tree.Newline ∷ tree.Comment t ∷ items) h = record { alone = λ e. cc }
-newline_rest (tree.Assignment name value ∷ items) h = record { alone = λ e. cc }
-newline_rest (tree.Comment t ∷ items) h = record { alone = λ e. cc }
+newline_rest (tree.Newline ∷ _ ∷ items) h = record { alone = λ e. cc }
+newline_rest (_ ∷ items) h = record { alone = λ e. cc }
 
 rest_is : (items : Shape) → Rest (normal_rest items)
 rest_is [] = record { alone = λ e. refl }
 rest_is (tree.Newline ∷ items) = newline_rest (normal_rest items) (rest_is items)
-rest_is (tree.Assignment name value ∷ items) = record { alone = λ e. cc }
-rest_is (tree.Comment t ∷ items) = record { alone = λ e. cc }
+rest_is (_ ∷ items) = record { alone = λ e. cc }
 
 not_alone : (items : Shape) → Rest items → (items ≡ tree.Newline ∷ [] → ⊥) → not (blank_only items) ≡ true
 not_alone items h other = by (blank_only items) refl
@@ -59,10 +46,8 @@ newline_follows items = by (normal_rest items) (rest_is items)
     by [] h = refl
     by (tree.Newline ∷ []) h = refl
     by (tree.Newline ∷ tree.Newline ∷ r) h = not_alone (tree.Newline ∷ tree.Newline ∷ r) h (λ e. cc)
-    by (tree.Newline ∷ tree.Assignment name value ∷ r) h = refl
-    by (tree.Newline ∷ tree.Comment t ∷ r) h = refl
-    by (tree.Assignment name value ∷ r) h = refl
-    by (tree.Comment t ∷ r) h = refl
+    by (tree.Newline ∷ _ ∷ r) h = refl
+    by (_ ∷ r) h = refl
 
 hash_white : (x : ℕ) → x ≡ 35 → white (class_of x) ≡ false
 unfolding class_of
@@ -71,19 +56,27 @@ hash_white x e = ap (λ y. white (class_of y)) e
 no_hash : ◌≡◌ {A = ℕ} 0 35 → ⊥
 no_hash e = omega (arith, e)
 
+-- the text of an item is not empty
+some_text : (ind : List ℕ) (j : Entry) (items : Shape) → AtStart (j ∷ items) → is_empty (text_on ind (j ∷ items)) ≡ false
+some_text ind tree.Newline items good = refl
+some_text ind (tree.Assignment [] value) items good = absurd (good.0.is_name)
+some_text ind (tree.Assignment (x ∷ xs) value) items good = refl
+some_text ind (tree.Comment []) items good = absurd (no_hash good.0.comment.first)
+some_text ind (tree.Comment (x ∷ xs)) items good = refl
+some_text ind (tree.Recipe [] []) items good = absurd (good.0.is_name)
+some_text ind (tree.Recipe [] (l ∷ ls)) items good = absurd (good.0.named.is_name)
+some_text ind (tree.Recipe (x ∷ xs) body) items good = refl
+
 -- the printed text of these items may stand behind a body
-pub text_follows : (items : Shape) → AtStart items → follows_body items ≡ true → ends_body (text_on items) ≡ true
-text_follows [] good h = refl
-text_follows (tree.Newline ∷ []) good h = cc
-text_follows (tree.Newline ∷ j ∷ items) good h = ends_at_blank_line (text_on (j ∷ items)) (some j items good) (text_follows (j ∷ items) good h)
-  where
-    some : (j : tree.Item (List ℕ) (Unit {0})) (items : Shape) → AtStart (j ∷ items) → is_empty (text_on (j ∷ items)) ≡ false
-    some tree.Newline items good = refl
-    some (tree.Assignment [] value) items good = absurd (good.0.is_name)
-    some (tree.Assignment (x ∷ xs) value) items good = refl
-    some (tree.Comment []) items good = absurd (no_hash good.0.comment.first)
-    some (tree.Comment (x ∷ xs)) items good = refl
-text_follows (tree.Assignment [] value ∷ items) good h = absurd (good.0.is_name)
-text_follows (tree.Assignment (x ∷ xs) value ∷ items) good h = ends_at_item x _ (ap white (good.0.is_name.0))
-text_follows (tree.Comment [] ∷ items) good h = absurd (no_hash good.0.comment.first)
-text_follows (tree.Comment (x ∷ xs) ∷ items) good h = ends_at_item x _ (hash_white x good.0.comment.first)
+pub text_follows : (ind : List ℕ) (items : Shape) → AtStart items → follows_body items ≡ true → ends_body (text_on ind items) ≡ true
+text_follows ind [] good h = refl
+text_follows ind (tree.Newline ∷ []) good h = cc
+text_follows ind (tree.Newline ∷ j ∷ items) good h = ends_at_blank_line (text_on ind (j ∷ items)) (some_text ind j items good) (text_follows ind (j ∷ items) good h)
+text_follows ind (tree.Assignment [] value ∷ items) good h = absurd (good.0.is_name)
+text_follows ind (tree.Assignment (x ∷ xs) value ∷ items) good h = ends_at_item x _ (ap white (good.0.is_name.0))
+text_follows ind (tree.Comment [] ∷ items) good h = absurd (no_hash good.0.comment.first)
+text_follows ind (tree.Comment (x ∷ xs) ∷ items) good h = ends_at_item x _ (hash_white x good.0.comment.first)
+text_follows ind (tree.Recipe [] [] ∷ items) good h = absurd (good.0.is_name)
+text_follows ind (tree.Recipe [] (l ∷ ls) ∷ items) good h = absurd (good.0.named.is_name)
+text_follows ind (tree.Recipe (x ∷ xs) [] ∷ items) good h = ends_at_item x _ (ap white (good.0.is_name.0))
+text_follows ind (tree.Recipe (x ∷ xs) (l ∷ ls) ∷ items) good h = ends_at_item x _ (ap white (good.0.named.is_name.0))

@@ -11,6 +11,7 @@ use Rattle.std.proofs.lemmas.Str.{chars-encodes, encodes-chars, encodes-append, 
 use Rattle.justfile_model.specs.declared.raw_text.RawText.TheVariants as raw_texts
 use Rattle.justfile_model.specs.Bytes.{is_line_end}
 use Rattle.justfile_model.specs.LiteralText.{raw_len, pieces_len}
+use Rattle.justfile_model.specs.Printing.{ends_in_return}
 use Rattle.justfile_canon.proofs.Good.{GoodComment}
 use Rattle.justfile_canon.proofs.Literals.{front_byte}
 use Rattle.justfile_canon.proofs.Sound.{LexedComment}
@@ -45,11 +46,6 @@ dropped_once (c ∷ cs) =
     (λ e. ap (λ l. cond (is_whitespace c && eqb (length l) 0) [] (c ∷ l)) (dropped_once cs) ∙ ap (λ b. cond b [] (c ∷ drop_trailing_whitespace cs)) e)
 
 -- ---- no carriage return at the end
-
-abbrev ends_in_return : List ℕ → Bool
-ends_in_return [] = false
-ends_in_return (x ∷ []) = eqb x 13
-ends_in_return (x ∷ y ∷ ys) = ends_in_return (y ∷ ys)
 
 record ReturnAt (xs : List ℕ) : Type 0 where
   at : ℕ

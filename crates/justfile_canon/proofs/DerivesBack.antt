@@ -1,5 +1,5 @@
 -- The tokens of a good shape derive it, and its text is UTF-8.
-use Rattle.std.proofs.Common.{ℕ, Bool, true, false, List, [], ◌∷◌, refl, subst}
+use Rattle.std.proofs.Common.{ℕ, Bool, true, false, List, [], ◌∷◌, ◌++◌, refl, sym, subst}
 use Rattle.std.specs.Str.{IsUtf8}
 use Rattle.std.proofs.lemmas.Str.{IsUtf8-nil, IsUtf8-append}
 use Rattle.std.proofs.Math.Utf8.{encode}
@@ -8,92 +8,126 @@ use Rattle.justfile_model.specs.SignificantTokens.{SignificantToken}
 use Rattle.justfile_model.specs.Tree as tree
 use Rattle.justfile_model.specs.Tree.{Shape, lexeme, nothing}
 use Rattle.justfile_model.specs.Grammar as g
-use Rattle.justfile_model.specs.Grammar.{Limited, Items, LineEnd, OnLine}
-use Rattle.justfile_model.specs.Printing.{piece, item_text, item_end, text}
+use Rattle.justfile_model.specs.Grammar.{Limited, Items, LineEnd, OnLine, Block, NotEmpty}
 use Rattle.justfile_canon.proofs.Reading.{Mark, mark}
-use Rattle.justfile_canon.proofs.Canon.{Value, Line, space, end_marks, marks}
+use Rattle.justfile_canon.proofs.Canon.{Value, Row, Entry, space, newline, body_marks, item_on, item_marks, end_on, end_marks, text_on, marks}
 use Rattle.justfile_canon.proofs.Good as good
-use Rattle.justfile_canon.proofs.Good.{significant, GoodAssignment, GoodComment, AtStart, AtEnd}
+use Rattle.justfile_canon.proofs.Good.{significant, GoodName, GoodExpression, GoodComment, GoodRecipe, AtStart, AtEnd, BehindBody}
+use Rattle.justfile_canon.proofs.BodyLines.{IsLevel}
+use Rattle.justfile_canon.proofs.BodyDerives.{body_back}
+use Rattle.justfile_canon.proofs.BodyUtf8.{newline_utf8, value_utf8, body_utf8}
 
 -- ---- derivations
 
 abbrev Derived : Shape → List SignificantToken → Type 0
-Derived = Items lexeme nothing Limited
+Derived = Items lexeme nothing nothing Limited
+
+abbrev BehindItem : Shape → List SignificantToken → Type 0
+BehindItem = g.Behind lexeme nothing nothing Limited
 
 abbrev Ended : Shape → List SignificantToken → Type 0
-Ended = LineEnd lexeme nothing Limited
+Ended = LineEnd lexeme nothing nothing Limited
 
-comment_back : (t : List ℕ) (glued : Bool) (on : List Mark) → GoodComment t → OnLine lexeme nothing Limited (tree.Comment t) (significant glued (mark kinds.Comment t ∷ on)) (significant true on)
-comment_back t glued on h = subst (λ x. OnLine lexeme nothing Limited (tree.Comment x) (significant glued (mark kinds.Comment t ∷ on)) (significant true on)) h.trimmed (g.comment refl)
+abbrev Stands : Entry → List SignificantToken → List SignificantToken → Type 0
+Stands = OnLine lexeme nothing nothing Limited
 
-trailing_back : (t : List ℕ) (items : Shape) (on : List Mark) → GoodComment t → Ended items (significant true on) → g.Behind lexeme nothing Limited (tree.Comment t ∷ items) (significant true (space ∷ mark kinds.Comment t ∷ on))
-trailing_back t items on h e = subst (λ x. g.Behind lexeme nothing Limited (tree.Comment x ∷ items) (significant true (space ∷ mark kinds.Comment t ∷ on))) h.trimmed (g.trailing refl e)
+comment_back : (t : List ℕ) (glued : Bool) (on : List Mark) → GoodComment t → Stands (tree.Comment t) (significant glued (mark kinds.Comment t ∷ on)) (significant true on)
+comment_back t glued on h = subst (λ x. Stands (tree.Comment x) (significant glued (mark kinds.Comment t ∷ on)) (significant true on)) h.trimmed (g.comment refl)
 
-mutual
-  pub derive_start : (items : Shape) → AtStart items → (glued : Bool) → Derived items (significant glued (marks items))
-  derive_start [] h glued = g.end refl
-  derive_start (tree.Newline ∷ items) h glued = g.blank refl (derive_start items h true)
-  derive_start (tree.Assignment name value ∷ items) h glued = g.item (g.assignment refl refl (h.0.derives.derives false (end_marks (tree.Assignment name value) items (marks items)))) (derive_behind name value items h.1)
-  derive_start (tree.Comment t ∷ items) h glued = g.item (comment_back t glued (end_marks (tree.Comment t) items (marks items)) h.0) (g.bare (derive_end t items h.1))
+trailing_back : (t : List ℕ) (items : Shape) (on : List Mark) → GoodComment t → Ended items (significant true on) → BehindItem (tree.Comment t ∷ items) (significant true (space ∷ mark kinds.Comment t ∷ on))
+trailing_back t items on h e = subst (λ x. BehindItem (tree.Comment x ∷ items) (significant true (space ∷ mark kinds.Comment t ∷ on))) h.trimmed (g.trailing refl e)
 
-  derive_behind : (name : List ℕ) (value : Value) (items : Shape) → good.Behind items → g.Behind lexeme nothing Limited items (significant true (end_marks (tree.Assignment name value) items (marks items)))
-  derive_behind name value [] h = absurd h
-  derive_behind name value (tree.Newline ∷ items) h = g.bare (g.line_end refl (derive_start items h true))
-  derive_behind name value (tree.Assignment n v ∷ items) h = absurd h
-  derive_behind name value (tree.Comment t ∷ items) h = trailing_back t items (end_marks (tree.Comment t) items (marks items)) h.0 (derive_end t items h.1)
+-- a recipe with a body, up to the Dedent
+block_back : (ind name : List ℕ) (l : Row) (ls : List Row) (glued : Bool) (on : List Mark) → GoodRecipe name (l ∷ ls)
+    → Block lexeme nothing nothing Limited (tree.Recipe name (l ∷ ls)) (significant glued (item_marks (tree.Recipe name (l ∷ ls)) (newline ∷ body_marks ind (l ∷ ls) on))) (significant true on)
+block_back ind name (tree.Line n fs) ls glued on h =
+    let body : List Row = tree.Line n fs ∷ ls in
+    subst (λ x. Block lexeme nothing nothing Limited (tree.Recipe name x) (significant glued (item_marks (tree.Recipe name body) (newline ∷ body_marks ind body on))) (significant true on)) h.ended
+    (g.recipe {lines = body} refl refl (g.at_once refl refl) (body_back ind n fs ls on h.good) (subst NotEmpty (sym h.ended) tt))
 
-  derive_end : (t : List ℕ) (items : Shape) → AtEnd items → Ended items (significant true (end_marks (tree.Comment t) items (marks items)))
-  derive_end t [] h = absurd h
-  derive_end t (tree.Newline ∷ items) h = g.line_end refl (derive_start items h true)
-  derive_end t (tree.Assignment n v ∷ items) h = absurd h
-  derive_end t (tree.Comment u ∷ items) h = absurd h
+module _ (ind : List ℕ) where
+  mutual
+    pub derive_start : (items : Shape) → AtStart items → (glued : Bool) → Derived items (significant glued (marks ind items))
+    derive_start [] h glued = g.end refl
+    derive_start (tree.Newline ∷ items) h glued = g.blank refl (derive_start items h true)
+    derive_start (tree.Assignment name value ∷ items) h glued = g.item (g.assignment refl refl (h.1.derives.derives false (end_marks (tree.Assignment name value) items (marks ind items)))) (derive_behind name value items h.2)
+    derive_start (tree.Comment t ∷ items) h glued = g.item (comment_back t glued (end_marks (tree.Comment t) items (marks ind items)) h.0) (g.bare (derive_end t items h.1))
+    derive_start (tree.Recipe name [] ∷ items) h glued = g.item (g.header refl refl) (derive_bare name items h.1)
+    derive_start (tree.Recipe name (l ∷ ls) ∷ []) h glued = absurd h.1
+    derive_start (tree.Recipe name (l ∷ ls) ∷ tree.Newline ∷ items) h glued = g.block (block_back ind name l ls glued (marks ind items) h.0) (derive_start items h.1.2 true)
+    derive_start (tree.Recipe name (l ∷ ls) ∷ _ ∷ items) h glued = absurd h.1
+
+    derive_behind : (name : List ℕ) (value : Value) (items : Shape) → good.Behind items → BehindItem items (significant true (end_marks (tree.Assignment name value) items (marks ind items)))
+    derive_behind name value [] h = absurd h
+    derive_behind name value (tree.Newline ∷ items) h = g.bare (g.line_end refl (derive_start items h true))
+    derive_behind name value (tree.Comment t ∷ items) h = trailing_back t items (end_marks (tree.Comment t) items (marks ind items)) h.0 (derive_end t items h.1)
+    derive_behind name value (_ ∷ items) h = absurd h
+
+    derive_bare : (name : List ℕ) (items : Shape) → good.Behind items → BehindItem items (significant true (end_marks (tree.Recipe name []) items (marks ind items)))
+    derive_bare name [] h = absurd h
+    derive_bare name (tree.Newline ∷ items) h = g.bare (g.line_end refl (derive_start items h true))
+    derive_bare name (tree.Comment t ∷ items) h = trailing_back t items (end_marks (tree.Comment t) items (marks ind items)) h.0 (derive_end t items h.1)
+    derive_bare name (_ ∷ items) h = absurd h
+
+    derive_end : (t : List ℕ) (items : Shape) → AtEnd items → Ended items (significant true (end_marks (tree.Comment t) items (marks ind items)))
+    derive_end t [] h = absurd h
+    derive_end t (tree.Newline ∷ items) h = g.line_end refl (derive_start items h true)
+    derive_end t (_ ∷ items) h = absurd h
 
 -- ---- UTF-8
-
-newline_utf8 : IsUtf8 (10 ∷ [])
-unfolding encode
-newline_utf8 = (10 ∷ [], (refl, refl))
 
 space_utf8 : IsUtf8 (32 ∷ [])
 unfolding encode
 space_utf8 = (32 ∷ [], (refl, refl))
 
+colon_utf8 : IsUtf8 (58 ∷ [])
+unfolding encode
+colon_utf8 = (58 ∷ [], (refl, refl))
+
 operator_utf8 : IsUtf8 (32 ∷ 58 ∷ 61 ∷ 32 ∷ [])
 unfolding encode
 operator_utf8 = (32 ∷ 58 ∷ 61 ∷ 32 ∷ [], (refl, refl))
 
-end_utf8 : (i : Line) (items : Shape) → IsUtf8 (item_end i items)
-unfolding piece
-end_utf8 tree.Newline items = newline_utf8
-end_utf8 (tree.Assignment n v) [] = IsUtf8-nil
-end_utf8 (tree.Assignment n v) (tree.Newline ∷ items) = IsUtf8-nil
-end_utf8 (tree.Assignment n v) (j ∷ items) = space_utf8
-end_utf8 (tree.Comment t) [] = IsUtf8-nil
-end_utf8 (tree.Comment t) (tree.Newline ∷ items) = IsUtf8-nil
-end_utf8 (tree.Comment t) (j ∷ items) = space_utf8
+end_utf8 : (i : Entry) (items : Shape) (more : List ℕ) → IsUtf8 more → IsUtf8 (end_on i items more)
+end_utf8 tree.Newline items more u = IsUtf8-append (10 ∷ []) more newline_utf8 u
+end_utf8 (tree.Assignment n v) [] more u = u
+end_utf8 (tree.Assignment n v) (tree.Newline ∷ items) more u = u
+end_utf8 (tree.Assignment n v) (_ ∷ items) more u = IsUtf8-append (32 ∷ []) more space_utf8 u
+end_utf8 (tree.Comment t) [] more u = u
+end_utf8 (tree.Comment t) (tree.Newline ∷ items) more u = u
+end_utf8 (tree.Comment t) (_ ∷ items) more u = IsUtf8-append (32 ∷ []) more space_utf8 u
+end_utf8 (tree.Recipe n ls) [] more u = u
+end_utf8 (tree.Recipe n ls) (tree.Newline ∷ items) more u = u
+end_utf8 (tree.Recipe n ls) (_ ∷ items) more u = IsUtf8-append (32 ∷ []) more space_utf8 u
 
-assignment_utf8 : (name : List ℕ) (value : Value) → GoodAssignment name value → IsUtf8 (item_text (tree.Assignment name value))
-unfolding piece
-assignment_utf8 name value h = IsUtf8-append _ _ (IsUtf8-append name (32 ∷ 58 ∷ 61 ∷ 32 ∷ []) h.utf8.0 operator_utf8) h.utf8.1
+assignment_utf8 : (ind name : List ℕ) (value : Value) (more : List ℕ) → GoodName name → GoodExpression value → IsUtf8 more → IsUtf8 (item_on ind (tree.Assignment name value) more)
+assignment_utf8 ind name value more named h u = IsUtf8-append name _ named.utf8 (IsUtf8-append (32 ∷ 58 ∷ 61 ∷ 32 ∷ []) _ operator_utf8 (value_utf8 value more h.utf8 u))
 
-item_utf8 : (i : Line) (items : Shape) (indentation : List ℕ) → IsUtf8 (item_text i) → IsUtf8 (text items indentation) → IsUtf8 (text (i ∷ items) indentation)
-item_utf8 i items indentation h more = IsUtf8-append _ _ (IsUtf8-append _ _ h (end_utf8 i items)) more
+header_utf8 : (name more : List ℕ) → GoodName name → IsUtf8 more → IsUtf8 (name ++ (58 ∷ more))
+header_utf8 name more named u = IsUtf8-append name _ named.utf8 (IsUtf8-append (58 ∷ []) more colon_utf8 u)
 
-mutual
-  pub start_utf8 : (items : Shape) (indentation : List ℕ) → AtStart items → IsUtf8 (text items indentation)
-  start_utf8 [] indentation h = IsUtf8-nil
-  start_utf8 (tree.Newline ∷ items) indentation h = item_utf8 tree.Newline items indentation IsUtf8-nil (start_utf8 items indentation h)
-  start_utf8 (tree.Assignment name value ∷ items) indentation h = item_utf8 (tree.Assignment name value) items indentation (assignment_utf8 name value h.0) (behind_utf8 items indentation h.1)
-  start_utf8 (tree.Comment t ∷ items) indentation h = item_utf8 (tree.Comment t) items indentation h.0.utf8 (end_of_line_utf8 items indentation h.1)
+module _ (ind : List ℕ) (level : IsLevel ind) where
+  mutual
+    pub start_utf8 : (items : Shape) → AtStart items → IsUtf8 (text_on ind items)
+    start_utf8 [] h = IsUtf8-nil
+    start_utf8 (tree.Newline ∷ items) h = end_utf8 tree.Newline items _ (start_utf8 items h)
+    start_utf8 (tree.Assignment name value ∷ items) h = assignment_utf8 ind name value _ h.0 h.1 (end_utf8 (tree.Assignment name value) items _ (behind_utf8 items h.2))
+    start_utf8 (tree.Comment t ∷ items) h = IsUtf8-append t _ h.0.utf8 (end_utf8 (tree.Comment t) items _ (end_of_line_utf8 items h.1))
+    start_utf8 (tree.Recipe name [] ∷ items) h = header_utf8 name _ h.0 (end_utf8 (tree.Recipe name []) items _ (behind_utf8 items h.1))
+    start_utf8 (tree.Recipe name (l ∷ ls) ∷ items) h = header_utf8 name _ h.0.named (body_utf8 ind (l ∷ ls) _ level h.0.good (end_utf8 (tree.Recipe name (l ∷ ls)) items _ (behind_body_utf8 (l ∷ ls) items h.1)))
 
-  behind_utf8 : (items : Shape) (indentation : List ℕ) → good.Behind items → IsUtf8 (text items indentation)
-  behind_utf8 [] indentation h = absurd h
-  behind_utf8 (tree.Newline ∷ items) indentation h = item_utf8 tree.Newline items indentation IsUtf8-nil (start_utf8 items indentation h)
-  behind_utf8 (tree.Assignment name value ∷ items) indentation h = absurd h
-  behind_utf8 (tree.Comment t ∷ items) indentation h = item_utf8 (tree.Comment t) items indentation h.0.utf8 (end_of_line_utf8 items indentation h.1)
+    behind_utf8 : (items : Shape) → good.Behind items → IsUtf8 (text_on ind items)
+    behind_utf8 [] h = absurd h
+    behind_utf8 (tree.Newline ∷ items) h = end_utf8 tree.Newline items _ (start_utf8 items h)
+    behind_utf8 (tree.Comment t ∷ items) h = IsUtf8-append t _ h.0.utf8 (end_utf8 (tree.Comment t) items _ (end_of_line_utf8 items h.1))
+    behind_utf8 (_ ∷ items) h = absurd h
 
-  end_of_line_utf8 : (items : Shape) (indentation : List ℕ) → AtEnd items → IsUtf8 (text items indentation)
-  end_of_line_utf8 [] indentation h = absurd h
-  end_of_line_utf8 (tree.Newline ∷ items) indentation h = item_utf8 tree.Newline items indentation IsUtf8-nil (start_utf8 items indentation h)
-  end_of_line_utf8 (tree.Assignment name value ∷ items) indentation h = absurd h
-  end_of_line_utf8 (tree.Comment t ∷ items) indentation h = absurd h
+    behind_body_utf8 : (body : List Row) (items : Shape) → BehindBody body items → IsUtf8 (text_on ind items)
+    behind_body_utf8 body [] h = absurd h
+    behind_body_utf8 body (tree.Newline ∷ items) h = end_utf8 tree.Newline items _ (start_utf8 items h.2)
+    behind_body_utf8 body (_ ∷ items) h = absurd h
+
+    end_of_line_utf8 : (items : Shape) → AtEnd items → IsUtf8 (text_on ind items)
+    end_of_line_utf8 [] h = absurd h
+    end_of_line_utf8 (tree.Newline ∷ items) h = end_utf8 tree.Newline items _ (start_utf8 items h)
+    end_of_line_utf8 (_ ∷ items) h = absurd h

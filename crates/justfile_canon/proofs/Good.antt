@@ -1,19 +1,24 @@
 -- What is known of a shape that is printed: each lexeme has its fact, each value derives back, and the items stand in lines.
-use Rattle.std.proofs.Common.{◌≡◌, ℕ, Bool, true, false, List, [], ◌∷◌}
+use Rattle.std.proofs.Common.{◌≡◌, ℕ, Bool, true, false, List, [], ◌∷◌, drop}
+use Rattle.std.specs.Prelude.{◌&&◌, ◌||◌, not}
 use Rattle.std.specs.Str.{IsUtf8, trim_end}
 use Rattle.justfile_base.specs.declared.string_kind.StringKind.{StringKind}
 use Rattle.justfile_base.specs.declared.token_kind.TokenKind.TheVariants as kinds
+use Rattle.justfile_base.specs.ByteClass.{class_of}
 use Rattle.justfile_base.specs.StringKind.{token_kind_of}
+use Rattle.justfile_model.specs.Bytes.{blank, white, blank_len}
+use Rattle.justfile_model.specs.Modes.{is_empty}
 use Rattle.justfile_model.specs.Tok.{Tok}
 use Rattle.justfile_model.specs.SignificantTokens.{SignificantToken, significant_from}
 use Rattle.justfile_model.specs.Tree as tree
-use Rattle.justfile_model.specs.Tree.{StringLiteral, Variable, Shape, lexeme, nothing}
+use Rattle.justfile_model.specs.Tree.{StringLiteral, Variable, Text, Interpolation, Line, Shape, lexeme, nothing, trimmed}
 use Rattle.justfile_model.specs.Printing.{expr_text}
 use Rattle.justfile_model.specs.Grammar.{Limited, Expression}
 use Rattle.justfile_canon.proofs.Reading.{Mark, mark, placed}
-use Rattle.justfile_canon.proofs.Inline.{IsName, IsLiteral}
+use Rattle.justfile_canon.proofs.Inline.{head_is, IsName, IsLiteral}
 use Rattle.justfile_canon.proofs.Lines.{IsComment}
-use Rattle.justfile_canon.proofs.Canon.{Value, expr_marks}
+use Rattle.justfile_canon.proofs.BodyLines.{IsRaw}
+use Rattle.justfile_canon.proofs.Canon.{Value, Fragment, Row, expr_marks}
 
 -- the printer's tokens without places, and what the parser reads of them
 abbrev pub unplaced : List Mark → List Tok
@@ -22,6 +27,8 @@ unplaced (t ∷ ts) = placed t 0 0 0 ∷ unplaced ts
 
 abbrev pub significant : Bool → List Mark → List SignificantToken
 significant glued ts = significant_from glued (unplaced ts)
+
+-- ---- values
 
 -- a string literal that ends before what is printed behind it
 pub record IsString (l : List ℕ) : Type 0 where
@@ -37,38 +44,113 @@ GoodValue (Variable n) = IsName n
 pub record DerivesBack (depth : ℕ) (e : Value) : Type 0 where
   pub derives : (glued : Bool) (on : List Mark) → Expression lexeme nothing Limited depth e (significant glued (expr_marks e on)) (significant true on)
 
-pub record GoodAssignment (name : List ℕ) (value : Value) : Type 0 where
+-- a value that no other is open around
+pub record GoodExpression (e : Value) : Type 0 where
+  pub lexes : GoodValue e
+  pub derives : DerivesBack 0 e
+  pub utf8 : IsUtf8 (expr_text e)
+
+-- ---- bodies
+
+-- each text ends before what is printed behind it, and no two stand side by side
+abbrev pub GoodFragments : List Fragment → Type 0
+GoodFragments [] = Unit {0}
+GoodFragments (Text t ∷ []) = IsRaw t (10 ∷ []) × IsUtf8 t
+GoodFragments (Text t ∷ Text u ∷ fs) = ⊥
+GoodFragments (Text t ∷ Interpolation e ∷ fs) = IsRaw t (123 ∷ 123 ∷ 32 ∷ []) × IsUtf8 t × GoodFragments (Interpolation e ∷ fs)
+GoodFragments (Interpolation e ∷ fs) = GoodExpression e × GoodFragments fs
+
+-- no line is of blanks alone
+abbrev pub IsShown : List Fragment → Type 0
+IsShown (Text t ∷ []) = is_empty (drop (blank_len t) t) ≡ false
+IsShown _ = Unit {0}
+
+-- the first line has something, and no blank at its front
+abbrev pub IsFirst : List Fragment → Type 0
+IsFirst [] = ⊥
+IsFirst (Text t ∷ fs) = head_is blank t ≡ false
+IsFirst (Interpolation e ∷ fs) = Unit {0}
+
+abbrev pub GoodLines : List Row → Type 0
+GoodLines [] = Unit {0}
+GoodLines (Line number fs ∷ ls) = GoodFragments fs × IsShown fs × GoodLines ls
+
+abbrev pub GoodBody : List Row → Type 0
+GoodBody [] = ⊥
+GoodBody (Line number fs ∷ ls) = IsFirst fs × GoodFragments fs × GoodLines ls
+
+-- a line of space, tab and CR alone
+abbrev pub pale : List ℕ → Bool
+pale [] = true
+pale (x ∷ xs) = white (class_of x) && pale xs
+
+abbrev pub pale_line : List Fragment → Bool
+pale_line [] = true
+pale_line (Text t ∷ fs) = pale t && pale_line fs
+pale_line (Interpolation e ∷ fs) = false
+
+abbrev pub all_pale : List Row → Bool
+all_pale [] = true
+all_pale (Line number fs ∷ ls) = pale_line fs && all_pale ls
+
+-- All lines behind some empty one are pale. Levels close before that one if anything but line ends follows the body.
+abbrev pub pale_behind : List Row → Bool
+pale_behind [] = false
+pale_behind (Line number [] ∷ ls) = all_pale ls || pale_behind ls
+pale_behind (Line number (f ∷ fs) ∷ ls) = pale_behind ls
+
+-- ---- items
+
+pub record GoodName (name : List ℕ) : Type 0 where
   pub is_name : IsName name
-  pub lexes : GoodValue value
-  pub derives : DerivesBack 0 value
-  pub utf8 : IsUtf8 name × IsUtf8 (expr_text value)
+  pub utf8 : IsUtf8 name
 
 pub record GoodComment (t : List ℕ) : Type 0 where
   pub comment : IsComment t
   pub trimmed : trim_end t ≡ t
   pub utf8 : IsUtf8 t
 
+-- a recipe with a body, which has no empty line at its end
+pub record GoodRecipe (name : List ℕ) (body : List Row) : Type 0 where
+  pub named : GoodName name
+  pub good : GoodBody body
+  pub ended : trimmed body ≡ body
+
+-- line ends alone
+abbrev pub blank_only : Shape → Bool
+blank_only [] = true
+blank_only (tree.Newline ∷ items) = blank_only items
+blank_only (i ∷ items) = false
+
+-- nothing, or not line ends alone
+abbrev pub follows_body : Shape → Bool
+follows_body items = is_empty items || not (blank_only items)
+
 abbrev mutual
   -- items from the start of a line on
   pub AtStart : Shape → Type 0
   AtStart [] = Unit {0}
   AtStart (tree.Newline ∷ items) = AtStart items
-  AtStart (tree.Assignment name value ∷ items) = GoodAssignment name value × Behind items
+  AtStart (tree.Assignment name value ∷ items) = GoodName name × GoodExpression value × Behind items
   AtStart (tree.Comment t ∷ items) = GoodComment t × AtEnd items
+  AtStart (tree.Recipe name [] ∷ items) = GoodName name × Behind items
+  AtStart (tree.Recipe name (l ∷ ls) ∷ items) = GoodRecipe name (l ∷ ls) × BehindBody (l ∷ ls) items
 
   -- behind an item a comment may trail it
   pub Behind : Shape → Type 0
-  Behind [] = ⊥
   Behind (tree.Newline ∷ items) = AtStart items
-  Behind (tree.Assignment name value ∷ items) = ⊥
   Behind (tree.Comment t ∷ items) = GoodComment t × AtEnd items
+  Behind _ = ⊥
 
   -- then the line ends, and behind the last line too
   pub AtEnd : Shape → Type 0
-  AtEnd [] = ⊥
   AtEnd (tree.Newline ∷ items) = AtStart items
-  AtEnd (tree.Assignment name value ∷ items) = ⊥
-  AtEnd (tree.Comment t ∷ items) = ⊥
+  AtEnd _ = ⊥
+
+  -- behind a body its last line ends; then levels close, and if they would close before that, nothing follows
+  pub BehindBody : List Row → Shape → Type 0
+  BehindBody body (tree.Newline ∷ items) = (follows_body items ≡ true) × (pale_behind body ≡ true → items ≡ []) × AtStart items
+  BehindBody body _ = ⊥
 
 -- behind a comment, or behind another item
 abbrev pub After : Bool → Shape → Type 0
@@ -78,5 +160,5 @@ After false items = Behind items
 pub end_behind : (items : Shape) → AtEnd items → Behind items
 end_behind [] h = h
 end_behind (tree.Newline ∷ items) h = h
-end_behind (tree.Assignment name value ∷ items) h = h
 end_behind (tree.Comment t ∷ items) h = absurd h
+end_behind (_ ∷ items) h = h

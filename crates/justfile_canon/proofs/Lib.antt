@@ -14,6 +14,7 @@ pub mod Fixed
 pub mod Good
 pub mod Inline
 pub mod LexesBack
+pub mod LexesValues
 pub mod Lines
 pub mod Literals
 pub mod Quoted
@@ -21,4 +22,5 @@ pub mod RawTexts
 pub mod Reading
 pub mod RoundTrip
 pub mod Sound
+pub mod Trimmed
 pub mod Written

@@ -1,5 +1,5 @@
 -- Text of a body: where it ends in front of other text, and what stands in it.
-use Rattle.std.proofs.Common.{◌≡◌, ℕ, zero, suc, ◌-◌, Bool, true, false, cond, eqb, ltb, List, [], ◌∷◌, ◌++◌, length, get_or, drop, refl, sym, ap, ◌∙◌, subst, arith}
+use Rattle.std.proofs.Common.{◌≡◌, ℕ, zero, suc, Bool, true, false, cond, eqb, ltb, List, [], ◌∷◌, ◌++◌, length, get_or, drop, refl, sym, ap, ◌∙◌, subst, arith}
 use Rattle.std.specs.Prelude.{◌&&◌, ◌||◌, not}
 use Rattle.std.proofs.lemmas.Bool.{and_parts}
 use Rattle.std.proofs.lemmas.Bool.Decides.{nat_tests}
@@ -9,6 +9,7 @@ use Rattle.justfile_model.specs.Bytes.{blank, line_feed, blank_len, is_line_end,
 use Rattle.justfile_model.specs.LiteralText.{pieces_len, hides, ends}
 use Rattle.justfile_model.specs.Modes.{is_empty}
 use Rattle.justfile_model.specs.Next.{is_blank_line}
+use Rattle.justfile_model.specs.Printing.{ends_in_return}
 use Rattle.justfile_model.proofs.CutLemmas.{is_line_feed}
 use Rattle.justfile_canon.proofs.Inline.{Each}
 use Rattle.justfile_canon.proofs.BodyLines.{IsRaw, blank_byte}
@@ -217,20 +218,6 @@ module _ (a b : List ℕ) where
       go false s ih =
           let end = keeps_end x xs keeps (s.goes_on refl) in
           scan_on x (xs ++ b) (no_start_hides (x ∷ xs ++ b) end) end ∙ ap suc (ih 0 tt s.behind)
-
--- the last byte is a carriage return
-abbrev pub ends_in_return : List ℕ → Bool
-ends_in_return [] = false
-ends_in_return (c ∷ []) = eqb c 13
-ends_in_return (c ∷ d ∷ u) = ends_in_return (d ∷ u)
-
-pub ends_in_return_is : (t : List ℕ) → ends_in_return t ≡ eqb (get_or t (length t - 1) 0) 13
-ends_in_return_is [] = refl
-ends_in_return_is (c ∷ []) = refl
-ends_in_return_is (c ∷ d ∷ u) = ends_in_return_is (d ∷ u) ∙ ap (λ n. eqb (get_or (c ∷ d ∷ u) n 0) 13) back
-  where
-    back : suc (length (d ∷ u) - 1) ≡ length (c ∷ d ∷ u) - 1
-    back = omega arith
 
 newline_keeps : (a more u : List ℕ) → ends_in_return u ≡ false → LastKeeps a (10 ∷ more) u
 newline_keeps a more [] h = tt

@@ -1,5 +1,6 @@
 -- What is printed of the tree of any text reads back.
 use Rattle.std.proofs.Common.{◌≡◌, ℕ, ◌+◌, Bool, true, false, cond, List, [], ◌∷◌, length, map, refl, sym, ap, ◌∙◌, subst}
+use Rattle.std.specs.Str.{IsUtf8}
 use Rattle.justfile_base.specs.Indentation.{IsIndentation}
 use Rattle.justfile_model.specs.Tok.{Tok}
 use Rattle.justfile_model.specs.Lexed.{Lexed}
@@ -9,21 +10,23 @@ use Rattle.justfile_model.specs.Tree.{Item, Tree, Shape, lexeme, nothing, shape_
 use Rattle.justfile_model.specs.Grammar as g
 use Rattle.justfile_model.specs.Grammar.{Limited, File}
 use Rattle.justfile_model.specs.NormalShape.{normal}
-use Rattle.justfile_model.specs.Printing.{text}
+use Rattle.justfile_model.specs.Printing.{text, printable}
 use Rattle.justfile_model.specs.Literals.{Answers, Cooks}
-use Rattle.justfile_model.specs.Files.{VersionNumbers, FileDerives, literals, item_bindings, bindings}
+use Rattle.justfile_model.specs.Files.{VersionNumbers, FileDerives, literals, item_bindings, bindings, item_recipes, recipes}
 use Rattle.justfile_model.proofs.Agreement.{one_tree}
 use Rattle.justfile_model.proofs.Carry as c
 use Rattle.justfile_model.proofs.Carry.{Same, Pairs, nil, cons}
 use Rattle.justfile_model.proofs.Leaves.{items_itself, lexemes, file_forgets, file_lifts}
 use Rattle.justfile_model.proofs.LexedLaws.{one_list}
-use Rattle.justfile_model.proofs.Normal.{normal_twice, normal_literals, normal_bindings}
+use Rattle.justfile_model.proofs.Normal.{normal_twice, normal_literals, normal_bindings, normal_recipes}
 use Rattle.justfile_canon.specs.RoundTrip.{TextDerives, ReadsBack, printed}
 use Rattle.justfile_canon.proofs.Reading.{Mark, placed, tok_at, toks, lexed}
 use Rattle.justfile_canon.proofs.Canon.{text_on, marks, text_is}
 use Rattle.justfile_canon.proofs.Good.{unplaced, significant, AtStart}
 use Rattle.justfile_canon.proofs.LexesBack.{lex_start}
-use Rattle.justfile_canon.proofs.Sound.{outside, lexed_sound}
+use Rattle.justfile_canon.proofs.Sound.{lexed_sound}
+use Rattle.justfile_canon.proofs.BodyLines.{IsLevel, level_is}
+use Rattle.justfile_canon.proofs.BodyFacts.{lexed_bodies}
 use Rattle.justfile_canon.proofs.Written.{file_good}
 use Rattle.justfile_canon.proofs.DerivesBack.{derive_start, start_utf8}
 
@@ -43,57 +46,71 @@ placed_same source [] offset glued = cons (record { kind = refl; lexeme = refl; 
 placed_same source (t ∷ ts) offset glued = same_by (is_whitespace t.kind) (placed t 0 0 0) (tok_at source offset t) glued (unplaced ts) (toks source (offset + length t.lexeme) ts) refl refl (λ g. placed_same source ts (offset + length t.lexeme) g)
 
 -- a shape that derives from tokens derives from the same at other places
-carried : (shape : Shape) (ts us : List SignificantToken) → File lexeme nothing Limited shape ts → Pairs Same ts us → File lexeme nothing Limited shape us
+carried : (shape : Shape) (ts us : List SignificantToken) → File lexeme nothing nothing Limited shape ts → Pairs Same ts us → File lexeme nothing nothing Limited shape us
 carried shape ts us h s =
-    let x = c.file lexeme nothing Limited Same (λ t u same. same) lexeme nothing Limited same_leaf same_leaf same_leaf same_leaf (λ t u same. sym same.lexeme) (λ t u same. refl) (λ d ts us same opened. opened) h us s in
-    subst (λ y. File lexeme nothing Limited y us) (sym (items_itself x.tree) ∙ x.alike ∙ items_itself shape) x.derives
+    let x = c.file lexeme nothing nothing Limited Same (λ t u same. same) lexeme nothing nothing Limited same_leaf same_leaf same_leaf same_leaf same_leaf same_leaf (λ t u same. sym same.lexeme) (λ t u same. refl) (λ t u same. refl) (λ d ts us same opened. opened) h us s in
+    subst (λ y. File lexeme nothing nothing Limited y us) (sym (items_itself x.tree) ∙ x.alike ∙ items_itself shape) x.derives
 
 -- ---- a good shape
 
 back_tokens : Shape → (indentation : List ℕ) → List Tok
-back_tokens s indentation = toks (text s indentation) 0 (marks s)
+back_tokens s indentation = toks (text s indentation) 0 (marks indentation s)
 
-good_lexed : (s : Shape) (indentation : List ℕ) → AtStart s → Lexed (text s indentation) (back_tokens s indentation)
+good_lexed : (s : Shape) (indentation : List ℕ) → IsLevel indentation → AtStart s → Lexed (text s indentation) (back_tokens s indentation)
 unfolding back_tokens
-good_lexed s indentation h =
-    subst (λ x. Lexed x (toks x 0 (marks s))) (sym (text_is s indentation)) (lexed (text_on s) (marks s) (lex_start false s h))
+good_lexed s indentation i h =
+    subst (λ x. Lexed x (toks x 0 (marks indentation s))) (sym (text_is s indentation)) (lexed (text_on indentation s) (marks indentation s) (lex_start indentation i false s h))
 
-good_file : (s : Shape) (indentation : List ℕ) → AtStart s → File lexeme nothing Limited s (significant_tokens (back_tokens s indentation))
+good_file : (s : Shape) (indentation : List ℕ) → AtStart s → File lexeme nothing nothing Limited s (significant_tokens (back_tokens s indentation))
 unfolding back_tokens
-good_file s indentation h = carried s _ _ (g.unmarked (derive_start s h false)) (placed_same (text s indentation) (marks s) 0 false)
+good_file s indentation h = carried s _ _ (g.unmarked (derive_start indentation s h false)) (placed_same (text s indentation) (marks indentation s) 0 false)
 
 -- ---- numbers
 
-item_numbers : (i : Item Tok Tok) → item_bindings (tree.over_item lexeme nothing i) ≡ item_bindings i
+item_numbers : (i : Item Tok Tok ℕ) → item_bindings (tree.over_item lexeme nothing nothing i) ≡ item_bindings i
 item_numbers (tree.Assignment name value) = refl
 item_numbers (tree.Comment t) = refl
 item_numbers tree.Newline = refl
+item_numbers (tree.Recipe name body) = refl
 
 numbers : (t : Tree) → bindings (shape_of t) ≡ bindings t
 numbers [] = refl
 numbers (i ∷ t) = λ k. item_numbers i k + numbers t k
 
+item_counts : (i : Item Tok Tok ℕ) → item_recipes (tree.over_item lexeme nothing nothing i) ≡ item_recipes i
+item_counts (tree.Assignment name value) = refl
+item_counts (tree.Comment t) = refl
+item_counts tree.Newline = refl
+item_counts (tree.Recipe name body) = refl
+
+counts : (t : Tree) → recipes (shape_of t) ≡ recipes t
+counts [] = refl
+counts (i ∷ t) = λ k. item_counts i k + counts t k
+
 -- ---- the theorem
 
 module _ (expander : Answers) (current : VersionNumbers) where
   -- the normal shape of what a text derives
-  source_good : (source : List ℕ) (t : Tree) → TextDerives expander current source t → AtStart (normal (shape_of t))
-  source_good source t h = file_good (file_forgets expander current (significant_tokens h.tokens) t h.file).derives outside refl (lexed_sound source h.tokens h.utf8 h.lexed)
+  source_good : (source : List ℕ) (t : Tree) → TextDerives expander current source t → printable (shape_of t) ≡ true → AtStart (normal (shape_of t))
+  source_good source t h p =
+      file_good (file_forgets expander current (significant_tokens h.tokens) t h.file).derives (lexed_sound source h.tokens h.utf8 h.lexed) (lexed_bodies source h.tokens h.lexed) p
 
-  pub back : (source : List ℕ) (t : Tree) (indentation : List ℕ) → IsIndentation indentation → TextDerives expander current source t → ReadsBack expander current (shape_of t) indentation (printed (shape_of t) indentation)
-  back source t indentation i h =
+  pub back : (source : List ℕ) (t : Tree) (indentation : List ℕ) → IsIndentation indentation → TextDerives expander current source t → printable (shape_of t) ≡ true → ReadsBack expander current (shape_of t) indentation (printed (shape_of t) indentation)
+  back source t indentation i h p =
       let s = normal (shape_of t) in
-      let good = source_good source t h in
+      let level = level_is indentation i in
+      let good = source_good source t h p in
       let cooked : Cooks expander (literals s) h.file.cooked = subst (λ l. Cooks expander l h.file.cooked) (sym (normal_literals (shape_of t) ∙ lexemes t)) h.file.cooks in
       let found = file_lifts expander current (significant_tokens (back_tokens s indentation)) s (record { derives = good_file s indentation good; cooked = h.file.cooked; cooks = cooked }) in
       let same : map lexeme (literals found.0) ≡ literals (shape_of t) = sym (lexemes found.0) ∙ ap literals found.2 ∙ normal_literals (shape_of t) in
       record {
         tree = found.0;
-        derives = record { utf8 = start_utf8 s indentation good; tokens = back_tokens s indentation; lexed = good_lexed s indentation good; file = found.1 };
+        derives = record { utf8 = subst IsUtf8 (sym (text_is s indentation)) (start_utf8 indentation level s good); tokens = back_tokens s indentation; lexed = good_lexed s indentation level good; file = found.1 };
         same_shape = found.2;
         same_lexemes = same;
         same_texts = λ texts cooks. subst (λ l. Cooks expander l texts) (sym same) cooks;
         same_bindings = sym (numbers found.0) ∙ ap bindings found.2 ∙ normal_bindings (shape_of t);
+        same_recipes = sym (counts found.0) ∙ ap recipes found.2 ∙ normal_recipes (shape_of t);
         printed_again = ap (λ x. text x indentation) (ap normal found.2 ∙ normal_twice (shape_of t));
       }
 
@@ -103,18 +120,18 @@ module _ (expander : Answers) (current : VersionNumbers) where
       let tokens = one_list source h.tokens q.tokens h.lexed q.lexed in
       one_tree expander current (significant_tokens q.tokens) t u (subst (λ ts. FileDerives expander current (significant_tokens ts) t) tokens h.file) q.file
 
-  pub apart : (source other : List ℕ) (t u : Tree) (indentation : List ℕ) → IsIndentation indentation → TextDerives expander current source t → TextDerives expander current other u → printed (shape_of t) indentation ≡ printed (shape_of u) indentation
+  pub apart : (source other : List ℕ) (t u : Tree) (indentation : List ℕ) → IsIndentation indentation → TextDerives expander current source t → TextDerives expander current other u → printable (shape_of t) ≡ true → printable (shape_of u) ≡ true → printed (shape_of t) indentation ≡ printed (shape_of u) indentation
       → normal (shape_of t) ≡ normal (shape_of u)
-  apart source other t u indentation i h q same =
-      let x = back source t indentation i h in
-      let y = back other u indentation i q in
+  apart source other t u indentation i h q p r same =
+      let x = back source t indentation i h p in
+      let y = back other u indentation i q r in
       let one = one_text (printed (shape_of u) indentation) x.tree y.tree (subst (λ r. TextDerives expander current r x.tree) same x.derives) y.derives in
       sym x.same_shape ∙ ap shape_of one ∙ y.same_shape
 
-  pub fixed : (source : List ℕ) (t u : Tree) (indentation : List ℕ) → IsIndentation indentation → TextDerives expander current source t → TextDerives expander current (printed (shape_of t) indentation) u
+  pub fixed : (source : List ℕ) (t u : Tree) (indentation : List ℕ) → IsIndentation indentation → TextDerives expander current source t → printable (shape_of t) ≡ true → TextDerives expander current (printed (shape_of t) indentation) u
       → printed (shape_of u) indentation ≡ printed (shape_of t) indentation
-  fixed source t u indentation i h q =
-      let x = back source t indentation i h in
+  fixed source t u indentation i h p q =
+      let x = back source t indentation i h p in
       ap (λ y. printed (shape_of y) indentation) (one_text (printed (shape_of t) indentation) u x.tree q x.derives) ∙ x.printed_again
 
 pub alike : (s r : Shape) (indentation : List ℕ) → normal s ≡ normal r → printed s indentation ≡ printed r indentation

@@ -1,19 +1,25 @@
 -- The normal shape of what any text derives is good.
-use Rattle.std.proofs.Common.{◌≡◌, ℕ, Bool, true, false, List, [], ◌∷◌, refl, subst}
+use Rattle.std.proofs.Common.{◌≡◌, ℕ, Bool, true, false, List, [], ◌∷◌, refl, sym, ap, ◌∙◌, subst}
 use Rattle.std.specs.Str.{IsUtf8, trim_end}
+use Rattle.std.proofs.lemmas.Bool.{and_parts}
 use Rattle.justfile_base.specs.declared.token_kind.TokenKind.{TokenKind}
 use Rattle.justfile_base.specs.declared.token_kind.TokenKind.TheVariants as kinds
 use Rattle.justfile_model.specs.SignificantTokens.{SignificantToken}
 use Rattle.justfile_model.specs.Tree as tree
-use Rattle.justfile_model.specs.Tree.{Shape, lexeme, nothing}
+use Rattle.justfile_model.specs.Tree.{Shape, lexeme, nothing, trimmed}
 use Rattle.justfile_model.specs.Grammar as g
-use Rattle.justfile_model.specs.Grammar.{IsKind, Limited, Expression, Items, Behind, LineEnd, File}
+use Rattle.justfile_model.specs.Grammar.{IsKind, Limited, Expression, BeforeBody, NotEmpty, Items, Behind, LineEnd, File}
 use Rattle.justfile_model.specs.NormalShape.{behind_newline, normal_rest, normal}
-use Rattle.justfile_model.specs.Printing.{expr_text}
-use Rattle.justfile_canon.proofs.Canon.{Value}
-use Rattle.justfile_canon.proofs.Good.{GoodValue, GoodComment, DerivesBack, AtStart, AtEnd, After, end_behind}
-use Rattle.justfile_canon.proofs.Sound.{Around, around, calm, Known, LexemeFact, is_comment, Sound}
+use Rattle.justfile_model.specs.Printing.{expr_text, printable_body, printable}
+use Rattle.justfile_canon.proofs.Canon.{Value, Fragment, Row}
+use Rattle.justfile_canon.proofs.Good.{GoodValue, GoodName, GoodExpression, GoodComment, GoodRecipe, DerivesBack, pale_behind, follows_body, AtStart, AtEnd, After, BehindBody, end_behind}
+use Rattle.justfile_canon.proofs.Sound.{Around, around, outside, Known, LexemeFact, is_comment, Sound}
 use Rattle.justfile_canon.proofs.Comments.{good_comment}
+use Rattle.justfile_canon.proofs.BodyTokens.{First}
+use Rattle.justfile_canon.proofs.BodyFacts.{Outline, outline_after, colon_after, no_body, NextIs, BodySound}
+use Rattle.justfile_canon.proofs.BodyGood.{LineOf, LinesOf, PartsGood, AllPartsGood, inner, shifts, IsOutside, outside_after, outside_first, indent_leads, Walked, walk_outside, body_read}
+use Rattle.justfile_canon.proofs.Trimmed.{trimmed_twice, trimmed_printable}
+use Rattle.justfile_canon.proofs.BodyFollows.{behind, newline_follows}
 
 -- ---- along a derivation
 
@@ -22,6 +28,22 @@ fact_as t k e h = subst (λ x. LexemeFact x t.tok.lexeme) e h.fact
 
 past : (s : Around) (t : SignificantToken) (ts : List SignificantToken) (k : TokenKind) → IsKind k t → Sound (around t.tok.kind s) (is_comment t.tok.kind) ts → Sound (around k s) (is_comment k) ts
 past s t ts k e h = subst (λ x. Sound (around x s) (is_comment x) ts) e h
+
+past_walked : (P : Outline → Type 0) → ((k : TokenKind) (l : List ℕ) (s : Outline) → shifts k ≡ false → P s → P (outline_after k l s)) → (t : SignificantToken) (ts : List SignificantToken) (k : TokenKind) → IsKind k t → shifts k ≡ false
+    → Walked P (t ∷ ts) → Walked P ts
+past_walked P keep t ts k e stays w = record { outline = outline_after t.tok.kind t.tok.lexeme w.outline; is = keep t.tok.kind t.tok.lexeme w.outline (ap shifts e ∙ stays) w.is; sound = w.sound.1 }
+
+-- Of the tokens outside bodies: nothing is open there, and what is known of each of them and of the bodies behind them. A comment is the token before them, or not.
+record Ahead (c : Bool) (ts : List SignificantToken) : Type 0 where
+  facts : Sound outside c ts
+  bodies : Walked IsOutside ts
+
+-- behind a token that opens nothing
+past_token : {c : Bool} (t : SignificantToken) (ts : List SignificantToken) (k : TokenKind) → IsKind k t → around k outside ≡ outside → shifts k ≡ false → Ahead c (t ∷ ts) → Ahead (is_comment k) ts
+past_token t ts k e same stays h = record {
+  facts = subst (λ s. Sound s (is_comment k) ts) same (past outside t ts k e h.facts.1);
+  bodies = past_walked IsOutside outside_after t ts k e stays h.bodies;
+}
 
 -- a value derives back, and leaves what is open as it was
 record GoodAt (s : Around) (depth : ℕ) (e : Value) (rest : List SignificantToken) : Type 0 where
@@ -44,8 +66,107 @@ good_value (g.value opened (g.variable {name = t} {rest = rest} kind not_if not_
   behind = past s t rest kinds.Identifier kind h.1;
 }
 
+good_expression : {s : Around} {e : Value} {rest : List SignificantToken} → GoodAt s 0 e rest → GoodExpression e
+good_expression v = record { lexes = v.lexes; derives = v.derives; utf8 = v.utf8 }
+
 lexed_comment : {s : Around} {c : Bool} (t : SignificantToken) → IsKind kinds.Comment t → Known s c t.tok → GoodComment (trim_end t.tok.lexeme)
 lexed_comment t kind h = good_comment t.tok.lexeme h.utf8 (fact_as t kinds.Comment kind h)
+
+lexed_name : {s : Around} {c : Bool} (t : SignificantToken) → IsKind kinds.Identifier t → Known s c t.tok → GoodName t.tok.lexeme
+lexed_name t kind h = record { is_name = fact_as t kinds.Identifier kind h; utf8 = h.utf8 }
+
+-- ---- bodies
+
+record PartsAt (fs : List Fragment) (rest : List SignificantToken) : Type 0 where
+  parts : PartsGood fs
+  behind : Sound outside false rest
+
+parts_good : {fs : List Fragment} {ts rest : List SignificantToken} → LineOf fs ts rest → Sound outside false ts → PartsAt fs rest
+parts_good (g.line_ends {token = t} {rest = rest} kind) h = record { parts = tt; behind = past outside t rest kinds.Eol kind h.1 }
+parts_good (g.body_ends kind) h = record { parts = tt; behind = h }
+parts_good (g.text {token = t} {tokens = tokens} kind r) h =
+    let m = parts_good r (past outside t tokens kinds.Text kind h.1) in
+    record { parts = (h.0.utf8, m.parts); behind = m.behind }
+parts_good (g.interpolation {start = start} {end = stop} {tokens = tokens} {behind = on} kind x kind2 r) h =
+    let v = good_value x (around kinds.InterpolationStart outside) false (past outside start tokens kinds.InterpolationStart kind h.1) in
+    let m = parts_good r (past (around kinds.InterpolationStart outside) stop on kinds.InterpolationEnd kind2 v.behind.1) in
+    record { parts = (good_expression v, m.parts); behind = m.behind }
+
+record LinesAt (ls : List Row) (rest : List SignificantToken) : Type 0 where
+  parts : AllPartsGood ls
+  behind : Sound outside false rest
+
+all_parts_good : {ls : List Row} {ts rest : List SignificantToken} → LinesOf ls ts rest → Sound outside false ts → LinesAt ls rest
+all_parts_good (g.no_line {token = t} {rest = rest} kind) h = record { parts = tt; behind = past outside t rest kinds.Dedent kind h.1 }
+all_parts_good (g.empty_line {token = t} {tokens = tokens} kind r) h =
+    let m = all_parts_good r (past outside t tokens kinds.Eol kind h.1) in
+    record { parts = (tt, m.parts); behind = m.behind }
+all_parts_good (g.some_line l r) h =
+    let first = parts_good l h in
+    let m = all_parts_good r first.behind in
+    record { parts = (first.parts, m.parts); behind = m.behind }
+
+-- behind the colon of a recipe
+record IsHeader (s : Outline) : Type 0 where
+  is_outside : IsOutside s
+  colon : s.colon ≡ true
+
+colon_stays : (k : TokenKind) (b : Bool) → shifts k ≡ false → b ≡ true → colon_after k b ≡ true
+colon_stays kinds.Colon b stays e = refl
+colon_stays kinds.Dedent b stays e = cc
+colon_stays _ b stays e = e
+
+header_after : (k : TokenKind) (l : List ℕ) (s : Outline) → shifts k ≡ false → IsHeader s → IsHeader (outline_after k l s)
+header_after k l s stays h = record { is_outside = outside_after k l s stays h.is_outside; colon = colon_stays k s.colon stays h.colon }
+
+past_colon : (t : SignificantToken) (ts : List SignificantToken) → IsKind kinds.Colon t → Walked IsOutside (t ∷ ts) → Walked IsHeader ts
+past_colon t ts e w = record {
+  outline = outline_after t.tok.kind t.tok.lexeme w.outline;
+  is = record { is_outside = outside_after t.tok.kind t.tok.lexeme w.outline (ap shifts e) w.is; colon = ap (λ k. colon_after k w.outline.colon) e };
+  sound = w.sound.1;
+}
+
+past_indent : (t : SignificantToken) (ts : List SignificantToken) → IsKind kinds.Indent t → Walked IsHeader (t ∷ ts) → BodySound (inner First false true) ts
+past_indent t ts e w =
+    subst (λ o. BodySound o ts) (indent_leads t.tok.lexeme w.outline w.is.colon w.is.is_outside.interpolation w.is.is_outside.levels)
+    (subst (λ k. BodySound (outline_after k t.tok.lexeme w.outline) ts) e w.sound.1)
+
+-- what is known at the first line of a body
+record InBody (ts : List SignificantToken) : Type 0 where
+  facts : Sound outside false ts
+  body : BodySound (inner First false true) ts
+
+before_body : {ts rest : List SignificantToken} → BeforeBody ts rest → Sound outside false ts → Walked IsHeader ts → InBody rest
+before_body (g.at_once {newline} {indent} {rest} kind kind2) h w = record {
+  facts = past outside indent rest kinds.Indent kind2 (past outside newline (indent ∷ rest) kinds.Eol kind h.1).1;
+  body = past_indent indent rest kind2 (past_walked IsHeader header_after newline (indent ∷ rest) kinds.Eol kind refl w);
+}
+before_body (g.commented {comment} {newline} {indent} {rest} kind kind2 kind3) h w = record {
+  facts = past outside indent rest kinds.Indent kind3 (past outside newline (indent ∷ rest) kinds.Eol kind2 (past outside comment (newline ∷ indent ∷ rest) kinds.Comment kind h.1).1).1;
+  body = past_indent indent rest kind3
+      (past_walked IsHeader header_after newline (indent ∷ rest) kinds.Eol kind2 refl (past_walked IsHeader header_after comment (newline ∷ indent ∷ rest) kinds.Comment kind refl w));
+}
+
+-- a recipe with a body; where levels would close within it, the file ends behind it
+record BlockGood (name : List ℕ) (body : List Row) (rest : List SignificantToken) : Type 0 where
+  good : GoodRecipe name body
+  some : NotEmpty body
+  last : pale_behind body ≡ true → NextIs (λ k. k ≡ kinds.Eof) rest
+  behind : Ahead false rest
+
+block_good : (name colon : SignificantToken) {lines : List Row} {tokens body rest : List SignificantToken} → IsKind kinds.Identifier name → IsKind kinds.Colon colon → BeforeBody tokens body → LinesOf lines body rest → NotEmpty (trimmed lines)
+    → (c : Bool) → Ahead c (name ∷ colon ∷ tokens) → printable_body (trimmed lines) ≡ true → BlockGood name.tok.lexeme (trimmed lines) rest
+block_good name colon {lines} {tokens} kind kind2 before read some c h p =
+    let on = past_token name (colon ∷ tokens) kinds.Identifier kind refl refl h in
+    let start = before_body before (past outside colon tokens kinds.Colon kind2 on.facts.1) (past_colon colon tokens kind2 on.bodies) in
+    let parts = all_parts_good read start.facts in
+    let body = body_read true read start.body parts.parts (sym (trimmed_printable lines) ∙ p) in
+    record {
+      good = record { named = lexed_name name kind h.facts.0; good = body.good; ended = trimmed_twice lines };
+      some = some;
+      last = body.last;
+      behind = record { facts = parts.behind; bodies = record { outline = no_body; is = outside_first; sound = body.sound } };
+    }
 
 -- ---- line ends of the normal shape
 
@@ -53,54 +174,84 @@ start_behind_newline : (r : Shape) → AtStart r → AtStart (behind_newline r)
 start_behind_newline [] h = h
 start_behind_newline (tree.Newline ∷ []) h = h
 start_behind_newline (tree.Newline ∷ tree.Newline ∷ r) h = h
-start_behind_newline (tree.Newline ∷ tree.Assignment name value ∷ r) h = h
-start_behind_newline (tree.Newline ∷ tree.Comment t ∷ r) h = h
-start_behind_newline (tree.Assignment name value ∷ r) h = h
-start_behind_newline (tree.Comment t ∷ r) h = h
+start_behind_newline (tree.Newline ∷ _ ∷ r) h = h
+start_behind_newline (_ ∷ r) h = h
 
 end_behind_newline : (r : Shape) → AtStart r → AtEnd (behind_newline r)
 end_behind_newline [] h = h
 end_behind_newline (tree.Newline ∷ []) h = h
 end_behind_newline (tree.Newline ∷ tree.Newline ∷ r) h = h
-end_behind_newline (tree.Newline ∷ tree.Assignment name value ∷ r) h = h
-end_behind_newline (tree.Newline ∷ tree.Comment t ∷ r) h = h
-end_behind_newline (tree.Assignment name value ∷ r) h = h
-end_behind_newline (tree.Comment t ∷ r) h = h
+end_behind_newline (tree.Newline ∷ _ ∷ r) h = h
+end_behind_newline (_ ∷ r) h = h
 
 after_end : (c : Bool) (r : Shape) → AtEnd r → After c r
 after_end true r h = h
 after_end false r h = end_behind r h
 
+-- the line end that is made behind a body
+body_behind_newline : (body : List Row) (items : Shape) → (pale_behind body ≡ true → items ≡ []) → AtStart (normal_rest items) → BehindBody body (behind_newline (normal_rest items))
+body_behind_newline body items last h = by (normal_rest items) (newline_follows items) (λ p. ap (λ i. behind (behind_newline (normal_rest i))) (last p)) h
+  where
+    by : (r : Shape) → follows_body (behind (behind_newline r)) ≡ true → (pale_behind body ≡ true → behind (behind_newline r) ≡ []) → AtStart r → BehindBody body (behind_newline r)
+    by [] f l h = (f, l, h)
+    by (tree.Newline ∷ []) f l h = (f, l, h)
+    by (tree.Newline ∷ tree.Newline ∷ r) f l h = (f, l, h)
+    by (tree.Newline ∷ _ ∷ r) f l h = (f, l, h)
+    by (_ ∷ r) f l h = (f, l, h)
+
+start_block : (name : List ℕ) (body : List Row) (items : Shape) → NotEmpty body → GoodRecipe name body → BehindBody body items → AtStart (tree.Recipe name body ∷ items)
+start_block name [] items some good more = absurd some
+start_block name (l ∷ ls) items some good more = (good, more)
+
+-- no item is before the end of the file
+file_ended : {items : Shape} {ts : List SignificantToken} → Items lexeme nothing nothing Limited items ts → NextIs (λ k. k ≡ kinds.Eof) ts → items ≡ []
+file_ended (g.end kind) e = refl
+file_ended (g.blank kind more) e = let bad : kinds.Eol ≡ kinds.Eof = sym kind ∙ e in cc
+file_ended (g.item (g.comment kind) more) e = let bad : kinds.Comment ≡ kinds.Eof = sym kind ∙ e in cc
+file_ended (g.item (g.assignment kind kind2 x) more) e = let bad : kinds.Identifier ≡ kinds.Eof = sym kind ∙ e in cc
+file_ended (g.item (g.header kind kind2) more) e = let bad : kinds.Identifier ≡ kinds.Eof = sym kind ∙ e in cc
+file_ended (g.block (g.recipe kind kind2 before read some) more) e = let bad : kinds.Identifier ≡ kinds.Eof = sym kind ∙ e in cc
+
 -- ---- items
 
 -- a comment trails an item that is none
-trailing_good : {s : Around} (t : SignificantToken) (items : Shape) (c : Bool) → IsKind kinds.Comment t → calm s ≡ true → Known s c t.tok → AtEnd (normal_rest items) → After c (normal_rest (tree.Comment (trim_end t.tok.lexeme) ∷ items))
-trailing_good t items true kind q h e = absurd (h.apart refl q kind)
-trailing_good t items false kind q h e = (lexed_comment t kind h, e)
+trailing_good : (t : SignificantToken) (items : Shape) (c : Bool) → IsKind kinds.Comment t → Known outside c t.tok → AtEnd (normal_rest items) → After c (normal_rest (tree.Comment (trim_end t.tok.lexeme) ∷ items))
+trailing_good t items true kind h e = absurd (h.apart refl refl kind)
+trailing_good t items false kind h e = (lexed_comment t kind h, e)
 
 mutual
-  items_good : {items : Shape} {ts : List SignificantToken} → Items lexeme nothing Limited items ts → (s : Around) (c : Bool) → calm s ≡ true → Sound s c ts → AtStart (normal_rest items)
-  items_good (g.end kind) s c q h = tt
-  items_good (g.blank {items = items} {token = t} {rest = rest} kind more) s c q h = start_behind_newline (normal_rest items) (items_good more s false q (past s t rest kinds.Eol kind h.1))
-  items_good (g.item (g.comment {token = t} {rest = rest} kind) more) s c q h = (lexed_comment t kind h.0, behind_good more s true q (past s t rest kinds.Comment kind h.1))
-  items_good (g.item (g.assignment {name = name} {operator = operator} {tokens = tokens} kind kind2 e) more) s c q h =
-      let on = past s name (operator ∷ tokens) kinds.Identifier kind h.1 in
-      let v = good_value e s false (past s operator tokens kinds.ColonEquals kind2 on.1) in
-      (record { is_name = fact_as name kinds.Identifier kind h.0; lexes = v.lexes; derives = v.derives; utf8 = (h.0.utf8, v.utf8) }, behind_good more s false q v.behind)
+  items_good : {items : Shape} {ts : List SignificantToken} → Items lexeme nothing nothing Limited items ts → (c : Bool) → Ahead c ts → printable items ≡ true → AtStart (normal_rest items)
+  items_good (g.end kind) c h p = tt
+  items_good (g.blank {items = items} {token = t} {rest = rest} kind more) c h p = start_behind_newline (normal_rest items) (items_good more false (past_token t rest kinds.Eol kind refl refl h) p)
+  items_good (g.item (g.comment {token = t} {rest = rest} kind) more) c h p = (lexed_comment t kind h.facts.0, behind_good more true (past_token t rest kinds.Comment kind refl refl h) p)
+  items_good (g.item (g.assignment {name = name} {operator = operator} {tokens = tokens} kind kind2 x) more) c h p =
+      let on = past_token operator tokens kinds.ColonEquals kind2 refl refl (past_token name (operator ∷ tokens) kinds.Identifier kind refl refl h) in
+      let v = good_value x outside false on.facts in
+      (lexed_name name kind h.facts.0, good_expression v, behind_good more false (record { facts = v.behind; bodies = walk_outside x on.bodies }) p)
+  items_good (g.item (g.header {name = name} {colon = colon} {rest = rest} kind kind2) more) c h p =
+      (lexed_name name kind h.facts.0, behind_good more false (past_token colon rest kinds.Colon kind2 refl refl (past_token name (colon ∷ rest) kinds.Identifier kind refl refl h)) p)
+  items_good (g.block {items = items} {rest = rest} (g.recipe {lines = lines} {name = name} {colon = colon} kind kind2 before read some) more) c h p =
+      let parts = and_parts (printable_body (trimmed lines)) (printable items) p in
+      let b = block_good name colon kind kind2 before read some c h parts.0 in
+      start_block name.tok.lexeme (trimmed lines) (behind_newline (normal_rest items)) b.some b.good
+      (body_behind_newline (trimmed lines) items (λ pale. file_ended more (b.last pale)) (items_good more false b.behind parts.1))
 
-  behind_good : {items : Shape} {ts : List SignificantToken} → Behind lexeme nothing Limited items ts → (s : Around) (c : Bool) → calm s ≡ true → Sound s c ts → After c (normal_rest items)
-  behind_good (g.trailing {items = items} {token = t} {rest = rest} kind e) s c q h = trailing_good t items c kind q h.0 (line_end_good e s true q (past s t rest kinds.Comment kind h.1))
-  behind_good (g.bare {items = items} e) s c q h = after_end c (normal_rest items) (line_end_good e s c q h)
+  behind_good : {items : Shape} {ts : List SignificantToken} → Behind lexeme nothing nothing Limited items ts → (c : Bool) → Ahead c ts → printable items ≡ true → After c (normal_rest items)
+  behind_good (g.trailing {items = items} {token = t} {rest = rest} kind e) c h p = trailing_good t items c kind h.facts.0 (line_end_good e true (past_token t rest kinds.Comment kind refl refl h) p)
+  behind_good (g.bare {items = items} e) c h p = after_end c (normal_rest items) (line_end_good e c h p)
 
-  line_end_good : {items : Shape} {ts : List SignificantToken} → LineEnd lexeme nothing Limited items ts → (s : Around) (c : Bool) → calm s ≡ true → Sound s c ts → AtEnd (normal_rest items)
-  line_end_good (g.line_end {items = items} {token = t} {rest = rest} kind more) s c q h = end_behind_newline (normal_rest items) (items_good more s false q (past s t rest kinds.Eol kind h.1))
-  line_end_good (g.file_end kind) s c q h = tt
+  line_end_good : {items : Shape} {ts : List SignificantToken} → LineEnd lexeme nothing nothing Limited items ts → (c : Bool) → Ahead c ts → printable items ≡ true → AtEnd (normal_rest items)
+  line_end_good (g.line_end {items = items} {token = t} {rest = rest} kind more) c h p = end_behind_newline (normal_rest items) (items_good more false (past_token t rest kinds.Eol kind refl refl h) p)
+  line_end_good (g.file_end kind) c h p = tt
 
 normal_good : (shape : Shape) → AtStart (normal_rest shape) → AtStart (normal shape)
 normal_good [] h = tt
 normal_good (i ∷ shape) h = h
 
 -- the normal shape of a file
-pub file_good : {shape : Shape} {ts : List SignificantToken} → File lexeme nothing Limited shape ts → (s : Around) → calm s ≡ true → Sound s false ts → AtStart (normal shape)
-file_good {shape} (g.marked {token = t} {rest = rest} kind more) s q h = normal_good shape (items_good more s false q (past s t rest kinds.ByteOrderMark kind h.1))
-file_good {shape} (g.unmarked more) s q h = normal_good shape (items_good more s false q h)
+pub file_good : {shape : Shape} {ts : List SignificantToken} → File lexeme nothing nothing Limited shape ts → Sound outside false ts → BodySound no_body ts → printable shape ≡ true → AtStart (normal shape)
+file_good {shape} {ts} file s b p = normal_good shape (by file (record { facts = s; bodies = record { outline = no_body; is = outside_first; sound = b } }) p)
+  where
+    by : {shape : Shape} {ts : List SignificantToken} → File lexeme nothing nothing Limited shape ts → Ahead false ts → printable shape ≡ true → AtStart (normal_rest shape)
+    by (g.marked {token = t} {rest = rest} kind more) h p = items_good more false (past_token t rest kinds.ByteOrderMark kind refl refl h) p
+    by (g.unmarked more) h p = items_good more false h p
