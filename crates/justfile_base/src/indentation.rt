@@ -13,6 +13,24 @@ pub struct Indentation {
     ghost is_positive: { 0 < count },
 }
 
+impl Indentation {
+    ghost use Rattle.std.specs.Prelude.{◌∷◌, []};
+
+    /// The blank that it repeats.
+    pub fn blank(self) -> &'static str
+        ensures { result.now ≡ self.character ∷ [] }
+    {
+        if self.character == '\t' { "\t" } else { " " }
+    }
+
+    /// How many blanks it is.
+    pub fn count(self) -> usize
+        ensures { result ≡ self.count }
+    {
+        self.count
+    }
+}
+
 impl Default for Indentation {
     ghost use Rattle.std.specs.Prelude.{codes};
     ghost use Rattle.justfile_base.specs.Indentation.{indentation_text};
@@ -67,7 +85,7 @@ impl fmt::Display for Indentation {
     ghost output = { λ indentation. Some (indentation_text indentation) };
 
     fn fmt<W: fmt::Write>(&self, f: &mut fmt::Formatter<W>) -> fmt::Result {
-        let blank = if self.character == '\t' { "\t" } else { " " };
+        let blank = self.blank();
         for _blank in 0..self.count {
             f.write_str(blank)?;
         }

@@ -8,6 +8,7 @@ pub enum ItemKind {
     Assignment,
     Comment,
     Newline,
+    Recipe,
 }
 
 impl ItemKind {
@@ -19,7 +20,7 @@ impl ItemKind {
     {
         match self {
             ItemKind::Assignment => "an",
-            ItemKind::Comment | ItemKind::Newline => "a",
+            ItemKind::Comment | ItemKind::Newline | ItemKind::Recipe => "a",
         }
     }
 
@@ -30,6 +31,7 @@ impl ItemKind {
             ItemKind::Assignment => "assignment",
             ItemKind::Comment => "comment",
             ItemKind::Newline => "newline",
+            ItemKind::Recipe => "recipe",
         }
     }
 }

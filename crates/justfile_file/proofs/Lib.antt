@@ -1,4 +1,6 @@
+pub mod Bodies
 pub mod Copied
 pub mod Gaps
-pub mod PrintedBack
+pub mod Loops
 pub mod SigilLaws
+pub mod PrintedBack

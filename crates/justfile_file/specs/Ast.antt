@@ -3,7 +3,7 @@ use Rattle.std.specs.Prelude.{ℕ, List, map}
 use Rattle.std.specs.List.{flat_map}
 use Rattle.justfile_model.specs.Tree.{Tree, Shape, shape_of}
 use Rattle.justfile_file.specs.declared.ast.Ast.{Ast}
-use Rattle.justfile_file.specs.Item.{item_of, item_cooked, item_numbers}
+use Rattle.justfile_file.specs.Item.{item_of, item_cooked, item_numbers, item_recipe_numbers}
 
 abbrev pub tree_of : Ast → Tree
 tree_of ast = map item_of ast.items.items
@@ -19,3 +19,7 @@ cooked_texts ast = flat_map item_cooked ast.items.items
 -- the numbers of its bindings, in order
 abbrev pub binding_numbers : Ast → List ℕ
 binding_numbers ast = flat_map item_numbers ast.items.items
+
+-- the numbers of its recipes, in order
+abbrev pub recipe_numbers : Ast → List ℕ
+recipe_numbers ast = flat_map item_recipe_numbers ast.items.items

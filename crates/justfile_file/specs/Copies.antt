@@ -9,8 +9,9 @@ use Rattle.justfile_file.specs.declared.binding.Binding.{Binding}
 use Rattle.justfile_file.specs.declared.fragment.Fragment.{Fragment}
 use Rattle.justfile_file.specs.declared.fragment.Fragment.TheVariants.{Interpolation, Text}
 use Rattle.justfile_file.specs.declared.item.Item.{Item}
-use Rattle.justfile_file.specs.declared.item.Item.TheVariants.{Assignment, Comment, Newline}
+use Rattle.justfile_file.specs.declared.item.Item.TheVariants.{Assignment, Comment, Newline, Recipe}
 use Rattle.justfile_file.specs.declared.line.Line.{Line}
+use Rattle.justfile_file.specs.declared.recipe.UnresolvedRecipe.{UnresolvedRecipe}
 
 -- the same fields
 pub record IsSameAssignment (copy original : Binding Expression) : Type 0 where
@@ -22,13 +23,6 @@ pub record IsSameAssignment (copy original : Binding Expression) : Type 0 where
   pub value : IsSameExpression copy.value original.value
 
 -- the same case with the same fields
-abbrev pub IsSameItem : (copy original : Item) → Type 0
-IsSameItem (Assignment copy) (Assignment original) = IsSameAssignment copy original
-IsSameItem (Comment copy) (Comment original) = copy ≡ original
-IsSameItem Newline Newline = Unit {0}
-IsSameItem _ _ = ⊥
-
--- the same case with the same fields
 abbrev pub IsSameFragment : (copy original : Fragment) → Type 0
 IsSameFragment (Interpolation copy) (Interpolation original) = IsSameExpression copy original
 IsSameFragment (Text copy) (Text original) = copy ≡ original
@@ -38,6 +32,24 @@ IsSameFragment _ _ = ⊥
 pub record IsSameLine (copy original : Line) : Type 0 where
   pub fragments : AllZip IsSameFragment copy.fragments.items original.fragments.items
   pub number : copy.number ≡ original.number
+
+-- the same fields, and each line the same
+pub record IsSameRecipe (copy original : UnresolvedRecipe) : Type 0 where
+  pub body : AllZip IsSameLine copy.body.items original.body.items
+  pub file_depth : copy.file_depth ≡ original.file_depth
+  pub import_offsets : copy.import_offsets.items ≡ original.import_offsets.items
+  pub name : copy.name ≡ original.name
+  pub number : copy.number ≡ original.number
+  pub «private» : copy.private ≡ original.private
+  pub shebang : copy.shebang ≡ original.shebang
+
+-- the same case with the same fields
+abbrev pub IsSameItem : (copy original : Item) → Type 0
+IsSameItem (Assignment copy) (Assignment original) = IsSameAssignment copy original
+IsSameItem (Comment copy) (Comment original) = copy ≡ original
+IsSameItem Newline Newline = Unit {0}
+IsSameItem (Recipe copy) (Recipe original) = IsSameRecipe copy original
+IsSameItem _ _ = ⊥
 
 -- the same file, in memory of its own
 pub record IsSameAst (copy original : Ast) : Type 0 where

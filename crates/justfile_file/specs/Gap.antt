@@ -21,7 +21,7 @@ wider Line = Blank
 wider Blank = Blank
 
 abbrev pub ItemShape : Type 0
-ItemShape = tree.Item (List ℕ) (Unit {0})
+ItemShape = tree.Item (List ℕ) (Unit {0}) (Unit {0})
 
 -- the gap behind an item
 abbrev pub next_gap : Gap → ItemShape → Gap
@@ -29,15 +29,14 @@ next_gap gap tree.Newline = wider gap
 next_gap gap _ = Item
 
 -- what is printed of an item behind a gap: line ends wait for the item that follows them
-abbrev pub step_text : Gap → ItemShape → List ℕ
-step_text gap tree.Newline = []
-step_text gap (tree.Assignment name value) = gap_text gap ++ item_text (tree.Assignment name value)
-step_text gap (tree.Comment text) = gap_text gap ++ text
+abbrev pub step_text : (indentation : List ℕ) → Gap → ItemShape → List ℕ
+step_text indentation gap tree.Newline = []
+step_text indentation gap i = gap_text gap ++ item_text i indentation
 
 -- what is printed of items behind a gap
-abbrev pub front_text : Gap → Shape → List ℕ
-front_text gap [] = []
-front_text gap (i ∷ items) = step_text gap i ++ front_text (next_gap gap i) items
+abbrev pub front_text : (indentation : List ℕ) → Gap → Shape → List ℕ
+front_text indentation gap [] = []
+front_text indentation gap (i ∷ items) = step_text indentation gap i ++ front_text indentation (next_gap gap i) items
 
 -- the gap behind items
 abbrev pub last_gap : Gap → Shape → Gap

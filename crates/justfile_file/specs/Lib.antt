@@ -5,4 +5,5 @@ pub mod Gap
 pub mod Item
 pub mod Line
 pub mod PrintsBack
+pub mod Recipe
 pub mod Sigil

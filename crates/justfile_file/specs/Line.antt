@@ -10,17 +10,17 @@ use Rattle.justfile_file.specs.declared.sigil.Sigil.{Sigil}
 use Rattle.justfile_file.specs.Sigil.{IsSigilOf}
 
 -- the bytes of a fragment that is a text
-abbrev pub fragment_text : Fragment → Option (List ℕ)
-fragment_text (Interpolation expression) = None
-fragment_text (Text token) = Some (lexeme_of token)
+abbrev pub text_of : Fragment → Option (List ℕ)
+text_of (Interpolation expression) = None
+text_of (Text token) = Some (lexeme_of token)
 
 -- the text that a line begins with, if its first fragment is one
 abbrev pub first_text : Line → Option (List ℕ)
-first_text line = option_and_then fragment_text (slice_get line.fragments.items 0)
+first_text line = option_and_then text_of (slice_get line.fragments.items 0)
 
 -- the text that a line ends with, if its last fragment is one
 abbrev pub last_text : Line → Option (List ℕ)
-last_text line = option_and_then fragment_text (slice_get line.fragments.items (length line.fragments.items - 1))
+last_text line = option_and_then text_of (slice_get line.fragments.items (length line.fragments.items - 1))
 
 -- its first fragment is a text that begins so
 abbrev pub BeginsWith : Line → List ℕ → Type 0

@@ -1,17 +1,20 @@
 -- What printing promises of the shape of a text.
-use Rattle.std.specs.Prelude.{◌≡◌, ℕ, List}
+use Rattle.std.specs.Prelude.{◌≡◌, ℕ, true, List}
 use Rattle.justfile_model.specs.Tree.{Tree, Shape, shape_of}
 use Rattle.justfile_model.specs.NormalShape.{normal}
+use Rattle.justfile_model.specs.Printing.{printable}
 use Rattle.justfile_model.specs.Literals.{Answers}
 use Rattle.justfile_model.specs.Files.{VersionNumbers}
 use Rattle.justfile_canon.specs.RoundTrip.{TextDerives, ReadsBack, printed}
 
--- Where some text derives the shape, under whatever expander and version, what is printed of it derives its normal form, with the same
--- texts of literals and as many bindings, and is printed of that again; and only shapes of the same normal form print as these bytes.
+-- Where some text derives the shape, under whatever expander and version, and the shape is printable, what is printed of it derives its
+-- normal form, with the same texts of literals, as many bindings and as many recipes, and is printed of that again; and of printable
+-- shapes only those of the same normal form print as these bytes.
 pub record PrintsBack (shape : Shape) (indentation bytes : List ℕ) : Type 0 where
   pub reads_back : (expander : Answers) (current : VersionNumbers) (source : List ℕ) (tree : Tree) → TextDerives expander current source tree
-      → shape_of tree ≡ shape
+      → shape_of tree ≡ shape → printable shape ≡ true
       → ReadsBack expander current shape indentation bytes
   pub apart : (expander : Answers) (current : VersionNumbers) (source other : List ℕ) (tree twin : Tree) → TextDerives expander current source tree
-      → shape_of tree ≡ shape → TextDerives expander current other twin → printed (shape_of twin) indentation ≡ bytes
+      → shape_of tree ≡ shape → printable shape ≡ true → TextDerives expander current other twin → printable (shape_of twin) ≡ true
+      → printed (shape_of twin) indentation ≡ bytes
       → normal (shape_of twin) ≡ normal shape

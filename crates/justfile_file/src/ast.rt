@@ -1,8 +1,8 @@
-ghost use Rattle.std.specs.Prelude.{◌≡◌, OnOk, OnErr, IfOk, map, string_bytes, true, None};
-ghost use Rattle.std.specs.List.{AllZip};
+ghost use Rattle.std.specs.Prelude.{◌≡◌, OnOk, OnErr, IfOk, map, string_bytes, None};
+ghost use Rattle.std.specs.List.{AllZip, list_all};
 ghost use Rattle.justfile_base.specs.Indentation.{indentation_text};
 ghost use Rattle.justfile_model.specs.NormalShape.{normal};
-ghost use Rattle.justfile_model.specs.Printing.{text};
+ghost use Rattle.justfile_model.specs.Printing.{printable, printable_item, text};
 ghost use Rattle.justfile_file.specs.Ast.{ast_shape};
 ghost use Rattle.justfile_file.specs.Copies.{IsSameItem};
 ghost use Rattle.justfile_file.specs.Gap.{front_text, end_text};
@@ -39,11 +39,12 @@ impl<'src> Ast<'src> {
         None
     }
 
-    /// Whether the printed text parses back: true of every file so far.
+    /// Whether the printed text parses back: no line of a body ends in a carriage return.
+    #[tactic(auto, using(crate::proofs::Bodies::printable_items))]
     pub fn printable(&self) -> bool
-        ensures { result ≡ true }
+        ensures { result ≡ printable (ast_shape self.now) }
     {
-        true
+        are_printable(&self.items)
     }
 
     /// The same file once more.
@@ -81,14 +82,25 @@ fn copied<'src>(alloc: Global, items: &[Item<'src>]) -> Result<Vec<Item<'src>>, 
     Ok(copies)
 }
 
+/// Whether each of the items, printed, reads back.
+fn are_printable(items: &[Item<'_>]) -> bool
+    ensures { result ≡ list_all (λ item. printable_item (item_shape item)) items.now }
+{
+    items.iter().all(|item| item.is_printable())
+}
+
 /// Puts the items of a file, but for the line ends at the end.
-fn write_items<S: Sink>(items: &[Item<'_>], sink: &mut S) -> Result<(), S::Fault>
-    ensures ok { OnOk result (S.took sink.old (front_text Start (map item_shape items.now)) sink.new) }
-    ensures err { OnErr result (S.failed sink.old (front_text Start (map item_shape items.now)) sink.new) }
+fn write_items<S: Sink>(
+    items: &[Item<'_>],
+    indentation: Indentation,
+    sink: &mut S,
+) -> Result<(), S::Fault>
+    ensures ok { OnOk result (S.took sink.old (front_text (indentation_text indentation) Start (map item_shape items.now)) sink.new) }
+    ensures err { OnErr result (S.failed sink.old (front_text (indentation_text indentation) Start (map item_shape items.now)) sink.new) }
 {
     let mut gap = Gap::Start;
     for item in items {
-        gap = write_step(item, gap, sink)?;
+        gap = write_step(item, indentation, gap, sink)?;
     }
     Ok(())
 }
@@ -113,8 +125,7 @@ pub(crate) fn write_ast<S: Sink>(
     ensures ok { OnOk result (S.took sink.old (text (normal (ast_shape ast.now)) (indentation_text indentation)) sink.new) }
     ensures err { OnErr result (S.failed sink.old (text (normal (ast_shape ast.now)) (indentation_text indentation)) sink.new) }
 {
-    let _ = indentation;
-    write_items(&ast.items, sink)?;
+    write_items(&ast.items, indentation, sink)?;
     write_end(&ast.items, sink)?;
     Ok(())
 }

@@ -1,5 +1,9 @@
+ghost use Rattle.std.specs.Prelude.{OnOk, OnErr};
+ghost use Rattle.justfile_model.specs.Printing.{piece, fragment_text};
+ghost use Rattle.justfile_file.specs.Item.{fragment_shape};
+
 use justfile_base::Token;
-use justfile_tree::Expression;
+use justfile_tree::{Expression, Sink, put_piece, write_expression};
 use std::alloc::{AllocError, Global};
 
 /// A part of a body line.
@@ -15,7 +19,7 @@ impl<'src> Fragment<'src> {
     ghost use Rattle.std.specs.Prelude.{◌≡◌, IfOk};
     ghost use Rattle.std.specs.Option.{option_copied};
     ghost use Rattle.justfile_file.specs.Copies.{IsSameFragment};
-    ghost use Rattle.justfile_file.specs.Line.{fragment_text};
+    ghost use Rattle.justfile_file.specs.Line.{text_of};
 
     /// The same fragment once more.
     pub fn clone(&self, alloc: Global) -> Result<Self, AllocError>
@@ -32,11 +36,27 @@ impl<'src> Fragment<'src> {
 
     /// The text of a fragment that is one.
     pub(crate) fn text(&self) -> Option<&'src str>
-        ensures { option_copied result ≡ fragment_text self.now }
+        ensures { option_copied result ≡ text_of self.now }
     {
         match self {
             Fragment::Interpolation { .. } => None,
             Fragment::Text { token } => Some(token.lexeme()),
         }
+    }
+}
+
+/// Puts the text of a fragment.
+pub(crate) fn write_fragment<S: Sink>(fragment: &Fragment<'_>, sink: &mut S) -> Result<(), S::Fault>
+    ensures ok { OnOk result (S.took sink.old (fragment_text (fragment_shape fragment.now)) sink.new) }
+    ensures err { OnErr result (S.failed sink.old (fragment_text (fragment_shape fragment.now)) sink.new) }
+{
+    match fragment {
+        Fragment::Interpolation { expression } => {
+            put_piece("{{ ", sink)?;
+            write_expression(expression, sink)?;
+            put_piece(" }}", sink)?;
+            Ok(())
+        }
+        Fragment::Text { token } => sink.put(token.lexeme()),
     }
 }

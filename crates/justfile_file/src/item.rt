@@ -1,10 +1,12 @@
 ghost use Rattle.std.specs.Prelude.{◌≡◌, OnOk, OnErr, IfOk, string_bytes};
-ghost use Rattle.justfile_model.specs.Printing.{item_text};
+ghost use Rattle.justfile_base.specs.Indentation.{indentation_text};
+ghost use Rattle.justfile_model.specs.Printing.{item_text, printable_item};
 ghost use Rattle.justfile_file.specs.Gap.{gap_text, next_gap, step_text};
 ghost use Rattle.justfile_file.specs.Item.{item_shape};
 
 use crate::assignment::{Assignment, write_assignment};
 use crate::gap::Gap;
+use crate::recipe::{UnresolvedRecipe, write_recipe};
 use justfile_base::Indentation;
 use justfile_tree::Sink;
 use std::alloc::{AllocError, Global};
@@ -17,10 +19,13 @@ pub enum Item<'src> {
     Comment(&'src str),
     /// The end of a line, or a blank line.
     Newline,
+    Recipe(UnresolvedRecipe<'src>),
 }
 
 impl<'src> Item<'src> {
+    ghost use Rattle.justfile_model.specs.Reader.{has_body};
     ghost use Rattle.justfile_file.specs.Copies.{IsSameItem};
+    ghost use Rattle.justfile_file.specs.Item.{item_of};
 
     /// The same item once more.
     pub fn clone(&self, alloc: Global) -> Result<Self, AllocError>
@@ -33,44 +38,77 @@ impl<'src> Item<'src> {
             }
             Item::Comment(text) => Ok(Item::Comment(text)),
             Item::Newline => Ok(Item::Newline),
+            Item::Recipe(recipe) => {
+                let recipe = recipe.clone(alloc)?;
+                Ok(Item::Recipe(recipe))
+            }
+        }
+    }
+
+    /// Whether the item is a recipe with a body.
+    pub fn has_body(&self) -> bool
+        ensures { result ≡ has_body (item_of self.now) }
+    {
+        match self {
+            Item::Assignment(_) | Item::Comment(_) | Item::Newline => false,
+            Item::Recipe(recipe) => !recipe.body.is_empty(),
+        }
+    }
+
+    /// Whether the printed item reads back: no line of its body ends in a carriage return.
+    pub(crate) fn is_printable(&self) -> bool
+        ensures { result ≡ printable_item (item_shape self.now) }
+    {
+        match self {
+            Item::Assignment(_) | Item::Comment(_) | Item::Newline => true,
+            Item::Recipe(recipe) => recipe.is_printable(),
         }
     }
 
     /// The text of the item, at an indentation of the lines of bodies.
     pub fn print(&self, alloc: Global, indentation: Indentation) -> Result<String, AllocError>
-        ensures { IfOk result (λ printed. string_bytes printed ≡ item_text (item_shape self.now)) }
+        ensures { IfOk result (λ printed. string_bytes printed ≡ item_text (item_shape self.now) (indentation_text indentation)) }
     {
-        let _ = indentation;
         let mut printed = String::new(alloc);
-        write_item(self, &mut printed)?;
+        write_item(self, indentation, &mut printed)?;
         Ok(printed)
     }
 }
 
 /// Puts the text of an item.
-pub(crate) fn write_item<S: Sink>(item: &Item<'_>, sink: &mut S) -> Result<(), S::Fault>
-    ensures ok { OnOk result (S.took sink.old (item_text (item_shape item.now)) sink.new) }
-    ensures err { OnErr result (S.failed sink.old (item_text (item_shape item.now)) sink.new) }
+pub(crate) fn write_item<S: Sink>(
+    item: &Item<'_>,
+    indentation: Indentation,
+    sink: &mut S,
+) -> Result<(), S::Fault>
+    ensures ok { OnOk result (S.took sink.old (item_text (item_shape item.now) (indentation_text indentation)) sink.new) }
+    ensures err { OnErr result (S.failed sink.old (item_text (item_shape item.now) (indentation_text indentation)) sink.new) }
 {
     match item {
         Item::Assignment(assignment) => write_assignment(assignment, sink),
         Item::Comment(text) => sink.put(text),
         Item::Newline => Ok(()),
+        Item::Recipe(recipe) => write_recipe(recipe, indentation, sink),
     }
 }
 
 /// Puts what is printed of an item behind a gap: a line end waits for the item that follows it.
 /// Answers the gap behind the item.
-pub(crate) fn write_step<S: Sink>(item: &Item<'_>, gap: Gap, sink: &mut S) -> Result<Gap, S::Fault>
+pub(crate) fn write_step<S: Sink>(
+    item: &Item<'_>,
+    indentation: Indentation,
+    gap: Gap,
+    sink: &mut S,
+) -> Result<Gap, S::Fault>
     ensures gap { IfOk result (λ behind. behind ≡ next_gap gap (item_shape item.now)) }
-    ensures ok { OnOk result (S.took sink.old (step_text gap (item_shape item.now)) sink.new) }
-    ensures err { OnErr result (S.failed sink.old (step_text gap (item_shape item.now)) sink.new) }
+    ensures ok { OnOk result (S.took sink.old (step_text (indentation_text indentation) gap (item_shape item.now)) sink.new) }
+    ensures err { OnErr result (S.failed sink.old (step_text (indentation_text indentation) gap (item_shape item.now)) sink.new) }
 {
     match item {
         Item::Newline => Ok(gap.wider()),
-        Item::Assignment(_) | Item::Comment(_) => {
+        Item::Assignment(_) | Item::Comment(_) | Item::Recipe(_) => {
             sink.put(gap.text())?;
-            write_item(item, sink)?;
+            write_item(item, indentation, sink)?;
             Ok(Gap::Item)
         }
     }

@@ -8,6 +8,7 @@ pub mod fragment;
 mod gap;
 pub mod item;
 pub mod line;
+pub mod recipe;
 pub mod sigil;
 
 pub use crate::assignment::Assignment;
@@ -16,4 +17,5 @@ pub use crate::binding::Binding;
 pub use crate::fragment::Fragment;
 pub use crate::item::Item;
 pub use crate::line::Line;
+pub use crate::recipe::UnresolvedRecipe;
 pub use crate::sigil::Sigil;

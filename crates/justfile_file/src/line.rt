@@ -1,12 +1,17 @@
-ghost use Rattle.std.specs.Prelude.{◌≡◌, ◌↔◌, IfOk, IsTrue};
+ghost use Rattle.std.specs.Prelude.{◌≡◌, ◌↔◌, OnOk, OnErr, IfOk, IsTrue};
 ghost use Rattle.std.specs.List.{AllZip, Contains};
 ghost use Rattle.std.specs.Option.{option_copied};
+ghost use Rattle.justfile_base.specs.Indentation.{indentation_text};
+ghost use Rattle.justfile_model.specs.Printing.{ends_in_return, line_text, printable_fragments};
 ghost use Rattle.justfile_file.specs.Copies.{IsSameFragment, IsSameLine};
+ghost use Rattle.justfile_file.specs.Item.{fragment_shapes, fragments_text, line_shape};
 ghost use Rattle.justfile_file.specs.Line.{IsComment, IsContinuation, IsEmpty, IsShebang, HasSigil, first_text, last_text};
 ghost use Rattle.justfile_file.specs.Sigil.{IsSigilOf};
 
-use crate::fragment::Fragment;
+use crate::fragment::{Fragment, write_fragment};
 use crate::sigil::Sigil;
+use justfile_base::Indentation;
+use justfile_tree::Sink;
 use std::alloc::{AllocError, Global};
 use std::collections::BTreeSet;
 
@@ -55,6 +60,18 @@ impl<'src> Line<'src> {
         ensures { IsTrue result ↔ IsShebang self.now }
     {
         self.first().is_some_and(|text| text.starts_with("#!"))
+    }
+
+    /// Whether the printed line reads back: its last fragment is no text that ends in a carriage
+    /// return.
+    #[tactic(auto, using(crate::proofs::Bodies::printable_last))]
+    pub(crate) fn is_printable(&self) -> bool
+        ensures { result ≡ printable_fragments (fragment_shapes self.now.fragments.items) }
+    {
+        match self.last() {
+            Some(text) => !ends_in_return(text),
+            None => true,
+        }
     }
 
     /// The sigils at the front of the line, each once. `?` is one only with guards.
@@ -111,4 +128,52 @@ fn front_sigils(alloc: Global, text: &[u8], guards: bool) -> Result<BTreeSet<Sig
         }
     }
     Ok(sigils)
+}
+
+/// Whether a text ends in a carriage return.
+#[tactic(auto, using(crate::proofs::Bodies::return_last))]
+fn ends_in_return(text: &str) -> bool
+    ensures { result ≡ ends_in_return text.now }
+{
+    text.ends_with('\r')
+}
+
+/// Puts an indentation.
+fn write_indentation<S: Sink>(indentation: Indentation, sink: &mut S) -> Result<(), S::Fault>
+    ensures ok { OnOk result (S.took sink.old (indentation_text indentation) sink.new) }
+    ensures err { OnErr result (S.failed sink.old (indentation_text indentation) sink.new) }
+{
+    let blank = indentation.blank();
+    for _i in 0..indentation.count() {
+        sink.put(blank)?;
+    }
+    Ok(())
+}
+
+/// Puts the text of fragments.
+fn write_fragments<S: Sink>(fragments: &[Fragment<'_>], sink: &mut S) -> Result<(), S::Fault>
+    ensures ok { OnOk result (S.took sink.old (fragments_text fragments.now) sink.new) }
+    ensures err { OnErr result (S.failed sink.old (fragments_text fragments.now) sink.new) }
+{
+    for fragment in fragments {
+        write_fragment(fragment, sink)?;
+    }
+    Ok(())
+}
+
+/// Puts the text of a line.
+pub(crate) fn write_line<S: Sink>(
+    line: &Line<'_>,
+    indentation: Indentation,
+    sink: &mut S,
+) -> Result<(), S::Fault>
+    ensures ok { OnOk result (S.took sink.old (line_text (indentation_text indentation) (line_shape line.now)) sink.new) }
+    ensures err { OnErr result (S.failed sink.old (line_text (indentation_text indentation) (line_shape line.now)) sink.new) }
+{
+    if line.is_empty() {
+        return Ok(());
+    }
+    write_indentation(indentation, sink)?;
+    write_fragments(&line.fragments, sink)?;
+    Ok(())
 }

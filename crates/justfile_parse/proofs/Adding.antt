@@ -1,62 +1,58 @@
 -- The parser adds items.
-use Rattle.std.proofs.Common.{◌≡◌, ℕ, Bool, ◌+◌, List, [], ◌∷◌, ◌++◌, Some, None, Result, sym, ap, ◌∙◌, subst}
+use Rattle.std.proofs.Common.{◌≡◌, ℕ, Bool, List, [], ◌∷◌, ◌++◌, Some, None, Result, sym, ap, ◌∙◌, subst}
 use Rattle.std.specs.Borrow.{Bor}
 use Rattle.justfile_base.specs.declared.token.Token.{Token}
-use Rattle.justfile_file.specs.Item.{item_of, item_numbers}
+use Rattle.justfile_base.specs.declared.numerator.Numerator.{Numerator}
 use Rattle.justfile_file.specs.declared.item.Item.{Item}
 use Rattle.justfile_base.specs.declared.token_kind.TokenKind.TheVariants as kinds
-use Rattle.justfile_model.specs.Files.{NumbersFrom, item_bindings}
-use Rattle.justfile_model.specs.Reader.{accept, comment_item, on_line, line_end, behind, line}
+use Rattle.justfile_model.specs.Reader.{accept, after, comment_item, on_line, line_end, behind, line}
 use Rattle.justfile_model.specs.SignificantTokens.{SignificantToken}
 use Rattle.justfile_model.specs.Tree.{Tree}
 use Rattle.justfile_parse.specs.declared.stop.Stop.{Stop}
 use Rattle.justfile_parse.specs.declared.stop.Stop.TheVariants.{Refused, Memory, Numbers}
 use Rattle.justfile_parse.proofs.Lines.{behind_comment, line_fails}
-use Rattle.justfile_parse.specs.Given.{IsInTable, IsGivenItem, IsGivenItems, IsUnnumberedItem}
-use Rattle.justfile_parse.specs.Reading.{StopsAt, after, answers_by, refusal_at}
-use Rattle.justfile_parse.specs.WantsNumber.{LacksNumber}
-use Rattle.justfile_parse.specs.View.{rest_of, IsSameRun, IsGivenBy, AddsUnnumbered, Adds}
+use Rattle.justfile_parse.specs.Given.{IsInTable, IsGivenItems, IsUnnumberedItem}
+use Rattle.justfile_parse.specs.Reading.{StopsAt, answers_by, refusal_at}
+use Rattle.justfile_parse.specs.WantsNumber.{LacksFirst}
+use Rattle.justfile_parse.specs.View.{rest_of, IsItemBy, IsNumbered, IsSameRun, IsGivenBy, AddsUnnumbered, Adds}
 use Rattle.justfile_parse.specs.declared.parser.Parser.{Parser}
-use Rattle.justfile_parse.proofs.GivenLemmas.{given_push, given_unnumbered}
+use Rattle.justfile_parse.proofs.GivenLemmas.{given_push, unnumbered_given, unnumbered_numbered}
 
 module _ {X : Type 0} (answer : X → List ℕ → Result (List ℕ) (List ℕ)) (p : Parser X) where
   pub unnumbered_none : (items : List Item) → AddsUnnumbered answer p items items
   unnumbered_none items = record { adds = λ first next h. h }
 
+  push_item : (items new : List Item) (item : Item) (first got gets : Numerator) → new ≡ items ++ item ∷ [] → IsItemBy answer p item → IsNumbered got gets item → IsGivenBy answer p first got items → IsGivenBy answer p first gets new
+  push_item items new item first got gets is given numbered so_far =
+      let P : List Item → Type 0 = λ l. IsGivenBy answer p first gets l in
+      subst P (sym is) (given_push _ _ _ _ first got gets items so_far item numbered given)
+
   pub unnumbered_item : (items new : List Item) (item : Item) → new ≡ items ++ item ∷ [] → IsUnnumberedItem item → AddsUnnumbered answer p items new
   unnumbered_item items new item is unnumbered =
-      record {
-        adds = λ first next h.
-            let P : List Item → Type 0 = λ l. IsGivenBy answer p first next l in
-            subst P (sym is) (given_unnumbered _ _ _ first next items h item unnumbered);
-      }
+      record { adds = λ first next. push_item items new item first next next is (unnumbered_given item unnumbered _ _ _ _) (unnumbered_numbered item unnumbered next) }
 
-  pub adds_unnumbered : (items new : List Item) (got gets : ℕ) → AddsUnnumbered answer p items new → gets ≡ got → Adds answer p got gets items new
-  adds_unnumbered items new got gets h is = record { adds = λ first so_far. let P : ℕ → Type 0 = λ n. IsGivenBy answer p first n new in subst P (sym is) (h.adds first got so_far) }
+  pub adds_unnumbered : (items new : List Item) (got gets : Numerator) → AddsUnnumbered answer p items new → gets ≡ got → Adds answer p got gets items new
+  adds_unnumbered items new got gets h is = record { adds = λ first so_far. let P : Numerator → Type 0 = λ n. IsGivenBy answer p first n new in subst P (sym is) (h.adds first got so_far) }
 
-  pub adds_item : (items new : List Item) (item : Item) (got gets : ℕ) → new ≡ items ++ item ∷ [] → IsGivenItem (answers_by answer p.expander.now) (IsInTable p.tokens.now) p.file_depth item → NumbersFrom got (item_numbers item) → gets ≡ got + item_bindings (item_of item) → Adds answer p got gets items new
-  adds_item items new item got gets is given numbers counted =
-      record {
-        adds = λ first so_far.
-            let P : List Item → Type 0 = λ l. IsGivenBy answer p first gets l in
-            let Q : ℕ → Type 0 = λ n. IsGivenBy answer p first n (items ++ item ∷ []) in
-            subst P (sym is) (subst Q (sym counted) (given_push _ _ _ first got items so_far item given numbers));
-      }
+  pub adds_item : (items new : List Item) (item : Item) (got gets : Numerator) → new ≡ items ++ item ∷ [] → IsItemBy answer p item → IsNumbered got gets item → Adds answer p got gets items new
+  adds_item items new item got gets is given numbered = record { adds = λ first. push_item items new item first got gets is given numbered }
 
   module _ (q : Parser X) (same : IsSameRun p q) where
-    pub there : (first next : ℕ) (items : List Item) → IsGivenBy answer p first next items → IsGivenBy answer q first next items
+    pub there : (first next : Numerator) (items : List Item) → IsGivenBy answer p first next items → IsGivenBy answer q first next items
     there first next items h =
-        let P : Bor X → Type 0 = λ e. IsGivenItems (answers_by answer e.now) (IsInTable p.tokens.now) p.file_depth first next items in
-        let Q : Bor (List (Token × Bool)) → Type 0 = λ t. IsGivenItems (answers_by answer q.expander.now) (IsInTable t.now) p.file_depth first next items in
-        let R : ℕ → Type 0 = λ d. IsGivenItems (answers_by answer q.expander.now) (IsInTable q.tokens.now) d first next items in
-        subst R (sym same.file_depth) (subst Q (sym same.tokens) (subst P (sym same.expander) h))
+        let P : Bor X → Type 0 = λ e. IsGivenItems (answers_by answer e.now) (IsInTable p.tokens.now) p.file_depth p.import_offsets.now first next items in
+        let Q : Bor (List (Token × Bool)) → Type 0 = λ t. IsGivenItems (answers_by answer q.expander.now) (IsInTable t.now) p.file_depth p.import_offsets.now first next items in
+        let R : ℕ → Type 0 = λ d. IsGivenItems (answers_by answer q.expander.now) (IsInTable q.tokens.now) d p.import_offsets.now first next items in
+        let S : Bor (List ℕ) → Type 0 = λ o. IsGivenItems (answers_by answer q.expander.now) (IsInTable q.tokens.now) q.file_depth o.now first next items in
+        subst S (sym same.import_offsets) (subst R (sym same.file_depth) (subst Q (sym same.tokens) (subst P (sym same.expander) h)))
 
-    pub back : (first next : ℕ) (items : List Item) → IsGivenBy answer q first next items → IsGivenBy answer p first next items
+    pub back : (first next : Numerator) (items : List Item) → IsGivenBy answer q first next items → IsGivenBy answer p first next items
     back first next items h =
-        let P : Bor X → Type 0 = λ e. IsGivenItems (answers_by answer e.now) (IsInTable p.tokens.now) p.file_depth first next items in
-        let Q : Bor (List (Token × Bool)) → Type 0 = λ t. IsGivenItems (answers_by answer q.expander.now) (IsInTable t.now) p.file_depth first next items in
-        let R : ℕ → Type 0 = λ d. IsGivenItems (answers_by answer q.expander.now) (IsInTable q.tokens.now) d first next items in
-        subst P same.expander (subst Q same.tokens (subst R same.file_depth h))
+        let P : Bor X → Type 0 = λ e. IsGivenItems (answers_by answer e.now) (IsInTable p.tokens.now) p.file_depth p.import_offsets.now first next items in
+        let Q : Bor (List (Token × Bool)) → Type 0 = λ t. IsGivenItems (answers_by answer q.expander.now) (IsInTable t.now) p.file_depth p.import_offsets.now first next items in
+        let R : ℕ → Type 0 = λ d. IsGivenItems (answers_by answer q.expander.now) (IsInTable q.tokens.now) d p.import_offsets.now first next items in
+        let S : Bor (List ℕ) → Type 0 = λ o. IsGivenItems (answers_by answer q.expander.now) (IsInTable q.tokens.now) q.file_depth o.now first next items in
+        subst P same.expander (subst Q same.tokens (subst R same.file_depth (subst S same.import_offsets h)))
 
     pub unnumbered_later : (items new : List Item) → AddsUnnumbered answer q items new → AddsUnnumbered answer p items new
     unnumbered_later items new h = record { adds = λ first next so_far. back first next new (h.adds first next (there first next items so_far)) }
@@ -64,10 +60,10 @@ module _ {X : Type 0} (answer : X → List ℕ → Result (List ℕ) (List ℕ))
     pub unnumbered_then : (items more new : List Item) → AddsUnnumbered answer p items more → AddsUnnumbered answer q more new → AddsUnnumbered answer p items new
     unnumbered_then items more new h k = record { adds = λ first next so_far. (unnumbered_later more new k).adds first next (h.adds first next so_far) }
 
-    pub adds_then : (items more new : List Item) (got gets : ℕ) → Adds answer p got gets items more → AddsUnnumbered answer q more new → Adds answer p got gets items new
+    pub adds_then : (items more new : List Item) (got gets : Numerator) → Adds answer p got gets items more → AddsUnnumbered answer q more new → Adds answer p got gets items new
     adds_then items more new got gets h k = record { adds = λ first so_far. (unnumbered_later more new k).adds first gets (h.adds first so_far) }
 
-    pub adds_later : (items new : List Item) (got gets : ℕ) → Adds answer q got gets items new → Adds answer p got gets items new
+    pub adds_later : (items new : List Item) (got gets : Numerator) → Adds answer q got gets items new → Adds answer p got gets items new
     adds_later items new got gets h = record { adds = λ first so_far. back first gets new (h.adds first (there first got items so_far)) }
 
     -- a comment that trails an item, and what is behind it
@@ -82,13 +78,13 @@ module _ {X : Type 0} (answer : X → List ℕ → Result (List ℕ) (List ℕ))
     read_there here = ap (λ (e : Bor X). on_line (answers_by answer e.now) (rest_of q)) same.expander ∙ ap (on_line (answers_by answer p.expander.now)) here
 
     -- the first item of a line is refused
-    pub line_stops : (stop : Stop) (left : List SignificantToken) (n : ℕ) (done : Tree)
+    pub line_stops : (stop : Stop) (left : List SignificantToken) (old new : Numerator) (done : Tree)
         → accept kinds.Eol (rest_of p) ≡ None → rest_of q ≡ rest_of p
-        → StopsAt stop left (LacksNumber (answers_by answer q.expander.now) (rest_of q) n) (on_line (answers_by answer q.expander.now) (rest_of q))
-        → StopsAt stop left (LacksNumber (answers_by answer p.expander.now) (rest_of p) n) (after done (line (answers_by answer p.expander.now) (rest_of p)))
-    line_stops (Refused r) left n done none here h = line_fails (answers_by answer p.expander.now) done (rest_of p) (refusal_at r left) none (sym (read_there here) ∙ h)
-    line_stops Memory left n done none here h = tt
-    line_stops Numbers left n done none here h =
-        let P : Bor X → Type 0 = λ e. LacksNumber (answers_by answer e.now) (rest_of q) n in
-        let Q : List SignificantToken → Type 0 = λ ts. LacksNumber (answers_by answer p.expander.now) ts n in
+        → StopsAt stop left (LacksFirst (answers_by answer q.expander.now) (rest_of q) old new) (on_line (answers_by answer q.expander.now) (rest_of q))
+        → StopsAt stop left (LacksFirst (answers_by answer p.expander.now) (rest_of p) old new) (after done (line (answers_by answer p.expander.now) (rest_of p)))
+    line_stops (Refused r) left old new done none here h = line_fails (answers_by answer p.expander.now) done (rest_of p) (refusal_at r left) none (sym (read_there here) ∙ h)
+    line_stops Memory left old new done none here h = tt
+    line_stops Numbers left old new done none here h =
+        let P : Bor X → Type 0 = λ e. LacksFirst (answers_by answer e.now) (rest_of q) old new in
+        let Q : List SignificantToken → Type 0 = λ ts. LacksFirst (answers_by answer p.expander.now) ts old new in
         subst Q here (subst P same.expander h)

@@ -1,12 +1,15 @@
 pub mod Adding
+pub mod Bodies
 pub mod GivenLemmas
 pub mod Lines
 pub mod LiteralLemmas
 pub mod Loop
+pub mod NextKinds
 pub mod NotInternal
 pub mod Parsed
 pub mod Readings
 pub mod Rest
 pub mod SignificantLemmas
+pub mod Trims
 pub mod Values
 pub mod Wanted

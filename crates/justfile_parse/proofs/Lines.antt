@@ -1,16 +1,23 @@
 -- The reader of lines, as the parser goes over it.
-use Rattle.std.proofs.Common.{◌≡◌, ◌+◌, ◌≤◌, List, [], ◌∷◌, ◌++◌, Some, None, Ok, Err, refl, ap, sym}
+use Rattle.std.proofs.Common.{◌≡◌, Bool, true, false, cond, List, [], ◌∷◌, ◌++◌, Some, None, Ok, Err, refl, ap, sym, ◌∙◌, ℕ}
 use Rattle.std.proofs.lemmas.List.{append-nil, append_assoc}
 use Rattle.justfile_base.specs.declared.token_kind.TokenKind.TheVariants as kinds
-use Rattle.justfile_model.specs.Files.{item_bindings}
 use Rattle.justfile_model.specs.Literals.{Answers}
-use Rattle.justfile_model.specs.Reader.{Refusal, ◌>>=◌, Read, accept, expect, comment_item, assignment, on_line, line_end, behind, line}
-use Rattle.justfile_model.specs.SignificantTokens.{SignificantToken, identifiers}
+use Rattle.justfile_model.specs.Reader.{Refusal, ◌>>=◌, Read, accept, after, assignment, expect, comment_item, ended, has_body, next_are, on_line, line_end, behind, line, recipe}
+use Rattle.justfile_model.specs.SignificantTokens.{SignificantToken}
 use Rattle.justfile_model.specs.Tok.{Tok}
 use Rattle.justfile_model.specs.Tree as tree
 use Rattle.justfile_model.specs.Tree.{Item, Tree}
-use Rattle.justfile_model.proofs.Counting.{assignment_bindings}
-use Rattle.justfile_parse.specs.Reading.{after}
+use Rattle.justfile_parse.specs.Reading.{ended_by}
+
+module _ (expander : Answers) (ts : List SignificantToken) where
+  pub on_line_assignment : accept kinds.Comment ts ≡ None → next_are (kinds.Identifier ∷ kinds.ColonEquals ∷ []) ts ≡ true → on_line expander ts ≡ assignment expander ts
+  unfolding on_line
+  on_line_assignment h1 h2 = rw (h1, h2) refl
+
+  pub on_line_recipe : accept kinds.Comment ts ≡ None → next_are (kinds.Identifier ∷ kinds.ColonEquals ∷ []) ts ≡ false → on_line expander ts ≡ recipe expander ts
+  unfolding on_line
+  on_line_recipe h1 h2 = rw (h1, h2) refl
 
 module _ (expander : Answers) (done : Tree) (ts : List SignificantToken) where
   pub line_end_closes : (end : SignificantToken × List SignificantToken) → accept kinds.Eof ts ≡ Some end → after done (line_end expander ts) ≡ Ok (done, ts)
@@ -38,6 +45,10 @@ module _ (expander : Answers) (done : Tree) (ts : List SignificantToken) where
   unfolding behind
   behind_comment c rest h = rw h (then_end c (line_end expander rest))
 
+  pub ended_body : (b : Bool) (new : Tree) → b ≡ true → new ≡ done ++ tree.Newline ∷ [] → after done (ended_by expander b ts) ≡ Ok (new, ts)
+  unfolding after
+  ended_body b new h is = rw h (ap (λ (l : Tree). Ok (l, ts)) (sym is))
+
   pub line_blank : (t : SignificantToken) (rest : List SignificantToken) → accept kinds.Eol ts ≡ Some (t, rest) → after done (line expander ts) ≡ Ok (done ++ tree.Newline ∷ [], rest)
   unfolding after line
   line_blank t rest h = rw h refl
@@ -46,15 +57,15 @@ module _ (expander : Answers) (done : Tree) (ts : List SignificantToken) where
   unfolding after line
   line_fails e h1 h2 = rw (h1, h2) refl
 
-  then_behind : (i : Item Tok Tok) (found : Read Tree) → after done (found >>= λ b. Ok (i ∷ b.0, b.1)) ≡ after (done ++ i ∷ []) found
+  then_ended : (i : Item Tok Tok ℕ) (found : Read Tree) → after done (found >>= λ b. Ok (i ∷ b.0, b.1)) ≡ after (done ++ i ∷ []) found
   unfolding after
-  then_behind i (Ok x) = ap (λ (l : Tree). Ok (l, x.1)) (sym (append_assoc done (i ∷ []) x.0))
-  then_behind i (Err e) = refl
+  then_ended i (Ok x) = ap (λ (l : Tree). Ok (l, x.1)) (sym (append_assoc done (i ∷ []) x.0))
+  then_ended i (Err e) = refl
 
-  pub line_goes_on : (i : Item Tok Tok) (rest : List SignificantToken) → accept kinds.Eol ts ≡ None → on_line expander ts ≡ Ok (i, rest) → after done (line expander ts) ≡ after (done ++ i ∷ []) (behind expander rest)
-  unfolding line
-  line_goes_on i rest h1 h2 = rw (h1, h2) (then_behind i (behind expander rest))
+  choice : (b : Bool) (rest : List SignificantToken) → cond {A = Read Tree} b (Ok (tree.Newline ∷ [], rest)) (behind expander rest) ≡ ended_by expander b rest
+  choice true rest = refl
+  choice false rest = refl
 
--- an assignment has an identifier
-pub assignment_identifiers : (expander : Answers) (ts rest : List SignificantToken) (i : Item Tok Tok) → assignment expander ts ≡ Ok (i, rest) → item_bindings i + identifiers rest ≤ identifiers ts
-assignment_identifiers expander ts rest i is = assignment_bindings expander ts (i, rest) is
+  pub line_goes_on : (i : Item Tok Tok ℕ) (rest : List SignificantToken) → accept kinds.Eol ts ≡ None → on_line expander ts ≡ Ok (i, rest) → after done (line expander ts) ≡ after (done ++ i ∷ []) (ended_by expander (has_body i) rest)
+  unfolding line ended
+  line_goes_on i rest h1 h2 = rw (h1, h2) (then_ended i (cond (has_body i) (Ok (tree.Newline ∷ [], rest)) (behind expander rest)) ∙ ap (after (done ++ i ∷ [])) (choice (has_body i) rest))

@@ -3,10 +3,9 @@ use Rattle.std.proofs.Common.{◌≡◌, ℕ, ◌<◌, ◌≤◌, Bool, true, fa
 use Rattle.std.specs.Prelude.{reverse}
 use Rattle.std.specs.List.{list_all, flat_map}
 use Rattle.std.proofs.lemmas.Bool.Decides.{nat_tests}
-use Rattle.std.proofs.lemmas.List.{length-map, reverse-append, reverse-reverse}
+use Rattle.std.proofs.lemmas.List.{length-map, map-append, reverse-append, reverse-reverse}
 use Rattle.std.proofs.lemmas.List.Elements.{All-contains, All-head, All-tail, All-weaker}
 use denote.Enum.Bare.{same_true}
-use Rattle.justfile_base.specs.Numerator.{bindings_of}
 use Rattle.justfile_base.specs.Token.{lexeme_of}
 use Rattle.justfile_base.specs.contracts.token_kind.TokenKind.{the_type}
 use Rattle.justfile_base.specs.declared.fault.Fault.{Fault}
@@ -17,13 +16,15 @@ use Rattle.justfile_base.specs.declared.token_kind.TokenKind.TheVariants as kind
 use Rattle.std.specs.Str.{IsUtf8}
 use Rattle.justfile_canon.specs.RoundTrip.{TextDerives}
 use Rattle.justfile_canon.proofs.Quoted.{AreQuoted, IsQuoted, lexed_quoted}
-use Rattle.justfile_file.specs.Item.{item_of, item_cooked}
+use Rattle.justfile_file.specs.Item.{fragment_of, fragment_cooked, item_of, item_cooked, line_of, line_cooked}
+use Rattle.justfile_file.specs.declared.fragment.Fragment.{Fragment}
+use Rattle.justfile_file.specs.declared.fragment.Fragment.TheVariants as fragments
+use Rattle.justfile_file.specs.declared.line.Line.{Line}
 use Rattle.justfile_file.specs.declared.ast.Ast.{Ast}
-use Rattle.justfile_file.specs.declared.binding.Binding.{Binding}
 use Rattle.justfile_file.specs.declared.item.Item.{Item}
-use Rattle.justfile_file.specs.declared.item.Item.TheVariants.{Assignment, Comment, Newline}
+use Rattle.justfile_file.specs.declared.item.Item.TheVariants.{Assignment, Comment, Newline, Recipe}
 use Rattle.justfile_model.specs.Answers.{IsFrom, IsLexerFault}
-use Rattle.justfile_model.specs.Files.{VersionNumbers, FileDerives, expr_literals, literals}
+use Rattle.justfile_model.specs.Files.{VersionNumbers, FileDerives, body_literals, expr_literals, fragments_literals, item_literals, literals}
 use Rattle.justfile_model.specs.Lexed.{Lexed, IsFault}
 use Rattle.justfile_model.specs.LexicalFault.{LexicalFault}
 use Rattle.justfile_model.specs.Literals.{Answers, cooked_text, Cooks}
@@ -35,10 +36,10 @@ use Rattle.justfile_model.specs.Tree.{Tree, lexeme}
 use Rattle.justfile_model.proofs.LexedLaws.{one_list, never_both}
 use Rattle.justfile_model.proofs.Agreement.{sound, complete}
 use Rattle.justfile_model.proofs.Steps.{after_accept}
-use Rattle.justfile_parse.specs.Given.{IsGivenItem, IsGivenExpression, IsInTable}
+use Rattle.justfile_parse.specs.Given.{IsGivenFragment, IsGivenItem, IsGivenExpression, IsGivenLine, IsInTable}
 use Rattle.justfile_parse.specs.Literal.{is_quoted, is_sound}
 use Rattle.justfile_parse.specs.Parsing.{HasNoTree, IsOneLex, IsParsed, IsParsedText, IsUnparsed}
-use Rattle.justfile_parse.specs.Reading.{IsEnd, IsFaultOf, IsRead, IsUnread, StopsAt}
+use Rattle.justfile_parse.specs.Reading.{IsFaultOf, IsRead, IsUnread, StopsAt}
 use Rattle.justfile_parse.specs.Significant.{significant_of}
 use Rattle.justfile_parse.specs.WantsNumber.{WantsNumber}
 use Rattle.justfile_parse.specs.declared.stop.Stop.{Stop}
@@ -77,16 +78,16 @@ ok_is_no_error : (e : reader.Refusal) (tree : Tree) (found : Result Tree reader.
 ok_is_no_error e tree found h k = let both : ◌≡◌ {A = Result Tree reader.Refusal} (Err e) (Ok tree) = sym h ∙ k in cc
 
 pub unread : (expander : Answers) (tokens : List SignificantToken) (table : List (Token × Bool)) (old new : Numerator) (left : List SignificantToken) (stop : Stop) (fault : Fault)
-    → StopsAt stop left (WantsNumber expander tokens (bindings_of old)) (reader.file expander tokens) → IsEnd (bindings_of new) stop → IsFaultOf table stop fault → IsUnread expander tokens (IsInTable table) old new fault
-unread expander tokens table old new left (stops.Refused r) (faults.Compile e) h end is = (λ tree k. ok_is_no_error _ tree (reader.file expander tokens) h k, is.0, is.1)
-unread expander tokens table old new left (stops.Refused r) faults.Memory h end is = absurd is
-unread expander tokens table old new left (stops.Refused r) faults.Numbers h end is = absurd is
-unread expander tokens table old new left stops.Memory (faults.Compile e) h end is = absurd is
-unread expander tokens table old new left stops.Memory faults.Memory h end is = tt
-unread expander tokens table old new left stops.Memory faults.Numbers h end is = absurd is
-unread expander tokens table old new left stops.Numbers (faults.Compile e) h end is = absurd is
-unread expander tokens table old new left stops.Numbers faults.Memory h end is = absurd is
-unread expander tokens table old new left stops.Numbers faults.Numbers h end is = (end, h)
+    → StopsAt stop left (WantsNumber expander tokens old new) (reader.file expander tokens) → IsFaultOf table stop fault → IsUnread expander tokens (IsInTable table) old new fault
+unread expander tokens table old new left (stops.Refused r) (faults.Compile e) h is = (λ tree k. ok_is_no_error _ tree (reader.file expander tokens) h k, is.0, is.1)
+unread expander tokens table old new left (stops.Refused r) faults.Memory h is = absurd is
+unread expander tokens table old new left (stops.Refused r) faults.Numbers h is = absurd is
+unread expander tokens table old new left stops.Memory (faults.Compile e) h is = absurd is
+unread expander tokens table old new left stops.Memory faults.Memory h is = tt
+unread expander tokens table old new left stops.Memory faults.Numbers h is = absurd is
+unread expander tokens table old new left stops.Numbers (faults.Compile e) h is = absurd is
+unread expander tokens table old new left stops.Numbers faults.Memory h is = absurd is
+unread expander tokens table old new left stops.Numbers faults.Numbers h is = h
 
 -- ---- the tokens of one lex
 
@@ -143,8 +144,15 @@ module _ (expander : Answers) (P Q : Token → Type 0) (weaker : (t : Token) →
   given_expression (expressions.StringLiteral l) h = record { among = weaker l.token h.among; cooked = h.cooked; expand = h.expand; kind = h.kind; part = h.part }
   given_expression (expressions.Variable name number) h = (weaker name.token h.0, h.1)
 
-  pub given_weaker : (file_depth : ℕ) (i : Item) → IsGivenItem expander P file_depth i → IsGivenItem expander Q file_depth i
-  given_weaker file_depth (Assignment a) h =
+  given_fragment : (f : Fragment) → IsGivenFragment expander P f → IsGivenFragment expander Q f
+  given_fragment (fragments.Interpolation e) h = given_expression e h
+  given_fragment (fragments.Text token) h = weaker token h
+
+  given_line : (l : Line) → IsGivenLine expander P l → IsGivenLine expander Q l
+  given_line l = All-weaker (IsGivenFragment expander P) (IsGivenFragment expander Q) given_fragment l.fragments.items
+
+  pub given_weaker : (file_depth : ℕ) (import_offsets : List ℕ) (i : Item) → IsGivenItem expander P file_depth import_offsets i → IsGivenItem expander Q file_depth import_offsets i
+  given_weaker file_depth import_offsets (Assignment a) h =
       record {
         among = weaker a.name.token h.among;
         file_depth_is = h.file_depth_is;
@@ -152,33 +160,72 @@ module _ (expander : Answers) (P Q : Token → Type 0) (weaker : (t : Token) →
         private = h.private;
         value = given_expression a.value h.value;
       }
-  given_weaker file_depth (Comment text) h = tt
-  given_weaker file_depth Newline h = tt
+  given_weaker file_depth import_offsets (Comment text) h = tt
+  given_weaker file_depth import_offsets Newline h = tt
+  given_weaker file_depth import_offsets (Recipe r) h =
+      record {
+        among = weaker r.name.token h.among;
+        body = All-weaker (IsGivenLine expander P) (IsGivenLine expander Q) given_line r.body.items h.body;
+        file_depth_is = h.file_depth_is;
+        import_offsets_are = h.import_offsets_are;
+        private = h.private;
+        shebang = h.shebang;
+      }
 
-module _ (expander : Answers) (P : Token → Type 0) (items : List Item) (more : Cooks expander (map lexeme (literals (map item_of items))) (flat_map item_cooked items)) where
-  binding_cooks : (a : Binding Expression) → IsGivenExpression expander P a.value → Cooks expander (map lexeme (literals (map item_of (Assignment a ∷ items)))) (flat_map item_cooked (Assignment a ∷ items))
-  binding_cooks a h = by_value a.value h
-    where
-      by_value : (e : Expression) → IsGivenExpression expander P e → Cooks expander (map lexeme (expr_literals (expr_of e) ++ literals (map item_of items))) (expr_cooked e ++ flat_map item_cooked items)
-      by_value (expressions.StringLiteral l) g = (ap (cooked_text expander) (plain_text l g.expand g.part) ∙ g.cooked, more)
-      by_value (expressions.Variable name number) g = more
+-- ---- the texts of literals
 
-  item_cooks : (file_depth : ℕ) (i : Item) → IsGivenItem expander P file_depth i → Cooks expander (map lexeme (literals (map item_of (i ∷ items)))) (flat_map item_cooked (i ∷ items))
-  item_cooks file_depth (Assignment a) h = binding_cooks a h.value
-  item_cooks file_depth (Comment text) h = more
-  item_cooks file_depth Newline h = more
+map_joined : (a b : List Tok) → map lexeme (a ++ b) ≡ map lexeme a ++ map lexeme b
+map_joined a b = map-append lexeme a b
+
+module _ (expander : Answers) where
+  both_cook : (lexemes texts others more : List (List ℕ)) → Cooks expander lexemes texts → Cooks expander others more → Cooks expander (lexemes ++ others) (texts ++ more)
+  both_cook [] [] others more h k = k
+  both_cook (l ∷ ls) (t ∷ ts) others more h k = (h.0, both_cook ls ts others more h.1 k)
+  both_cook [] (t ∷ ts) others more h k = absurd h
+  both_cook (l ∷ ls) [] others more h k = absurd h
+
+  joined_cook : (a b : List Tok) (texts more : List (List ℕ)) → Cooks expander (map lexeme a) texts → Cooks expander (map lexeme b) more → Cooks expander (map lexeme (a ++ b)) (texts ++ more)
+  joined_cook a b texts more h k = let P : List (List ℕ) → Type 0 = λ ls. Cooks expander ls (texts ++ more) in subst P (sym (map_joined a b)) (both_cook (map lexeme a) texts (map lexeme b) more h k)
+
+module _ (expander : Answers) (P : Token → Type 0) where
+  expression_cooks : (e : Expression) → IsGivenExpression expander P e → Cooks expander (map lexeme (expr_literals (expr_of e))) (expr_cooked e)
+  expression_cooks (expressions.StringLiteral l) g = (ap (cooked_text expander) (plain_text l g.expand g.part) ∙ g.cooked, tt)
+  expression_cooks (expressions.Variable name number) g = tt
+
+  fragments_cook : (fs : List Fragment) → All (IsGivenFragment expander P) fs → Cooks expander (map lexeme (fragments_literals (map fragment_of fs))) (flat_map fragment_cooked fs)
+  fragments_cook [] all = tt
+  fragments_cook (fragments.Interpolation e ∷ fs) all =
+      joined_cook expander (expr_literals (expr_of e)) _ (expr_cooked e) _ (expression_cooks e (All-head (IsGivenFragment expander P) (fragments.Interpolation e) fs all))
+      (fragments_cook fs (All-tail (IsGivenFragment expander P) (fragments.Interpolation e) fs all))
+  fragments_cook (fragments.Text token ∷ fs) all = fragments_cook fs (All-tail (IsGivenFragment expander P) (fragments.Text token) fs all)
+
+  lines_cook : (ls : List Line) → All (IsGivenLine expander P) ls → Cooks expander (map lexeme (body_literals (map line_of ls))) (flat_map line_cooked ls)
+  lines_cook [] all = tt
+  lines_cook (l ∷ ls) all =
+      joined_cook expander (fragments_literals (map fragment_of l.fragments.items)) _ (line_cooked l) _ (fragments_cook l.fragments.items (All-head (IsGivenLine expander P) l ls all))
+      (lines_cook ls (All-tail (IsGivenLine expander P) l ls all))
+
+  item_cooks : (file_depth : ℕ) (import_offsets : List ℕ) (i : Item) → IsGivenItem expander P file_depth import_offsets i → Cooks expander (map lexeme (item_literals (item_of i))) (item_cooked i)
+  item_cooks file_depth import_offsets (Assignment a) h = expression_cooks a.value h.value
+  item_cooks file_depth import_offsets (Comment text) h = tt
+  item_cooks file_depth import_offsets Newline h = tt
+  item_cooks file_depth import_offsets (Recipe r) h = lines_cook r.body.items h.body
 
 -- the literals' texts are theirs
-pub cooks_of : (expander : Answers) (P : Token → Type 0) (file_depth : ℕ) (items : List Item) → All (IsGivenItem expander P file_depth) items → Cooks expander (map lexeme (literals (map item_of items))) (flat_map item_cooked items)
-cooks_of expander P file_depth [] all = tt
-cooks_of expander P file_depth (i ∷ items) all =
-    item_cooks expander P items (cooks_of expander P file_depth items (All-tail (IsGivenItem expander P file_depth) i items all)) file_depth i (All-head (IsGivenItem expander P file_depth) i items all)
+pub cooks_of : (expander : Answers) (P : Token → Type 0) (file_depth : ℕ) (import_offsets : List ℕ) (items : List Item) → All (IsGivenItem expander P file_depth import_offsets) items → Cooks expander (map lexeme (literals (map item_of items))) (flat_map item_cooked items)
+cooks_of expander P file_depth import_offsets [] all = tt
+cooks_of expander P file_depth import_offsets (i ∷ items) all =
+    joined_cook expander (item_literals (item_of i)) _ (item_cooked i) _
+    (item_cooks expander P file_depth import_offsets i (All-head (IsGivenItem expander P file_depth import_offsets) i items all))
+    (cooks_of expander P file_depth import_offsets items (All-tail (IsGivenItem expander P file_depth import_offsets) i items all))
 
 -- ---- what is read derives
 
-pub given_tokens : (expander : Answers) (tokens : List Token) (table : List (Token × Bool)) (file_depth : ℕ) (items : List Item) → All (λ entry. Contains tokens entry.0) table → All (IsGivenItem expander (IsInTable table) file_depth) items → All (IsGivenItem expander (Contains tokens) file_depth) items
-given_tokens expander tokens table file_depth items all =
-    All-weaker (IsGivenItem expander (IsInTable table) file_depth) (IsGivenItem expander (Contains tokens) file_depth) (given_weaker expander (IsInTable table) (Contains tokens) (in_tokens tokens table all) file_depth) items
+pub given_tokens : (expander : Answers) (tokens : List Token) (table : List (Token × Bool)) (file_depth : ℕ) (import_offsets : List ℕ) (items : List Item) → All (λ entry. Contains tokens entry.0) table → All (IsGivenItem expander (IsInTable table) file_depth import_offsets) items
+    → All (IsGivenItem expander (Contains tokens) file_depth import_offsets) items
+given_tokens expander tokens table file_depth import_offsets items all =
+    All-weaker (IsGivenItem expander (IsInTable table) file_depth import_offsets) (IsGivenItem expander (Contains tokens) file_depth import_offsets)
+    (given_weaker expander (IsInTable table) (Contains tokens) (in_tokens tokens table all) file_depth import_offsets) items
 
 module _ (expander : Answers) (current : VersionNumbers) (tokens : List Token) (table : List (Token × Bool)) (old new : Numerator) (is : map significant_of table ≡ significant_tokens (map tok_of tokens)) where
   found : (tree : Tree) → FileDerives expander current (significant_tokens (map tok_of tokens)) tree → reader.file expander (map significant_of table) ≡ Ok tree
@@ -193,23 +240,25 @@ module _ (expander : Answers) (current : VersionNumbers) (tokens : List Token) (
   unparsed_of all (faults.Compile e) h = (λ tree d. h.0 tree (found tree d), in_tokens tokens table all e.token h.1, h.2)
   unparsed_of all faults.Memory h = tt
   unparsed_of all faults.Numbers h =
-      let P : List SignificantToken → Type 0 = λ ts. WantsNumber expander ts (bindings_of old) in
-      let wants = subst P is h.1 in
+      let P : List SignificantToken → Type 0 = λ ts. WantsNumber expander ts old new in
+      let wants = subst P is h in
       let read : (tree : Tree) → FileDerives expander current (significant_tokens (map tok_of tokens)) tree → reader.file expander (significant_tokens (map tok_of tokens)) ≡ Ok tree
       = λ tree d. complete expander current (significant_tokens (map tok_of tokens)) tree d in
-      (h.0, wants, λ tree d s. never_suffice expander (significant_tokens (map tok_of tokens)) (bindings_of old) tree wants (read tree d) s)
+      (wants, λ tree d s. never_suffice expander (significant_tokens (map tok_of tokens)) old new tree wants (read tree d) s)
 
-  pub parsed_of : All (λ entry. Contains tokens entry.0) table → (file_depth : ℕ) (ast : Ast)
-      → IsRead expander (IsInTable table) file_depth (map significant_of table) old new ast.items.items → ast.unstable_features.keys ≡ []
-      → IsParsed expander current (map tok_of tokens) (Contains tokens) file_depth old new ast
-  parsed_of all file_depth ast h stable =
+  pub parsed_of : All (λ entry. Contains tokens entry.0) table → (file_depth : ℕ) (import_offsets : List ℕ) (ast : Ast)
+      → IsRead expander (IsInTable table) file_depth import_offsets (map significant_of table) old new ast.items.items → ast.unstable_features.keys ≡ []
+      → IsParsed expander current (map tok_of tokens) (Contains tokens) file_depth import_offsets old new ast
+  parsed_of all file_depth import_offsets ast h stable =
       record {
         derives = derives_of (map item_of ast.items.items) h.read;
         filled = record {
-          cooks = cooks_of expander (IsInTable table) file_depth ast.items.items h.given.given;
+          cooks = cooks_of expander (IsInTable table) file_depth import_offsets ast.items.items h.given.given;
           numbered = h.given.numbered;
+          recipes_numbered = h.given.recipes_numbered;
           counted = h.given.counted;
-          given = given_tokens expander tokens table file_depth ast.items.items all h.given.given;
+          recipes_counted = h.given.recipes_counted;
+          given = given_tokens expander tokens table file_depth import_offsets ast.items.items all h.given.given;
           stable = stable;
         };
       }
@@ -228,17 +277,21 @@ module _ (expander : Answers) (current : VersionNumbers) (path src : List ℕ) (
   pub no_tree : (fault : Fault) → IsUnparsed expander current (map tok_of tokens) (Contains tokens) old new fault → HasNoTree expander current path src old new fault
   no_tree (faults.Compile e) h = record { derives_none = λ tree d. h.0 tree (derives_tokens tree d); from = from_tokens e.token h.1; not_internal = h.2; cause = inr (map tok_of tokens, lexed) }
   no_tree faults.Memory h = tt
-  no_tree faults.Numbers h = (h.0, record { tokens = map tok_of tokens; lexed = lexed; wants = h.1 }, λ tree d suffice. h.2 tree (derives_tokens tree d) suffice)
+  no_tree faults.Numbers h = (record { tokens = map tok_of tokens; lexed = lexed; wants = h.0 }, λ tree d suffice. h.1 tree (derives_tokens tree d) suffice)
 
-  pub text_parsed : (file_depth : ℕ) (ast : Ast) → IsParsed expander current (map tok_of tokens) (Contains tokens) file_depth old new ast → IsParsedText expander current path src file_depth old new ast
-  text_parsed file_depth ast h =
+  pub text_parsed : (file_depth : ℕ) (import_offsets : List ℕ) (ast : Ast) → IsParsed expander current (map tok_of tokens) (Contains tokens) file_depth import_offsets old new ast → IsParsedText expander current path src file_depth import_offsets old new ast
+  text_parsed file_depth import_offsets ast h =
       record {
         derives = record { utf8 = utf8; tokens = map tok_of tokens; lexed = lexed; file = h.derives };
         filled = record {
           cooks = h.filled.cooks;
           numbered = h.filled.numbered;
+          recipes_numbered = h.filled.recipes_numbered;
           counted = h.filled.counted;
-          given = All-weaker (IsGivenItem expander (Contains tokens) file_depth) (IsGivenItem expander (IsFrom path src) file_depth) (given_weaker expander (Contains tokens) (IsFrom path src) from_tokens file_depth) ast.items.items h.filled.given;
+          recipes_counted = h.filled.recipes_counted;
+          given =
+              All-weaker (IsGivenItem expander (Contains tokens) file_depth import_offsets) (IsGivenItem expander (IsFrom path src) file_depth import_offsets)
+              (given_weaker expander (Contains tokens) (IsFrom path src) from_tokens file_depth import_offsets) ast.items.items h.filled.given;
           stable = h.filled.stable;
         };
       }

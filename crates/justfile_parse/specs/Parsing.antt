@@ -1,19 +1,19 @@
 -- What parsing answers.
-use Rattle.std.specs.Prelude.{◌≡◌, ℕ, ◌⊎◌, ◌+◌, ◌-◌, ◌^◌, List, [], map, All, None}
+use Rattle.std.specs.Prelude.{◌≡◌, ℕ, ◌⊎◌, ◌+◌, List, [], map, All, None}
 use Rattle.std.specs.Str.{IsUtf8}
 use Rattle.justfile_base.specs.CompileErrorKind.{internal_message}
 use Rattle.justfile_base.specs.declared.compile_error.CompileError.{CompileError}
-use Rattle.justfile_base.specs.Numerator.{bindings_of}
+use Rattle.justfile_base.specs.Numerator.{bindings_of, recipes_of}
 use Rattle.justfile_base.specs.declared.fault.Fault.{Fault}
 use Rattle.justfile_base.specs.declared.fault.Fault.TheVariants as faults
 use Rattle.justfile_base.specs.declared.numerator.Numerator.{Numerator}
 use Rattle.justfile_base.specs.declared.token.Token.{Token}
 use Rattle.justfile_base.specs.declared.version.Version.{Version}
 use Rattle.justfile_canon.specs.RoundTrip.{TextDerives}
-use Rattle.justfile_file.specs.Ast.{tree_of, cooked_texts, binding_numbers}
+use Rattle.justfile_file.specs.Ast.{tree_of, cooked_texts, binding_numbers, recipe_numbers}
 use Rattle.justfile_file.specs.declared.ast.Ast.{Ast}
 use Rattle.justfile_model.specs.Answers.{IsFrom, IsLexicalError}
-use Rattle.justfile_model.specs.Files.{VersionNumbers, FileDerives, NumbersFrom, NumbersSuffice, bindings, literals}
+use Rattle.justfile_model.specs.Files.{VersionNumbers, FileDerives, NumbersFrom, NumbersSuffice, bindings, recipes, literals}
 use Rattle.justfile_model.specs.Lexed.{Lexed}
 use Rattle.justfile_model.specs.Literals.{Answers, Cooks}
 use Rattle.justfile_model.specs.SignificantTokens.{significant_tokens}
@@ -32,33 +32,35 @@ pub record IsOneLex (tokens : List Token) : Type 0 where
   pub lexed : Lexed text (map tok_of tokens)
   pub source : All (λ t. t.src.now ≡ text) tokens
 
--- What a file has beside its tree: its literals their texts, its bindings the numbers from the numerator's next on, its parts what the
--- parser gives them. It uses nothing unstable.
-pub record IsFilled (expander : Answers) (IsToken : Token → Type 0) (file_depth : ℕ) (old new : Numerator) (ast : Ast) : Type 0 where
+-- What a file has beside its tree: its literals their texts, its bindings and its recipes the numbers from the numerator's next on, its
+-- parts what the parser gives them. It uses nothing unstable.
+pub record IsFilled (expander : Answers) (IsToken : Token → Type 0) (file_depth : ℕ) (import_offsets : List ℕ) (old new : Numerator) (ast : Ast) : Type 0 where
   pub cooks : Cooks expander (map lexeme (literals (tree_of ast))) (cooked_texts ast)
   pub numbered : NumbersFrom (bindings_of old) (binding_numbers ast)
+  pub recipes_numbered : NumbersFrom (recipes_of old) (recipe_numbers ast)
   pub counted : bindings_of new ≡ bindings_of old + bindings (tree_of ast)
-  pub given : All (IsGivenItem expander IsToken file_depth) ast.items.items
+  pub recipes_counted : recipes_of new ≡ recipes_of old + recipes (tree_of ast)
+  pub given : All (IsGivenItem expander IsToken file_depth import_offsets) ast.items.items
   pub stable : ast.unstable_features.keys ≡ []
 
 -- the file's tokens derive its tree
-pub record IsParsed (expander : Answers) (current : VersionNumbers) (tokens : List Tok) (IsToken : Token → Type 0) (file_depth : ℕ) (old new : Numerator) (ast : Ast) : Type 0 where
+pub record IsParsed (expander : Answers) (current : VersionNumbers) (tokens : List Tok) (IsToken : Token → Type 0) (file_depth : ℕ) (import_offsets : List ℕ) (old new : Numerator) (ast : Ast) : Type 0 where
   pub derives : FileDerives expander current (significant_tokens tokens) (tree_of ast)
-  pub filled : IsFilled expander IsToken file_depth old new ast
+  pub filled : IsFilled expander IsToken file_depth import_offsets old new ast
 
 -- Why there is no file. `Compile`: no tree derives; the error stands at one of the tokens and is no fault of the program. `Numbers`: a
--- number was wanted, the counter was at its end, and no tree that derives has numbers enough. `Memory` says nothing.
+-- number was wanted, its counter was at its end, and no tree that derives has numbers enough. `Memory` says nothing.
 abbrev pub IsUnparsed : Answers → VersionNumbers → List Tok → (Token → Type 0) → Numerator → Numerator → Fault → Type 0
 IsUnparsed expander current tokens IsToken old new (faults.Compile e) = ((tree : Tree) → FileDerives expander current (significant_tokens tokens) tree → ⊥) × IsToken e.token × (internal_message e.kind ≡ None)
 IsUnparsed expander current tokens IsToken old new faults.Memory = Unit {0}
 IsUnparsed expander current tokens IsToken old new faults.Numbers =
-    (bindings_of new ≡ 2 ^ 32 - 1) × WantsNumber expander (significant_tokens tokens) (bindings_of old)
-    × ((tree : Tree) → FileDerives expander current (significant_tokens tokens) tree → NumbersSuffice (bindings_of old) tree → ⊥)
+    WantsNumber expander (significant_tokens tokens) old new
+    × ((tree : Tree) → FileDerives expander current (significant_tokens tokens) tree → NumbersSuffice (bindings_of old) (recipes_of old) tree → ⊥)
 
 -- the text derives the file's tree
-pub record IsParsedText (expander : Answers) (current : VersionNumbers) (path src : List ℕ) (file_depth : ℕ) (old new : Numerator) (ast : Ast) : Type 0 where
+pub record IsParsedText (expander : Answers) (current : VersionNumbers) (path src : List ℕ) (file_depth : ℕ) (import_offsets : List ℕ) (old new : Numerator) (ast : Ast) : Type 0 where
   pub derives : TextDerives expander current src (tree_of ast)
-  pub filled : IsFilled expander (IsFrom path src) file_depth old new ast
+  pub filled : IsFilled expander (IsFrom path src) file_depth import_offsets old new ast
 
 -- The text derives no tree, which the error says at a part of the text and never as a fault of the program: it is the fault of lexing,
 -- which leaves the numerator as it was, or the text has tokens.
@@ -68,17 +70,17 @@ pub record IsTreeless (expander : Answers) (current : VersionNumbers) (path src 
   pub not_internal : internal_message e.kind ≡ None
   pub cause : (IsLexicalError path src e × (new ≡ old)) ⊎ ((tokens : List Tok) × Lexed src tokens)
 
--- a number is wanted in the text's tokens, and the counter is at its end there
-pub record TextWantsNumber (expander : Answers) (src : List ℕ) (counter : ℕ) : Type 0 where
+-- a number is wanted in the text's tokens, and its counter, where the new numerator stands, is at its end
+pub record TextWantsNumber (expander : Answers) (src : List ℕ) (old new : Numerator) : Type 0 where
   pub tokens : List Tok
   pub lexed : Lexed src tokens
-  pub wants : WantsNumber expander (significant_tokens tokens) counter
+  pub wants : WantsNumber expander (significant_tokens tokens) old new
 
--- Why a text has no tree. `Numbers`: a number was wanted, the counter was at its end, and no tree that derives has numbers enough.
+-- Why a text has no tree. `Numbers`: a number was wanted, its counter was at its end, and no tree that derives has numbers enough.
 -- `Memory` says nothing.
 abbrev pub HasNoTree : Answers → VersionNumbers → (path src : List ℕ) → Numerator → Numerator → Fault → Type 0
 HasNoTree expander current path src old new (faults.Compile e) = IsTreeless expander current path src old new e
 HasNoTree expander current path src old new faults.Memory = Unit {0}
 HasNoTree expander current path src old new faults.Numbers =
-    (bindings_of new ≡ 2 ^ 32 - 1) × TextWantsNumber expander src (bindings_of old)
-    × ((tree : Tree) → TextDerives expander current src tree → NumbersSuffice (bindings_of old) tree → ⊥)
+    TextWantsNumber expander src old new
+    × ((tree : Tree) → TextDerives expander current src tree → NumbersSuffice (bindings_of old) (recipes_of old) tree → ⊥)

@@ -1,5 +1,5 @@
 -- What a function of the parser returns is what the definitions read.
-use Rattle.std.specs.Prelude.{◌≡◌, ◌≤◌, ℕ, ◌+◌, ◌++◌, ◌-◌, ◌^◌, Bool, List, map, None, Some, Result, Ok, Err}
+use Rattle.std.specs.Prelude.{◌≡◌, ◌≤◌, ℕ, ◌+◌, Bool, true, false, List, [], ◌∷◌, map, None, Some, Result, Ok, Err}
 use Rattle.justfile_base.specs.CompileErrorKind.{internal_message}
 use Rattle.justfile_base.specs.Numerator.{bindings_of, constants_of, recipes_of}
 use Rattle.justfile_base.specs.declared.fault.Fault.{Fault}
@@ -11,8 +11,8 @@ use Rattle.justfile_file.specs.declared.item.Item.{Item}
 use Rattle.justfile_model.specs.Grammar.{front}
 use Rattle.justfile_model.specs.Literals.{Answers}
 use Rattle.justfile_model.specs.Reader as reader
-use Rattle.justfile_model.specs.Reader.{◌>>=◌, Read}
 use Rattle.justfile_model.specs.SignificantTokens.{SignificantToken}
+use Rattle.justfile_model.specs.Tree as tree
 use Rattle.justfile_model.specs.Tree.{Tree}
 use Rattle.justfile_parse.specs.Given.{IsGivenItems, IsInTable}
 use Rattle.justfile_parse.specs.WantsNumber.{WantsNumber}
@@ -46,22 +46,17 @@ GivesNumbered view (Err stop) left IsShort read = StopsAt stop left IsShort read
 abbrev pub Gives : {X Y : Type 0} → (X → Y) → Result X Stop → List SignificantToken → Result Y reader.Refusal → Type 0
 Gives view result left read = GivesNumbered view result left ⊥ read
 
--- items that are read behind others
-unfoldable pub after : Tree → Read Tree → Read Tree
-after done read = read >>= λ x. Ok (done ++ x.0, x.1)
+-- what ends an item, which has a body or not
+abbrev pub ended_by : Answers → (has_body : Bool) → List SignificantToken → reader.Read Tree
+ended_by expander true tokens = Ok (tree.Newline ∷ [], tokens)
+ended_by expander false tokens = reader.behind expander tokens
 
--- the counter where a number was wanting
-abbrev pub IsEnd : ℕ → Stop → Type 0
-IsEnd counter Numbers = counter ≡ 2 ^ 32 - 1
-IsEnd counter (Refused refusal) = Unit {0}
-IsEnd counter Memory = Unit {0}
-
--- nothing but bindings was numbered, and at most so many
+-- bindings and recipes were numbered, together at most so many, and nothing else
 pub record IsMoved (old new : Numerator) (most : ℕ) : Type 0 where
   pub least : bindings_of old ≤ bindings_of new
-  pub most_is : bindings_of new ≤ bindings_of old + most
+  pub recipes_least : recipes_of old ≤ recipes_of new
+  pub most_is : bindings_of new + recipes_of new ≤ bindings_of old + recipes_of old + most
   pub constants : constants_of new ≡ constants_of old
-  pub recipes : recipes_of new ≡ recipes_of old
 
 -- the fault says why reading stopped, at a token of the table
 abbrev pub IsFaultOf : List (Token × Bool) → Stop → Fault → Type 0
@@ -71,12 +66,12 @@ IsFaultOf table Numbers faults.Numbers = Unit {0}
 IsFaultOf table _ _ = ⊥
 
 -- the items are what is read, and the numerator gave their numbers
-pub record IsRead (expander : Answers) (IsToken : Token → Type 0) (file_depth : ℕ) (tokens : List SignificantToken) (old new : Numerator) (items : List Item) : Type 0 where
+pub record IsRead (expander : Answers) (IsToken : Token → Type 0) (file_depth : ℕ) (import_offsets : List ℕ) (tokens : List SignificantToken) (old new : Numerator) (items : List Item) : Type 0 where
   pub read : reader.file expander tokens ≡ Ok (map item_of items)
-  pub given : IsGivenItems expander IsToken file_depth (bindings_of old) (bindings_of new) items
+  pub given : IsGivenItems expander IsToken file_depth import_offsets old new items
 
 -- the fault says why nothing was read
 abbrev pub IsUnread : Answers → List SignificantToken → (Token → Type 0) → Numerator → Numerator → Fault → Type 0
 IsUnread expander tokens IsToken old new (faults.Compile e) = ((tree : Tree) → reader.file expander tokens ≡ Ok tree → ⊥) × IsToken e.token × (internal_message e.kind ≡ None)
 IsUnread expander tokens IsToken old new faults.Memory = Unit {0}
-IsUnread expander tokens IsToken old new faults.Numbers = (bindings_of new ≡ 2 ^ 32 - 1) × WantsNumber expander tokens (bindings_of old)
+IsUnread expander tokens IsToken old new faults.Numbers = WantsNumber expander tokens old new

@@ -2,15 +2,14 @@ ghost use Rattle.std.specs.Prelude.{◌≡◌, ◌<◌, ◌≤◌, ◌+◌, [], 
 ghost use Rattle.std.specs.Str.{trim_end};
 ghost use Rattle.justfile_base.specs.Numerator.{bindings_of, constants_of, number_of, recipes_of};
 ghost use Rattle.justfile_base.specs.Token.{lexeme_of};
-ghost use Rattle.justfile_file.specs.Item.{item_of, item_numbers};
+ghost use Rattle.justfile_file.specs.Item.{item_of};
 ghost use Rattle.justfile_file.specs.declared.item.Item.TheVariants as items;
-ghost use Rattle.justfile_model.specs.Files.{NumbersFrom, item_bindings};
 ghost use Rattle.justfile_model.specs.Reader as reader;
 ghost use Rattle.justfile_model.specs.SignificantTokens.{identifiers};
 ghost use Rattle.justfile_model.specs.Tree as tree;
-ghost use Rattle.justfile_parse.specs.Given.{IsInTable, IsGivenBinding, IsGivenItem, IsUnnumberedItem, is_private};
-ghost use Rattle.justfile_parse.specs.Reading.{Gives, GivesNumbered, IsEnd, IsMoved, after, answers_by};
-ghost use Rattle.justfile_parse.specs.WantsNumber.{LacksNumber, LinesWantNumber, WantsNumber};
+ghost use Rattle.justfile_parse.specs.Given.{IsInTable, IsGivenBinding, IsUnnumberedItem, is_private};
+ghost use Rattle.justfile_parse.specs.Reading.{Gives, GivesNumbered, IsMoved, answers_by, ended_by};
+ghost use Rattle.justfile_parse.specs.WantsNumber.{LacksBinding, LacksFirst, LinesWantNumber, WantsNumber};
 ghost use Rattle.justfile_parse.specs.declared.stop.Stop.TheVariants as stops;
 
 use crate::parser::Parser;
@@ -19,16 +18,15 @@ use justfile_base::{Expander, Name, Numerator, Token, TokenKind};
 use justfile_file::{Assignment, Binding, Item};
 
 impl<'src, X: Expander> Parser<'_, 'src, X> {
-    ghost use Rattle.justfile_parse.specs.View.{Adds, AddsUnnumbered, IsGivenBy, IsSameRun, rest_of};
+    ghost use Rattle.justfile_parse.specs.View.{Adds, AddsUnnumbered, IsGivenBy, IsItemBy, IsNumbered, IsSameRun, rest_of};
 
     /// The items of a file, where no expression is open.
     pub(crate) fn parse_file(&mut self, numerator: &mut Numerator) -> Result<Vec<Item<'src>>, Stop>
         requires { self.old.depth ≡ 0 }
         ensures tokens { self.new.tokens ≡ self.old.tokens }
-        ensures value { GivesNumbered (λ items. map item_of items.items) result (rest_of self.new) (WantsNumber (answers_by X.answer self.old.expander.now) (rest_of self.old) (bindings_of numerator.old)) (reader.file (answers_by X.answer self.old.expander.now) (rest_of self.old)) }
-        ensures given { IfOk result (λ items. IsGivenBy X.answer self.old (bindings_of numerator.old) (bindings_of numerator.new) items.items) }
+        ensures value { GivesNumbered (λ items. map item_of items.items) result (rest_of self.new) (WantsNumber (answers_by X.answer self.old.expander.now) (rest_of self.old) numerator.old numerator.new) (reader.file (answers_by X.answer self.old.expander.now) (rest_of self.old)) }
+        ensures given { IfOk result (λ items. IsGivenBy X.answer self.old numerator.old numerator.new items.items) }
         ensures moved { IsMoved numerator.old numerator.new (identifiers (rest_of self.old)) }
-        ensures end { IfErr result (IsEnd (bindings_of numerator.new)) }
     {
         self.accept_mark();
         self.parse_items(numerator)
@@ -38,10 +36,9 @@ impl<'src, X: Expander> Parser<'_, 'src, X> {
     fn parse_items(&mut self, numerator: &mut Numerator) -> Result<Vec<Item<'src>>, Stop>
         requires { self.old.depth ≡ 0 }
         ensures tokens { self.new.tokens ≡ self.old.tokens }
-        ensures value { GivesNumbered (λ items. map item_of items.items) result (rest_of self.new) (LinesWantNumber (answers_by X.answer self.old.expander.now) (rest_of self.old) (bindings_of numerator.old)) (reader.items (answers_by X.answer self.old.expander.now) (rest_of self.old)) }
-        ensures given { IfOk result (λ items. IsGivenBy X.answer self.old (bindings_of numerator.old) (bindings_of numerator.new) items.items) }
+        ensures value { GivesNumbered (λ items. map item_of items.items) result (rest_of self.new) (LinesWantNumber (answers_by X.answer self.old.expander.now) (rest_of self.old) numerator.old numerator.new) (reader.items (answers_by X.answer self.old.expander.now) (rest_of self.old)) }
+        ensures given { IfOk result (λ items. IsGivenBy X.answer self.old numerator.old numerator.new items.items) }
         ensures moved { IsMoved numerator.old numerator.new (identifiers (rest_of self.old)) }
-        ensures end { IfErr result (IsEnd (bindings_of numerator.new)) }
     {
         let mut items = Vec::new(self.alloc);
         'lines: loop {
@@ -64,46 +61,48 @@ impl<'src, X: Expander> Parser<'_, 'src, X> {
         ensures same { OnOk result (IsSameRun self.old self.new) }
         ensures tokens { self.new.tokens ≡ self.old.tokens }
         ensures progress { OnOk result (self.old.next < self.new.next) }
-        ensures value { GivesNumbered (λ _. (map item_of items.new.items, rest_of self.new)) result (rest_of self.new) (LacksNumber (answers_by X.answer self.old.expander.now) (rest_of self.old) (bindings_of numerator.old)) (after (map item_of items.old.items) (reader.line (answers_by X.answer self.old.expander.now) (rest_of self.old))) }
-        ensures given { OnOk result (Adds X.answer self.old (bindings_of numerator.old) (bindings_of numerator.new) items.old.items items.new.items) }
+        ensures value { GivesNumbered (λ _. (map item_of items.new.items, rest_of self.new)) result (rest_of self.new) (LacksFirst (answers_by X.answer self.old.expander.now) (rest_of self.old) numerator.old numerator.new) (reader.after (map item_of items.old.items) (reader.line (answers_by X.answer self.old.expander.now) (rest_of self.old))) }
+        ensures given { OnOk result (Adds X.answer self.old numerator.old numerator.new items.old.items items.new.items) }
         ensures least { bindings_of numerator.old ≤ bindings_of numerator.new }
-        ensures most { bindings_of numerator.new ≤ bindings_of numerator.old + identifiers (rest_of self.old) }
+        ensures recipes_least { recipes_of numerator.old ≤ recipes_of numerator.new }
+        ensures most { bindings_of numerator.new + recipes_of numerator.new ≤ bindings_of numerator.old + recipes_of numerator.old + identifiers (rest_of self.old) }
         ensures constants { constants_of numerator.new ≡ constants_of numerator.old }
-        ensures recipes { recipes_of numerator.new ≡ recipes_of numerator.old }
-        ensures end { IfErr result (IsEnd (bindings_of numerator.new)) }
     {
         if let Some(_newline) = self.accept(TokenKind::Eol) {
             push(items, Item::Newline)?;
             return Ok(());
         }
         let item = self.parse_item(numerator)?;
+        let has_body = item.has_body();
         push(items, item)?;
-        self.parse_behind(items)?;
+        self.parse_ended(has_body, items)?;
         Ok(())
     }
 
     /// What begins a line that is not blank.
-    #[tactic(auto, using(crate::proofs::GivenLemmas::unnumbered_given, crate::proofs::GivenLemmas::unnumbered_numbers, crate::proofs::GivenLemmas::unnumbered_bindings), unfolding(justfile_model::specs::Reader::on_line))]
+    #[tactic(auto, using(crate::proofs::GivenLemmas::unnumbered_given, crate::proofs::GivenLemmas::unnumbered_numbered, crate::proofs::Lines::on_line_assignment, crate::proofs::Lines::on_line_recipe), unfolding(justfile_model::specs::Reader::on_line))]
     fn parse_item(&mut self, numerator: &mut Numerator) -> Result<Item<'src>, Stop>
         requires { self.old.depth ≡ 0 }
         ensures same { OnOk result (IsSameRun self.old self.new) }
         ensures tokens { self.new.tokens ≡ self.old.tokens }
         ensures progress { OnOk result (self.old.next < self.new.next) }
-        ensures value { GivesNumbered (λ i. (item_of i, rest_of self.new)) result (rest_of self.new) (LacksNumber (answers_by X.answer self.old.expander.now) (rest_of self.old) (bindings_of numerator.old)) (reader.on_line (answers_by X.answer self.old.expander.now) (rest_of self.old)) }
-        ensures given { IfOk result (IsGivenItem (answers_by X.answer self.old.expander.now) (IsInTable self.old.tokens.now) self.old.file_depth) }
-        ensures numbers { IfOk result (λ i. NumbersFrom (bindings_of numerator.old) (item_numbers i)) }
-        ensures counted { IfOk result (λ i. bindings_of numerator.new ≡ bindings_of numerator.old + item_bindings (item_of i)) }
+        ensures value { GivesNumbered (λ i. (item_of i, rest_of self.new)) result (rest_of self.new) (LacksFirst (answers_by X.answer self.old.expander.now) (rest_of self.old) numerator.old numerator.new) (reader.on_line (answers_by X.answer self.old.expander.now) (rest_of self.old)) }
+        ensures given { IfOk result (IsItemBy X.answer self.old) }
+        ensures numbered { IfOk result (IsNumbered numerator.old numerator.new) }
         ensures least { bindings_of numerator.old ≤ bindings_of numerator.new }
-        ensures most { bindings_of numerator.new ≤ bindings_of numerator.old + identifiers (rest_of self.old) }
+        ensures recipes_least { recipes_of numerator.old ≤ recipes_of numerator.new }
+        ensures most { bindings_of numerator.new + recipes_of numerator.new ≤ bindings_of numerator.old + recipes_of numerator.old + identifiers (rest_of self.old) }
         ensures constants { constants_of numerator.new ≡ constants_of numerator.old }
-        ensures recipes { recipes_of numerator.new ≡ recipes_of numerator.old }
-        ensures end { IfErr result (IsEnd (bindings_of numerator.new)) }
     {
         if let Some((comment, _)) = self.accept(TokenKind::Comment) {
             return Ok(comment_item(comment));
         }
-        let assignment = self.parse_assignment(numerator)?;
-        Ok(Item::Assignment(assignment))
+        if self.next_are(&[TokenKind::Identifier, TokenKind::ColonEquals]) {
+            let assignment = self.parse_assignment(numerator)?;
+            return Ok(Item::Assignment(assignment));
+        }
+        let recipe = self.parse_recipe(numerator)?;
+        Ok(Item::Recipe(recipe))
     }
 
     /// NAME `:=` expression, where no expression is open.
@@ -113,14 +112,13 @@ impl<'src, X: Expander> Parser<'_, 'src, X> {
         ensures same { OnOk result (IsSameRun self.old self.new) }
         ensures tokens { self.new.tokens ≡ self.old.tokens }
         ensures progress { OnOk result (self.old.next < self.new.next) }
-        ensures value { GivesNumbered (λ a. (item_of (items.Assignment a), rest_of self.new)) result (rest_of self.new) (LacksNumber (answers_by X.answer self.old.expander.now) (rest_of self.old) (bindings_of numerator.old)) (reader.assignment (answers_by X.answer self.old.expander.now) (rest_of self.old)) }
+        ensures value { GivesNumbered (λ a. (item_of (items.Assignment a), rest_of self.new)) result (rest_of self.new) (LacksBinding (answers_by X.answer self.old.expander.now) (rest_of self.old) numerator.old) (reader.assignment (answers_by X.answer self.old.expander.now) (rest_of self.old)) }
         ensures given { IfOk result (IsGivenBinding (answers_by X.answer self.old.expander.now) (IsInTable self.old.tokens.now) self.old.file_depth) }
         ensures number { IfOk result (λ a. a.number ≡ number_of (bindings_of numerator.old)) }
         ensures counted { OnOk result (bindings_of numerator.new ≡ bindings_of numerator.old + 1) }
-        ensures uncounted { OnErr result (bindings_of numerator.new ≡ bindings_of numerator.old) }
+        ensures unmoved { OnErr result (numerator.new ≡ numerator.old) }
         ensures constants { constants_of numerator.new ≡ constants_of numerator.old }
         ensures recipes { recipes_of numerator.new ≡ recipes_of numerator.old }
-        ensures end { IfErr result (IsEnd (bindings_of numerator.new)) }
     {
         let (token, _) = self.expect(TokenKind::Identifier)?;
         self.expect(TokenKind::ColonEquals)?;
@@ -138,13 +136,29 @@ impl<'src, X: Expander> Parser<'_, 'src, X> {
         })
     }
 
-    /// What stands behind an item: a comment that trails it, and the end of the line.
+    /// What ends an item: behind a body a line starts, and the line end before it is made.
+    #[tactic(auto, using(crate::proofs::Lines::ended_body, crate::proofs::Adding::unnumbered_item))]
+    fn parse_ended(&mut self, has_body: bool, items: &mut Vec<Item<'src>>) -> Result<(), Stop>
+        ensures same { OnOk result (IsSameRun self.old self.new) }
+        ensures tokens { self.new.tokens ≡ self.old.tokens }
+        ensures progress { OnOk result (self.old.next ≤ self.new.next) }
+        ensures value { Gives (λ _. (map item_of items.new.items, rest_of self.new)) result (rest_of self.new) (reader.after (map item_of items.old.items) (ended_by (answers_by X.answer self.old.expander.now) has_body (rest_of self.old))) }
+        ensures given { OnOk result (AddsUnnumbered X.answer self.old items.old.items items.new.items) }
+    {
+        if has_body {
+            push(items, Item::Newline)?;
+            return Ok(());
+        }
+        self.parse_behind(items)
+    }
+
+    /// What stands behind an item without a body: a comment that trails it, and the end of the line.
     #[tactic(auto, using(crate::proofs::Lines::behind_comment, crate::proofs::Lines::behind_bare, crate::proofs::Adding::unnumbered_item, crate::proofs::Adding::unnumbered_later, crate::proofs::Adding::unnumbered_then))]
     fn parse_behind(&mut self, items: &mut Vec<Item<'src>>) -> Result<(), Stop>
         ensures same { OnOk result (IsSameRun self.old self.new) }
         ensures tokens { self.new.tokens ≡ self.old.tokens }
         ensures progress { OnOk result (self.old.next ≤ self.new.next) }
-        ensures value { Gives (λ _. (map item_of items.new.items, rest_of self.new)) result (rest_of self.new) (after (map item_of items.old.items) (reader.behind (answers_by X.answer self.old.expander.now) (rest_of self.old))) }
+        ensures value { Gives (λ _. (map item_of items.new.items, rest_of self.new)) result (rest_of self.new) (reader.after (map item_of items.old.items) (reader.behind (answers_by X.answer self.old.expander.now) (rest_of self.old))) }
         ensures given { OnOk result (AddsUnnumbered X.answer self.old items.old.items items.new.items) }
     {
         match self.accept(TokenKind::Comment) {
@@ -162,7 +176,7 @@ impl<'src, X: Expander> Parser<'_, 'src, X> {
         ensures same { OnOk result (IsSameRun self.old self.new) }
         ensures tokens { self.new.tokens ≡ self.old.tokens }
         ensures progress { OnOk result (self.old.next ≤ self.new.next) }
-        ensures value { Gives (λ _. (map item_of items.new.items, rest_of self.new)) result (rest_of self.new) (after (map item_of items.old.items) (reader.line_end (answers_by X.answer self.old.expander.now) (rest_of self.old))) }
+        ensures value { Gives (λ _. (map item_of items.new.items, rest_of self.new)) result (rest_of self.new) (reader.after (map item_of items.old.items) (reader.line_end (answers_by X.answer self.old.expander.now) (rest_of self.old))) }
         ensures given { OnOk result (AddsUnnumbered X.answer self.old items.old.items items.new.items) }
     {
         if let Some(_end) = self.next_if(TokenKind::Eof) {
@@ -174,7 +188,7 @@ impl<'src, X: Expander> Parser<'_, 'src, X> {
     }
 }
 
-fn is_private(name: &[u8]) -> bool
+pub(crate) fn is_private(name: &[u8]) -> bool
     ensures { result ≡ is_private name.now }
 {
     name.first() == Some(&b'_')

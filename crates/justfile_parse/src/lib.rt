@@ -1,10 +1,12 @@
 //! From tokens to files of items.
 #![tactic(auto)]
 
+mod body;
 mod items;
 mod literal;
 mod parse;
 mod parser;
+mod recipe;
 pub mod significant;
 mod stop;
 mod value;

@@ -1,6 +1,6 @@
 ghost use Rattle.std.specs.Prelude.{◌≡◌, List, map, Contains, IfOk, IfErr, string_bytes};
 ghost use Rattle.justfile_base.specs.Modulepath.{module_names, names_of};
-ghost use Rattle.justfile_base.specs.Numerator.{constants_of, recipes_of};
+ghost use Rattle.justfile_base.specs.Numerator.{constants_of};
 ghost use Rattle.justfile_model.specs.Lexed.{Lexed};
 ghost use Rattle.justfile_model.specs.SignificantTokens.{identifiers, significant_tokens};
 ghost use Rattle.justfile_model.specs.Tok.{Tok, tok_of};
@@ -22,8 +22,8 @@ impl<'src, X: Expander> Parser<'_, 'src, X> {
     ///
     /// # Errors
     ///
-    /// `Compile` if the tokens are no file, at one of them; `Numbers` if more numbers of bindings are
-    /// wanted than there are; `Memory` if memory is wanting. The numerator's counters have then
+    /// `Compile` if the tokens are no file, at one of them; `Numbers` if more numbers of bindings or
+    /// of recipes are wanted than there are; `Memory` if memory is wanting. The numerator's counters have then
     /// moved up by no more than the number of identifiers.
     pub fn parse(
         alloc: Global,
@@ -37,16 +37,22 @@ impl<'src, X: Expander> Parser<'_, 'src, X> {
         current: Version,
     ) -> CompileResult<'src, Ast<'src>>
         requires { IsOneLex tokens.now }
-        ensures parsed { IfOk result (IsParsed (answers_by X.answer expander.now) (version_numbers current) (map tok_of tokens.now) (Contains tokens.now) file_depth numerator.old numerator.new) }
+        ensures parsed { IfOk result (IsParsed (answers_by X.answer expander.now) (version_numbers current) (map tok_of tokens.now) (Contains tokens.now) file_depth import_offsets.now numerator.old numerator.new) }
         ensures module_path { IfOk result (λ ast. names_of ast.module_path ≡ module_names module_namepath.entry) }
         ensures working_directory { IfOk result (λ ast. string_bytes ast.working_directory ≡ working_directory.now) }
         ensures unparsed { IfErr result (IsUnparsed (answers_by X.answer expander.now) (version_numbers current) (map tok_of tokens.now) (Contains tokens.now) numerator.old numerator.new) }
         ensures moved { IsMoved numerator.old numerator.new (identifiers (significant_tokens (map tok_of tokens.now))) }
     {
-        let _ = import_offsets;
         let _ = current;
         let table = significant(alloc, tokens)?;
-        let items = Parser::parse_table(alloc, file_depth, numerator, table.as_slice(), expander)?;
+        let items = Parser::parse_table(
+            alloc,
+            file_depth,
+            import_offsets,
+            numerator,
+            table.as_slice(),
+            expander,
+        )?;
         Ok(Ast {
             items,
             module_path: Modulepath::from_namepath(alloc, module_namepath)?,
@@ -70,14 +76,13 @@ impl<'src, X: Expander> Parser<'_, 'src, X> {
         expander: &X,
         current: Version,
     ) -> CompileResult<'src, Ast<'src>>
-        ensures parsed { IfOk result (IsParsedText (answers_by X.answer expander.now) (version_numbers current) path.now src.now source.now.file_depth numerator.old numerator.new) }
+        ensures parsed { IfOk result (IsParsedText (answers_by X.answer expander.now) (version_numbers current) path.now src.now source.now.file_depth source.now.import_offsets.now numerator.old numerator.new) }
         ensures module_path { IfOk result (λ ast. names_of ast.module_path ≡ module_names source.now.namepath) }
         ensures working_directory { IfOk result (λ ast. string_bytes ast.working_directory ≡ source.now.working_directory.now) }
         ensures no_tree { IfErr result (HasNoTree (answers_by X.answer expander.now) (version_numbers current) path.now src.now numerator.old numerator.new) }
         ensures moved { (tokens : List Tok) → Lexed src.now tokens → IsMoved numerator.old numerator.new (identifiers (significant_tokens tokens)) }
         ensures unmoved { ((tokens : List Tok) → Lexed src.now tokens → ⊥) → numerator.new ≡ numerator.old }
         ensures constants { constants_of numerator.new ≡ constants_of numerator.old }
-        ensures recipes { recipes_of numerator.new ≡ recipes_of numerator.old }
     {
         let tokens = Lexer::lex(alloc, path, src)?;
         Parser::parse(

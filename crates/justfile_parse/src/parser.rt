@@ -1,4 +1,4 @@
-ghost use Rattle.std.specs.Prelude.{◌≡◌, ◌<◌, ◌≤◌, ◌+◌, [], ◌∷◌, length, map, IsTrue, IfOk, OnOk, OnSome, IfSome, IfNone, IfErr, Some, None};
+ghost use Rattle.std.specs.Prelude.{◌≡◌, ◌<◌, ◌≤◌, ◌+◌, [], ◌∷◌, length, drop, map, IsTrue, IfOk, OnOk, OnSome, IfSome, IfNone, IfErr, Some, None};
 ghost use Rattle.std.specs.List.{list_all};
 ghost use Rattle.justfile_base.specs.CompileErrorKind.{internal_message};
 ghost use Rattle.justfile_model.specs.Grammar.{front};
@@ -29,6 +29,8 @@ pub struct Parser<'run, 'src, X> {
     pub(crate) expander: &'run X,
     /// How many files include the one that is read.
     pub(crate) file_depth: u32,
+    /// The offsets of the imports that lead to the file that is read, the outermost first.
+    pub(crate) import_offsets: &'run [usize],
     /// The index of the next token.
     pub(crate) next: usize,
     pub(crate) tokens: &'run [(Token<'src>, bool)],
@@ -108,6 +110,32 @@ impl<'run, 'src, X: Expander> Parser<'run, 'src, X> {
         self.accept(kind).ok_or(Stop::Refused(Refusal::Unexpected))
     }
 
+    /// Whether the next tokens are of these kinds; none is taken yet.
+    pub(crate) fn next_are(&self, kinds: &[TokenKind]) -> bool
+        ensures is { result ≡ reader.next_are kinds.now (rest_of self.now) }
+        ensures within { IsTrue result → self.now.next + length kinds.now ≤ length self.now.tokens.now }
+    {
+        let mut next = self.next;
+        for kind in kinds {
+            match self.tokens.get(next) {
+                Some(entry) if entry.0.kind == *kind => next += 1,
+                _ => return false,
+            }
+        }
+        true
+    }
+
+    /// Takes so many tokens.
+    #[tactic(auto, using(crate::proofs::NextKinds::rest_skip))]
+    pub(crate) fn skip(&mut self, count: usize)
+        requires { self.old.next + count ≤ length self.old.tokens.now }
+        ensures same { IsSameRun self.old self.new }
+        ensures rest { rest_of self.new ≡ drop count (rest_of self.old) }
+        ensures progress { self.old.next ≤ self.new.next }
+    {
+        self.next += count;
+    }
+
     /// Takes the byte order mark that a file may begin with.
     pub(crate) fn accept_mark(&mut self)
         ensures same { IsSameRun self.old self.new }
@@ -161,13 +189,14 @@ impl<'run, 'src, X: Expander> Parser<'run, 'src, X> {
     pub(crate) fn parse_table(
         alloc: Global,
         file_depth: u32,
+        import_offsets: &'run [usize],
         numerator: &mut Numerator,
         tokens: &'run [Entry<'src>],
         expander: &'run X,
     ) -> CompileResult<'src, Vec<Item<'src>>>
         requires nonempty { 0 < length tokens.now }
         requires sound { IsTrue (list_all is_sound tokens.now) }
-        ensures ok { IfOk result (λ items. IsRead (answers_by X.answer expander.now) (IsInTable tokens.now) file_depth (map significant_of tokens.now) numerator.old numerator.new items.items) }
+        ensures ok { IfOk result (λ items. IsRead (answers_by X.answer expander.now) (IsInTable tokens.now) file_depth import_offsets.now (map significant_of tokens.now) numerator.old numerator.new items.items) }
         ensures err { IfErr result (IsUnread (answers_by X.answer expander.now) (map significant_of tokens.now) (IsInTable tokens.now) numerator.old numerator.new) }
         ensures moved { IsMoved numerator.old numerator.new (identifiers (map significant_of tokens.now)) }
     {
@@ -176,6 +205,7 @@ impl<'run, 'src, X: Expander> Parser<'run, 'src, X> {
             depth: 0,
             expander,
             file_depth,
+            import_offsets,
             next: 0,
             tokens,
         };

@@ -97,6 +97,10 @@ pub mod numerator {
     pub use justfile_base::{Number, Numerator};
 }
 
+pub mod recipe {
+    pub use justfile_file::UnresolvedRecipe;
+}
+
 pub mod sigil {
     pub use justfile_file::Sigil;
 }

@@ -1,9 +1,10 @@
 -- What the program makes of a justfile.
-use Rattle.std.specs.Prelude.{◌≡◌, ◌≢◌, ℕ, List, Option, Some, Ok, codes}
+use Rattle.std.specs.Prelude.{◌≡◌, ◌≢◌, ℕ, true, false, List, Option, Some, Ok, codes}
 use Rattle.std.specs.Str.{IsUtf8}
 use Rattle.std.specs.Io.KnownBytes.{Appends}
 use Rattle.justfile_model.specs.Files.{VersionNumbers}
 use Rattle.justfile_model.specs.Literals.{Answers}
+use Rattle.justfile_model.specs.Printing.{printable}
 use Rattle.justfile_model.specs.Tree.{Tree, shape_of}
 use Rattle.justfile_file.specs.Ast.{tree_of}
 use Rattle.justfile_file.specs.declared.ast.Ast.{Ast}
@@ -17,16 +18,28 @@ unchanged text = Some (Ok text)
 abbrev pub current : VersionNumbers
 current = record { major = 1; minor = 58; patch = 0 }
 
--- the text is a justfile, and this is its canonical text, with four spaces before the lines of bodies
+-- the text is a justfile that can be printed, and this is its canonical text, with four spaces before the lines of bodies
 pub record IsFormatted (source canonical : List ℕ) : Type 0 where
   pub tree : Tree
   pub derives : TextDerives unchanged current source tree
+  pub can_be_printed : printable (shape_of tree) ≡ true
   pub is : canonical ≡ printed (shape_of tree) (codes "    ")
 
 -- the bytes are a text that is no justfile
 pub record IsRefused (source : List ℕ) : Type 0 where
   pub utf8 : IsUtf8 source
   pub derives_none : (tree : Tree) → TextDerives unchanged current source tree → ⊥
+
+-- the text is a justfile, and a line of a body ends in a carriage return
+pub record IsUnprintable (source : List ℕ) : Type 0 where
+  pub tree : Tree
+  pub derives : TextDerives unchanged current source tree
+  pub cannot_be_printed : printable (shape_of tree) ≡ false
+
+-- why bytes that are a text have no canonical text
+pub data HasNone (source : List ℕ) : Type 0 where
+  refused : IsRefused source → HasNone source
+  unprintable : IsUnprintable source → HasNone source
 
 -- the canonical text was written behind what was written before
 pub record Formats (source : List ℕ) (old new : Option (List ℕ)) : Type 0 where

@@ -1,6 +1,6 @@
 ghost use Rattle.std.specs.Prelude.{◌≡◌, Err, IfOk, string_bytes};
 ghost use Rattle.justfmt.specs.declared.failure.Failure.TheVariants as failures;
-ghost use Rattle.justfmt.specs.Formatting.{IsFileOf, IsFormatted, IsRefused};
+ghost use Rattle.justfmt.specs.Formatting.{IsFileOf, IsFormatted, IsRefused, IsUnprintable};
 
 use crate::failure::Failure;
 use crate::unchanged::Unchanged;
@@ -52,7 +52,7 @@ fn parsed(alloc: Global, source: &str) -> Result<Ast<'_>, Failure>
 pub fn formatted(alloc: Global, source: &str) -> Result<String, Failure>
     ensures ok { IfOk result (λ text. IsFormatted source.now (string_bytes text)) }
     ensures refused { result ≡ Err failures.Refused → IsRefused source.now }
-    ensures printable { result ≡ Err failures.NotPrintable → ⊥ }
+    ensures unprintable { result ≡ Err failures.NotPrintable → IsUnprintable source.now }
 {
     let ast = parsed(alloc, source)?;
     if !ast.printable() {

@@ -2,7 +2,7 @@ ghost use Rattle.std.specs.Prelude.{◌≡◌, ◌≤◌, [], ◌∷◌, map, co
 ghost use Rattle.std.specs.Io.KnownBytes.{Appends};
 ghost use Rattle.justfmt.specs.declared.failure.Failure.TheVariants as failures;
 ghost use Rattle.justfmt.specs.Failure.{IsOfMachine};
-ghost use Rattle.justfmt.specs.Formatting.{IsFormatted, IsRefused, Formats, Differs};
+ghost use Rattle.justfmt.specs.Formatting.{IsFormatted, IsRefused, IsUnprintable, Formats, Differs, HasNone};
 
 use crate::failure::{Failure, report};
 use crate::formatting::formatted;
@@ -81,8 +81,9 @@ fn write_all<W: Write>(text: &str, writer: &mut W) -> Result<(), Failure>
 fn format<R: Read, W: Write>(alloc: Global, reader: &mut R, writer: &mut W) -> Result<(), Failure>
     ensures ok { OnOk result (IfSome (R.remaining reader.old) (λ source. Formats source (W.contents writer.old) (W.contents writer.new))) }
     ensures refused { result ≡ Err failures.Refused → IfSome (R.remaining reader.old) IsRefused }
-    ensures printable { result ≡ Err failures.NotPrintable → ⊥ }
+    ensures unprintable { result ≡ Err failures.NotPrintable → IfSome (R.remaining reader.old) IsUnprintable }
     ensures writes_nothing { result ≡ Err failures.Refused → writer.new ≡ writer.old }
+    ensures prints_nothing { result ≡ Err failures.NotPrintable → writer.new ≡ writer.old }
 {
     let bytes = read_all(alloc, reader)?;
     let source = text_of(&bytes)?;
@@ -95,7 +96,7 @@ fn check<R: Read>(alloc: Global, reader: &mut R) -> Result<bool, Failure>
     ensures same { result ≡ Ok true → IfSome (R.remaining reader.old) (λ source. IsFormatted source source) }
     ensures differs { result ≡ Ok false → IfSome (R.remaining reader.old) Differs }
     ensures refused { result ≡ Err failures.Refused → IfSome (R.remaining reader.old) IsRefused }
-    ensures printable { result ≡ Err failures.NotPrintable → ⊥ }
+    ensures unprintable { result ≡ Err failures.NotPrintable → IfSome (R.remaining reader.old) IsUnprintable }
 {
     let bytes = read_all(alloc, reader)?;
     let source = text_of(&bytes)?;
@@ -120,7 +121,7 @@ pub fn run<R: Read, W: Write, E: Write>(
     ensures formatted { map string_bytes arguments.now ≡ [] → result ≡ 0 → IfSome (R.remaining reader.old) (λ source. Formats source (W.contents writer.old) (W.contents writer.new)) }
     ensures canonical { map string_bytes arguments.now ≡ codes "--check" ∷ [] → result ≡ 0 → IfSome (R.remaining reader.old) (λ source. IsFormatted source source) }
     ensures differs { result ≡ 1 → (map string_bytes arguments.now ≡ codes "--check" ∷ []) × IfSome (R.remaining reader.old) Differs }
-    ensures refused { result ≡ 2 → IfSome (R.remaining reader.old) IsRefused }
+    ensures refused { result ≡ 2 → IfSome (R.remaining reader.old) HasNone }
 
     ensures written_asked { (map string_bytes arguments.now ≡ [] → ⊥) → writer.new ≡ writer.old }
     ensures refused_writes_nothing { result ≡ 2 → writer.new ≡ writer.old }

@@ -76,7 +76,8 @@ fn kinds(rt: HostRuntime) -> Result<(), Fail> {
     assert_eq!(rt; format!(in rt.alloc(); "{comma:>9}")?.as_str(), "','");
     compare_kind(&rt, rt.alloc(), ItemKind::Assignment, ("an", "assignment"))?;
     compare_kind(&rt, rt.alloc(), ItemKind::Comment, ("a", "comment"))?;
-    compare_kind(&rt, rt.alloc(), ItemKind::Newline, ("a", "newline"))
+    compare_kind(&rt, rt.alloc(), ItemKind::Newline, ("a", "newline"))?;
+    compare_kind(&rt, rt.alloc(), ItemKind::Recipe, ("a", "recipe"))
 }
 
 #[test]

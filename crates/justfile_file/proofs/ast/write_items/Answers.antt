@@ -1,16 +1,18 @@
 use Rattle.std.proofs.Common.{arith}
+use Rattle.justfile_base.specs.Indentation.{indentation_text}
 use Rattle.justfile_file.specs.Item.{item_shape}
-use Rattle.justfile_file.proofs.Gaps.{at_err, took_next, failed_next, gap_next}
+use Rattle.justfile_file.proofs.Gaps.{took_next, failed_next, gap_next}
+use Rattle.justfile_file.proofs.Loops.{at_err}
 use Rattle.justfile_file.proofs.ast.write_items.Goals as goal
 
 pub returns-in_err-gap-clause-err : goal.returns-in_err-gap-clause-err
 returns-in_err-gap-clause-err g c =
     let s = g.met.S.Sink in
-    at_err _ (failed_next item_shape c.args.items.now c.loop-item.item-index c.item-item.result (omega arith) c.item-item.is g.S.Sink.took g.S.Sink.failed s.took_more s.failed_later s.failed_before c.loop-item.gap c.loop-item.invariant.1 _ _ _ c.loop-item.invariant.0 c.in_err-gap.ensures.err)
+    at_err _ (failed_next (indentation_text c.args.indentation) item_shape c.args.items.now c.loop-item.item-index c.item-item.result (omega arith) c.item-item.is g.S.Sink.took g.S.Sink.failed s.took_more s.failed_later s.failed_before c.loop-item.gap c.loop-item.invariant.1 _ _ _ c.loop-item.invariant.0 c.in_err-gap.ensures.err)
 
 pub loop-item-preserved : goal.loop-item-preserved
 loop-item-preserved g c =
     let s = g.met.S.Sink in (
-      took_next item_shape c.args.items.now c.loop-item.item-index c.item-item.result (omega arith) c.item-item.is g.S.Sink.took g.S.Sink.failed s.took_more s.failed_later s.failed_before c.loop-item.gap c.loop-item.invariant.1 _ _ _ c.loop-item.invariant.0 c.in_ok-gap.ensures.ok,
-      gap_next item_shape c.args.items.now c.loop-item.item-index c.item-item.result (omega arith) c.item-item.is g.S.Sink.took g.S.Sink.failed s.took_more s.failed_later s.failed_before c.loop-item.gap c.loop-item.invariant.1 c.in_ok-gap.gap c.in_ok-gap.ensures.gap,
+      took_next (indentation_text c.args.indentation) item_shape c.args.items.now c.loop-item.item-index c.item-item.result (omega arith) c.item-item.is g.S.Sink.took g.S.Sink.failed s.took_more s.failed_later s.failed_before c.loop-item.gap c.loop-item.invariant.1 _ _ _ c.loop-item.invariant.0 c.in_ok-gap.ensures.ok,
+      gap_next (indentation_text c.args.indentation) item_shape c.args.items.now c.loop-item.item-index c.item-item.result (omega arith) c.item-item.is g.S.Sink.took g.S.Sink.failed s.took_more s.failed_later s.failed_before c.loop-item.gap c.loop-item.invariant.1 c.in_ok-gap.gap c.in_ok-gap.ensures.gap,
     )

@@ -33,5 +33,5 @@ pub returns-clause-parsed : goal.returns-clause-parsed
 returns-clause-parsed g c =
     let Q : List (Token × Bool) → Type 0 = λ t. All (λ entry. Contains c.args.tokens.now entry.0) t in
     parsed_of (answers_by g.X.Expander.answer c.args.expander.now) (version_numbers c.args.current) c.args.tokens.now c.as_slice.result.now c.args.numerator.now c.parse_table.new.numerator
-    (ap (map significant_of) c.as_slice.ensures.value ∙ c.in_ok-table.ensures.table) (subst Q (sym c.as_slice.ensures.value) (entries_among c.args.tokens.now c.in_ok-table.table.items c.in_ok-table.ensures.tokens)) c.args.file_depth _
+    (ap (map significant_of) c.as_slice.ensures.value ∙ c.in_ok-table.ensures.table) (subst Q (sym c.as_slice.ensures.value) (entries_among c.args.tokens.now c.in_ok-table.table.items c.in_ok-table.ensures.tokens)) c.args.file_depth c.args.import_offsets.now _
     c.in_ok-items.ensures.ok c.new.ensures.empty

@@ -1,4 +1,4 @@
-use Rattle.std.proofs.Common.{◌≡◌, ap, ◌∙◌, [], ◌∷◌, ◌++◌, map}
+use Rattle.std.proofs.Common.{ℕ, ◌≡◌, ap, ◌∙◌, [], ◌∷◌, ◌++◌, map}
 use Rattle.std.proofs.lemmas.Result.{on_ok_weaker}
 use Rattle.justfile_file.specs.Item.{item_of}
 use Rattle.justfile_model.specs.Tok.{Tok}
@@ -14,7 +14,7 @@ returns-in_ok-push-in-Some-clause-value g c =
     let more : map item_of c.push.new.items.items ≡ done ++ item_of c.comment_item.result ∷ [] = c.in_ok-push-in-Some.ensures.tree in
     gives_alike _ _ _ _ _
     (behind_after g.X.Expander.answer c.args.self.now c.accept.new.self c.accept.ensures.same done _ (significant_of (c.in-Some.comment, c.in-Some.field-0-1)) c.in-Some.ensures.some
-    (more ∙ ap (λ (i : Item Tok Tok). done ++ i ∷ []) c.comment_item.ensures.is))
+    (more ∙ ap (λ (i : Item Tok Tok ℕ). done ++ i ∷ []) c.comment_item.ensures.is))
     c.parse_line_end.ensures.value
 
 pub returns-in_ok-push-in-Some-clause-given : goal.returns-in_ok-push-in-Some-clause-given

@@ -1,7 +1,15 @@
 use Rattle.std.proofs.Common.{ap, arith}
 use Rattle.justfile_model.specs.SignificantTokens.{identifiers}
-use Rattle.justfile_parse.proofs.Lines.{assignment_identifiers}
+use Rattle.justfile_model.proofs.Counting.{assignment_bindings, recipe_recipes}
 use Rattle.justfile_parse.proofs.parser.Parser.parse_item.Goals as goal
 
+pub returns-then-next_are-clause-most : goal.returns-then-next_are-clause-most
+returns-then-next_are-clause-most g c =
+    omega
+    (arith, c.in_ok-assignment.ensures.counted, c.in_ok-assignment.ensures.recipes, assignment_bindings _ _ _ c.in_ok-assignment.ensures.value,
+    ap identifiers c.in_default.ensures.same_rest)
+
 pub returns-clause-most : goal.returns-clause-most
-returns-clause-most g c = omega (arith, c.in_ok-assignment.ensures.counted, assignment_identifiers _ _ _ _ c.in_ok-assignment.ensures.value, ap identifiers c.in_default.ensures.same_rest)
+returns-clause-most g c =
+    omega
+    (arith, c.in_ok-recipe.ensures.counted, c.in_ok-recipe.ensures.bindings, recipe_recipes _ _ _ c.in_ok-recipe.ensures.value, ap identifiers c.in_default.ensures.same_rest)

@@ -23,11 +23,11 @@ pub lines-preserved : goal.lines-preserved
 lines-preserved g c =
     goes_on g.X.Expander.answer c.args.self.now c.lines.self c.accept.new.self c.args.numerator.now c.lines.numerator c.lines.items.items c.lines.invariant
     c.accept.ensures.same c.in_default.ensures.none c.in_default.ensures.same_rest c.parse_line.new.self c.parse_line.new.numerator c.parse_line.new.items.items
-    c.in_ok-parse_line.ensures.same c.in_ok-parse_line.ensures.value c.in_ok-parse_line.ensures.given c.parse_line.ensures.least c.parse_line.ensures.constants c.parse_line.ensures.recipes
+    c.in_ok-parse_line.ensures.same c.in_ok-parse_line.ensures.value c.in_ok-parse_line.ensures.given c.parse_line.ensures.least c.parse_line.ensures.recipes_least c.parse_line.ensures.constants
 
 pub returns-in_err-parse_line-clause-value : goal.returns-in_err-parse_line-clause-value
 returns-in_err-parse_line-clause-value g c =
     let p = err_from_is_err_and c.from_residual-in_err-parse_line.result c.from_residual-in_err-parse_line.ensures.1 in
     rw (p.1, p.2)
     (stops g.X.Expander.answer c.args.self.now c.lines.self c.accept.new.self c.args.numerator.now c.lines.numerator c.lines.items.items c.lines.invariant
-    c.accept.ensures.same c.in_default.ensures.none c.in_default.ensures.same_rest c.in_err-parse_line.field-0.0 _ c.in_err-parse_line.ensures.value)
+    c.accept.ensures.same c.in_default.ensures.none c.in_default.ensures.same_rest c.in_err-parse_line.field-0.0 _ c.parse_line.new.numerator c.in_err-parse_line.ensures.value)

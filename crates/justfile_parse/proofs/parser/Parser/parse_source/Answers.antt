@@ -26,7 +26,7 @@ returns-clause-parsed g c =
     let Q : List Token → Type 0 = λ ts. All (IsFrom c.args.path.now c.args.src.now) ts in
     IfOk-weaker c.parse.result _ _
     (text_parsed (answers_by g.X.Expander.answer c.args.expander.now) (version_numbers c.args.current) c.args.path.now c.args.src.now c.utf8.src c.as_slice.result.now
-    (subst P (sym c.as_slice.ensures.value) c.in_ok-tokens.ensures.tokens) (subst Q (sym c.as_slice.ensures.value) c.in_ok-tokens.ensures.source) c.args.numerator.now c.parse.new.numerator c.args.source.now.file_depth)
+    (subst P (sym c.as_slice.ensures.value) c.in_ok-tokens.ensures.tokens) (subst Q (sym c.as_slice.ensures.value) c.in_ok-tokens.ensures.source) c.args.numerator.now c.parse.new.numerator c.args.source.now.file_depth c.args.source.now.import_offsets.now)
     c.parse.ensures.parsed
 
 pub returns-clause-moved : goal.returns-clause-moved

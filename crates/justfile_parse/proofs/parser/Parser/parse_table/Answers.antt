@@ -1,6 +1,5 @@
 use Rattle.std.proofs.Common.{ap, ◌∙◌, sym, subst, Bool, List, map}
 use Rattle.std.specs.Borrow.{Bor}
-use Rattle.justfile_base.specs.Numerator.{bindings_of}
 use Rattle.justfile_base.specs.declared.token.Token.{Token}
 use Rattle.justfile_model.specs.Reader as reader
 use Rattle.justfile_model.specs.SignificantTokens.{SignificantToken, identifiers}
@@ -28,10 +27,10 @@ pub returns-in-Err-clause-err : goal.returns-in-Err-clause-err
 returns-in-Err-clause-err g c =
     let E = answers_by g.X.Expander.answer c.args.expander.now in
     let left = rest_of c.parse_file.new.self in
-    let P : List SignificantToken → Type 0 = λ ts. StopsAt c.in-Err.stop left (WantsNumber E ts (bindings_of c.args.numerator.now)) (reader.file E ts) in
+    let P : List SignificantToken → Type 0 = λ ts. StopsAt c.in-Err.stop left (WantsNumber E ts c.args.numerator.now c.parse_file.new.numerator) (reader.file E ts) in
     let Q : Bor (List (Token × Bool)) → Type 0 = λ t. IsFaultOf t.now c.in-Err.stop c.fault.result in
     unread E (map significant_of c.args.tokens.now) c.args.tokens.now c.args.numerator.now c.parse_file.new.numerator left c.in-Err.stop c.fault.result
-    (subst P (rest_start c.args.tokens.now) c.in-Err.ensures.value) c.in-Err.ensures.end (subst Q c.parse_file.ensures.tokens c.fault.ensures)
+    (subst P (rest_start c.args.tokens.now) c.in-Err.ensures.value) (subst Q c.parse_file.ensures.tokens c.fault.ensures)
 
 pub returns-in-Err-clause-moved : goal.returns-in-Err-clause-moved
 returns-in-Err-clause-moved g c =

@@ -1,0 +1,49 @@
+-- Loops that put the elements of a list, one after another.
+use Rattle.std.proofs.Common.{◌≡◌, ℕ, Result, Ok, Err, OnErr, ◌+◌, ◌<◌, zero, suc, List, [], ◌∷◌, ◌++◌, length, take, drop, get_or, replicate, refl, sym, ap, ◌∙◌, subst, arith, add-one, append_assoc}
+use Rattle.std.specs.List.{flat_map}
+use Rattle.std.proofs.lemmas.List.{take_more, flat_map_more, take-append-drop, replicate_more}
+use Rattle.std.proofs.lemmas.Grind.{flat_map-append}
+
+-- what holds where a call failed holds at its `Err`
+pub at_err : {T E P : Type 0} (r : Result T E) → P → OnErr r P
+at_err (Ok x) p = tt
+at_err (Err e) p = p
+
+replicate_split : (u n i : ℕ) → i < n → (rest : List ℕ) × ((replicate i u ++ u ∷ []) ++ rest ≡ replicate n u)
+replicate_split u zero i h = absurd (omega arith)
+replicate_split u (suc n) zero h = (replicate n u, refl)
+replicate_split u (suc n) (suc i) h = let r = replicate_split u n i (omega arith) in (r.0, ap (λ l. u ∷ l) r.1)
+
+-- of what a sink took, or failed to take
+module _ {S : Type 0} (took failed : S → List ℕ → S → Type 0)
+    (more : (a b c : S) (xs ys : List ℕ) → took a xs b → took b ys c → took a (xs ++ ys) c)
+    (later : (a b c : S) (xs ys : List ℕ) → took a xs b → failed b ys c → failed a (xs ++ ys) c)
+    (before : (a b : S) (xs ys : List ℕ) → failed a xs b → failed a (xs ++ ys) b) where
+  -- the text of a list is that of its elements, and one more is put
+  module _ {X : Type 0} (text : List X → List ℕ) (one : X → List ℕ) (parts : (xs : List X) → text xs ≡ flat_map one xs)
+      (xs : List X) (i : ℕ) (x : X) (h : i < length xs) (e : x ≡ get_or xs i x) where
+    text_more : text (take i xs) ++ one x ≡ text (take (i + 1) xs)
+    text_more =
+        ap (λ l. l ++ one x) (parts (take i xs)) ∙ flat_map_more one [] (take i xs) x
+        ∙ ap (flat_map one) (ap (λ y. take i xs ++ y ∷ []) e ∙ sym (take_more xs i x h)) ∙ sym (parts (take (i + 1) xs))
+
+    text_split : text (take (i + 1) xs) ++ flat_map one (drop (i + 1) xs) ≡ text xs
+    text_split =
+        ap (λ l. l ++ flat_map one (drop (i + 1) xs)) (parts (take (i + 1) xs)) ∙ sym (flat_map-append one (take (i + 1) xs) (drop (i + 1) xs))
+        ∙ ap (flat_map one) (take-append-drop (i + 1) xs) ∙ sym (parts xs)
+
+    pub took_next : (a b c : S) → took a (text (take i xs)) b → took b (one x) c → took a (text (take (i + 1) xs)) c
+    took_next a b c p q = subst (λ (t : List ℕ). took a t c) text_more (more a b c _ _ p q)
+
+    pub failed_next : (a b c : S) → took a (text (take i xs)) b → failed b (one x) c → failed a (text xs) c
+    failed_next a b c p q =
+        subst (λ (t : List ℕ). failed a t c) (ap (λ t. t ++ flat_map one (drop (i + 1) xs)) text_more ∙ text_split)
+        (before a c _ _ (later a b c _ _ p q))
+
+  -- one more of equal bytes is put
+  module _ (u n i : ℕ) where
+    pub took_equal : (a b c : S) → took a (replicate i u) b → took b (u ∷ []) c → took a (replicate (i + 1) u) c
+    took_equal a b c p q = subst (λ (t : List ℕ). took a t c) (replicate_more i u) (more a b c _ _ p q)
+
+    pub failed_equal : i < n → (a b c : S) → took a (replicate i u) b → failed b (u ∷ []) c → failed a (replicate n u) c
+    failed_equal h a b c p q = let r = replicate_split u n i h in subst (λ (t : List ℕ). failed a t c) r.1 (before a c _ r.0 (later a b c _ _ p q))
