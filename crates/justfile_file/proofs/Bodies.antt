@@ -1,9 +1,9 @@
 -- The texts of bodies, by their fragments and lines, and whether they are printable.
 use native.Mathlib.Numerals.{unary_clauses}
-use Rattle.std.proofs.Common.{slice_index, ◌==◌, ◌≡◌, ℕ, ◌-◌, ◌+◌, Bool, true, false, not, ◌&&◌, List, [], ◌∷◌, ◌++◌, length, zero, suc, map, codes, Option, Some, None, refl, sym, ap, ◌∙◌, arith}
+use Rattle.std.proofs.Common.{slice_index, ◌==◌, ◌≡◌, ℕ, ◌-◌, Bool, true, not, ◌&&◌, List, [], ◌∷◌, ◌++◌, length, map, codes, Option, Some, None, refl, ap, ◌∙◌}
 use Rattle.std.specs.List.{flat_map, list_all, slice_get}
 use Rattle.std.specs.Option.{option_and_then}
-use Rattle.std.proofs.lemmas.List.Folds.{flat_map-map, list_all-map}
+use Rattle.std.proofs.lemmas.List.Folds.{flat_map-map}
 use Rattle.justfile_model.specs.Tree as tree
 use Rattle.justfile_model.specs.Tree.{over_fragment, over_line, lexeme, nothing}
 use Rattle.justfile_model.specs.Printing.{piece, fragment_text, line_text, body_text, ends_in_return, printable_fragments, printable_body, printable_item, printable}

@@ -2,5 +2,5 @@ pub mod Bodies
 pub mod Copied
 pub mod Gaps
 pub mod Loops
-pub mod SigilLaws
 pub mod PrintedBack
+pub mod SigilLaws

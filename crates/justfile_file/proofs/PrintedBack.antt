@@ -1,5 +1,5 @@
 -- Printing promises what the round trip proves.
-use Rattle.std.proofs.Common.{◌≡◌, ℕ, true, List, sym, ap, ◌∙◌, subst}
+use Rattle.std.proofs.Common.{◌≡◌, ℕ, List, sym, ap, ◌∙◌, subst}
 use Rattle.justfile_base.specs.Indentation.{IsIndentation}
 use Rattle.justfile_model.specs.Tree.{Shape, shape_of}
 use Rattle.justfile_model.specs.NormalShape.{normal}
@@ -10,11 +10,12 @@ use Rattle.justfile_file.specs.PrintsBack.{PrintsBack}
 
 pub prints_back : (shape : Shape) (indentation bytes : List ℕ) → IsIndentation indentation → bytes ≡ printed shape indentation → PrintsBack shape indentation bytes
 prints_back shape indentation bytes is e = record {
-  reads_back = λ expander current source tree derives same can.
+  reads_back = λ expander current source tree derives same fine.
       subst (λ (s : Shape). ReadsBack expander current s indentation bytes) same
       (subst (λ (b : List ℕ). ReadsBack expander current (shape_of tree) indentation b)
       (ap (λ s. printed s indentation) same ∙ sym e)
-      (back expander current source tree indentation is derives (ap printable same ∙ can)));
-  apart = λ expander current source other tree twin derives same can twins twin_can alike.
-      sym (apart expander current source other tree twin indentation is derives twins (ap printable same ∙ can) twin_can (ap (λ s. printed s indentation) same ∙ sym e ∙ sym alike)) ∙ ap normal same;
+      (back expander current source tree indentation is derives (ap printable same ∙ fine)));
+  apart = λ expander current source other tree twin derives same fine twins fine_too alike.
+      sym (apart expander current source other tree twin indentation is derives twins (ap printable same ∙ fine) fine_too
+      (ap (λ s. printed s indentation) same ∙ sym e ∙ sym alike)) ∙ ap normal same;
 }

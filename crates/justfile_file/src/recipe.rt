@@ -19,7 +19,7 @@ pub struct UnresolvedRecipe<'src> {
     pub body: Vec<Line<'src>>,
     /// How many files include the one that this stands in.
     pub file_depth: u32,
-    /// In each file that includes the one that this stands in, where it does so.
+    /// The offsets of the imports that lead to its file, the outermost first.
     pub import_offsets: Vec<usize>,
     pub name: Name<'src>,
     pub number: Number,

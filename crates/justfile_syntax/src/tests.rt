@@ -1,7 +1,12 @@
+mod bodies;
+mod carriage_returns;
 mod files;
 mod lexer;
 mod line;
 mod names;
+mod prefixes;
 mod reading;
+mod recipes;
+mod refusals;
 mod support;
 mod texts;

@@ -1,4 +1,7 @@
 //! What the program answers, with ample memory, and with a reader and a writer that fail.
+
+mod build;
+
 use crate::run::run;
 use std::io::{self, ErrorKind, Read, Write};
 use std::process::Abort;
@@ -97,6 +100,30 @@ fn formatted(rt: HostRuntime) -> Result<(), Fail> {
 }
 
 #[test]
+fn recipes_formatted(rt: HostRuntime) -> Result<(), Fail> {
+    formats(
+        &rt,
+        "hello:\n  Write-Host \"Hello, world!\"\n",
+        "hello:\n    Write-Host \"Hello, world!\"\n",
+    )?;
+    formats(&rt, "foo:\r\n\ta\r\n", "foo:\n    a\n")?;
+    formats(&rt, "foo:\n  a\n\n  \r \n", "foo:\n    a\n\n    \r \n")?;
+    formats(&rt, "foo: # dropped\n  bar\n", "foo:\n    bar\n")?;
+    formats(&rt, "a:\n foo\n \n \n \nb:\n  ", "a:\n    foo\n\nb:\n")?;
+    formats(&rt, "foo:\n  a{{x}}b{{{{c\n", "foo:\n    a{{ x }}b{{{{c\n")?;
+    formats(&rt, "#x\nfoo: # c\n", "#x\nfoo: # c\n")
+}
+
+#[test]
+fn not_printable(rt: HostRuntime) -> Result<(), Fail> {
+    const LINE: &str = "error: a body line ends in a carriage return\n";
+    fails(&rt, "", b"foo:\n  echo a\r\r\n", 2, LINE)?;
+    fails(&rt, "--check", b"foo:\n  echo a\r\r\n", 2, LINE)?;
+    fails(&rt, "", b"foo:\n  a\r", 2, LINE)?;
+    fails(&rt, "", b"a:=b\nfoo:\n  {{a}}\r\r\n  b\n", 2, LINE)
+}
+
+#[test]
 fn checked(rt: HostRuntime) -> Result<(), Fail> {
     fails(&rt, "--check", b"a := b\n", 0, "")?;
     fails(&rt, "--check", b"a:=b", 1, "")
@@ -109,6 +136,10 @@ fn refused(rt: HostRuntime) -> Result<(), Fail> {
     fails(&rt, "", b"a := \\\rb", 2, "error: refused\n")?;
     fails(&rt, "", b"a := assert\n", 2, "error: refused\n")?;
     fails(&rt, "", b"a := \"\\n\"\n", 2, "error: refused\n")?;
+    fails(&rt, "", b"  foo:\n    a\n", 2, "error: refused\n")?;
+    fails(&rt, "", b"foo:\n  {{}}\n", 2, "error: refused\n")?;
+    fails(&rt, "", b"foo:\n  {{x\n", 2, "error: refused\n")?;
+    fails(&rt, "", b"foo:\n  a\n\n  \r \nb:\n", 2, "error: refused\n")?;
     fails(&rt, "--check", b"a :=\n", 2, "error: refused\n")
 }
 

@@ -1,70 +1,15 @@
 //! That parsing, copying and printing succeed where there is memory, and what they answer.
 
-use crate::ast::Ast;
-use crate::expression::Expression;
-use crate::fault::{CompileResult, Fault};
+use crate::fault::Fault;
 use crate::indentation::Indentation;
 use crate::item::Item;
 use crate::lexer::Lexer;
 use crate::numerator::{Number, Numerator};
-use crate::parser::{Parser, significant};
-use crate::source::Source;
-use crate::tests::support::{CURRENT, Unchanged};
+use crate::parser::significant;
+use crate::tests::support::{compare_items, parse, parsed, shown};
 use crate::token_kind::TokenKind;
-use std::alloc::Global;
 use std::process::Abort;
 use std::test::Fail;
-
-/// The file that a text is, which takes its numbers from the numerator.
-fn parse<'src>(
-    alloc: Global,
-    numerator: &mut Numerator,
-    text: &'src str,
-) -> CompileResult<'src, Ast<'src>> {
-    let source = Source {
-        file_depth: 2,
-        import_offsets: &[],
-        namepath: None,
-        working_directory: "/home",
-    };
-    Parser::parse_source(
-        alloc, numerator, "justfile", &source, text, &Unchanged, CURRENT,
-    )
-}
-
-/// The same, for a text that is a file.
-fn parsed<'src>(alloc: Global, first: u32, text: &'src str) -> Result<Ast<'src>, Fail> {
-    let mut numerator = Numerator::new(first);
-    match parse(alloc, &mut numerator, text) {
-        Ok(ast) => Ok(ast),
-        Err(Fault::Compile(_)) => Err(Fail::from("refused")),
-        Err(Fault::Memory) => Err(Fail::from("no memory")),
-        Err(Fault::Numbers) => Err(Fail::from("no numbers")),
-    }
-}
-
-/// What is seen of an item, in a line.
-fn shown(alloc: Global, item: &Item<'_>) -> Result<String, Fail> {
-    Ok(match item {
-        Item::Assignment(assignment) => {
-            let name = assignment.name;
-            let number = assignment.number.0;
-            let file_depth = assignment.file_depth;
-            let private = assignment.private;
-            match &assignment.value {
-                Expression::StringLiteral { string_literal } => {
-                    let cooked = string_literal.cooked.as_str();
-                    format!(in alloc; "{name} {number} {file_depth} {private} text {cooked:?}")?
-                }
-                Expression::Variable { name: variable, .. } => {
-                    format!(in alloc; "{name} {number} {file_depth} {private} name {variable}")?
-                }
-            }
-        }
-        Item::Comment(text) => format!(in alloc; "comment {text:?}")?,
-        Item::Newline => "newline".to_string(alloc)?,
-    })
-}
 
 #[test]
 fn items(rt: HostRuntime) -> Result<(), Fail> {
@@ -79,10 +24,7 @@ fn items(rt: HostRuntime) -> Result<(), Fail> {
         "newline",
     ];
     let ast = parsed(rt.alloc(), 7, "# top \na  :=  'x \\y'  # c  \n\n_b:=a\n")?;
-    assert_eq!(rt; ast.items.len(), ROWS.len());
-    for (item, row) in ast.items.iter().zip(ROWS) {
-        assert_eq!(rt; shown(rt.alloc(), item)?.as_str(), *row);
-    }
+    compare_items(&rt, rt.alloc(), &ast, ROWS)?;
     assert_eq!(rt; ast.working_directory.as_str(), "/home");
     assert!(rt; ast.unstable_features.is_empty());
     assert!(rt; ast.printable());
@@ -153,30 +95,5 @@ fn numbers(rt: HostRuntime) -> Result<(), Fail> {
     assert!(rt; matches!(parse(rt.alloc(), &mut numerator, "# a\n"), Ok(_)));
     assert_eq!(rt; numerator.next_binding(), None);
     assert_eq!(rt; numerator.next_recipe(), Some(Number(0)));
-    Ok(())
-}
-
-#[test]
-fn refusals(rt: HostRuntime) -> Result<(), Fail> {
-    const ROWS: &[(&str, usize)] = &[
-        ("a :=", 4),
-        ("a := if\n", 5),
-        ("a := assert\n", 5),
-        ("a := f 'x'\n", 7),
-        ("a := x'y'\n", 6),
-        ("a := '''x'''\n", 5),
-        ("a := \"\\n\"\n", 5),
-        ("  a := b\n", 0),
-        ("a\r:= b\n", 1),
-    ];
-    for (text, offset) in ROWS {
-        let mut numerator = Numerator::new(0);
-        let answer = parse(rt.alloc(), &mut numerator, text);
-        let refused = match &answer {
-            Err(Fault::Compile(error)) => Some(error.token.offset),
-            _ => None,
-        };
-        assert_eq!(rt; refused, Some(*offset), "{text:?}");
-    }
     Ok(())
 }

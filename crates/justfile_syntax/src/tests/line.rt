@@ -1,54 +1,17 @@
 //! What lines of bodies are, and their sigils.
 
-use crate::expression::Expression;
-use crate::fault::Fault;
-use crate::fragment::Fragment;
-use crate::lexer::Lexer;
 use crate::line::Line;
-use crate::name::Name;
 use crate::sigil::Sigil;
-use crate::token::Token;
-use crate::token_kind::TokenKind;
+use crate::tests::support::{first_recipe, parsed};
 use std::alloc::Global;
 use std::process::Abort;
 use std::test::Fail;
 
-/// The fragment that a token of a body line is, or an interpolation of the name that it is.
-fn fragment<'src>(token: Token<'src>) -> Option<Fragment<'src>> {
-    match token.kind {
-        TokenKind::Text => Some(Fragment::Text { token }),
-        TokenKind::Identifier => Some(Fragment::Interpolation {
-            expression: Expression::Variable {
-                name: Name::from_identifier(token),
-                number: None,
-            },
-        }),
-        _ => None,
-    }
-}
-
-/// The line behind the header of a recipe. Its interpolations are names.
-fn body_line<'src>(alloc: Global, text: &'src str) -> Result<Line<'src>, Fail> {
-    let tokens = match Lexer::lex(alloc, "justfile", text) {
-        Ok(tokens) => tokens,
-        Err(Fault::Compile(error)) => {
-            let kind = &error.kind;
-            return Err(Fail::from(format!(in alloc; "refused: {kind:?}")?));
-        }
-        Err(fault) => return Err(Fail::from(fault)),
-    };
-    let mut fragments = Vec::new(alloc);
-    for token in &tokens {
-        if token.line == 1 {
-            if let Some(part) = fragment(*token) {
-                fragments.push(part)?;
-            }
-        }
-    }
-    Ok(Line {
-        fragments,
-        number: 1,
-    })
+/// A line of the first recipe's body, counted from 0.
+fn body_line<'src>(alloc: Global, text: &'src str, at: usize) -> Result<Line<'src>, Fail> {
+    let ast = parsed(alloc, 0, text)?;
+    let line = first_recipe(&ast)?.body.get(at).ok_or("no line")?;
+    Ok(line.clone(alloc)?)
 }
 
 #[test]
@@ -76,7 +39,7 @@ fn sigils(rt: HostRuntime) -> Result<(), Fail> {
     ];
     let alloc = rt.alloc();
     for (text, guards, expected) in ROWS {
-        let line = body_line(alloc, text)?;
+        let line = body_line(alloc, text, 0)?;
         let mut found = Vec::new(alloc);
         for sigil in &line.sigils(alloc, *guards)? {
             found.push(*sigil)?;
@@ -90,41 +53,45 @@ fn sigils(rt: HostRuntime) -> Result<(), Fail> {
     Ok(())
 }
 
-/// Sees that a line answers so: whether it is a comment, is a shebang, is a continuation, is empty.
+/// Sees that a line of a body answers so: whether it is a comment, is a shebang, is a
+/// continuation, is empty.
 fn compare(
     rt: &impl Abort,
     alloc: Global,
-    text: &str,
+    (text, at): (&str, usize),
     expected: (bool, bool, bool, bool),
 ) -> Result<(), Fail> {
-    let line = body_line(alloc, text)?.clone(alloc)?;
+    let line = body_line(alloc, text, at)?;
     let found = (
         line.is_comment(),
         line.is_shebang(),
         line.is_continuation(),
         line.is_empty(),
     );
-    assert_eq!(rt; found, expected, "answers for {text:?}");
-    assert_eq!(rt; line.number, 1);
+    assert_eq!(rt; found, expected, "answers for line {at} of {text:?}");
+    assert_eq!(rt; Some(line.number), at.checked_add(1));
     Ok(())
 }
 
 #[test]
 fn questions(rt: HostRuntime) -> Result<(), Fail> {
-    const ROWS: &[(&str, (bool, bool, bool, bool))] = &[
-        ("foo:\n  a\n", (false, false, false, false)),
-        ("foo:\n  # a\n", (true, false, false, false)),
-        ("foo:\n  #!/bin/sh\n", (true, true, false, false)),
-        ("foo:\n  a \\\n", (false, false, true, false)),
-        ("foo:\n  #\\\n", (true, false, true, false)),
-        ("foo:\n  #{{x}}\n", (true, false, false, false)),
-        ("foo:\n  #{{x}}\\\n", (true, false, true, false)),
-        ("foo:\n  {{x}}#!\n", (false, false, false, false)),
-        ("foo:\n  \\{{x}}\n", (false, false, false, false)),
-        ("foo:\n\n  a\n", (false, false, false, true)),
+    const ROWS: &[((&str, usize), (bool, bool, bool, bool))] = &[
+        (("foo:\n  a\n", 0), (false, false, false, false)),
+        (("foo:\n  # a\n", 0), (true, false, false, false)),
+        (("foo:\n  #!/bin/sh\n", 0), (true, true, false, false)),
+        (("foo:\n  a\n  #!b\n", 1), (true, true, false, false)),
+        (("foo:\n  a\n   #!b\n", 1), (false, false, false, false)),
+        (("foo:\n  a \\\n", 0), (false, false, true, false)),
+        (("foo:\n  a \\ \n", 0), (false, false, false, false)),
+        (("foo:\n  #\\\n", 0), (true, false, true, false)),
+        (("foo:\n  #{{x}}\n", 0), (true, false, false, false)),
+        (("foo:\n  #{{x}}\\\n", 0), (true, false, true, false)),
+        (("foo:\n  {{x}}#!\n", 0), (false, false, false, false)),
+        (("foo:\n  \\{{x}}\n", 0), (false, false, false, false)),
+        (("foo:\n  a\n\n  b\n", 1), (false, false, false, true)),
     ];
-    for (text, expected) in ROWS {
-        compare(&rt, rt.alloc(), text, *expected)?;
+    for (place, expected) in ROWS {
+        compare(&rt, rt.alloc(), *place, *expected)?;
     }
     Ok(())
 }

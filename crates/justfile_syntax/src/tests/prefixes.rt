@@ -1,0 +1,105 @@
+//! That each beginning of a file is answered, and settles once it is printed.
+
+use crate::ast::Ast;
+use crate::compile_error_kind::CompileErrorKind;
+use crate::fault::Fault;
+use crate::indentation::Indentation;
+use crate::numerator::Numerator;
+use crate::tests::support::{parse, parsed};
+use std::alloc::Global;
+use std::process::Abort;
+use std::test::Fail;
+
+/// Files that stand one behind the other. The beginnings of all are files or refused.
+const TEXTS: &[&str] = &[
+    "# a\rb\n",
+    "# a\r\r\nfoo:\n",
+    "a := 'x\ry'\n",
+    "a := \\\nb\n",
+    "a := \\\n  b\n",
+    "hello:\n  Write-Host \"Hello, world!\"\n",
+    "foo:\n\ta\n\t  b\n",
+    "foo:\r\n\ta\r\n",
+    "a:\n foo\n \n \n \nb:\n  ",
+    "foo: # dropped\n  bar\n",
+    "foo:\n  a{{x}}b{{{{c\n",
+    "#x\nfoo:\n",
+    "foo: # c\n",
+    "a:=b#c\n\n\n",
+    "foo:\n  @-echo\n\n  -?@x\n     \n  \\\n   é{{'x\n  y'}}\n",
+    "foo:\n  \rx\n",
+    "foo:\n  a\r{{b}}\n",
+    "foo:\n  #!/bin/sh\n  {{\r\n  \"a\"\n}}{{b}}}}\n\n\n\nb := c # d \n",
+    "foo:\n  a\n\n  \r \n",
+];
+
+/// Files of which lines end in a carriage return, and texts that are refused.
+const OTHERS: &[&str] = &[
+    "foo:\n  echo a\r\r\n  b\n",
+    "foo:\n  a\r",
+    "foo:\n  a\n\n  \r \nb:\n",
+    "foo:\n  {{a\r}}\n",
+    "a\r:= b\n",
+    "foo: bar\n  a\n",
+    "foo:\n  {{}}\n",
+    "  foo:\n    a\n",
+];
+
+/// Sees that what is printed of a file at an indentation is a file that prints as itself.
+fn settles(rt: &impl Abort, alloc: Global, ast: &Ast<'_>, indentation: &str) -> Result<(), Fail> {
+    let indentation = indentation.parse::<Indentation>()?;
+    let printed = ast.print(alloc, indentation)?;
+    let again = parsed(alloc, 0, printed.as_str())?;
+    assert!(rt; again.printable(), "{printed:?}");
+    assert_eq!(rt; again.print(alloc, indentation)?.as_str(), printed.as_str());
+    Ok(())
+}
+
+/// Sees that a text is answered, and that it settles if it is a file. Answers whether it is one.
+fn is_answered(rt: &impl Abort, alloc: Global, text: &str) -> Result<bool, Fail> {
+    let mut numerator = Numerator::new(0);
+    match parse(alloc, &mut numerator, text) {
+        Ok(ast) => {
+            if ast.printable() {
+                settles(rt, alloc, &ast, "    ")?;
+                settles(rt, alloc, &ast, "  ")?;
+                settles(rt, alloc, &ast, "\t")?;
+            }
+            Ok(true)
+        }
+        Err(Fault::Compile(error)) => {
+            assert!(rt;
+                !matches!(error.kind, CompileErrorKind::Internal { .. }),
+                "{text:?}"
+            );
+            Ok(false)
+        }
+        Err(fault) => Err(Fail::from(fault)),
+    }
+}
+
+/// Sees that all beginnings of a text are answered. Answers whether the whole text is a file.
+fn are_answered(rt: &impl Abort, alloc: Global, text: &str) -> Result<bool, Fail> {
+    let mut beginning = String::new(alloc);
+    let mut is_file = is_answered(rt, alloc, "")?;
+    for character in text.chars() {
+        beginning.push(character)?;
+        is_file = is_answered(rt, alloc, beginning.as_str())?;
+    }
+    Ok(is_file)
+}
+
+#[test]
+fn beginnings_of_a_file_are_answered_and_settle(rt: HostRuntime) -> Result<(), Fail> {
+    let joined = TEXTS.concat(rt.alloc())?;
+    assert!(rt; are_answered(&rt, rt.alloc(), joined.as_str())?);
+    Ok(())
+}
+
+#[test]
+fn beginnings_of_other_texts_are_answered(rt: HostRuntime) -> Result<(), Fail> {
+    for text in OTHERS {
+        are_answered(&rt, rt.alloc(), text)?;
+    }
+    Ok(())
+}
