@@ -91,9 +91,19 @@ module _ {X : Type 0} (answer : X → List ℕ → Result (List ℕ) (List ℕ))
           least = omega (arith, so_far.least);
           recipes_least = omega (arith, so_far.recipes_least, recipes_least);
           most =
-              omega
-              (arith, so_far.most, given.counted, so_far.given.counted, given.recipes_counted, so_far.given.recipes_counted, ap bindings t.2, ap recipes t.2, bindings_append (map item_of done) t.0,
-              recipes_append (map item_of done) t.0, counts);
+              omega (
+                arith,
+                so_far.most,
+                given.counted,
+                so_far.given.counted,
+                given.recipes_counted,
+                so_far.given.recipes_counted,
+                ap bindings t.2,
+                ap recipes t.2,
+                bindings_append (map item_of done) t.0,
+                recipes_append (map item_of done) t.0,
+                counts,
+              );
           constants = constants ∙ so_far.constants;
         }
 

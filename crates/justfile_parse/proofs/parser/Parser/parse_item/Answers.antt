@@ -5,9 +5,13 @@ use Rattle.justfile_parse.proofs.parser.Parser.parse_item.Goals as goal
 
 pub returns-then-next_are-clause-most : goal.returns-then-next_are-clause-most
 returns-then-next_are-clause-most g c =
-    omega
-    (arith, c.in_ok-assignment.ensures.counted, c.in_ok-assignment.ensures.recipes, assignment_bindings _ _ _ c.in_ok-assignment.ensures.value,
-    ap identifiers c.in_default.ensures.same_rest)
+    omega (
+      arith,
+      c.in_ok-assignment.ensures.counted,
+      c.in_ok-assignment.ensures.recipes,
+      assignment_bindings _ _ _ c.in_ok-assignment.ensures.value,
+      ap identifiers c.in_default.ensures.same_rest,
+    )
 
 pub returns-clause-most : goal.returns-clause-most
 returns-clause-most g c =
