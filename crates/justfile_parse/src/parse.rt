@@ -24,7 +24,7 @@ impl<'src, X: Expander> Parser<'_, 'src, X> {
     ///
     /// `Compile` if the tokens are no file, at one of them; `Numbers` if more numbers of bindings or
     /// of recipes are wanted than there are; `Memory` if memory is wanting. The numerator's counters have then
-    /// moved up by no more than the number of identifiers.
+    /// moved up, together by no more than the number of identifiers.
     pub fn parse(
         alloc: Global,
         file_depth: u32,
