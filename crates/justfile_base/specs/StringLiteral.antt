@@ -13,10 +13,13 @@ begins_format_string (Some End) = false
 begins_format_string (Some Single) = true
 begins_format_string (Some Start) = true
 
--- the marks before the opening quote: x if the text is expanded, f where a format string begins
+-- f where a format string begins
+abbrev pub format_mark : StringLiteral → List ℕ
+format_mark literal = if begins_format_string literal.part then codes "f" else []
+
+-- the marks before the opening quote: x if the text is expanded, then that of a format string
 abbrev pub literal_marks : StringLiteral → List ℕ
-literal_marks literal =
-    (if literal.expand then codes "x" else []) ++ (if begins_format_string literal.part then codes "f" else [])
+literal_marks literal = (if literal.expand then codes "x" else []) ++ format_mark literal
 
 abbrev pub literal_text : StringLiteral → List ℕ
 literal_text literal = literal_marks literal ++ lexeme_of literal.token

@@ -4,6 +4,8 @@ use crate::token_kind::TokenKind;
 /// Why a text is refused.
 #[derive(Debug, Drop)]
 pub enum CompileErrorKind<'src> {
+    /// A command between backticks that begins with `#!`.
+    BacktickShebang,
     EscapeEndOfFile,
     InconsistentLeadingWhitespace {
         expected: &'src str,
@@ -26,6 +28,10 @@ pub enum CompileErrorKind<'src> {
     },
     /// Too many expressions are open.
     ParsingRecursionDepthExceeded,
+    /// The text of a literal that is marked `x` is not expanded, for the reason that is given.
+    ShellExpansion {
+        err: String,
+    },
     UnexpectedCharacter {
         expected: Vec<char>,
     },
@@ -40,6 +46,20 @@ pub enum CompileErrorKind<'src> {
         expected: Vec<TokenKind>,
         found: TokenKind,
     },
+    UnicodeEscapeCharacter {
+        character: char,
+    },
+    UnicodeEscapeDelimiter {
+        character: char,
+    },
+    UnicodeEscapeEmpty,
+    UnicodeEscapeLength {
+        hex: String,
+    },
+    UnicodeEscapeRange {
+        hex: String,
+    },
+    UnicodeEscapeUnterminated,
     UnknownStartOfToken {
         start: char,
     },

@@ -21,7 +21,7 @@ pub struct StringLiteral<'src> {
 }
 
 impl<'src> StringLiteral<'src> {
-    ghost use Rattle.justfile_base.specs.StringLiteral.{IsSameLiteral, literal_marks};
+    ghost use Rattle.justfile_base.specs.StringLiteral.{IsSameLiteral, begins_format_string, format_mark, literal_marks};
 
     /// The same literal once more.
     pub fn clone(&self, alloc: Global) -> Result<Self, AllocError>
@@ -40,16 +40,28 @@ impl<'src> StringLiteral<'src> {
     pub fn marks(&self) -> &'static str
         ensures { result.now ≡ literal_marks self.now }
     {
-        let begins_format_string = matches!(
-            self.part,
-            Some(FormatStringPart::Start | FormatStringPart::Single)
-        );
-        match (self.expand, begins_format_string) {
+        match (self.expand, self.begins_format_string()) {
             (true, true) => "xf",
             (true, false) => "x",
             (false, true) => "f",
             (false, false) => "",
         }
+    }
+
+    /// The mark of a format string, if it begins one.
+    pub fn format_mark(&self) -> &'static str
+        ensures { result.now ≡ format_mark self.now }
+    {
+        if self.begins_format_string() { "f" } else { "" }
+    }
+
+    fn begins_format_string(&self) -> bool
+        ensures { result ≡ begins_format_string self.now.part }
+    {
+        matches!(
+            self.part,
+            Some(FormatStringPart::Start | FormatStringPart::Single)
+        )
     }
 }
 

@@ -13,7 +13,7 @@ line_back glued [] ts h = g.line_ends refl
 line_back glued (Text t ∷ []) ts h = g.text refl (line_back true [] ts tt)
 line_back glued (Text t ∷ Text u ∷ fs) ts h = absurd h
 line_back glued (Text t ∷ Interpolation e ∷ fs) ts h = g.text refl (line_back true (Interpolation e ∷ fs) ts h.2)
-line_back glued (Interpolation e ∷ fs) ts h = g.interpolation refl (h.0.derives.derives false _) refl (line_back true fs ts h.1)
+line_back glued (Interpolation e ∷ fs) ts h = g.interpolation refl (h.0.derives.derives false _ refl) refl (line_back true fs ts h.1)
 
 -- a line that begins with a fragment begins with a token
 begun : {f : Fragment} {fs : List Fragment} {ls : List Row} {tokens between rest : Tokens} → LineOf (f ∷ fs) tokens between → LinesOf ls between rest → LinesOf (Line tt (f ∷ fs) ∷ ls) tokens rest

@@ -141,7 +141,9 @@ module _ (P : Outline → Type 0) (keep : (k : TokenKind) (l : List ℕ) (s : Ou
 
   walk : {depth : ℕ} {e : Value} {tokens rest : Tokens} → Expression lexeme nothing Limited depth e tokens rest → Walked P tokens → Walked P rest
   walk (g.value _ (g.literal {token} {rest} k)) w = quiet_walk kinds.StringToken token rest k refl w
-  walk (g.value _ (g.variable {name} {rest} k _ _)) w = quiet_walk kinds.Identifier name rest k refl w
+  walk (g.value _ (g.expanded {mark} {token} {rest} k)) w = quiet_walk kinds.StringToken token rest k.is_string refl (quiet_walk kinds.Identifier mark (token ∷ rest) k.marked.is_name refl w)
+  walk (g.value _ (g.backtick {token} {rest} k)) w = quiet_walk kinds.Backtick token rest k refl w
+  walk (g.value _ (g.variable {name} {rest} k _ _ _)) w = quiet_walk kinds.Identifier name rest k refl w
 
 -- in an interpolation
 walk_inside : {depth : ℕ} {e : Value} {tokens rest : Tokens} (colon : Bool) → Expression lexeme nothing Limited depth e tokens rest → BodySound (interpolating colon) tokens → BodySound (interpolating colon) rest

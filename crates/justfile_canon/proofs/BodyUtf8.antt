@@ -19,6 +19,11 @@ pub newline_utf8 : IsUtf8 (10 ∷ [])
 unfolding encode
 newline_utf8 = (10 ∷ [], (refl, refl))
 
+-- before a literal that is expanded
+pub mark_utf8 : IsUtf8 (120 ∷ [])
+unfolding encode
+mark_utf8 = (120 ∷ [], (refl, refl))
+
 opened_utf8 : IsUtf8 (123 ∷ 123 ∷ 32 ∷ [])
 unfolding encode
 opened_utf8 = (123 ∷ 123 ∷ 32 ∷ [], (refl, refl))

@@ -1,9 +1,9 @@
 -- What the printer means: the printed text before more, and its tokens before more.
-use Rattle.std.proofs.Common.{◌≡◌, ℕ, List, [], ◌∷◌, ◌++◌, refl, ap, ◌∙◌, append_assoc}
+use Rattle.std.proofs.Common.{◌≡◌, ℕ, true, false, List, [], ◌∷◌, ◌++◌, refl, ap, ◌∙◌, append_assoc}
 use Rattle.std.specs.List.{flat_map}
 use Rattle.justfile_base.specs.declared.token_kind.TokenKind.TheVariants as kinds
 use Rattle.justfile_model.specs.Tree as tree
-use Rattle.justfile_model.specs.Tree.{Expr, StringLiteral, Variable, Text, Interpolation, BodyLine, Line, Item, Assignment, Comment, Newline, Recipe, Shape}
+use Rattle.justfile_model.specs.Tree.{Expr, StringLiteral, Backtick, Variable, Text, Interpolation, BodyLine, Line, Item, Assignment, Comment, Newline, Recipe, Shape}
 use Rattle.justfile_model.specs.Printing.{piece, expr_text, fragment_text, line_text, body_text, item_text, item_end, text}
 use Rattle.justfile_canon.proofs.Reading.{Mark, mark}
 
@@ -30,11 +30,15 @@ abbrev pub colon : Mark
 colon = mark kinds.Colon (58 ∷ [])
 
 abbrev pub expr_on : Value → List ℕ → List ℕ
-expr_on (StringLiteral lexeme) more = lexeme ++ more
+expr_on (StringLiteral true lexeme) more = 120 ∷ (lexeme ++ more)
+expr_on (StringLiteral false lexeme) more = lexeme ++ more
+expr_on (Backtick lexeme) more = lexeme ++ more
 expr_on (Variable name) more = name ++ more
 
 abbrev pub expr_marks : Value → List Mark → List Mark
-expr_marks (StringLiteral lexeme) ts = mark kinds.StringToken lexeme ∷ ts
+expr_marks (StringLiteral true lexeme) ts = mark kinds.Identifier (120 ∷ []) ∷ mark kinds.StringToken lexeme ∷ ts
+expr_marks (StringLiteral false lexeme) ts = mark kinds.StringToken lexeme ∷ ts
+expr_marks (Backtick lexeme) ts = mark kinds.Backtick lexeme ∷ ts
 expr_marks (Variable name) ts = mark kinds.Identifier name ∷ ts
 
 -- ---- bodies
@@ -130,7 +134,10 @@ marks ind (i ∷ items) = item_marks i (end_marks i items (marks ind items))
 -- ---- the text of the definitions is this text
 
 pub expr_is : (e : Value) (more : List ℕ) → expr_text e ++ more ≡ expr_on e more
-expr_is (StringLiteral l) more = refl
+unfolding piece
+expr_is (StringLiteral true l) more = refl
+expr_is (StringLiteral false l) more = refl
+expr_is (Backtick l) more = refl
 expr_is (Variable n) more = refl
 
 fragment_is : (f : Fragment) (more : List ℕ) → fragment_text f ++ more ≡ fragment_on f more

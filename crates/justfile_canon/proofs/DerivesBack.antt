@@ -1,5 +1,5 @@
 -- The tokens of a good shape derive it, and its text is UTF-8.
-use Rattle.std.proofs.Common.{ℕ, Bool, true, false, List, [], ◌∷◌, ◌++◌, refl, sym, subst}
+use Rattle.std.proofs.Common.{◌≡◌, ℕ, Bool, true, false, List, [], ◌∷◌, ◌++◌, refl, sym, subst}
 use Rattle.std.specs.Str.{IsUtf8}
 use Rattle.std.proofs.lemmas.Str.{IsUtf8-nil, IsUtf8-append}
 use Rattle.std.proofs.Math.Utf8.{encode}
@@ -12,7 +12,7 @@ use Rattle.justfile_model.specs.Grammar.{Limited, Items, LineEnd, OnLine, Block,
 use Rattle.justfile_canon.proofs.Reading.{Mark, mark}
 use Rattle.justfile_canon.proofs.Canon.{Value, Row, Entry, space, newline, body_marks, item_on, item_marks, end_on, end_marks, text_on, marks}
 use Rattle.justfile_canon.proofs.Good as good
-use Rattle.justfile_canon.proofs.Good.{significant, GoodName, GoodExpression, GoodComment, GoodRecipe, AtStart, AtEnd, BehindBody}
+use Rattle.justfile_canon.proofs.Good.{significant, ends_value, GoodName, GoodExpression, GoodComment, GoodRecipe, AtStart, AtEnd, BehindBody}
 use Rattle.justfile_canon.proofs.BodyLines.{IsLevel}
 use Rattle.justfile_canon.proofs.BodyDerives.{body_back}
 use Rattle.justfile_canon.proofs.BodyUtf8.{newline_utf8, value_utf8, body_utf8}
@@ -46,11 +46,17 @@ block_back ind name (tree.Line n fs) ls glued on h =
     (g.recipe {lines = body} refl refl (g.at_once refl refl) (body_back ind n fs ls on h.good) (subst NotEmpty (sym h.ended) tt))
 
 module _ (ind : List ℕ) where
+  -- behind the value of an assignment nothing goes on with it
+  value_ends : (name : List ℕ) (value : Value) (items : Shape) → good.Behind items → ends_value (end_marks (tree.Assignment name value) items (marks ind items)) ≡ true
+  value_ends name value [] h = refl
+  value_ends name value (tree.Newline ∷ items) h = refl
+  value_ends name value (_ ∷ items) h = refl
+
   mutual
     pub derive_start : (items : Shape) → AtStart items → (glued : Bool) → Derived items (significant glued (marks ind items))
     derive_start [] h glued = g.end refl
     derive_start (tree.Newline ∷ items) h glued = g.blank refl (derive_start items h true)
-    derive_start (tree.Assignment name value ∷ items) h glued = g.item (g.assignment refl refl (h.1.derives.derives false (end_marks (tree.Assignment name value) items (marks ind items)))) (derive_behind name value items h.2)
+    derive_start (tree.Assignment name value ∷ items) h glued = g.item (g.assignment refl refl (h.1.derives.derives false (end_marks (tree.Assignment name value) items (marks ind items)) (value_ends name value items h.2))) (derive_behind name value items h.2)
     derive_start (tree.Comment t ∷ items) h glued = g.item (comment_back t glued (end_marks (tree.Comment t) items (marks ind items)) h.0) (g.bare (derive_end t items h.1))
     derive_start (tree.Recipe name [] ∷ items) h glued = g.item (g.header refl refl) (derive_bare name items h.1)
     derive_start (tree.Recipe name (l ∷ ls) ∷ []) h glued = absurd h.1

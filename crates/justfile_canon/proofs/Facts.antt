@@ -14,7 +14,7 @@ use Rattle.justfile_base.specs.declared.string_kind.StringKind.{StringKind}
 use Rattle.justfile_base.specs.declared.token_kind.TokenKind.{TokenKind}
 use Rattle.justfile_base.specs.declared.token_kind.TokenKind.TheVariants as kinds
 use Rattle.justfile_base.specs.ByteClass.{class_of}
-use Rattle.justfile_base.specs.StringKind.{delimiter_len, kind_of, token_kind_of}
+use Rattle.justfile_base.specs.StringKind.{delimiter_len, is_quote, kind_of, token_kind_of}
 use Rattle.justfile_model.specs.declared.open_delimiter.OpenDelimiter.{OpenDelimiter}
 use Rattle.justfile_model.specs.declared.raw_text.RawText.TheVariants as raw_texts
 use Rattle.justfile_model.specs.Bytes.{in_word, word_len, is_line_end, is_interpolation_start, is_interpolation_end, is_mixed, closes_levels, first_char}
@@ -25,9 +25,10 @@ use Rattle.justfile_model.specs.Modes.{Mode, is_empty, innermost, nested}
 use Rattle.justfile_model.specs.Next.{Found, twice, fixed, opening, literal_part, literal, is_backtick, is_same, close, brace_by, closing, line_end, escape, inline, normal, text_or, body, at_end_by, Region, InText, InInterpolation, Inline, token_in_region, inside, blanks_or, tested_blanks, is_level, layout, is_blank_line, next_by, next}
 use Rattle.justfile_model.proofs.CutLemmas.{raw_stops, raw_within}
 use Rattle.justfile_canon.proofs.Reading.{take_front, drop_front}
-use Rattle.justfile_canon.proofs.Inline.{Each, IsName, delimiter_of, delimiter_length, assoc3, length3}
-use Rattle.justfile_canon.proofs.Good.{IsString}
-use Rattle.justfile_canon.proofs.Literals.{delimiter_front, delimiter_there, stable, agrees, same_opening}
+use Rattle.justfile_canon.proofs.Inline.{Each, IsName, delimiter_of, delimiter_length, assoc3, length3, literal_again, quote_is}
+use Rattle.justfile_canon.proofs.Good.{IsDelimited, IsString, IsCommand}
+use Rattle.justfile_canon.proofs.LiteralModes.{whole_ends}
+use Rattle.justfile_canon.proofs.Literals.{delimiter_front, delimiter_there, stable, same_opening}
 
 -- a comment, up to the end of its line
 pub record WasComment (l behind : List ℕ) : Type 0 where
@@ -39,6 +40,7 @@ pub record WasComment (l behind : List ℕ) : Type 0 where
 abbrev pub Fact : TokenKind → (l behind : List ℕ) → Type 0
 Fact kinds.Identifier l behind = IsName l
 Fact kinds.StringToken l behind = IsString l
+Fact kinds.Backtick l behind = IsCommand l
 Fact kinds.Comment l behind = WasComment l behind
 Fact _ l behind = Unit {0}
 
@@ -110,10 +112,10 @@ module _ (k : StringKind) (format : Bool) (rest : List ℕ) where
   within : ℕ
   within = raw_len (raw_texts.Literal k format) after
 
-  string_fact : kind_of rest ≡ k → is_delimiter k rest ≡ true → eqb within (length after) ≡ false → (format && is_interpolation_start (drop within after)) ≡ false → token_kind_of k.delimiter ≡ kinds.StringToken
-      → (l behind : List ℕ) → rest ≡ l ++ behind → delimiter_len k + within + delimiter_len k ≡ length l → IsString l
+  literal_fact : kind_of rest ≡ k → is_delimiter k rest ≡ true → eqb within (length after) ≡ false → (format && is_interpolation_start (drop within after)) ≡ false → (l behind : List ℕ)
+      → rest ≡ l ++ behind → delimiter_len k + within + delimiter_len k ≡ length l → IsDelimited (token_kind_of k.delimiter) l
   unfolding after within
-  string_fact is_kind opened unfinished no_start string l behind split len =
+  literal_fact is_kind opened unfinished no_start l behind split len =
       let inner : List ℕ = take within after in
       let tail : List ℕ = drop (delimiter_len k) (drop within after) in
       let fits = raw_within (raw_texts.Literal k format) after in
@@ -125,21 +127,20 @@ module _ (k : StringKind) (format : Bool) (rest : List ℕ) where
       let whole : rest ≡ (delimiter_of k ++ (inner ++ delimiter_of k)) ++ tail = rest_is ∙ sym (assoc3 (delimiter_of k) inner (delimiter_of k) tail) in
       let len' : length l ≡ length (delimiter_of k ++ (inner ++ delimiter_of k)) = omega (arith, len, size, delimiter_length k, length3 (delimiter_of k) inner (delimiter_of k) (delimiter_len k) (sym (delimiter_length k))) in
       let same = same_front l behind (delimiter_of k ++ (inner ++ delimiter_of k)) tail (sym split ∙ whole) len' in
-      let scanned : raw_len (raw_texts.Literal k format) (inner ++ (delimiter_of k ++ tail)) ≡ length inner = ap (raw_len (raw_texts.Literal k format)) (sym after_is) ∙ sym size in
       record {
         kind = k;
-        is_string = string;
+        is_token = refl;
         literal = record {
           inner = inner;
           is = same.0;
-          ends = λ more. stable k 0 inner tail more (plain format inner tail scanned);
-          opens = λ more joinless. ap kind_of (ap (λ t. t ++ more) same.0 ∙ assoc3 (delimiter_of k) inner (delimiter_of k) more) ∙ same_opening k.delimiter k.indented inner tail more joinless (ap kind_of (sym rest_is) ∙ is_kind);
+          ends = λ more. stable k 0 inner tail more (ap (raw_len (raw_texts.Literal k false)) (sym after_is) ∙ plain format no_start ∙ sym size);
+          opens = λ more unquoted. ap kind_of (ap (λ t. t ++ more) same.0 ∙ assoc3 (delimiter_of k) inner (delimiter_of k) more) ∙ same_opening k.delimiter k.indented inner tail more unquoted (ap kind_of (sym rest_is) ∙ is_kind);
         };
       }
     where
-      plain : (b : Bool) (inner tail : List ℕ) → raw_len (raw_texts.Literal k b) (inner ++ (delimiter_of k ++ tail)) ≡ length inner → raw_len (raw_texts.Literal k false) (inner ++ (delimiter_of k ++ tail)) ≡ length inner
-      plain true inner tail e = agrees k 0 0 inner tail tt e
-      plain false inner tail e = e
+      plain : (b : Bool) → (b && is_interpolation_start (drop (raw_len (raw_texts.Literal k b) after) after)) ≡ false → raw_len (raw_texts.Literal k false) after ≡ raw_len (raw_texts.Literal k b) after
+      plain true h = whole_ends k after h
+      plain false h = refl
 
 -- ---- what is found, by the class of the first byte and by the place
 
@@ -194,12 +195,12 @@ module _ (m : Mode) (rest : List ℕ) where
       let k = kind_of rest in
       let format : Bool = m.behind_f && not (is_backtick k.delimiter) in
       part_finds k format (delimiter_len k) kinds.FormatStringStart (token_kind_of k.delimiter) (λ l i. tt)
-      (λ unfinished no_start l behind split len. whole k.delimiter l behind (λ string. string_fact k format rest refl (delimiter_there rest e) unfinished no_start string l behind split len))
+      (λ unfinished no_start l behind split len. whole k.delimiter l behind (literal_fact k format rest refl (delimiter_there rest e) unfinished no_start l behind split len))
     where
-      whole : (d : StringDelimiter) (l behind : List ℕ) → (token_kind_of d ≡ kinds.StringToken → IsString l) → Fact (token_kind_of d) l behind
-      whole delimiters.Backtick l behind f = tt
-      whole delimiters.QuoteDouble l behind f = f refl
-      whole delimiters.QuoteSingle l behind f = f refl
+      whole : (d : StringDelimiter) (l behind : List ℕ) → IsDelimited (token_kind_of d) l → Fact (token_kind_of d) l behind
+      whole delimiters.Backtick l behind f = f
+      whole delimiters.QuoteDouble l behind f = f
+      whole delimiters.QuoteSingle l behind f = f
 
   close_finds : (o : Option OpenDelimiter) (d : Delimiter) (k : TokenKind) → ((l behind : List ℕ) → Fact k l behind) → Finds rest (close o d k)
   close_finds None d k f = refused
@@ -295,3 +296,11 @@ next_finds m (b ∷ bs) = next_by_finds m (b ∷ bs) m.line_start
 -- the next token's lexeme has its fact
 pub fact_of : (m : Mode) (k : TokenKind) (l behind : List ℕ) → next m (l ++ behind) ≡ Ok (k, length l) → Fact k l behind
 fact_of m k l behind e = (subst (Finds (l ++ behind)) e (next_finds m (l ++ behind))).fact l behind refl refl
+
+-- a string is found again behind no `f`, before what begins with no quote
+pub string_again : (m n : Mode) (l behind more : List ℕ) → is_quote (get_or l 0 0) ≡ true → literal m (l ++ behind) ≡ Ok (kinds.StringToken, length l) → n.behind_f ≡ false → is_quote (get_or more 0 0) ≡ false → literal n (l ++ more) ≡ Ok (kinds.StringToken, length l)
+string_again m n [] behind more quoted found no_f stop = cc
+string_again m n (x ∷ xs) behind more quoted found no_f stop =
+    let l : List ℕ = x ∷ xs in
+    let s : IsString l = (subst (Finds (l ++ behind)) found (literal_finds m (l ++ behind) (quote_is x quoted))).fact l behind refl refl in
+    literal_again n s.kind l more no_f s.literal stop ∙ ap (λ k. Ok (k, length l)) s.is_token

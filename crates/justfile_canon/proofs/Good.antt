@@ -3,6 +3,7 @@ use Rattle.std.proofs.Common.{◌≡◌, ℕ, Bool, true, false, List, [], ◌�
 use Rattle.std.specs.Prelude.{◌&&◌, ◌||◌, not}
 use Rattle.std.specs.Str.{IsUtf8, trim_end}
 use Rattle.justfile_base.specs.declared.string_kind.StringKind.{StringKind}
+use Rattle.justfile_base.specs.declared.token_kind.TokenKind.{TokenKind}
 use Rattle.justfile_base.specs.declared.token_kind.TokenKind.TheVariants as kinds
 use Rattle.justfile_base.specs.ByteClass.{class_of}
 use Rattle.justfile_base.specs.StringKind.{token_kind_of}
@@ -11,7 +12,7 @@ use Rattle.justfile_model.specs.Modes.{is_empty}
 use Rattle.justfile_model.specs.Tok.{Tok}
 use Rattle.justfile_model.specs.SignificantTokens.{SignificantToken, significant_from}
 use Rattle.justfile_model.specs.Tree as tree
-use Rattle.justfile_model.specs.Tree.{StringLiteral, Variable, Text, Interpolation, Line, Shape, lexeme, nothing, trimmed}
+use Rattle.justfile_model.specs.Tree.{StringLiteral, Backtick, Variable, Text, Interpolation, Line, Shape, lexeme, nothing, trimmed}
 use Rattle.justfile_model.specs.Printing.{expr_text}
 use Rattle.justfile_model.specs.Grammar.{Limited, Expression}
 use Rattle.justfile_canon.proofs.Reading.{Mark, mark, placed}
@@ -30,19 +31,36 @@ significant glued ts = significant_from glued (unplaced ts)
 
 -- ---- values
 
--- a string literal that ends before what is printed behind it
-pub record IsString (l : List ℕ) : Type 0 where
+-- a literal of a token of this kind, which ends before what is printed behind it
+pub record IsDelimited (k : TokenKind) (l : List ℕ) : Type 0 where
   pub kind : StringKind
   pub literal : IsLiteral kind l
-  pub is_string : token_kind_of kind.delimiter ≡ kinds.StringToken
+  pub is_token : token_kind_of kind.delimiter ≡ k
+
+abbrev pub IsString : List ℕ → Type 0
+IsString = IsDelimited kinds.StringToken
+
+abbrev pub IsCommand : List ℕ → Type 0
+IsCommand = IsDelimited kinds.Backtick
 
 abbrev pub GoodValue : Value → Type 0
-GoodValue (StringLiteral l) = IsString l
+GoodValue (StringLiteral expanded l) = IsString l
+GoodValue (Backtick l) = IsCommand l
 GoodValue (Variable n) = IsName n
 
--- the value's tokens derive it, before any others
+-- the tokens that make something else of a name before them than a variable
+abbrev pub extends : TokenKind → Bool
+extends kinds.StringToken = true
+extends _ = false
+
+-- no such token is next, so a name ends here
+abbrev pub ends_value : List Mark → Bool
+ends_value [] = true
+ends_value (t ∷ ts) = not (extends t.kind)
+
+-- the value's tokens derive it, before any others that a value ends at
 pub record DerivesBack (depth : ℕ) (e : Value) : Type 0 where
-  pub derives : (glued : Bool) (on : List Mark) → Expression lexeme nothing Limited depth e (significant glued (expr_marks e on)) (significant true on)
+  pub derives : (glued : Bool) (on : List Mark) → ends_value on ≡ true → Expression lexeme nothing Limited depth e (significant glued (expr_marks e on)) (significant true on)
 
 -- a value that no other is open around
 pub record GoodExpression (e : Value) : Type 0 where

@@ -1,5 +1,5 @@
 -- What is printed inside one line is lexed back.
-use Rattle.std.proofs.Common.{◌≡◌, ◌≢◌, ℕ, suc, ◌+◌, Bool, true, false, cond, eqb, List, [], ◌∷◌, ◌++◌, length, Option, Some, None, Ok, refl, sym, ap, ◌∙◌, subst, arith, append_assoc, length-append}
+use Rattle.std.proofs.Common.{◌≡◌, ◌≢◌, ℕ, suc, ◌+◌, Bool, true, false, cond, eqb, List, [], ◌∷◌, ◌++◌, length, get_or, Option, Some, None, Ok, refl, sym, ap, ◌∙◌, subst, arith, append_assoc, length-append}
 use Rattle.std.specs.Prelude.{◌&&◌, not, is_some}
 use Rattle.std.specs.List.{prefix_len, count_by}
 use Rattle.std.proofs.lemmas.List.{append-nil}
@@ -17,12 +17,12 @@ use Rattle.justfile_base.specs.declared.token_kind.TokenKind.{TokenKind}
 use Rattle.justfile_base.specs.declared.token_kind.TokenKind.TheVariants.{Eof, FormatStringContinue, FormatStringEnd, FormatStringStart, Identifier, Whitespace}
 use Rattle.justfile_base.specs.ByteClass.{class_of}
 use Rattle.justfile_model.specs.Bytes.{blank, in_word, is_interpolation_end, is_interpolation_start}
-use Rattle.justfile_base.specs.StringKind.{delimiter_len, kind_of, quote_of, token_kind_of}
+use Rattle.justfile_base.specs.StringKind.{delimiter_len, is_quote, kind_of, quote_of, token_kind_of}
 use Rattle.justfile_model.specs.LiteralText.{raw_len}
 use Rattle.justfile_model.specs.Tok.{Tok}
 use Rattle.justfile_model.specs.Places.{is_newline}
 use Rattle.justfile_model.specs.Modes.{Mode, is_empty, opener, after}
-use Rattle.justfile_model.specs.Next.{inline, inside, next, literal_part, is_backtick}
+use Rattle.justfile_model.specs.Next.{inline, inside, next, literal, literal_part, is_backtick}
 use Rattle.justfile_canon.proofs.Reading.{Mark, mark, Reading, step, drop_front}
 
 -- each byte passes
@@ -143,7 +143,7 @@ pub record IsLiteral (k : StringKind) (lexeme : List ℕ) : Type 0 where
   pub inner : List ℕ
   pub is : lexeme ≡ delimiter_of k ++ (inner ++ delimiter_of k)
   pub ends : (more : List ℕ) → raw_len (raw_texts.Literal k false) (inner ++ (delimiter_of k ++ more)) ≡ length inner
-  pub opens : (more : List ℕ) → head_is joins more ≡ false → kind_of (lexeme ++ more) ≡ k
+  pub opens : (more : List ℕ) → is_quote (get_or more 0 0) ≡ false → kind_of (lexeme ++ more) ≡ k
 
 -- a part of a format string, between what opens it and its end: the delimiter, or two braces and a space
 abbrev pub closing_of : StringKind → Bool → List ℕ
@@ -163,14 +163,47 @@ assoc3 a b c d = append_assoc a (b ++ c) d ∙ ap (λ x. a ++ x) (append_assoc b
 pub length3 : (a b c : List ℕ) (n : ℕ) → length c ≡ n → length a + length b + n ≡ length (a ++ (b ++ c))
 length3 a b c n e = omega (arith, e, length-append a (b ++ c), length-append b c)
 
-literal_next : (os : List OpenDelimiter) (ls : List (List ℕ)) (c : Bool) (i : Option Tok) (f : Bool) (k : StringKind) (format : Bool) (xs : List ℕ) → kind_of (delimiter_of k ++ xs) ≡ k → (f && not (is_backtick k.delimiter)) ≡ format
-    → next (amid os ls c i f) (delimiter_of k ++ xs) ≡ literal_part k format (length (delimiter_of k)) FormatStringStart (token_kind_of k.delimiter) (delimiter_of k ++ xs)
+-- at a quote a literal is next
+literal_next : (os : List OpenDelimiter) (ls : List (List ℕ)) (c : Bool) (i : Option Tok) (f : Bool) (k : StringKind) (xs : List ℕ) → next (amid os ls c i f) (delimiter_of k ++ xs) ≡ literal (amid os ls c i f) (delimiter_of k ++ xs)
 unfolding inline
-literal_next os ls c i f k format xs e g =
+literal_next os ls c i f k xs =
     amid_next os ls c i f (quote_of k.delimiter) (delimiter_tail k ++ xs) (and_false (is_empty os) _ _ (quote_no_brace k.delimiter))
     ∙ ap (λ q. inline (amid os ls c i f) q (delimiter_of k ++ xs)) (quote_class k.delimiter)
-    ∙ ap (λ v. literal_part v (f && not (is_backtick v.delimiter)) (delimiter_len v) FormatStringStart (token_kind_of v.delimiter) (delimiter_of k ++ xs)) e
+
+-- of a known kind
+literal_of : (m : Mode) (k : StringKind) (format : Bool) (xs : List ℕ) → kind_of (delimiter_of k ++ xs) ≡ k → (m.behind_f && not (is_backtick k.delimiter)) ≡ format
+    → literal m (delimiter_of k ++ xs) ≡ literal_part k format (length (delimiter_of k)) FormatStringStart (token_kind_of k.delimiter) (delimiter_of k ++ xs)
+literal_of m k format xs e g =
+    ap (λ v. literal_part v (m.behind_f && not (is_backtick v.delimiter)) (delimiter_len v) FormatStringStart (token_kind_of v.delimiter) (delimiter_of k ++ xs)) e
     ∙ (λ j. literal_part k (g j) (delimiter_length k j) FormatStringStart (token_kind_of k.delimiter) (delimiter_of k ++ xs))
+
+-- a whole one, before what begins with no quote
+pub literal_again : (m : Mode) (k : StringKind) (l more : List ℕ) → m.behind_f ≡ false → IsLiteral k l → is_quote (get_or more 0 0) ≡ false → literal m (l ++ more) ≡ Ok (token_kind_of k.delimiter, length l)
+literal_again m k l more f h stop =
+    let inner = h.inner in
+    let tail : List ℕ = inner ++ (delimiter_of k ++ more) in
+    let whole : l ++ more ≡ delimiter_of k ++ tail = ap (λ x. x ++ more) h.is ∙ assoc3 (delimiter_of k) inner (delimiter_of k) more in
+    let len = length3 (delimiter_of k) inner (delimiter_of k) (delimiter_len k) (sym (delimiter_length k)) ∙ ap length (sym h.is) in
+    ap (literal m) whole
+    ∙ literal_of m k false tail (sym (ap kind_of whole) ∙ h.opens more stop) (ap (λ b. b && not (is_backtick k.delimiter)) f)
+    ∙ part_is k false (delimiter_of k) inner (delimiter_of k ++ more) _ _ (h.ends more) refl
+    ∙ ap (λ n. Ok (token_kind_of k.delimiter, n)) len
+
+pub quote_is : (b : ℕ) → is_quote b ≡ true → class_of b ≡ classes.Quote
+quote_is b h = by (eqb b 96) (eqb b 34) refl refl
+  where
+    by : (s t : Bool) → eqb b 96 ≡ s → eqb b 34 ≡ t → class_of b ≡ classes.Quote
+    by true t e f = let at : b ≡ 96 = grind (arith, nat_tests) in ap class_of at ∙ quote_class delimiters.Backtick
+    by false true e f = let at : b ≡ 34 = grind (arith, nat_tests) in ap class_of at ∙ quote_class delimiters.QuoteDouble
+    by false false e f = let at : b ≡ 39 = grind (arith, nat_tests, h, e, f) in ap class_of at ∙ quote_class delimiters.QuoteSingle
+
+joins_quote : (more : List ℕ) → head_is joins more ≡ false → is_quote (get_or more 0 0) ≡ false
+joins_quote [] h = refl
+joins_quote (y ∷ ys) h = by (is_quote y) refl
+  where
+    by : (t : Bool) → is_quote y ≡ t → t ≡ false
+    by true e = let bad : true ≡ false = sym (ap joins (quote_is y e)) ∙ h in cc
+    by false e = refl
 
 kind_not_eof : (d : StringDelimiter) → token_kind_of d ≢ Eof
 kind_not_eof delimiters.Backtick e = cc
@@ -194,15 +227,10 @@ brace_next os ls c i k line xs = amid_next (opener (FormatString k) line ∷ os)
 module _ {os : List OpenDelimiter} {ls : List (List ℕ)} {c : Bool} {i : Option Tok} where
   pub literal_step : (k : StringKind) (l more : List ℕ) {ts : List Mark} → IsLiteral k l → head_is joins more ≡ false → Reading (amid os ls c i false) more ts → Reading (amid os ls c i false) (l ++ more) (mark (token_kind_of k.delimiter) l ∷ ts)
   literal_step k l more {ts} h stop r =
-      let inner = h.inner in
-      let tail : List ℕ = inner ++ (delimiter_of k ++ more) in
-      let whole : l ++ more ≡ delimiter_of k ++ tail = ap (λ x. x ++ more) h.is ∙ assoc3 (delimiter_of k) inner (delimiter_of k) more in
-      let len = length3 (delimiter_of k) inner (delimiter_of k) (delimiter_len k) (sym (delimiter_length k)) ∙ ap length (sym h.is) in
-      step (amid os ls c i false) (token_kind_of k.delimiter) l more ts
-      (ap (next (amid os ls c i false)) whole
-      ∙ literal_next os ls c i false k false tail (sym (ap kind_of whole) ∙ h.opens more stop) refl
-      ∙ part_is k false (delimiter_of k) inner (delimiter_of k ++ more) _ _ (h.ends more) refl
-      ∙ ap (λ n. Ok (token_kind_of k.delimiter, n)) len)
+      let m : Mode = amid os ls c i false in
+      let whole : l ++ more ≡ delimiter_of k ++ (h.inner ++ (delimiter_of k ++ more)) = ap (λ x. x ++ more) h.is ∙ assoc3 (delimiter_of k) h.inner (delimiter_of k) more in
+      step m (token_kind_of k.delimiter) l more ts
+      (ap (next m) whole ∙ literal_next os ls c i false k _ ∙ sym (ap (literal m) whole) ∙ literal_again m k l more refl h (joins_quote more stop))
       (kind_not_eof k.delimiter)
       (λ o n col. subst (λ m. Reading m more ts) (sym (after_literal os ls c i k.delimiter false _)) r)
 
@@ -217,7 +245,8 @@ module _ {os : List OpenDelimiter} {ls : List (List ℕ)} {c : Bool} {i : Option
       let kind : kind_of l ≡ k = ap kind_of (sym (append-nil l)) ∙ opens [] in
       step (amid os ls c i true) FormatStringStart l (32 ∷ more) ts
       (ap (next (amid os ls c i true)) whole
-      ∙ literal_next os ls c i true k true tail (sym (ap kind_of whole) ∙ opens (32 ∷ more)) (ap not quote)
+      ∙ literal_next os ls c i true k tail
+      ∙ literal_of (amid os ls c i true) k true tail (sym (ap kind_of whole) ∙ opens (32 ∷ more)) (ap not quote)
       ∙ part_is k true (delimiter_of k) inner (123 ∷ 123 ∷ 32 ∷ more) FormatStringStart (token_kind_of k.delimiter) (h.ends more) refl
       ∙ ap (λ n. Ok (FormatStringStart, n)) len)
       (λ e. cc)

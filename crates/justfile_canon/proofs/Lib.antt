@@ -16,6 +16,7 @@ pub mod Inline
 pub mod LexesBack
 pub mod LexesValues
 pub mod Lines
+pub mod LiteralModes
 pub mod Literals
 pub mod Quoted
 pub mod RawTexts

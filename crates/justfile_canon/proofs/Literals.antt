@@ -10,11 +10,10 @@ use Rattle.justfile_base.specs.declared.string_kind.StringDelimiter.{StringDelim
 use Rattle.justfile_base.specs.declared.string_kind.StringDelimiter.TheVariants as delimiters
 use Rattle.justfile_base.specs.declared.string_kind.StringKind.{StringKind}
 use Rattle.justfile_base.specs.ByteClass.{class_of, begins_fixed}
-use Rattle.justfile_base.specs.StringKind.{delimiter_len, delimiter_at, kind_of, quote_of, escapes}
+use Rattle.justfile_base.specs.StringKind.{delimiter_len, delimiter_at, is_quote, kind_of, quote_of}
 use Rattle.justfile_model.specs.declared.raw_text.RawText.TheVariants as raw_texts
-use Rattle.justfile_model.specs.Bytes.{is_interpolation_start, is_interpolation_escape}
 use Rattle.justfile_model.specs.LiteralText.{pieces_len, hides, ends, is_delimiter}
-use Rattle.justfile_canon.proofs.Inline.{head_is, joins, delimiter_of}
+use Rattle.justfile_canon.proofs.Inline.{delimiter_of}
 
 -- ---- delimiters
 
@@ -127,7 +126,7 @@ delimiter_there bs e = go (eqb (get_or bs 1 0) (get_or bs 0 0) && eqb (get_or bs
 -- ---- scans
 
 -- the delimiter ends a scan, as nothing hides it
-abbrev scan : StringKind → Bool → ℕ → List ℕ → ℕ
+abbrev pub scan : StringKind → Bool → ℕ → List ℕ → ℕ
 scan k format = pieces_len (hides (raw_texts.Literal k format)) (ends (raw_texts.Literal k format))
 
 delimiter_ends : (d : StringDelimiter) (i : Bool) (more : List ℕ) → scan (record { delimiter = d; indented = i }) false 0 (delimiter_of (record { delimiter = d; indented = i }) ++ more) ≡ 0
@@ -166,113 +165,22 @@ stable k zero (x ∷ xs) a b e =
     go false true r same ih i0 e = absurd (omega arith)
     go false false r same ih i0 e = ap (λ v. cond (v || false) 0 (suc (scan k false 0 (xs ++ (delimiter_of k ++ b))))) (sym same) ∙ ap suc (i0 (omega arith))
 
--- Of a literal behind an `f` that holds no interpolation: what is hidden there and is not hidden elsewhere is a brace.
-abbrev Hidden : ℕ → ℕ → List ℕ → Type 0
-Hidden zero zero bs = Unit {0}
-Hidden zero (suc m) bs = ⊥
-Hidden (suc n) m [] = Unit {0}
-Hidden (suc n) zero (b ∷ bs) = (b ≡ 123) × Hidden n zero bs
-Hidden (suc n) (suc m) (b ∷ bs) = Hidden n m bs
-
-no_brace : (d : StringDelimiter) (i : Bool) (bs : List ℕ) → scan (record { delimiter = d; indented = i }) false 0 (123 ∷ bs) ≡ suc (scan (record { delimiter = d; indented = i }) false 0 bs)
-unfolding pieces_len
-no_brace delimiters.Backtick true bs = refl
-no_brace delimiters.Backtick false bs = refl
-no_brace delimiters.QuoteDouble true bs = refl
-no_brace delimiters.QuoteDouble false bs = refl
-no_brace delimiters.QuoteSingle true bs = refl
-no_brace delimiters.QuoteSingle false bs = refl
-
-four_braces : (bs : List ℕ) → is_interpolation_escape bs ≡ true → Hidden 4 0 bs
-four_braces [] h = tt
-four_braces (a ∷ []) h = let p = (and_parts (eqb a 123 && false) _ h).0 in cc
-four_braces (a ∷ b ∷ []) h = let p = (and_parts (eqb a 123 && eqb b 123) false h).1 in cc
-four_braces (a ∷ b ∷ c ∷ []) h = let p = (and_parts (eqb c 123) false (and_parts (eqb a 123 && eqb b 123) (eqb c 123 && false) h).1).1 in cc
-four_braces (a ∷ b ∷ c ∷ d ∷ bs) h =
-    let fronts = and_parts (eqb a 123 && eqb b 123) (eqb c 123 && eqb d 123) h in
-    let first = and_parts (eqb a 123) (eqb b 123) fronts.0 in
-    let last = and_parts (eqb c 123) (eqb d 123) fronts.1 in
-    (is a first.0, (is b first.1, (is c last.0, (is d last.1, tt))))
-  where
-    is : (x : ℕ) → eqb x 123 ≡ true → x ≡ 123
-    is x e = grind (arith, nat_tests)
-
-hidden_behind : (b : ℕ) (bs : List ℕ) → Hidden 4 0 (b ∷ bs) → (b ≡ 123) × Hidden 3 0 bs
-hidden_behind b bs h = (h.0, h.1)
-
--- a backslash hides the first of four braces
-escaped_braces : (bs : List ℕ) → Hidden 4 0 bs → Hidden 4 1 bs
-escaped_braces [] h = tt
-escaped_braces (b ∷ bs) h = h.1
-
-hidden_one : (bs : List ℕ) → Hidden 1 1 bs
-hidden_one [] = tt
-hidden_one (b ∷ bs) = tt
-
-pub agrees : (k : StringKind) (n m : ℕ) (inner a : List ℕ) → Hidden n m (inner ++ (delimiter_of k ++ a)) → scan k true n (inner ++ (delimiter_of k ++ a)) ≡ length inner → scan k false m (inner ++ (delimiter_of k ++ a)) ≡ length inner
-unfolding pieces_len
-agrees k zero zero [] a h e = delimiter_ends k.delimiter k.indented a
-agrees k zero (suc m) [] a h e = absurd h
-agrees k (suc n) m [] a h e = absurd (omega arith)
-agrees k (suc n) zero (x ∷ xs) a h e = ap (λ y. scan k false 0 (y ∷ xs ++ (delimiter_of k ++ a))) h.0 ∙ no_brace k.delimiter k.indented (xs ++ (delimiter_of k ++ a)) ∙ ap suc (agrees k n 0 xs a h.1 (omega arith))
-agrees k (suc n) (suc m) (x ∷ xs) a h e = ap suc (agrees k n m xs a h (omega arith))
-agrees k zero (suc m) (x ∷ xs) a h e = absurd h
-agrees k zero zero (x ∷ xs) a h e =
-    go (escapes k.delimiter && eqb x 92) (is_interpolation_escape bs) (is_interpolation_escape (x ∷ bs)) (is_delimiter k (x ∷ bs)) (is_interpolation_start (x ∷ bs))
-    refl refl refl refl (λ n m. agrees k n m xs a) e
-  where
-    bs : List ℕ
-    bs = xs ++ (delimiter_of k ++ a)
-
-    plain : Bool → Bool → ℕ
-    plain t s = cond (ltb 0 (cond t 1 0)) (suc (scan k false (cond t 1 0) bs)) (cond (s || false) 0 (suc (scan k false 0 bs)))
-
-    braces : is_interpolation_escape (x ∷ bs) ≡ true → scan k true 3 bs ≡ length xs → ((n m : ℕ) → Hidden n m bs → scan k true n bs ≡ length xs → scan k false m bs ≡ length xs) → plain (escapes k.delimiter && eqb x 92) (is_delimiter k (x ∷ bs)) ≡ suc (length xs)
-    braces f e ih =
-        let h = hidden_behind x bs (four_braces (x ∷ bs) f) in
-        ap (λ y. scan k false 0 (y ∷ bs)) h.0 ∙ no_brace k.delimiter k.indented bs ∙ ap suc (ih 3 0 h.1 e)
-
-    go : (t u v s r : Bool) → (escapes k.delimiter && eqb x 92) ≡ t → is_interpolation_escape bs ≡ u → is_interpolation_escape (x ∷ bs) ≡ v → is_delimiter k (x ∷ bs) ≡ s
-        → ((n m : ℕ) → Hidden n m bs → scan k true n bs ≡ length xs → scan k false m bs ≡ length xs)
-        → cond (ltb 0 (cond t (cond u 4 1) (cond v 3 0))) (suc (scan k true (cond t (cond u 4 1) (cond v 3 0)) bs)) (cond (s || r) 0 (suc (scan k true 0 bs))) ≡ suc (length xs)
-        → plain t s ≡ suc (length xs)
-    go true true v s r et eu ev es ih e = ap suc (ih 4 1 (escaped_braces bs (four_braces bs eu)) (omega arith))
-    go true false v s r et eu ev es ih e = ap suc (ih 1 1 (hidden_one bs) (omega arith))
-    go false u true s r et eu ev es ih e = sym (λ i. plain (et i) (es i)) ∙ braces ev (omega arith) ih
-    go false u false true r et eu ev es ih e = absurd (omega arith)
-    go false u false false true et eu ev es ih e = absurd (omega arith)
-    go false u false false false et eu ev es ih e = ap suc (ih 0 0 tt (omega arith))
-
 -- ---- the kind of a literal
 
-no_quote : (d : StringDelimiter) (more : List ℕ) → head_is joins more ≡ false → eqb (get_or more 0 0) (quote_of d) ≡ false
-unfolding class_of
-no_quote delimiters.Backtick [] h = refl
-no_quote delimiters.QuoteDouble [] h = refl
-no_quote delimiters.QuoteSingle [] h = refl
-no_quote d (y ∷ ys) h = by (eqb y (quote_of d)) refl
-  where
-    joined : (d : StringDelimiter) → joins (class_of (quote_of d)) ≡ true
-    joined delimiters.Backtick = refl
-    joined delimiters.QuoteDouble = refl
-    joined delimiters.QuoteSingle = refl
+no_quote : (d : StringDelimiter) (b : ℕ) → is_quote b ≡ false → eqb b (quote_of d) ≡ false
+no_quote delimiters.Backtick b h = grind (arith, nat_tests)
+no_quote delimiters.QuoteDouble b h = grind (arith, nat_tests)
+no_quote delimiters.QuoteSingle b h = grind (arith, nat_tests)
 
-    by : (t : Bool) → eqb y (quote_of d) ≡ t → t ≡ false
-    by true e =
-        let at : y ≡ quote_of d = grind (arith, nat_tests) in
-        let bad : true ≡ false = sym (ap (λ b. joins (class_of b)) at ∙ joined d) ∙ h in
-        cc
-    by false e = refl
-
--- before what doesn't join the literal its kind is read again
-pub same_opening : (d : StringDelimiter) (i : Bool) (inner behind more : List ℕ) → head_is joins more ≡ false
+-- before what begins with no quote the kind of a literal is read again
+pub same_opening : (d : StringDelimiter) (i : Bool) (inner behind more : List ℕ) → is_quote (get_or more 0 0) ≡ false
     → kind_of (delimiter_of (record { delimiter = d; indented = i }) ++ (inner ++ (delimiter_of (record { delimiter = d; indented = i }) ++ behind))) ≡ record { delimiter = d; indented = i }
     → kind_of (delimiter_of (record { delimiter = d; indented = i }) ++ (inner ++ (delimiter_of (record { delimiter = d; indented = i }) ++ more))) ≡ record { delimiter = d; indented = i }
 same_opening delimiters.Backtick true inner behind more stop e = refl
 same_opening delimiters.QuoteDouble true inner behind more stop e = refl
 same_opening delimiters.QuoteSingle true inner behind more stop e = refl
-same_opening delimiters.Backtick false [] behind more stop e = ap (λ b. record { delimiter = delimiters.Backtick; indented = b }) (no_quote delimiters.Backtick more stop)
-same_opening delimiters.QuoteDouble false [] behind more stop e = ap (λ b. record { delimiter = delimiters.QuoteDouble; indented = b }) (no_quote delimiters.QuoteDouble more stop)
-same_opening delimiters.QuoteSingle false [] behind more stop e = ap (λ b. record { delimiter = delimiters.QuoteSingle; indented = b }) (no_quote delimiters.QuoteSingle more stop)
+same_opening delimiters.Backtick false [] behind more stop e = ap (λ b. record { delimiter = delimiters.Backtick; indented = b }) (no_quote delimiters.Backtick (get_or more 0 0) stop)
+same_opening delimiters.QuoteDouble false [] behind more stop e = ap (λ b. record { delimiter = delimiters.QuoteDouble; indented = b }) (no_quote delimiters.QuoteDouble (get_or more 0 0) stop)
+same_opening delimiters.QuoteSingle false [] behind more stop e = ap (λ b. record { delimiter = delimiters.QuoteSingle; indented = b }) (no_quote delimiters.QuoteSingle (get_or more 0 0) stop)
 same_opening d false (x ∷ []) behind more stop e = e
 same_opening d false (x ∷ y ∷ ys) behind more stop e = e

@@ -1,55 +1,82 @@
--- A string literal begins and ends with its delimiter.
-use Rattle.std.proofs.Common.{◌≡◌, ℕ, ◌-◌, ◌<◌, ◌≤◌, Bool, true, false, suc, List, [], ◌∷◌, ◌++◌, length, get_or, sym, ap, ◌∙◌, subst, arith, append_assoc}
-use Rattle.std.proofs.lemmas.List.{length-append}
-use Rattle.std.proofs.Math.Seq.{get_or-append_seam}
+-- A literal begins and ends with its delimiter.
+use Rattle.std.proofs.Common.{◌≡◌, ℕ, ◌+◌, ◌-◌, ◌<◌, ◌≤◌, Bool, true, false, List, [], ◌∷◌, ◌++◌, length, get_or, take, drop, refl, sym, ap, ◌∙◌, subst, arith, append_assoc, add-zero, get_or-drop}
+use Rattle.std.proofs.lemmas.List.{append-nil, length-append}
 use Rattle.std.specs.Str.{IsUtf8}
+use Rattle.justfile_base.specs.declared.token_kind.TokenKind.{TokenKind}
 use Rattle.justfile_base.specs.declared.token_kind.TokenKind.TheVariants as kinds
 use Rattle.justfile_base.specs.declared.string_kind.StringDelimiter.{StringDelimiter}
 use Rattle.justfile_base.specs.declared.string_kind.StringDelimiter.TheVariants.{Backtick, QuoteDouble, QuoteSingle}
-use Rattle.justfile_base.specs.StringKind.{token_kind_of}
+use Rattle.justfile_base.specs.declared.string_kind.StringKind.{StringKind}
+use Rattle.justfile_base.specs.StringKind.{delimiter_len, delimiter_text, kind_of}
 use Rattle.justfile_model.specs.Tok.{Tok}
 use Rattle.justfile_model.specs.Lexed.{Lexed}
 use Rattle.justfile_model.specs.SignificantTokens.{SignificantToken, significant_tokens}
-use Rattle.justfile_canon.proofs.Good.{IsString}
+use Rattle.justfile_canon.proofs.Reading.{take_front, drop_front}
+use Rattle.justfile_canon.proofs.Inline.{delimiter_of, delimiter_length}
+use Rattle.justfile_canon.proofs.Good.{IsDelimited}
 use Rattle.justfile_canon.proofs.Sound.{Around, around, is_comment, outside, LexemeFact, Sound, lexed_sound}
-use Rattle.justfile_canon.proofs.Inline.{delimiter_of}
 
--- two bytes at least, of which the first and the last are ASCII
-pub record IsQuoted (l : List ℕ) : Type 0 where
-  pub long : 2 ≤ length l
-  pub first : get_or l 0 0 < 128
-  pub last : get_or l (length l - 1) 0 < 128
+-- The delimiter of this kind is at the front, and once more at the end.
+pub record IsQuotedBy (k : StringKind) (l : List ℕ) : Type 0 where
+  pub long : delimiter_len k + delimiter_len k ≤ length l
+  pub opens : take (delimiter_len k) l ≡ delimiter_text k
+  pub closes : drop (length l - delimiter_len k) l ≡ delimiter_text k
+  -- the byte before what stands between the delimiters, and the byte behind it, are ASCII
+  pub before : get_or l (delimiter_len k - 1) 0 < 128
+  pub behind : get_or l (length l - delimiter_len k) 0 < 128
 
-wrapped : (q : ℕ) (xs : List ℕ) → q < 128 → IsQuoted (q ∷ (xs ++ q ∷ []))
-wrapped q xs h =
-    let n : length (xs ++ q ∷ []) ≡ suc (length xs) = length-append xs (q ∷ []) ∙ omega arith in
-    let place : length (q ∷ (xs ++ q ∷ [])) - 1 ≡ length (q ∷ xs) = omega (arith, n) in
-    let at : get_or (q ∷ (xs ++ q ∷ [])) (length (q ∷ (xs ++ q ∷ [])) - 1) 0 ≡ q = ap (λ i. get_or (q ∷ (xs ++ q ∷ [])) i 0) place ∙ get_or-append_seam (q ∷ xs) q [] 0 in
-    record { long = omega (arith, n); first = h; last = omega (arith, at) }
+-- by its own kind
+abbrev pub IsQuoted : List ℕ → Type 0
+IsQuoted l = IsQuotedBy (kind_of l) l
 
-tripled : (q : ℕ) (xs : List ℕ) → q < 128 → IsQuoted (q ∷ q ∷ q ∷ (xs ++ q ∷ q ∷ q ∷ []))
-tripled q xs h = subst IsQuoted (ap (λ l. q ∷ q ∷ q ∷ l) (append_assoc xs (q ∷ q ∷ []) (q ∷ []))) (wrapped q (q ∷ q ∷ (xs ++ q ∷ q ∷ [])) h)
+text_is : (d : StringDelimiter) (i : Bool) → delimiter_of (record { delimiter = d; indented = i }) ≡ delimiter_text (record { delimiter = d; indented = i })
+text_is d true = refl
+text_is d false = refl
 
-quoted_by : (d : StringDelimiter) (i : Bool) (inner : List ℕ) → token_kind_of d ≡ kinds.StringToken
-    → IsQuoted (delimiter_of (record { delimiter = d; indented = i }) ++ (inner ++ delimiter_of (record { delimiter = d; indented = i })))
-quoted_by Backtick i inner e = cc
-quoted_by QuoteDouble true inner e = tripled 34 inner (omega arith)
-quoted_by QuoteDouble false inner e = wrapped 34 inner (omega arith)
-quoted_by QuoteSingle true inner e = tripled 39 inner (omega arith)
-quoted_by QuoteSingle false inner e = wrapped 39 inner (omega arith)
+ascii_front : (d : StringDelimiter) (i : Bool) (more : List ℕ) → get_or (delimiter_of (record { delimiter = d; indented = i }) ++ more) (delimiter_len (record { delimiter = d; indented = i }) - 1) 0 < 128
+ascii_front Backtick true more = omega arith
+ascii_front Backtick false more = omega arith
+ascii_front QuoteDouble true more = omega arith
+ascii_front QuoteDouble false more = omega arith
+ascii_front QuoteSingle true more = omega arith
+ascii_front QuoteSingle false more = omega arith
 
-pub string_quoted : (l : List ℕ) → IsString l → IsQuoted l
-string_quoted l s = subst IsQuoted (sym s.literal.is) (quoted_by s.kind.delimiter s.kind.indented s.literal.inner s.is_string)
+ascii_first : (d : StringDelimiter) (i : Bool) → get_or (delimiter_of (record { delimiter = d; indented = i })) 0 0 < 128
+ascii_first Backtick i = omega arith
+ascii_first QuoteDouble i = omega arith
+ascii_first QuoteSingle i = omega arith
 
--- each string literal of a text is quoted
+quoted_by : (k : StringKind) (inner : List ℕ) → IsQuotedBy k (delimiter_of k ++ (inner ++ delimiter_of k))
+quoted_by k inner =
+    let q = delimiter_of k in
+    let l : List ℕ = q ++ (inner ++ q) in
+    let size : length l ≡ length q + length inner + length q = omega (arith, length-append q (inner ++ q), length-append inner q) in
+    let width = delimiter_length k in
+    let place : length l - delimiter_len k ≡ length (q ++ inner) = omega (arith, size, width, length-append q inner) in
+    let end : drop (length l - delimiter_len k) l ≡ q = ap (λ n. drop n l) place ∙ ap (drop (length (q ++ inner))) (sym (append_assoc q inner q)) ∙ drop_front (q ++ inner) q in
+    record {
+      long = omega (arith, size, width);
+      opens = ap (λ n. take n l) width ∙ take_front q (inner ++ q) ∙ text_is k.delimiter k.indented;
+      closes = end ∙ text_is k.delimiter k.indented;
+      before = ascii_front k.delimiter k.indented (inner ++ q);
+      behind = subst (λ b. b < 128) (ap (λ x. get_or x 0 0) (sym end) ∙ get_or-drop (length l - delimiter_len k) l 0 0 ∙ ap (λ i. get_or l i 0) (add-zero (length l - delimiter_len k))) (ascii_first k.delimiter k.indented);
+    }
+
+pub delimited_quoted : (q : TokenKind) (l : List ℕ) → IsDelimited q l → IsQuoted l
+delimited_quoted q l s =
+    let kind : kind_of l ≡ s.kind = ap kind_of (sym (append-nil l)) ∙ s.literal.opens [] refl in
+    subst (λ k. IsQuotedBy k l) (sym kind) (subst (IsQuotedBy s.kind) (sym s.literal.is) (quoted_by s.kind s.literal.inner))
+
+-- each string literal and each command between backticks of a text is quoted
 abbrev pub AreQuoted : List SignificantToken → Type 0
 AreQuoted [] = Unit {0}
-AreQuoted (t ∷ ts) = (t.tok.kind ≡ kinds.StringToken → IsQuoted t.tok.lexeme) × AreQuoted ts
+AreQuoted (t ∷ ts) = (t.tok.kind ≡ kinds.StringToken → IsQuoted t.tok.lexeme) × (t.tok.kind ≡ kinds.Backtick → IsQuoted t.tok.lexeme) × AreQuoted ts
 
 sound_quoted : (s : Around) (comment : Bool) (ts : List SignificantToken) → Sound s comment ts → AreQuoted ts
 sound_quoted s comment [] h = tt
 sound_quoted s comment (t ∷ ts) h = (
-  λ kind. string_quoted t.tok.lexeme (subst (λ k. LexemeFact k t.tok.lexeme) kind h.0.fact),
+  λ kind. delimited_quoted kinds.StringToken t.tok.lexeme (subst (λ k. LexemeFact k t.tok.lexeme) kind h.0.fact),
+  λ kind. delimited_quoted kinds.Backtick t.tok.lexeme (subst (λ k. LexemeFact k t.tok.lexeme) kind h.0.fact),
   sound_quoted (around t.tok.kind s) (is_comment t.tok.kind) ts h.1,
 )
 

@@ -11,7 +11,7 @@ use Rattle.justfile_model.specs.Grammar as g
 use Rattle.justfile_model.specs.Grammar.{Limited, File}
 use Rattle.justfile_model.specs.NormalShape.{normal}
 use Rattle.justfile_model.specs.Printing.{text, printable}
-use Rattle.justfile_model.specs.Literals.{Answers, Cooks}
+use Rattle.justfile_model.specs.Literals.{over_literal, Answers, Cooks}
 use Rattle.justfile_model.specs.Files.{VersionNumbers, FileDerives, literals, item_bindings, bindings, item_recipes, recipes}
 use Rattle.justfile_model.proofs.Agreement.{one_tree}
 use Rattle.justfile_model.proofs.Carry as c
@@ -102,7 +102,7 @@ module _ (expander : Answers) (current : VersionNumbers) where
       let good = source_good source t h p in
       let cooked : Cooks expander (literals s) h.file.cooked = subst (λ l. Cooks expander l h.file.cooked) (sym (normal_literals (shape_of t) ∙ lexemes t)) h.file.cooks in
       let found = file_lifts expander current (significant_tokens (back_tokens s indentation)) s (record { derives = good_file s indentation good; cooked = h.file.cooked; cooks = cooked }) in
-      let same : map lexeme (literals found.0) ≡ literals (shape_of t) = sym (lexemes found.0) ∙ ap literals found.2 ∙ normal_literals (shape_of t) in
+      let same : map (over_literal lexeme) (literals found.0) ≡ literals (shape_of t) = sym (lexemes found.0) ∙ ap literals found.2 ∙ normal_literals (shape_of t) in
       record {
         tree = found.0;
         derives = record { utf8 = subst IsUtf8 (sym (text_is s indentation)) (start_utf8 indentation level s good); tokens = back_tokens s indentation; lexed = good_lexed s indentation level good; file = found.1 };

@@ -21,7 +21,7 @@ use Rattle.justfile_model.specs.Next.{Found, inline, inside, body, line_end, Reg
 use Rattle.justfile_model.proofs.NextLaws.{token_cut}
 use Rattle.justfile_canon.proofs.Reading.{take_front, drop_front, drop_drop}
 use Rattle.justfile_canon.proofs.Inline.{IsName}
-use Rattle.justfile_canon.proofs.Good.{IsString}
+use Rattle.justfile_canon.proofs.Good.{IsString, IsCommand}
 use Rattle.justfile_canon.proofs.Literals.{front_byte}
 use Rattle.justfile_canon.proofs.Facts.{WasComment, Fact, fact_of}
 
@@ -157,12 +157,14 @@ pub record LexedComment (l : List ℕ) : Type 0 where
 abbrev pub LexemeFact : TokenKind → List ℕ → Type 0
 LexemeFact kinds.Identifier l = IsName l
 LexemeFact kinds.StringToken l = IsString l
+LexemeFact kinds.Backtick l = IsCommand l
 LexemeFact kinds.Comment l = LexedComment l
 LexemeFact _ l = Unit {0}
 
 lexeme_fact : (k : TokenKind) (l behind : List ℕ) → Fact k l behind → LexemeFact k l
 lexeme_fact kinds.Identifier l behind f = f
 lexeme_fact kinds.StringToken l behind f = f
+lexeme_fact kinds.Backtick l behind f = f
 lexeme_fact kinds.Comment l behind f = record { behind = behind; was = f }
 lexeme_fact _ l behind f = tt
 

@@ -1,18 +1,22 @@
 -- The normal shape of what any text derives is good.
-use Rattle.std.proofs.Common.{◌≡◌, ℕ, Bool, true, false, List, [], ◌∷◌, refl, sym, ap, ◌∙◌, subst}
+use Rattle.std.proofs.Common.{◌≡◌, ℕ, Bool, true, false, cond, List, [], ◌∷◌, refl, sym, ap, ◌∙◌, subst}
+use Rattle.std.specs.Prelude.{not}
 use Rattle.std.specs.Str.{IsUtf8, trim_end}
 use Rattle.std.proofs.lemmas.Bool.{and_parts}
+use Rattle.std.proofs.lemmas.Str.{IsUtf8-append}
 use Rattle.justfile_base.specs.declared.token_kind.TokenKind.{TokenKind}
 use Rattle.justfile_base.specs.declared.token_kind.TokenKind.TheVariants as kinds
-use Rattle.justfile_model.specs.SignificantTokens.{SignificantToken}
+use Rattle.justfile_model.specs.Tok.{Tok}
+use Rattle.justfile_model.specs.SignificantTokens.{SignificantToken, is_whitespace, significant_from}
 use Rattle.justfile_model.specs.Tree as tree
 use Rattle.justfile_model.specs.Tree.{Shape, lexeme, nothing, trimmed}
 use Rattle.justfile_model.specs.Grammar as g
-use Rattle.justfile_model.specs.Grammar.{IsKind, Limited, Expression, BeforeBody, NotEmpty, Items, Behind, LineEnd, File}
+use Rattle.justfile_model.specs.Grammar.{IsKind, NotExpanded, Limited, Expression, BeforeBody, NotEmpty, Items, Behind, LineEnd, File}
 use Rattle.justfile_model.specs.NormalShape.{behind_newline, normal_rest, normal}
-use Rattle.justfile_model.specs.Printing.{expr_text, printable_body, printable}
+use Rattle.justfile_model.specs.Printing.{piece, expr_text, printable_body, printable}
+use Rattle.justfile_canon.proofs.Reading.{Mark, placed}
 use Rattle.justfile_canon.proofs.Canon.{Value, Fragment, Row}
-use Rattle.justfile_canon.proofs.Good.{GoodValue, GoodName, GoodExpression, GoodComment, GoodRecipe, DerivesBack, pale_behind, follows_body, AtStart, AtEnd, After, BehindBody, end_behind}
+use Rattle.justfile_canon.proofs.Good.{unplaced, significant, GoodValue, extends, ends_value, GoodName, GoodExpression, GoodComment, GoodRecipe, DerivesBack, pale_behind, follows_body, AtStart, AtEnd, After, BehindBody, end_behind}
 use Rattle.justfile_canon.proofs.Sound.{Around, around, outside, Known, LexemeFact, is_comment, Sound}
 use Rattle.justfile_canon.proofs.Comments.{good_comment}
 use Rattle.justfile_canon.proofs.BodyTokens.{First}
@@ -20,6 +24,7 @@ use Rattle.justfile_canon.proofs.BodyFacts.{Outline, outline_after, colon_after,
 use Rattle.justfile_canon.proofs.BodyGood.{LineOf, LinesOf, PartsGood, AllPartsGood, inner, shifts, IsOutside, outside_after, outside_first, indent_leads, Walked, walk_outside, body_read}
 use Rattle.justfile_canon.proofs.Trimmed.{trimmed_twice, trimmed_printable}
 use Rattle.justfile_canon.proofs.BodyFollows.{behind, newline_follows}
+use Rattle.justfile_canon.proofs.BodyUtf8.{mark_utf8}
 
 -- ---- along a derivation
 
@@ -45,6 +50,24 @@ past_token t ts k e same stays h = record {
   bodies = past_walked IsOutside outside_after t ts k e stays h.bodies;
 }
 
+-- a name is marked by what is glued to it alone
+unglued : (name : SignificantToken) (ts : List Tok) → NotExpanded name (significant_from false ts)
+unglued name [] = tt
+unglued name (t ∷ ts) = by (is_whitespace t.kind) (unglued name ts)
+  where
+    by : (w : Bool) → NotExpanded name (significant_from false ts) → NotExpanded name (cond w (significant_from false ts) (record { tok = t; glued = false } ∷ significant_from true ts))
+    by true more = more
+    by false more = λ x. let bad : false ≡ true = x.glued in cc
+
+-- where a value ends no name is a mark
+not_expanded : (name : SignificantToken) (on : List Mark) → ends_value on ≡ true → NotExpanded name (significant true on)
+not_expanded name [] h = λ x. let bad : kinds.Eof ≡ kinds.StringToken = x.is_string in cc
+not_expanded name (t ∷ ts) h = by (is_whitespace t.kind)
+  where
+    by : (w : Bool) → NotExpanded name (cond w (significant_from false (unplaced ts)) (record { tok = placed t 0 0 0; glued = true } ∷ significant_from true (unplaced ts)))
+    by true = unglued name (unplaced ts)
+    by false = λ x. let bad : false ≡ true = sym (ap (λ k. not (extends k)) x.is_string) ∙ h in cc
+
 -- a value derives back, and leaves what is open as it was
 record GoodAt (s : Around) (depth : ℕ) (e : Value) (rest : List SignificantToken) : Type 0 where
   lexes : GoodValue e
@@ -53,15 +76,30 @@ record GoodAt (s : Around) (depth : ℕ) (e : Value) (rest : List SignificantTok
   behind : Sound s false rest
 
 good_value : {depth : ℕ} {e : Value} {ts rest : List SignificantToken} → Expression lexeme nothing Limited depth e ts rest → (s : Around) (c : Bool) → Sound s c ts → GoodAt s depth e rest
+unfolding piece
 good_value (g.value opened (g.literal {token = t} {rest = rest} kind)) s c h = record {
   lexes = fact_as t kinds.StringToken kind h.0;
-  derives = record { derives = λ glued on. g.value opened (g.literal refl) };
+  derives = record { derives = λ glued on stop. g.value opened (g.literal refl) };
   utf8 = h.0.utf8;
   behind = past s t rest kinds.StringToken kind h.1;
 }
-good_value (g.value opened (g.variable {name = t} {rest = rest} kind not_if not_assert)) s c h = record {
+good_value (g.value opened (g.expanded {mark = m} {token = t} {rest = rest} marked)) s c h =
+    let on = past s m (t ∷ rest) kinds.Identifier marked.marked.is_name h.1 in
+    record {
+      lexes = fact_as t kinds.StringToken marked.is_string on.0;
+      derives = record { derives = λ glued on stop. g.value opened (g.expanded (record { marked = record { is_name = refl; spelled = refl }; is_string = refl; glued = refl })) };
+      utf8 = IsUtf8-append (120 ∷ []) t.tok.lexeme mark_utf8 on.0.utf8;
+      behind = past s t rest kinds.StringToken marked.is_string on.1;
+    }
+good_value (g.value opened (g.backtick {token = t} {rest = rest} kind)) s c h = record {
+  lexes = fact_as t kinds.Backtick kind h.0;
+  derives = record { derives = λ glued on stop. g.value opened (g.backtick refl) };
+  utf8 = h.0.utf8;
+  behind = past s t rest kinds.Backtick kind h.1;
+}
+good_value (g.value opened (g.variable {name = t} {rest = rest} kind not_if not_assert not_marked)) s c h = record {
   lexes = fact_as t kinds.Identifier kind h.0;
-  derives = record { derives = λ glued on. g.value opened (g.variable refl (λ w. not_if (record { is_name = kind; spelled = w.spelled })) (λ w. not_assert (record { is_name = kind; spelled = w.spelled }))) };
+  derives = record { derives = λ glued on stop. g.value opened (g.variable refl (λ w. not_if (record { is_name = kind; spelled = w.spelled })) (λ w. not_assert (record { is_name = kind; spelled = w.spelled })) (not_expanded _ on stop)) };
   utf8 = h.0.utf8;
   behind = past s t rest kinds.Identifier kind h.1;
 }

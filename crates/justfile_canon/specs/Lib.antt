@@ -1,1 +1,2 @@
+pub mod LiteralModes
 pub mod RoundTrip

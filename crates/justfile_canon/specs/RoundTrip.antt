@@ -7,7 +7,7 @@ use Rattle.justfile_model.specs.SignificantTokens.{significant_tokens}
 use Rattle.justfile_model.specs.Tree.{Tree, Shape, lexeme, shape_of}
 use Rattle.justfile_model.specs.NormalShape.{normal}
 use Rattle.justfile_model.specs.Printing.{text}
-use Rattle.justfile_model.specs.Literals.{Answers, Cooks}
+use Rattle.justfile_model.specs.Literals.{over_literal, Answers, Cooks}
 use Rattle.justfile_model.specs.Files.{VersionNumbers, FileDerives, literals, bindings, recipes}
 
 -- the tree of a text, under an expander and a running version
@@ -27,8 +27,8 @@ pub record ReadsBack (expander : Answers) (current : VersionNumbers) (shape : Sh
   pub tree : Tree
   pub derives : TextDerives expander current source tree
   pub same_shape : shape_of tree ≡ normal shape
-  pub same_lexemes : map lexeme (literals tree) ≡ literals shape
-  pub same_texts : (texts : List (List ℕ)) → Cooks expander (literals shape) texts → Cooks expander (map lexeme (literals tree)) texts
+  pub same_lexemes : map (over_literal lexeme) (literals tree) ≡ literals shape
+  pub same_texts : (texts : List (List ℕ)) → Cooks expander (literals shape) texts → Cooks expander (map (over_literal lexeme) (literals tree)) texts
   pub same_bindings : bindings tree ≡ bindings shape
   pub same_recipes : recipes tree ≡ recipes shape
   pub printed_again : printed (shape_of tree) indentation ≡ source

@@ -1,5 +1,5 @@
 -- A derivation carried over to tokens that differ in their places alone, to other leaves and to another limit.
-use Rattle.std.proofs.Common.{◌≡◌, ℕ, List, [], ◌∷◌, map, Option, refl, sym, subst, ap, ◌∙◌}
+use Rattle.std.proofs.Common.{◌≡◌, ℕ, true, false, List, [], ◌∷◌, map, Option, refl, sym, subst, ap, ◌∙◌}
 use Rattle.std.specs.Str.{trim_end}
 use Rattle.justfile_base.specs.declared.token_kind.TokenKind.{TokenKind}
 use Rattle.justfile_model.specs.Tok.{Tok}
@@ -7,7 +7,7 @@ use Rattle.justfile_model.specs.SignificantTokens.{SignificantToken}
 use Rattle.justfile_model.specs.Tree as tree
 use Rattle.justfile_model.specs.Tree.{Expr, Fragment, BodyLine, Line, Item, before, trimmed, over_expr, over_fragment, over_line, over_item}
 use Rattle.justfile_model.specs.Grammar as g
-use Rattle.justfile_model.specs.Grammar.{front, IsKind, IsWord, Value, Expression, LineRest, BeforeBody, NotEmpty, BodyLines, OnLine, Block, Items, Behind, LineEnd, File}
+use Rattle.justfile_model.specs.Grammar.{front, IsKind, IsWord, IsExpanded, NotExpanded, Value, Expression, LineRest, BeforeBody, NotEmpty, BodyLines, OnLine, Block, Items, Behind, LineEnd, File}
 
 -- the same but for the place
 pub record Same (t u : SignificantToken) : Type 0 where
@@ -57,6 +57,17 @@ not_empty_before : {X Y : Type 0} (m : X → Y) (xs : List X) → NotEmpty (map 
 not_empty_before m [] n = n
 not_empty_before m (x ∷ xs) n = tt
 
+expanded_of : {m m' t u : SignificantToken} → Same m m' → Same t u → IsExpanded m t → IsExpanded m' u
+expanded_of m s e = record {
+  marked = record { is_name = same_kind_of m e.marked.is_name; spelled = sym m.lexeme ∙ e.marked.spelled };
+  is_string = same_kind_of s e.is_string;
+  glued = sym s.glued ∙ e.glued;
+}
+
+-- they were such a literal before
+expanded_before : {m m' t u : SignificantToken} → Same m m' → Same t u → IsExpanded m' u → IsExpanded m t
+expanded_before m s e = record { marked = word_before m e.marked; is_string = s.kind ∙ e.is_string; glued = s.glued ∙ e.glued }
+
 -- ---- empty lines at the end are the same over other leaves
 
 module _ {A B C D E F : Type 0} (f : A → D) (h : B → E) (k : C → F) where
@@ -101,6 +112,10 @@ module _ {A B C A' B' C' D E F : Type 0} (leaf : Tok → A) (spot : Tok → B) (
   kind_of : {kind : TokenKind} {t u : SignificantToken} → Rel t u → IsKind kind t → IsKind kind u
   kind_of s = same_kind_of (weak _ _ s)
 
+  unmarked_of : {name name' : SignificantToken} {ts us : List SignificantToken} → Same name name' → Pairs Rel ts us → NotExpanded name ts → NotExpanded name' us
+  unmarked_of w nil n = tt
+  unmarked_of w (cons s ss) n = λ e. n (expanded_before w (weak _ _ s) e)
+
   comment_of : (t u : SignificantToken) → Rel t u → trim_end u.tok.lexeme ≡ trim_end t.tok.lexeme
   comment_of t u s = let w = weak t u s in ap trim_end (sym w.lexeme)
 
@@ -121,13 +136,17 @@ module _ {A B C A' B' C' D E F : Type 0} (leaf : Tok → A) (spot : Tok → B) (
 
   pub value : {d : ℕ} {e : Expr A B} {ts rest : List SignificantToken} → Value leaf spot Open d e ts rest → (us : List SignificantToken) → Pairs Rel ts us → ExprOf (λ x r. Value leaf' spot' Open' d x us r) e rest
   value (g.literal {token = t} kind) us (cons {u = u} s ss) =
-      record { tree = tree.StringLiteral (leaf' u.tok); after = _; derives = g.literal (kind_of s kind); alike = λ i. tree.StringLiteral (leaves t u s i); same = ss }
-  value (g.variable {name = t} kind not_if not_assert) us (cons {u = u} s ss) =
+      record { tree = tree.StringLiteral false (leaf' u.tok); after = _; derives = g.literal (kind_of s kind); alike = λ i. tree.StringLiteral false (leaves t u s i); same = ss }
+  value (g.expanded {token = t} e) us (cons {u = m'} m (cons {u = u} s ss)) =
+      record { tree = tree.StringLiteral true (leaf' u.tok); after = _; derives = g.expanded (expanded_of (weak _ _ m) (weak _ _ s) e); alike = λ i. tree.StringLiteral true (leaves t u s i); same = ss }
+  value (g.backtick {token = t} kind) us (cons {u = u} s ss) =
+      record { tree = tree.Backtick (leaf' u.tok); after = _; derives = g.backtick (kind_of s kind); alike = λ i. tree.Backtick (leaves t u s i); same = ss }
+  value (g.variable {name = t} kind not_if not_assert unmarked) us (cons {u = u} s ss) =
       let w = weak t u s in
       record {
         tree = tree.Variable (leaf' u.tok);
         after = _;
-        derives = g.variable (kind_of s kind) (λ x. not_if (word_before w x)) (λ x. not_assert (word_before w x));
+        derives = g.variable (kind_of s kind) (λ x. not_if (word_before w x)) (λ x. not_assert (word_before w x)) (unmarked_of w ss unmarked);
         alike = λ i. tree.Variable (leaves t u s i);
         same = ss;
       }

@@ -1,15 +1,20 @@
 -- Which literals have texts, and that each has one.
-use Rattle.std.proofs.Common.{◌≡◌, true, ℕ, List, [], ◌∷◌, ◌++◌, map, Option, Some, None, is_some, refl, sym, subst, ap, ◌∙◌}
+use Rattle.std.proofs.Common.{◌≡◌, ℕ, List, [], ◌∷◌, ◌++◌, map, Result, Ok, refl, sym, subst, ap, ◌∙◌}
 use Rattle.std.proofs.lemmas.List.{append_assoc}
 use Rattle.justfile_model.specs.Tok.{Tok}
 use Rattle.justfile_model.specs.Tree.{Fragment, Text, Interpolation, BodyLine, Line, Item, before, trimmed, lexeme}
-use Rattle.justfile_model.specs.Literals.{Answers, cooked_text, Cooks}
+use Rattle.justfile_model.specs.Literals.{Literal, over_literal, LiteralFault, Answers, cooked_text, Cooks}
 use Rattle.justfile_model.specs.Files.{expr_literals, fragments_literals, body_literals, item_literals, literals}
 
+-- the literal has a text
+pub record HasText (expander : Answers) (l : Literal Tok) : Type 0 where
+  pub text : List ℕ
+  pub is : cooked_text expander (over_literal lexeme l) ≡ Ok text
+
 -- each of the literals has a text
-abbrev pub AllCook : Answers → List Tok → Type 0
+abbrev pub AllCook : Answers → List (Literal Tok) → Type 0
 AllCook expander [] = Unit {0}
-AllCook expander (t ∷ ts) = (is_some (cooked_text expander t.lexeme) ≡ true) × AllCook expander ts
+AllCook expander (l ∷ ls) = HasText expander l × AllCook expander ls
 
 pub literals_append : {A B C : Type 0} (is js : List (Item A B C)) → literals (is ++ js) ≡ literals is ++ literals js
 literals_append [] js = refl
@@ -26,17 +31,17 @@ trimmed_literals [] = refl
 trimmed_literals (Line number fragments ∷ ls) = before_literals (Line number fragments) (trimmed ls) ∙ ap (λ l. fragments_literals fragments ++ l) (trimmed_literals ls)
 
 module _ (expander : Answers) where
-  pub both_cook : (ts us : List Tok) → AllCook expander ts → AllCook expander us → AllCook expander (ts ++ us)
-  both_cook [] us a b = b
-  both_cook (t ∷ ts) us a b = (a.0, both_cook ts us a.1 b)
+  pub both_cook : (ls ms : List (Literal Tok)) → AllCook expander ls → AllCook expander ms → AllCook expander (ls ++ ms)
+  both_cook [] ms a b = b
+  both_cook (l ∷ ls) ms a b = (a.0, both_cook ls ms a.1 b)
 
-  pub first_cook : (ts us : List Tok) → AllCook expander (ts ++ us) → AllCook expander ts
-  first_cook [] us a = tt
-  first_cook (t ∷ ts) us a = (a.0, first_cook ts us a.1)
+  pub first_cook : (ls ms : List (Literal Tok)) → AllCook expander (ls ++ ms) → AllCook expander ls
+  first_cook [] ms a = tt
+  first_cook (l ∷ ls) ms a = (a.0, first_cook ls ms a.1)
 
-  pub then_cook : (ts us : List Tok) → AllCook expander (ts ++ us) → AllCook expander us
-  then_cook [] us a = a
-  then_cook (t ∷ ts) us a = then_cook ts us a.1
+  pub then_cook : (ls ms : List (Literal Tok)) → AllCook expander (ls ++ ms) → AllCook expander ms
+  then_cook [] ms a = a
+  then_cook (l ∷ ls) ms a = then_cook ls ms a.1
 
   -- a fragment, and those behind it
   pub fragments_cook : {B : Type 0} (f : Fragment Tok B) (more : List (Fragment Tok B)) → AllCook expander (fragments_literals (f ∷ [])) → AllCook expander (fragments_literals more) → AllCook expander (fragments_literals (f ∷ more))
@@ -50,31 +55,26 @@ module _ (expander : Answers) where
   pub items_cook : {B C : Type 0} (is js : List (Item Tok B C)) → AllCook expander (literals is) → AllCook expander (literals js) → AllCook expander (literals (is ++ js))
   items_cook is js a b = subst (AllCook expander) (sym (literals_append is js)) (both_cook (literals is) (literals js) a b)
 
-  text_inside : (o : Option (List ℕ)) → is_some o ≡ true → (text : List ℕ) × (o ≡ Some text)
-  text_inside None h = cc
-  text_inside (Some text) h = (text, refl)
-
   -- literals that all have texts have these
-  pub texts_of : (ts : List Tok) → AllCook expander ts → (texts : List (List ℕ)) × Cooks expander (map lexeme ts) texts
+  pub texts_of : (ls : List (Literal Tok)) → AllCook expander ls → (texts : List (List ℕ)) × Cooks expander (map (over_literal lexeme) ls) texts
   texts_of [] a = ([], tt)
-  texts_of (t ∷ ts) a =
-      let one = text_inside (cooked_text expander t.lexeme) a.0 in
-      let more = texts_of ts a.1 in
-      (one.0 ∷ more.0, (one.1, more.1))
+  texts_of (l ∷ ls) a =
+      let more = texts_of ls a.1 in
+      (a.0.text ∷ more.0, (a.0.is, more.1))
 
-  pub all_cook : (ts : List Tok) (texts : List (List ℕ)) → Cooks expander (map lexeme ts) texts → AllCook expander ts
+  pub all_cook : (ls : List (Literal Tok)) (texts : List (List ℕ)) → Cooks expander (map (over_literal lexeme) ls) texts → AllCook expander ls
   all_cook [] texts c = tt
-  all_cook (t ∷ ts) [] c = absurd c
-  all_cook (t ∷ ts) (text ∷ texts) c = (ap is_some c.0, all_cook ts texts c.1)
+  all_cook (l ∷ ls) [] c = absurd c
+  all_cook (l ∷ ls) (text ∷ texts) c = (record { text = text; is = c.0 }, all_cook ls texts c.1)
 
-  some_inside : (a b : List ℕ) → ◌≡◌ {A = Option (List ℕ)} (Some a) (Some b) → a ≡ b
-  some_inside a b h = cc
+  ok_inside : (a b : List ℕ) → ◌≡◌ {A = Result (List ℕ) LiteralFault} (Ok a) (Ok b) → a ≡ b
+  ok_inside a b h = cc
 
   -- the same literals have the same texts
-  pub same_texts : (lexemes texts others : List (List ℕ)) → Cooks expander lexemes texts → Cooks expander lexemes others → texts ≡ others
+  pub same_texts : (ls : List (Literal (List ℕ))) (texts others : List (List ℕ)) → Cooks expander ls texts → Cooks expander ls others → texts ≡ others
   same_texts [] [] [] c d = refl
   same_texts [] [] (x ∷ others) c d = absurd d
   same_texts [] (x ∷ texts) others c d = absurd c
-  same_texts (l ∷ lexemes) [] others c d = absurd c
-  same_texts (l ∷ lexemes) (t ∷ texts) [] c d = absurd d
-  same_texts (l ∷ lexemes) (t ∷ texts) (u ∷ others) c d = λ i. some_inside t u (sym c.0 ∙ d.0) i ∷ same_texts lexemes texts others c.1 d.1 i
+  same_texts (l ∷ ls) [] others c d = absurd c
+  same_texts (l ∷ ls) (t ∷ texts) [] c d = absurd d
+  same_texts (l ∷ ls) (t ∷ texts) (u ∷ others) c d = λ i. ok_inside t u (sym c.0 ∙ d.0) i ∷ same_texts ls texts others c.1 d.1 i

@@ -44,7 +44,9 @@ name_identifiers ts x = after_accept kinds.Identifier ts (λ o. o ≡ Some x →
 module _ {A B : Type 0} (leaf : Tok → A) (spot : Tok → B) (Open : ℕ → Option SignificantToken → Type 0) where
   pub value_counts : {depth : ℕ} {e : Expr A B} {ts rest : List SignificantToken} → Value leaf spot Open depth e ts rest → identifiers rest ≤ identifiers ts
   value_counts (g.literal kind) = omega arith
-  value_counts (g.variable kind not_if not_assert) = omega arith
+  value_counts (g.expanded e) = omega arith
+  value_counts (g.backtick kind) = omega arith
+  value_counts (g.variable kind not_if not_assert unmarked) = omega arith
 
   pub expression_counts : {depth : ℕ} {e : Expr A B} {ts rest : List SignificantToken} → Expression leaf spot Open depth e ts rest → identifiers rest ≤ identifiers ts
   expression_counts (g.value open_still v) = value_counts v

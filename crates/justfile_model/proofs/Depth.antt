@@ -9,7 +9,9 @@ use Rattle.justfile_model.specs.Grammar.{Value, Expression, LineRest, BodyLines,
 module _ {A B C : Type 0} (leaf : Tok → A) (spot : Tok → B) (number : Tok → C) where
   value_limited : {depth : ℕ} {e : Expr A B} {ts rest : List SignificantToken} → Value leaf spot Free depth e ts rest → Value leaf spot Limited depth e ts rest
   value_limited (g.literal kind) = g.literal kind
-  value_limited (g.variable kind not_if not_assert) = g.variable kind not_if not_assert
+  value_limited (g.expanded e) = g.expanded e
+  value_limited (g.backtick kind) = g.backtick kind
+  value_limited (g.variable kind not_if not_assert unmarked) = g.variable kind not_if not_assert unmarked
 
   expression_limited : {depth : ℕ} {e : Expr A B} {ts rest : List SignificantToken} → depth < 256 → Expression leaf spot Free depth e ts rest → Expression leaf spot Limited depth e ts rest
   expression_limited below (g.value open_still v) = g.value below (value_limited v)

@@ -1,20 +1,31 @@
 -- A file keeps its tree where an expander answers more.
-use Rattle.std.proofs.Common.{◌≡◌, ℕ, List, [], ◌∷◌, Some}
+use Rattle.std.proofs.Common.{◌≡◌, ℕ, List, [], ◌∷◌, None, Result, Ok, Err, sym, ap, ◌∙◌, ⊎_elim}
 use Rattle.justfile_model.specs.SignificantTokens.{SignificantToken}
 use Rattle.justfile_model.specs.Tree.{Tree, Shape}
-use Rattle.justfile_model.specs.Literals.{Answers, Within, cooked_text, Cooks}
+use Rattle.justfile_model.specs.Literals.{Literal, Plain, Expanded, Command, LiteralFault, Unasked, Answers, Within, by_answer, string_text, expanded_text, cooked_text, Cooks}
 use Rattle.justfile_model.specs.Files.{VersionNumbers, FileDerives, ShapeDerives}
 
 module _ (some all : Answers) (within : Within some all) where
-  -- no literal that is read yet is expanded
-  text_kept : (lexeme text : List ℕ) → cooked_text some lexeme ≡ Some text → cooked_text all lexeme ≡ Some text
-  text_kept lexeme text h = h
+  answer_kept : (asked text : List ℕ) → by_answer (some asked) ≡ Ok text → by_answer (all asked) ≡ Ok text
+  answer_kept asked text h = ⊎_elim
+      (λ (none : some asked ≡ None). let bad : ◌≡◌ {A = Result (List ℕ) LiteralFault} (Err Unasked) (Ok text) = sym (ap by_answer none) ∙ h in cc)
+      (λ (same : some asked ≡ all asked). sym (ap by_answer same) ∙ h)
+      (within asked)
 
-  pub texts_kept : (lexemes texts : List (List ℕ)) → Cooks some lexemes texts → Cooks all lexemes texts
+  expanded_kept : (found : Result (List ℕ) LiteralFault) (text : List ℕ) → expanded_text some found ≡ Ok text → expanded_text all found ≡ Ok text
+  expanded_kept (Ok asked) text h = answer_kept asked text h
+  expanded_kept (Err fault) text h = h
+
+  text_kept : (l : Literal (List ℕ)) (text : List ℕ) → cooked_text some l ≡ Ok text → cooked_text all l ≡ Ok text
+  text_kept (Plain lexeme) text h = h
+  text_kept (Expanded lexeme) text h = expanded_kept (string_text lexeme) text h
+  text_kept (Command lexeme) text h = h
+
+  pub texts_kept : (literals : List (Literal (List ℕ))) (texts : List (List ℕ)) → Cooks some literals texts → Cooks all literals texts
   texts_kept [] [] c = tt
   texts_kept [] (text ∷ texts) c = absurd c
-  texts_kept (l ∷ lexemes) [] c = absurd c
-  texts_kept (l ∷ lexemes) (text ∷ texts) c = (text_kept l text c.0, texts_kept lexemes texts c.1)
+  texts_kept (l ∷ literals) [] c = absurd c
+  texts_kept (l ∷ literals) (text ∷ texts) c = (text_kept l text c.0, texts_kept literals texts c.1)
 
   module _ (current : VersionNumbers) (tokens : List SignificantToken) where
     pub tree_kept : (tree : Tree) → FileDerives some current tokens tree → FileDerives all current tokens tree

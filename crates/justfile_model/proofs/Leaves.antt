@@ -1,12 +1,12 @@
 -- The grammar over trees and over shapes: a tree derives if its shape does.
-use Rattle.std.proofs.Common.{◌≡◌, ℕ, List, [], ◌∷◌, ◌++◌, map, Option, refl, sym, subst, ap, ◌∙◌}
+use Rattle.std.proofs.Common.{◌≡◌, ℕ, true, false, List, [], ◌∷◌, ◌++◌, map, Option, refl, sym, subst, ap, ◌∙◌}
 use Rattle.std.proofs.lemmas.List.{map-append}
 use Rattle.justfile_model.specs.Tok.{Tok}
 use Rattle.justfile_model.specs.SignificantTokens.{SignificantToken}
 use Rattle.justfile_model.specs.Tree as tree
 use Rattle.justfile_model.specs.Tree.{Expr, Fragment, BodyLine, Line, Item, Tree, Shape, over_expr, over_fragment, over_line, over_item, lexeme, nothing, itself, line_of, shape_of}
 use Rattle.justfile_model.specs.Grammar.{front, File}
-use Rattle.justfile_model.specs.Literals.{Answers, Cooks}
+use Rattle.justfile_model.specs.Literals.{over_literal, Answers, Cooks}
 use Rattle.justfile_model.specs.Files.{VersionNumbers, expr_literals, fragments_literals, body_literals, item_literals, literals, FileDerives, ShapeDerives}
 use Rattle.justfile_model.proofs.Agreement.{one_tree}
 use Rattle.justfile_model.proofs.Carry as c
@@ -18,7 +18,8 @@ same_leaf x = x
 -- ---- leaves replaced by themselves
 
 expr_itself : {A B : Type 0} (e : Expr A B) → over_expr same_leaf same_leaf e ≡ e
-expr_itself (tree.StringLiteral token) = refl
+expr_itself (tree.StringLiteral expanded token) = refl
+expr_itself (tree.Backtick token) = refl
 expr_itself (tree.Variable name) = refl
 
 fragments_itself : {A B : Type 0} (fragments : List (Fragment A B)) → map (over_fragment same_leaf same_leaf) fragments ≡ fragments
@@ -42,30 +43,32 @@ items_itself (i ∷ items) = λ k. item_itself i k ∷ items_itself items k
 
 -- ---- the literals of a shape are the lexemes of the tree's
 
-expr_lexemes : (e : Expr Tok Tok) → expr_literals (over_expr lexeme nothing e) ≡ map lexeme (expr_literals e)
-expr_lexemes (tree.StringLiteral token) = refl
+expr_lexemes : (e : Expr Tok Tok) → expr_literals (over_expr lexeme nothing e) ≡ map (over_literal lexeme) (expr_literals e)
+expr_lexemes (tree.StringLiteral true token) = refl
+expr_lexemes (tree.StringLiteral false token) = refl
+expr_lexemes (tree.Backtick token) = refl
 expr_lexemes (tree.Variable name) = refl
 
-fragments_lexemes : (fragments : List (Fragment Tok Tok)) → fragments_literals (map (over_fragment lexeme nothing) fragments) ≡ map lexeme (fragments_literals fragments)
+fragments_lexemes : (fragments : List (Fragment Tok Tok)) → fragments_literals (map (over_fragment lexeme nothing) fragments) ≡ map (over_literal lexeme) (fragments_literals fragments)
 fragments_lexemes [] = refl
 fragments_lexemes (tree.Text token ∷ fragments) = fragments_lexemes fragments
 fragments_lexemes (tree.Interpolation value ∷ fragments) =
-    (λ k. expr_lexemes value k ++ fragments_lexemes fragments k) ∙ sym (map-append lexeme (expr_literals value) (fragments_literals fragments))
+    (λ k. expr_lexemes value k ++ fragments_lexemes fragments k) ∙ sym (map-append (over_literal lexeme) (expr_literals value) (fragments_literals fragments))
 
-body_lexemes : (body : List (BodyLine Tok Tok ℕ)) → body_literals (map (over_line lexeme nothing nothing) body) ≡ map lexeme (body_literals body)
+body_lexemes : (body : List (BodyLine Tok Tok ℕ)) → body_literals (map (over_line lexeme nothing nothing) body) ≡ map (over_literal lexeme) (body_literals body)
 body_lexemes [] = refl
 body_lexemes (Line number fragments ∷ body) =
-    (λ k. fragments_lexemes fragments k ++ body_lexemes body k) ∙ sym (map-append lexeme (fragments_literals fragments) (body_literals body))
+    (λ k. fragments_lexemes fragments k ++ body_lexemes body k) ∙ sym (map-append (over_literal lexeme) (fragments_literals fragments) (body_literals body))
 
-item_lexemes : (i : Item Tok Tok ℕ) → item_literals (over_item lexeme nothing nothing i) ≡ map lexeme (item_literals i)
+item_lexemes : (i : Item Tok Tok ℕ) → item_literals (over_item lexeme nothing nothing i) ≡ map (over_literal lexeme) (item_literals i)
 item_lexemes (tree.Assignment name value) = expr_lexemes value
 item_lexemes (tree.Comment text) = refl
 item_lexemes tree.Newline = refl
 item_lexemes (tree.Recipe name body) = body_lexemes body
 
-pub lexemes : (t : Tree) → literals (shape_of t) ≡ map lexeme (literals t)
+pub lexemes : (t : Tree) → literals (shape_of t) ≡ map (over_literal lexeme) (literals t)
 lexemes [] = refl
-lexemes (i ∷ t) = (λ k. item_lexemes i k ++ lexemes t k) ∙ sym (map-append lexeme (item_literals i) (literals t))
+lexemes (i ∷ t) = (λ k. item_lexemes i k ++ lexemes t k) ∙ sym (map-append (over_literal lexeme) (item_literals i) (literals t))
 
 -- ---- the same tokens
 

@@ -11,7 +11,9 @@ use Rattle.justfile_model.proofs.Steps.{NotNext}
 module _ {A B : Type 0} (leaf : Tok → A) (spot : Tok → B) (Open : ℕ → Option SignificantToken → Type 0) where
   pub value_progress : {depth : ℕ} {e : Expr A B} {ts rest : List SignificantToken} → Value leaf spot Open depth e ts rest → length rest < length ts
   value_progress (g.literal kind) = omega arith
-  value_progress (g.variable kind not_if not_assert) = omega arith
+  value_progress (g.expanded e) = omega arith
+  value_progress (g.backtick kind) = omega arith
+  value_progress (g.variable kind not_if not_assert unmarked) = omega arith
 
   pub expression_progress : {depth : ℕ} {e : Expr A B} {ts rest : List SignificantToken} → Expression leaf spot Open depth e ts rest → length rest < length ts
   expression_progress (g.value open_still v) = value_progress v

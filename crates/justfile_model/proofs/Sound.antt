@@ -1,18 +1,18 @@
 -- What is read derives, and its literals have texts.
-use Rattle.std.proofs.Common.{◌≡◌, ℕ, ◌+◌, ◌<◌, Bool, true, false, cond, nat_lt, is_some, List, [], ◌∷◌, ◌++◌, length, drop, Result, Ok, Err, IfOk, refl, sym, subst, ap, ◌∙◌, arith}
+use Rattle.std.proofs.Common.{◌≡◌, ℕ, ◌+◌, ◌<◌, Bool, true, false, cond, nat_lt, List, [], ◌∷◌, ◌++◌, length, drop, Result, Ok, Err, IfOk, refl, sym, subst, ap, ◌∙◌, arith}
 use Rattle.std.proofs.lemmas.Bool.Decides.{nat_tests}
 use Rattle.justfile_base.specs.declared.token_kind.TokenKind.TheVariants as kinds
 use Rattle.justfile_model.specs.Tok.{Tok}
 use Rattle.justfile_model.specs.SignificantTokens.{SignificantToken}
 use Rattle.justfile_model.specs.Tree as tree
-use Rattle.justfile_model.specs.Tree.{Expr, Fragment, BodyLine, Line, Item, Tree, trimmed, itself, line_of}
+use Rattle.justfile_model.specs.Tree.{Expr, Fragment, BodyLine, Line, Item, Tree, trimmed, lexeme, itself, line_of}
 use Rattle.justfile_model.specs.Grammar as g
 use Rattle.justfile_model.specs.Grammar.{BeforeBody, Limited, IsKind, NotEmpty}
-use Rattle.justfile_model.specs.Literals.{Answers, cooked_text}
+use Rattle.justfile_model.specs.Literals.{Literal, Plain, Expanded, Command, over_literal, LiteralFault, Answers, cooked_text}
 use Rattle.justfile_model.specs.Files.{expr_literals, fragments_literals, body_literals, item_literals, literals}
-use Rattle.justfile_model.specs.Reader.{Refusal, Read, after, comment_item, line_at, has_body, next_are, literal_of, value, expression, assignment, fragment, no_line_rest, line_rest_rule, line_rest, body_line, no_lines, lines_rule, lines, some_lines, body, body_behind, recipe, on_line, line_end, behind, ended, line, with_front, at_end, items_rule, stop, items, file}
+use Rattle.justfile_model.specs.Reader.{Refusal, Read, after, comment_item, line_at, has_body, next_are, with_text, value, expression, assignment, fragment, no_line_rest, line_rest_rule, line_rest, body_line, no_lines, lines_rule, lines, some_lines, body, body_behind, recipe, on_line, line_end, behind, ended, line, with_front, at_end, items_rule, stop, items, file}
 use Rattle.justfile_model.proofs.Turns.{recursive_keeps}
-use Rattle.justfile_model.proofs.Steps.{NotNext, AreNext, are_next, known, after_bind, after_test, after_choose, after_choose_variable, after_expect}
+use Rattle.justfile_model.proofs.Steps.{NotNext, NotMarked, IsVariable, AreNext, are_next, known, after_bind, after_test, after_choose, after_choose_expanded, after_choose_variable, after_expect}
 use Rattle.justfile_model.proofs.CookedTexts.{AllCook, both_cook, fragments_cook, lines_cook, items_cook, trimmed_literals}
 
 -- trees with their tokens, under the limit
@@ -135,16 +135,30 @@ module _ (expander : Answers) where
   abbrev pub IsWhole : (Tree → List SignificantToken → Type 0) → List SignificantToken → Tree → Type 0
   IsWhole Rule ts x = Rule x ts × AllCook expander (literals x)
 
+  -- a literal that derives, if it has a text
+  cooked_sound : (depth : ℕ) (ts : List SignificantToken) (l : Literal Tok) (x : SignificantToken × List SignificantToken) (e : Expr Tok Tok) → Value depth e ts x.1 → expr_literals e ≡ l ∷ []
+      → (found : Result (List ℕ) LiteralFault) → cooked_text expander (over_literal lexeme l) ≡ found → IfOk (with_text e x found) (IsValue depth ts)
+  cooked_sound depth ts l x e v is (Ok text) h = (v, subst (AllCook expander) (sym is) (record { text = text; is = h }, tt))
+  cooked_sound depth ts l x e v is (Err fault) h = tt
+
+  -- the name is next
+  named_sound : (depth : ℕ) (ts rest : List SignificantToken) (t : SignificantToken) → NotMarked ts → ts ≡ t ∷ rest → IsVariable t → Value depth (tree.Variable t.tok) ts rest
+  named_sound depth ts rest t unmarked split is =
+      subst (λ (s : List SignificantToken). Value depth (tree.Variable t.tok) s rest) (sym split)
+      (g.variable is.is_name is.not_if is.not_assert (subst NotMarked split unmarked))
+
   pub value_sound : (depth : ℕ) (ts : List SignificantToken) → IfOk (value expander depth ts) (IsValue depth ts)
-  unfolding value literal_of
+  unfolding value
   value_sound depth ts =
       let P : Read (Expr Tok Tok) → Type 0 = λ o. IfOk o (IsValue depth ts) in
+      let V : Expr Tok Tok → List SignificantToken → List SignificantToken → Type 0 = λ e rest s. Value depth e s rest in
       after_choose kinds.StringToken ts _ _ P
-      (λ _. after_choose_variable ts _ _ P tt
-      (λ t rest split is. (subst (λ (s : List SignificantToken). Value depth (tree.Variable t.tok) s rest) (sym split) (g.variable is.is_name is.not_if is.not_assert), tt)))
-      (λ t rest split kind. after_test (is_some (cooked_text expander t.tok.lexeme)) _ _ P
-      (λ cooks. (subst (λ (s : List SignificantToken). Value depth (tree.StringLiteral t.tok) s rest) (sym split) (g.literal kind), (cooks, tt)))
-      (λ _. tt))
+      (λ _. after_choose kinds.Backtick ts _ _ P
+      (λ _. after_choose_expanded ts _ _ P
+      (λ unmarked. after_choose_variable ts _ _ P tt (λ t rest split is. (named_sound depth ts rest t unmarked split is, tt)))
+      (λ m t rest split is. cooked_sound depth ts (Expanded t.tok) (t, rest) _ (subst (V (tree.StringLiteral true t.tok) rest) (sym split) (g.expanded is)) refl _ refl))
+      (λ t rest split kind. cooked_sound depth ts (Command t.tok) (t, rest) _ (subst (V (tree.Backtick t.tok) rest) (sym split) (g.backtick kind)) refl _ refl))
+      (λ t rest split kind. cooked_sound depth ts (Plain t.tok) (t, rest) _ (subst (V (tree.StringLiteral false t.tok) rest) (sym split) (g.literal kind)) refl _ refl)
 
   pub value_at : (depth : ℕ) (ts : List SignificantToken) (x : Expr Tok Tok × List SignificantToken) → value expander depth ts ≡ Ok x → IsValue depth ts x
   value_at depth ts x is = known x (IsValue depth ts) is (value_sound depth ts)

@@ -1,5 +1,5 @@
 -- How the steps of a reader go, whatever is read.
-use Rattle.std.proofs.Common.{◌≡◌, ◌<◌, Bool, true, false, not, ◌&&◌, ◌||◌, cond, List, [], ◌∷◌, length, Option, Some, None, Result, Ok, Err, IfOk, refl, subst, ap, arith, codes}
+use Rattle.std.proofs.Common.{◌≡◌, ℕ, ◌<◌, Bool, true, false, not, ◌&&◌, ◌||◌, cond, List, [], ◌∷◌, length, Option, Some, None, Result, Ok, Err, IfOk, refl, subst, ap, arith, codes}
 use Rattle.std.specs.Str.{bytes_eq}
 use Rattle.std.proofs.lemmas.Bool.{and_parts}
 use Rattle.std.proofs.lemmas.Slice.Eq.{bytes_eq-Decides}
@@ -8,8 +8,8 @@ use Rattle.justfile_base.specs.contracts.token_kind.TokenKind.{the_type}
 use Rattle.justfile_base.specs.declared.token_kind.TokenKind.{TokenKind}
 use Rattle.justfile_base.specs.declared.token_kind.TokenKind.TheVariants as kinds
 use Rattle.justfile_model.specs.SignificantTokens.{SignificantToken}
-use Rattle.justfile_model.specs.Grammar.{IsKind, IsWord}
-use Rattle.justfile_model.specs.Reader.{Refusal, Unexpected, ◌>>=◌, same_kind, is_variable, accept, accept_variable, choose, expect, next_are, refused}
+use Rattle.justfile_model.specs.Grammar.{IsKind, IsWord, IsExpanded, NotExpanded}
+use Rattle.justfile_model.specs.Reader.{Refusal, Unexpected, ◌>>=◌, same_kind, is_word, is_variable, accept, accept_variable, accept_expanded, choose, expect, next_are, refused}
 
 -- the next token isn't of this kind
 abbrev pub NotNext : TokenKind → List SignificantToken → Type 0
@@ -148,6 +148,60 @@ pub variable_taken : (t : SignificantToken) (ts : List SignificantToken) → IsV
 unfolding accept_variable
 variable_taken t ts e = ap (λ b. cond b (Some (t, ts)) None) (variable_test t e)
 
+-- ---- a string that is marked `x`
+
+-- none comes next
+abbrev pub NotMarked : List SignificantToken → Type 0
+NotMarked [] = Unit {0}
+NotMarked (m ∷ ts) = NotExpanded m ts
+
+word_is : (word : List ℕ) (t : SignificantToken) → is_word word t ≡ true → IsWord word t
+unfolding is_word same_kind
+word_is word t h =
+    let parts = and_parts (same_kind t.tok.kind kinds.Identifier) (bytes_eq t.tok.lexeme word) h in
+    record { is_name = same_true the_type tt _ _ parts.0; spelled = (bytes_eq-Decides t.tok.lexeme word).0 parts.1 }
+
+word_test : (word : List ℕ) (t : SignificantToken) → IsWord word t → is_word word t ≡ true
+unfolding is_word same_kind
+word_test word t h = both_true (same_kind t.tok.kind kinds.Identifier) (bytes_eq t.tok.lexeme word) (true_same the_type _ _ h.is_name) ((bytes_eq-Decides t.tok.lexeme word).1 h.spelled)
+
+abbrev is_expanded : SignificantToken → SignificantToken → Bool
+is_expanded m t = is_word (codes "x") m && same_kind t.tok.kind kinds.StringToken && t.glued
+
+expanded_is : (m t : SignificantToken) → is_expanded m t ≡ true → IsExpanded m t
+unfolding same_kind
+expanded_is m t h =
+    let parts = and_parts (is_word (codes "x") m && same_kind t.tok.kind kinds.StringToken) t.glued h in
+    let tokens = and_parts (is_word (codes "x") m) (same_kind t.tok.kind kinds.StringToken) parts.0 in
+    record { marked = word_is (codes "x") m tokens.0; is_string = same_true the_type tt _ _ tokens.1; glued = parts.1 }
+
+expanded_test : (m t : SignificantToken) → IsExpanded m t → is_expanded m t ≡ true
+unfolding same_kind
+expanded_test m t h =
+    both_true (is_word (codes "x") m && same_kind t.tok.kind kinds.StringToken) t.glued
+    (both_true (is_word (codes "x") m) (same_kind t.tok.kind kinds.StringToken) (word_test (codes "x") m h.marked) (true_same the_type _ _ h.is_string))
+    h.glued
+
+expanded_tested : (m t : SignificantToken) (ts : List SignificantToken) (P : Option (SignificantToken × List SignificantToken) → Type 0) → (IsExpanded m t → P (Some (t, ts))) → ((IsExpanded m t → ⊥) → P None) → (b : Bool) → is_expanded m t ≡ b → P (cond b (Some (t, ts)) None)
+expanded_tested m t ts P here not_here true e = here (expanded_is m t e)
+expanded_tested m t ts P here not_here false e = not_here (λ h. true_not_false _ (expanded_test m t h) e)
+
+pub after_expanded : (ts : List SignificantToken) (P : Option (SignificantToken × List SignificantToken) → Type 0) → (NotMarked ts → P None) → ((m t : SignificantToken) (rest : List SignificantToken) → ts ≡ m ∷ t ∷ rest → IsExpanded m t → P (Some (t, rest))) → P (accept_expanded ts)
+unfolding accept_expanded
+after_expanded [] P not_here here = not_here tt
+after_expanded (m ∷ []) P not_here here = not_here tt
+after_expanded (m ∷ t ∷ ts) P not_here here = expanded_tested m t ts P (λ e. here m t ts refl e) not_here (is_expanded m t) refl
+
+pub expanded_taken : (m t : SignificantToken) (ts : List SignificantToken) → IsExpanded m t → accept_expanded (m ∷ t ∷ ts) ≡ Some (t, ts)
+unfolding accept_expanded
+expanded_taken m t ts e = ap (λ b. cond b (Some (t, ts)) None) (expanded_test m t e)
+
+pub expanded_left : (ts : List SignificantToken) → NotMarked ts → accept_expanded ts ≡ None
+unfolding accept_expanded
+expanded_left [] h = refl
+expanded_left (m ∷ []) h = refl
+expanded_left (m ∷ t ∷ ts) h = ap (λ b. cond b (Some (t, ts)) None) (is_false (is_expanded m t) (λ e. h (expanded_is m t e)))
+
 -- ---- what was taken leaves fewer tokens
 
 -- the tokens are this one and those behind it
@@ -164,6 +218,17 @@ accept_shorter kind ts p = cut_shorter ts (accept kind ts) p (after_accept kind 
 pub variable_shorter : (ts : List SignificantToken) (p : SignificantToken × List SignificantToken) → accept_variable ts ≡ Some p → length p.1 < length ts
 variable_shorter ts p = cut_shorter ts (accept_variable ts) p (after_variable ts (Cut ts) tt (λ t rest split is. split))
 
+-- the tokens are a mark, this one and those behind it
+abbrev MarkedCut : List SignificantToken → Option (SignificantToken × List SignificantToken) → Type 0
+MarkedCut ts None = Unit {0}
+MarkedCut ts (Some p) = (mark : SignificantToken) × (ts ≡ mark ∷ p.0 ∷ p.1)
+
+marked_shorter : (ts : List SignificantToken) (o : Option (SignificantToken × List SignificantToken)) (p : SignificantToken × List SignificantToken) → MarkedCut ts o → o ≡ Some p → length p.1 < length ts
+marked_shorter ts o p h e = let at : MarkedCut ts (Some p) = subst (MarkedCut ts) e h in omega (arith, ap length at.1)
+
+pub expanded_shorter : (ts : List SignificantToken) (p : SignificantToken × List SignificantToken) → accept_expanded ts ≡ Some p → length p.1 < length ts
+expanded_shorter ts p = marked_shorter ts (accept_expanded ts) p (after_expanded ts (MarkedCut ts) (λ h. tt) (λ m t rest split is. (m, split)))
+
 -- ---- choices
 
 pub choose_alike : {A : Type 0} (o : Option (SignificantToken × List SignificantToken)) (x y : A) (f g : SignificantToken × List SignificantToken → A) → (o ≡ None → x ≡ y) → ((p : SignificantToken × List SignificantToken) → o ≡ Some p → f p ≡ g p) → choose o x f ≡ choose o y g
@@ -175,6 +240,9 @@ after_choose kind ts x f P = after_accept kind ts (λ o. P (choose o x f))
 
 pub after_choose_variable : {A : Type 0} (ts : List SignificantToken) (x : A) (f : SignificantToken × List SignificantToken → A) (P : A → Type 0) → P x → ((t : SignificantToken) (rest : List SignificantToken) → ts ≡ t ∷ rest → IsVariable t → P (f (t, rest))) → P (choose (accept_variable ts) x f)
 after_choose_variable ts x f P = after_variable ts (λ o. P (choose o x f))
+
+pub after_choose_expanded : {A : Type 0} (ts : List SignificantToken) (x : A) (f : SignificantToken × List SignificantToken → A) (P : A → Type 0) → (NotMarked ts → P x) → ((m t : SignificantToken) (rest : List SignificantToken) → ts ≡ m ∷ t ∷ rest → IsExpanded m t → P (f (t, rest))) → P (choose (accept_expanded ts) x f)
+after_choose_expanded ts x f P = after_expanded ts (λ o. P (choose o x f))
 
 pub expect_taken : (kind : TokenKind) (t : SignificantToken) (ts : List SignificantToken) → IsKind kind t → expect kind (t ∷ ts) ≡ Ok (t, ts)
 unfolding expect

@@ -1,9 +1,9 @@
 -- What a file derives.
-use Rattle.std.specs.Prelude.{◌≡◌, ℕ, ◌+◌, ◌-◌, ◌^◌, ◌≤◌, List, [], ◌∷◌, ◌++◌, map}
+use Rattle.std.specs.Prelude.{◌≡◌, ℕ, ◌+◌, ◌-◌, ◌^◌, ◌≤◌, true, false, List, [], ◌∷◌, ◌++◌, map}
 use Rattle.justfile_model.specs.SignificantTokens.{SignificantToken}
-use Rattle.justfile_model.specs.Tree.{Expr, StringLiteral, Variable, Fragment, Text, Interpolation, BodyLine, Line, Item, Assignment, Comment, Newline, Recipe, Tree, Shape, lexeme, nothing, itself, line_of}
+use Rattle.justfile_model.specs.Tree.{Expr, StringLiteral, Backtick, Variable, Fragment, Text, Interpolation, BodyLine, Line, Item, Assignment, Comment, Newline, Recipe, Tree, Shape, lexeme, nothing, itself, line_of}
 use Rattle.justfile_model.specs.Grammar.{File, Free, Limited}
-use Rattle.justfile_model.specs.Literals.{Answers, Cooks}
+use Rattle.justfile_model.specs.Literals.{Literal, Plain, Expanded, Command, over_literal, Answers, Cooks}
 
 -- a version of the program: three numbers
 pub record VersionNumbers : Type 0 where
@@ -11,27 +11,29 @@ pub record VersionNumbers : Type 0 where
   pub minor : ℕ
   pub patch : ℕ
 
--- what is at the literals of an expression, in order
-abbrev pub expr_literals : {A B : Type 0} → Expr A B → List A
-expr_literals (StringLiteral token) = token ∷ []
+-- the literals of an expression, in order
+abbrev pub expr_literals : {A B : Type 0} → Expr A B → List (Literal A)
+expr_literals (StringLiteral true token) = Expanded token ∷ []
+expr_literals (StringLiteral false token) = Plain token ∷ []
+expr_literals (Backtick token) = Command token ∷ []
 expr_literals (Variable name) = []
 
-abbrev pub fragments_literals : {A B : Type 0} → List (Fragment A B) → List A
+abbrev pub fragments_literals : {A B : Type 0} → List (Fragment A B) → List (Literal A)
 fragments_literals [] = []
 fragments_literals (Text token ∷ fragments) = fragments_literals fragments
 fragments_literals (Interpolation value ∷ fragments) = expr_literals value ++ fragments_literals fragments
 
-abbrev pub body_literals : {A B C : Type 0} → List (BodyLine A B C) → List A
+abbrev pub body_literals : {A B C : Type 0} → List (BodyLine A B C) → List (Literal A)
 body_literals [] = []
 body_literals (Line number fragments ∷ lines) = fragments_literals fragments ++ body_literals lines
 
-abbrev pub item_literals : {A B C : Type 0} → Item A B C → List A
+abbrev pub item_literals : {A B C : Type 0} → Item A B C → List (Literal A)
 item_literals (Assignment name value) = expr_literals value
 item_literals (Comment text) = []
 item_literals Newline = []
 item_literals (Recipe name body) = body_literals body
 
-abbrev pub literals : {A B C : Type 0} → List (Item A B C) → List A
+abbrev pub literals : {A B C : Type 0} → List (Item A B C) → List (Literal A)
 literals [] = []
 literals (i ∷ items) = item_literals i ++ literals items
 
@@ -75,7 +77,7 @@ FileTree tokens tree = File itself itself line_of Free tree tokens
 pub record FileDerives (expander : Answers) (current : VersionNumbers) (tokens : List SignificantToken) (tree : Tree) : Type 0 where
   pub derives : File itself itself line_of Limited tree tokens
   pub cooked : List (List ℕ)
-  pub cooks : Cooks expander (map lexeme (literals tree)) cooked
+  pub cooks : Cooks expander (map (over_literal lexeme) (literals tree)) cooked
 
 -- the same of a shape
 pub record ShapeDerives (expander : Answers) (current : VersionNumbers) (tokens : List SignificantToken) (shape : Shape) : Type 0 where

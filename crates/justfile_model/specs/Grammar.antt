@@ -1,7 +1,7 @@
 -- The grammar: which significant tokens are which tree. In `Rule leaf spot Open depth tree tokens rest` the tokens begin with the
 -- tree, and rest is what follows it; `leaf`, `spot` and `number` say what the tree keeps of a token; `depth` expressions are open
 -- around it, and `Open` says at which depth, before which token, an expression may be entered.
-use Rattle.std.specs.Prelude.{◌≡◌, ℕ, ◌+◌, ◌<◌, List, [], ◌∷◌, Option, Some, None, codes}
+use Rattle.std.specs.Prelude.{◌≡◌, ℕ, ◌+◌, ◌<◌, true, false, List, [], ◌∷◌, Option, Some, None, codes}
 use Rattle.std.specs.Str.{trim_end}
 use Rattle.justfile_base.specs.declared.token_kind.TokenKind.{TokenKind}
 use Rattle.justfile_base.specs.declared.token_kind.TokenKind.TheVariants as kinds
@@ -23,13 +23,28 @@ pub record IsWord (word : List ℕ) (t : SignificantToken) : Type 0 where
   pub is_name : IsKind kinds.Identifier t
   pub spelled : t.tok.lexeme ≡ word
 
+-- the name and the string directly behind it are a literal that is marked `x`
+pub record IsExpanded (mark token : SignificantToken) : Type 0 where
+  pub marked : IsWord (codes "x") mark
+  pub is_string : IsKind kinds.StringToken token
+  pub glued : token.glued ≡ true
+
+-- no such literal begins with the name
+abbrev pub NotExpanded : SignificantToken → List SignificantToken → Type 0
+NotExpanded name [] = Unit {0}
+NotExpanded name (t ∷ ts) = IsExpanded name t → ⊥
+
 module _ {A B : Type 0} (leaf : Tok → A) (spot : Tok → B) (Open : ℕ → Option SignificantToken → Type 0) where
-  -- a value: a string literal, or a name other than `if` and `assert`
+  -- a value: a literal, or a name other than `if` and `assert`
   pub data Value : ℕ → Expr A B → List SignificantToken → List SignificantToken → Type 0 where
     literal : {depth : ℕ} {token : SignificantToken} {rest : List SignificantToken} → IsKind kinds.StringToken token
-        → Value depth (tree.StringLiteral (leaf token.tok)) (token ∷ rest) rest
+        → Value depth (tree.StringLiteral false (leaf token.tok)) (token ∷ rest) rest
+    expanded : {depth : ℕ} {mark token : SignificantToken} {rest : List SignificantToken} → IsExpanded mark token
+        → Value depth (tree.StringLiteral true (leaf token.tok)) (mark ∷ token ∷ rest) rest
+    backtick : {depth : ℕ} {token : SignificantToken} {rest : List SignificantToken} → IsKind kinds.Backtick token
+        → Value depth (tree.Backtick (leaf token.tok)) (token ∷ rest) rest
     variable : {depth : ℕ} {name : SignificantToken} {rest : List SignificantToken} → IsKind kinds.Identifier name
-        → (IsWord (codes "if") name → ⊥) → (IsWord (codes "assert") name → ⊥)
+        → (IsWord (codes "if") name → ⊥) → (IsWord (codes "assert") name → ⊥) → NotExpanded name rest
         → Value depth (tree.Variable (leaf name.tok)) (name ∷ rest) rest
 
   -- an expression: a value

@@ -1,9 +1,12 @@
 pub mod Answers
 pub mod Bytes
+pub mod Cook
+pub mod EscapeFault
 pub mod Files
+pub mod FirstPiece
 pub mod Grammar
-pub mod LexicalFault
 pub mod Lexed
+pub mod LexicalFault
 pub mod LiteralText
 pub mod Literals
 pub mod Modes
@@ -13,6 +16,8 @@ pub mod Places
 pub mod Printing
 pub mod Reader
 pub mod Recursive
+pub mod Refusals
 pub mod SignificantTokens
 pub mod Tok
 pub mod Tree
+pub mod Unindent

@@ -1,7 +1,42 @@
 -- The texts that literals stand for.
-use Rattle.std.specs.Prelude.{◌≡◌, ℕ, ◌-◌, Bool, ◌&&◌, ◌||◌, ◌==◌, ◌⊎◌, List, [], ◌∷◌, length, take, drop, if◌then◌else◌, Option, Some, None, Result}
-use Rattle.std.specs.List.{list_any}
-use Rattle.justfile_base.specs.StringKind.{kind_of, escapes}
+use Rattle.std.specs.Prelude.{◌≡◌, ℕ, ◌-◌, ◌+◌, nat_eq, ◌⊎◌, List, [], ◌∷◌, length, take, drop, if◌then◌else◌, Option, Some, None, Result, Ok, Err, codes}
+use Rattle.std.specs.List.{starts_with}
+use Rattle.justfile_base.specs.declared.string_kind.StringKind.{StringKind}
+use Rattle.justfile_base.specs.StringKind.{kind_of, delimiter_len, escapes}
+use Rattle.justfile_model.specs.Unindent.{unindented}
+use Rattle.justfile_model.specs.EscapeFault.{EscapeFault}
+use Rattle.justfile_model.specs.FirstPiece as pieces
+
+-- a literal, by how it gets its text, and what is kept of its token
+pub data Literal (A : Type 0) : Type 0 where
+  -- a string
+  Plain : (token : A) → Literal A
+  -- a string that is marked `x`: its text is expanded
+  Expanded : (token : A) → Literal A
+  -- a command between backticks
+  Command : (token : A) → Literal A
+
+abbrev pub over_literal : {A B : Type 0} → (A → B) → Literal A → Literal B
+over_literal f (Plain token) = Plain (f token)
+over_literal f (Expanded token) = Expanded (f token)
+over_literal f (Command token) = Command (f token)
+
+-- what is kept of the token that has the text
+abbrev pub token_of : {A : Type 0} → Literal A → A
+token_of (Plain token) = token
+token_of (Expanded token) = token
+token_of (Command token) = token
+
+-- why a literal has no text
+pub data LiteralFault : Type 0 where
+  -- an escape that is none
+  Escape : EscapeFault → LiteralFault
+  -- the expander refuses its text, for this reason
+  Refused : (reason : List ℕ) → LiteralFault
+  -- the expander was not asked
+  Unasked : LiteralFault
+  -- a command that begins with `#!`
+  Shebang : LiteralFault
 
 -- what an expander answers for a text: the expanded text, or the text of its refusal; none for a text that it was not asked for
 abbrev pub Answers : Type 0
@@ -11,22 +46,47 @@ Answers = List ℕ → Option (Result (List ℕ) (List ℕ))
 abbrev pub Within : Answers → Answers → Type 0
 Within some all = (text : List ℕ) → (some text ≡ None) ⊎ (some text ≡ all text)
 
--- a backslash in a literal that has escapes
-abbrev pub has_escape : List ℕ → Bool
-has_escape lexeme = escapes (kind_of lexeme).delimiter && list_any (λ b. b == 92) lexeme
+-- what stands between so many bytes at the front and so many at the end
+abbrev pub between : (front end : ℕ) → List ℕ → List ℕ
+between front end lexeme = take (length lexeme - (front + end)) (drop front lexeme)
 
--- what stands between the quotes, each a single byte
+-- what stands between the quotes
 abbrev pub between_quotes : List ℕ → List ℕ
-between_quotes lexeme = take (length lexeme - 2) (drop 1 lexeme)
+between_quotes lexeme = between (delimiter_len (kind_of lexeme)) (delimiter_len (kind_of lexeme)) lexeme
 
--- the text of a string literal; none for tripled literals and escapes, which aren't read yet
-abbrev pub cooked_text : Answers → List ℕ → Option (List ℕ)
-cooked_text expander lexeme =
-    if (kind_of lexeme).indented || has_escape lexeme then None
-    else Some (between_quotes lexeme)
+-- what stands between the quotes, unindented where they are tripled
+abbrev pub flush_text : List ℕ → List ℕ
+flush_text lexeme = if (kind_of lexeme).indented then unindented (between_quotes lexeme) else between_quotes lexeme
+
+abbrev pub by_escapes : Result (List ℕ) EscapeFault → Result (List ℕ) LiteralFault
+by_escapes (Ok text) = Ok text
+by_escapes (Err e) = Err (Escape e)
+
+-- with its escapes replaced, in double quotes
+abbrev pub escaped : StringKind → List ℕ → Result (List ℕ) LiteralFault
+escaped kind text = if escapes kind.delimiter then by_escapes (pieces.cooked_text text) else Ok text
+
+abbrev pub string_text : List ℕ → Result (List ℕ) LiteralFault
+string_text lexeme = escaped (kind_of lexeme) (flush_text lexeme)
+
+abbrev pub by_answer : Option (Result (List ℕ) (List ℕ)) → Result (List ℕ) LiteralFault
+by_answer None = Err Unasked
+by_answer (Some (Ok text)) = Ok text
+by_answer (Some (Err reason)) = Err (Refused reason)
+
+-- expanded
+abbrev pub expanded_text : Answers → Result (List ℕ) LiteralFault → Result (List ℕ) LiteralFault
+expanded_text expander (Ok text) = by_answer (expander text)
+expanded_text expander (Err fault) = Err fault
+
+-- the text of a literal
+abbrev pub cooked_text : Answers → Literal (List ℕ) → Result (List ℕ) LiteralFault
+cooked_text expander (Plain lexeme) = string_text lexeme
+cooked_text expander (Expanded lexeme) = expanded_text expander (string_text lexeme)
+cooked_text expander (Command lexeme) = if starts_with nat_eq (flush_text lexeme) (codes "#!") then Err Shebang else Ok (flush_text lexeme)
 
 -- these are the texts of the literals, in order
-abbrev pub Cooks : Answers → List (List ℕ) → List (List ℕ) → Type 0
+abbrev pub Cooks : Answers → List (Literal (List ℕ)) → List (List ℕ) → Type 0
 Cooks expander [] [] = Unit {0}
-Cooks expander (lexeme ∷ lexemes) (text ∷ texts) = (cooked_text expander lexeme ≡ Some text) × Cooks expander lexemes texts
+Cooks expander (l ∷ literals) (text ∷ texts) = (cooked_text expander l ≡ Ok text) × Cooks expander literals texts
 Cooks expander _ _ = ⊥

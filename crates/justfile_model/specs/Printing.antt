@@ -1,14 +1,20 @@
 -- The printed text, of a normal shape at an indentation.
 use Rattle.std.specs.Prelude.{ℕ, Bool, true, not, ◌&&◌, List, [], ◌∷◌, ◌++◌, ◌==◌, false, codes}
 use Rattle.std.specs.List.{flat_map}
-use Rattle.justfile_model.specs.Tree.{Expr, StringLiteral, Variable, Fragment, Text, Interpolation, BodyLine, Line, Item, Assignment, Comment, Newline, Recipe, Shape}
+use Rattle.justfile_model.specs.Tree.{Expr, StringLiteral, Backtick, Variable, Fragment, Text, Interpolation, BodyLine, Line, Item, Assignment, Comment, Newline, Recipe, Shape}
 
 -- a piece that is the same in every text; kept folded, so that a text stays a row of pieces
 unfoldable pub piece : List ℕ → List ℕ
 piece bytes = bytes
 
+-- what stands before the quotes of a literal
+abbrev pub mark_text : (expanded : Bool) → List ℕ
+mark_text true = piece (codes "x")
+mark_text false = []
+
 abbrev pub expr_text : Expr (List ℕ) (Unit {0}) → List ℕ
-expr_text (StringLiteral lexeme) = lexeme
+expr_text (StringLiteral expanded lexeme) = mark_text expanded ++ lexeme
+expr_text (Backtick lexeme) = lexeme
 expr_text (Variable name) = name
 
 abbrev pub fragment_text : Fragment (List ℕ) (Unit {0}) → List ℕ

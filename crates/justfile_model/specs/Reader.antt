@@ -1,5 +1,5 @@
 -- Reading significant tokens from left to right, up to the first refusal. That it agrees with the grammar is a law.
-use Rattle.std.specs.Prelude.{ℕ, ◌+◌, Bool, true, false, not, ◌||◌, ◌&&◌, List, [], ◌∷◌, ◌++◌, length, drop, Option, Some, None, is_some, Result, Ok, Err, nat_lt, if◌then◌else◌, codes}
+use Rattle.std.specs.Prelude.{ℕ, ◌+◌, Bool, true, false, not, ◌||◌, ◌&&◌, List, [], ◌∷◌, ◌++◌, length, drop, Option, Some, None, Result, Ok, Err, nat_lt, if◌then◌else◌, codes}
 use Rattle.std.specs.Str.{bytes_eq, trim_end}
 use denote.Enum.Bare.{sameb}
 use Rattle.justfile_base.specs.contracts.token_kind.TokenKind.{the_type}
@@ -10,7 +10,7 @@ use Rattle.justfile_model.specs.SignificantTokens.{SignificantToken}
 use Rattle.justfile_model.specs.Tree as tree
 use Rattle.justfile_model.specs.Tree.{Expr, Fragment, BodyLine, Line, Item, Tree, trimmed}
 use Rattle.justfile_model.specs.Grammar.{front}
-use Rattle.justfile_model.specs.Literals.{Answers, cooked_text}
+use Rattle.justfile_model.specs.Literals.{Answers, Plain, Expanded, Command, LiteralFault, cooked_text}
 use Rattle.justfile_model.specs.Recursive.{recursive}
 
 -- why tokens are refused, and at which one; none where the tokens are at an end
@@ -20,7 +20,7 @@ pub data Refusal : Type 0 where
   -- too many expressions are open
   TooDeep : (token : Option SignificantToken) → Refusal
   -- the literal has no text
-  NotCooked : (token : Option SignificantToken) → Refusal
+  NotCooked : (fault : LiteralFault) (token : SignificantToken) → Refusal
 
 infixl 10 ◌>>=◌
 abbrev pub ◌>>=◌ : {A B : Type 0} → Result A Refusal → (A → Result B Refusal) → Result B Refusal
@@ -88,16 +88,27 @@ abbrev pub has_body : {A B C : Type 0} → Item A B C → Bool
 has_body (tree.Recipe name (l ∷ lines)) = true
 has_body _ = false
 
-module _ (expander : Answers) where
-  -- a string literal that has a text
-  unfoldable pub literal_of : SignificantToken × List SignificantToken → Read (Expr Tok Tok)
-  literal_of x = if is_some (cooked_text expander x.0.tok.lexeme) then Ok (tree.StringLiteral x.0.tok, x.1) else Err (NotCooked (Some x.0))
+-- the next token if it is a string that is marked `x`, and the tokens behind it
+unfoldable pub accept_expanded : List SignificantToken → Option (SignificantToken × List SignificantToken)
+accept_expanded [] = None
+accept_expanded (m ∷ []) = None
+accept_expanded (m ∷ t ∷ ts) = if is_word (codes "x") m && same_kind t.tok.kind kinds.StringToken && t.glued then Some (t, ts) else None
 
+-- an expression that is a literal, if that has a text
+abbrev pub with_text : Expr Tok Tok → SignificantToken × List SignificantToken → Result (List ℕ) LiteralFault → Read (Expr Tok Tok)
+with_text e x (Ok text) = Ok (e, x.1)
+with_text e x (Err fault) = Err (NotCooked fault x.0)
+
+module _ (expander : Answers) where
   unfoldable pub value : ℕ → List SignificantToken → Read (Expr Tok Tok)
   value depth tokens =
       choose (accept kinds.StringToken tokens)
+      (choose (accept kinds.Backtick tokens)
+      (choose (accept_expanded tokens)
       (choose (accept_variable tokens) (Err (refused Unexpected tokens)) (λ x. Ok (tree.Variable x.0.tok, x.1)))
-      literal_of
+      (λ x. with_text (tree.StringLiteral true x.0.tok) x (cooked_text expander (Expanded x.0.tok.lexeme))))
+      (λ x. with_text (tree.Backtick x.0.tok) x (cooked_text expander (Command x.0.tok.lexeme))))
+      (λ x. with_text (tree.StringLiteral false x.0.tok) x (cooked_text expander (Plain x.0.tok.lexeme)))
 
   unfoldable pub expression : ℕ → List SignificantToken → Read (Expr Tok Tok)
   expression depth tokens = if nat_lt depth 256 then value (depth + 1) tokens else Err (refused TooDeep tokens)

@@ -1,10 +1,13 @@
 -- Syntax trees, over what stands at their leaves: `A` where a shape keeps a lexeme, `B` where it keeps nothing of a token, `C` where a
 -- tree keeps the line of a token. In a tree these are tokens, tokens and numbers; in a shape lexemes, nothing and nothing.
-use Rattle.std.specs.Prelude.{ℕ, List, [], ◌∷◌, map}
+use Rattle.std.specs.Prelude.{ℕ, Bool, List, [], ◌∷◌, map}
 use Rattle.justfile_model.specs.Tok.{Tok}
 
 pub data Expr (A B : Type 0) : Type 0 where
-  StringLiteral : (token : A) → Expr A B
+  -- a string literal; it is expanded if it is marked `x`
+  StringLiteral : (expanded : Bool) (token : A) → Expr A B
+  -- a command between backticks
+  Backtick : (token : A) → Expr A B
   Variable : (name : A) → Expr A B
 
 -- a part of a line of a body: text that stands for itself, or an expression between `{{` and `}}`
@@ -44,7 +47,8 @@ trimmed (l ∷ ls) = before l (trimmed ls)
 -- what is at the leaves replaced
 module _ {A B C D : Type 0} (f : A → C) (g : B → D) where
   abbrev pub over_expr : Expr A B → Expr C D
-  over_expr (StringLiteral token) = StringLiteral (f token)
+  over_expr (StringLiteral expanded token) = StringLiteral expanded (f token)
+  over_expr (Backtick token) = Backtick (f token)
   over_expr (Variable name) = Variable (f name)
 
   abbrev pub over_fragment : Fragment A B → Fragment C D

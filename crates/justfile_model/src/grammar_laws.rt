@@ -1,11 +1,12 @@
 //! Laws of the grammar, each the contract of a function that does nothing.
-ghost use Rattle.std.specs.Prelude.{◌≡◌, ◌<◌, ◌≤◌, ℕ, ◌+◌, List, [], ◌∷◌, length, map, slice_index, Ok, Some, true, false};
+ghost use Rattle.std.specs.Prelude.{◌≡◌, ◌<◌, ◌≤◌, ℕ, ◌+◌, List, [], ◌∷◌, length, map, slice_index, Ok, Err, Some, true, false};
 ghost use Rattle.justfile_base.specs.declared.token_kind.TokenKind.TheVariants.{ColonEquals, Identifier};
 ghost use Rattle.justfile_model.specs.Files.{VersionNumbers, FileTree, FileDerives, NumbersFrom, ShapeDerives, literals, bindings, recipes};
-ghost use Rattle.justfile_model.specs.Literals.{Answers, Within, Cooks};
+ghost use Rattle.justfile_model.specs.Literals.{Literal, over_literal, Answers, Within, Cooks};
 ghost use Rattle.justfile_model.specs.NormalShape.{normal};
 ghost use Rattle.justfile_model.specs.Printing.{printable, text};
-ghost use Rattle.justfile_model.specs.Reader.{accept, assignment, file, items, next_are, recipe, with_front};
+ghost use Rattle.justfile_model.specs.Reader.{Refusal, accept, assignment, file, items, next_are, recipe, with_front};
+ghost use Rattle.justfile_model.specs.Refusals.{RefusesLiteral};
 ghost use Rattle.justfile_model.specs.SignificantTokens.{SignificantToken, identifiers};
 ghost use Rattle.justfile_model.specs.Tok.{Tok};
 ghost use Rattle.justfile_model.specs.Tree.{Item, Tree, Shape, lexeme, shape_of};
@@ -15,7 +16,9 @@ pub fn reads()
     ensures sound { (E : Answers) (V : VersionNumbers) (ts : List SignificantToken) (tree : Tree) → file E ts ≡ Ok tree → FileDerives E V ts tree }
     ensures complete { (E : Answers) (V : VersionNumbers) (ts : List SignificantToken) (tree : Tree) → FileDerives E V ts tree → file E ts ≡ Ok tree }
     // In what is read yet no expression is too deep.
-    ensures free { (E : Answers) (ts : List SignificantToken) (tree : Tree) (cooked : List (List ℕ)) → FileTree ts tree → Cooks E (map lexeme (literals tree)) cooked → file E ts ≡ Ok tree }
+    ensures free { (E : Answers) (ts : List SignificantToken) (tree : Tree) (cooked : List (List ℕ)) → FileTree ts tree → Cooks E (map (over_literal lexeme) (literals tree)) cooked → file E ts ≡ Ok tree }
+    // What the grammar alone has a tree for is refused at its first literal without a text, and only there.
+    ensures refused { (E : Answers) (ts : List SignificantToken) (tree : Tree) → FileTree ts tree → (r : Refusal) → file E ts ≡ Err r → RefusesLiteral E tree r }
     ensures one { (E : Answers) (V : VersionNumbers) (ts : List SignificantToken) (tree other : Tree) → FileDerives E V ts tree → FileDerives E V ts other → tree ≡ other }
 {}
 
@@ -37,7 +40,7 @@ pub fn shapes()
     ensures forget { (E : Answers) (V : VersionNumbers) (ts : List SignificantToken) (tree : Tree) → FileDerives E V ts tree → ShapeDerives E V ts (shape_of tree) }
     ensures lift { (E : Answers) (V : VersionNumbers) (ts : List SignificantToken) (shape : Shape) → ShapeDerives E V ts shape → (tree : Tree) × FileDerives E V ts tree × (shape_of tree ≡ shape) }
     ensures one { (E : Answers) (V : VersionNumbers) (ts : List SignificantToken) (shape other : Shape) → ShapeDerives E V ts shape → ShapeDerives E V ts other → shape ≡ other }
-    ensures texts { (E : Answers) (lexemes texts others : List (List ℕ)) → Cooks E lexemes texts → Cooks E lexemes others → texts ≡ others }
+    ensures texts { (E : Answers) (literals : List (Literal (List ℕ))) (texts others : List (List ℕ)) → Cooks E literals texts → Cooks E literals others → texts ≡ others }
 {}
 
 /// The normal shape is its own, has the same literals, as many bindings and as many recipes, and is printable where the shape is.

@@ -1,0 +1,13 @@
+pub mod Complete
+pub mod Digits
+pub mod DigitTexts
+pub mod JoinedLines
+pub mod Leads
+pub mod LiteralTexts
+pub mod Longest
+pub mod LongestRun
+pub mod SharedFronts
+pub mod Sound
+pub mod TextLines
+pub mod Texts
+pub mod Whole

@@ -1,0 +1,39 @@
+ghost use Rattle.std.specs.Prelude.{◌≡◌, ◌++◌, IfErr, IfOk, OnOk, encode_utf8_all, option_to_list, string_bytes};
+ghost use Rattle.justfile_model.specs.Cook.{Cooks, IsCookFault};
+
+use crate::escape::{first, piece};
+use justfile_base::{CompileResult, Fault, Token};
+use std::alloc::{AllocError, Global};
+
+/// The text with its escapes replaced. A text that is refused is refused at the token.
+pub fn cook_string<'src>(
+    alloc: Global,
+    token: Token<'src>,
+    text: &str,
+) -> CompileResult<'src, String>
+    ensures ok { IfOk result (λ cooked. Cooks text.now (string_bytes cooked)) }
+    ensures err { IfErr result (IsCookFault text.now token.entry) }
+{
+    let mut cooked = String::new(alloc);
+    let mut rest = text;
+    while let Some((character, behind)) = first(rest) {
+        match piece(character, behind) {
+            Ok((value, behind)) => {
+                put(&mut cooked, value)?;
+                rest = behind;
+            }
+            Err(fault) => return Err(Fault::Compile(token.error(fault.into_kind(alloc)?))),
+        }
+    }
+    Ok(cooked)
+}
+
+/// Puts the character, if there is one, at the end.
+fn put(cooked: &mut String, value: Option<char>) -> Result<(), AllocError>
+    ensures { OnOk result (string_bytes cooked.new ≡ string_bytes cooked.old ++ encode_utf8_all (option_to_list value)) }
+{
+    match value {
+        Some(character) => cooked.push(character),
+        None => Ok(()),
+    }
+}

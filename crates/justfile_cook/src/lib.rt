@@ -1,0 +1,15 @@
+//! The texts that literals stand for: their indentation taken off and their escapes replaced.
+#![tactic(auto)]
+
+pub mod cook;
+mod escape;
+mod escape_fault;
+pub mod examples;
+pub mod laws;
+pub mod literal;
+#[cfg(test)]
+mod tests;
+pub mod unindent;
+
+pub use crate::cook::cook_string;
+pub use crate::literal::{command, string_literal};

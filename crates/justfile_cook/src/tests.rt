@@ -1,0 +1,3 @@
+mod cook;
+mod literal;
+mod unindent;

@@ -1,0 +1,25 @@
+-- Why a text with escapes is refused.
+use Rattle.std.specs.Prelude.{ℕ, List, Option, Some, None, string_bytes}
+use Rattle.justfile_base.specs.declared.compile_error_kind.CompileErrorKind.{CompileErrorKind}
+use Rattle.justfile_base.specs.declared.compile_error_kind.CompileErrorKind.TheVariants as kinds
+
+-- the faults of escapes, with what their messages say; a character is its number
+pub data EscapeFault : Type 0 where
+  InvalidEscapeSequence : (character : ℕ) → EscapeFault
+  UnicodeEscapeCharacter : (character : ℕ) → EscapeFault
+  UnicodeEscapeDelimiter : (character : ℕ) → EscapeFault
+  UnicodeEscapeEmpty : EscapeFault
+  UnicodeEscapeLength : (hex : List ℕ) → EscapeFault
+  UnicodeEscapeRange : (hex : List ℕ) → EscapeFault
+  UnicodeEscapeUnterminated : EscapeFault
+
+-- the fault that an error's kind is, if it is one of escapes
+abbrev pub escape_fault_of : CompileErrorKind → Option EscapeFault
+escape_fault_of (kinds.InvalidEscapeSequence character) = Some (InvalidEscapeSequence character)
+escape_fault_of (kinds.UnicodeEscapeCharacter character) = Some (UnicodeEscapeCharacter character)
+escape_fault_of (kinds.UnicodeEscapeDelimiter character) = Some (UnicodeEscapeDelimiter character)
+escape_fault_of kinds.UnicodeEscapeEmpty = Some UnicodeEscapeEmpty
+escape_fault_of (kinds.UnicodeEscapeLength hex) = Some (UnicodeEscapeLength (string_bytes hex))
+escape_fault_of (kinds.UnicodeEscapeRange hex) = Some (UnicodeEscapeRange (string_bytes hex))
+escape_fault_of kinds.UnicodeEscapeUnterminated = Some UnicodeEscapeUnterminated
+escape_fault_of _ = None

@@ -1,0 +1,82 @@
+-- A text without the indentation that its lines share.
+use Rattle.std.specs.Prelude.{◌≡◌, ◌≤◌, ℕ, Bool, true, false, not, ◌||◌, ◌==◌, nat_eq, List, [], ◌∷◌, ◌++◌, map, drop, length, codes, filter, take_while, if◌then◌else◌}
+use Rattle.std.specs.List.{All, list_all, onto_first, ends_with}
+use Rattle.justfile_base.specs.Indentation.{is_blank}
+
+-- the lines, each with its line feed. None is empty
+abbrev pub lines : List ℕ → List (List ℕ)
+lines [] = []
+lines (b ∷ bs) = if b == 10 then (b ∷ []) ∷ lines bs else onto_first b (lines bs)
+
+-- a space, a tab, CR or LF
+abbrev pub is_white : ℕ → Bool
+is_white b = is_blank b || b == 13 || b == 10
+
+-- the line has nothing else
+abbrev pub is_blank_line : List ℕ → Bool
+is_blank_line line = list_all is_white line
+
+-- the spaces and tabs at the front
+abbrev pub leading_blanks : List ℕ → List ℕ
+leading_blanks line = take_while is_blank line
+
+-- the byte is at the front
+abbrev pub is_first : ℕ → List ℕ → Bool
+is_first b [] = false
+is_first b (c ∷ cs) = b == c
+
+-- the longest front of the text that each of the others has too
+abbrev pub shared_front : List ℕ → List (List ℕ) → List ℕ
+shared_front [] others = []
+shared_front (b ∷ bs) others = if list_all (is_first b) others then b ∷ shared_front bs (map (drop 1) others) else []
+
+-- the longest front that the texts have in common. Where there are none it is empty
+abbrev pub common_front : List (List ℕ) → List ℕ
+common_front [] = []
+common_front (first ∷ more) = shared_front first more
+
+-- the longest run of blanks that all lines but the blank ones begin with
+abbrev pub indentation : List (List ℕ) → List ℕ
+indentation ls = common_front (map leading_blanks (filter (λ line. not (is_blank_line line)) ls))
+
+-- the text begins with the front
+abbrev pub IsFront : List ℕ → List ℕ → Type 0
+IsFront front text = text ≡ front ++ drop (length front) text
+
+-- the line begins with the run, unless it is blank
+abbrev pub IsIndented : List ℕ → List ℕ → Type 0
+IsIndented run line = is_blank_line line ≡ false → IsFront run line
+
+-- the run of blanks is the longest one that all lines but the blank ones begin with, and empty where there are no others
+pub record IsLongestRun (run : List ℕ) (ls : List (List ℕ)) : Type 0 where
+  pub blank : list_all is_blank run ≡ true
+  pub shared : All (IsIndented run) ls
+  pub longest : (other : List ℕ) → list_all is_blank other ≡ true → All (IsIndented other) ls → list_all is_blank_line ls ≡ false → length other ≤ length run
+  pub none : list_all is_blank_line ls ≡ true → run ≡ []
+
+-- CR and LF if the line ends so, else LF
+abbrev pub line_end : List ℕ → List ℕ
+line_end line = if ends_with nat_eq line (codes "\r\n") then codes "\r\n" else codes "\n"
+
+module _ (run : List ℕ) where
+  -- a line without its indentation; of a blank line in the middle of the text its line end stays, of a first or last one nothing
+  abbrev pub outer_line : List ℕ → List ℕ
+  outer_line line = if is_blank_line line then [] else drop (length run) line
+
+  abbrev pub middle_line : List ℕ → List ℕ
+  middle_line line = if is_blank_line line then line_end line else drop (length run) line
+
+  -- the lines behind the first, joined
+  abbrev pub lines_behind : List (List ℕ) → List ℕ
+  lines_behind [] = []
+  lines_behind (last ∷ []) = outer_line last
+  lines_behind (line ∷ next ∷ more) = middle_line line ++ lines_behind (next ∷ more)
+
+  -- all the lines, joined
+  abbrev pub joined : List (List ℕ) → List ℕ
+  joined [] = []
+  joined (first ∷ behind) = outer_line first ++ lines_behind behind
+
+-- the text without the indentation that its lines share
+unfoldable pub unindented : List ℕ → List ℕ
+unindented text = joined (indentation (lines text)) (lines text)
