@@ -12,7 +12,8 @@ use Rattle.justfile_parse.specs.declared.stop.Stop.{Stop}
 use Rattle.justfile_parse.specs.declared.stop.Stop.TheVariants.{Refused, Memory, Numbers}
 use Rattle.justfile_parse.proofs.Lines.{behind_comment, line_fails}
 use Rattle.justfile_parse.specs.Given.{IsInTable, IsGivenItems, IsUnnumberedItem}
-use Rattle.justfile_parse.specs.Reading.{StopsAt, answers_by, refusal_at}
+use Rattle.justfile_cook.specs.Literal.{answers_by}
+use Rattle.justfile_parse.specs.Reading.{StopsAt, refusal_at}
 use Rattle.justfile_parse.specs.WantsNumber.{LacksFirst}
 use Rattle.justfile_parse.specs.View.{rest_of, IsItemBy, IsNumbered, IsSameRun, IsGivenBy, AddsUnnumbered, Adds}
 use Rattle.justfile_parse.specs.declared.parser.Parser.{Parser}
@@ -82,7 +83,7 @@ module _ {X : Type 0} (answer : X → List ℕ → Result (List ℕ) (List ℕ))
         → accept kinds.Eol (rest_of p) ≡ None → rest_of q ≡ rest_of p
         → StopsAt stop left (LacksFirst (answers_by answer q.expander.now) (rest_of q) old new) (on_line (answers_by answer q.expander.now) (rest_of q))
         → StopsAt stop left (LacksFirst (answers_by answer p.expander.now) (rest_of p) old new) (after done (line (answers_by answer p.expander.now) (rest_of p)))
-    line_stops (Refused r) left old new done none here h = line_fails (answers_by answer p.expander.now) done (rest_of p) (refusal_at r left) none (sym (read_there here) ∙ h)
+    line_stops (Refused r) left old new done none here h = (line_fails (answers_by answer p.expander.now) done (rest_of p) (refusal_at r left) none (sym (read_there here) ∙ h.0), h.1)
     line_stops Memory left old new done none here h = tt
     line_stops Numbers left old new done none here h =
         let P : Bor X → Type 0 = λ e. LacksFirst (answers_by answer e.now) (rest_of q) old new in

@@ -16,7 +16,8 @@ use Rattle.justfile_model.specs.Tok.{Tok}
 use Rattle.justfile_model.specs.Tree.{BodyLine, trimmed}
 use Rattle.justfile_model.proofs.Reading.{after_begin, body_line_shorter, line_rest_end, line_rest_fail, line_rest_go_on, line_rest_left, lines_end, lines_fail, lines_go_on}
 use Rattle.justfile_parse.specs.Given.{IsGivenFragment, IsGivenLine, IsInTable}
-use Rattle.justfile_parse.specs.Reading.{StopsAt, answers_by, refusal_at}
+use Rattle.justfile_cook.specs.Literal.{answers_by}
+use Rattle.justfile_parse.specs.Reading.{StopsAt, refusal_at}
 use Rattle.justfile_parse.specs.View.{IsSameRun, rest_of}
 use Rattle.justfile_parse.specs.declared.parser.Parser.{Parser}
 use Rattle.justfile_parse.specs.declared.stop.Stop.{Stop}
@@ -83,7 +84,7 @@ module _ {X Z T : Type 0} (answer : X → List ℕ → Result (List ℕ) (List �
         → ((e : Refusal) → one (answers_by answer p.expander.now) (rest_of q) ≡ Err e → after (map view done) (whole (answers_by answer p.expander.now) (rest_of q)) ≡ Err e)
         → StopsAt stop left ⊥ (one (answers_by answer a.expander.now) (rest_of a))
         → StopsAt stop left ⊥ (whole (answers_by answer p.expander.now) (rest_of p))
-    part_stops (Refused r) left step h = sym so_far.read ∙ step (refusal_at r left) (sym one_there ∙ h)
+    part_stops (Refused r) left step h = (sym so_far.read ∙ step (refusal_at r left) (sym one_there ∙ h.0), h.1)
     part_stops Memory left step h = tt
     part_stops Numbers left step h = h
 

@@ -2,7 +2,6 @@ pub mod Adding
 pub mod Bodies
 pub mod GivenLemmas
 pub mod Lines
-pub mod LiteralLemmas
 pub mod Loop
 pub mod NextKinds
 pub mod NotInternal

@@ -8,7 +8,9 @@ use Rattle.justfile_model.specs.SignificantTokens.{SignificantToken}
 use Rattle.justfile_model.specs.Tok.{Tok}
 use Rattle.justfile_model.specs.Tree as tree
 use Rattle.justfile_model.specs.Tree.{Item, Tree}
-use Rattle.justfile_parse.specs.Reading.{ended_by}
+use Rattle.justfile_parse.specs.Reading.{StopsAt, ended_by, refusal_at}
+use Rattle.justfile_parse.specs.declared.stop.Stop.{Stop}
+use Rattle.justfile_parse.specs.declared.stop.Stop.TheVariants.{Refused, Memory, Numbers}
 
 module _ (expander : Answers) (ts : List SignificantToken) where
   pub on_line_assignment : accept kinds.Comment ts ≡ None → next_are (kinds.Identifier ∷ kinds.ColonEquals ∷ []) ts ≡ true → on_line expander ts ≡ assignment expander ts
@@ -31,6 +33,11 @@ module _ (expander : Answers) (done : Tree) (ts : List SignificantToken) where
   pub line_end_fails : (e : Refusal) → accept kinds.Eof ts ≡ None → expect kinds.Eol ts ≡ Err e → after done (line_end expander ts) ≡ Err e
   unfolding after line_end
   line_end_fails e h1 h2 = rw (h1, h2) refl
+
+  pub line_end_stops : (stop : Stop) (left : List SignificantToken) → accept kinds.Eof ts ≡ None → StopsAt stop left ⊥ (expect kinds.Eol ts) → StopsAt stop left ⊥ (after done (line_end expander ts))
+  line_end_stops (Refused r) left none h = (line_end_fails (refusal_at r left) none h.0, h.1)
+  line_end_stops Memory left none h = tt
+  line_end_stops Numbers left none h = h
 
   pub behind_bare : accept kinds.Comment ts ≡ None → after done (behind expander ts) ≡ after done (line_end expander ts)
   unfolding behind

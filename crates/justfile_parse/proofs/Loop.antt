@@ -15,7 +15,8 @@ use Rattle.justfile_model.proofs.Counting.{bindings_append, line_numbers, recipe
 use Rattle.justfile_model.proofs.Reading.{items_end, items_fail, items_fail_behind}
 use Rattle.justfile_parse.proofs.Adding.{adds_later}
 use Rattle.justfile_parse.proofs.Bodies.{same_run}
-use Rattle.justfile_parse.specs.Reading.{IsMoved, StopsAt, answers_by, refusal_at}
+use Rattle.justfile_cook.specs.Literal.{answers_by}
+use Rattle.justfile_parse.specs.Reading.{IsMoved, StopsAt, refusal_at}
 use Rattle.justfile_parse.proofs.Wanted.{lines_items}
 use Rattle.justfile_parse.specs.WantsNumber.{AreLines, LacksFirst, LacksNumber, LinesWantNumber, none, more}
 use Rattle.justfile_parse.specs.View.{Adds, IsGivenBy, IsSameRun, rest_of}
@@ -113,7 +114,7 @@ module _ {X : Type 0} (answer : X → List ℕ → Result (List ℕ) (List ℕ))
         → StopsAt stop left (LinesWantNumber (answers_by answer p.expander.now) (rest_of p) first then) (items (answers_by answer p.expander.now) (rest_of p))
     stops (Refused r) left then h =
         let E = answers_by answer p.expander.now in
-        sym (lines_items E (rest_of p) so_far.lines) ∙ items_fail E (map item_of done) (rest_of q) (refusal_at r left) none (sym line_there ∙ refused_first (map item_of done) (refusal_at r left) _ h)
+        (sym (lines_items E (rest_of p) so_far.lines) ∙ items_fail E (map item_of done) (rest_of q) (refusal_at r left) none (sym line_there ∙ refused_first (map item_of done) (refusal_at r left) _ h.0), h.1)
     stops Memory left then h = tt
     stops Numbers left then h =
         let E = answers_by answer p.expander.now in
@@ -136,8 +137,8 @@ module _ {X : Type 0} (answer : X → List ℕ → Result (List ℕ) (List ℕ))
 
     pub goes_past : (expander : Answers) (end : SignificantToken) (rest : List SignificantToken) (IsShort : Type 0) (stop : Stop) → accept kinds.Eof (rest_of q) ≡ Some (end, rest) → StopsAt stop rest ⊥ (at_end expander rest) → StopsAt stop rest IsShort (items (answers_by answer p.expander.now) (rest_of p))
     unfolding at_end
-    goes_past expander end [] IsShort (Refused r) is h = cc
-    goes_past expander end (t ∷ ts) IsShort (Refused r) is h = sym (lines_items (answers_by answer p.expander.now) (rest_of p) so_far.lines) ∙ items_fail_behind (answers_by answer p.expander.now) (map item_of done) (rest_of q) end t ts is ∙ h
+    goes_past expander end [] IsShort (Refused r) is h = let e = h.0 in cc
+    goes_past expander end (t ∷ ts) IsShort (Refused r) is h = (sym (lines_items (answers_by answer p.expander.now) (rest_of p) so_far.lines) ∙ items_fail_behind (answers_by answer p.expander.now) (map item_of done) (rest_of q) end t ts is ∙ h.0, h.1)
     goes_past expander end rest IsShort Memory is h = tt
     goes_past expander end rest IsShort Numbers is h = absurd h
 

@@ -1,4 +1,4 @@
--- No text has a fault of another layer, so no error of lexing is a fault of the program.
+-- No text has a fault of another layer, so no error of lexing is a fault of the program; nor is an error of parsing.
 use Rattle.std.proofs.Common.{◌≡◌, ℕ, zero, suc, Bool, true, false, cond, eqb, List, [], ◌∷◌, length, drop, get_or, Option, Some, None, Ok, Err, refl, sym, ap, ◌∙◌}
 use Rattle.std.specs.Prelude.{◌&&◌, not, nat_eq}
 use Rattle.std.specs.List.{starts_with}
@@ -9,15 +9,22 @@ use Rattle.justfile_model.specs.Bytes.{is_interpolation_start, is_interpolation_
 use Rattle.justfile_base.specs.CompileErrorKind.{internal_message}
 use Rattle.justfile_base.specs.declared.byte_class.ByteClass.{ByteClass}
 use Rattle.justfile_base.specs.declared.byte_class.ByteClass.TheVariants as classes
+use Rattle.justfile_base.specs.declared.compile_error.CompileError.{CompileError}
 use Rattle.justfile_base.specs.declared.compile_error_kind.CompileErrorKind.{CompileErrorKind}
 use Rattle.justfile_base.specs.declared.compile_error_kind.CompileErrorKind.TheVariants.{Internal}
 use Rattle.justfile_base.specs.declared.delimiter.Delimiter.{Delimiter}
 use Rattle.justfile_base.specs.declared.string_kind.StringDelimiter.{StringDelimiter}
 use Rattle.justfile_base.specs.declared.string_kind.StringDelimiter.TheVariants as delimiters
 use Rattle.justfile_base.specs.declared.string_kind.StringKind.{StringKind}
+use Rattle.justfile_base.specs.declared.token.Token.{Token}
 use Rattle.justfile_base.specs.declared.token_kind.TokenKind.{TokenKind}
+use Rattle.justfile_cook.specs.Literal.{IsKindOf}
 use Rattle.justfile_base.specs.ByteClass.{class_of}
 use Rattle.justfile_model.specs.Lexed.{IsFault, IsSpan}
+use Rattle.justfile_model.specs.Literals as literals
+use Rattle.justfile_model.specs.Reader as reader
+use Rattle.justfile_model.specs.SignificantTokens.{SignificantToken}
+use Rattle.justfile_parse.specs.Errors.{IsErrorOf, IsUnexpected}
 use Rattle.justfile_model.specs.LexicalFault.{LexicalFault, NotLexical, Refusal, Here, Unclosed, lexical_fault_of}
 use Rattle.justfile_model.specs.LiteralText.{raw_len}
 use Rattle.justfile_model.specs.Modes.{Mode, head_of, innermost, is_empty, mode, nested}
@@ -167,3 +174,22 @@ by_kind _ h = refl
 
 pub not_internal : (text : List ℕ) (kind : CompileErrorKind) (t : Tok) → IsFault text (lexical_fault_of kind) t → internal_message kind ≡ None
 not_internal text kind t h = by_kind kind (fault_lexical text (lexical_fault_of kind) t h)
+
+-- ---- parsing
+
+unexpected_kind : (kind : CompileErrorKind) (token : Token) → IsUnexpected kind token → internal_message kind ≡ None
+unexpected_kind (Internal message) token h = absurd h
+unexpected_kind _ token h = refl
+
+literal_kind : (fault : literals.LiteralFault) (kind : CompileErrorKind) → IsKindOf fault kind → internal_message kind ≡ None
+literal_kind (literals.Escape f) (Internal message) h = cc
+literal_kind (literals.Escape f) _ h = refl
+literal_kind (literals.Refused reason) (Internal message) h = cc
+literal_kind (literals.Refused reason) _ h = refl
+literal_kind literals.Unasked kind h = absurd h
+literal_kind literals.Shebang kind h = ap internal_message h
+
+pub refusal_not_internal : (tokens : List SignificantToken) (r : reader.Refusal) (e : CompileError) → IsErrorOf tokens r e → internal_message e.kind ≡ None
+refusal_not_internal tokens (reader.Unexpected at) e h = unexpected_kind e.kind e.token h.0
+refusal_not_internal tokens (reader.TooDeep at) e h = ap internal_message h.0
+refusal_not_internal tokens (reader.NotCooked fault t) e h = literal_kind fault e.kind h.0

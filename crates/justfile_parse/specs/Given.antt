@@ -1,5 +1,5 @@
 -- What the parser gives the parts of a tree beside their tokens.
-use Rattle.std.specs.Prelude.{◌≡◌, ◌↔◌, ℕ, ◌+◌, map, Bool, false, ◌==◌, List, slice_index, Some, None, IsSomeAnd, IsTrue, string_bytes, Contains, All}
+use Rattle.std.specs.Prelude.{◌≡◌, ◌↔◌, ℕ, ◌+◌, map, Bool, false, ◌==◌, List, slice_index, None, Ok, IsSomeAnd, IsTrue, string_bytes, Contains, All}
 use Rattle.std.specs.List.{flat_map, slice_get}
 use Rattle.justfile_base.specs.Numerator.{bindings_of, recipes_of}
 use Rattle.justfile_base.specs.StringKind.{kind_of}
@@ -7,6 +7,7 @@ use Rattle.justfile_base.specs.Token.{lexeme_of}
 use Rattle.justfile_base.specs.declared.numerator.Numerator.{Numerator}
 use Rattle.justfile_base.specs.declared.string_literal.StringLiteral.{StringLiteral}
 use Rattle.justfile_base.specs.declared.token.Token.{Token}
+use Rattle.justfile_cook.specs.Literal.{string_of}
 use Rattle.justfile_file.specs.declared.binding.Binding.{Binding}
 use Rattle.justfile_file.specs.declared.fragment.Fragment.{Fragment}
 use Rattle.justfile_file.specs.declared.fragment.Fragment.TheVariants as fragments
@@ -17,7 +18,7 @@ use Rattle.justfile_file.specs.declared.recipe.UnresolvedRecipe.{UnresolvedRecip
 use Rattle.justfile_file.specs.Item.{item_of, item_numbers, item_recipe_numbers}
 use Rattle.justfile_file.specs.Line.{IsShebang}
 use Rattle.justfile_model.specs.Files.{NumbersFrom, bindings, recipes}
-use Rattle.justfile_model.specs.Literals.{Answers, cooked_text}
+use Rattle.justfile_model.specs.Literals.{Answers, Command, cooked_text}
 use Rattle.justfile_tree.specs.declared.expression.Expression.{Expression}
 use Rattle.justfile_tree.specs.declared.expression.Expression.TheVariants as expressions
 
@@ -26,16 +27,21 @@ pub record IsInTable (table : List (Token × Bool)) (token : Token) : Type 0 whe
   pub glued : Bool
   pub among : Contains table (token, glued)
 
--- a literal, of such a token, with its text that is neither expanded nor part of a format string
+-- a literal, of such a token, with its text, which is expanded if it is marked so; it is no part of a format string
 pub record IsGivenLiteral (expander : Answers) (IsToken : Token → Type 0) (literal : StringLiteral) : Type 0 where
   pub among : IsToken literal.token
-  pub cooked : cooked_text expander (lexeme_of literal.token) ≡ Some (string_bytes literal.cooked)
-  pub expand : literal.expand ≡ false
+  pub cooked : cooked_text expander (string_of literal.expand (lexeme_of literal.token)) ≡ Ok (string_bytes literal.cooked)
   pub kind : literal.kind ≡ kind_of (lexeme_of literal.token)
   pub part : literal.part ≡ None
 
+-- a command between backticks, of such a token, with its text
+pub record IsGivenCommand (expander : Answers) (IsToken : Token → Type 0) (contents : List ℕ) (token : Token) : Type 0 where
+  pub among : IsToken token
+  pub cooked : cooked_text expander (Command (lexeme_of token)) ≡ Ok contents
+
 abbrev pub IsGivenExpression : Answers → (Token → Type 0) → Expression → Type 0
 IsGivenExpression expander IsToken (expressions.StringLiteral literal) = IsGivenLiteral expander IsToken literal
+IsGivenExpression expander IsToken (expressions.Backtick contents token) = IsGivenCommand expander IsToken (string_bytes contents) token
 IsGivenExpression expander IsToken (expressions.Variable name number) = IsToken name.token × (number ≡ None)
 
 -- a name that begins with `_` is private

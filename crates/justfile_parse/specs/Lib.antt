@@ -1,6 +1,7 @@
+pub mod Errors
 pub mod Given
-pub mod Literal
 pub mod Parsing
+pub mod Quoted
 pub mod Reading
 pub mod Significant
 pub mod View

@@ -15,10 +15,11 @@ use Rattle.justfile_file.specs.declared.ast.Ast.{Ast}
 use Rattle.justfile_model.specs.Answers.{IsFrom, IsLexicalError}
 use Rattle.justfile_model.specs.Files.{VersionNumbers, FileDerives, NumbersFrom, NumbersSuffice, bindings, recipes, literals}
 use Rattle.justfile_model.specs.Lexed.{Lexed}
-use Rattle.justfile_model.specs.Literals.{Answers, Cooks}
+use Rattle.justfile_model.specs.Literals.{over_literal, Answers, Cooks}
 use Rattle.justfile_model.specs.SignificantTokens.{significant_tokens}
 use Rattle.justfile_model.specs.Tok.{Tok, tok_of}
 use Rattle.justfile_model.specs.Tree.{Tree, lexeme}
+use Rattle.justfile_parse.specs.Errors.{IsRefused}
 use Rattle.justfile_parse.specs.Given.{IsGivenItem}
 use Rattle.justfile_parse.specs.WantsNumber.{WantsNumber}
 
@@ -35,7 +36,7 @@ pub record IsOneLex (tokens : List Token) : Type 0 where
 -- What a file has beside its tree: its literals their texts, its bindings and its recipes the numbers from the numerator's next on, its
 -- parts what the parser gives them. It uses nothing unstable.
 pub record IsFilled (expander : Answers) (IsToken : Token → Type 0) (file_depth : ℕ) (import_offsets : List ℕ) (old new : Numerator) (ast : Ast) : Type 0 where
-  pub cooks : Cooks expander (map lexeme (literals (tree_of ast))) (cooked_texts ast)
+  pub cooks : Cooks expander (map (over_literal lexeme) (literals (tree_of ast))) (cooked_texts ast)
   pub numbered : NumbersFrom (bindings_of old) (binding_numbers ast)
   pub recipes_numbered : NumbersFrom (recipes_of old) (recipe_numbers ast)
   pub counted : bindings_of new ≡ bindings_of old + bindings (tree_of ast)
@@ -48,10 +49,17 @@ pub record IsParsed (expander : Answers) (current : VersionNumbers) (tokens : Li
   pub derives : FileDerives expander current (significant_tokens tokens) (tree_of ast)
   pub filled : IsFilled expander IsToken file_depth import_offsets old new ast
 
--- Why there is no file. `Compile`: no tree derives; the error stands at one of the tokens and is no fault of the program. `Numbers`: a
--- number was wanted, its counter was at its end, and no tree that derives has numbers enough. `Memory` says nothing.
+-- no tree derives; the error is that of the refusal, stands at one of the tokens and is no fault of the program
+pub record IsCompileError (expander : Answers) (current : VersionNumbers) (tokens : List Tok) (IsToken : Token → Type 0) (e : CompileError) : Type 0 where
+  pub derives_none : (tree : Tree) → FileDerives expander current (significant_tokens tokens) tree → ⊥
+  pub among : IsToken e.token
+  pub not_internal : internal_message e.kind ≡ None
+  pub refused : IsRefused expander (significant_tokens tokens) e
+
+-- Why there is no file. `Numbers`: a number was wanted, its counter was at its end, and no tree that derives has numbers enough. `Memory`
+-- says nothing.
 abbrev pub IsUnparsed : Answers → VersionNumbers → List Tok → (Token → Type 0) → Numerator → Numerator → Fault → Type 0
-IsUnparsed expander current tokens IsToken old new (faults.Compile e) = ((tree : Tree) → FileDerives expander current (significant_tokens tokens) tree → ⊥) × IsToken e.token × (internal_message e.kind ≡ None)
+IsUnparsed expander current tokens IsToken old new (faults.Compile e) = IsCompileError expander current tokens IsToken e
 IsUnparsed expander current tokens IsToken old new faults.Memory = Unit {0}
 IsUnparsed expander current tokens IsToken old new faults.Numbers =
     WantsNumber expander (significant_tokens tokens) old new
@@ -62,13 +70,19 @@ pub record IsParsedText (expander : Answers) (current : VersionNumbers) (path sr
   pub derives : TextDerives expander current src (tree_of ast)
   pub filled : IsFilled expander (IsFrom path src) file_depth import_offsets old new ast
 
+-- the text has tokens, and the error is that of their refusal
+pub record IsTextRefused (expander : Answers) (src : List ℕ) (e : CompileError) : Type 0 where
+  pub tokens : List Tok
+  pub lexed : Lexed src tokens
+  pub refused : IsRefused expander (significant_tokens tokens) e
+
 -- The text derives no tree, which the error says at a part of the text and never as a fault of the program: it is the fault of lexing,
--- which leaves the numerator as it was, or the text has tokens.
+-- which leaves the numerator as it was, or that of the refusal of the text's tokens.
 pub record IsTreeless (expander : Answers) (current : VersionNumbers) (path src : List ℕ) (old new : Numerator) (e : CompileError) : Type 0 where
   pub derives_none : (tree : Tree) → TextDerives expander current src tree → ⊥
   pub from : IsFrom path src e.token
   pub not_internal : internal_message e.kind ≡ None
-  pub cause : (IsLexicalError path src e × (new ≡ old)) ⊎ ((tokens : List Tok) × Lexed src tokens)
+  pub cause : (IsLexicalError path src e × (new ≡ old)) ⊎ IsTextRefused expander src e
 
 -- a number is wanted in the text's tokens, and its counter, where the new numerator stands, is at its end
 pub record TextWantsNumber (expander : Answers) (src : List ℕ) (old new : Numerator) : Type 0 where

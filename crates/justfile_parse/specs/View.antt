@@ -1,5 +1,5 @@
 -- What the definitions see of the parser.
-use Rattle.std.specs.Prelude.{◌≡◌, ℕ, ◌+◌, Bool, List, map, drop, Result}
+use Rattle.std.specs.Prelude.{◌≡◌, ◌<◌, ℕ, ◌+◌, Bool, List, ◌∷◌, length, map, drop, Result, IsTrue}
 use Rattle.justfile_base.specs.Numerator.{bindings_of, recipes_of}
 use Rattle.justfile_base.specs.declared.numerator.Numerator.{Numerator}
 use Rattle.justfile_base.specs.declared.token.Token.{Token}
@@ -8,7 +8,8 @@ use Rattle.justfile_file.specs.declared.item.Item.{Item}
 use Rattle.justfile_model.specs.Files.{NumbersFrom, item_bindings, item_recipes}
 use Rattle.justfile_model.specs.SignificantTokens.{SignificantToken}
 use Rattle.justfile_parse.specs.Given.{IsInTable, IsGivenItem, IsGivenItems}
-use Rattle.justfile_parse.specs.Reading.{answers_by}
+use Rattle.justfile_cook.specs.Literal.{answers_by}
+use Rattle.justfile_parse.specs.Quoted.{is_sound}
 use Rattle.justfile_parse.specs.Significant.{significant_of}
 use Rattle.justfile_parse.specs.declared.parser.Parser.{Parser}
 
@@ -18,6 +19,13 @@ rest_at table n = map significant_of (drop n table)
 -- the tokens that are still to read
 abbrev pub rest_of : {X : Type 0} → Parser X → List SignificantToken
 rest_of p = rest_at p.tokens.now p.next
+
+-- the entry is the next to read
+pub record IsNext {X : Type 0} (p : Parser X) (entry : Token × Bool) : Type 0 where
+  pub within : p.next < length p.tokens.now
+  pub here : rest_of p ≡ significant_of entry ∷ rest_at p.tokens.now (p.next + 1)
+  pub among : IsInTable p.tokens.now entry.0
+  pub sound : IsTrue (is_sound entry)
 
 -- the parser reads the same table for the same file
 pub record IsSameRun {X : Type 0} (old new : Parser X) : Type 0 where

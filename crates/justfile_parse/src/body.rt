@@ -6,7 +6,8 @@ ghost use Rattle.justfile_file.specs.Line.{IsEmpty};
 ghost use Rattle.justfile_model.specs.Reader as reader;
 ghost use Rattle.justfile_model.specs.Tree.{trimmed};
 ghost use Rattle.justfile_parse.specs.Given.{IsInTable, IsGivenFragment, IsGivenLine};
-ghost use Rattle.justfile_parse.specs.Reading.{Gives, answers_by};
+ghost use Rattle.justfile_cook.specs.Literal.{answers_by};
+ghost use Rattle.justfile_parse.specs.Reading.{Gives};
 
 use crate::parser::Parser;
 use crate::stop::{Refusal, Stop};
@@ -19,7 +20,7 @@ impl<'src, X: Expander> Parser<'_, 'src, X> {
     /// The body of a recipe, from the end of its header on; no line if it has none. A comment before
     /// a body is left out.
     #[tactic(auto, using(crate::proofs::Bodies::body_at_once, crate::proofs::Bodies::body_commented, crate::proofs::Bodies::body_missing))]
-    pub(crate) fn parse_body_behind(&mut self) -> Result<Vec<Line<'src>>, Stop>
+    pub(crate) fn parse_body_behind(&mut self) -> Result<Vec<Line<'src>>, Stop<'src>>
         requires { self.old.depth ≡ 0 }
         ensures same { OnOk result (IsSameRun self.old self.new) }
         ensures tokens { self.new.tokens ≡ self.old.tokens }
@@ -40,7 +41,7 @@ impl<'src, X: Expander> Parser<'_, 'src, X> {
 
     /// A body from its first line on, without the empty lines at its end. One line is not empty.
     #[tactic(auto, using(crate::proofs::Bodies::body_fails, crate::proofs::Bodies::body_some, crate::proofs::Bodies::body_none, crate::proofs::Bodies::all_front))]
-    fn parse_body(&mut self) -> Result<Vec<Line<'src>>, Stop>
+    fn parse_body(&mut self) -> Result<Vec<Line<'src>>, Stop<'src>>
         requires { self.old.depth ≡ 0 }
         ensures same { OnOk result (IsSameRun self.old self.new) }
         ensures tokens { self.new.tokens ≡ self.old.tokens }
@@ -58,7 +59,7 @@ impl<'src, X: Expander> Parser<'_, 'src, X> {
 
     /// The lines of a body, and its end.
     #[tactic(auto, using(crate::proofs::Bodies::part_begins, crate::proofs::Bodies::body_ends, crate::proofs::Bodies::body_goes_on, crate::proofs::Bodies::body_shrinks, crate::proofs::Bodies::body_stops))]
-    fn parse_lines(&mut self) -> Result<Vec<Line<'src>>, Stop>
+    fn parse_lines(&mut self) -> Result<Vec<Line<'src>>, Stop<'src>>
         requires { self.old.depth ≡ 0 }
         ensures same { OnOk result (IsSameRun self.old self.new) }
         ensures tokens { self.new.tokens ≡ self.old.tokens }
@@ -78,7 +79,7 @@ impl<'src, X: Expander> Parser<'_, 'src, X> {
 
     /// A line of a body.
     #[tactic(auto, unfolding(justfile_model::specs::Reader::body_line))]
-    fn parse_body_line(&mut self) -> Result<Line<'src>, Stop>
+    fn parse_body_line(&mut self) -> Result<Line<'src>, Stop<'src>>
         requires { self.old.depth ≡ 0 }
         ensures same { OnOk result (IsSameRun self.old self.new) }
         ensures tokens { self.new.tokens ≡ self.old.tokens }
@@ -103,7 +104,7 @@ impl<'src, X: Expander> Parser<'_, 'src, X> {
 
     /// What is left of a line of a body. Its end is taken; that of the body is left.
     #[tactic(auto, using(crate::proofs::Bodies::part_begins, crate::proofs::Bodies::line_ends, crate::proofs::Bodies::line_left, crate::proofs::Bodies::line_goes_on, crate::proofs::Bodies::line_stops))]
-    fn parse_line_rest(&mut self) -> Result<Vec<Fragment<'src>>, Stop>
+    fn parse_line_rest(&mut self) -> Result<Vec<Fragment<'src>>, Stop<'src>>
         requires { self.old.depth ≡ 0 }
         ensures same { OnOk result (IsSameRun self.old self.new) }
         ensures tokens { self.new.tokens ≡ self.old.tokens }
@@ -126,7 +127,7 @@ impl<'src, X: Expander> Parser<'_, 'src, X> {
 
     /// A text, or an expression between `{{` and `}}`.
     #[tactic(auto, unfolding(justfile_model::specs::Reader::fragment))]
-    fn parse_fragment(&mut self) -> Result<Fragment<'src>, Stop>
+    fn parse_fragment(&mut self) -> Result<Fragment<'src>, Stop<'src>>
         requires { self.old.depth ≡ 0 }
         ensures same { OnOk result (IsSameRun self.old self.new) }
         ensures tokens { self.new.tokens ≡ self.old.tokens }

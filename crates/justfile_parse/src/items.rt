@@ -8,7 +8,8 @@ ghost use Rattle.justfile_model.specs.Reader as reader;
 ghost use Rattle.justfile_model.specs.SignificantTokens.{identifiers};
 ghost use Rattle.justfile_model.specs.Tree as tree;
 ghost use Rattle.justfile_parse.specs.Given.{IsInTable, IsGivenBinding, IsUnnumberedItem, is_private};
-ghost use Rattle.justfile_parse.specs.Reading.{Gives, GivesNumbered, IsMoved, answers_by, ended_by};
+ghost use Rattle.justfile_cook.specs.Literal.{answers_by};
+ghost use Rattle.justfile_parse.specs.Reading.{Gives, GivesNumbered, IsMoved, ended_by};
 ghost use Rattle.justfile_parse.specs.WantsNumber.{LacksBinding, LacksFirst, LinesWantNumber, WantsNumber};
 ghost use Rattle.justfile_parse.specs.declared.stop.Stop.TheVariants as stops;
 
@@ -21,7 +22,10 @@ impl<'src, X: Expander> Parser<'_, 'src, X> {
     ghost use Rattle.justfile_parse.specs.View.{Adds, AddsUnnumbered, IsGivenBy, IsItemBy, IsNumbered, IsSameRun, rest_of};
 
     /// The items of a file, where no expression is open.
-    pub(crate) fn parse_file(&mut self, numerator: &mut Numerator) -> Result<Vec<Item<'src>>, Stop>
+    pub(crate) fn parse_file(
+        &mut self,
+        numerator: &mut Numerator,
+    ) -> Result<Vec<Item<'src>>, Stop<'src>>
         requires { self.old.depth ≡ 0 }
         ensures tokens { self.new.tokens ≡ self.old.tokens }
         ensures value { GivesNumbered (λ items. map item_of items.items) result (rest_of self.new) (WantsNumber (answers_by X.answer self.old.expander.now) (rest_of self.old) numerator.old numerator.new) (reader.file (answers_by X.answer self.old.expander.now) (rest_of self.old)) }
@@ -33,7 +37,7 @@ impl<'src, X: Expander> Parser<'_, 'src, X> {
     }
 
     /// The items up to the end of the file, where no expression is open.
-    fn parse_items(&mut self, numerator: &mut Numerator) -> Result<Vec<Item<'src>>, Stop>
+    fn parse_items(&mut self, numerator: &mut Numerator) -> Result<Vec<Item<'src>>, Stop<'src>>
         requires { self.old.depth ≡ 0 }
         ensures tokens { self.new.tokens ≡ self.old.tokens }
         ensures value { GivesNumbered (λ items. map item_of items.items) result (rest_of self.new) (LinesWantNumber (answers_by X.answer self.old.expander.now) (rest_of self.old) numerator.old numerator.new) (reader.items (answers_by X.answer self.old.expander.now) (rest_of self.old)) }
@@ -56,7 +60,7 @@ impl<'src, X: Expander> Parser<'_, 'src, X> {
         &mut self,
         items: &mut Vec<Item<'src>>,
         numerator: &mut Numerator,
-    ) -> Result<(), Stop>
+    ) -> Result<(), Stop<'src>>
         requires { self.old.depth ≡ 0 }
         ensures same { OnOk result (IsSameRun self.old self.new) }
         ensures tokens { self.new.tokens ≡ self.old.tokens }
@@ -81,7 +85,7 @@ impl<'src, X: Expander> Parser<'_, 'src, X> {
 
     /// What begins a line that is not blank.
     #[tactic(auto, using(crate::proofs::GivenLemmas::unnumbered_given, crate::proofs::GivenLemmas::unnumbered_numbered, crate::proofs::Lines::on_line_assignment, crate::proofs::Lines::on_line_recipe), unfolding(justfile_model::specs::Reader::on_line))]
-    fn parse_item(&mut self, numerator: &mut Numerator) -> Result<Item<'src>, Stop>
+    fn parse_item(&mut self, numerator: &mut Numerator) -> Result<Item<'src>, Stop<'src>>
         requires { self.old.depth ≡ 0 }
         ensures same { OnOk result (IsSameRun self.old self.new) }
         ensures tokens { self.new.tokens ≡ self.old.tokens }
@@ -107,7 +111,10 @@ impl<'src, X: Expander> Parser<'_, 'src, X> {
 
     /// NAME `:=` expression, where no expression is open.
     #[tactic(auto, unfolding(justfile_model::specs::Reader::assignment))]
-    fn parse_assignment(&mut self, numerator: &mut Numerator) -> Result<Assignment<'src>, Stop>
+    fn parse_assignment(
+        &mut self,
+        numerator: &mut Numerator,
+    ) -> Result<Assignment<'src>, Stop<'src>>
         requires { self.old.depth ≡ 0 }
         ensures same { OnOk result (IsSameRun self.old self.new) }
         ensures tokens { self.new.tokens ≡ self.old.tokens }
@@ -138,7 +145,7 @@ impl<'src, X: Expander> Parser<'_, 'src, X> {
 
     /// What ends an item: behind a body a line starts, and the line end before it is made.
     #[tactic(auto, using(crate::proofs::Lines::ended_body, crate::proofs::Adding::unnumbered_item))]
-    fn parse_ended(&mut self, has_body: bool, items: &mut Vec<Item<'src>>) -> Result<(), Stop>
+    fn parse_ended(&mut self, has_body: bool, items: &mut Vec<Item<'src>>) -> Result<(), Stop<'src>>
         ensures same { OnOk result (IsSameRun self.old self.new) }
         ensures tokens { self.new.tokens ≡ self.old.tokens }
         ensures progress { OnOk result (self.old.next ≤ self.new.next) }
@@ -154,7 +161,7 @@ impl<'src, X: Expander> Parser<'_, 'src, X> {
 
     /// What stands behind an item without a body: a comment that trails it, and the end of the line.
     #[tactic(auto, using(crate::proofs::Lines::behind_comment, crate::proofs::Lines::behind_bare, crate::proofs::Adding::unnumbered_item, crate::proofs::Adding::unnumbered_later, crate::proofs::Adding::unnumbered_then))]
-    fn parse_behind(&mut self, items: &mut Vec<Item<'src>>) -> Result<(), Stop>
+    fn parse_behind(&mut self, items: &mut Vec<Item<'src>>) -> Result<(), Stop<'src>>
         ensures same { OnOk result (IsSameRun self.old self.new) }
         ensures tokens { self.new.tokens ≡ self.old.tokens }
         ensures progress { OnOk result (self.old.next ≤ self.new.next) }
@@ -172,7 +179,7 @@ impl<'src, X: Expander> Parser<'_, 'src, X> {
 
     /// The end of a line, which is an item, or that of the file, which is left.
     #[tactic(auto, using(crate::proofs::Lines::line_end_closes, crate::proofs::Lines::line_end_newline, crate::proofs::Lines::line_end_fails, crate::proofs::Adding::unnumbered_item, crate::proofs::Adding::unnumbered_none, crate::proofs::Adding::unnumbered_later))]
-    fn parse_line_end(&mut self, items: &mut Vec<Item<'src>>) -> Result<(), Stop>
+    fn parse_line_end(&mut self, items: &mut Vec<Item<'src>>) -> Result<(), Stop<'src>>
         ensures same { OnOk result (IsSameRun self.old self.new) }
         ensures tokens { self.new.tokens ≡ self.old.tokens }
         ensures progress { OnOk result (self.old.next ≤ self.new.next) }
@@ -202,7 +209,7 @@ fn comment_item<'src>(comment: Token<'src>) -> Item<'src>
     Item::Comment(comment.lexeme().trim_end())
 }
 
-fn push<'src>(items: &mut Vec<Item<'src>>, item: Item<'src>) -> Result<(), Stop>
+fn push<'src>(items: &mut Vec<Item<'src>>, item: Item<'src>) -> Result<(), Stop<'src>>
     ensures items { OnOk result (items.new.items ≡ items.old.items ++ item.entry ∷ []) }
     ensures tree { OnOk result (map item_of items.new.items ≡ map item_of items.old.items ++ item_of item.entry ∷ []) }
     ensures memory { IfErr result (λ stop. stop ≡ stops.Memory) }

@@ -3,7 +3,6 @@
 
 mod body;
 mod items;
-mod literal;
 mod parse;
 mod parser;
 mod recipe;

@@ -5,7 +5,8 @@ ghost use Rattle.justfile_model.specs.Lexed.{Lexed};
 ghost use Rattle.justfile_model.specs.SignificantTokens.{identifiers, significant_tokens};
 ghost use Rattle.justfile_model.specs.Tok.{Tok, tok_of};
 ghost use Rattle.justfile_parse.specs.Parsing.{HasNoTree, IsOneLex, IsParsed, IsParsedText, IsUnparsed, version_numbers};
-ghost use Rattle.justfile_parse.specs.Reading.{IsMoved, answers_by};
+ghost use Rattle.justfile_cook.specs.Literal.{answers_by};
+ghost use Rattle.justfile_parse.specs.Reading.{IsMoved};
 
 use crate::parser::Parser;
 use crate::significant::significant;
@@ -24,7 +25,7 @@ impl<'src, X: Expander> Parser<'_, 'src, X> {
     ///
     /// `Compile` if the tokens are no file, at one of them; `Numbers` if more numbers of bindings or
     /// of recipes are wanted than there are; `Memory` if memory is wanting. The numerator's counters have then
-    /// moved up, together by no more than the number of identifiers.
+    /// moved up by no more than the number of identifiers.
     pub fn parse(
         alloc: Global,
         file_depth: u32,

@@ -1,18 +1,19 @@
 ghost use Rattle.std.specs.Prelude.{◌≡◌, ◌<◌, ◌≤◌, ◌+◌, [], ◌∷◌, length, drop, map, IsTrue, IfOk, OnOk, OnSome, IfSome, IfNone, IfErr, Some, None};
 ghost use Rattle.std.specs.List.{list_all};
-ghost use Rattle.justfile_base.specs.CompileErrorKind.{internal_message};
 ghost use Rattle.justfile_model.specs.Grammar.{front};
 ghost use Rattle.justfile_model.specs.Reader as reader;
 ghost use Rattle.justfile_model.specs.SignificantTokens.{identifiers};
+ghost use Rattle.justfile_parse.specs.Errors.{IsAt};
 ghost use Rattle.justfile_parse.specs.Given.{IsInTable};
-ghost use Rattle.justfile_parse.specs.Literal.{is_sound};
-ghost use Rattle.justfile_parse.specs.Reading.{Gives, IsFaultOf, IsMoved, IsRead, IsUnread, answers_by};
+ghost use Rattle.justfile_parse.specs.Quoted.{is_sound};
+ghost use Rattle.justfile_cook.specs.Literal.{answers_by};
+ghost use Rattle.justfile_parse.specs.Reading.{Gives, IsFaultOf, IsKindAt, IsMoved, IsRead, IsUnread};
 ghost use Rattle.justfile_parse.specs.Significant.{significant_of};
 ghost use Rattle.justfile_parse.specs.WantsNumber.{behind_mark};
 
 use crate::stop::{Refusal, Stop};
 use justfile_base::{
-    CompileErrorKind, CompileResult, Expander, Fault, Numerator, Token, TokenKind,
+    CompileError, CompileErrorKind, CompileResult, Expander, Fault, Numerator, Token, TokenKind,
 };
 use justfile_file::Item;
 use std::alloc::Global;
@@ -41,10 +42,25 @@ pub struct Parser<'run, 'src, X> {
 }
 
 impl<'run, 'src, X: Expander> Parser<'run, 'src, X> {
-    ghost use Rattle.justfile_parse.specs.View.{IsSameRun, rest_at, rest_of};
+    ghost use Rattle.justfile_parse.specs.View.{IsNext, IsSameRun, rest_at, rest_of};
+
+    /// The token at an index.
+    #[tactic(auto, using(crate::proofs::Rest::rest_here, crate::proofs::Rest::rest_end, crate::proofs::Rest::in_table, crate::proofs::Rest::sound_at))]
+    pub(crate) fn entry(&self, index: usize) -> Option<Entry<'src>>
+        ensures within { OnSome result (index < length self.now.tokens.now) }
+        ensures some { IfSome result (λ entry. rest_at self.now.tokens.now index ≡ significant_of entry ∷ rest_at self.now.tokens.now (index + 1)) }
+        ensures none { IfNone result (rest_at self.now.tokens.now index ≡ []) }
+        ensures among { IfSome result (λ entry. IsInTable self.now.tokens.now entry.0) }
+        ensures sound { IfSome result (λ entry. IsTrue (is_sound entry)) }
+    {
+        if index < self.tokens.len() {
+            Some(self.tokens[index])
+        } else {
+            None
+        }
+    }
 
     /// The next token; it is not taken yet.
-    #[tactic(auto, using(crate::proofs::Rest::rest_here, crate::proofs::Rest::rest_end, crate::proofs::Rest::in_table, crate::proofs::Rest::sound_at))]
     pub(crate) fn peek(&self) -> Option<Entry<'src>>
         ensures within { OnSome result (self.now.next < length self.now.tokens.now) }
         ensures some { IfSome result (λ entry. rest_of self.now ≡ significant_of entry ∷ rest_at self.now.tokens.now (self.now.next + 1)) }
@@ -52,11 +68,7 @@ impl<'run, 'src, X: Expander> Parser<'run, 'src, X> {
         ensures among { IfSome result (λ entry. IsInTable self.now.tokens.now entry.0) }
         ensures sound { IfSome result (λ entry. IsTrue (is_sound entry)) }
     {
-        if self.next < self.tokens.len() {
-            Some(self.tokens[self.next])
-        } else {
-            None
-        }
+        self.entry(self.next)
     }
 
     /// The next token if it is of this kind; it is not taken yet.
@@ -68,7 +80,7 @@ impl<'run, 'src, X: Expander> Parser<'run, 'src, X> {
         ensures among { IfSome result (λ entry. IsInTable self.now.tokens.now entry.0) }
         ensures kind { IfSome result (λ entry. entry.0.kind ≡ kind) }
         ensures sound { IfSome result (λ entry. IsTrue (is_sound entry)) }
-        ensures front { IfSome result (λ entry. front (rest_of self.now) ≡ Some (significant_of entry)) }
+        ensures here { IfSome result (IsNext self.now) }
     {
         match self.peek() {
             Some(entry) => {
@@ -100,7 +112,7 @@ impl<'run, 'src, X: Expander> Parser<'run, 'src, X> {
 
     /// Takes the next token, which has to be of this kind.
     #[tactic(auto, unfolding(justfile_model::specs::Reader::expect, justfile_model::specs::Reader::refused))]
-    pub(crate) fn expect(&mut self, kind: TokenKind) -> Result<Entry<'src>, Stop>
+    pub(crate) fn expect(&mut self, kind: TokenKind) -> Result<Entry<'src>, Stop<'src>>
         ensures same { IsSameRun self.old self.new }
         ensures value { Gives (λ entry. (significant_of entry, rest_of self.new)) result (rest_of self.new) (reader.expect kind (rest_of self.old)) }
         ensures progress { OnOk result (self.old.next < self.new.next) }
@@ -148,7 +160,7 @@ impl<'run, 'src, X: Expander> Parser<'run, 'src, X> {
 
     /// Nothing may stand behind the end of the file.
     #[tactic(auto, unfolding(justfile_model::specs::Reader::at_end, justfile_model::specs::Reader::refused))]
-    pub(crate) fn expect_nothing(&self) -> Result<(), Stop>
+    pub(crate) fn expect_nothing(&self) -> Result<(), Stop<'src>>
         ensures { Gives (λ _. []) result (rest_of self.now) (reader.at_end (answers_by X.answer self.now.expander.now) (rest_of self.now)) }
     {
         match self.peek() {
@@ -157,31 +169,43 @@ impl<'run, 'src, X: Expander> Parser<'run, 'src, X> {
         }
     }
 
-    /// The fault for which reading stopped. It stands at the next token, or at the last where none
-    /// is left.
-    #[tactic(auto, using(crate::proofs::Rest::in_table))]
-    fn fault(&self, stop: Stop) -> Fault<'src>
-        ensures { IsFaultOf self.now.tokens.now stop result }
+    /// The fault for which reading stopped.
+    fn fault(&self, stop: Stop<'src>) -> Fault<'src>
+        ensures { IsFaultOf self.now.tokens.now (rest_of self.now) stop.entry result }
     {
-        let refusal = match stop {
-            Stop::Refused(refusal) => refusal,
-            Stop::Memory => return Fault::Memory,
-            Stop::Numbers => return Fault::Numbers,
-        };
-        let (token, _) = self.tokens[self.next.min(self.tokens.len() - 1)];
-        Fault::Compile(token.error(self.error_kind(refusal, token.kind)))
+        match stop {
+            Stop::Refused(refusal) => Fault::Compile(self.error(refusal)),
+            Stop::Memory => Fault::Memory,
+            Stop::Numbers => Fault::Numbers,
+        }
     }
 
-    /// The kind of the error for which a token is refused.
-    fn error_kind(&self, refusal: Refusal, found: TokenKind) -> CompileErrorKind<'src>
-        ensures { internal_message result ≡ None }
+    /// The error of a refusal.
+    fn error(&self, refusal: Refusal<'src>) -> CompileError<'src>
+        ensures among { IsInTable self.now.tokens.now result.token }
+        ensures kind { IsKindAt refusal.entry result.kind result.token }
+        ensures at { IsAt (map significant_of self.now.tokens.now) (front (rest_of self.now)) result.token }
     {
-        match refusal {
-            Refusal::TooDeep => CompileErrorKind::ParsingRecursionDepthExceeded,
-            Refusal::Unexpected | Refusal::NotCooked => CompileErrorKind::UnexpectedToken {
+        let token = self.place();
+        token.error(match refusal {
+            Refusal::Unexpected => CompileErrorKind::UnexpectedToken {
                 expected: Vec::new(self.alloc),
-                found,
+                found: token.kind,
             },
+            Refusal::TooDeep => CompileErrorKind::ParsingRecursionDepthExceeded,
+            Refusal::NotCooked(kind) => kind,
+        })
+    }
+
+    /// Where a refusal stands: at the next token, or at the last where none is left.
+    #[tactic(auto, using(crate::proofs::Rest::in_table, crate::proofs::Rest::last_at))]
+    fn place(&self) -> Token<'src>
+        ensures among { IsInTable self.now.tokens.now result }
+        ensures at { IsAt (map significant_of self.now.tokens.now) (front (rest_of self.now)) result }
+    {
+        match self.peek() {
+            Some((token, _)) => token,
+            None => self.tokens[self.tokens.len() - 1].0,
         }
     }
 

@@ -4,7 +4,8 @@ ghost use Rattle.justfile_file.specs.Item.{item_of};
 ghost use Rattle.justfile_file.specs.declared.item.Item.TheVariants as items;
 ghost use Rattle.justfile_model.specs.Reader as reader;
 ghost use Rattle.justfile_parse.specs.Given.{HasShebang, IsInTable, IsGivenRecipe};
-ghost use Rattle.justfile_parse.specs.Reading.{GivesNumbered, answers_by};
+ghost use Rattle.justfile_cook.specs.Literal.{answers_by};
+ghost use Rattle.justfile_parse.specs.Reading.{GivesNumbered};
 ghost use Rattle.justfile_parse.specs.WantsNumber.{LacksRecipe};
 
 use crate::items::is_private;
@@ -21,7 +22,7 @@ impl<'src, X: Expander> Parser<'_, 'src, X> {
     pub(crate) fn parse_recipe(
         &mut self,
         numerator: &mut Numerator,
-    ) -> Result<UnresolvedRecipe<'src>, Stop>
+    ) -> Result<UnresolvedRecipe<'src>, Stop<'src>>
         requires { self.old.depth ≡ 0 }
         ensures same { OnOk result (IsSameRun self.old self.new) }
         ensures tokens { self.new.tokens ≡ self.old.tokens }

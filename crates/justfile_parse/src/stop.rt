@@ -1,26 +1,27 @@
+use justfile_base::{CompileErrorKind, Fault};
 use std::alloc::{AllocError, AllocFailed};
 
 /// Why the next token is refused.
-#[derive(Clone, Copy)]
-pub(crate) enum Refusal {
+#[derive(Drop)]
+pub(crate) enum Refusal<'src> {
     /// No rule goes on with it.
     Unexpected,
     /// Too many expressions are open.
     TooDeep,
-    /// The literal is of a form that is not read yet.
-    NotCooked,
+    /// It is a literal that has no text, for the reason that is given.
+    NotCooked(CompileErrorKind<'src>),
 }
 
 /// Why reading stopped.
-#[derive(Clone, Copy)]
-pub(crate) enum Stop {
-    Refused(Refusal),
+#[derive(Drop)]
+pub(crate) enum Stop<'src> {
+    Refused(Refusal<'src>),
     Memory,
     /// A number was wanted, and the counter had come to its end.
     Numbers,
 }
 
-impl From<AllocError> for Stop {
+impl From<AllocError> for Stop<'_> {
     ghost use Rattle.std.specs.Prelude.{◌≡◌};
     ghost use Rattle.justfile_parse.specs.declared.stop.Stop.TheVariants.{Memory};
 
@@ -31,7 +32,7 @@ impl From<AllocError> for Stop {
     }
 }
 
-impl<T: Drop> From<AllocFailed<T>> for Stop {
+impl<T: Drop> From<AllocFailed<T>> for Stop<'_> {
     ghost use Rattle.std.specs.Prelude.{◌≡◌};
     ghost use Rattle.justfile_parse.specs.declared.stop.Stop.TheVariants.{Memory};
 
@@ -39,5 +40,21 @@ impl<T: Drop> From<AllocFailed<T>> for Stop {
 
     fn from(_: AllocFailed<T>) -> Self {
         Stop::Memory
+    }
+}
+
+/// Why a literal, which is the next token, has no text.
+impl<'src> From<Fault<'src>> for Stop<'src> {
+    ghost use Rattle.std.specs.Prelude.{◌≡◌};
+    ghost use Rattle.justfile_parse.specs.Reading.{stop_of};
+
+    ghost from_gives = { λ fault stop. stop ≡ stop_of fault };
+
+    fn from(fault: Fault<'src>) -> Self {
+        match fault {
+            Fault::Compile(error) => Stop::Refused(Refusal::NotCooked(error.kind)),
+            Fault::Memory => Stop::Memory,
+            Fault::Numbers => Stop::Numbers,
+        }
     }
 }

@@ -68,6 +68,10 @@ pub mod lexer {
 
 pub mod laws {
     pub use justfile_canon::reads_back;
+    pub use justfile_cook::laws::{
+        answer_for_all as literal_for_all, cooked_is_utf8, indentation_is_longest, lines_joined,
+        longest_front, one_answer as one_literal, unindented_already,
+    };
     pub use justfile_model::grammar_laws::{
         counts, expanders, normal_twice, numbers_rise, printing, reads, shapes,
     };
@@ -110,6 +114,7 @@ pub mod source {
 }
 
 pub mod parser {
+    pub use justfile_cook::cook_string;
     pub use justfile_parse::Parser;
     pub use justfile_parse::significant::significant;
 }
@@ -128,6 +133,10 @@ pub mod token {
 
 pub mod token_kind {
     pub use justfile_base::TokenKind;
+}
+
+pub mod unindent {
+    pub use justfile_cook::unindent::unindent;
 }
 
 pub mod unstable_feature {

@@ -77,10 +77,7 @@ fn write_mark<S: Sink>(expanded: bool, sink: &mut S) -> Result<(), S::Fault>
 }
 
 /// Puts the text of a string literal.
-fn write_string_literal<S: Sink>(
-    literal: &StringLiteral<'_>,
-    sink: &mut S,
-) -> Result<(), S::Fault>
+fn write_string_literal<S: Sink>(literal: &StringLiteral<'_>, sink: &mut S) -> Result<(), S::Fault>
     ensures ok { OnOk result (S.took sink.old (mark_text literal.now.expand ++ (format_mark literal.now ++ lexeme_of literal.now.token)) sink.new) }
     ensures err { OnErr result (S.failed sink.old (mark_text literal.now.expand ++ (format_mark literal.now ++ lexeme_of literal.now.token)) sink.new) }
 {

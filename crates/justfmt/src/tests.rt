@@ -1,6 +1,7 @@
 //! What the program answers, with ample memory, and with a reader and a writer that fail.
 
 mod build;
+mod literals;
 
 use crate::run::run;
 use std::io::{self, ErrorKind, Read, Write};
@@ -135,7 +136,6 @@ fn refused(rt: HostRuntime) -> Result<(), Fail> {
     fails(&rt, "", b"a\r:= b\n", 2, "error: refused\n")?;
     fails(&rt, "", b"a := \\\rb", 2, "error: refused\n")?;
     fails(&rt, "", b"a := assert\n", 2, "error: refused\n")?;
-    fails(&rt, "", b"a := \"\\n\"\n", 2, "error: refused\n")?;
     fails(&rt, "", b"  foo:\n    a\n", 2, "error: refused\n")?;
     fails(&rt, "", b"foo:\n  {{}}\n", 2, "error: refused\n")?;
     fails(&rt, "", b"foo:\n  {{x\n", 2, "error: refused\n")?;

@@ -30,6 +30,9 @@ const TEXTS: &[&str] = &[
     "foo:\n  \rx\n",
     "foo:\n  a\r{{b}}\n",
     "foo:\n  #!/bin/sh\n  {{\r\n  \"a\"\n}}{{b}}}}\n\n\n\nb := c # d \n",
+    "a := x'b'\nc := `d`\n",
+    "a := '''\n  b\\t\n  c\n'''\nd := x\"\"\"\\u{41}\\\r\n\"\"\" # e\n",
+    "foo:\n  {{x\"\\n\\\\\"}}{{```\n   a\n  ```}} b\n",
     "foo:\n  a\n\n  \r \n",
 ];
 
@@ -43,6 +46,8 @@ const OTHERS: &[&str] = &[
     "foo: bar\n  a\n",
     "foo:\n  {{}}\n",
     "  foo:\n    a\n",
+    "a := \"\\u{D800}\"\n",
+    "foo:\n  {{`#!x`}}\n",
 ];
 
 /// Sees that what is printed of a file at an indentation is a file that prints as itself.

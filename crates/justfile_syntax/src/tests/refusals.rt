@@ -22,9 +22,6 @@ fn assignments_need_a_value_at_the_front_of_a_line(rt: HostRuntime) -> Result<()
         ("a := if\n", 5),
         ("a := assert\n", 5),
         ("a := f 'x'\n", 7),
-        ("a := x'y'\n", 6),
-        ("a := '''x'''\n", 5),
-        ("a := \"\\n\"\n", 5),
         ("  a := b\n", 0),
         ("a\r:= b\n", 1),
     ];

@@ -66,10 +66,12 @@ pub(crate) fn names<'src>(alloc: Global, text: &'src str) -> Result<Vec<Name<'sr
     Ok(names)
 }
 
-/// The file that a text is, which takes its numbers from the numerator.
-pub(crate) fn parse<'src>(
+/// The file that a text is, which takes its numbers from the numerator, and what literals expand to
+/// from the expander.
+pub(crate) fn parse_with<'src, X: Expander>(
     alloc: Global,
     numerator: &mut Numerator,
+    expander: &X,
     text: &'src str,
 ) -> CompileResult<'src, Ast<'src>> {
     let source = Source {
@@ -79,8 +81,17 @@ pub(crate) fn parse<'src>(
         working_directory: "/home",
     };
     Parser::parse_source(
-        alloc, numerator, "justfile", &source, text, &Unchanged, CURRENT,
+        alloc, numerator, "justfile", &source, text, expander, CURRENT,
     )
+}
+
+/// The same, where literals expand to their texts.
+pub(crate) fn parse<'src>(
+    alloc: Global,
+    numerator: &mut Numerator,
+    text: &'src str,
+) -> CompileResult<'src, Ast<'src>> {
+    parse_with(alloc, numerator, &Unchanged, text)
 }
 
 /// The same, for a text that is a file.
@@ -161,6 +172,12 @@ pub(crate) fn shown(alloc: Global, item: &Item<'_>) -> Result<String, Fail> {
             let file_depth = assignment.file_depth;
             let private = assignment.private;
             match &assignment.value {
+                Expression::Backtick { contents, .. } => {
+                    let contents = contents.as_str();
+                    format!(in alloc;
+                        "{name} {number} {file_depth} {private} command {contents:?}"
+                    )?
+                }
                 Expression::StringLiteral { string_literal } => {
                     let cooked = string_literal.cooked.as_str();
                     format!(in alloc; "{name} {number} {file_depth} {private} text {cooked:?}")?

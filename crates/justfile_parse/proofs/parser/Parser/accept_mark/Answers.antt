@@ -1,5 +1,5 @@
 use Rattle.justfile_parse.proofs.Parsed.{mark_fewer, mark_is}
-use Rattle.justfile_parse.specs.Reading.{answers_by}
+use Rattle.justfile_cook.specs.Literal.{answers_by}
 use Rattle.justfile_parse.specs.View.{rest_of}
 use Rattle.justfile_parse.proofs.parser.Parser.accept_mark.Goals as goal
 

@@ -1,6 +1,6 @@
 use Rattle.std.proofs.lemmas.Result.{err_from_is_err_and}
 use Rattle.justfile_parse.proofs.Loop.{begins, ends, goes_on, goes_past, stops}
-use Rattle.justfile_parse.specs.Reading.{answers_by}
+use Rattle.justfile_cook.specs.Literal.{answers_by}
 use Rattle.justfile_parse.specs.Significant.{significant_of}
 use Rattle.justfile_parse.proofs.parser.Parser.parse_items.Goals as goal
 

@@ -1,0 +1,101 @@
+//! Commands between backticks.
+
+use crate::tests::support::{compare_items, parsed};
+use crate::tests::values::{compare_refusals, first_command};
+use std::process::Abort;
+use std::test::Fail;
+
+#[test]
+fn contents_are_what_stands_between_the_backticks(rt: HostRuntime) -> Result<(), Fail> {
+    const ROWS: &[(&str, (&str, &str))] = &[
+        ("x := `hello`\n", ("hello", "`hello`")),
+        ("x := ``\n", ("", "``")),
+        (
+            "x := `\\t\\q\\u{}\\`\n",
+            ("\\t\\q\\u{}\\", "`\\t\\q\\u{}\\`"),
+        ),
+        (
+            "x := `a 'b' \"c\" {{d}}`\n",
+            ("a 'b' \"c\" {{d}}", "`a 'b' \"c\" {{d}}`"),
+        ),
+        ("x := `\n  a\n  b`\n", ("\n  a\n  b", "`\n  a\n  b`")),
+        ("x := ` é中\r `\n", (" é中\r ", "` é中\r `")),
+        ("x := `$p`\n", ("$p", "`$p`")),
+    ];
+    for (text, command) in ROWS {
+        let ast = parsed(rt.alloc(), 0, text)?;
+        assert_eq!(rt; first_command(&ast)?, *command, "{text:?}");
+    }
+    Ok(())
+}
+
+#[test]
+fn tripled_ones_are_unindented(rt: HostRuntime) -> Result<(), Fail> {
+    const ROWS: &[(&str, &str)] = &[
+        (
+            "x := ```\n  \\tfoo\\t\n  \\tbar\\n\n```\n",
+            "\\tfoo\\t\n\\tbar\\n\n",
+        ),
+        (
+            "x := ```\n\\tfoo\\t\n  \\tbar\\n\n```\n",
+            "\\tfoo\\t\n  \\tbar\\n\n",
+        ),
+        ("x := ```a `b` ``c```\n", "a `b` ``c"),
+        ("x := ``````\n", ""),
+        ("x := ```\n  a \\\n    b\n  ```\n", "a \\\n  b\n"),
+        ("x := ```\r\n\ta\r\n\r\n\tb```\n", "a\r\n\r\nb"),
+    ];
+    for (text, contents) in ROWS {
+        let ast = parsed(rt.alloc(), 0, text)?;
+        assert_eq!(rt; first_command(&ast)?.0, *contents, "{text:?}");
+    }
+    Ok(())
+}
+
+#[test]
+fn commands_begin_with_no_shebang(rt: HostRuntime) -> Result<(), Fail> {
+    const ROWS: &[(&str, (&str, usize, usize))] = &[
+        ("a := `#!x`\n", ("BacktickShebang", 5, 5)),
+        ("a := `#!`\n", ("BacktickShebang", 5, 4)),
+        ("a := ```#!```\n", ("BacktickShebang", 5, 8)),
+        ("a := ```\n  #!x\n```\n", ("BacktickShebang", 5, 13)),
+        ("a := ```  #!x```\n", ("BacktickShebang", 5, 11)),
+        ("a := b\nfoo:\n  a{{`#!x\n`}}\n", ("BacktickShebang", 17, 6)),
+        ("a := `#!x` b\n", ("BacktickShebang", 5, 5)),
+    ];
+    compare_refusals(&rt, rt.alloc(), ROWS)
+}
+
+#[test]
+fn other_beginnings_of_commands_are_taken(rt: HostRuntime) -> Result<(), Fail> {
+    const ROWS: &[(&str, &str)] = &[
+        ("a := ` #!x`\n", " #!x"),
+        ("a := `\n#!x`\n", "\n#!x"),
+        ("a := `# !x`\n", "# !x"),
+        ("a := `#`\n", "#"),
+        ("a := `!#`\n", "!#"),
+        ("a := `\\#!`\n", "\\#!"),
+        ("a := ```\n\n#!x```\n", "\n#!x"),
+        ("a := ```\n  a\n #!x```\n", " a\n#!x"),
+    ];
+    for (text, contents) in ROWS {
+        let ast = parsed(rt.alloc(), 0, text)?;
+        assert_eq!(rt; first_command(&ast)?.0, *contents, "{text:?}");
+    }
+    Ok(())
+}
+
+#[test]
+fn copies_have_the_same_commands(rt: HostRuntime) -> Result<(), Fail> {
+    let ast = parsed(rt.alloc(), 3, "a := ```\n  b\n  c```\n")?;
+    let copy = ast.clone(rt.alloc())?;
+    for file in [&ast, &copy] {
+        compare_items(
+            &rt,
+            rt.alloc(),
+            file,
+            &["a 3 2 false command \"b\\nc\"", "newline"],
+        )?;
+    }
+    Ok(())
+}

@@ -1,0 +1,94 @@
+//! Marks of literals, and names that are none.
+
+use crate::tests::support::{compare_items, parsed, refusal};
+use std::alloc::Global;
+use std::process::Abort;
+use std::test::Fail;
+
+/// Sees that each text is refused at the token of this offset and length.
+fn compare(rt: &impl Abort, alloc: Global, rows: &[(&str, (usize, usize))]) -> Result<(), Fail> {
+    for (text, place) in rows {
+        let error = refusal(alloc, text)?;
+        assert_eq!(rt;
+            (error.token.offset, error.token.length),
+            *place,
+            "{text:?}"
+        );
+    }
+    Ok(())
+}
+
+#[test]
+fn marks_are_glued_to_their_literal(rt: HostRuntime) -> Result<(), Fail> {
+    const ROWS: &[(&str, (usize, usize))] = &[
+        ("a := x 'a'\n", (7, 3)),
+        ("a := x\t'a'\n", (7, 3)),
+        ("a := x  \"a\"\n", (8, 3)),
+        ("a := x\\\n'a'\n", (8, 3)),
+        ("a := x '''a'''\n", (7, 7)),
+        ("foo:\n  {{x 'a'}}\n", (11, 3)),
+        ("foo:\n  {{x\n'a'}}\n", (11, 3)),
+    ];
+    compare(&rt, rt.alloc(), ROWS)
+}
+
+#[test]
+fn other_names_are_no_marks(rt: HostRuntime) -> Result<(), Fail> {
+    const ROWS: &[(&str, (usize, usize))] = &[
+        ("a := X'a'\n", (6, 3)),
+        ("a := xx'a'\n", (7, 3)),
+        ("a := x-'a'\n", (7, 3)),
+        ("a := b'a'\n", (6, 3)),
+        ("foo:\n  {{_x\"a\"}}\n", (11, 3)),
+    ];
+    compare(&rt, rt.alloc(), ROWS)
+}
+
+#[test]
+fn strings_alone_are_marked(rt: HostRuntime) -> Result<(), Fail> {
+    const ROWS: &[(&str, (usize, usize))] = &[
+        ("a := x`a`\n", (6, 3)),
+        ("a := x```a```\n", (6, 7)),
+        ("a := x'a''b'\n", (9, 3)),
+        ("a := 'a''b'\n", (8, 3)),
+        ("a := 'a'x'b'\n", (8, 1)),
+        ("a := 'a'`b`\n", (8, 3)),
+        ("a := `a``b`\n", (8, 3)),
+    ];
+    compare(&rt, rt.alloc(), ROWS)
+}
+
+#[test]
+fn f_is_no_mark(rt: HostRuntime) -> Result<(), Fail> {
+    const TEXTS: &[&str] = &[
+        "a := f'a'\n",
+        "a := f\"a\"\n",
+        "a := f'''a'''\n",
+        "a := f 'a'\n",
+        "a := f'a{{b}}c'\n",
+        "foo:\n  {{f'a'}}\n",
+    ];
+    for text in TEXTS {
+        refusal(rt.alloc(), text)?;
+    }
+    Ok(())
+}
+
+#[test]
+fn marks_are_names_elsewhere(rt: HostRuntime) -> Result<(), Fail> {
+    const ROWS: &[(&str, &[&str])] = &[
+        ("a := x", &["a 0 2 false name x"]),
+        ("a := x # 'b'", &["a 0 2 false name x", "comment \"# 'b'\""]),
+        ("x := f", &["x 0 2 false name f"]),
+        (
+            "x:\n  x'a' {{x}}'b'\n",
+            &["recipe x 0 | 1 ‹x'a' › (x) ‹'b'›", "newline"],
+        ),
+        ("f:\n  f'a'\n", &["recipe f 0 | 1 ‹f'a'›", "newline"]),
+    ];
+    for (text, rows) in ROWS {
+        let ast = parsed(rt.alloc(), 0, text)?;
+        compare_items(&rt, rt.alloc(), &ast, rows)?;
+    }
+    Ok(())
+}
