@@ -20,7 +20,7 @@ use Rattle.justfile_canon.proofs.LexesValues.{value_no_blank, lex_value}
 value_step : (ind : List ℕ) (e : Value) {more : List ℕ} {ts : List Mark} → GoodExpression e → Reading (in_line ind) more ts → Reading (in_line ind) (fragment_on (Interpolation e) more) (fragment_marks (Interpolation e) ts)
 unfolding class_of
 value_step ind e {more} {ts} h k =
-    interpolation_start ind _ _ (λ t. space_step (value_no_blank e (32 ∷ 125 ∷ 125 ∷ more) h.lexes) (lex_value [] (ind ∷ []) true (Some t) e h.lexes refl (λ f. space_step refl (interpolation_end ind more t ts k))))
+    interpolation_start ind _ _ (λ t. space_step (value_no_blank e (32 ∷ 125 ∷ 125 ∷ more) h.lexes) (lex_value (ind ∷ []) true (Some t) [] e h.lexes refl (λ f. space_step refl (interpolation_end ind more t ts k))))
 
 pub fragments_step : (ind : List ℕ) (fs : List Fragment) (more : List ℕ) (ts : List Mark) → GoodFragments fs → Reading (in_line ind) (10 ∷ more) ts → Reading (in_line ind) (fragments_on fs (10 ∷ more)) (fragments_marks fs ts)
 fragments_step ind [] more ts h k = k

@@ -8,10 +8,12 @@ use Rattle.justfile_base.specs.declared.token_kind.TokenKind.TheVariants as kind
 use Rattle.justfile_model.specs.SignificantTokens.{SignificantToken}
 use Rattle.justfile_model.specs.Tree.{Text, Interpolation, Line, lexeme, nothing, before, trimmed}
 use Rattle.justfile_model.specs.Grammar as g
-use Rattle.justfile_model.specs.Grammar.{Expression, Limited, LineRest, BodyLines}
+use Rattle.justfile_model.specs.Expressions.{Limited, Expression}
+use Rattle.justfile_model.specs.Grammar.{LineRest, BodyLines}
 use Rattle.justfile_model.specs.Printing.{ends_in_return, printable_fragments, printable_body}
-use Rattle.justfile_canon.proofs.Canon.{Value, Fragment, Row}
+use Rattle.justfile_canon.proofs.Canon.{Shown, Value, Fragment, Row}
 use Rattle.justfile_canon.proofs.Good.{GoodExpression, GoodFragments, IsShown, IsFirst, GoodLines, GoodBody, pale, pale_line, all_pale, pale_behind}
+use Rattle.justfile_canon.proofs.Walks.{quiet, walk}
 use Rattle.justfile_canon.proofs.BodyTokens.{At, First, Start, Amid, NotFirst}
 use Rattle.justfile_canon.proofs.BodyFacts.{TextKnown, LastKnown, Outline, outline_after, no_body, NextIs, BodyToken, BodySound}
 
@@ -19,11 +21,11 @@ abbrev pub Tokens : Type 0
 Tokens = List SignificantToken
 
 -- fragments up to the line end, which is taken, or up to the dedent, which is not
-abbrev pub LineOf : List Fragment → Tokens → Tokens → Type 0
+abbrev pub LineOf : List Fragment → Shown → Tokens → Tokens → Type 0
 LineOf = LineRest lexeme nothing Limited
 
 -- lines up to the dedent, which is taken
-abbrev pub LinesOf : List Row → Tokens → Tokens → Type 0
+abbrev pub LinesOf : List Row → Shown → Tokens → Tokens → Type 0
 LinesOf = BodyLines lexeme nothing nothing Limited
 
 -- what is known of the parts of a line by themselves
@@ -44,18 +46,6 @@ inner w held colon = record { at = w; held = held; colon = colon; body = true; i
 
 abbrev pub interpolating : Bool → Outline
 interpolating colon = record { at = Amid; held = false; colon = colon; body = true; interpolation = true; levels = 1 }
-
--- the tokens that an interpolation may hold
-abbrev pub quiet : TokenKind → Bool
-quiet kinds.Colon = false
-quiet kinds.Indent = false
-quiet kinds.Dedent = false
-quiet kinds.Eol = false
-quiet kinds.Text = false
-quiet kinds.Whitespace = false
-quiet kinds.InterpolationStart = false
-quiet kinds.InterpolationEnd = false
-quiet _ = true
 
 quiet_keeps : (k : TokenKind) (l : List ℕ) (colon : Bool) → quiet k ≡ true → outline_after k l (interpolating colon) ≡ interpolating colon
 quiet_keeps kinds.Colon l colon h = cc
@@ -139,16 +129,13 @@ module _ (P : Outline → Type 0) (keep : (k : TokenKind) (l : List ℕ) (s : Ou
   quiet_walk : (k : TokenKind) (t : SignificantToken) (rest : Tokens) → t.tok.kind ≡ k → quiet k ≡ true → Walked P (t ∷ rest) → Walked P rest
   quiet_walk k t rest e h w = record { outline = outline_after t.tok.kind t.tok.lexeme w.outline; is = keep t.tok.kind t.tok.lexeme w.outline (ap quiet e ∙ h) w.is; sound = w.sound.1 }
 
-  walk : {depth : ℕ} {e : Value} {tokens rest : Tokens} → Expression lexeme nothing Limited depth e tokens rest → Walked P tokens → Walked P rest
-  walk (g.value _ (g.literal {token} {rest} k)) w = quiet_walk kinds.StringToken token rest k refl w
-  walk (g.value _ (g.expanded {mark} {token} {rest} k)) w = quiet_walk kinds.StringToken token rest k.is_string refl (quiet_walk kinds.Identifier mark (token ∷ rest) k.marked.is_name refl w)
-  walk (g.value _ (g.backtick {token} {rest} k)) w = quiet_walk kinds.Backtick token rest k refl w
-  walk (g.value _ (g.variable {name} {rest} k _ _ _)) w = quiet_walk kinds.Identifier name rest k refl w
+  walk_past : {condition : Bool} {depth : ℕ} {e : Value} {ns : Shown} {tokens rest : Tokens} → Expression lexeme nothing Limited condition depth e ns tokens rest → Walked P tokens → Walked P rest
+  walk_past = walk lexeme nothing Limited (Walked P) quiet_walk
 
 -- in an interpolation
-walk_inside : {depth : ℕ} {e : Value} {tokens rest : Tokens} (colon : Bool) → Expression lexeme nothing Limited depth e tokens rest → BodySound (interpolating colon) tokens → BodySound (interpolating colon) rest
+walk_inside : {condition : Bool} {depth : ℕ} {e : Value} {ns : Shown} {tokens rest : Tokens} (colon : Bool) → Expression lexeme nothing Limited condition depth e ns tokens rest → BodySound (interpolating colon) tokens → BodySound (interpolating colon) rest
 walk_inside {rest} colon x s =
-    let w = walk (λ o. o ≡ interpolating colon) (λ k l o h e. ap (outline_after k l) e ∙ quiet_keeps k l colon h) x (record { outline = interpolating colon; is = refl; sound = s }) in
+    let w = walk_past (λ o. o ≡ interpolating colon) (λ k l o h e. ap (outline_after k l) e ∙ quiet_keeps k l colon h) x (record { outline = interpolating colon; is = refl; sound = s }) in
     subst (λ o. BodySound o rest) w.is w.sound
 
 quiet_stays : (k : TokenKind) → quiet k ≡ true → shifts k ≡ false
@@ -159,8 +146,8 @@ quiet_stays kinds.InterpolationEnd h = cc
 quiet_stays _ h = refl
 
 -- outside bodies
-pub walk_outside : {depth : ℕ} {e : Value} {tokens rest : Tokens} → Expression lexeme nothing Limited depth e tokens rest → Walked IsOutside tokens → Walked IsOutside rest
-walk_outside = walk IsOutside (λ k l s h o. outside_after k l s (quiet_stays k h) o)
+pub walk_outside : {condition : Bool} {depth : ℕ} {e : Value} {ns : Shown} {tokens rest : Tokens} → Expression lexeme nothing Limited condition depth e ns tokens rest → Walked IsOutside tokens → Walked IsOutside rest
+walk_outside = walk_past IsOutside (λ k l s h o. outside_after k l s (quiet_stays k h) o)
 
 -- ---- lines that are left out
 
@@ -211,7 +198,7 @@ record LineGood (w : At) (held colon : Bool) (fs : List Fragment) (rest : Tokens
   sound : BodySound (inner place (held && pale_line fs) colon) rest
 
 -- a text and what follows it on its line
-raw_good : (w : At) (l : List ℕ) (fs : List Fragment) (tokens rest : Tokens) → LineOf fs tokens rest → NextIs (TextKnown w l) tokens → GoodFragments fs → IsUtf8 l → printable_fragments (Text l ∷ fs) ≡ true → GoodFragments (Text l ∷ fs) × LineBegins w (Text l ∷ fs)
+raw_good : {ns : Shown} (w : At) (l : List ℕ) (fs : List Fragment) (tokens rest : Tokens) → LineOf fs ns tokens rest → NextIs (TextKnown w l) tokens → GoodFragments fs → IsUtf8 l → printable_fragments (Text l ∷ fs) ≡ true → GoodFragments (Text l ∷ fs) × LineBegins w (Text l ∷ fs)
 raw_good w l [] tokens rest r known good u p = by r known
   where
     off : (b : Bool) → not b ≡ true → b ≡ false
@@ -226,12 +213,12 @@ raw_good w l [] tokens rest r known good u p = by r known
     last : LastKnown w l → GoodFragments (Text l ∷ []) × LineBegins w (Text l ∷ [])
     last k = ((k.0 (off (ends_in_return l) p), u), begins w k)
 
-    by : {tokens rest : Tokens} → LineOf [] tokens rest → NextIs (TextKnown w l) tokens → GoodFragments (Text l ∷ []) × LineBegins w (Text l ∷ [])
+    by : {ns : Shown} {tokens rest : Tokens} → LineOf [] ns tokens rest → NextIs (TextKnown w l) tokens → GoodFragments (Text l ∷ []) × LineBegins w (Text l ∷ [])
     by (g.line_ends e) known = last (subst (TextKnown w l) e known)
     by (g.body_ends e) known = last (subst (TextKnown w l) e known)
 raw_good w l (Text k ∷ fs) tokens rest r known good u p = absurd (by r known)
   where
-    by : {k : List ℕ} {fs : List Fragment} {tokens rest : Tokens} → LineOf (Text k ∷ fs) tokens rest → NextIs (TextKnown w l) tokens → ⊥
+    by : {ns : Shown} {k : List ℕ} {fs : List Fragment} {tokens rest : Tokens} → LineOf (Text k ∷ fs) ns tokens rest → NextIs (TextKnown w l) tokens → ⊥
     by (g.text e r) known = subst (TextKnown w l) e known
 raw_good w l (Interpolation e ∷ fs) tokens rest r known good u p = by r known
   where
@@ -240,7 +227,7 @@ raw_good w l (Interpolation e ∷ fs) tokens rest r known good u p = by r known
     begins Start k = tt
     begins Amid k = tt
 
-    by : {tokens rest : Tokens} → LineOf (Interpolation e ∷ fs) tokens rest → NextIs (TextKnown w l) tokens → GoodFragments (Text l ∷ Interpolation e ∷ fs) × LineBegins w (Text l ∷ Interpolation e ∷ fs)
+    by : {ns : Shown} {tokens rest : Tokens} → LineOf (Interpolation e ∷ fs) ns tokens rest → NextIs (TextKnown w l) tokens → GoodFragments (Text l ∷ Interpolation e ∷ fs) × LineBegins w (Text l ∷ Interpolation e ∷ fs)
     by (g.interpolation e' reads e'' r) known = let k = subst (TextKnown w l) e' known in ((k.0, u, good), begins w k)
 
 sound_behind : (s : Outline) (k : TokenKind) (t : SignificantToken) (rest : Tokens) → t.tok.kind ≡ k → BodySound s (t ∷ rest) → BodySound (outline_after k t.tok.lexeme s) rest
@@ -254,7 +241,7 @@ printable_rest f [] p = refl
 printable_rest (Text t) (k ∷ fs) p = p
 printable_rest (Interpolation e) (k ∷ fs) p = p
 
-line_good : (w : At) (held colon : Bool) {fs : List Fragment} {tokens rest : Tokens} → InLine w fs → LineOf fs tokens rest → BodySound (inner w held colon) tokens → PartsGood fs → printable_fragments fs ≡ true → LineGood w held colon fs rest
+line_good : {ns : Shown} (w : At) (held colon : Bool) {fs : List Fragment} {tokens rest : Tokens} → InLine w fs → LineOf fs ns tokens rest → BodySound (inner w held colon) tokens → PartsGood fs → printable_fragments fs ≡ true → LineGood w held colon fs rest
 line_good Amid held colon i (g.line_ends {token = t} {rest} e) s v p = record { good = tt; begins = tt; place = Start; stands = inl refl; sound = subst (λ h. BodySound (inner Start h colon) rest) (sym (and_true held)) (sound_behind (inner Amid held colon) kinds.Eol t rest e s) }
   where
     and_true : (b : Bool) → (b && true) ≡ b
@@ -271,7 +258,7 @@ line_good First held colon i (g.body_ends e) s v p = absurd i
 line_good Start held colon i (g.body_ends e) s v p = absurd i
 line_good w held colon {fs} {tokens} {rest} i (g.text {token = t} {tokens = mid} e r) s v p = behind r v p (line_good Amid (held && pale t.tok.lexeme) colon tt r (sound_behind (inner w held colon) kinds.Text t mid e s))
   where
-    behind : {gs : List Fragment} → LineOf gs mid rest → PartsGood (Text t.tok.lexeme ∷ gs) → printable_fragments (Text t.tok.lexeme ∷ gs) ≡ true → (PartsGood gs → printable_fragments gs ≡ true → LineGood Amid (held && pale t.tok.lexeme) colon gs rest) → LineGood w held colon (Text t.tok.lexeme ∷ gs) rest
+    behind : {ns : Shown} {gs : List Fragment} → LineOf gs ns mid rest → PartsGood (Text t.tok.lexeme ∷ gs) → printable_fragments (Text t.tok.lexeme ∷ gs) ≡ true → (PartsGood gs → printable_fragments gs ≡ true → LineGood Amid (held && pale t.tok.lexeme) colon gs rest) → LineGood w held colon (Text t.tok.lexeme ∷ gs) rest
     behind {gs} r v p more =
         let m = more v.1 (printable_rest (Text t.tok.lexeme) gs p) in
         let front = raw_good w t.tok.lexeme gs mid rest r (known_of (inner w held colon) kinds.Text t mid e s) m.good v.0 p in
@@ -290,7 +277,7 @@ line_good w held colon {fs} {tokens} {rest} i (g.interpolation {e} {start} {end 
     begins Start gs = tt
     begins Amid gs = tt
 
-    behind : {gs : List Fragment} → LineOf gs mid rest → PartsGood (Interpolation e ∷ gs) → printable_fragments (Interpolation e ∷ gs) ≡ true → (PartsGood gs → printable_fragments gs ≡ true → LineGood Amid false colon gs rest) → LineGood w held colon (Interpolation e ∷ gs) rest
+    behind : {ns : Shown} {gs : List Fragment} → LineOf gs ns mid rest → PartsGood (Interpolation e ∷ gs) → printable_fragments (Interpolation e ∷ gs) ≡ true → (PartsGood gs → printable_fragments gs ≡ true → LineGood Amid false colon gs rest) → LineGood w held colon (Interpolation e ∷ gs) rest
     behind {gs} r v p more =
         let m = more v.1 (printable_rest (Interpolation e) gs p) in
         record { good = (v.0, m.good); begins = begins w gs; place = m.place; stands = m.stands; sound = subst (λ h. BodySound (inner m.place h colon) rest) (sym (and_none held)) m.sound }
@@ -310,13 +297,13 @@ closed_good w held colon t rest later e s = record {
 }
 
 -- a dedent begins no line
-dedent_good : (w : At) (held colon : Bool) {ls : List Row} {tokens rest : Tokens} → NotFirst w → NextIs (λ k. k ≡ kinds.Dedent) tokens → LinesOf ls tokens rest → BodySound (inner w held colon) tokens → LinesGood held ls rest
+dedent_good : {ns : Shown} (w : At) (held colon : Bool) {ls : List Row} {tokens rest : Tokens} → NotFirst w → NextIs (λ k. k ≡ kinds.Dedent) tokens → LinesOf ls ns tokens rest → BodySound (inner w held colon) tokens → LinesGood held ls rest
 dedent_good w held colon later d (g.no_line {token = t} {rest} e) s = closed_good w held colon t rest later e s
 dedent_good w held colon later d (g.empty_line e r) s = let bad : kinds.Eol ≡ kinds.Dedent = sym e ∙ d in cc
 dedent_good w held colon later d (g.some_line (g.text e l) r) s = let bad : kinds.Text ≡ kinds.Dedent = sym e ∙ d in cc
 dedent_good w held colon later d (g.some_line (g.interpolation e reads e' l) r) s = let bad : kinds.InterpolationStart ≡ kinds.Dedent = sym e ∙ d in cc
 
-lines_good : (held colon : Bool) {ls : List Row} {tokens rest : Tokens} → LinesOf ls tokens rest → BodySound (inner Start held colon) tokens → AllPartsGood ls → printable_body ls ≡ true → LinesGood held ls rest
+lines_good : {ns : Shown} (held colon : Bool) {ls : List Row} {tokens rest : Tokens} → LinesOf ls ns tokens rest → BodySound (inner Start held colon) tokens → AllPartsGood ls → printable_body ls ≡ true → LinesGood held ls rest
 lines_good held colon (g.no_line {token = t} {rest} e) s v p = closed_good Start held colon t rest tt e s
 lines_good held colon (g.empty_line {lines = ls} {token = t} {tokens} e r) s v p =
     let m = lines_good true colon r (sound_behind (inner Start held colon) kinds.Eol t tokens e s) v.1 p in
@@ -340,7 +327,7 @@ pub record BodyRead (ls : List Row) (rest : Tokens) : Type 0 where
   pub sound : BodySound no_body rest
 
 -- from the token behind the Indent on
-pub body_read : (colon : Bool) {ls : List Row} {tokens rest : Tokens} → LinesOf ls tokens rest → BodySound (inner First false colon) tokens → AllPartsGood ls → printable_body ls ≡ true → BodyRead ls rest
+pub body_read : {ns : Shown} (colon : Bool) {ls : List Row} {tokens rest : Tokens} → LinesOf ls ns tokens rest → BodySound (inner First false colon) tokens → AllPartsGood ls → printable_body ls ≡ true → BodyRead ls rest
 body_read colon (g.no_line {token = t} {rest} e) s v p = absurd ((known_of (inner First false colon) kinds.Dedent t rest e s refl).0)
 body_read colon (g.empty_line {lines = ls} {token = t} {tokens} e r) s v p = absurd (known_of (inner First false colon) kinds.Eol t tokens e s refl refl)
 body_read colon {tokens} {rest} (g.some_line {f} {fragments = fs} {lines = ls} {between = mid} l r) s v p =

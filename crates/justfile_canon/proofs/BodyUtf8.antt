@@ -1,28 +1,19 @@
 -- The printed text of a good body is UTF-8.
-use Rattle.std.proofs.Common.{◌<◌, ℕ, zero, suc, List, [], ◌∷◌, get_or, refl, subst, arith}
+use Rattle.std.proofs.Common.{◌<◌, ℕ, zero, suc, List, [], ◌∷◌, get_or, refl, arith}
 use Rattle.std.specs.Str.{IsUtf8}
 use Rattle.std.proofs.lemmas.Str.{IsUtf8-append, IsUtf8-from_ascii}
 use Rattle.std.proofs.Math.Utf8.{encode}
 use Rattle.justfile_model.specs.Bytes.{blank}
-use Rattle.justfile_model.specs.Printing.{expr_text}
 use Rattle.justfile_model.specs.Tree.{Text, Interpolation, Line}
 use Rattle.justfile_model.proofs.CutLemmas.{blank_ascii}
 use Rattle.justfile_canon.proofs.Inline.{Each}
-use Rattle.justfile_canon.proofs.Canon.{Value, Fragment, Row, expr_on, expr_is, fragments_on, line_on, body_on}
+use Rattle.justfile_canon.proofs.Canon.{Fragment, Row, fragments_on, line_on, body_on}
 use Rattle.justfile_canon.proofs.Good.{GoodFragments, GoodLines, GoodBody}
 use Rattle.justfile_canon.proofs.BodyLines.{IsLevel}
-
-pub value_utf8 : (e : Value) (more : List ℕ) → IsUtf8 (expr_text e) → IsUtf8 more → IsUtf8 (expr_on e more)
-value_utf8 e more h u = subst IsUtf8 (expr_is e more) (IsUtf8-append (expr_text e) more h u)
 
 pub newline_utf8 : IsUtf8 (10 ∷ [])
 unfolding encode
 newline_utf8 = (10 ∷ [], (refl, refl))
-
--- before a literal that is expanded
-pub mark_utf8 : IsUtf8 (120 ∷ [])
-unfolding encode
-mark_utf8 = (120 ∷ [], (refl, refl))
 
 opened_utf8 : IsUtf8 (123 ∷ 123 ∷ 32 ∷ [])
 unfolding encode
@@ -45,7 +36,7 @@ fragments_utf8 [] more h u = u
 fragments_utf8 (Text t ∷ []) more h u = IsUtf8-append t _ h.1 u
 fragments_utf8 (Text t ∷ Text k ∷ fs) more h u = absurd h
 fragments_utf8 (Text t ∷ Interpolation e ∷ fs) more h u = IsUtf8-append t _ h.1 (fragments_utf8 (Interpolation e ∷ fs) more h.2 u)
-fragments_utf8 (Interpolation e ∷ fs) more h u = IsUtf8-append _ _ opened_utf8 (value_utf8 e _ h.0.utf8 (IsUtf8-append _ _ closed_utf8 (fragments_utf8 fs more h.1 u)))
+fragments_utf8 (Interpolation e ∷ fs) more h u = IsUtf8-append _ _ opened_utf8 (h.0.utf8 _ (IsUtf8-append _ _ closed_utf8 (fragments_utf8 fs more h.1 u)))
 
 line_utf8 : (ind : List ℕ) (l : Row) (more : List ℕ) → IsLevel ind → GoodLines (l ∷ []) → IsUtf8 more → IsUtf8 (line_on ind l more)
 line_utf8 ind (Line n []) more i h u = u

@@ -1,10 +1,14 @@
 -- What the printer means: the printed text before more, and its tokens before more.
-use Rattle.std.proofs.Common.{◌≡◌, ℕ, true, false, List, [], ◌∷◌, ◌++◌, refl, ap, ◌∙◌, append_assoc}
+use Rattle.std.proofs.Common.{◌≡◌, ℕ, Bool, true, false, cond, List, [], ◌∷◌, ◌++◌, refl, ap, ◌∙◌, append_assoc, codes}
 use Rattle.std.specs.List.{flat_map}
 use Rattle.justfile_base.specs.declared.token_kind.TokenKind.TheVariants as kinds
+use Rattle.justfile_model.specs.declared.conditional_operator.ConditionalOperator.{ConditionalOperator}
+use Rattle.justfile_model.specs.declared.conditional_operator.ConditionalOperator.TheVariants.{Equality, Inequality, RegexMatch, RegexMismatch}
 use Rattle.justfile_model.specs.Tree as tree
-use Rattle.justfile_model.specs.Tree.{Expr, StringLiteral, Backtick, Variable, Text, Interpolation, BodyLine, Line, Item, Assignment, Comment, Newline, Recipe, Shape}
-use Rattle.justfile_model.specs.Printing.{piece, expr_text, fragment_text, line_text, body_text, item_text, item_end, text}
+use Rattle.justfile_model.specs.Tree.{Expr, Or, And, Comparison, Concatenation, ListConcatenation, Join, Root, If, IfElse, Not, StringLiteral, FormatLiteral, FormatString, Backtick, Assert, AssertMessage, Variable, Call, Group, ListOf, Last, Continue, Text, Interpolation, BodyLine, Line, Item, Assignment, Comment, Newline, Recipe, Shape}
+use Rattle.justfile_model.specs.Features.{Noted}
+use Rattle.justfile_model.specs.Expressions.{operator_kind}
+use Rattle.justfile_model.specs.Printing.{piece, is_conditional, other_text, expr_text, exprs_text, parts_text, fragment_text, line_text, body_text, item_text, item_end, text}
 use Rattle.justfile_canon.proofs.Reading.{Mark, mark}
 
 -- What a shape is made of: expressions, fragments, lines of bodies, and items.
@@ -20,6 +24,10 @@ Row = BodyLine (List ℕ) (Unit {0}) (Unit {0})
 abbrev pub Entry : Type 0
 Entry = Item (List ℕ) (Unit {0}) (Unit {0})
 
+-- its features, which have no places
+abbrev pub Shown : Type 0
+Shown = List (Noted (Unit {0}))
+
 abbrev pub space : Mark
 space = mark kinds.Whitespace (32 ∷ [])
 
@@ -29,17 +37,111 @@ newline = mark kinds.Eol (10 ∷ [])
 abbrev pub colon : Mark
 colon = mark kinds.Colon (58 ∷ [])
 
-abbrev pub expr_on : Value → List ℕ → List ℕ
-expr_on (StringLiteral true lexeme) more = 120 ∷ (lexeme ++ more)
-expr_on (StringLiteral false lexeme) more = lexeme ++ more
-expr_on (Backtick lexeme) more = lexeme ++ more
-expr_on (Variable name) more = name ++ more
+-- a name, or a word like `if`
+abbrev pub word : List ℕ → Mark
+word = mark kinds.Identifier
 
-abbrev pub expr_marks : Value → List Mark → List Mark
-expr_marks (StringLiteral true lexeme) ts = mark kinds.Identifier (120 ∷ []) ∷ mark kinds.StringToken lexeme ∷ ts
-expr_marks (StringLiteral false lexeme) ts = mark kinds.StringToken lexeme ∷ ts
-expr_marks (Backtick lexeme) ts = mark kinds.Backtick lexeme ∷ ts
-expr_marks (Variable name) ts = mark kinds.Identifier name ∷ ts
+abbrev pub brace_left : Mark
+brace_left = mark kinds.BraceL (codes "{")
+
+abbrev pub brace_right : Mark
+brace_right = mark kinds.BraceR (codes "}")
+
+abbrev pub paren_left : Mark
+paren_left = mark kinds.ParenL (codes "(")
+
+abbrev pub paren_right : Mark
+paren_right = mark kinds.ParenR (codes ")")
+
+abbrev pub comma : Mark
+comma = mark kinds.Comma (codes ",")
+
+abbrev pub operator_codes : ConditionalOperator → List ℕ
+operator_codes Equality = codes "=="
+operator_codes Inequality = codes "!="
+operator_codes RegexMatch = codes "=~"
+operator_codes RegexMismatch = codes "!~"
+
+-- the arguments of a call, or the elements of a list
+abbrev pub Values : Type 0
+Values = tree.Exprs (List ℕ) (Unit {0})
+
+-- what stands behind an expression in a format string
+abbrev pub Pieces : Type 0
+Pieces = tree.Parts (List ℕ) (Unit {0})
+
+abbrev mutual
+  pub expr_on : Value → List ℕ → List ℕ
+  expr_on (Or l r) more = expr_on l (codes " || " ++ expr_on r more)
+  expr_on (And l r) more = expr_on l (codes " && " ++ expr_on r more)
+  expr_on (Comparison l operator token r) more = expr_on l (32 ∷ (operator_codes operator ++ (32 ∷ expr_on r more)))
+  expr_on (Concatenation l operator r) more = expr_on l (codes " + " ++ expr_on r more)
+  expr_on (ListConcatenation l operator r) more = expr_on l (codes " ++ " ++ expr_on r more)
+  expr_on (Join l operator r) more = expr_on l (codes " / " ++ expr_on r more)
+  expr_on (Root operator r) more = codes "/ " ++ expr_on r more
+  expr_on (If c b) more = codes "if " ++ expr_on c (codes " { " ++ expr_on b (codes " }" ++ more))
+  expr_on (IfElse c b o) more = codes "if " ++ expr_on c (codes " { " ++ expr_on b (codes " } else " ++ cond (is_conditional o) (expr_on o more) (codes "{ " ++ expr_on o (codes " }" ++ more))))
+  expr_on (Not e) more = codes "!" ++ expr_on e more
+  expr_on (StringLiteral true lexeme) more = 120 ∷ (lexeme ++ more)
+  expr_on (StringLiteral false lexeme) more = lexeme ++ more
+  expr_on (FormatLiteral lexeme) more = 102 ∷ (lexeme ++ more)
+  expr_on (FormatString start e parts) more = 102 ∷ (start ++ (32 ∷ expr_on e (32 ∷ parts_on parts more)))
+  expr_on (Backtick lexeme) more = lexeme ++ more
+  expr_on (Assert name c) more = codes "assert(" ++ expr_on c (codes ")" ++ more)
+  expr_on (AssertMessage name c m) more = codes "assert(" ++ expr_on c (codes ", " ++ expr_on m (codes ")" ++ more))
+  expr_on (Variable name) more = name ++ more
+  expr_on (Call name arguments) more = name ++ (40 ∷ exprs_on arguments (codes ")" ++ more))
+  expr_on (Group e) more = codes "(" ++ expr_on e (codes ")" ++ more)
+  expr_on (ListOf opener elements) more = codes "[" ++ exprs_on elements (codes "]" ++ more)
+
+  pub exprs_on : Values → List ℕ → List ℕ
+  exprs_on tree.none more = more
+  exprs_on (tree.more e es) more = expr_on e (others_on es more)
+
+  pub others_on : Values → List ℕ → List ℕ
+  others_on tree.none more = more
+  others_on (tree.more e es) more = codes ", " ++ expr_on e (others_on es more)
+
+  pub parts_on : Pieces → List ℕ → List ℕ
+  parts_on (Last lexeme) more = lexeme ++ more
+  parts_on (Continue lexeme e parts) more = lexeme ++ (32 ∷ expr_on e (32 ∷ parts_on parts more))
+
+abbrev mutual
+  pub expr_marks : Value → List Mark → List Mark
+  expr_marks (Or l r) ts = expr_marks l (space ∷ mark kinds.BarBar (codes "||") ∷ space ∷ expr_marks r ts)
+  expr_marks (And l r) ts = expr_marks l (space ∷ mark kinds.AmpersandAmpersand (codes "&&") ∷ space ∷ expr_marks r ts)
+  expr_marks (Comparison l operator token r) ts = expr_marks l (space ∷ mark (operator_kind operator) (operator_codes operator) ∷ space ∷ expr_marks r ts)
+  expr_marks (Concatenation l operator r) ts = expr_marks l (space ∷ mark kinds.Plus (codes "+") ∷ space ∷ expr_marks r ts)
+  expr_marks (ListConcatenation l operator r) ts = expr_marks l (space ∷ mark kinds.PlusPlus (codes "++") ∷ space ∷ expr_marks r ts)
+  expr_marks (Join l operator r) ts = expr_marks l (space ∷ mark kinds.Slash (codes "/") ∷ space ∷ expr_marks r ts)
+  expr_marks (Root operator r) ts = mark kinds.Slash (codes "/") ∷ space ∷ expr_marks r ts
+  expr_marks (If c b) ts = word (codes "if") ∷ space ∷ expr_marks c (space ∷ brace_left ∷ space ∷ expr_marks b (space ∷ brace_right ∷ ts))
+  expr_marks (IfElse c b o) ts = word (codes "if") ∷ space ∷ expr_marks c (space ∷ brace_left ∷ space ∷ expr_marks b (space ∷ brace_right ∷ space ∷ word (codes "else") ∷ space
+      ∷ cond (is_conditional o) (expr_marks o ts) (brace_left ∷ space ∷ expr_marks o (space ∷ brace_right ∷ ts))))
+  expr_marks (Not e) ts = mark kinds.Bang (codes "!") ∷ expr_marks e ts
+  expr_marks (StringLiteral true lexeme) ts = word (codes "x") ∷ mark kinds.StringToken lexeme ∷ ts
+  expr_marks (StringLiteral false lexeme) ts = mark kinds.StringToken lexeme ∷ ts
+  expr_marks (FormatLiteral lexeme) ts = word (codes "f") ∷ mark kinds.StringToken lexeme ∷ ts
+  expr_marks (FormatString start e parts) ts = word (codes "f") ∷ mark kinds.FormatStringStart start ∷ space ∷ expr_marks e (space ∷ parts_marks parts ts)
+  expr_marks (Backtick lexeme) ts = mark kinds.Backtick lexeme ∷ ts
+  expr_marks (Assert name c) ts = word (codes "assert") ∷ paren_left ∷ expr_marks c (paren_right ∷ ts)
+  expr_marks (AssertMessage name c m) ts = word (codes "assert") ∷ paren_left ∷ expr_marks c (comma ∷ space ∷ expr_marks m (paren_right ∷ ts))
+  expr_marks (Variable name) ts = word name ∷ ts
+  expr_marks (Call name arguments) ts = word name ∷ paren_left ∷ exprs_marks arguments (paren_right ∷ ts)
+  expr_marks (Group e) ts = paren_left ∷ expr_marks e (paren_right ∷ ts)
+  expr_marks (ListOf opener elements) ts = mark kinds.BracketL (codes "[") ∷ exprs_marks elements (mark kinds.BracketR (codes "]") ∷ ts)
+
+  pub exprs_marks : Values → List Mark → List Mark
+  exprs_marks tree.none ts = ts
+  exprs_marks (tree.more e es) ts = expr_marks e (others_marks es ts)
+
+  pub others_marks : Values → List Mark → List Mark
+  others_marks tree.none ts = ts
+  others_marks (tree.more e es) ts = comma ∷ space ∷ expr_marks e (others_marks es ts)
+
+  pub parts_marks : Pieces → List Mark → List Mark
+  parts_marks (Last lexeme) ts = mark kinds.FormatStringEnd lexeme ∷ ts
+  parts_marks (Continue lexeme e parts) ts = mark kinds.FormatStringContinue lexeme ∷ space ∷ expr_marks e (space ∷ parts_marks parts ts)
 
 -- ---- bodies
 
@@ -133,12 +235,64 @@ marks ind (i ∷ items) = item_marks i (end_marks i items (marks ind items))
 
 -- ---- the text of the definitions is this text
 
-pub expr_is : (e : Value) (more : List ℕ) → expr_text e ++ more ≡ expr_on e more
+-- a text, and one behind it
+then : (a b more : List ℕ) {y x : List ℕ} → b ++ more ≡ y → a ++ y ≡ x → (a ++ b) ++ more ≡ x
+then a b more e f = append_assoc a b more ∙ ap (λ z. a ++ z) e ∙ f
+
+-- and a fixed one between them
+joined : (a p b more : List ℕ) {y x : List ℕ} → b ++ more ≡ y → a ++ (p ++ y) ≡ x → ((a ++ p) ++ b) ++ more ≡ x
+joined a p b more {y} e f = then (a ++ p) b more e (then a p y refl f)
+
+-- and one behind both
+around : (a p b q more : List ℕ) {y x : List ℕ} → b ++ (q ++ more) ≡ y → a ++ (p ++ y) ≡ x → (((a ++ p) ++ b) ++ q) ++ more ≡ x
+around a p b q more e f = then ((a ++ p) ++ b) q more refl (joined a p b (q ++ more) e f)
+
+-- the other branch: a conditional as it is, or else in braces
+other_is : (b : Bool) (o more on inside : List ℕ) → o ++ more ≡ on → o ++ (codes " }" ++ more) ≡ inside → other_text b o ++ more ≡ cond b on (codes "{ " ++ inside)
 unfolding piece
-expr_is (StringLiteral true l) more = refl
-expr_is (StringLiteral false l) more = refl
-expr_is (Backtick l) more = refl
-expr_is (Variable n) more = refl
+other_is true o more on inside e f = e
+other_is false o more on inside e f = then (codes "{ " ++ o) (codes " }") more refl (ap (λ t. codes "{ " ++ t) f)
+
+mutual
+  unfolding piece
+
+  pub expr_is : (e : Value) (more : List ℕ) → expr_text e ++ more ≡ expr_on e more
+  expr_is (Or l r) more = joined (expr_text l) (codes " || ") (expr_text r) more (expr_is r more) (expr_is l _)
+  expr_is (And l r) more = joined (expr_text l) (codes " && ") (expr_text r) more (expr_is r more) (expr_is l _)
+  expr_is (Comparison l Equality token r) more = joined (expr_text l) (codes " == ") (expr_text r) more (expr_is r more) (expr_is l _)
+  expr_is (Comparison l Inequality token r) more = joined (expr_text l) (codes " != ") (expr_text r) more (expr_is r more) (expr_is l _)
+  expr_is (Comparison l RegexMatch token r) more = joined (expr_text l) (codes " =~ ") (expr_text r) more (expr_is r more) (expr_is l _)
+  expr_is (Comparison l RegexMismatch token r) more = joined (expr_text l) (codes " !~ ") (expr_text r) more (expr_is r more) (expr_is l _)
+  expr_is (Concatenation l operator r) more = joined (expr_text l) (codes " + ") (expr_text r) more (expr_is r more) (expr_is l _)
+  expr_is (ListConcatenation l operator r) more = joined (expr_text l) (codes " ++ ") (expr_text r) more (expr_is r more) (expr_is l _)
+  expr_is (Join l operator r) more = joined (expr_text l) (codes " / ") (expr_text r) more (expr_is r more) (expr_is l _)
+  expr_is (Root operator r) more = ap (λ t. codes "/ " ++ t) (expr_is r more)
+  expr_is (If c b) more = around (codes "if " ++ expr_text c) (codes " { ") (expr_text b) (codes " }") more (expr_is b _) (ap (λ t. codes "if " ++ t) (expr_is c _))
+  expr_is (IfElse c b o) more =
+      then ((((codes "if " ++ expr_text c) ++ codes " { ") ++ expr_text b) ++ codes " } else ") (other_text (is_conditional o) (expr_text o)) more (other_is (is_conditional o) (expr_text o) more _ _ (expr_is o more) (expr_is o (codes " }" ++ more)))
+      (around (codes "if " ++ expr_text c) (codes " { ") (expr_text b) (codes " } else ") _ (expr_is b _) (ap (λ t. codes "if " ++ t) (expr_is c _)))
+  expr_is (Not e) more = ap (λ t. 33 ∷ t) (expr_is e more)
+  expr_is (StringLiteral true l) more = refl
+  expr_is (StringLiteral false l) more = refl
+  expr_is (FormatLiteral l) more = refl
+  expr_is (FormatString s e ps) more =
+      then ((((102 ∷ s) ++ codes " ") ++ expr_text e) ++ codes " ") (parts_text ps) more (parts_is ps more) (around (102 ∷ s) (codes " ") (expr_text e) (codes " ") (parts_on ps more) (expr_is e _) refl)
+  expr_is (Backtick l) more = refl
+  expr_is (Assert name c) more = then (codes "assert(" ++ expr_text c) (codes ")") more refl (ap (λ t. codes "assert(" ++ t) (expr_is c _))
+  expr_is (AssertMessage name c m) more = around (codes "assert(" ++ expr_text c) (codes ", ") (expr_text m) (codes ")") more (expr_is m _) (ap (λ t. codes "assert(" ++ t) (expr_is c _))
+  expr_is (Variable n) more = refl
+  expr_is (Call n es) more = around n (codes "(") (exprs_text es) (codes ")") more (exprs_is es _) refl
+  expr_is (Group e) more = then (codes "(" ++ expr_text e) (codes ")") more refl (ap (λ t. codes "(" ++ t) (expr_is e _))
+  expr_is (ListOf opener es) more = then (codes "[" ++ exprs_text es) (codes "]") more refl (ap (λ t. codes "[" ++ t) (exprs_is es _))
+
+  exprs_is : (es : Values) (more : List ℕ) → exprs_text es ++ more ≡ exprs_on es more
+  exprs_is tree.none more = refl
+  exprs_is (tree.more e tree.none) more = expr_is e more
+  exprs_is (tree.more e (tree.more e2 es)) more = joined (expr_text e) (codes ", ") (exprs_text (tree.more e2 es)) more (exprs_is (tree.more e2 es) more) (expr_is e _)
+
+  parts_is : (ps : Pieces) (more : List ℕ) → parts_text ps ++ more ≡ parts_on ps more
+  parts_is (Last l) more = refl
+  parts_is (Continue l e ps) more = then (((l ++ codes " ") ++ expr_text e) ++ codes " ") (parts_text ps) more (parts_is ps more) (around l (codes " ") (expr_text e) (codes " ") (parts_on ps more) (expr_is e _) refl)
 
 fragment_is : (f : Fragment) (more : List ℕ) → fragment_text f ++ more ≡ fragment_on f more
 unfolding piece

@@ -3,7 +3,9 @@ use Rattle.std.proofs.Common.{◌≡◌, ℕ, zero, suc, ◌+◌, ◌<◌, Bool,
 use Rattle.std.specs.Prelude.{◌&&◌, ◌||◌, not, nat_eq}
 use Rattle.std.specs.Str.{bytes_eq}
 use Rattle.std.specs.List.{prefix_len, starts_with}
+use Rattle.std.proofs.lemmas.Bool.{and_parts}
 use Rattle.std.proofs.lemmas.Bool.Decides.{nat_tests}
+use Rattle.std.proofs.lemmas.List.{append-nil}
 use Rattle.justfile_base.specs.declared.byte_class.ByteClass.{ByteClass}
 use Rattle.justfile_base.specs.declared.byte_class.ByteClass.TheVariants as classes
 use Rattle.justfile_base.specs.declared.delimiter.Delimiter.{Delimiter}
@@ -21,12 +23,13 @@ use Rattle.justfile_model.specs.Bytes.{in_word, word_len, is_line_end, is_interp
 use Rattle.justfile_model.specs.LiteralText.{raw_len, is_delimiter, pieces_len}
 use Rattle.justfile_model.specs.LexicalFault.{Refusal}
 use Rattle.justfile_model.specs.Tok.{Tok}
-use Rattle.justfile_model.specs.Modes.{Mode, is_empty, innermost, nested}
-use Rattle.justfile_model.specs.Next.{Found, twice, fixed, opening, literal_part, literal, is_backtick, is_same, close, brace_by, closing, line_end, escape, inline, normal, text_or, body, at_end_by, Region, InText, InInterpolation, Inline, token_in_region, inside, blanks_or, tested_blanks, is_level, layout, is_blank_line, next_by, next}
+use Rattle.justfile_model.specs.Modes.{Mode, is_empty, head_of, innermost, nested}
+use Rattle.justfile_model.specs.Next.{Found, format_kind, twice, fixed, opening, literal_part, literal, is_backtick, is_same, close, brace_by, closing, line_end, escape, inline, normal, text_or, body, at_end_by, Region, InText, InInterpolation, Inline, token_in_region, inside, blanks_or, tested_blanks, is_level, layout, is_blank_line, next_by, next}
 use Rattle.justfile_model.proofs.CutLemmas.{raw_stops, raw_within}
-use Rattle.justfile_canon.proofs.Reading.{take_front, drop_front}
-use Rattle.justfile_canon.proofs.Inline.{Each, IsName, delimiter_of, delimiter_length, assoc3, length3, literal_again, quote_is}
-use Rattle.justfile_canon.proofs.Good.{IsDelimited, IsString, IsCommand}
+use Rattle.justfile_canon.proofs.Reading.{drop_front}
+use Rattle.justfile_canon.proofs.Inline.{Each, IsName, IsPart, delimiter_of, delimiter_length, assoc3, length3, literal_again, quote_is}
+use Rattle.justfile_canon.proofs.Good.{IsDelimited, IsString, IsCommand, IsFormatLiteral, IsFormatStart, IsPartOf, IsPartOfOpen}
+use Rattle.justfile_canon.proofs.FormatScans.{braces_front, closers_front, same_front, stable_closing, part_cut, start_opens}
 use Rattle.justfile_canon.proofs.LiteralModes.{whole_ends}
 use Rattle.justfile_canon.proofs.Literals.{delimiter_front, delimiter_there, stable, same_opening}
 
@@ -36,20 +39,23 @@ pub record WasComment (l behind : List ℕ) : Type 0 where
   pub ends : raw_len raw_texts.Comment (l ++ behind) ≡ length l
   pub stop : is_blank_line behind ≡ true
 
--- what is known of a lexeme and of the text behind it
-abbrev pub Fact : TokenKind → (l behind : List ℕ) → Type 0
-Fact kinds.Identifier l behind = IsName l
-Fact kinds.StringToken l behind = IsString l
-Fact kinds.Backtick l behind = IsCommand l
-Fact kinds.Comment l behind = WasComment l behind
-Fact _ l behind = Unit {0}
+-- what is known of a lexeme that was read in a mode, and of the text behind it
+abbrev pub Fact : Mode → TokenKind → (l behind : List ℕ) → Type 0
+Fact m kinds.Identifier l behind = IsName l
+Fact m kinds.StringToken l behind = IsString l × (m.behind_f ≡ true → IsFormatLiteral l)
+Fact m kinds.FormatStringStart l behind = IsFormatStart l
+Fact m kinds.FormatStringContinue l behind = IsPartOfOpen (format_kind (head_of m.openers)) false l
+Fact m kinds.FormatStringEnd l behind = IsPartOfOpen (format_kind (head_of m.openers)) true l
+Fact m kinds.Backtick l behind = IsCommand l
+Fact m kinds.Comment l behind = WasComment l behind
+Fact m _ l behind = Unit {0}
 
-abbrev FactBy : List ℕ → Found → Type 0
-FactBy rest (Ok x) = (l behind : List ℕ) → rest ≡ l ++ behind → x.1 ≡ length l → Fact x.0 l behind
-FactBy rest (Err r) = Unit {0}
+abbrev FactBy : Mode → List ℕ → Found → Type 0
+FactBy m rest (Ok x) = (l behind : List ℕ) → rest ≡ l ++ behind → x.1 ≡ length l → Fact m x.0 l behind
+FactBy m rest (Err r) = Unit {0}
 
-record Finds (rest : List ℕ) (found : Found) : Type 0 where
-  fact : FactBy rest found
+record Finds (m : Mode) (rest : List ℕ) (found : Found) : Type 0 where
+  fact : FactBy m rest found
 
 -- ---- names
 
@@ -98,12 +104,14 @@ comment_fact (x ∷ xs) behind h e = record { first = grind (arith, nat_tests); 
 
 -- ---- literals
 
-same_front : (a b c d : List ℕ) → a ++ b ≡ c ++ d → length a ≡ length c → (a ≡ c) × (b ≡ d)
-same_front a b c d e n = (sym (take_front a b) ∙ (λ i. take (n i) (e i)) ∙ take_front c d, sym (drop_front a b) ∙ (λ i. drop (n i) (e i)) ∙ drop_front c d)
-
 or_left : (a b : Bool) → (a || b) ≡ true → b ≡ false → a ≡ true
 or_left true b h e = refl
 or_left false b h e = cc
+
+-- a literal between its delimiters, which was read in format mode or not
+record IsDelimitedBy (k : StringKind) (format : Bool) (l : List ℕ) : Type 0 where
+  delimited : IsDelimited (token_kind_of k.delimiter) l
+  whole : format ≡ true → (more : List ℕ) → raw_len (raw_texts.Literal delimited.kind true) (delimited.literal.inner ++ (delimiter_of delimited.kind ++ more)) ≡ length delimited.literal.inner
 
 module _ (k : StringKind) (format : Bool) (rest : List ℕ) where
   after : List ℕ
@@ -113,7 +121,7 @@ module _ (k : StringKind) (format : Bool) (rest : List ℕ) where
   within = raw_len (raw_texts.Literal k format) after
 
   literal_fact : kind_of rest ≡ k → is_delimiter k rest ≡ true → eqb within (length after) ≡ false → (format && is_interpolation_start (drop within after)) ≡ false → (l behind : List ℕ)
-      → rest ≡ l ++ behind → delimiter_len k + within + delimiter_len k ≡ length l → IsDelimited (token_kind_of k.delimiter) l
+      → rest ≡ l ++ behind → delimiter_len k + within + delimiter_len k ≡ length l → IsDelimitedBy k format l
   unfolding after within
   literal_fact is_kind opened unfinished no_start l behind split len =
       let inner : List ℕ = take within after in
@@ -128,14 +136,17 @@ module _ (k : StringKind) (format : Bool) (rest : List ℕ) where
       let len' : length l ≡ length (delimiter_of k ++ (inner ++ delimiter_of k)) = omega (arith, len, size, delimiter_length k, length3 (delimiter_of k) inner (delimiter_of k) (delimiter_len k) (sym (delimiter_length k))) in
       let same = same_front l behind (delimiter_of k ++ (inner ++ delimiter_of k)) tail (sym split ∙ whole) len' in
       record {
-        kind = k;
-        is_token = refl;
-        literal = record {
-          inner = inner;
-          is = same.0;
-          ends = λ more. stable k 0 inner tail more (ap (raw_len (raw_texts.Literal k false)) (sym after_is) ∙ plain format no_start ∙ sym size);
-          opens = λ more unquoted. ap kind_of (ap (λ t. t ++ more) same.0 ∙ assoc3 (delimiter_of k) inner (delimiter_of k) more) ∙ same_opening k.delimiter k.indented inner tail more unquoted (ap kind_of (sym rest_is) ∙ is_kind);
+        delimited = record {
+          kind = k;
+          is_token = refl;
+          literal = record {
+            inner = inner;
+            is = same.0;
+            ends = λ more. stable k 0 inner tail more (ap (raw_len (raw_texts.Literal k false)) (sym after_is) ∙ plain format no_start ∙ sym size);
+            opens = λ more unquoted. ap kind_of (ap (λ t. t ++ more) same.0 ∙ assoc3 (delimiter_of k) inner (delimiter_of k) more) ∙ same_opening k.delimiter k.indented inner tail more unquoted (ap kind_of (sym rest_is) ∙ is_kind);
+          };
         };
+        whole = λ f more. stable_closing k true inner tail more (ap (raw_len (raw_texts.Literal k true)) (sym after_is) ∙ ap (λ b. raw_len (raw_texts.Literal k b) after) (sym f) ∙ sym size);
       }
     where
       plain : (b : Bool) → (b && is_interpolation_start (drop (raw_len (raw_texts.Literal k b) after) after)) ≡ false → raw_len (raw_texts.Literal k false) after ≡ raw_len (raw_texts.Literal k b) after
@@ -145,21 +156,21 @@ module _ (k : StringKind) (format : Bool) (rest : List ℕ) where
 -- ---- what is found, by the class of the first byte and by the place
 
 module _ (m : Mode) (rest : List ℕ) where
-  if_finds : (b : Bool) {x y : Found} → (b ≡ true → Finds rest x) → (b ≡ false → Finds rest y) → Finds rest (cond b x y)
+  if_finds : (b : Bool) {x y : Found} → (b ≡ true → Finds m rest x) → (b ≡ false → Finds m rest y) → Finds m rest (cond b x y)
   if_finds true f g = f refl
   if_finds false f g = g refl
 
   -- a token of which nothing is to be known
-  any : (k : TokenKind) (n : ℕ) → ((l behind : List ℕ) → Fact k l behind) → Finds rest (Ok (k, n))
+  any : (k : TokenKind) (n : ℕ) → ((l behind : List ℕ) → Fact m k l behind) → Finds m rest (Ok (k, n))
   any k n f = record { fact = λ l behind e len. f l behind }
 
-  refused : {r : Refusal} → Finds rest (Err r)
+  refused : {r : Refusal} → Finds m rest (Err r)
   refused = record { fact = tt }
 
-  twice_finds : (b : ℕ) (k : TokenKind) → ((l behind : List ℕ) → Fact k l behind) → Finds rest (twice b k rest)
+  twice_finds : (b : ℕ) (k : TokenKind) → ((l behind : List ℕ) → Fact m k l behind) → Finds m rest (twice b k rest)
   twice_finds b k f = if_finds (eqb (get_or rest 1 0) b) (λ _. any k 2 f) (λ _. if_finds (eqb (length (drop 1 rest)) 0) (λ _. refused) (λ _. refused))
 
-  fixed_finds : (b : ℕ) → Finds rest (fixed b rest)
+  fixed_finds : (b : ℕ) → Finds m rest (fixed b rest)
   unfolding fixed
   fixed_finds b =
       let c = get_or rest 1 0 in
@@ -175,59 +186,106 @@ module _ (m : Mode) (rest : List ℕ) where
       if_finds (eqb b 47) (λ _. any _ _ (λ l i. tt)) (λ _.
       if_finds (eqb b 63) (λ _. any _ _ (λ l i. tt)) (λ _. any _ _ (λ l i. tt))))))))))))
 
-  opening_finds : (b : ℕ) → Finds rest (opening b)
+  opening_finds : (b : ℕ) → Finds m rest (opening b)
   opening_finds b = if_finds (eqb b 40) (λ _. any _ _ (λ l i. tt)) (λ _. if_finds (eqb b 91) (λ _. any _ _ (λ l i. tt)) (λ _. any _ _ (λ l i. tt)))
 
   -- a literal or a part of one, of which the first bytes are known
-  part_finds : (k : StringKind) (format : Bool) (opener : ℕ) (more whole : TokenKind) → ((l behind : List ℕ) → Fact more l behind)
+  part_finds : (k : StringKind) (format : Bool) (opener : ℕ) (more whole : TokenKind)
+      → ((format && is_interpolation_start (drop (raw_len (raw_texts.Literal k format) (drop opener rest)) (drop opener rest))) ≡ true
+      → (l behind : List ℕ) → rest ≡ l ++ behind → opener + raw_len (raw_texts.Literal k format) (drop opener rest) + 2 ≡ length l → Fact m more l behind)
       → (eqb (raw_len (raw_texts.Literal k format) (drop opener rest)) (length (drop opener rest)) ≡ false
       → (format && is_interpolation_start (drop (raw_len (raw_texts.Literal k format) (drop opener rest)) (drop opener rest))) ≡ false
-      → (l behind : List ℕ) → rest ≡ l ++ behind → opener + raw_len (raw_texts.Literal k format) (drop opener rest) + delimiter_len k ≡ length l → Fact whole l behind)
-      → Finds rest (literal_part k format opener more whole rest)
+      → (l behind : List ℕ) → rest ≡ l ++ behind → opener + raw_len (raw_texts.Literal k format) (drop opener rest) + delimiter_len k ≡ length l → Fact m whole l behind)
+      → Finds m rest (literal_part k format opener more whole rest)
   unfolding literal_part
   part_finds k format opener more whole f g =
       if_finds (eqb (raw_len (raw_texts.Literal k format) (drop opener rest)) (length (drop opener rest))) (λ _. refused) (λ unfinished.
-      if_finds (format && is_interpolation_start (drop (raw_len (raw_texts.Literal k format) (drop opener rest)) (drop opener rest))) (λ _. any more _ f) (λ no_start. record { fact = g unfinished no_start }))
+      if_finds (format && is_interpolation_start (drop (raw_len (raw_texts.Literal k format) (drop opener rest)) (drop opener rest))) (λ start. record { fact = f start }) (λ no_start. record { fact = g unfinished no_start }))
 
-  literal_finds : class_of (get_or rest 0 0) ≡ classes.Quote → Finds rest (literal m rest)
+  -- the start of a format string
+  start_fact : (k : StringKind) (format : Bool) → kind_of rest ≡ k → is_delimiter k rest ≡ true → is_backtick k.delimiter ≡ false → format ≡ true → is_interpolation_start (drop (raw_len (raw_texts.Literal k format) (drop (delimiter_len k) rest)) (drop (delimiter_len k) rest)) ≡ true
+      → (l behind : List ℕ) → rest ≡ l ++ behind → delimiter_len k + raw_len (raw_texts.Literal k format) (drop (delimiter_len k) rest) + 2 ≡ length l → IsFormatStart l
+  start_fact k format is_kind opened quoted formats start l behind split len =
+      let behind_front : List ℕ = drop (delimiter_len k) rest in
+      let braces : is_interpolation_start (drop (raw_len (raw_texts.Literal k true) behind_front) behind_front) ≡ true = sym (ap (λ b. is_interpolation_start (drop (raw_len (raw_texts.Literal k b) behind_front) behind_front)) formats) ∙ start in
+      let len' : delimiter_len k + raw_len (raw_texts.Literal k true) behind_front + 2 ≡ length l = sym (ap (λ b. delimiter_len k + raw_len (raw_texts.Literal k b) behind_front + 2) formats) ∙ len in
+      let part = part_cut k false (delimiter_of k) behind_front _ (braces_front _ braces) l behind (sym (delimiter_front k rest opened) ∙ split)
+          (ap (λ n. n + raw_len (raw_texts.Literal k true) behind_front + 2) (sym (delimiter_length k)) ∙ len') in
+      let same : kind_of l ≡ k = ap kind_of (sym (append-nil l)) ∙ start_opens k l [] behind part ∙ ap kind_of (sym split) ∙ is_kind in
+      record {
+        part = subst (λ k. IsPart k (delimiter_of k) false l) (sym same) part;
+        quoted = ap (λ k. is_backtick k.delimiter) same ∙ quoted;
+        opens = λ more. start_opens k l more [] part ∙ ap kind_of (append-nil l);
+      }
+
+  literal_finds : class_of (get_or rest 0 0) ≡ classes.Quote → Finds m rest (literal m rest)
   unfolding after within
   literal_finds e =
       let k = kind_of rest in
       let format : Bool = m.behind_f && not (is_backtick k.delimiter) in
-      part_finds k format (delimiter_len k) kinds.FormatStringStart (token_kind_of k.delimiter) (λ l i. tt)
-      (λ unfinished no_start l behind split len. whole k.delimiter l behind (literal_fact k format rest refl (delimiter_there rest e) unfinished no_start l behind split len))
+      part_finds k format (delimiter_len k) kinds.FormatStringStart (token_kind_of k.delimiter)
+      (λ start l behind split len.
+          let parts = and_parts format _ start in
+          start_fact k format refl (delimiter_there rest e) (no_backtick (is_backtick k.delimiter) (and_parts m.behind_f _ parts.0).1) parts.0 parts.1 l behind split len)
+      (λ unfinished no_start l behind split len. whole k.delimiter k.indented l behind (literal_fact k format rest refl (delimiter_there rest e) unfinished no_start l behind split len))
     where
-      whole : (d : StringDelimiter) (l behind : List ℕ) → IsDelimited (token_kind_of d) l → Fact (token_kind_of d) l behind
-      whole delimiters.Backtick l behind f = f
-      whole delimiters.QuoteDouble l behind f = f
-      whole delimiters.QuoteSingle l behind f = f
+      no_backtick : (b : Bool) → not b ≡ true → b ≡ false
+      no_backtick true h = cc
+      no_backtick false h = refl
 
-  close_finds : (o : Option OpenDelimiter) (d : Delimiter) (k : TokenKind) → ((l behind : List ℕ) → Fact k l behind) → Finds rest (close o d k)
+      whole : (d : StringDelimiter) (i : Bool) (l behind : List ℕ) → IsDelimitedBy (record { delimiter = d; indented = i }) (m.behind_f && not (is_backtick d)) l → Fact m (token_kind_of d) l behind
+      whole delimiters.Backtick i l behind f = f.delimited
+      whole delimiters.QuoteDouble i l behind f = (f.delimited, λ g. record { string = f.delimited; ends = f.whole (ap (λ b. b && true) g) })
+      whole delimiters.QuoteSingle i l behind f = (f.delimited, λ g. record { string = f.delimited; ends = f.whole (ap (λ b. b && true) g) })
+
+  close_finds : (o : Option OpenDelimiter) (d : Delimiter) (k : TokenKind) → ((l behind : List ℕ) → Fact m k l behind) → Finds m rest (close o d k)
   close_finds None d k f = refused
   close_finds (Some o) d k f = if_finds (is_same o.delimiter d) (λ _. any k 1 f) (λ _. refused)
 
-  brace_finds : (f : Option StringKind) (o : Option OpenDelimiter) → Finds rest (brace_by f o rest)
-  brace_finds None o = close_finds o Brace kinds.BraceR (λ l i. tt)
-  brace_finds (Some k) o = if_finds (is_interpolation_end rest) (λ _. part_finds k true 2 kinds.FormatStringContinue kinds.FormatStringEnd (λ l i. tt) (λ _ _ l i _ _. tt)) (λ _. close_finds o Brace kinds.BraceR (λ l i. tt))
+  -- a later part of the format string that is open
+  later_fact : (k : StringKind) → is_interpolation_end rest ≡ true → is_interpolation_start (drop (raw_len (raw_texts.Literal k true) (drop 2 rest)) (drop 2 rest)) ≡ true
+      → (l behind : List ℕ) → rest ≡ l ++ behind → 2 + raw_len (raw_texts.Literal k true) (drop 2 rest) + 2 ≡ length l → IsPartOf k false l
+  later_fact k closed start l behind split len =
+      part_cut k false (125 ∷ 125 ∷ []) (drop 2 rest) _ (braces_front _ start) l behind (sym (closers_front rest closed) ∙ split) len
 
-  closing_finds : (o : Option OpenDelimiter) (b : ℕ) → Finds rest (closing o b rest)
-  closing_finds o b =
-      if_finds (eqb b 41) (λ _. close_finds o Paren kinds.ParenR (λ l i. tt)) (λ _.
-      if_finds (eqb b 93) (λ _. close_finds o Bracket kinds.BracketR (λ l i. tt)) (λ _. brace_finds _ o))
+  last_fact : (k : StringKind) → is_interpolation_end rest ≡ true → eqb (raw_len (raw_texts.Literal k true) (drop 2 rest)) (length (drop 2 rest)) ≡ false → is_interpolation_start (drop (raw_len (raw_texts.Literal k true) (drop 2 rest)) (drop 2 rest)) ≡ false
+      → (l behind : List ℕ) → rest ≡ l ++ behind → 2 + raw_len (raw_texts.Literal k true) (drop 2 rest) + delimiter_len k ≡ length l → IsPartOf k true l
+  last_fact k closed unfinished no_start l behind split len =
+      let behind_front : List ℕ = drop 2 rest in
+      let n : ℕ = raw_len (raw_texts.Literal k true) behind_front in
+      let fits = raw_within (raw_texts.Literal k true) behind_front in
+      let inside : n < length behind_front = grind (arith, nat_tests) in
+      let stop = or_left (is_delimiter k (drop n behind_front)) (is_interpolation_start (drop n behind_front)) (raw_stops (raw_texts.Literal k true) behind_front inside) no_start in
+      part_cut k true (125 ∷ 125 ∷ []) behind_front _ (delimiter_front k (drop n behind_front) stop) l behind (sym (closers_front rest closed) ∙ split)
+      (ap (λ d. 2 + n + d) (sym (delimiter_length k)) ∙ len)
 
-  line_end_finds : (n : ℕ) → Finds rest (line_end m n)
+  brace_finds : (f : Option StringKind) (o : Option OpenDelimiter) → f ≡ format_kind (head_of m.openers) → Finds m rest (brace_by f o rest)
+  brace_finds None o same = close_finds o Brace kinds.BraceR (λ l i. tt)
+  brace_finds (Some k) o same =
+      if_finds (is_interpolation_end rest)
+      (λ closed. part_finds k true 2 kinds.FormatStringContinue kinds.FormatStringEnd
+          (λ start l behind split len. subst (λ f. IsPartOfOpen f false l) same (later_fact k closed start l behind split len))
+          (λ unfinished no_start l behind split len. subst (λ f. IsPartOfOpen f true l) same (last_fact k closed unfinished no_start l behind split len)))
+      (λ _. close_finds o Brace kinds.BraceR (λ l i. tt))
+
+  closing_finds : (b : ℕ) → Finds m rest (closing (head_of m.openers) b rest)
+  closing_finds b =
+      if_finds (eqb b 41) (λ _. close_finds (head_of m.openers) Paren kinds.ParenR (λ l i. tt)) (λ _.
+      if_finds (eqb b 93) (λ _. close_finds (head_of m.openers) Bracket kinds.BracketR (λ l i. tt)) (λ _. brace_finds _ (head_of m.openers) refl))
+
+  line_end_finds : (n : ℕ) → Finds m rest (line_end m n)
   line_end_finds n = if_finds (nested m) (λ _. any kinds.Whitespace n (λ l i. tt)) (λ _. any kinds.Eol n (λ l i. tt))
 
-  escape_finds : Finds rest (escape rest)
+  escape_finds : Finds m rest (escape rest)
   escape_finds =
       if_finds (eqb (get_or rest 1 0) 10) (λ _. any _ _ (λ l i. tt)) (λ _.
       if_finds (eqb (get_or rest 1 0) 13) (λ _. if_finds (eqb (get_or rest 2 0) 10) (λ _. any _ _ (λ l i. tt)) (λ _. refused)) (λ _.
       if_finds (eqb (length (drop 1 rest)) 0) (λ _. refused) (λ _. refused)))
 
-  comment_finds : eqb (get_or rest 0 0) 35 ≡ true → Finds rest (Ok (kinds.Comment, raw_len raw_texts.Comment rest))
+  comment_finds : eqb (get_or rest 0 0) 35 ≡ true → Finds m rest (Ok (kinds.Comment, raw_len raw_texts.Comment rest))
   comment_finds h = record { fact = λ l behind e len. comment_fact l behind (subst (λ r. eqb (get_or r 0 0) 35 ≡ true) e h) (subst (λ r. raw_len raw_texts.Comment r ≡ length l) e len) }
 
-  inline_finds : (k : ByteClass) → class_of (get_or rest 0 0) ≡ k → Finds rest (inline m k rest)
+  inline_finds : (k : ByteClass) → class_of (get_or rest 0 0) ≡ k → Finds m rest (inline m k rest)
   unfolding inline
   inline_finds classes.Blank e = any _ _ (λ l i. tt)
   inline_finds classes.LineFeed e = line_end_finds 1
@@ -237,38 +295,38 @@ module _ (m : Mode) (rest : List ℕ) where
   inline_finds classes.IdentifierContinue e = refused
   inline_finds classes.Quote e = literal_finds e
   inline_finds classes.Opener e = opening_finds (get_or rest 0 0)
-  inline_finds classes.Closer e = closing_finds _ (get_or rest 0 0)
+  inline_finds classes.Closer e = closing_finds (get_or rest 0 0)
   inline_finds classes.Fixed e = fixed_finds (get_or rest 0 0)
   inline_finds classes.Lead e = if_finds (eqb (first_char rest) 65279) (λ _. any _ _ (λ l i. tt)) (λ _. refused)
   inline_finds classes.Other e =
       if_finds (eqb (get_or rest 0 0) 35) comment_finds (λ _.
       if_finds (eqb (get_or rest 0 0) 92) (λ _. escape_finds) (λ _. refused))
 
-  normal_finds : Finds rest (normal m rest)
+  normal_finds : Finds m rest (normal m rest)
   normal_finds = inline_finds _ refl
 
-  body_finds : Finds rest (body rest)
+  body_finds : Finds m rest (body rest)
   unfolding body
   body_finds = by (raw_len raw_texts.Body rest)
     where
-      by : (n : ℕ) → Finds rest (text_or n (get_or rest 0 0))
+      by : (n : ℕ) → Finds m rest (text_or n (get_or rest 0 0))
       by zero = if_finds (eqb (get_or rest 0 0) 10) (λ _. any _ _ (λ l i. tt)) (λ _. if_finds (eqb (get_or rest 0 0) 13) (λ _. any _ _ (λ l i. tt)) (λ _. any _ _ (λ l i. tt)))
       by (suc n) = any _ _ (λ l i. tt)
 
-  inside_finds : Finds rest (inside m rest)
+  inside_finds : Finds m rest (inside m rest)
   unfolding inside
   inside_finds = by _
     where
-      by : (p : Region) → Finds rest (token_in_region p m rest)
+      by : (p : Region) → Finds m rest (token_in_region p m rest)
       by InText = body_finds
       by InInterpolation = if_finds (is_empty m.openers && is_interpolation_end rest) (λ _. any _ _ (λ l i. tt)) (λ _. normal_finds)
       by Inline = normal_finds
 
-  blanks_finds : (n : ℕ) → Finds rest (blanks_or n m rest)
+  blanks_finds : (n : ℕ) → Finds m rest (blanks_or n m rest)
   blanks_finds zero = inside_finds
   blanks_finds (suc n) = any _ _ (λ l i. tt)
 
-  layout_finds : (found behind : List ℕ) → Finds rest (layout m found behind rest)
+  layout_finds : (found behind : List ℕ) → Finds m rest (layout m found behind rest)
   unfolding layout
   layout_finds found behind =
       if_finds (nested m) (λ _. blanks_finds _) (λ _.
@@ -279,28 +337,28 @@ module _ (m : Mode) (rest : List ℕ) where
       if_finds (is_mixed (tested_blanks m found)) (λ _. refused) (λ _.
       if_finds (not (starts_with nat_eq found (innermost m))) (λ _. refused) (λ _. any _ _ (λ l i. tt))))))))
 
-  next_by_finds : (b : Bool) → Finds rest (next_by b m rest)
+  next_by_finds : (b : Bool) → Finds m rest (next_by b m rest)
   next_by_finds true = layout_finds _ _
   next_by_finds false = inside_finds
 
-at_end_finds : (o : Option Tok) (ls : List (List ℕ)) → Finds [] (at_end_by o ls)
-at_end_finds (Some t) ls = record { fact = tt }
-at_end_finds None [] = record { fact = λ l behind e len. tt }
-at_end_finds None (l ∷ ls) = record { fact = λ l behind e len. tt }
+at_end_finds : (m : Mode) (o : Option Tok) (ls : List (List ℕ)) → Finds m [] (at_end_by o ls)
+at_end_finds m (Some t) ls = record { fact = tt }
+at_end_finds m None [] = record { fact = λ l behind e len. tt }
+at_end_finds m None (l ∷ ls) = record { fact = λ l behind e len. tt }
 
-next_finds : (m : Mode) (rest : List ℕ) → Finds rest (next m rest)
+next_finds : (m : Mode) (rest : List ℕ) → Finds m rest (next m rest)
 unfolding next
-next_finds m [] = at_end_finds m.interpolation m.levels
+next_finds m [] = at_end_finds m m.interpolation m.levels
 next_finds m (b ∷ bs) = next_by_finds m (b ∷ bs) m.line_start
 
 -- the next token's lexeme has its fact
-pub fact_of : (m : Mode) (k : TokenKind) (l behind : List ℕ) → next m (l ++ behind) ≡ Ok (k, length l) → Fact k l behind
-fact_of m k l behind e = (subst (Finds (l ++ behind)) e (next_finds m (l ++ behind))).fact l behind refl refl
+pub fact_of : (m : Mode) (k : TokenKind) (l behind : List ℕ) → next m (l ++ behind) ≡ Ok (k, length l) → Fact m k l behind
+fact_of m k l behind e = (subst (Finds m (l ++ behind)) e (next_finds m (l ++ behind))).fact l behind refl refl
 
 -- a string is found again behind no `f`, before what begins with no quote
 pub string_again : (m n : Mode) (l behind more : List ℕ) → is_quote (get_or l 0 0) ≡ true → literal m (l ++ behind) ≡ Ok (kinds.StringToken, length l) → n.behind_f ≡ false → is_quote (get_or more 0 0) ≡ false → literal n (l ++ more) ≡ Ok (kinds.StringToken, length l)
 string_again m n [] behind more quoted found no_f stop = cc
 string_again m n (x ∷ xs) behind more quoted found no_f stop =
     let l : List ℕ = x ∷ xs in
-    let s : IsString l = (subst (Finds (l ++ behind)) found (literal_finds m (l ++ behind) (quote_is x quoted))).fact l behind refl refl in
+    let s : IsString l = ((subst (Finds m (l ++ behind)) found (literal_finds m (l ++ behind) (quote_is x quoted))).fact l behind refl refl).0 in
     literal_again n s.kind l more no_f s.literal stop ∙ ap (λ k. Ok (k, length l)) s.is_token

@@ -1,9 +1,9 @@
 -- Fixed tokens inside one line are lexed back.
-use Rattle.std.proofs.Common.{◌≡◌, ◌≢◌, ℕ, Bool, false, eqb, List, [], ◌∷◌, ◌++◌, length, Option, Ok, refl, sym, ap, ◌∙◌, subst}
+use Rattle.std.proofs.Common.{◌≡◌, ◌≢◌, ℕ, Bool, false, cond, eqb, List, [], ◌∷◌, ◌++◌, length, get_or, Option, Ok, refl, sym, ap, ◌∙◌, subst}
 use Rattle.justfile_base.specs.declared.byte_class.ByteClass.TheVariants as classes
 use Rattle.justfile_base.specs.declared.delimiter.Delimiter.TheVariants.{Brace, Bracket, Paren}
 use Rattle.justfile_base.specs.declared.token_kind.TokenKind.{TokenKind}
-use Rattle.justfile_base.specs.declared.token_kind.TokenKind.TheVariants.{AmpersandAmpersand, Asterisk, At, BangEquals, BangTilde, BarBar, BraceL, BraceR, BracketL, BracketR, ColonColon, ColonEquals, Comma, Dollar, Eof, Equals, EqualsEquals, EqualsTilde, ParenL, ParenR, Plus, PlusPlus, QuestionMark, Slash}
+use Rattle.justfile_base.specs.declared.token_kind.TokenKind.TheVariants.{AmpersandAmpersand, Asterisk, At, Bang, BangEquals, BangTilde, BarBar, BraceL, BraceR, BracketL, BracketR, ColonColon, ColonEquals, Comma, Dollar, Eof, Equals, EqualsEquals, EqualsTilde, ParenL, ParenR, Plus, PlusPlus, QuestionMark, Slash}
 use Rattle.justfile_base.specs.ByteClass.{class_of}
 use Rattle.justfile_model.specs.declared.open_delimiter.OpenDelimiter.{OpenDelimiter}
 use Rattle.justfile_model.specs.Tok.{Tok}
@@ -92,6 +92,11 @@ module _ {os : List OpenDelimiter} {ls : List (List ℕ)} {c : Bool} {i : Option
   pub equals_step : {more : List ℕ} {ts : List Mark} → Reading (amid os ls c i false) (32 ∷ more) ts → Reading (amid os ls c i f) (61 ∷ 32 ∷ more) (mark Equals (61 ∷ []) ∷ ts)
   unfolding class_of fixed
   equals_step k = fixed_step Equals 61 [] refl refl refl (λ e. cc) (λ t. refl) k
+
+  -- in front of what makes no other operator of it
+  pub bang_step : (more : List ℕ) {ts : List Mark} → eqb (get_or more 0 0) 61 ≡ false → eqb (get_or more 0 0) 126 ≡ false → Reading (amid os ls c i false) more ts → Reading (amid os ls c i f) (33 ∷ more) (mark Bang (33 ∷ []) ∷ ts)
+  unfolding class_of fixed
+  bang_step more equals tilde k = fixed_step Bang 33 [] refl refl (λ j. cond (equals j) (Ok (BangEquals, 2)) (cond (tilde j) (Ok (BangTilde, 2)) (Ok (Bang, 1)))) (λ e. cc) (λ t. refl) k
 
   pub open_paren_step : {more : List ℕ} {ts : List Mark} → ((line : ℕ) → Reading (amid (opener Paren line ∷ os) ls c i false) more ts) → Reading (amid os ls c i f) (40 ∷ more) (mark ParenL (40 ∷ []) ∷ ts)
   unfolding inline class_of

@@ -1,25 +1,27 @@
 -- What is known of a shape that is printed: each lexeme has its fact, each value derives back, and the items stand in lines.
-use Rattle.std.proofs.Common.{◌≡◌, ℕ, Bool, true, false, List, [], ◌∷◌, drop}
+use Rattle.std.proofs.Common.{◌≡◌, ℕ, Bool, true, false, List, [], ◌∷◌, ◌++◌, length, drop, Option, Some, None}
 use Rattle.std.specs.Prelude.{◌&&◌, ◌||◌, not}
 use Rattle.std.specs.Str.{IsUtf8, trim_end}
 use Rattle.justfile_base.specs.declared.string_kind.StringKind.{StringKind}
 use Rattle.justfile_base.specs.declared.token_kind.TokenKind.{TokenKind}
 use Rattle.justfile_base.specs.declared.token_kind.TokenKind.TheVariants as kinds
 use Rattle.justfile_base.specs.ByteClass.{class_of}
-use Rattle.justfile_base.specs.StringKind.{token_kind_of}
+use Rattle.justfile_base.specs.StringKind.{kind_of, token_kind_of}
 use Rattle.justfile_model.specs.Bytes.{blank, white, blank_len}
+use Rattle.justfile_model.specs.declared.raw_text.RawText.TheVariants as raw_texts
+use Rattle.justfile_model.specs.LiteralText.{raw_len}
 use Rattle.justfile_model.specs.Modes.{is_empty}
+use Rattle.justfile_model.specs.Next.{is_backtick}
 use Rattle.justfile_model.specs.Tok.{Tok}
 use Rattle.justfile_model.specs.SignificantTokens.{SignificantToken, significant_from}
 use Rattle.justfile_model.specs.Tree as tree
-use Rattle.justfile_model.specs.Tree.{StringLiteral, Backtick, Variable, Text, Interpolation, Line, Shape, lexeme, nothing, trimmed}
-use Rattle.justfile_model.specs.Printing.{expr_text}
-use Rattle.justfile_model.specs.Grammar.{Limited, Expression}
+use Rattle.justfile_model.specs.Tree.{Or, And, Comparison, Concatenation, ListConcatenation, Join, Root, If, IfElse, Not, StringLiteral, FormatLiteral, FormatString, Backtick, Assert, AssertMessage, Variable, Call, Group, ListOf, Last, Continue, Text, Interpolation, Line, Shape, lexeme, nothing, trimmed}
+use Rattle.justfile_model.specs.Expressions.{Limited, Expression}
 use Rattle.justfile_canon.proofs.Reading.{Mark, mark, placed}
-use Rattle.justfile_canon.proofs.Inline.{head_is, IsName, IsLiteral}
+use Rattle.justfile_canon.proofs.Inline.{head_is, IsName, IsLiteral, IsPart, delimiter_of}
 use Rattle.justfile_canon.proofs.Lines.{IsComment}
 use Rattle.justfile_canon.proofs.BodyLines.{IsRaw}
-use Rattle.justfile_canon.proofs.Canon.{Value, Fragment, Row, expr_marks}
+use Rattle.justfile_canon.proofs.Canon.{Shown, Value, Values, Pieces, Fragment, Row, expr_on, expr_marks}
 
 -- the printer's tokens without places, and what the parser reads of them
 abbrev pub unplaced : List Mark → List Tok
@@ -43,30 +45,87 @@ IsString = IsDelimited kinds.StringToken
 abbrev pub IsCommand : List ℕ → Type 0
 IsCommand = IsDelimited kinds.Backtick
 
-abbrev pub GoodValue : Value → Type 0
-GoodValue (StringLiteral expanded l) = IsString l
-GoodValue (Backtick l) = IsCommand l
-GoodValue (Variable n) = IsName n
+-- a string behind an `f` with nothing to fill in: format mode ends where plain mode does
+pub record IsFormatLiteral (l : List ℕ) : Type 0 where
+  pub string : IsString l
+  pub ends : (more : List ℕ) → raw_len (raw_texts.Literal string.kind true) (string.literal.inner ++ (delimiter_of string.kind ++ more)) ≡ length string.literal.inner
 
--- the tokens that make something else of a name before them than a variable
-abbrev pub extends : TokenKind → Bool
-extends kinds.StringToken = true
-extends _ = false
+-- the start of a format string, up to `{{` and a space behind it
+pub record IsFormatStart (l : List ℕ) : Type 0 where
+  pub part : IsPart (kind_of l) (delimiter_of (kind_of l)) false l
+  pub quoted : is_backtick (kind_of l).delimiter ≡ false
+  pub opens : (more : List ℕ) → kind_of (l ++ more) ≡ kind_of l
 
--- no such token is next, so a name ends here
-abbrev pub ends_value : List Mark → Bool
-ends_value [] = true
-ends_value (t ∷ ts) = not (extends t.kind)
+-- a later part of a format string: up to `{{` and a space behind it, or to the string's end
+abbrev pub IsPartOf : StringKind → Bool → List ℕ → Type 0
+IsPartOf k fin = IsPart k (125 ∷ 125 ∷ []) fin
+
+-- the same of the format string that is open, if it is the innermost of what is open
+abbrev pub IsPartOfOpen : Option StringKind → Bool → List ℕ → Type 0
+IsPartOfOpen None fin l = ⊥
+IsPartOfOpen (Some k) fin l = IsPartOf k fin l
+
+abbrev mutual
+  pub GoodValue : Value → Type 0
+  GoodValue (Or l r) = GoodValue l × GoodValue r
+  GoodValue (And l r) = GoodValue l × GoodValue r
+  GoodValue (Comparison l operator token r) = GoodValue l × GoodValue r
+  GoodValue (Concatenation l operator r) = GoodValue l × GoodValue r
+  GoodValue (ListConcatenation l operator r) = GoodValue l × GoodValue r
+  GoodValue (Join l operator r) = GoodValue l × GoodValue r
+  GoodValue (Root operator r) = GoodValue r
+  GoodValue (If c b) = GoodValue c × GoodValue b
+  GoodValue (IfElse c b o) = GoodValue c × GoodValue b × GoodValue o
+  GoodValue (Not e) = GoodValue e
+  GoodValue (StringLiteral expanded l) = IsString l
+  GoodValue (FormatLiteral l) = IsFormatLiteral l
+  GoodValue (FormatString start e parts) = IsFormatStart start × GoodValue e × GoodParts (kind_of start) parts
+  GoodValue (Backtick l) = IsCommand l
+  GoodValue (Assert name c) = GoodValue c
+  GoodValue (AssertMessage name c m) = GoodValue c × GoodValue m
+  GoodValue (Variable n) = IsName n
+  GoodValue (Call n arguments) = IsName n × GoodValues arguments
+  GoodValue (Group e) = GoodValue e
+  GoodValue (ListOf opener elements) = GoodValues elements
+
+  pub GoodValues : Values → Type 0
+  GoodValues tree.none = Unit {0}
+  GoodValues (tree.more e es) = GoodValue e × GoodValues es
+
+  pub GoodParts : StringKind → Pieces → Type 0
+  GoodParts k (Last l) = IsPartOf k true l
+  GoodParts k (Continue l e parts) = IsPartOf k false l × GoodValue e × GoodParts k parts
+
+-- the tokens that close what an expression stands in
+abbrev pub closes : TokenKind → Bool
+closes kinds.ParenR = true
+closes kinds.BracketR = true
+closes kinds.BraceL = true
+closes kinds.BraceR = true
+closes kinds.Comma = true
+closes kinds.FormatStringContinue = true
+closes kinds.FormatStringEnd = true
+closes kinds.InterpolationEnd = true
+closes kinds.Comment = true
+closes kinds.Eol = true
+closes kinds.Eof = true
+closes _ = false
+
+-- such a token is next, so an expression ends here
+abbrev pub ends_value : List SignificantToken → Bool
+ends_value [] = false
+ends_value (t ∷ ts) = closes t.tok.kind
 
 -- the value's tokens derive it, before any others that a value ends at
-pub record DerivesBack (depth : ℕ) (e : Value) : Type 0 where
-  pub derives : (glued : Bool) (on : List Mark) → ends_value on ≡ true → Expression lexeme nothing Limited depth e (significant glued (expr_marks e on)) (significant true on)
+pub record DerivesBack (e : Value) (features : Shown) : Type 0 where
+  pub derives : (glued : Bool) (on : List Mark) → ends_value (significant true on) ≡ true → Expression lexeme nothing Limited false 0 e features (significant glued (expr_marks e on)) (significant true on)
 
 -- a value that no other is open around
 pub record GoodExpression (e : Value) : Type 0 where
   pub lexes : GoodValue e
-  pub derives : DerivesBack 0 e
-  pub utf8 : IsUtf8 (expr_text e)
+  pub features : Shown
+  pub derives : DerivesBack e features
+  pub utf8 : (more : List ℕ) → IsUtf8 more → IsUtf8 (expr_on e more)
 
 -- ---- bodies
 

@@ -234,6 +234,25 @@ module _ {os : List OpenDelimiter} {ls : List (List ℕ)} {c : Bool} {i : Option
       (kind_not_eof k.delimiter)
       (λ o n col. subst (λ m. Reading m more ts) (sym (after_literal os ls c i k.delimiter false _)) r)
 
+  -- behind f: whole, with nothing to fill in
+  pub whole_step : (k : StringKind) (l more : List ℕ) {ts : List Mark} → (h : IsLiteral k l) → ((more : List ℕ) → raw_len (raw_texts.Literal k true) (h.inner ++ (delimiter_of k ++ more)) ≡ length h.inner) → is_backtick k.delimiter ≡ false
+      → head_is joins more ≡ false → Reading (amid os ls c i false) more ts → Reading (amid os ls c i true) (l ++ more) (mark (token_kind_of k.delimiter) l ∷ ts)
+  whole_step k l more {ts} h ends quote stop r =
+      let m : Mode = amid os ls c i true in
+      let inner = h.inner in
+      let tail : List ℕ = inner ++ (delimiter_of k ++ more) in
+      let whole : l ++ more ≡ delimiter_of k ++ tail = ap (λ x. x ++ more) h.is ∙ assoc3 (delimiter_of k) inner (delimiter_of k) more in
+      let len = length3 (delimiter_of k) inner (delimiter_of k) (delimiter_len k) (sym (delimiter_length k)) ∙ ap length (sym h.is) in
+      step m (token_kind_of k.delimiter) l more ts
+      (ap (next m) whole
+      ∙ literal_next os ls c i true k tail
+      ∙ literal_of m k true tail (sym (ap kind_of whole) ∙ h.opens more (joins_quote more stop)) (ap not quote)
+      ∙ part_is k true (delimiter_of k) inner (delimiter_of k ++ more) FormatStringStart (token_kind_of k.delimiter) (ends more) refl
+      ∙ ap (λ b. cond b (Ok (FormatStringStart, length (delimiter_of k) + length inner + 2)) (Ok (token_kind_of k.delimiter, length (delimiter_of k) + length inner + delimiter_len k))) (no_opening k.delimiter (delimiter_tail k ++ more))
+      ∙ ap (λ n. Ok (token_kind_of k.delimiter, n)) len)
+      (kind_not_eof k.delimiter)
+      (λ o n col. subst (λ m. Reading m more ts) (sym (after_literal os ls c i k.delimiter true _)) r)
+
   -- behind f: up to two braces
   pub start_step : (k : StringKind) (l more : List ℕ) {ts : List Mark} → IsPart k (delimiter_of k) false l → is_backtick k.delimiter ≡ false → ((more : List ℕ) → kind_of (l ++ more) ≡ k)
       → ((line : ℕ) → Reading (amid (opener (FormatString k) line ∷ os) ls c i false) (32 ∷ more) ts) → Reading (amid os ls c i true) (l ++ (32 ∷ more)) (mark FormatStringStart l ∷ ts)

@@ -24,7 +24,7 @@ assigned : (ind : List ℕ) (c : Bool) (name : List ℕ) (value : Value) {more :
     → Reading (at_item c) (item_on ind (tree.Assignment name value) more) (item_marks (tree.Assignment name value) ts)
 unfolding class_of
 assigned ind c name value {more} named good stop k =
-    item_name c name named.is_name refl (space_step refl (colon_equals_step (space_step (value_no_blank value more good.lexes) (lex_value [] [] c None value good.lexes stop k))))
+    item_name c name named.is_name refl (space_step refl (colon_equals_step (space_step (value_no_blank value more good.lexes) (lex_value [] c None [] value good.lexes stop k))))
 
 at_end : (c : Bool) → Reading (at_item c) [] []
 unfolding next

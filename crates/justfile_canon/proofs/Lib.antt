@@ -1,3 +1,4 @@
+pub mod Back
 pub mod Bodies
 pub mod BodyDerives
 pub mod BodyFacts
@@ -9,8 +10,12 @@ pub mod BodyUtf8
 pub mod Canon
 pub mod Comments
 pub mod DerivesBack
+pub mod Determined
+pub mod Ends
 pub mod Facts
 pub mod Fixed
+pub mod FormatParts
+pub mod FormatScans
 pub mod Good
 pub mod Inline
 pub mod LexesBack
@@ -24,4 +29,6 @@ pub mod Reading
 pub mod RoundTrip
 pub mod Sound
 pub mod Trimmed
+pub mod Walks
 pub mod Written
+pub mod WrittenValues

@@ -139,7 +139,7 @@ delimiter_ends delimiters.QuoteSingle true more = refl
 delimiter_ends delimiters.QuoteSingle false more = refl
 
 -- whether a delimiter begins inside or at the end of the text is tested_blanks in the text and the delimiter behind it
-same_delimiter : (d : StringDelimiter) (i : Bool) (x : ℕ) (xs a b : List ℕ) → is_delimiter (record { delimiter = d; indented = i }) (x ∷ xs ++ (delimiter_of (record { delimiter = d; indented = i }) ++ a)) ≡ is_delimiter (record { delimiter = d; indented = i }) (x ∷ xs ++ (delimiter_of (record { delimiter = d; indented = i }) ++ b))
+pub same_delimiter : (d : StringDelimiter) (i : Bool) (x : ℕ) (xs a b : List ℕ) → is_delimiter (record { delimiter = d; indented = i }) (x ∷ xs ++ (delimiter_of (record { delimiter = d; indented = i }) ++ a)) ≡ is_delimiter (record { delimiter = d; indented = i }) (x ∷ xs ++ (delimiter_of (record { delimiter = d; indented = i }) ++ b))
 same_delimiter d false x xs a b = refl
 same_delimiter d true x [] a b = refl
 same_delimiter d true x (y ∷ []) a b = refl

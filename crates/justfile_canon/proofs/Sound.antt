@@ -1,27 +1,29 @@
 -- Along the tokens of any text each significant one has its fact, and no comment follows a comment in a line.
-use Rattle.std.proofs.Common.{◌≡◌, ◌≢◌, ℕ, zero, suc, ◌+◌, Bool, true, false, cond, eqb, List, [], ◌∷◌, ◌++◌, length, get_or, take, drop, Option, Some, None, Ok, Err, refl, sym, ap, ◌∙◌, subst, arith, append_assoc, take-append-drop}
+use Rattle.std.proofs.Common.{◌≡◌, ◌≢◌, ℕ, ◌+◌, Bool, true, false, cond, eqb, List, [], ◌∷◌, ◌++◌, length, get_or, take, drop, Option, Some, None, Ok, Err, refl, sym, ap, ◌∙◌, subst, arith, append_assoc, take-append-drop, codes}
 use Rattle.std.specs.Prelude.{◌&&◌, ◌||◌, not, is_some, reverse}
-use Rattle.std.specs.Str.{IsUtf8, IsCharBoundary}
+use Rattle.std.specs.Str.{IsUtf8, IsCharBoundary, bytes_eq}
 use Rattle.std.proofs.lemmas.Bool.{and_parts}
 use Rattle.std.proofs.lemmas.Bool.Decides.{nat_tests}
 use Rattle.std.proofs.lemmas.List.{reverse-append, reverse-reverse}
 use Rattle.std.proofs.lemmas.Str.{IsUtf8-take, IsUtf8-drop}
 use Rattle.justfile_base.specs.declared.token_kind.TokenKind.{TokenKind}
 use Rattle.justfile_base.specs.declared.token_kind.TokenKind.TheVariants as kinds
+use Rattle.justfile_base.specs.declared.string_kind.StringKind.{StringKind}
 use Rattle.justfile_base.specs.ByteClass.{class_of}
+use Rattle.justfile_base.specs.StringKind.{kind_of}
 use Rattle.justfile_base.specs.Slice.{slice_of}
 use Rattle.justfile_model.specs.declared.open_delimiter.OpenDelimiter.{OpenDelimiter}
 use Rattle.justfile_model.specs.Bytes.{is_line_end, is_interpolation_end}
 use Rattle.justfile_model.specs.LiteralText.{pieces_len}
 use Rattle.justfile_model.specs.Tok.{Tok}
 use Rattle.justfile_model.specs.SignificantTokens.{SignificantToken, is_whitespace, significant_from}
-use Rattle.justfile_model.specs.Modes.{Mode, mode, start, after, is_empty, tail_of, nested}
+use Rattle.justfile_model.specs.Modes.{Mode, mode, start, after, is_empty, tail_of, head_of, nested}
 use Rattle.justfile_model.specs.Lexed.{end_of, IsNext, Begins, Lexed}
-use Rattle.justfile_model.specs.Next.{Found, inline, inside, body, line_end, Region, InText, InInterpolation, Inline, token_in_region, at_end_by, is_blank_line, next_by, next}
+use Rattle.justfile_model.specs.Next.{Found, format_of, format_kind, inline, inside, body, line_end, Region, InText, InInterpolation, Inline, token_in_region, at_end_by, is_blank_line, next_by, next}
 use Rattle.justfile_model.proofs.NextLaws.{token_cut}
 use Rattle.justfile_canon.proofs.Reading.{take_front, drop_front, drop_drop}
 use Rattle.justfile_canon.proofs.Inline.{IsName}
-use Rattle.justfile_canon.proofs.Good.{IsString, IsCommand}
+use Rattle.justfile_canon.proofs.Good.{IsString, IsCommand, IsFormatLiteral, IsFormatStart, IsPartOfOpen}
 use Rattle.justfile_canon.proofs.Literals.{front_byte}
 use Rattle.justfile_canon.proofs.Facts.{WasComment, Fact, fact_of}
 
@@ -87,66 +89,71 @@ next_ends m (b ∷ bs) s h = subst (λ t. EndsLine m (next_by t m (b ∷ bs))) (
 
 -- ---- what is open around a token
 
+-- the open delimiters, the innermost first: of a format string its kind
 pub record Around : Type 0 where
-  pub delimiters : ℕ
+  pub openers : List (Option StringKind)
   pub interpolation : Bool
 
-abbrev less : ℕ → ℕ
-less zero = zero
-less (suc n) = n
+abbrev pub innermost : List (Option StringKind) → Option StringKind
+innermost [] = None
+innermost (o ∷ os) = o
 
-abbrev none : ℕ → Bool
-none zero = true
-none (suc n) = false
-
-abbrev pub around : TokenKind → Around → Around
-around kinds.BraceL s = record s { delimiters = suc s.delimiters }
-around kinds.BracketL s = record s { delimiters = suc s.delimiters }
-around kinds.ParenL s = record s { delimiters = suc s.delimiters }
-around kinds.FormatStringStart s = record s { delimiters = suc s.delimiters }
-around kinds.BraceR s = record s { delimiters = less s.delimiters }
-around kinds.BracketR s = record s { delimiters = less s.delimiters }
-around kinds.ParenR s = record s { delimiters = less s.delimiters }
-around kinds.FormatStringEnd s = record s { delimiters = less s.delimiters }
-around kinds.InterpolationStart s = record s { interpolation = true }
-around kinds.InterpolationEnd s = record s { interpolation = false }
-around _ s = s
+abbrev pub around : TokenKind → List ℕ → Around → Around
+around kinds.BraceL l s = record s { openers = None ∷ s.openers }
+around kinds.BracketL l s = record s { openers = None ∷ s.openers }
+around kinds.ParenL l s = record s { openers = None ∷ s.openers }
+around kinds.FormatStringStart l s = record s { openers = Some (kind_of l) ∷ s.openers }
+around kinds.BraceR l s = record s { openers = tail_of s.openers }
+around kinds.BracketR l s = record s { openers = tail_of s.openers }
+around kinds.ParenR l s = record s { openers = tail_of s.openers }
+around kinds.FormatStringEnd l s = record s { openers = tail_of s.openers }
+around kinds.InterpolationStart l s = record s { interpolation = true }
+around kinds.InterpolationEnd l s = record s { interpolation = false }
+around _ l s = s
 
 -- nothing is open
 abbrev pub calm : Around → Bool
-calm s = none s.delimiters && not s.interpolation
+calm s = is_empty s.openers && not s.interpolation
+
+abbrev kinds_of : List OpenDelimiter → List (Option StringKind)
+kinds_of [] = []
+kinds_of (o ∷ os) = format_of o.delimiter ∷ kinds_of os
 
 record IsAround (m : Mode) (s : Around) : Type 0 where
-  delimiters : length m.openers ≡ s.delimiters
+  openers : kinds_of m.openers ≡ s.openers
   interpolation : is_some m.interpolation ≡ s.interpolation
 
-fewer : (os : List OpenDelimiter) (n : ℕ) → length os ≡ n → length (tail_of os) ≡ less n
-fewer [] n e = sym (ap less (sym e))
-fewer (o ∷ os) n e = ap less e
+fewer : (os : List OpenDelimiter) (ks : List (Option StringKind)) → kinds_of os ≡ ks → kinds_of (tail_of os) ≡ tail_of ks
+fewer [] ks e = ap tail_of e
+fewer (o ∷ os) ks e = ap tail_of e
 
-around_after : (k : TokenKind) (t : Tok) (m : Mode) (s : Around) → IsAround m s → IsAround (after k t m) (around k s)
-around_after kinds.BraceL t m s h = record { delimiters = ap suc h.delimiters; interpolation = h.interpolation }
-around_after kinds.BracketL t m s h = record { delimiters = ap suc h.delimiters; interpolation = h.interpolation }
-around_after kinds.ParenL t m s h = record { delimiters = ap suc h.delimiters; interpolation = h.interpolation }
-around_after kinds.FormatStringStart t m s h = record { delimiters = ap suc h.delimiters; interpolation = h.interpolation }
-around_after kinds.BraceR t m s h = record { delimiters = fewer m.openers s.delimiters h.delimiters; interpolation = h.interpolation }
-around_after kinds.BracketR t m s h = record { delimiters = fewer m.openers s.delimiters h.delimiters; interpolation = h.interpolation }
-around_after kinds.ParenR t m s h = record { delimiters = fewer m.openers s.delimiters h.delimiters; interpolation = h.interpolation }
-around_after kinds.FormatStringEnd t m s h = record { delimiters = fewer m.openers s.delimiters h.delimiters; interpolation = h.interpolation }
-around_after kinds.InterpolationStart t m s h = record { delimiters = h.delimiters; interpolation = refl }
-around_after kinds.InterpolationEnd t m s h = record { delimiters = h.delimiters; interpolation = refl }
-around_after _ t m s h = record { delimiters = h.delimiters; interpolation = h.interpolation }
+innermost_is : (os : List OpenDelimiter) (ks : List (Option StringKind)) → kinds_of os ≡ ks → format_kind (head_of os) ≡ innermost ks
+innermost_is [] ks e = ap innermost e
+innermost_is (o ∷ os) ks e = ap innermost e
+
+around_after : (k : TokenKind) (t : Tok) (m : Mode) (s : Around) → IsAround m s → IsAround (after k t m) (around k t.lexeme s)
+around_after kinds.BraceL t m s h = record { openers = ap (λ ks. None ∷ ks) h.openers; interpolation = h.interpolation }
+around_after kinds.BracketL t m s h = record { openers = ap (λ ks. None ∷ ks) h.openers; interpolation = h.interpolation }
+around_after kinds.ParenL t m s h = record { openers = ap (λ ks. None ∷ ks) h.openers; interpolation = h.interpolation }
+around_after kinds.FormatStringStart t m s h = record { openers = ap (λ ks. Some (kind_of t.lexeme) ∷ ks) h.openers; interpolation = h.interpolation }
+around_after kinds.BraceR t m s h = record { openers = fewer m.openers s.openers h.openers; interpolation = h.interpolation }
+around_after kinds.BracketR t m s h = record { openers = fewer m.openers s.openers h.openers; interpolation = h.interpolation }
+around_after kinds.ParenR t m s h = record { openers = fewer m.openers s.openers h.openers; interpolation = h.interpolation }
+around_after kinds.FormatStringEnd t m s h = record { openers = fewer m.openers s.openers h.openers; interpolation = h.interpolation }
+around_after kinds.InterpolationStart t m s h = record { openers = h.openers; interpolation = refl }
+around_after kinds.InterpolationEnd t m s h = record { openers = h.openers; interpolation = refl }
+around_after _ t m s h = record { openers = h.openers; interpolation = h.interpolation }
 
 calm_not_nested : (m : Mode) (s : Around) → IsAround m s → calm s ≡ true → nested m ≡ false
 calm_not_nested m s h c =
-    let parts = and_parts (none s.delimiters) (not s.interpolation) c in
-    by m.openers s.delimiters h.delimiters parts.0 (is_some m.interpolation) s.interpolation h.interpolation parts.1
+    let parts = and_parts (is_empty s.openers) (not s.interpolation) c in
+    by m.openers s.openers h.openers parts.0 (is_some m.interpolation) s.interpolation h.interpolation parts.1
   where
-    by : (os : List OpenDelimiter) (n : ℕ) → length os ≡ n → none n ≡ true → (i j : Bool) → i ≡ j → not j ≡ true → (not (is_empty os) || i) ≡ false
-    by [] n e z i true same c = cc
-    by [] n e z i false same c = same
-    by (o ∷ os) zero e z i j same c = absurd (omega arith)
-    by (o ∷ os) (suc n) e z i j same c = cc
+    by : (os : List OpenDelimiter) (ks : List (Option StringKind)) → kinds_of os ≡ ks → is_empty ks ≡ true → (i j : Bool) → i ≡ j → not j ≡ true → (not (is_empty os) || i) ≡ false
+    by [] ks e z i true same c = cc
+    by [] ks e z i false same c = same
+    by (o ∷ os) [] e z i j same c = cc
+    by (o ∷ os) (k ∷ ks) e z i j same c = cc
 
 -- ---- along the tokens
 
@@ -154,25 +161,37 @@ pub record LexedComment (l : List ℕ) : Type 0 where
   pub behind : List ℕ
   pub was : WasComment l behind
 
-abbrev pub LexemeFact : TokenKind → List ℕ → Type 0
-LexemeFact kinds.Identifier l = IsName l
-LexemeFact kinds.StringToken l = IsString l
-LexemeFact kinds.Backtick l = IsCommand l
-LexemeFact kinds.Comment l = LexedComment l
-LexemeFact _ l = Unit {0}
+-- of a token that these are open around
+abbrev pub LexemeFact : Around → TokenKind → List ℕ → Type 0
+LexemeFact s kinds.Identifier l = IsName l
+LexemeFact s kinds.StringToken l = IsString l
+LexemeFact s kinds.FormatStringStart l = IsFormatStart l
+LexemeFact s kinds.FormatStringContinue l = IsPartOfOpen (innermost s.openers) false l
+LexemeFact s kinds.FormatStringEnd l = IsPartOfOpen (innermost s.openers) true l
+LexemeFact s kinds.Backtick l = IsCommand l
+LexemeFact s kinds.Comment l = LexedComment l
+LexemeFact s _ l = Unit {0}
 
-lexeme_fact : (k : TokenKind) (l behind : List ℕ) → Fact k l behind → LexemeFact k l
-lexeme_fact kinds.Identifier l behind f = f
-lexeme_fact kinds.StringToken l behind f = f
-lexeme_fact kinds.Backtick l behind f = f
-lexeme_fact kinds.Comment l behind f = record { behind = behind; was = f }
-lexeme_fact _ l behind f = tt
+lexeme_fact : (m : Mode) (s : Around) → IsAround m s → (k : TokenKind) (l behind : List ℕ) → Fact m k l behind → LexemeFact s k l
+lexeme_fact m s a kinds.Identifier l behind f = f
+lexeme_fact m s a kinds.StringToken l behind f = f.0
+lexeme_fact m s a kinds.FormatStringStart l behind f = f
+lexeme_fact m s a kinds.FormatStringContinue l behind f = subst (λ o. IsPartOfOpen o false l) (innermost_is m.openers s.openers a.openers) f
+lexeme_fact m s a kinds.FormatStringEnd l behind f = subst (λ o. IsPartOfOpen o true l) (innermost_is m.openers s.openers a.openers) f
+lexeme_fact m s a kinds.Backtick l behind f = f
+lexeme_fact m s a kinds.Comment l behind f = record { behind = behind; was = f }
+lexeme_fact m s a _ l behind f = tt
 
 -- what is known of a token; a comment is the token before it, or not
 pub record Known (s : Around) (comment : Bool) (t : Tok) : Type 0 where
-  pub fact : LexemeFact t.kind t.lexeme
+  pub fact : LexemeFact s t.kind t.lexeme
   pub utf8 : IsUtf8 t.lexeme
   pub apart : comment ≡ true → calm s ≡ true → t.kind ≢ kinds.Comment
+
+-- a string right behind an `f` was read in format mode
+abbrev pub FormatBehind : Tok → List SignificantToken → Type 0
+FormatBehind t [] = Unit {0}
+FormatBehind t (u ∷ us) = t.kind ≡ kinds.Identifier → t.lexeme ≡ codes "f" → u.glued ≡ true → u.tok.kind ≡ kinds.StringToken → IsFormatLiteral u.tok.lexeme
 
 abbrev pub is_comment : TokenKind → Bool
 is_comment kinds.Comment = true
@@ -180,7 +199,7 @@ is_comment _ = false
 
 abbrev pub Sound : Around → Bool → List SignificantToken → Type 0
 Sound s comment [] = Unit {0}
-Sound s comment (t ∷ ts) = Known s comment t.tok × Sound (around t.tok.kind s) (is_comment t.tok.kind) ts
+Sound s comment (t ∷ ts) = Known s comment t.tok × FormatBehind t.tok ts × Sound (around t.tok.kind t.tok.lexeme s) (is_comment t.tok.kind) ts
 
 -- each token is the next one in the mode that those before it leave
 abbrev pub Runs : Mode → List ℕ → List Tok → Type 0
@@ -194,6 +213,24 @@ whitespace_kind _ h = cc
 comment_kind : (k : TokenKind) → is_comment k ≡ true → k ≡ kinds.Comment
 comment_kind kinds.Comment h = refl
 comment_kind _ h = cc
+
+unmarked : (t : Tok) (ts : List Tok) → FormatBehind t (significant_from false ts)
+unmarked t [] = tt
+unmarked t (u ∷ us) = by (is_whitespace u.kind) (unmarked t us)
+  where
+    by : (w : Bool) → FormatBehind t (significant_from false us) → FormatBehind t (cond w (significant_from false us) (record { tok = u; glued = false } ∷ significant_from true us))
+    by true more = more
+    by false more = λ kind lexeme glued string. let bad : false ≡ true = glued in cc
+
+format_behind : (t : Tok) (ts : List Tok) (m : Mode) (behind : List ℕ) → Runs (after t.kind t m) behind ts → FormatBehind t (significant_from true ts)
+format_behind t [] m behind r = tt
+format_behind t (u ∷ us) m behind r = by (is_whitespace u.kind)
+  where
+    by : (w : Bool) → FormatBehind t (cond w (significant_from false us) (record { tok = u; glued = true } ∷ significant_from true us))
+    by true = unmarked t us
+    by false = λ kind lexeme glued string.
+        (subst (λ k. Fact (after t.kind t m) k u.lexeme r.0) string (fact_of (after t.kind t m) u.kind u.lexeme r.0 (sym (ap (next (after t.kind t m)) r.1) ∙ r.2))).1
+        (ap (λ k. (after k t m).behind_f) kind ∙ ap (λ l. bytes_eq l (102 ∷ [])) lexeme)
 
 sound : (ts : List Tok) (m : Mode) (rest : List ℕ) (s : Around) (comment glued : Bool) → IsUtf8 rest → IsAround m s → Runs m rest ts
     → (comment ≡ true → calm s ≡ true → (is_blank_line rest ≡ true) × (m.line_start ≡ false)) → Sound s comment (significant_from glued ts)
@@ -214,7 +251,7 @@ sound (t ∷ ts) m rest s comment glued u a r p =
     behind_is : drop (length t.lexeme) rest ≡ behind
     behind_is = ap (drop (length t.lexeme)) r.1 ∙ drop_front t.lexeme behind
 
-    fact : Fact t.kind t.lexeme behind
+    fact : Fact m t.kind t.lexeme behind
     fact = fact_of m t.kind t.lexeme behind (sym (ap (next m) r.1) ∙ r.2)
 
     ended : comment ≡ true → calm s ≡ true → EndsLine m (Ok (t.kind, length t.lexeme))
@@ -222,12 +259,12 @@ sound (t ∷ ts) m rest s comment glued u a r p =
 
     known : Known s comment t
     known = record {
-      fact = lexeme_fact t.kind t.lexeme behind fact;
+      fact = lexeme_fact m s a t.kind t.lexeme behind fact;
       utf8 = subst IsUtf8 lexeme_is (IsUtf8-take rest (length t.lexeme) u cut);
       apart = λ c q. (ended c q).ends.0;
     }
 
-    around' : IsAround (after t.kind t m) (around t.kind s)
+    around' : IsAround (after t.kind t m) (around t.kind t.lexeme s)
     around' = around_after t.kind t m s a
 
     by : (w : Bool) → is_whitespace t.kind ≡ w
@@ -235,12 +272,13 @@ sound (t ∷ ts) m rest s comment glued u a r p =
         → Sound s comment (cond w (significant_from false ts) (record { tok = t; glued = glued } ∷ significant_from true ts))
     by true e ih =
         let kind = whitespace_kind t.kind e in
-        ih s comment false (subst (λ k. IsAround (after t.kind t m) (around k s)) kind around') (λ c q. let bad : true ≡ false = sym ((ended c q).ends.1 kind) ∙ calm_not_nested m s a q in cc)
+        ih s comment false (subst (λ k. IsAround (after t.kind t m) (around k t.lexeme s)) kind around') (λ c q. let bad : true ≡ false = sym ((ended c q).ends.1 kind) ∙ calm_not_nested m s a q in cc)
     by false e ih = (
       known,
-      ih (around t.kind s) (is_comment t.kind) true around' (λ c q.
+      format_behind t ts m behind r.3,
+      ih (around t.kind t.lexeme s) (is_comment t.kind) true around' (λ c q.
           let kind = comment_kind t.kind c in
-          let was : WasComment t.lexeme behind = subst (λ k. Fact k t.lexeme behind) kind fact in
+          let was : WasComment t.lexeme behind = subst (λ k. Fact m k t.lexeme behind) kind fact in
           (was.stop, ap (λ k. (after k t m).line_start) kind)),
     )
 
@@ -248,7 +286,7 @@ sound (t ∷ ts) m rest s comment glued u a r p =
 
 -- before the first token nothing is open
 abbrev pub outside : Around
-outside = record { delimiters = 0; interpolation = false }
+outside = record { openers = []; interpolation = false }
 
 module _ (text : List ℕ) where
   pub runs_one : (e : List Tok) (t : Tok) (ts : List Tok) → IsNext text e t → Runs (mode (t ∷ e)) (drop (end_of (t ∷ e)) text) ts → Runs (mode e) (drop (end_of e) text) (t ∷ ts)
@@ -269,4 +307,4 @@ module _ (text : List ℕ) where
   lexed_sound tokens u l =
       let order : reverse l.earlier ++ (l.last ∷ []) ≡ tokens = sym (sym (reverse-reverse tokens) ∙ ap reverse l.are ∙ reverse-append (l.last ∷ []) l.earlier) in
       let runs = runs_from l.earlier (l.last ∷ []) l.begins (runs_one l.earlier l.last [] l.is_next tt) in
-      sound tokens start text outside false false u (record { delimiters = refl; interpolation = refl }) (subst (Runs start text) order runs) (λ c q. cc)
+      sound tokens start text outside false false u (record { openers = refl; interpolation = refl }) (subst (Runs start text) order runs) (λ c q. cc)

@@ -1,38 +1,29 @@
 -- The normal shape of what any text derives is good.
-use Rattle.std.proofs.Common.{◌≡◌, ℕ, Bool, true, false, cond, List, [], ◌∷◌, refl, sym, ap, ◌∙◌, subst}
-use Rattle.std.specs.Prelude.{not}
-use Rattle.std.specs.Str.{IsUtf8, trim_end}
+use Rattle.std.proofs.Common.{◌≡◌, ℕ, Bool, true, false, List, [], ◌∷◌, refl, sym, ap, ◌∙◌, subst}
+use Rattle.std.specs.Str.{trim_end}
 use Rattle.std.proofs.lemmas.Bool.{and_parts}
-use Rattle.std.proofs.lemmas.Str.{IsUtf8-append}
 use Rattle.justfile_base.specs.declared.token_kind.TokenKind.{TokenKind}
 use Rattle.justfile_base.specs.declared.token_kind.TokenKind.TheVariants as kinds
-use Rattle.justfile_model.specs.Tok.{Tok}
-use Rattle.justfile_model.specs.SignificantTokens.{SignificantToken, is_whitespace, significant_from}
+use Rattle.justfile_model.specs.SignificantTokens.{SignificantToken}
 use Rattle.justfile_model.specs.Tree as tree
 use Rattle.justfile_model.specs.Tree.{Shape, lexeme, nothing, trimmed}
 use Rattle.justfile_model.specs.Grammar as g
-use Rattle.justfile_model.specs.Grammar.{IsKind, NotExpanded, Limited, Expression, BeforeBody, NotEmpty, Items, Behind, LineEnd, File}
+use Rattle.justfile_model.specs.Expressions.{IsKind, Limited}
+use Rattle.justfile_model.specs.Grammar.{BeforeBody, NotEmpty, Items, Behind, LineEnd, File}
 use Rattle.justfile_model.specs.NormalShape.{behind_newline, normal_rest, normal}
-use Rattle.justfile_model.specs.Printing.{piece, expr_text, printable_body, printable}
-use Rattle.justfile_canon.proofs.Reading.{Mark, placed}
-use Rattle.justfile_canon.proofs.Canon.{Value, Fragment, Row}
-use Rattle.justfile_canon.proofs.Good.{unplaced, significant, GoodValue, extends, ends_value, GoodName, GoodExpression, GoodComment, GoodRecipe, DerivesBack, pale_behind, follows_body, AtStart, AtEnd, After, BehindBody, end_behind}
-use Rattle.justfile_canon.proofs.Sound.{Around, around, outside, Known, LexemeFact, is_comment, Sound}
+use Rattle.justfile_model.specs.Printing.{printable_body, printable}
+use Rattle.justfile_canon.proofs.Canon.{Shown, Fragment, Row}
+use Rattle.justfile_canon.proofs.Good.{GoodName, GoodComment, GoodRecipe, pale_behind, follows_body, AtStart, AtEnd, After, BehindBody, end_behind}
+use Rattle.justfile_canon.proofs.Sound.{Around, around, outside, Known, is_comment, Sound}
 use Rattle.justfile_canon.proofs.Comments.{good_comment}
 use Rattle.justfile_canon.proofs.BodyTokens.{First}
 use Rattle.justfile_canon.proofs.BodyFacts.{Outline, outline_after, colon_after, no_body, NextIs, BodySound}
 use Rattle.justfile_canon.proofs.BodyGood.{LineOf, LinesOf, PartsGood, AllPartsGood, inner, shifts, IsOutside, outside_after, outside_first, indent_leads, Walked, walk_outside, body_read}
 use Rattle.justfile_canon.proofs.Trimmed.{trimmed_twice, trimmed_printable}
 use Rattle.justfile_canon.proofs.BodyFollows.{behind, newline_follows}
-use Rattle.justfile_canon.proofs.BodyUtf8.{mark_utf8}
+use Rattle.justfile_canon.proofs.WrittenValues.{fact_as, past, value_at, good_expression}
 
 -- ---- along a derivation
-
-fact_as : {s : Around} {c : Bool} (t : SignificantToken) (k : TokenKind) → IsKind k t → Known s c t.tok → LexemeFact k t.tok.lexeme
-fact_as t k e h = subst (λ x. LexemeFact x t.tok.lexeme) e h.fact
-
-past : (s : Around) (t : SignificantToken) (ts : List SignificantToken) (k : TokenKind) → IsKind k t → Sound (around t.tok.kind s) (is_comment t.tok.kind) ts → Sound (around k s) (is_comment k) ts
-past s t ts k e h = subst (λ x. Sound (around x s) (is_comment x) ts) e h
 
 past_walked : (P : Outline → Type 0) → ((k : TokenKind) (l : List ℕ) (s : Outline) → shifts k ≡ false → P s → P (outline_after k l s)) → (t : SignificantToken) (ts : List SignificantToken) (k : TokenKind) → IsKind k t → shifts k ≡ false
     → Walked P (t ∷ ts) → Walked P ts
@@ -44,68 +35,11 @@ record Ahead (c : Bool) (ts : List SignificantToken) : Type 0 where
   bodies : Walked IsOutside ts
 
 -- behind a token that opens nothing
-past_token : {c : Bool} (t : SignificantToken) (ts : List SignificantToken) (k : TokenKind) → IsKind k t → around k outside ≡ outside → shifts k ≡ false → Ahead c (t ∷ ts) → Ahead (is_comment k) ts
+past_token : {c : Bool} (t : SignificantToken) (ts : List SignificantToken) (k : TokenKind) → IsKind k t → around k t.tok.lexeme outside ≡ outside → shifts k ≡ false → Ahead c (t ∷ ts) → Ahead (is_comment k) ts
 past_token t ts k e same stays h = record {
-  facts = subst (λ s. Sound s (is_comment k) ts) same (past outside t ts k e h.facts.1);
+  facts = subst (λ s. Sound s (is_comment k) ts) same (past outside t ts k e h.facts.2);
   bodies = past_walked IsOutside outside_after t ts k e stays h.bodies;
 }
-
--- a name is marked by what is glued to it alone
-unglued : (name : SignificantToken) (ts : List Tok) → NotExpanded name (significant_from false ts)
-unglued name [] = tt
-unglued name (t ∷ ts) = by (is_whitespace t.kind) (unglued name ts)
-  where
-    by : (w : Bool) → NotExpanded name (significant_from false ts) → NotExpanded name (cond w (significant_from false ts) (record { tok = t; glued = false } ∷ significant_from true ts))
-    by true more = more
-    by false more = λ x. let bad : false ≡ true = x.glued in cc
-
--- where a value ends no name is a mark
-not_expanded : (name : SignificantToken) (on : List Mark) → ends_value on ≡ true → NotExpanded name (significant true on)
-not_expanded name [] h = λ x. let bad : kinds.Eof ≡ kinds.StringToken = x.is_string in cc
-not_expanded name (t ∷ ts) h = by (is_whitespace t.kind)
-  where
-    by : (w : Bool) → NotExpanded name (cond w (significant_from false (unplaced ts)) (record { tok = placed t 0 0 0; glued = true } ∷ significant_from true (unplaced ts)))
-    by true = unglued name (unplaced ts)
-    by false = λ x. let bad : false ≡ true = sym (ap (λ k. not (extends k)) x.is_string) ∙ h in cc
-
--- a value derives back, and leaves what is open as it was
-record GoodAt (s : Around) (depth : ℕ) (e : Value) (rest : List SignificantToken) : Type 0 where
-  lexes : GoodValue e
-  derives : DerivesBack depth e
-  utf8 : IsUtf8 (expr_text e)
-  behind : Sound s false rest
-
-good_value : {depth : ℕ} {e : Value} {ts rest : List SignificantToken} → Expression lexeme nothing Limited depth e ts rest → (s : Around) (c : Bool) → Sound s c ts → GoodAt s depth e rest
-unfolding piece
-good_value (g.value opened (g.literal {token = t} {rest = rest} kind)) s c h = record {
-  lexes = fact_as t kinds.StringToken kind h.0;
-  derives = record { derives = λ glued on stop. g.value opened (g.literal refl) };
-  utf8 = h.0.utf8;
-  behind = past s t rest kinds.StringToken kind h.1;
-}
-good_value (g.value opened (g.expanded {mark = m} {token = t} {rest = rest} marked)) s c h =
-    let on = past s m (t ∷ rest) kinds.Identifier marked.marked.is_name h.1 in
-    record {
-      lexes = fact_as t kinds.StringToken marked.is_string on.0;
-      derives = record { derives = λ glued on stop. g.value opened (g.expanded (record { marked = record { is_name = refl; spelled = refl }; is_string = refl; glued = refl })) };
-      utf8 = IsUtf8-append (120 ∷ []) t.tok.lexeme mark_utf8 on.0.utf8;
-      behind = past s t rest kinds.StringToken marked.is_string on.1;
-    }
-good_value (g.value opened (g.backtick {token = t} {rest = rest} kind)) s c h = record {
-  lexes = fact_as t kinds.Backtick kind h.0;
-  derives = record { derives = λ glued on stop. g.value opened (g.backtick refl) };
-  utf8 = h.0.utf8;
-  behind = past s t rest kinds.Backtick kind h.1;
-}
-good_value (g.value opened (g.variable {name = t} {rest = rest} kind not_if not_assert not_marked)) s c h = record {
-  lexes = fact_as t kinds.Identifier kind h.0;
-  derives = record { derives = λ glued on stop. g.value opened (g.variable refl (λ w. not_if (record { is_name = kind; spelled = w.spelled })) (λ w. not_assert (record { is_name = kind; spelled = w.spelled })) (not_expanded _ on stop)) };
-  utf8 = h.0.utf8;
-  behind = past s t rest kinds.Identifier kind h.1;
-}
-
-good_expression : {s : Around} {e : Value} {rest : List SignificantToken} → GoodAt s 0 e rest → GoodExpression e
-good_expression v = record { lexes = v.lexes; derives = v.derives; utf8 = v.utf8 }
 
 lexed_comment : {s : Around} {c : Bool} (t : SignificantToken) → IsKind kinds.Comment t → Known s c t.tok → GoodComment (trim_end t.tok.lexeme)
 lexed_comment t kind h = good_comment t.tok.lexeme h.utf8 (fact_as t kinds.Comment kind h)
@@ -119,25 +53,26 @@ record PartsAt (fs : List Fragment) (rest : List SignificantToken) : Type 0 wher
   parts : PartsGood fs
   behind : Sound outside false rest
 
-parts_good : {fs : List Fragment} {ts rest : List SignificantToken} → LineOf fs ts rest → Sound outside false ts → PartsAt fs rest
-parts_good (g.line_ends {token = t} {rest = rest} kind) h = record { parts = tt; behind = past outside t rest kinds.Eol kind h.1 }
+parts_good : {ns : Shown} {fs : List Fragment} {ts rest : List SignificantToken} → LineOf fs ns ts rest → Sound outside false ts → PartsAt fs rest
+parts_good (g.line_ends {token = t} {rest = rest} kind) h = record { parts = tt; behind = past outside t rest kinds.Eol kind h.2 }
 parts_good (g.body_ends kind) h = record { parts = tt; behind = h }
 parts_good (g.text {token = t} {tokens = tokens} kind r) h =
-    let m = parts_good r (past outside t tokens kinds.Text kind h.1) in
+    let m = parts_good r (past outside t tokens kinds.Text kind h.2) in
     record { parts = (h.0.utf8, m.parts); behind = m.behind }
 parts_good (g.interpolation {start = start} {end = stop} {tokens = tokens} {behind = on} kind x kind2 r) h =
-    let v = good_value x (around kinds.InterpolationStart outside) false (past outside start tokens kinds.InterpolationStart kind h.1) in
-    let m = parts_good r (past (around kinds.InterpolationStart outside) stop on kinds.InterpolationEnd kind2 v.behind.1) in
-    record { parts = (good_expression v, m.parts); behind = m.behind }
+    let inside : Around = around kinds.InterpolationStart [] outside in
+    let v = value_at Limited x inside false (past outside start tokens kinds.InterpolationStart kind h.2) in
+    let m = parts_good r (past inside stop on kinds.InterpolationEnd kind2 v.behind.2) in
+    record { parts = (good_expression x v, m.parts); behind = m.behind }
 
 record LinesAt (ls : List Row) (rest : List SignificantToken) : Type 0 where
   parts : AllPartsGood ls
   behind : Sound outside false rest
 
-all_parts_good : {ls : List Row} {ts rest : List SignificantToken} → LinesOf ls ts rest → Sound outside false ts → LinesAt ls rest
-all_parts_good (g.no_line {token = t} {rest = rest} kind) h = record { parts = tt; behind = past outside t rest kinds.Dedent kind h.1 }
+all_parts_good : {ns : Shown} {ls : List Row} {ts rest : List SignificantToken} → LinesOf ls ns ts rest → Sound outside false ts → LinesAt ls rest
+all_parts_good (g.no_line {token = t} {rest = rest} kind) h = record { parts = tt; behind = past outside t rest kinds.Dedent kind h.2 }
 all_parts_good (g.empty_line {token = t} {tokens = tokens} kind r) h =
-    let m = all_parts_good r (past outside t tokens kinds.Eol kind h.1) in
+    let m = all_parts_good r (past outside t tokens kinds.Eol kind h.2) in
     record { parts = (tt, m.parts); behind = m.behind }
 all_parts_good (g.some_line l r) h =
     let first = parts_good l h in
@@ -176,11 +111,11 @@ record InBody (ts : List SignificantToken) : Type 0 where
 
 before_body : {ts rest : List SignificantToken} → BeforeBody ts rest → Sound outside false ts → Walked IsHeader ts → InBody rest
 before_body (g.at_once {newline} {indent} {rest} kind kind2) h w = record {
-  facts = past outside indent rest kinds.Indent kind2 (past outside newline (indent ∷ rest) kinds.Eol kind h.1).1;
+  facts = past outside indent rest kinds.Indent kind2 (past outside newline (indent ∷ rest) kinds.Eol kind h.2).2;
   body = past_indent indent rest kind2 (past_walked IsHeader header_after newline (indent ∷ rest) kinds.Eol kind refl w);
 }
 before_body (g.commented {comment} {newline} {indent} {rest} kind kind2 kind3) h w = record {
-  facts = past outside indent rest kinds.Indent kind3 (past outside newline (indent ∷ rest) kinds.Eol kind2 (past outside comment (newline ∷ indent ∷ rest) kinds.Comment kind h.1).1).1;
+  facts = past outside indent rest kinds.Indent kind3 (past outside newline (indent ∷ rest) kinds.Eol kind2 (past outside comment (newline ∷ indent ∷ rest) kinds.Comment kind h.2).2).2;
   body = past_indent indent rest kind3
       (past_walked IsHeader header_after newline (indent ∷ rest) kinds.Eol kind2 refl (past_walked IsHeader header_after comment (newline ∷ indent ∷ rest) kinds.Comment kind refl w));
 }
@@ -192,11 +127,11 @@ record BlockGood (name : List ℕ) (body : List Row) (rest : List SignificantTok
   last : pale_behind body ≡ true → NextIs (λ k. k ≡ kinds.Eof) rest
   behind : Ahead false rest
 
-block_good : (name colon : SignificantToken) {lines : List Row} {tokens body rest : List SignificantToken} → IsKind kinds.Identifier name → IsKind kinds.Colon colon → BeforeBody tokens body → LinesOf lines body rest → NotEmpty (trimmed lines)
+block_good : {ns : Shown} (name colon : SignificantToken) {lines : List Row} {tokens body rest : List SignificantToken} → IsKind kinds.Identifier name → IsKind kinds.Colon colon → BeforeBody tokens body → LinesOf lines ns body rest → NotEmpty (trimmed lines)
     → (c : Bool) → Ahead c (name ∷ colon ∷ tokens) → printable_body (trimmed lines) ≡ true → BlockGood name.tok.lexeme (trimmed lines) rest
 block_good name colon {lines} {tokens} kind kind2 before read some c h p =
     let on = past_token name (colon ∷ tokens) kinds.Identifier kind refl refl h in
-    let start = before_body before (past outside colon tokens kinds.Colon kind2 on.facts.1) (past_colon colon tokens kind2 on.bodies) in
+    let start = before_body before (past outside colon tokens kinds.Colon kind2 on.facts.2) (past_colon colon tokens kind2 on.bodies) in
     let parts = all_parts_good read start.facts in
     let body = body_read true read start.body parts.parts (sym (trimmed_printable lines) ∙ p) in
     record {
@@ -242,7 +177,7 @@ start_block name [] items some good more = absurd some
 start_block name (l ∷ ls) items some good more = (good, more)
 
 -- no item is before the end of the file
-file_ended : {items : Shape} {ts : List SignificantToken} → Items lexeme nothing nothing Limited items ts → NextIs (λ k. k ≡ kinds.Eof) ts → items ≡ []
+file_ended : {items : Shape} {ns : Shown} {ts : List SignificantToken} → Items lexeme nothing nothing Limited items ns ts → NextIs (λ k. k ≡ kinds.Eof) ts → items ≡ []
 file_ended (g.end kind) e = refl
 file_ended (g.blank kind more) e = let bad : kinds.Eol ≡ kinds.Eof = sym kind ∙ e in cc
 file_ended (g.item (g.comment kind) more) e = let bad : kinds.Comment ≡ kinds.Eof = sym kind ∙ e in cc
@@ -258,14 +193,14 @@ trailing_good t items true kind h e = absurd (h.apart refl refl kind)
 trailing_good t items false kind h e = (lexed_comment t kind h, e)
 
 mutual
-  items_good : {items : Shape} {ts : List SignificantToken} → Items lexeme nothing nothing Limited items ts → (c : Bool) → Ahead c ts → printable items ≡ true → AtStart (normal_rest items)
+  items_good : {items : Shape} {ns : Shown} {ts : List SignificantToken} → Items lexeme nothing nothing Limited items ns ts → (c : Bool) → Ahead c ts → printable items ≡ true → AtStart (normal_rest items)
   items_good (g.end kind) c h p = tt
   items_good (g.blank {items = items} {token = t} {rest = rest} kind more) c h p = start_behind_newline (normal_rest items) (items_good more false (past_token t rest kinds.Eol kind refl refl h) p)
   items_good (g.item (g.comment {token = t} {rest = rest} kind) more) c h p = (lexed_comment t kind h.facts.0, behind_good more true (past_token t rest kinds.Comment kind refl refl h) p)
   items_good (g.item (g.assignment {name = name} {operator = operator} {tokens = tokens} kind kind2 x) more) c h p =
       let on = past_token operator tokens kinds.ColonEquals kind2 refl refl (past_token name (operator ∷ tokens) kinds.Identifier kind refl refl h) in
-      let v = good_value x outside false on.facts in
-      (lexed_name name kind h.facts.0, good_expression v, behind_good more false (record { facts = v.behind; bodies = walk_outside x on.bodies }) p)
+      let v = value_at Limited x outside false on.facts in
+      (lexed_name name kind h.facts.0, good_expression x v, behind_good more false (record { facts = v.behind; bodies = walk_outside x on.bodies }) p)
   items_good (g.item (g.header {name = name} {colon = colon} {rest = rest} kind kind2) more) c h p =
       (lexed_name name kind h.facts.0, behind_good more false (past_token colon rest kinds.Colon kind2 refl refl (past_token name (colon ∷ rest) kinds.Identifier kind refl refl h)) p)
   items_good (g.block {items = items} {rest = rest} (g.recipe {lines = lines} {name = name} {colon = colon} kind kind2 before read some) more) c h p =
@@ -274,11 +209,11 @@ mutual
       start_block name.tok.lexeme (trimmed lines) (behind_newline (normal_rest items)) b.some b.good
       (body_behind_newline (trimmed lines) items (λ pale. file_ended more (b.last pale)) (items_good more false b.behind parts.1))
 
-  behind_good : {items : Shape} {ts : List SignificantToken} → Behind lexeme nothing nothing Limited items ts → (c : Bool) → Ahead c ts → printable items ≡ true → After c (normal_rest items)
+  behind_good : {items : Shape} {ns : Shown} {ts : List SignificantToken} → Behind lexeme nothing nothing Limited items ns ts → (c : Bool) → Ahead c ts → printable items ≡ true → After c (normal_rest items)
   behind_good (g.trailing {items = items} {token = t} {rest = rest} kind e) c h p = trailing_good t items c kind h.facts.0 (line_end_good e true (past_token t rest kinds.Comment kind refl refl h) p)
   behind_good (g.bare {items = items} e) c h p = after_end c (normal_rest items) (line_end_good e c h p)
 
-  line_end_good : {items : Shape} {ts : List SignificantToken} → LineEnd lexeme nothing nothing Limited items ts → (c : Bool) → Ahead c ts → printable items ≡ true → AtEnd (normal_rest items)
+  line_end_good : {items : Shape} {ns : Shown} {ts : List SignificantToken} → LineEnd lexeme nothing nothing Limited items ns ts → (c : Bool) → Ahead c ts → printable items ≡ true → AtEnd (normal_rest items)
   line_end_good (g.line_end {items = items} {token = t} {rest = rest} kind more) c h p = end_behind_newline (normal_rest items) (items_good more false (past_token t rest kinds.Eol kind refl refl h) p)
   line_end_good (g.file_end kind) c h p = tt
 
@@ -287,9 +222,9 @@ normal_good [] h = tt
 normal_good (i ∷ shape) h = h
 
 -- the normal shape of a file
-pub file_good : {shape : Shape} {ts : List SignificantToken} → File lexeme nothing nothing Limited shape ts → Sound outside false ts → BodySound no_body ts → printable shape ≡ true → AtStart (normal shape)
-file_good {shape} {ts} file s b p = normal_good shape (by file (record { facts = s; bodies = record { outline = no_body; is = outside_first; sound = b } }) p)
+pub file_good : {shape : Shape} {ns : Shown} {ts : List SignificantToken} → File lexeme nothing nothing Limited shape ns ts → Sound outside false ts → BodySound no_body ts → printable shape ≡ true → AtStart (normal shape)
+file_good {shape} {ts = ts} file s b p = normal_good shape (by file (record { facts = s; bodies = record { outline = no_body; is = outside_first; sound = b } }) p)
   where
-    by : {shape : Shape} {ts : List SignificantToken} → File lexeme nothing nothing Limited shape ts → Ahead false ts → printable shape ≡ true → AtStart (normal_rest shape)
+    by : {shape : Shape} {ns : Shown} {ts : List SignificantToken} → File lexeme nothing nothing Limited shape ns ts → Ahead false ts → printable shape ≡ true → AtStart (normal_rest shape)
     by (g.marked {token = t} {rest = rest} kind more) h p = items_good more false (past_token t rest kinds.ByteOrderMark kind refl refl h) p
     by (g.unmarked more) h p = items_good more false h p

@@ -7,6 +7,7 @@ ghost use Rattle.justfile_base.specs.declared.string_kind.StringKind.{StringKind
 ghost use Rattle.justfile_base.specs.declared.token_kind.TokenKind.TheVariants.{StringToken};
 ghost use Rattle.justfile_base.specs.StringKind.{is_quote};
 ghost use Rattle.justfile_model.specs.Bytes.{is_interpolation_start};
+ghost use Rattle.justfile_model.specs.Features.{Noted};
 ghost use Rattle.justfile_model.specs.Files.{VersionNumbers};
 ghost use Rattle.justfile_model.specs.LiteralText.{raw_len};
 ghost use Rattle.justfile_model.specs.Literals.{Answers};
@@ -14,20 +15,22 @@ ghost use Rattle.justfile_model.specs.Modes.{Mode};
 ghost use Rattle.justfile_model.specs.Next.{literal};
 ghost use Rattle.justfile_model.specs.NormalShape.{normal};
 ghost use Rattle.justfile_model.specs.Printing.{printable};
+ghost use Rattle.justfile_model.specs.Tok.{Tok};
 ghost use Rattle.justfile_model.specs.Tree.{Tree, Shape, shape_of};
 ghost use Rattle.justfile_model.specs.declared.raw_text.RawText.TheVariants.{Literal};
 ghost use Rattle.justfile_canon.specs.LiteralModes.{before_start, has_no_start};
 ghost use Rattle.justfile_canon.specs.RoundTrip.{TextDerives, ReadsBack, printed};
 
 /// What is printed of a printable shape of any text derives the normal form of that shape, with the
-/// same texts of literals, as many bindings and as many recipes. Two such shapes are printed alike,
+/// same features but for their places, the same texts of literals, as many bindings and as many
+/// recipes. Two such shapes are printed alike,
 /// at one indentation, exactly if their normal forms are equal. What is printed of the printed text
 /// is the same text.
 pub fn reads_back()
-    ensures back { (expander : Answers) (current : VersionNumbers) (source : List ℕ) (tree : Tree) (indentation : List ℕ) → IsIndentation indentation → TextDerives expander current source tree → printable (shape_of tree) ≡ true → ReadsBack expander current (shape_of tree) indentation (printed (shape_of tree) indentation) }
+    ensures back { (expander : Answers) (current : VersionNumbers) (source : List ℕ) (tree : Tree) (features : List (Noted Tok)) (indentation : List ℕ) → IsIndentation indentation → TextDerives expander current source tree features → printable (shape_of tree) ≡ true → ReadsBack expander current (shape_of tree) features indentation (printed (shape_of tree) indentation) }
     ensures alike { (shape other : Shape) (indentation : List ℕ) → normal shape ≡ normal other → printed shape indentation ≡ printed other indentation }
-    ensures apart { (expander : Answers) (current : VersionNumbers) (source other : List ℕ) (tree twin : Tree) (indentation : List ℕ) → IsIndentation indentation → TextDerives expander current source tree → TextDerives expander current other twin → printable (shape_of tree) ≡ true → printable (shape_of twin) ≡ true → printed (shape_of tree) indentation ≡ printed (shape_of twin) indentation → normal (shape_of tree) ≡ normal (shape_of twin) }
-    ensures fixed { (expander : Answers) (current : VersionNumbers) (source : List ℕ) (tree again : Tree) (indentation : List ℕ) → IsIndentation indentation → TextDerives expander current source tree → printable (shape_of tree) ≡ true → TextDerives expander current (printed (shape_of tree) indentation) again → printed (shape_of again) indentation ≡ printed (shape_of tree) indentation }
+    ensures apart { (expander : Answers) (current : VersionNumbers) (source other : List ℕ) (tree twin : Tree) (features others : List (Noted Tok)) (indentation : List ℕ) → IsIndentation indentation → TextDerives expander current source tree features → TextDerives expander current other twin others → printable (shape_of tree) ≡ true → printable (shape_of twin) ≡ true → printed (shape_of tree) indentation ≡ printed (shape_of twin) indentation → normal (shape_of tree) ≡ normal (shape_of twin) }
+    ensures fixed { (expander : Answers) (current : VersionNumbers) (source : List ℕ) (tree again : Tree) (features found : List (Noted Tok)) (indentation : List ℕ) → IsIndentation indentation → TextDerives expander current source tree features → printable (shape_of tree) ≡ true → TextDerives expander current (printed (shape_of tree) indentation) again found → printed (shape_of again) indentation ≡ printed (shape_of tree) indentation }
     ensures stays_printable { (shape : Shape) → printable (normal shape) ≡ printable shape }
 {}
 

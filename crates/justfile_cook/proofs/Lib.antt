@@ -1,3 +1,4 @@
+pub mod Braces
 pub mod Complete
 pub mod Digits
 pub mod DigitTexts

@@ -7,44 +7,45 @@ use Rattle.justfile_base.specs.declared.fault.Fault.{Fault}
 use Rattle.justfile_base.specs.declared.fault.Fault.TheVariants.{Compile, Memory, Numbers}
 use Rattle.justfile_base.specs.declared.string_kind.StringKind.{StringKind}
 use Rattle.justfile_base.specs.declared.token.Token.{Token}
-use Rattle.justfile_base.specs.StringKind.{escapes, kind_of}
+use Rattle.justfile_base.specs.StringKind.{escapes}
 use Rattle.justfile_model.specs.Cook.{Cooks, IsCookFault}
 use Rattle.justfile_model.specs.FirstPiece as pieces
-use Rattle.justfile_model.specs.Literals.{Escape, by_escapes, escaped, flush_text, string_text}
-use Rattle.justfile_cook.specs.Literal.{IsTextFault, is_quoted_by}
+use Rattle.justfile_model.specs.Literals.{Escape, by_escapes, escaped}
+use Rattle.justfile_cook.specs.Literal.{IsTextFault, is_framed}
 use Rattle.justfile_cook.proofs.Texts.{cooked_complete, fault_complete}
 
-pub record IsQuotedBy (n : ℕ) (lexeme : List ℕ) : Type 0 where
-  pub long : n + n ≤ length lexeme
-  pub before : slice_index lexeme (n - 1) < 128
-  pub behind : slice_index lexeme (length lexeme - n) < 128
+-- so many bytes at the two ends leave a text, with a byte of ASCII on either side of it
+pub record IsFramed (front end : ℕ) (lexeme : List ℕ) : Type 0 where
+  pub long : front + end ≤ length lexeme
+  pub before : slice_index lexeme (front - 1) < 128
+  pub behind : slice_index lexeme (length lexeme - end) < 128
 
-pub quoted_is : (n : ℕ) (lexeme : List ℕ) → IsTrue (is_quoted_by n lexeme) → IsQuotedBy n lexeme
-quoted_is n lexeme h = record { long = grind (arith, nat_tests); before = grind (arith, nat_tests); behind = grind (arith, nat_tests) }
+pub framed_is : (front end : ℕ) (lexeme : List ℕ) → IsTrue (is_framed front end lexeme) → IsFramed front end lexeme
+framed_is front end lexeme h = record { long = grind (arith, nat_tests); before = grind (arith, nat_tests); behind = grind (arith, nat_tests) }
 
 -- a character begins behind the opening delimiter
-pub begins : (n : ℕ) (lexeme : List ℕ) → IsUtf8 lexeme → 0 < n → IsTrue (is_quoted_by n lexeme) → IsCharBoundary lexeme n
-begins n lexeme u some h =
-    let q = quoted_is n lexeme h in
-    let at : n - 1 + 1 ≡ n = omega (arith, some) in
-    subst (IsCharBoundary lexeme) at (IsCharBoundary-after_ascii lexeme (n - 1) u (omega (arith, some, q.long)) q.before)
+pub begins : (front end : ℕ) (lexeme : List ℕ) → IsUtf8 lexeme → 0 < front → IsTrue (is_framed front end lexeme) → IsCharBoundary lexeme front
+begins front end lexeme u some h =
+    let f = framed_is front end lexeme h in
+    let at : front - 1 + 1 ≡ front = omega (arith, some) in
+    subst (IsCharBoundary lexeme) at (IsCharBoundary-after_ascii lexeme (front - 1) u (omega (arith, some, f.long)) f.before)
 
 -- with escapes, the text is the cooked one
 by_pieces : (kind : StringKind) (text : List ℕ) → escapes kind.delimiter ≡ true → escaped kind text ≡ by_escapes (pieces.cooked_text text)
 by_pieces kind text e = ap (λ (b : Bool). if b then by_escapes (pieces.cooked_text text) else Ok text) e
 
-string_is : (lexeme text : List ℕ) → escapes (kind_of lexeme).delimiter ≡ true → text ≡ flush_text lexeme → string_text lexeme ≡ by_escapes (pieces.cooked_text text)
-string_is lexeme text e flush = ap (escaped (kind_of lexeme)) (sym flush) ∙ by_pieces (kind_of lexeme) text e
+string_is : (kind : StringKind) (raw text : List ℕ) → escapes kind.delimiter ≡ true → text ≡ raw → escaped kind raw ≡ by_escapes (pieces.cooked_text text)
+string_is kind raw text e same = ap (escaped kind) (sym same) ∙ by_pieces kind text e
 
-pub cooked_string : (lexeme text cooked : List ℕ) → IsUtf8 text → escapes (kind_of lexeme).delimiter ≡ true → text ≡ flush_text lexeme → Cooks text cooked → string_text lexeme ≡ Ok cooked
-cooked_string lexeme text cooked u e flush c = string_is lexeme text e flush ∙ ap by_escapes (cooked_complete text cooked u c)
+pub cooked_string : (kind : StringKind) (raw text cooked : List ℕ) → IsUtf8 text → escapes kind.delimiter ≡ true → text ≡ raw → Cooks text cooked → escaped kind raw ≡ Ok cooked
+cooked_string kind raw text cooked u e same c = string_is kind raw text e same ∙ ap by_escapes (cooked_complete text cooked u c)
 
-pub refused_string : (lexeme text : List ℕ) (token : Token) (fault : Fault) → IsUtf8 text → escapes (kind_of lexeme).delimiter ≡ true → text ≡ flush_text lexeme → IsCookFault text token fault → IsTextFault (string_text lexeme) token fault
-refused_string lexeme text token (Compile error) u e flush c = record {
+pub refused_string : (kind : StringKind) (raw text : List ℕ) (token : Token) (fault : Fault) → IsUtf8 text → escapes kind.delimiter ≡ true → text ≡ raw → IsCookFault text token fault → IsTextFault (escaped kind raw) token fault
+refused_string kind raw text token (Compile error) u e same c = record {
   fault = Escape c.fault;
-  text_is = string_is lexeme text e flush ∙ ap by_escapes (fault_complete text c.fault u c.refused);
+  text_is = string_is kind raw text e same ∙ ap by_escapes (fault_complete text c.fault u c.refused);
   kind_is = c.kind_is;
   token_is = c.token_is;
 }
-refused_string lexeme text token Memory u e flush c = tt
-refused_string lexeme text token Numbers u e flush c = elim c [ ]
+refused_string kind raw text token Memory u e same c = tt
+refused_string kind raw text token Numbers u e same c = elim c [ ]

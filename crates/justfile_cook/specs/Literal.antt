@@ -7,10 +7,13 @@ use Rattle.justfile_base.specs.declared.compile_error_kind.CompileErrorKind.{Com
 use Rattle.justfile_base.specs.declared.compile_error_kind.CompileErrorKind.TheVariants as kinds
 use Rattle.justfile_base.specs.declared.fault.Fault.{Fault}
 use Rattle.justfile_base.specs.declared.fault.Fault.TheVariants.{Compile, Memory, Numbers}
+use Rattle.justfile_base.specs.declared.format_string_part.FormatStringPart.{FormatStringPart}
+use Rattle.justfile_base.specs.declared.format_string_part.FormatStringPart.TheVariants.{Continue, End, Single, Start}
+use Rattle.justfile_base.specs.declared.string_kind.StringKind.{StringKind}
 use Rattle.justfile_base.specs.declared.string_literal.StringLiteral.{StringLiteral}
 use Rattle.justfile_base.specs.declared.token.Token.{Token}
 use Rattle.justfile_model.specs.EscapeFault.{escape_fault_of}
-use Rattle.justfile_model.specs.Literals.{Answers, Literal, Plain, Expanded, LiteralFault, Escape, Refused, Unasked, Shebang, cooked_text}
+use Rattle.justfile_model.specs.Literals.{Answers, Literal, Plain, Expanded, LiteralFault, Escape, Refused, Unasked, Shebang, cooked_text, part_text, between}
 
 -- so many bytes at each end leave a text, with a byte of ASCII on either side of it
 abbrev pub is_quoted_by : ℕ → List ℕ → Bool
@@ -61,3 +64,37 @@ pub record IsStringOf (expander : Answers) (token : Token) (expand : Bool) (lite
   pub expand_is : literal.expand ≡ expand
   pub kind : literal.kind ≡ kind_of (lexeme_of token)
   pub part : literal.part ≡ None
+
+-- how many bytes stand before the text of a part of a format string: its delimiter, or `}}`
+abbrev pub front_len : StringKind → FormatStringPart → ℕ
+front_len kind Continue = 2
+front_len kind End = 2
+front_len kind Single = delimiter_len kind
+front_len kind Start = delimiter_len kind
+
+-- and behind it: the delimiter, or `{{`
+abbrev pub end_len : StringKind → FormatStringPart → ℕ
+end_len kind Continue = 2
+end_len kind End = delimiter_len kind
+end_len kind Single = delimiter_len kind
+end_len kind Start = 2
+
+-- so many bytes at the two ends leave a text, with a byte of ASCII on either side of it
+abbrev pub is_framed : (front end : ℕ) → List ℕ → Bool
+is_framed front end lexeme = nat_le (front + end) (length lexeme) && nat_lt (slice_index lexeme (front - 1)) 128 && nat_lt (slice_index lexeme (length lexeme - end)) 128
+
+-- the token is such a part of a format string of this kind
+abbrev pub is_part : StringKind → FormatStringPart → List ℕ → Bool
+is_part kind part = is_framed (front_len kind part) (end_len kind part)
+
+-- the text of a part
+abbrev pub format_text : StringKind → FormatStringPart → List ℕ → Result (List ℕ) LiteralFault
+format_text kind part lexeme = part_text kind (between (front_len kind part) (end_len kind part) lexeme)
+
+-- the token as a part of a format string
+pub record IsPartOf (kind : StringKind) (part : FormatStringPart) (token : Token) (literal : StringLiteral) : Type 0 where
+  pub token_is : literal.token ≡ token
+  pub cooked : format_text kind part (lexeme_of token) ≡ Ok (string_bytes literal.cooked)
+  pub expand_is : literal.expand ≡ false
+  pub kind_is : literal.kind ≡ kind
+  pub part_is : literal.part ≡ Some part

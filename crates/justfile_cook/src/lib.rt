@@ -5,6 +5,7 @@ pub mod cook;
 mod escape;
 mod escape_fault;
 pub mod examples;
+pub mod format;
 pub mod laws;
 pub mod literal;
 #[cfg(test)]
@@ -12,4 +13,5 @@ mod tests;
 pub mod unindent;
 
 pub use crate::cook::cook_string;
+pub use crate::format::format_part;
 pub use crate::literal::{command, string_literal};

@@ -1,3 +1,4 @@
 mod cook;
+mod format;
 mod literal;
 mod unindent;

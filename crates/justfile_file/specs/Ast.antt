@@ -1,7 +1,11 @@
 -- What the definitions see of a file.
 use Rattle.std.specs.Prelude.{ℕ, List, map}
 use Rattle.std.specs.List.{flat_map}
+use Rattle.justfile_base.specs.declared.token.Token.{Token}
+use Rattle.justfile_model.specs.Features.{Noted}
+use Rattle.justfile_model.specs.Tok.{Tok, tok_of}
 use Rattle.justfile_model.specs.Tree.{Tree, Shape, shape_of}
+use Rattle.justfile_model.specs.declared.list_feature.ListFeature.{ListFeature}
 use Rattle.justfile_file.specs.declared.ast.Ast.{Ast}
 use Rattle.justfile_file.specs.Item.{item_of, item_cooked, item_numbers, item_recipe_numbers}
 
@@ -11,6 +15,13 @@ tree_of ast = map item_of ast.items.items
 -- its tree without places
 abbrev pub ast_shape : Ast → Shape
 ast_shape ast = shape_of (tree_of ast)
+
+abbrev pub noted_of : ListFeature × Token → Noted Tok
+noted_of x = record { feature = x.0; at = tok_of x.1 }
+
+-- what it uses that needs the setting for lists, in order
+abbrev pub features_of : Ast → List (Noted Tok)
+features_of ast = map noted_of ast.list_features.items
 
 -- the texts of its literals, in order
 abbrev pub cooked_texts : Ast → List (List ℕ)

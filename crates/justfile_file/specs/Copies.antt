@@ -54,6 +54,7 @@ IsSameItem _ _ = ⊥
 -- the same file, in memory of its own
 pub record IsSameAst (copy original : Ast) : Type 0 where
   pub items : AllZip IsSameItem copy.items.items original.items.items
+  pub list_features : copy.list_features.items ≡ original.list_features.items
   pub module_path : names_of copy.module_path ≡ names_of original.module_path
   pub unstable_features : original.unstable_features.keys ≡ copy.unstable_features.keys
   pub working_directory : string_bytes copy.working_directory ≡ string_bytes original.working_directory

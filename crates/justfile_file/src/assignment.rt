@@ -41,7 +41,7 @@ pub(crate) fn write_assignment<S: Sink>(
     Ok(())
 }
 
-impl fmt::Display for Binding<'_, Expression<'_>> {
+impl<'src> fmt::Display for Binding<'src, Expression<'src>> {
     ghost use Rattle.std.specs.Prelude.{Some};
 
     ghost output = { λ assignment. Some (assignment_text assignment) };

@@ -12,8 +12,8 @@ ghost use Rattle.justfile_file.specs.declared.gap.Gap.TheVariants.{Start};
 
 use crate::gap::Gap;
 use crate::item::{Item, write_step};
-use justfile_base::{Indentation, Modulepath, UnstableFeature};
-use justfile_tree::Sink;
+use justfile_base::{Indentation, Modulepath, Token, UnstableFeature};
+use justfile_tree::{ListFeature, Sink};
 use std::alloc::{AllocError, Global};
 use std::collections::BTreeSet;
 
@@ -21,6 +21,8 @@ use std::collections::BTreeSet;
 #[derive(Debug, Drop)]
 pub struct Ast<'src> {
     pub items: Vec<Item<'src>>,
+    /// What the file uses that only a justfile with lists may, each with its token, in order.
+    pub list_features: Vec<(ListFeature, Token<'src>)>,
     /// The names of the modules that the file lies in.
     pub module_path: Modulepath,
     /// What the file uses that only an unstable justfile may.
@@ -53,6 +55,7 @@ impl<'src> Ast<'src> {
     {
         Ok(Ast {
             items: copied(alloc, &self.items)?,
+            list_features: self.list_features.as_slice().to_vec(alloc)?,
             module_path: self.module_path.clone(alloc)?,
             unstable_features: self.unstable_features.clone()?,
             working_directory: self.working_directory.as_str().to_string(alloc)?,

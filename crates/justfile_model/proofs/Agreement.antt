@@ -1,52 +1,72 @@
 -- The reader and the grammar agree.
-use Rattle.std.proofs.Common.{◌≡◌, ℕ, List, map, Result, Ok, Err, sym, subst, ◌∙◌}
+use Rattle.std.proofs.Common.{◌≡◌, ◌⊎◌, ℕ, Bool, IsTrue, List, map, Option, Result, Ok, Err, sym, ap, ◌∙◌, inl, inr}
 use Rattle.justfile_model.specs.SignificantTokens.{SignificantToken}
 use Rattle.justfile_model.specs.Tok.{Tok}
 use Rattle.justfile_model.specs.Tree.{Tree, lexeme, itself, line_of}
+use Rattle.justfile_model.specs.Features.{Noted}
+use Rattle.justfile_model.specs.Expressions.{Tokens, Limited, Free, Waived}
+use Rattle.justfile_model.specs.Grammar.{File}
 use Rattle.justfile_model.specs.Literals.{Literal, over_literal, Answers, Cooks}
 use Rattle.justfile_model.specs.Files.{VersionNumbers, literals, FileTree, FileDerives}
-use Rattle.justfile_model.specs.Reader.{Refusal, file}
-use Rattle.justfile_model.specs.Refusals.{LacksText, RefusesLiteral}
+use Rattle.justfile_model.specs.Reading.{Refusal, TooDeep}
+use Rattle.justfile_model.specs.Reader.{file}
+use Rattle.justfile_model.specs.Refusals.{IsDue}
 use Rattle.justfile_model.proofs.CookedTexts.{AllCook, all_cook, texts_of}
-use Rattle.justfile_model.proofs.Complete.{lacks_none, Reaches, is_read, is_refused, file_reached}
-use Rattle.justfile_model.proofs.Depth.{file_limited}
-use Rattle.justfile_model.proofs.Sound.{IsWhole, File, file_sound}
-use Rattle.justfile_model.proofs.Steps.{known}
+use Rattle.justfile_model.proofs.Complete.{file_reached}
+use Rattle.justfile_model.proofs.Depth.{file_loosened}
+use Rattle.justfile_model.proofs.Reaching.{Reaches, is_read, is_refused, lacks_none, only_read, only_due, kept, dropped}
+use Rattle.justfile_model.proofs.Sound.{file_at}
 
-ok_inside : (a b : Tree) → ◌≡◌ {A = Result Tree Refusal} (Ok a) (Ok b) → a ≡ b
+ok_inside : (a b : Tree × List (Noted Tok)) → ◌≡◌ {A = Result (Tree × List (Noted Tok)) Refusal} (Ok a) (Ok b) → a ≡ b
 ok_inside a b h = cc
 
-err_inside : (a b : Refusal) → ◌≡◌ {A = Result Tree Refusal} (Err a) (Err b) → a ≡ b
-err_inside a b h = cc
-
 module _ (expander : Answers) where
-  -- it is read where each literal has a text
-  reached_read : (found : Result Tree Refusal) (tree : Tree) (ls : List (Literal Tok)) → AllCook expander ls → Reaches expander found tree ls → found ≡ Ok tree
-  reached_read found tree ls a (is_read b is) = is
-  reached_read found tree ls a (is_refused h is) = absurd (lacks_none expander ls _ a h)
+  module _ (current : VersionNumbers) (tokens : Tokens) where
+    pub sound : (tree : Tree) (features : List (Noted Tok)) → file expander tokens ≡ Ok (tree, features) → FileDerives expander current tokens tree features
+    sound tree features is =
+        let found = file_at expander tokens (tree, features) is in
+        let texts = texts_of expander (literals tree) found.cooks in
+        record { derives = found.derives; cooked = texts.0; cooks = texts.1 }
 
-  -- it is refused only where one has none
-  reached_refused : (found : Result Tree Refusal) (tree : Tree) (ls : List (Literal Tok)) (r : Refusal) → found ≡ Err r → Reaches expander found tree ls → LacksText expander ls r
-  reached_refused found tree ls r e (is_read a is) = cc
-  reached_refused found tree ls r e (is_refused {r = s} h is) = subst (LacksText expander ls) (err_inside s r (sym is ∙ e)) h
+    pub complete : (tree : Tree) (features : List (Noted Tok)) → FileDerives expander current tokens tree features → file expander tokens ≡ Ok (tree, features)
+    complete tree features h =
+        only_read expander (all_cook expander (literals tree) h.cooked h.cooks)
+        (file_reached expander (λ at. ⊥) (file_loosened Limited (Waived (λ at. ⊥)) kept itself itself line_of h.derives))
 
-  module _ (current : VersionNumbers) (tokens : List SignificantToken) where
-    pub sound : (tree : Tree) → file expander tokens ≡ Ok tree → FileDerives expander current tokens tree
-    sound tree is =
-        let found = known tree (IsWhole expander File tokens) is (file_sound expander tokens) in
-        let texts = texts_of expander (literals tree) found.1 in
-        record { derives = found.0; cooked = texts.0; cooks = texts.1 }
+    pub one_tree : (tree other : Tree) (features others : List (Noted Tok)) → FileDerives expander current tokens tree features → FileDerives expander current tokens other others → (tree ≡ other) × (features ≡ others)
+    one_tree tree other features others h q =
+        let same = ok_inside (tree, features) (other, others) (sym (complete tree features h) ∙ complete other others q) in
+        (ap (λ p. p.0) same, ap (λ p. p.1) same)
 
-    pub complete : (tree : Tree) → FileDerives expander current tokens tree → file expander tokens ≡ Ok tree
-    complete tree h = reached_read (file expander tokens) tree (literals tree) (all_cook expander (literals tree) h.cooked h.cooks) (file_reached expander h.derives)
+  -- it is read where each literal has a text, or too deep at a token where the limit is waived
+  read_or_deep : (Hit : Option SignificantToken → Type 0) (found : Result (Tree × List (Noted Tok)) Refusal) (x : Tree × List (Noted Tok)) (ls : List (Literal Tok)) → AllCook expander ls → Reaches expander Hit found x ls
+      → (found ≡ Ok x) ⊎ ((at : Option SignificantToken) × Hit at × (found ≡ Err (TooDeep at)))
+  read_or_deep Hit found x ls a (is_read b is) = inl is
+  read_or_deep Hit found x ls a (is_refused (inl h) is) = absurd (lacks_none expander ls _ a h)
+  read_or_deep Hit found x ls a (is_refused (inr h) is) = inr (h.token, h.hit, is ∙ ap (λ r. Err r) h.refusal_is)
 
-    pub one_tree : (tree other : Tree) → FileDerives expander current tokens tree → FileDerives expander current tokens other → tree ≡ other
-    one_tree tree other h q = ok_inside tree other (sym (complete tree h) ∙ complete other q)
+  module _ (tokens : Tokens) (tree : Tree) (features : List (Noted Tok)) where
+    -- where the limit is waived at some tokens
+    module _ (Hit : Option SignificantToken → Bool) (h : File itself itself line_of (Waived (λ at. IsTrue (Hit at))) tree features tokens) where
+      pub deep : (cooked : List (List ℕ)) → Cooks expander (map (over_literal lexeme) (literals tree)) cooked
+          → (file expander tokens ≡ Ok (tree, features)) ⊎ ((at : Option SignificantToken) × IsTrue (Hit at) × (file expander tokens ≡ Err (TooDeep at)))
+      deep cooked cooks = read_or_deep (λ at. IsTrue (Hit at)) (file expander tokens) (tree, features) (literals tree) (all_cook expander (literals tree) cooked cooks) (file_reached expander (λ at. IsTrue (Hit at)) h)
 
-  module _ (tokens : List SignificantToken) (tree : Tree) where
-    -- without the limit of depth
-    pub free : (cooked : List (List ℕ)) → FileTree tokens tree → Cooks expander (map (over_literal lexeme) (literals tree)) cooked → file expander tokens ≡ Ok tree
-    free cooked h cooks = reached_read (file expander tokens) tree (literals tree) (all_cook expander (literals tree) cooked cooks) (file_reached expander (file_limited itself itself line_of h))
+      pub due : (r : Refusal) → file expander tokens ≡ Err r → IsDue expander (λ at. IsTrue (Hit at)) (literals tree) r
+      due r is = only_due expander (λ at. IsTrue (Hit at)) is (file_reached expander (λ at. IsTrue (Hit at)) h)
 
-    pub refused : FileTree tokens tree → (r : Refusal) → file expander tokens ≡ Err r → RefusesLiteral expander tree r
-    refused h r is = reached_refused (file expander tokens) tree (literals tree) r is (file_reached expander (file_limited itself itself line_of h))
+    -- without a limit
+    free_found : FileTree tokens tree features → Reaches expander (λ at. Unit {0}) (file expander tokens) (tree, features) (literals tree)
+    free_found h = file_reached expander (λ at. Unit {0}) (file_loosened Free (Waived (λ at. Unit {0})) dropped itself itself line_of h)
+
+    pub free : (cooked : List (List ℕ)) → FileTree tokens tree features → Cooks expander (map (over_literal lexeme) (literals tree)) cooked
+        → (file expander tokens ≡ Ok (tree, features)) ⊎ ((at : Option SignificantToken) × (file expander tokens ≡ Err (TooDeep at)))
+    free cooked h cooks = without (read_or_deep (λ at. Unit {0}) (file expander tokens) (tree, features) (literals tree) (all_cook expander (literals tree) cooked cooks) (free_found h))
+      where
+        without : (file expander tokens ≡ Ok (tree, features)) ⊎ ((at : Option SignificantToken) × Unit {0} × (file expander tokens ≡ Err (TooDeep at)))
+            → (file expander tokens ≡ Ok (tree, features)) ⊎ ((at : Option SignificantToken) × (file expander tokens ≡ Err (TooDeep at)))
+        without (inl is) = inl is
+        without (inr x) = inr (x.0, x.2)
+
+    pub refused : FileTree tokens tree features → (r : Refusal) → file expander tokens ≡ Err r → IsDue expander (λ at. Unit {0}) (literals tree) r
+    refused h r is = only_due expander (λ at. Unit {0}) is (free_found h)

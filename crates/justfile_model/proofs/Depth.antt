@@ -1,55 +1,65 @@
--- No expression stands in another yet, so that the limit of depth is never met.
-use Rattle.std.proofs.Common.{ℕ, List, ◌<◌, arith}
+-- What derives where few expressions may be open derives where more may be.
+use Rattle.std.proofs.Common.{◌≡◌, ℕ, ◌≤◌, Bool, List, Option, sym, subst, ap, ◌∙◌, arith}
 use Rattle.justfile_model.specs.Tok.{Tok}
 use Rattle.justfile_model.specs.SignificantTokens.{SignificantToken}
-use Rattle.justfile_model.specs.Tree.{Expr, Fragment, BodyLine, Item}
-use Rattle.justfile_model.specs.Grammar as g
-use Rattle.justfile_model.specs.Grammar.{Value, Expression, LineRest, BodyLines, OnLine, Block, Items, Behind, LineEnd, File, Free, Limited}
+use Rattle.justfile_model.specs.Tree.{Expr, Item, Tree, itself, line_of}
+use Rattle.justfile_model.specs.Features.{Noted}
+use Rattle.justfile_model.specs.Expressions.{Tokens, front, Expression, Under, Limited, Free}
+use Rattle.justfile_model.specs.Grammar.{File}
+use Rattle.justfile_model.specs.Files.{FileTree}
+use Rattle.justfile_model.proofs.CarryExpressions as expressions
+use Rattle.justfile_model.proofs.CarryExpressions.{Pairs}
+use Rattle.justfile_model.proofs.Carry as c
+use Rattle.justfile_model.proofs.Leaves.{same_leaf, expr_itself, items_itself, noted_itself, equal_pairs, pairs_equal, equal_same}
 
-module _ {A B C : Type 0} (leaf : Tok → A) (spot : Tok → B) (number : Tok → C) where
-  value_limited : {depth : ℕ} {e : Expr A B} {ts rest : List SignificantToken} → Value leaf spot Free depth e ts rest → Value leaf spot Limited depth e ts rest
-  value_limited (g.literal kind) = g.literal kind
-  value_limited (g.expanded e) = g.expanded e
-  value_limited (g.backtick kind) = g.backtick kind
-  value_limited (g.variable kind not_if not_assert unmarked) = g.variable kind not_if not_assert unmarked
+-- what is kept of a token is the same of the same token
+kept_same : {X : Type 0} (keep : Tok → X) (t u : SignificantToken) → t ≡ u → keep u.tok ≡ keep t.tok
+kept_same keep t u e = sym (ap (λ (x : SignificantToken). keep x.tok) e)
 
-  expression_limited : {depth : ℕ} {e : Expr A B} {ts rest : List SignificantToken} → depth < 256 → Expression leaf spot Free depth e ts rest → Expression leaf spot Limited depth e ts rest
-  expression_limited below (g.value open_still v) = g.value below (value_limited v)
+module _ (Open Open' : ℕ → Option SignificantToken → Type 0) (opens : (depth : ℕ) (at : Option SignificantToken) → Open depth at → Open' depth at) where
+  moved : (depth : ℕ) (ts us : Tokens) → Pairs (λ t u. t ≡ u) ts us → Open depth (front ts) → Open' depth (front us)
+  moved depth ts us s o = subst (λ x. Open' depth (front x)) (pairs_equal s) (opens depth (front ts) o)
 
-  line_rest_limited : {fragments : List (Fragment A B)} {ts rest : List SignificantToken} → LineRest leaf spot Free fragments ts rest → LineRest leaf spot Limited fragments ts rest
-  line_rest_limited (g.line_ends kind) = g.line_ends kind
-  line_rest_limited (g.body_ends kind) = g.body_ends kind
-  line_rest_limited (g.text kind h) = g.text kind (line_rest_limited h)
-  line_rest_limited (g.interpolation kind e kind2 h) = g.interpolation kind (expression_limited (omega arith) e) kind2 (line_rest_limited h)
+  module _ {A B : Type 0} (leaf : Tok → A) (spot : Tok → B) where
+    pub expression_loosened : {condition : Bool} {depth : ℕ} {e : Expr A B} {fs : List (Noted B)} {ts rest : Tokens}
+        → Expression leaf spot Open condition depth e fs ts rest → Expression leaf spot Open' condition depth e fs ts rest
+    expression_loosened {condition} {depth} {e} {fs} {ts} {rest} h =
+        let x = expressions.expression leaf spot Open (λ t u. t ≡ u) equal_same leaf spot Open' same_leaf same_leaf same_leaf same_leaf (kept_same leaf) (kept_same spot) moved h ts (equal_pairs ts) in
+        subst (λ y. Expression leaf spot Open' condition depth y fs ts rest) (sym (expr_itself x.tree) ∙ x.alike ∙ expr_itself e)
+        (subst (λ n. Expression leaf spot Open' condition depth x.tree n ts rest) (sym (noted_itself x.features) ∙ x.noted_alike ∙ noted_itself fs)
+        (subst (λ r. Expression leaf spot Open' condition depth x.tree x.features ts r) (sym (pairs_equal x.same)) x.derives))
 
-  body_lines_limited : {lines : List (BodyLine A B C)} {ts rest : List SignificantToken} → BodyLines leaf spot number Free lines ts rest → BodyLines leaf spot number Limited lines ts rest
-  body_lines_limited (g.no_line kind) = g.no_line kind
-  body_lines_limited (g.empty_line kind h) = g.empty_line kind (body_lines_limited h)
-  body_lines_limited (g.some_line l h) = g.some_line (line_rest_limited l) (body_lines_limited h)
+    pub file_loosened : {C : Type 0} (number : Tok → C) {items : List (Item A B C)} {fs : List (Noted B)} {ts : Tokens}
+        → File leaf spot number Open items fs ts → File leaf spot number Open' items fs ts
+    file_loosened number {items} {fs} {ts} h =
+        let x = c.file leaf spot number Open (λ t u. t ≡ u) equal_same leaf spot number Open' same_leaf same_leaf same_leaf same_leaf same_leaf same_leaf
+        (kept_same leaf) (kept_same spot) (kept_same number) moved h ts (equal_pairs ts) in
+        subst (λ y. File leaf spot number Open' y fs ts) (sym (items_itself x.tree) ∙ x.alike ∙ items_itself items)
+        (subst (λ n. File leaf spot number Open' x.tree n ts) (sym (noted_itself x.features) ∙ x.noted_alike ∙ noted_itself fs) x.derives)
 
-  on_line_limited : {i : Item A B C} {ts rest : List SignificantToken} → OnLine leaf spot number Free i ts rest → OnLine leaf spot number Limited i ts rest
-  on_line_limited (g.comment kind) = g.comment kind
-  on_line_limited (g.assignment kind kind2 e) = g.assignment kind kind2 (expression_limited (omega arith) e)
-  on_line_limited (g.header kind kind2) = g.header kind kind2
+-- under a greater limit
+module _ (limit higher : ℕ) (below : limit ≤ higher) where
+  raised : (depth : ℕ) (at : Option SignificantToken) → Under limit depth at → Under higher depth at
+  raised depth at o = omega (arith, below, o)
 
-  block_limited : {i : Item A B C} {ts rest : List SignificantToken} → Block leaf spot number Free i ts rest → Block leaf spot number Limited i ts rest
-  block_limited (g.recipe kind kind2 before ls some) = g.recipe kind kind2 before (body_lines_limited ls) some
+  pub expression_raised : {A B : Type 0} (leaf : Tok → A) (spot : Tok → B) {condition : Bool} {depth : ℕ} {e : Expr A B} {fs : List (Noted B)} {ts rest : Tokens}
+      → Expression leaf spot (Under limit) condition depth e fs ts rest → Expression leaf spot (Under higher) condition depth e fs ts rest
+  expression_raised leaf spot h = expression_loosened (Under limit) (Under higher) raised leaf spot h
 
-  mutual
-    items_limited : {items : List (Item A B C)} {ts : List SignificantToken} → Items leaf spot number Free items ts → Items leaf spot number Limited items ts
-    items_limited (g.end kind) = g.end kind
-    items_limited (g.blank kind h) = g.blank kind (items_limited h)
-    items_limited (g.item o b) = g.item (on_line_limited o) (behind_limited b)
-    items_limited (g.block b h) = g.block (block_limited b) (items_limited h)
+  pub file_raised : {A B C : Type 0} (leaf : Tok → A) (spot : Tok → B) (number : Tok → C) {items : List (Item A B C)} {fs : List (Noted B)} {ts : Tokens}
+      → File leaf spot number (Under limit) items fs ts → File leaf spot number (Under higher) items fs ts
+  file_raised leaf spot number h = file_loosened (Under limit) (Under higher) raised leaf spot number h
 
-    behind_limited : {items : List (Item A B C)} {ts : List SignificantToken} → Behind leaf spot number Free items ts → Behind leaf spot number Limited items ts
-    behind_limited (g.trailing kind e) = g.trailing kind (line_end_limited e)
-    behind_limited (g.bare e) = g.bare (line_end_limited e)
+-- without a limit
+module _ (limit : ℕ) where
+  pub expression_freed : {A B : Type 0} (leaf : Tok → A) (spot : Tok → B) {condition : Bool} {depth : ℕ} {e : Expr A B} {fs : List (Noted B)} {ts rest : Tokens}
+      → Expression leaf spot (Under limit) condition depth e fs ts rest → Expression leaf spot Free condition depth e fs ts rest
+  expression_freed leaf spot h = expression_loosened (Under limit) Free (λ depth at o. tt) leaf spot h
 
-    line_end_limited : {items : List (Item A B C)} {ts : List SignificantToken} → LineEnd leaf spot number Free items ts → LineEnd leaf spot number Limited items ts
-    line_end_limited (g.line_end kind h) = g.line_end kind (items_limited h)
-    line_end_limited (g.file_end kind) = g.file_end kind
+  pub file_freed : {A B C : Type 0} (leaf : Tok → A) (spot : Tok → B) (number : Tok → C) {items : List (Item A B C)} {fs : List (Noted B)} {ts : Tokens}
+      → File leaf spot number (Under limit) items fs ts → File leaf spot number Free items fs ts
+  file_freed leaf spot number h = file_loosened (Under limit) Free (λ depth at o. tt) leaf spot number h
 
-  pub file_limited : {items : List (Item A B C)} {ts : List SignificantToken} → File leaf spot number Free items ts → File leaf spot number Limited items ts
-  file_limited (g.marked kind h) = g.marked kind (items_limited h)
-  file_limited (g.unmarked h) = g.unmarked (items_limited h)
+-- a tree of a file is one of the grammar alone
+pub file_tree : (ts : Tokens) (tree : Tree) (fs : List (Noted Tok)) → File itself itself line_of Limited tree fs ts → FileTree ts tree fs
+file_tree ts tree fs h = file_freed 256 itself itself line_of h

@@ -1,8 +1,10 @@
 -- A file keeps its tree where an expander answers more.
 use Rattle.std.proofs.Common.{◌≡◌, ℕ, List, [], ◌∷◌, None, Result, Ok, Err, sym, ap, ◌∙◌, ⊎_elim}
 use Rattle.justfile_model.specs.SignificantTokens.{SignificantToken}
+use Rattle.justfile_model.specs.Tok.{Tok}
 use Rattle.justfile_model.specs.Tree.{Tree, Shape}
-use Rattle.justfile_model.specs.Literals.{Literal, Plain, Expanded, Command, LiteralFault, Unasked, Answers, Within, by_answer, string_text, expanded_text, cooked_text, Cooks}
+use Rattle.justfile_model.specs.Features.{Noted}
+use Rattle.justfile_model.specs.Literals.{Literal, Expanded, LiteralFault, Unasked, Answers, Within, by_answer, string_text, expanded_text, cooked_text, Cooks}
 use Rattle.justfile_model.specs.Files.{VersionNumbers, FileDerives, ShapeDerives}
 
 module _ (some all : Answers) (within : Within some all) where
@@ -17,9 +19,8 @@ module _ (some all : Answers) (within : Within some all) where
   expanded_kept (Err fault) text h = h
 
   text_kept : (l : Literal (List ℕ)) (text : List ℕ) → cooked_text some l ≡ Ok text → cooked_text all l ≡ Ok text
-  text_kept (Plain lexeme) text h = h
   text_kept (Expanded lexeme) text h = expanded_kept (string_text lexeme) text h
-  text_kept (Command lexeme) text h = h
+  text_kept _ text h = h
 
   pub texts_kept : (literals : List (Literal (List ℕ))) (texts : List (List ℕ)) → Cooks some literals texts → Cooks all literals texts
   texts_kept [] [] c = tt
@@ -28,8 +29,8 @@ module _ (some all : Answers) (within : Within some all) where
   texts_kept (l ∷ literals) (text ∷ texts) c = (text_kept l text c.0, texts_kept literals texts c.1)
 
   module _ (current : VersionNumbers) (tokens : List SignificantToken) where
-    pub tree_kept : (tree : Tree) → FileDerives some current tokens tree → FileDerives all current tokens tree
-    tree_kept tree h = record { derives = h.derives; cooked = h.cooked; cooks = texts_kept _ h.cooked h.cooks }
+    pub tree_kept : (tree : Tree) (features : List (Noted Tok)) → FileDerives some current tokens tree features → FileDerives all current tokens tree features
+    tree_kept tree features h = record { derives = h.derives; cooked = h.cooked; cooks = texts_kept _ h.cooked h.cooks }
 
-    pub shape_kept : (shape : Shape) → ShapeDerives some current tokens shape → ShapeDerives all current tokens shape
-    shape_kept shape h = record { derives = h.derives; cooked = h.cooked; cooks = texts_kept _ h.cooked h.cooks }
+    pub shape_kept : (shape : Shape) (features : List (Noted (Unit {0}))) → ShapeDerives some current tokens shape features → ShapeDerives all current tokens shape features
+    shape_kept shape features h = record { derives = h.derives; cooked = h.cooked; cooks = texts_kept _ h.cooked h.cooks }

@@ -3,48 +3,41 @@ use Rattle.std.proofs.Common.{ℕ, ◌<◌, ◌≤◌, List, length, Option, ari
 use Rattle.justfile_base.specs.declared.token_kind.TokenKind.TheVariants as kinds
 use Rattle.justfile_model.specs.Tok.{Tok}
 use Rattle.justfile_model.specs.SignificantTokens.{SignificantToken}
-use Rattle.justfile_model.specs.Tree.{Expr, Fragment, BodyLine, Item}
+use Rattle.justfile_model.specs.Tree.{Fragment, BodyLine, Item}
+use Rattle.justfile_model.specs.Features.{Noted}
+use Rattle.justfile_model.specs.Expressions.{Tokens, NotNext}
 use Rattle.justfile_model.specs.Grammar as g
-use Rattle.justfile_model.specs.Grammar.{Value, Expression, LineRest, BeforeBody, BodyLines, OnLine, Block}
-use Rattle.justfile_model.proofs.Steps.{NotNext}
+use Rattle.justfile_model.specs.Grammar.{LineRest, BeforeBody, BodyLines, OnLine, Block}
+use Rattle.justfile_model.proofs.ExpressionProgress.{expression_progress}
 
 module _ {A B : Type 0} (leaf : Tok → A) (spot : Tok → B) (Open : ℕ → Option SignificantToken → Type 0) where
-  pub value_progress : {depth : ℕ} {e : Expr A B} {ts rest : List SignificantToken} → Value leaf spot Open depth e ts rest → length rest < length ts
-  value_progress (g.literal kind) = omega arith
-  value_progress (g.expanded e) = omega arith
-  value_progress (g.backtick kind) = omega arith
-  value_progress (g.variable kind not_if not_assert unmarked) = omega arith
-
-  pub expression_progress : {depth : ℕ} {e : Expr A B} {ts rest : List SignificantToken} → Expression leaf spot Open depth e ts rest → length rest < length ts
-  expression_progress (g.value open_still v) = value_progress v
-
   -- the end of a body is left
-  pub line_rest_keeps : {fragments : List (Fragment A B)} {ts rest : List SignificantToken} → LineRest leaf spot Open fragments ts rest → length rest ≤ length ts
+  pub line_rest_keeps : {fragments : List (Fragment A B)} {fs : List (Noted B)} {ts rest : Tokens} → LineRest leaf spot Open fragments fs ts rest → length rest ≤ length ts
   line_rest_keeps (g.line_ends kind) = omega arith
   line_rest_keeps (g.body_ends kind) = omega arith
   line_rest_keeps (g.text kind l) = omega (arith, line_rest_keeps l)
-  line_rest_keeps (g.interpolation kind e kind2 l) = omega (arith, expression_progress e, line_rest_keeps l)
+  line_rest_keeps (g.interpolation kind e kind2 l) = omega (arith, expression_progress leaf spot Open e, line_rest_keeps l)
 
-  pub line_rest_progress : {fragments : List (Fragment A B)} {ts rest : List SignificantToken} → LineRest leaf spot Open fragments ts rest → NotNext kinds.Dedent ts → length rest < length ts
+  pub line_rest_progress : {fragments : List (Fragment A B)} {fs : List (Noted B)} {ts rest : Tokens} → LineRest leaf spot Open fragments fs ts rest → NotNext kinds.Dedent ts → length rest < length ts
   line_rest_progress (g.line_ends kind) not = omega arith
   line_rest_progress (g.body_ends kind) not = absurd (not kind)
   line_rest_progress (g.text kind l) not = omega (arith, line_rest_keeps l)
-  line_rest_progress (g.interpolation kind e kind2 l) not = omega (arith, expression_progress e, line_rest_keeps l)
+  line_rest_progress (g.interpolation kind e kind2 l) not = omega (arith, expression_progress leaf spot Open e, line_rest_keeps l)
 
-pub before_progress : {ts rest : List SignificantToken} → BeforeBody ts rest → length rest < length ts
+pub before_progress : {ts rest : Tokens} → BeforeBody ts rest → length rest < length ts
 before_progress (g.at_once kind kind2) = omega arith
 before_progress (g.commented kind kind2 kind3) = omega arith
 
 module _ {A B C : Type 0} (leaf : Tok → A) (spot : Tok → B) (number : Tok → C) (Open : ℕ → Option SignificantToken → Type 0) where
-  pub lines_progress : {lines : List (BodyLine A B C)} {ts rest : List SignificantToken} → BodyLines leaf spot number Open lines ts rest → length rest < length ts
+  pub lines_progress : {lines : List (BodyLine A B C)} {fs : List (Noted B)} {ts rest : Tokens} → BodyLines leaf spot number Open lines fs ts rest → length rest < length ts
   lines_progress (g.no_line kind) = omega arith
   lines_progress (g.empty_line kind h) = omega (arith, lines_progress h)
   lines_progress (g.some_line l h) = omega (arith, line_rest_keeps leaf spot Open l, lines_progress h)
 
-  pub on_line_progress : {i : Item A B C} {ts rest : List SignificantToken} → OnLine leaf spot number Open i ts rest → length rest < length ts
+  pub on_line_progress : {i : Item A B C} {fs : List (Noted B)} {ts rest : Tokens} → OnLine leaf spot number Open i fs ts rest → length rest < length ts
   on_line_progress (g.comment kind) = omega arith
   on_line_progress (g.assignment kind kind2 e) = omega (arith, expression_progress leaf spot Open e)
   on_line_progress (g.header kind kind2) = omega arith
 
-  pub block_progress : {i : Item A B C} {ts rest : List SignificantToken} → Block leaf spot number Open i ts rest → length rest < length ts
+  pub block_progress : {i : Item A B C} {fs : List (Noted B)} {ts rest : Tokens} → Block leaf spot number Open i fs ts rest → length rest < length ts
   block_progress (g.recipe kind kind2 b lines some) = omega (arith, before_progress b, lines_progress lines)

@@ -1,58 +1,56 @@
--- What is read derives, and its literals have texts.
-use Rattle.std.proofs.Common.{◌≡◌, ℕ, ◌+◌, ◌<◌, Bool, true, false, cond, nat_lt, List, [], ◌∷◌, ◌++◌, length, drop, Result, Ok, Err, IfOk, refl, sym, subst, ap, ◌∙◌, arith}
-use Rattle.std.proofs.lemmas.Bool.Decides.{nat_tests}
+-- What is read of a file derives, with the features that are noted on the way, and its literals have texts.
+use Rattle.std.proofs.Common.{◌≡◌, ℕ, Bool, true, false, cond, List, [], ◌∷◌, ◌++◌, length, drop, Ok, Err, IfOk, refl, sym, subst, ap, ◌∙◌, append_assoc}
 use Rattle.justfile_base.specs.declared.token_kind.TokenKind.TheVariants as kinds
 use Rattle.justfile_model.specs.Tok.{Tok}
 use Rattle.justfile_model.specs.SignificantTokens.{SignificantToken}
 use Rattle.justfile_model.specs.Tree as tree
-use Rattle.justfile_model.specs.Tree.{Expr, Fragment, BodyLine, Line, Item, Tree, trimmed, lexeme, itself, line_of}
+use Rattle.justfile_model.specs.Tree.{Fragment, BodyLine, Line, Item, Tree, trimmed, itself, line_of}
+use Rattle.justfile_model.specs.Features.{Noted}
+use Rattle.justfile_model.specs.Expressions.{Tokens, IsKind, NotNext, Limited}
 use Rattle.justfile_model.specs.Grammar as g
-use Rattle.justfile_model.specs.Grammar.{BeforeBody, Limited, IsKind, NotEmpty}
-use Rattle.justfile_model.specs.Literals.{Literal, Plain, Expanded, Command, over_literal, LiteralFault, Answers, cooked_text}
-use Rattle.justfile_model.specs.Files.{expr_literals, fragments_literals, body_literals, item_literals, literals}
-use Rattle.justfile_model.specs.Reader.{Refusal, Read, after, comment_item, line_at, has_body, next_are, with_text, value, expression, assignment, fragment, no_line_rest, line_rest_rule, line_rest, body_line, no_lines, lines_rule, lines, some_lines, body, body_behind, recipe, on_line, line_end, behind, ended, line, with_front, at_end, items_rule, stop, items, file}
+use Rattle.justfile_model.specs.Grammar.{BeforeBody, NotEmpty}
+use Rattle.justfile_model.specs.Literals.{Literal, Answers}
+use Rattle.justfile_model.specs.Files.{fragments_literals, body_literals, item_literals, literals}
+use Rattle.justfile_model.specs.Reading.{Input, at, Read, accept, choose, next_are, after}
+use Rattle.justfile_model.specs.Reader.{comment_item, line_at, has_body, expression, assignment, fragment, no_line_rest, line_rest_rule, line_rest, body_line, no_lines, lines_rule, lines, some_lines, body, body_behind, recipe, on_line, line_end, behind, ended, line, at_end, items_rule, stop, items, start, file}
 use Rattle.justfile_model.proofs.Turns.{recursive_keeps}
-use Rattle.justfile_model.proofs.Steps.{NotNext, NotMarked, IsVariable, AreNext, are_next, known, after_bind, after_test, after_choose, after_choose_expanded, after_choose_variable, after_expect}
-use Rattle.justfile_model.proofs.CookedTexts.{AllCook, both_cook, fragments_cook, lines_cook, items_cook, trimmed_literals}
+use Rattle.justfile_model.proofs.Steps.{AreNext, are_next, known, after_bind, after_test, after_choose, after_expect}
+use Rattle.justfile_model.proofs.CookedTexts.{AllCook, fragments_cook, lines_cook, items_cook, trimmed_literals}
+use Rattle.justfile_model.proofs.Meets.{Met, nothing_met, both_met, all_met}
+use Rattle.justfile_model.proofs.ExpressionSound.{Expression, Derived, expression_derives}
 
 -- trees with their tokens, under the limit
-abbrev pub Value : ℕ → Expr Tok Tok → List SignificantToken → List SignificantToken → Type 0
-Value = g.Value itself itself Limited
-
-abbrev pub Expression : ℕ → Expr Tok Tok → List SignificantToken → List SignificantToken → Type 0
-Expression = g.Expression itself itself Limited
-
-abbrev pub LineRest : List (Fragment Tok Tok) → List SignificantToken → List SignificantToken → Type 0
+abbrev pub LineRest : List (Fragment Tok Tok) → List (Noted Tok) → Tokens → Tokens → Type 0
 LineRest = g.LineRest itself itself Limited
 
-abbrev pub BodyLines : List (BodyLine Tok Tok ℕ) → List SignificantToken → List SignificantToken → Type 0
+abbrev pub BodyLines : List (BodyLine Tok Tok ℕ) → List (Noted Tok) → Tokens → Tokens → Type 0
 BodyLines = g.BodyLines itself itself line_of Limited
 
-abbrev pub OnLine : Item Tok Tok ℕ → List SignificantToken → List SignificantToken → Type 0
+abbrev pub OnLine : Item Tok Tok ℕ → List (Noted Tok) → Tokens → Tokens → Type 0
 OnLine = g.OnLine itself itself line_of Limited
 
-abbrev pub Block : Item Tok Tok ℕ → List SignificantToken → List SignificantToken → Type 0
+abbrev pub Block : Item Tok Tok ℕ → List (Noted Tok) → Tokens → Tokens → Type 0
 Block = g.Block itself itself line_of Limited
 
-abbrev pub Items : Tree → List SignificantToken → Type 0
+abbrev pub Items : Tree → List (Noted Tok) → Tokens → Type 0
 Items = g.Items itself itself line_of Limited
 
-abbrev pub Behind : Tree → List SignificantToken → Type 0
+abbrev pub Behind : Tree → List (Noted Tok) → Tokens → Type 0
 Behind = g.Behind itself itself line_of Limited
 
-abbrev pub LineEnd : Tree → List SignificantToken → Type 0
+abbrev pub LineEnd : Tree → List (Noted Tok) → Tokens → Type 0
 LineEnd = g.LineEnd itself itself line_of Limited
 
-abbrev pub File : Tree → List SignificantToken → Type 0
+abbrev pub File : Tree → List (Noted Tok) → Tokens → Type 0
 File = g.File itself itself line_of Limited
 
 -- an item with a body or without one
-abbrev pub Starts : Bool → Item Tok Tok ℕ → List SignificantToken → List SignificantToken → Type 0
+abbrev pub Starts : Bool → Item Tok Tok ℕ → List (Noted Tok) → Tokens → Tokens → Type 0
 Starts true = Block
 Starts false = OnLine
 
 -- at `Eof` a line's end is the file's
-at_eof : {items : Tree} {t : SignificantToken} {rest : List SignificantToken} → IsKind kinds.Eof t → Items items (t ∷ rest) → LineEnd items (t ∷ rest)
+at_eof : {items : Tree} {fs : List (Noted Tok)} {t : SignificantToken} {rest : Tokens} → IsKind kinds.Eof t → Items items fs (t ∷ rest) → LineEnd items fs (t ∷ rest)
 at_eof kind (g.end kind2) = g.file_end kind2
 at_eof kind (g.blank kind2 more) = cc
 at_eof kind (g.item (g.comment kind2) more) = cc
@@ -61,24 +59,24 @@ at_eof kind (g.item (g.header kind2 kind3) more) = cc
 at_eof kind (g.block (g.recipe kind2 kind3 first lines some) more) = cc
 
 -- where a body ends, its last line does
-at_dedent : (ts : List SignificantToken) → AreNext (kinds.Dedent ∷ []) ts → LineRest [] ts ts
+at_dedent : (ts : Tokens) → AreNext (kinds.Dedent ∷ []) ts → LineRest [] [] ts ts
 at_dedent [] h = absurd h
 at_dedent (t ∷ ts) h = g.body_ends h.0
 
 -- a line before others, where no body ends
-line_leads : {fragments : List (Fragment Tok Tok)} {ts between : List SignificantToken} → LineRest fragments ts between → NotNext kinds.Dedent ts
-    → (more : List (BodyLine Tok Tok ℕ)) (rest : List SignificantToken) → BodyLines more between rest → BodyLines (Line (line_at ts) fragments ∷ more) ts rest
-line_leads (g.line_ends kind) not more rest h = g.empty_line kind h
-line_leads (g.body_ends kind) not more rest h = absurd (not kind)
-line_leads (g.text kind l) not more rest h = g.some_line (g.text kind l) h
-line_leads (g.interpolation kind e kind2 l) not more rest h = g.some_line (g.interpolation kind e kind2 l) h
+line_leads : {fragments : List (Fragment Tok Tok)} {fs : List (Noted Tok)} {ts between : Tokens} → LineRest fragments fs ts between → NotNext kinds.Dedent ts
+    → (more : List (BodyLine Tok Tok ℕ)) (gs : List (Noted Tok)) (rest : Tokens) → BodyLines more gs between rest → BodyLines (Line (line_at ts) fragments ∷ more) (fs ++ gs) ts rest
+line_leads (g.line_ends kind) not more gs rest h = g.empty_line kind h
+line_leads (g.body_ends kind) not more gs rest h = absurd (not kind)
+line_leads (g.text kind l) not more gs rest h = g.some_line (g.text kind l) h
+line_leads (g.interpolation kind e kind2 l) not more gs rest h = g.some_line (g.interpolation kind e kind2 l) h
 
-starts_at_once : (ts : List SignificantToken) → AreNext (kinds.Eol ∷ kinds.Indent ∷ []) ts → BeforeBody ts (drop 2 ts)
+starts_at_once : (ts : Tokens) → AreNext (kinds.Eol ∷ kinds.Indent ∷ []) ts → BeforeBody ts (drop 2 ts)
 starts_at_once [] h = absurd h
 starts_at_once (t ∷ []) h = absurd h.1
 starts_at_once (t ∷ u ∷ ts) h = g.at_once h.0 h.1.0
 
-starts_commented : (ts : List SignificantToken) → AreNext (kinds.Comment ∷ kinds.Eol ∷ kinds.Indent ∷ []) ts → BeforeBody ts (drop 3 ts)
+starts_commented : (ts : Tokens) → AreNext (kinds.Comment ∷ kinds.Eol ∷ kinds.Indent ∷ []) ts → BeforeBody ts (drop 3 ts)
 starts_commented [] h = absurd h
 starts_commented (t ∷ []) h = absurd h.1
 starts_commented (t ∷ u ∷ []) h = absurd h.1.1
@@ -87,328 +85,357 @@ starts_commented (t ∷ u ∷ v ∷ ts) h = g.commented h.0 h.1.0 h.1.1.0
 abbrev recipe_item : SignificantToken → List (BodyLine Tok Tok ℕ) → Item Tok Tok ℕ
 recipe_item name ls = tree.Recipe name.tok ls
 
-starts_block : (name : SignificantToken) (ts rest : List SignificantToken) (ls : List (BodyLine Tok Tok ℕ)) → Block (recipe_item name ls) ts rest → NotEmpty ls → Starts (has_body (recipe_item name ls)) (recipe_item name ls) ts rest
-starts_block name ts rest [] b some = absurd some
-starts_block name ts rest (l ∷ ls) b some = b
+starts_block : (name : SignificantToken) (fs : List (Noted Tok)) (ts rest : Tokens) (ls : List (BodyLine Tok Tok ℕ)) → Block (recipe_item name ls) fs ts rest → NotEmpty ls → Starts (has_body (recipe_item name ls)) (recipe_item name ls) fs ts rest
+starts_block name fs ts rest [] b some = absurd some
+starts_block name fs ts rest (l ∷ ls) b some = b
 
 module _ (expander : Answers) where
-  abbrev pub IsValue : ℕ → List SignificantToken → Expr Tok Tok × List SignificantToken → Type 0
-  IsValue depth ts x = Value depth x.0 ts x.1 × AllCook expander (expr_literals x.0)
+  -- one behind the other, with all their literals
+  joined : {fs gs : List (Noted Tok)} {ls ms all : List (Literal Tok)} {a b c : List (Noted Tok)} → Met expander fs ls a b → Met expander gs ms b c → AllCook expander all → Met expander (fs ++ gs) all a c
+  joined h k cooks = record { noted_is = (both_met h k).noted_is; cooks = cooks }
 
-  abbrev pub IsExpression : ℕ → List SignificantToken → Expr Tok Tok × List SignificantToken → Type 0
-  IsExpression depth ts x = Expression depth x.0 ts x.1 × AllCook expander (expr_literals x.0)
+  -- with other literals
+  with_literals : {fs : List (Noted Tok)} {ls all : List (Literal Tok)} {a b : List (Noted Tok)} → Met expander fs ls a b → AllCook expander all → Met expander fs all a b
+  with_literals h cooks = record { noted_is = h.noted_is; cooks = cooks }
 
   -- a fragment that was read, before any that may follow
-  abbrev pub IsFragment : List SignificantToken → Fragment Tok Tok × List SignificantToken → Type 0
-  IsFragment ts x = ((more : List (Fragment Tok Tok)) (rest : List SignificantToken) → LineRest more x.1 rest → LineRest (x.0 ∷ more) ts rest) × AllCook expander (fragments_literals (x.0 ∷ []))
+  abbrev pub IsFragment : Input → Fragment Tok Tok × Input → Type 0
+  IsFragment s x =
+      Derived expander (λ fs ts between. (more : List (Fragment Tok Tok)) (gs : List (Noted Tok)) (rest : Tokens) → LineRest more gs between rest → LineRest (x.0 ∷ more) (fs ++ gs) ts rest) (fragments_literals (x.0 ∷ [])) s x.1
 
-  abbrev pub IsLineRest : List SignificantToken → List (Fragment Tok Tok) × List SignificantToken → Type 0
-  IsLineRest ts x = LineRest x.0 ts x.1 × AllCook expander (fragments_literals x.0)
+  abbrev pub IsLineRest : Input → List (Fragment Tok Tok) × Input → Type 0
+  IsLineRest s x = Derived expander (LineRest x.0) (fragments_literals x.0) s x.1
 
   -- a line that was read where no body ends, before any that may follow
-  abbrev pub IsBodyLine : List SignificantToken → BodyLine Tok Tok ℕ × List SignificantToken → Type 0
-  IsBodyLine ts x = (NotNext kinds.Dedent ts → (more : List (BodyLine Tok Tok ℕ)) (rest : List SignificantToken) → BodyLines more x.1 rest → BodyLines (x.0 ∷ more) ts rest) × AllCook expander (body_literals (x.0 ∷ []))
+  abbrev pub IsBodyLine : Input → BodyLine Tok Tok ℕ × Input → Type 0
+  IsBodyLine s x =
+      Derived expander (λ fs ts between. NotNext kinds.Dedent ts → (more : List (BodyLine Tok Tok ℕ)) (gs : List (Noted Tok)) (rest : Tokens) → BodyLines more gs between rest → BodyLines (x.0 ∷ more) (fs ++ gs) ts rest) (body_literals (x.0 ∷ [])) s x.1
 
-  abbrev pub IsLines : List SignificantToken → List (BodyLine Tok Tok ℕ) × List SignificantToken → Type 0
-  IsLines ts x = BodyLines x.0 ts x.1 × AllCook expander (body_literals x.0)
+  abbrev pub IsLines : Input → List (BodyLine Tok Tok ℕ) × Input → Type 0
+  IsLines s x = Derived expander (BodyLines x.0) (body_literals x.0) s x.1
 
   -- lines of which some are left
-  pub record IsBody (ts : List SignificantToken) (x : List (BodyLine Tok Tok ℕ) × List SignificantToken) : Type 0 where
+  pub record IsBody (s : Input) (x : List (BodyLine Tok Tok ℕ) × Input) : Type 0 where
     pub all : List (BodyLine Tok Tok ℕ)
-    pub lines : BodyLines all ts x.1
+    pub features : List (Noted Tok)
+    pub lines : BodyLines all features s.tokens x.1.tokens
     pub left : trimmed all ≡ x.0
     pub some : NotEmpty x.0
-    pub cook : AllCook expander (body_literals x.0)
+    pub met : Met expander features (body_literals x.0) s.noted x.1.noted
 
   -- a body behind a header, or none
-  pub data IsBodyBehind (ts : List SignificantToken) : List (BodyLine Tok Tok ℕ) × List SignificantToken → Type 0 where
-    no_body : IsBodyBehind ts ([], ts)
-    a_body : {first : List SignificantToken} {x : List (BodyLine Tok Tok ℕ) × List SignificantToken} → BeforeBody ts first → IsBody first x → IsBodyBehind ts x
+  pub data IsBodyBehind (s : Input) : List (BodyLine Tok Tok ℕ) × Input → Type 0 where
+    no_body : IsBodyBehind s ([], s)
+    a_body : {first : Tokens} {x : List (BodyLine Tok Tok ℕ) × Input} → BeforeBody s.tokens first → IsBody (at s first) x → IsBodyBehind s x
 
-  abbrev pub IsOnLine : List SignificantToken → Item Tok Tok ℕ × List SignificantToken → Type 0
-  IsOnLine ts x = Starts (has_body x.0) x.0 ts x.1 × AllCook expander (item_literals x.0)
+  abbrev pub IsOnLine : Input → Item Tok Tok ℕ × Input → Type 0
+  IsOnLine s x = Derived expander (Starts (has_body x.0) x.0) (item_literals x.0) s x.1
 
   -- items that were read, before any that may follow
-  abbrev pub Leads : (Tree → List SignificantToken → Type 0) → List SignificantToken → Tree × List SignificantToken → Type 0
-  Leads Rule ts x = ((more : Tree) → Items more x.1 → Rule (x.0 ++ more) ts) × AllCook expander (literals x.0)
+  abbrev pub Leads : (Tree → List (Noted Tok) → Tokens → Type 0) → Input → Tree × Input → Type 0
+  Leads Rule s x = Derived expander (λ fs ts between. (more : Tree) (gs : List (Noted Tok)) → Items more gs between → Rule (x.0 ++ more) (fs ++ gs) ts) (literals x.0) s x.1
 
-  abbrev pub IsWhole : (Tree → List SignificantToken → Type 0) → List SignificantToken → Tree → Type 0
-  IsWhole Rule ts x = Rule x ts × AllCook expander (literals x)
+  -- all items up to the end of the file
+  abbrev pub IsWhole : (Tree → List (Noted Tok) → Tokens → Type 0) → Input → Tree × Input → Type 0
+  IsWhole Rule s x = Derived expander (λ fs ts end. Rule x.0 fs ts) (literals x.0) s x.1
 
-  -- a literal that derives, if it has a text
-  cooked_sound : (depth : ℕ) (ts : List SignificantToken) (l : Literal Tok) (x : SignificantToken × List SignificantToken) (e : Expr Tok Tok) → Value depth e ts x.1 → expr_literals e ≡ l ∷ []
-      → (found : Result (List ℕ) LiteralFault) → cooked_text expander (over_literal lexeme l) ≡ found → IfOk (with_text e x found) (IsValue depth ts)
-  cooked_sound depth ts l x e v is (Ok text) h = (v, subst (AllCook expander) (sym is) (record { text = text; is = h }, tt))
-  cooked_sound depth ts l x e v is (Err fault) h = tt
+  -- a file and its features
+  pub record IsFile (ts : Tokens) (x : Tree × List (Noted Tok)) : Type 0 where
+    pub derives : File x.0 x.1 ts
+    pub cooks : AllCook expander (literals x.0)
 
-  -- the name is next
-  named_sound : (depth : ℕ) (ts rest : List SignificantToken) (t : SignificantToken) → NotMarked ts → ts ≡ t ∷ rest → IsVariable t → Value depth (tree.Variable t.tok) ts rest
-  named_sound depth ts rest t unmarked split is =
-      subst (λ (s : List SignificantToken). Value depth (tree.Variable t.tok) s rest) (sym split)
-      (g.variable is.is_name is.not_if is.not_assert (subst NotMarked split unmarked))
-
-  pub value_sound : (depth : ℕ) (ts : List SignificantToken) → IfOk (value expander depth ts) (IsValue depth ts)
-  unfolding value
-  value_sound depth ts =
-      let P : Read (Expr Tok Tok) → Type 0 = λ o. IfOk o (IsValue depth ts) in
-      let V : Expr Tok Tok → List SignificantToken → List SignificantToken → Type 0 = λ e rest s. Value depth e s rest in
-      after_choose kinds.StringToken ts _ _ P
-      (λ _. after_choose kinds.Backtick ts _ _ P
-      (λ _. after_choose_expanded ts _ _ P
-      (λ unmarked. after_choose_variable ts _ _ P tt (λ t rest split is. (named_sound depth ts rest t unmarked split is, tt)))
-      (λ m t rest split is. cooked_sound depth ts (Expanded t.tok) (t, rest) _ (subst (V (tree.StringLiteral true t.tok) rest) (sym split) (g.expanded is)) refl _ refl))
-      (λ t rest split kind. cooked_sound depth ts (Command t.tok) (t, rest) _ (subst (V (tree.Backtick t.tok) rest) (sym split) (g.backtick kind)) refl _ refl))
-      (λ t rest split kind. cooked_sound depth ts (Plain t.tok) (t, rest) _ (subst (V (tree.StringLiteral false t.tok) rest) (sym split) (g.literal kind)) refl _ refl)
-
-  pub value_at : (depth : ℕ) (ts : List SignificantToken) (x : Expr Tok Tok × List SignificantToken) → value expander depth ts ≡ Ok x → IsValue depth ts x
-  value_at depth ts x is = known x (IsValue depth ts) is (value_sound depth ts)
-
-  entered : (depth : ℕ) (ts : List SignificantToken) → depth < 256 → (found : Read (Expr Tok Tok)) → IfOk found (IsValue (depth + 1) ts) → IfOk found (IsExpression depth ts)
-  entered depth ts below (Ok x) h = (g.value below h.0, h.1)
-  entered depth ts below (Err e) h = tt
-
-  pub expression_sound : (depth : ℕ) (ts : List SignificantToken) → IfOk (expression expander depth ts) (IsExpression depth ts)
-  unfolding expression
-  expression_sound depth ts =
-      let P : Read (Expr Tok Tok) → Type 0 = λ o. IfOk o (IsExpression depth ts) in
-      after_test (nat_lt depth 256) _ _ P
-      (λ lt. entered depth ts (grind (arith, nat_tests)) (value expander (depth + 1) ts) (value_sound (depth + 1) ts))
-      (λ ge. tt)
-
-  pub expression_at : (depth : ℕ) (ts : List SignificantToken) (x : Expr Tok Tok × List SignificantToken) → expression expander depth ts ≡ Ok x → IsExpression depth ts x
-  expression_at depth ts x is = known x (IsExpression depth ts) is (expression_sound depth ts)
-
-  pub assignment_sound : (ts : List SignificantToken) → IfOk (assignment expander ts) (IsOnLine ts)
+  pub assignment_sound : (s : Input) → IfOk (assignment expander s) (IsOnLine s)
   unfolding assignment
-  assignment_sound ts =
-      let P : Read (Item Tok Tok ℕ) → Type 0 = λ o. IfOk o (IsOnLine ts) in
-      after_expect kinds.Identifier ts _ P (λ e. tt) (λ name t1 split kind.
-      after_expect kinds.ColonEquals t1 _ P (λ e. tt) (λ operator t2 split2 kind2.
-      after_bind (expression expander 0 t2) _ P (λ e. tt) (λ e is.
-      let found = expression_at 0 t2 e is in
-      let R : List SignificantToken → Type 0 = λ s. OnLine (tree.Assignment name.tok e.0) s e.1 in
-      (subst R (sym split) (subst (λ (s : List SignificantToken). R (name ∷ s)) (sym split2) (g.assignment kind kind2 found.0)), found.1))))
+  assignment_sound s =
+      let P : Read (Item Tok Tok ℕ) → Type 0 = λ o. IfOk o (IsOnLine s) in
+      after_expect kinds.Identifier s _ P (λ e. tt) (λ name t1 split kind.
+      after_expect kinds.ColonEquals (at s t1) _ P (λ e. tt) (λ operator t2 split2 kind2.
+      after_bind (expression expander 0 (at s t2)) _ P (λ e. tt) (λ e is.
+      let found = expression_derives expander false 0 (at s t2) e is in
+      let R : Tokens → Type 0 = λ ts. OnLine (tree.Assignment name.tok e.0) found.features ts e.1.tokens in
+      record {
+        features = found.features;
+        derives = subst R (sym split) (subst (λ (ts : Tokens). R (name ∷ ts)) (sym split2) (g.assignment kind kind2 found.derives));
+        met = found.met;
+      })))
+
+  pub assignment_at : (s : Input) (x : Item Tok Tok ℕ × Input) → assignment expander s ≡ Ok x → IsOnLine s x
+  assignment_at s x is = known x (IsOnLine s) is (assignment_sound s)
 
   -- ---- bodies
 
-  pub fragment_sound : (ts : List SignificantToken) → IfOk (fragment expander ts) (IsFragment ts)
+  pub fragment_sound : (s : Input) → IfOk (fragment expander s) (IsFragment s)
   unfolding fragment
-  fragment_sound ts =
-      let P : Read (Fragment Tok Tok) → Type 0 = λ o. IfOk o (IsFragment ts) in
-      after_choose kinds.Text ts _ _ P
-      (λ _. after_expect kinds.InterpolationStart ts _ P (λ e. tt) (λ start t1 split kind.
-      after_bind (expression expander 0 t1) _ P (λ e. tt) (λ e is.
+  fragment_sound s =
+      let P : Read (Fragment Tok Tok) → Type 0 = λ o. IfOk o (IsFragment s) in
+      after_choose kinds.Text s _ _ P
+      (λ _. after_expect kinds.InterpolationStart s _ P (λ e. tt) (λ start t1 split kind.
+      after_bind (expression expander 0 (at s t1)) _ P (λ e. tt) (λ e is.
       after_expect kinds.InterpolationEnd e.1 _ P (λ e. tt) (λ end t2 split2 kind2.
-      let found = expression_at 0 t1 e is in
-      let R : List (Fragment Tok Tok) → List SignificantToken → List SignificantToken → Type 0 = λ more rest s. LineRest (tree.Interpolation e.0 ∷ more) s rest in
-      (λ more rest h. subst (R more rest) (sym split) (g.interpolation kind (subst (Expression 0 e.0 t1) split2 found.0) kind2 h), both_cook expander (expr_literals e.0) [] found.1 tt)))))
-      (λ t rest split kind. (λ more left h. subst (λ (s : List SignificantToken). LineRest (tree.Text t.tok ∷ more) s left) (sym split) (g.text kind h), tt))
+      let found = expression_derives expander false 0 (at s t1) e is in
+      let R : List (Fragment Tok Tok) → List (Noted Tok) → Tokens → Tokens → Type 0 = λ more gs rest ts. LineRest (tree.Interpolation e.0 ∷ more) (found.features ++ gs) ts rest in
+      record {
+        features = found.features;
+        derives = λ more gs rest h. subst (R more gs rest) (sym split) (g.interpolation kind (subst (Expression false 0 e.0 found.features t1) split2 found.derives) kind2 h);
+        met = all_met found.met;
+      }))))
+      (λ t rest split kind. record {
+        features = [];
+        derives = λ more gs left h. subst (λ (ts : Tokens). LineRest (tree.Text t.tok ∷ more) gs ts left) (sym split) (g.text kind h);
+        met = nothing_met;
+      })
 
-  pub fragment_at : (ts : List SignificantToken) (x : Fragment Tok Tok × List SignificantToken) → fragment expander ts ≡ Ok x → IsFragment ts x
-  fragment_at ts x is = known x (IsFragment ts) is (fragment_sound ts)
+  pub fragment_at : (s : Input) (x : Fragment Tok Tok × Input) → fragment expander s ≡ Ok x → IsFragment s x
+  fragment_at s x is = known x (IsFragment s) is (fragment_sound s)
 
-  line_rest_keeps : (f : List SignificantToken → Read (List (Fragment Tok Tok))) → ((ts : List SignificantToken) → IfOk (f ts) (IsLineRest ts)) → (ts : List SignificantToken) → IfOk (line_rest_rule expander f ts) (IsLineRest ts)
+  line_rest_keeps : (f : Input → Read (List (Fragment Tok Tok))) → ((s : Input) → IfOk (f s) (IsLineRest s)) → (s : Input) → IfOk (line_rest_rule expander f s) (IsLineRest s)
   unfolding line_rest_rule after
-  line_rest_keeps f h ts =
-      let P : Read (List (Fragment Tok Tok)) → Type 0 = λ o. IfOk o (IsLineRest ts) in
-      after_choose kinds.Eol ts _ _ P
-      (λ _. after_test (next_are (kinds.Dedent ∷ []) ts) _ _ P
-      (λ ends. (at_dedent ts (are_next (kinds.Dedent ∷ []) ts ends), tt))
-      (λ _. after_bind (fragment expander ts) _ P (λ e. tt) (λ x is. after_bind (f x.1) _ P (λ e. tt) (λ more is2.
-      let first = fragment_at ts x is in
+  line_rest_keeps f h s =
+      let P : Read (List (Fragment Tok Tok)) → Type 0 = λ o. IfOk o (IsLineRest s) in
+      after_choose kinds.Eol s _ _ P
+      (λ _. after_test (next_are (kinds.Dedent ∷ []) s) _ _ P
+      (λ ends. record { features = []; derives = at_dedent s.tokens (are_next (kinds.Dedent ∷ []) s ends); met = nothing_met })
+      (λ _. after_bind (fragment expander s) _ P (λ e. tt) (λ x is. after_bind (f x.1) _ P (λ e. tt) (λ more is2.
+      let first = fragment_at s x is in
       let rest = known more (IsLineRest x.1) is2 (h x.1) in
-      (first.0 more.0 more.1 rest.0, fragments_cook expander x.0 more.0 first.1 rest.1)))))
-      (λ t rest split kind. (subst (λ (s : List SignificantToken). LineRest [] s rest) (sym split) (g.line_ends kind), tt))
+      record {
+        features = first.features ++ rest.features;
+        derives = first.derives more.0 rest.features more.1.tokens rest.derives;
+        met = joined first.met rest.met (fragments_cook expander x.0 more.0 first.met.cooks rest.met.cooks);
+      }))))
+      (λ t rest split kind. record { features = []; derives = subst (λ (ts : Tokens). LineRest [] [] ts rest) (sym split) (g.line_ends kind); met = nothing_met })
 
-  pub line_rest_sound : (ts : List SignificantToken) → IfOk (line_rest expander ts) (IsLineRest ts)
+  pub line_rest_sound : (s : Input) → IfOk (line_rest expander s) (IsLineRest s)
   unfolding line_rest
-  line_rest_sound = recursive_keeps length (no_line_rest expander) (line_rest_rule expander) (λ ts found. IfOk found (IsLineRest ts)) (λ ts. tt) line_rest_keeps
+  line_rest_sound = recursive_keeps (λ s. length s.tokens) (no_line_rest expander) (line_rest_rule expander) (λ s found. IfOk found (IsLineRest s)) (λ s. tt) line_rest_keeps
 
-  pub line_rest_at : (ts : List SignificantToken) (x : List (Fragment Tok Tok) × List SignificantToken) → line_rest expander ts ≡ Ok x → IsLineRest ts x
-  line_rest_at ts x is = known x (IsLineRest ts) is (line_rest_sound ts)
+  pub line_rest_at : (s : Input) (x : List (Fragment Tok Tok) × Input) → line_rest expander s ≡ Ok x → IsLineRest s x
+  line_rest_at s x is = known x (IsLineRest s) is (line_rest_sound s)
 
-  pub body_line_sound : (ts : List SignificantToken) → IfOk (body_line expander ts) (IsBodyLine ts)
+  pub body_line_sound : (s : Input) → IfOk (body_line expander s) (IsBodyLine s)
   unfolding body_line
-  body_line_sound ts =
-      let P : Read (BodyLine Tok Tok ℕ) → Type 0 = λ o. IfOk o (IsBodyLine ts) in
-      after_bind (line_rest expander ts) _ P (λ e. tt) (λ x is.
-      let found = line_rest_at ts x is in
-      (line_leads found.0, both_cook expander (fragments_literals x.0) [] found.1 tt))
+  body_line_sound s =
+      let P : Read (BodyLine Tok Tok ℕ) → Type 0 = λ o. IfOk o (IsBodyLine s) in
+      after_bind (line_rest expander s) _ P (λ e. tt) (λ x is.
+      let found = line_rest_at s x is in
+      record { features = found.features; derives = line_leads found.derives; met = all_met found.met })
 
-  pub body_line_at : (ts : List SignificantToken) (x : BodyLine Tok Tok ℕ × List SignificantToken) → body_line expander ts ≡ Ok x → IsBodyLine ts x
-  body_line_at ts x is = known x (IsBodyLine ts) is (body_line_sound ts)
+  pub body_line_at : (s : Input) (x : BodyLine Tok Tok ℕ × Input) → body_line expander s ≡ Ok x → IsBodyLine s x
+  body_line_at s x is = known x (IsBodyLine s) is (body_line_sound s)
 
-  lines_keep : (f : List SignificantToken → Read (List (BodyLine Tok Tok ℕ))) → ((ts : List SignificantToken) → IfOk (f ts) (IsLines ts)) → (ts : List SignificantToken) → IfOk (lines_rule expander f ts) (IsLines ts)
+  lines_keep : (f : Input → Read (List (BodyLine Tok Tok ℕ))) → ((s : Input) → IfOk (f s) (IsLines s)) → (s : Input) → IfOk (lines_rule expander f s) (IsLines s)
   unfolding lines_rule after
-  lines_keep f h ts =
-      let P : Read (List (BodyLine Tok Tok ℕ)) → Type 0 = λ o. IfOk o (IsLines ts) in
-      after_choose kinds.Dedent ts _ _ P
-      (λ not. after_bind (body_line expander ts) _ P (λ e. tt) (λ x is. after_bind (f x.1) _ P (λ e. tt) (λ more is2.
-      let first = body_line_at ts x is in
+  lines_keep f h s =
+      let P : Read (List (BodyLine Tok Tok ℕ)) → Type 0 = λ o. IfOk o (IsLines s) in
+      after_choose kinds.Dedent s _ _ P
+      (λ not. after_bind (body_line expander s) _ P (λ e. tt) (λ x is. after_bind (f x.1) _ P (λ e. tt) (λ more is2.
+      let first = body_line_at s x is in
       let rest = known more (IsLines x.1) is2 (h x.1) in
-      (first.0 not more.0 more.1 rest.0, lines_cook expander x.0 more.0 first.1 rest.1))))
-      (λ t rest split kind. (subst (λ (s : List SignificantToken). BodyLines [] s rest) (sym split) (g.no_line kind), tt))
+      record {
+        features = first.features ++ rest.features;
+        derives = first.derives not more.0 rest.features more.1.tokens rest.derives;
+        met = joined first.met rest.met (lines_cook expander x.0 more.0 first.met.cooks rest.met.cooks);
+      })))
+      (λ t rest split kind. record { features = []; derives = subst (λ (ts : Tokens). BodyLines [] [] ts rest) (sym split) (g.no_line kind); met = nothing_met })
 
-  pub lines_sound : (ts : List SignificantToken) → IfOk (lines expander ts) (IsLines ts)
+  pub lines_sound : (s : Input) → IfOk (lines expander s) (IsLines s)
   unfolding lines
-  lines_sound = recursive_keeps length (no_lines expander) (lines_rule expander) (λ ts found. IfOk found (IsLines ts)) (λ ts. tt) lines_keep
+  lines_sound = recursive_keeps (λ s. length s.tokens) (no_lines expander) (lines_rule expander) (λ s found. IfOk found (IsLines s)) (λ s. tt) lines_keep
 
-  pub lines_at : (ts : List SignificantToken) (x : List (BodyLine Tok Tok ℕ) × List SignificantToken) → lines expander ts ≡ Ok x → IsLines ts x
-  lines_at ts x is = known x (IsLines ts) is (lines_sound ts)
+  pub lines_at : (s : Input) (x : List (BodyLine Tok Tok ℕ) × Input) → lines expander s ≡ Ok x → IsLines s x
+  lines_at s x is = known x (IsLines s) is (lines_sound s)
 
-  some_left : (ts rest : List SignificantToken) (all ls : List (BodyLine Tok Tok ℕ)) → BodyLines all ts rest → AllCook expander (body_literals all) → trimmed all ≡ ls → IfOk (some_lines expander ls rest) (IsBody ts)
-  some_left ts rest all [] h cook e = tt
-  some_left ts rest all (l ∷ ls) h cook e =
-      record { all = all; lines = h; left = e; some = tt; cook = subst (AllCook expander) (sym (trimmed_literals all) ∙ ap body_literals e) cook }
+  some_left : (s rest : Input) (all ls : List (BodyLine Tok Tok ℕ)) → Derived expander (BodyLines all) (body_literals all) s rest → trimmed all ≡ ls → IfOk (some_lines expander ls rest) (IsBody s)
+  some_left s rest all [] h e = tt
+  some_left s rest all (l ∷ ls) h e =
+      record {
+        all = all;
+        features = h.features;
+        lines = h.derives;
+        left = e;
+        some = tt;
+        met = with_literals h.met (subst (AllCook expander) (sym (trimmed_literals all) ∙ ap body_literals e) h.met.cooks);
+      }
 
-  pub body_sound : (ts : List SignificantToken) → IfOk (body expander ts) (IsBody ts)
+  pub body_sound : (s : Input) → IfOk (body expander s) (IsBody s)
   unfolding body
-  body_sound ts =
-      after_bind (lines expander ts) _ (λ o. IfOk o (IsBody ts)) (λ e. tt) (λ x is.
-      let found = lines_at ts x is in
-      some_left ts x.1 x.0 (trimmed x.0) found.0 found.1 refl)
+  body_sound s =
+      after_bind (lines expander s) _ (λ o. IfOk o (IsBody s)) (λ e. tt) (λ x is. some_left s x.1 x.0 (trimmed x.0) (lines_at s x is) refl)
 
-  pub body_at : (ts : List SignificantToken) (x : List (BodyLine Tok Tok ℕ) × List SignificantToken) → body expander ts ≡ Ok x → IsBody ts x
-  body_at ts x is = known x (IsBody ts) is (body_sound ts)
+  pub body_at : (s : Input) (x : List (BodyLine Tok Tok ℕ) × Input) → body expander s ≡ Ok x → IsBody s x
+  body_at s x is = known x (IsBody s) is (body_sound s)
 
-  body_is_behind : (ts first : List SignificantToken) → BeforeBody ts first → (found : Read (List (BodyLine Tok Tok ℕ))) → IfOk found (IsBody first) → IfOk found (IsBodyBehind ts)
-  body_is_behind ts first b (Ok x) h = a_body b h
-  body_is_behind ts first b (Err e) h = tt
+  body_is_behind : (s : Input) (first : Tokens) → BeforeBody s.tokens first → (found : Read (List (BodyLine Tok Tok ℕ))) → IfOk found (IsBody (at s first)) → IfOk found (IsBodyBehind s)
+  body_is_behind s first b (Ok x) h = a_body b h
+  body_is_behind s first b (Err e) h = tt
 
-  pub body_behind_sound : (ts : List SignificantToken) → IfOk (body_behind expander ts) (IsBodyBehind ts)
+  pub body_behind_sound : (s : Input) → IfOk (body_behind expander s) (IsBodyBehind s)
   unfolding body_behind
-  body_behind_sound ts =
-      let P : Read (List (BodyLine Tok Tok ℕ)) → Type 0 = λ o. IfOk o (IsBodyBehind ts) in
-      after_test (next_are (kinds.Eol ∷ kinds.Indent ∷ []) ts) _ _ P
-      (λ h. body_is_behind ts (drop 2 ts) (starts_at_once ts (are_next (kinds.Eol ∷ kinds.Indent ∷ []) ts h)) (body expander (drop 2 ts)) (body_sound (drop 2 ts)))
-      (λ _. after_test (next_are (kinds.Comment ∷ kinds.Eol ∷ kinds.Indent ∷ []) ts) _ _ P
-      (λ h. body_is_behind ts (drop 3 ts) (starts_commented ts (are_next (kinds.Comment ∷ kinds.Eol ∷ kinds.Indent ∷ []) ts h)) (body expander (drop 3 ts)) (body_sound (drop 3 ts)))
+  body_behind_sound s =
+      let P : Read (List (BodyLine Tok Tok ℕ)) → Type 0 = λ o. IfOk o (IsBodyBehind s) in
+      let short : Input = at s (drop 2 s.tokens) in
+      let long : Input = at s (drop 3 s.tokens) in
+      after_test (next_are (kinds.Eol ∷ kinds.Indent ∷ []) s) _ _ P
+      (λ h. body_is_behind s short.tokens (starts_at_once s.tokens (are_next (kinds.Eol ∷ kinds.Indent ∷ []) s h)) (body expander short) (body_sound short))
+      (λ _. after_test (next_are (kinds.Comment ∷ kinds.Eol ∷ kinds.Indent ∷ []) s) _ _ P
+      (λ h. body_is_behind s long.tokens (starts_commented s.tokens (are_next (kinds.Comment ∷ kinds.Eol ∷ kinds.Indent ∷ []) s h)) (body expander long) (body_sound long))
       (λ _. no_body))
 
-  pub body_behind_at : (ts : List SignificantToken) (x : List (BodyLine Tok Tok ℕ) × List SignificantToken) → body_behind expander ts ≡ Ok x → IsBodyBehind ts x
-  body_behind_at ts x is = known x (IsBodyBehind ts) is (body_behind_sound ts)
+  pub body_behind_at : (s : Input) (x : List (BodyLine Tok Tok ℕ) × Input) → body_behind expander s ≡ Ok x → IsBodyBehind s x
+  body_behind_at s x is = known x (IsBodyBehind s) is (body_behind_sound s)
 
   -- ---- items
 
-  headed : (name colon : SignificantToken) (ts : List SignificantToken) (x : List (BodyLine Tok Tok ℕ) × List SignificantToken) → IsKind kinds.Identifier name → IsKind kinds.Colon colon → IsBodyBehind ts x
-      → IsOnLine (name ∷ colon ∷ ts) (recipe_item name x.0, x.1)
-  headed name colon ts x kind kind2 no_body = (g.header kind kind2, tt)
-  headed name colon ts x kind kind2 (a_body b h) =
-      let R : List (BodyLine Tok Tok ℕ) → Type 0 = λ ls. Block (recipe_item name ls) (name ∷ colon ∷ ts) x.1 in
-      (starts_block name (name ∷ colon ∷ ts) x.1 x.0 (subst R h.left (g.recipe kind kind2 b h.lines (subst NotEmpty (sym h.left) h.some))) h.some, h.cook)
+  headed : (name colon : SignificantToken) (s : Input) (x : List (BodyLine Tok Tok ℕ) × Input) → IsKind kinds.Identifier name → IsKind kinds.Colon colon → IsBodyBehind s x
+      → IsOnLine (at s (name ∷ colon ∷ s.tokens)) (recipe_item name x.0, x.1)
+  headed name colon s x kind kind2 no_body = record { features = []; derives = g.header kind kind2; met = nothing_met }
+  headed name colon s x kind kind2 (a_body b h) =
+      let ts : Tokens = name ∷ colon ∷ s.tokens in
+      let R : List (BodyLine Tok Tok ℕ) → Type 0 = λ ls. Block (recipe_item name ls) h.features ts x.1.tokens in
+      record {
+        features = h.features;
+        derives = starts_block name h.features ts x.1.tokens x.0 (subst R h.left (g.recipe kind kind2 b h.lines (subst NotEmpty (sym h.left) h.some))) h.some;
+        met = h.met;
+      }
 
-  pub recipe_sound : (ts : List SignificantToken) → IfOk (recipe expander ts) (IsOnLine ts)
+  pub recipe_sound : (s : Input) → IfOk (recipe expander s) (IsOnLine s)
   unfolding recipe
-  recipe_sound ts =
-      let P : Read (Item Tok Tok ℕ) → Type 0 = λ o. IfOk o (IsOnLine ts) in
-      after_expect kinds.Identifier ts _ P (λ e. tt) (λ name t1 split kind.
-      after_expect kinds.Colon t1 _ P (λ e. tt) (λ colon t2 split2 kind2.
-      after_bind (body_behind expander t2) _ P (λ e. tt) (λ b is.
-      let R : List SignificantToken → Type 0 = λ s. IsOnLine s (recipe_item name b.0, b.1) in
-      subst R (sym split) (subst (λ (s : List SignificantToken). R (name ∷ s)) (sym split2) (headed name colon t2 b kind kind2 (body_behind_at t2 b is))))))
+  recipe_sound s =
+      let P : Read (Item Tok Tok ℕ) → Type 0 = λ o. IfOk o (IsOnLine s) in
+      after_expect kinds.Identifier s _ P (λ e. tt) (λ name t1 split kind.
+      after_expect kinds.Colon (at s t1) _ P (λ e. tt) (λ colon t2 split2 kind2.
+      after_bind (body_behind expander (at s t2)) _ P (λ e. tt) (λ b is.
+      let found = headed name colon (at s t2) b kind kind2 (body_behind_at (at s t2) b is) in
+      let i = recipe_item name b.0 in
+      let R : Tokens → Type 0 = λ ts. Starts (has_body i) i found.features ts b.1.tokens in
+      record { features = found.features; derives = subst R (sym split) (subst (λ (ts : Tokens). R (name ∷ ts)) (sym split2) found.derives); met = found.met })))
 
-  pub recipe_at : (ts : List SignificantToken) (x : Item Tok Tok ℕ × List SignificantToken) → recipe expander ts ≡ Ok x → IsOnLine ts x
-  recipe_at ts x is = known x (IsOnLine ts) is (recipe_sound ts)
+  pub recipe_at : (s : Input) (x : Item Tok Tok ℕ × Input) → recipe expander s ≡ Ok x → IsOnLine s x
+  recipe_at s x is = known x (IsOnLine s) is (recipe_sound s)
 
-  pub on_line_sound : (ts : List SignificantToken) → IfOk (on_line expander ts) (IsOnLine ts)
+  pub on_line_sound : (s : Input) → IfOk (on_line expander s) (IsOnLine s)
   unfolding on_line
-  on_line_sound ts =
-      let P : Read (Item Tok Tok ℕ) → Type 0 = λ o. IfOk o (IsOnLine ts) in
-      after_choose kinds.Comment ts _ _ P
-      (λ _. after_test (next_are (kinds.Identifier ∷ kinds.ColonEquals ∷ []) ts) _ _ P (λ _. assignment_sound ts) (λ _. recipe_sound ts))
-      (λ c rest split kind. (subst (λ (s : List SignificantToken). OnLine (comment_item c) s rest) (sym split) (g.comment kind), tt))
+  on_line_sound s =
+      let P : Read (Item Tok Tok ℕ) → Type 0 = λ o. IfOk o (IsOnLine s) in
+      after_choose kinds.Comment s _ _ P
+      (λ _. after_test (next_are (kinds.Identifier ∷ kinds.ColonEquals ∷ []) s) _ _ P (λ _. assignment_sound s) (λ _. recipe_sound s))
+      (λ c rest split kind. record { features = []; derives = subst (λ (ts : Tokens). OnLine (comment_item c) [] ts rest) (sym split) (g.comment kind); met = nothing_met })
 
-  pub on_line_at : (ts : List SignificantToken) (x : Item Tok Tok ℕ × List SignificantToken) → on_line expander ts ≡ Ok x → IsOnLine ts x
-  on_line_at ts x is = known x (IsOnLine ts) is (on_line_sound ts)
+  pub on_line_at : (s : Input) (x : Item Tok Tok ℕ × Input) → on_line expander s ≡ Ok x → IsOnLine s x
+  on_line_at s x is = known x (IsOnLine s) is (on_line_sound s)
 
-  pub line_end_sound : (ts : List SignificantToken) → IfOk (line_end expander ts) (Leads LineEnd ts)
+  pub line_end_sound : (s : Input) → IfOk (line_end expander s) (Leads LineEnd s)
   unfolding line_end
-  line_end_sound ts =
-      let P : Read Tree → Type 0 = λ o. IfOk o (Leads LineEnd ts) in
-      after_choose kinds.Eof ts _ _ P
-      (λ _. after_expect kinds.Eol ts _ P (λ e. tt) (λ t rest split kind.
-      (λ more h. subst (LineEnd (tree.Newline ∷ more)) (sym split) (g.line_end kind h), tt)))
-      (λ t rest split kind. (λ more h. subst (LineEnd more) (sym split) (at_eof kind (subst (Items more) split h)), tt))
+  line_end_sound s =
+      let P : Read Tree → Type 0 = λ o. IfOk o (Leads LineEnd s) in
+      after_choose kinds.Eof s _ _ P
+      (λ _. after_expect kinds.Eol s _ P (λ e. tt) (λ t rest split kind.
+      record { features = []; derives = λ more gs h. subst (LineEnd (tree.Newline ∷ more) gs) (sym split) (g.line_end kind h); met = nothing_met }))
+      (λ t rest split kind. record { features = []; derives = λ more gs h. subst (LineEnd more gs) (sym split) (at_eof kind (subst (Items more gs) split h)); met = nothing_met })
 
-  pub line_end_at : (ts : List SignificantToken) (x : Tree × List SignificantToken) → line_end expander ts ≡ Ok x → Leads LineEnd ts x
-  line_end_at ts x is = known x (Leads LineEnd ts) is (line_end_sound ts)
+  pub line_end_at : (s : Input) (x : Tree × Input) → line_end expander s ≡ Ok x → Leads LineEnd s x
+  line_end_at s x is = known x (Leads LineEnd s) is (line_end_sound s)
 
-  bare_end : (ts : List SignificantToken) (found : Read Tree) → IfOk found (Leads LineEnd ts) → IfOk found (Leads Behind ts)
-  bare_end ts (Ok x) h = (λ more i. g.bare (h.0 more i), h.1)
-  bare_end ts (Err e) h = tt
+  bare_end : (s : Input) (found : Read Tree) → IfOk found (Leads LineEnd s) → IfOk found (Leads Behind s)
+  bare_end s (Ok x) h = record { features = h.features; derives = λ more gs i. g.bare (h.derives more gs i); met = h.met }
+  bare_end s (Err e) h = tt
 
-  pub behind_sound : (ts : List SignificantToken) → IfOk (behind expander ts) (Leads Behind ts)
+  pub behind_sound : (s : Input) → IfOk (behind expander s) (Leads Behind s)
   unfolding behind
-  behind_sound ts =
-      let P : Read Tree → Type 0 = λ o. IfOk o (Leads Behind ts) in
-      after_choose kinds.Comment ts _ _ P
-      (λ _. bare_end ts (line_end expander ts) (line_end_sound ts))
-      (λ c rest split kind. after_bind (line_end expander rest) _ P (λ e. tt) (λ x is.
-      let found = line_end_at rest x is in
-      (λ more i. subst (Behind (comment_item c ∷ (x.0 ++ more))) (sym split) (g.trailing kind (found.0 more i)), found.1)))
+  behind_sound s =
+      let P : Read Tree → Type 0 = λ o. IfOk o (Leads Behind s) in
+      after_choose kinds.Comment s _ _ P
+      (λ _. bare_end s (line_end expander s) (line_end_sound s))
+      (λ c rest split kind. after_bind (line_end expander (at s rest)) _ P (λ e. tt) (λ x is.
+      let found = line_end_at (at s rest) x is in
+      record {
+        features = found.features;
+        derives = λ more gs i. subst (Behind (comment_item c ∷ (x.0 ++ more)) (found.features ++ gs)) (sym split) (g.trailing kind (found.derives more gs i));
+        met = found.met;
+      }))
 
   -- what ends an item, before the items that may follow
-  abbrev Ends : Item Tok Tok ℕ → List SignificantToken → Tree × List SignificantToken → Type 0
-  Ends i ts x = ((more : Tree) → Items more x.1 → Items (i ∷ (x.0 ++ more)) ts) × AllCook expander (literals x.0)
+  abbrev Ends : Item Tok Tok ℕ → List (Noted Tok) → Tokens → Input → Tree × Input → Type 0
+  Ends i is ts s x = Derived expander (λ fs between end. (more : Tree) (gs : List (Noted Tok)) → Items more gs end → Items (i ∷ (x.0 ++ more)) (is ++ (fs ++ gs)) ts) (literals x.0) s x.1
 
-  ends_line : (i : Item Tok Tok ℕ) (ts rest : List SignificantToken) → OnLine i ts rest → (found : Read Tree) → IfOk found (Leads Behind rest) → IfOk found (Ends i ts)
-  ends_line i ts rest o (Ok x) h = (λ more m. g.item o (h.0 more m), h.1)
-  ends_line i ts rest o (Err e) h = tt
+  ends_line : (i : Item Tok Tok ℕ) (is : List (Noted Tok)) (ts : Tokens) (s : Input) → OnLine i is ts s.tokens → (found : Read Tree) → IfOk found (Leads Behind s) → IfOk found (Ends i is ts s)
+  ends_line i is ts s o (Ok x) h = record { features = h.features; derives = λ more gs m. g.item o (h.derives more gs m); met = h.met }
+  ends_line i is ts s o (Err e) h = tt
 
-  ends_by : (i : Item Tok Tok ℕ) (ts rest : List SignificantToken) (b : Bool) → Starts b i ts rest → IfOk (cond b (Ok (tree.Newline ∷ [], rest)) (behind expander rest)) (Ends i ts)
-  ends_by i ts rest true h = (λ more m. g.block h m, tt)
-  ends_by i ts rest false h = ends_line i ts rest h (behind expander rest) (behind_sound rest)
+  ends_by : (i : Item Tok Tok ℕ) (is : List (Noted Tok)) (ts : Tokens) (s : Input) (b : Bool) → Starts b i is ts s.tokens → IfOk (cond b (Ok (tree.Newline ∷ [], s)) (behind expander s)) (Ends i is ts s)
+  ends_by i is ts s true h = record { features = []; derives = λ more gs m. g.block h m; met = nothing_met }
+  ends_by i is ts s false h = ends_line i is ts s h (behind expander s) (behind_sound s)
 
-  ended_sound : (i : Item Tok Tok ℕ) (ts rest : List SignificantToken) → Starts (has_body i) i ts rest → IfOk (ended expander i rest) (Ends i ts)
+  ended_sound : (i : Item Tok Tok ℕ) (is : List (Noted Tok)) (ts : Tokens) (s : Input) → Starts (has_body i) i is ts s.tokens → IfOk (ended expander i s) (Ends i is ts s)
   unfolding ended
-  ended_sound i ts rest h = ends_by i ts rest (has_body i) h
+  ended_sound i is ts s h = ends_by i is ts s (has_body i) h
 
-  pub line_sound : (ts : List SignificantToken) → IfOk (line expander ts) (Leads Items ts)
+  pub line_sound : (s : Input) → IfOk (line expander s) (Leads Items s)
   unfolding line
-  line_sound ts =
-      let P : Read Tree → Type 0 = λ o. IfOk o (Leads Items ts) in
-      after_choose kinds.Eol ts _ _ P
-      (λ _. after_bind (on_line expander ts) _ P (λ e. tt) (λ i is. after_bind (ended expander i.0 i.1) _ P (λ e. tt) (λ b is2.
-      let one = on_line_at ts i is in
-      let found = known b (Ends i.0 ts) is2 (ended_sound i.0 ts i.1 one.0) in
-      (found.0, both_cook expander (item_literals i.0) (literals b.0) one.1 found.1))))
-      (λ t rest split kind. (λ more h. subst (Items (tree.Newline ∷ more)) (sym split) (g.blank kind h), tt))
+  line_sound s =
+      let P : Read Tree → Type 0 = λ o. IfOk o (Leads Items s) in
+      after_choose kinds.Eol s _ _ P
+      (λ _. after_bind (on_line expander s) _ P (λ e. tt) (λ i is. after_bind (ended expander i.0 i.1) _ P (λ e. tt) (λ b is2.
+      let one = on_line_at s i is in
+      let found = known b (Ends i.0 one.features s.tokens i.1) is2 (ended_sound i.0 one.features s.tokens i.1 one.derives) in
+      record {
+        features = one.features ++ found.features;
+        derives = λ more gs m. subst (λ (l : List (Noted Tok)). Items (i.0 ∷ (b.0 ++ more)) l s.tokens) (sym (append_assoc one.features found.features gs)) (found.derives more gs m);
+        met = both_met one.met found.met;
+      })))
+      (λ t rest split kind. record { features = []; derives = λ more gs h. subst (Items (tree.Newline ∷ more) gs) (sym split) (g.blank kind h); met = nothing_met })
 
-  pub line_at_start : (ts : List SignificantToken) (x : Tree × List SignificantToken) → line expander ts ≡ Ok x → Leads Items ts x
-  line_at_start ts x is = known x (Leads Items ts) is (line_sound ts)
+  pub line_at_start : (s : Input) (x : Tree × Input) → line expander s ≡ Ok x → Leads Items s x
+  line_at_start s x is = known x (Leads Items s) is (line_sound s)
 
-  last_token : (ts rest : List SignificantToken) (t : SignificantToken) → ts ≡ t ∷ rest → IsKind kinds.Eof t → IfOk (at_end expander rest) (IsWhole Items ts)
+  last_token : (s : Input) (rest : Tokens) (t : SignificantToken) → s.tokens ≡ t ∷ rest → IsKind kinds.Eof t → IfOk (at_end expander (at s rest)) (IsWhole Items s)
   unfolding at_end
-  last_token ts [] t split kind = (subst (Items []) (sym split) (g.end kind), tt)
-  last_token ts (u ∷ rest) t split kind = tt
+  last_token s [] t split kind = record { features = []; derives = subst (Items [] []) (sym split) (g.end kind); met = nothing_met }
+  last_token s (u ∷ rest) t split kind = tt
 
-  rule_keeps : (f : List SignificantToken → Result Tree Refusal) → ((ts : List SignificantToken) → IfOk (f ts) (IsWhole Items ts)) → (ts : List SignificantToken) → IfOk (items_rule expander f ts) (IsWhole Items ts)
-  unfolding items_rule with_front
-  rule_keeps f h ts =
-      let P : Result Tree Refusal → Type 0 = λ o. IfOk o (IsWhole Items ts) in
-      after_choose kinds.Eof ts _ _ P
-      (λ _. after_bind (line expander ts) _ P (λ e. tt) (λ l is. after_bind (f l.1) _ P (λ e. tt) (λ more is2.
-      let first = line_at_start ts l is in
+  rule_keeps : (f : Input → Read Tree) → ((s : Input) → IfOk (f s) (IsWhole Items s)) → (s : Input) → IfOk (items_rule expander f s) (IsWhole Items s)
+  unfolding items_rule after
+  rule_keeps f h s =
+      let P : Read Tree → Type 0 = λ o. IfOk o (IsWhole Items s) in
+      after_choose kinds.Eof s _ _ P
+      (λ _. after_bind (line expander s) _ P (λ e. tt) (λ l is. after_bind (f l.1) _ P (λ e. tt) (λ more is2.
+      let first = line_at_start s l is in
       let rest = known more (IsWhole Items l.1) is2 (h l.1) in
-      (first.0 more rest.0, items_cook expander l.0 more first.1 rest.1))))
-      (λ t rest split kind. last_token ts rest t split kind)
+      record {
+        features = first.features ++ rest.features;
+        derives = first.derives more.0 rest.features rest.derives;
+        met = joined first.met rest.met (items_cook expander l.0 more.0 first.met.cooks rest.met.cooks);
+      })))
+      (λ t rest split kind. last_token s rest t split kind)
 
-  pub items_sound : (ts : List SignificantToken) → IfOk (items expander ts) (IsWhole Items ts)
+  pub items_sound : (s : Input) → IfOk (items expander s) (IsWhole Items s)
   unfolding items
-  items_sound = recursive_keeps length (stop expander) (items_rule expander) (λ ts found. IfOk found (IsWhole Items ts)) (λ ts. tt) rule_keeps
+  items_sound = recursive_keeps (λ s. length s.tokens) (stop expander) (items_rule expander) (λ s found. IfOk found (IsWhole Items s)) (λ s. tt) rule_keeps
 
-  unmarked_file : (ts : List SignificantToken) (found : Result Tree Refusal) → IfOk found (IsWhole Items ts) → IfOk found (IsWhole File ts)
-  unmarked_file ts (Ok x) h = (g.unmarked h.0, h.1)
-  unmarked_file ts (Err e) h = tt
+  pub items_at : (s : Input) (x : Tree × Input) → items expander s ≡ Ok x → IsWhole Items s x
+  items_at s x is = known x (IsWhole Items s) is (items_sound s)
 
-  marked_file : (ts rest : List SignificantToken) (t : SignificantToken) → ts ≡ t ∷ rest → IsKind kinds.ByteOrderMark t → (found : Result Tree Refusal) → IfOk found (IsWhole Items rest) → IfOk found (IsWhole File ts)
-  marked_file ts rest t split kind (Ok x) h = (subst (File x) (sym split) (g.marked kind h.0), h.1)
-  marked_file ts rest t split kind (Err e) h = tt
+  unmarked_file : (s : Input) (found : Read Tree) → IfOk found (IsWhole Items s) → IfOk found (IsWhole File s)
+  unmarked_file s (Ok x) h = record { features = h.features; derives = g.unmarked h.derives; met = h.met }
+  unmarked_file s (Err e) h = tt
 
-  pub file_sound : (ts : List SignificantToken) → IfOk (file expander ts) (IsWhole File ts)
+  marked_file : (s : Input) (rest : Tokens) (t : SignificantToken) → s.tokens ≡ t ∷ rest → IsKind kinds.ByteOrderMark t → (found : Read Tree) → IfOk found (IsWhole Items (at s rest)) → IfOk found (IsWhole File s)
+  marked_file s rest t split kind (Ok x) h = record { features = h.features; derives = subst (File x.0 h.features) (sym split) (g.marked kind h.derives); met = h.met }
+  marked_file s rest t split kind (Err e) h = tt
+
+  whole_file : (ts : Tokens) → IfOk (choose (accept kinds.ByteOrderMark (start expander ts)) (items expander (start expander ts)) (λ mark. items expander mark.1)) (IsWhole File (start expander ts))
+  whole_file ts =
+      let s : Input = start expander ts in
+      after_choose kinds.ByteOrderMark s _ _ (λ o. IfOk o (IsWhole File s))
+      (λ _. unmarked_file s (items expander s) (items_sound s))
+      (λ t rest split kind. marked_file s rest t split kind (items expander (at s rest)) (items_sound (at s rest)))
+
+  pub file_sound : (ts : Tokens) → IfOk (file expander ts) (IsFile ts)
   unfolding file
   file_sound ts =
-      let P : Result Tree Refusal → Type 0 = λ o. IfOk o (IsWhole File ts) in
-      after_choose kinds.ByteOrderMark ts _ _ P
-      (λ _. unmarked_file ts (items expander ts) (items_sound ts))
-      (λ t rest split kind. marked_file ts rest t split kind (items expander rest) (items_sound rest))
+      after_bind (choose (accept kinds.ByteOrderMark (start expander ts)) (items expander (start expander ts)) (λ mark. items expander mark.1)) _ (λ o. IfOk o (IsFile ts)) (λ e. tt) (λ x is.
+      let found = known x (IsWhole File (start expander ts)) is (whole_file ts) in
+      record { derives = subst (λ (fs : List (Noted Tok)). File x.0 fs ts) (sym found.met.noted_is) found.derives; cooks = found.met.cooks })
+
+  pub file_at : (ts : Tokens) (x : Tree × List (Noted Tok)) → file expander ts ≡ Ok x → IsFile ts x
+  file_at ts x is = known x (IsFile ts) is (file_sound ts)

@@ -1,9 +1,13 @@
 -- What a file derives.
 use Rattle.std.specs.Prelude.{◌≡◌, ℕ, ◌+◌, ◌-◌, ◌^◌, ◌≤◌, true, false, List, [], ◌∷◌, ◌++◌, map}
 use Rattle.justfile_model.specs.SignificantTokens.{SignificantToken}
-use Rattle.justfile_model.specs.Tree.{Expr, StringLiteral, Backtick, Variable, Fragment, Text, Interpolation, BodyLine, Line, Item, Assignment, Comment, Newline, Recipe, Tree, Shape, lexeme, nothing, itself, line_of}
-use Rattle.justfile_model.specs.Grammar.{File, Free, Limited}
-use Rattle.justfile_model.specs.Literals.{Literal, Plain, Expanded, Command, over_literal, Answers, Cooks}
+use Rattle.justfile_model.specs.Tree.{Expr, Or, And, Comparison, Concatenation, ListConcatenation, Join, Root, If, IfElse, Not, StringLiteral, FormatLiteral, FormatString, Backtick, Assert, AssertMessage, Variable, Call, Group, ListOf, Exprs, none, more, Parts, Last, Continue, Fragment, Text, Interpolation, BodyLine, Line, Item, Assignment, Comment, Newline, Recipe, Tree, Shape, lexeme, nothing, itself, line_of}
+use Rattle.justfile_model.specs.Tok.{Tok}
+use Rattle.justfile_model.specs.Features.{Noted}
+use Rattle.justfile_model.specs.Expressions.{Free, Limited}
+use Rattle.justfile_model.specs.Grammar.{File}
+use Rattle.justfile_model.specs.Literals as literal
+use Rattle.justfile_model.specs.Literals.{Literal, over_literal, Answers, Cooks}
 
 -- a version of the program: three numbers
 pub record VersionNumbers : Type 0 where
@@ -11,12 +15,39 @@ pub record VersionNumbers : Type 0 where
   pub minor : ℕ
   pub patch : ℕ
 
--- the literals of an expression, in order
-abbrev pub expr_literals : {A B : Type 0} → Expr A B → List (Literal A)
-expr_literals (StringLiteral true token) = Expanded token ∷ []
-expr_literals (StringLiteral false token) = Plain token ∷ []
-expr_literals (Backtick token) = Command token ∷ []
-expr_literals (Variable name) = []
+abbrev mutual
+  -- the literals of an expression, in order
+  pub expr_literals : {A B : Type 0} → Expr A B → List (Literal A)
+  expr_literals (Or l r) = expr_literals l ++ expr_literals r
+  expr_literals (And l r) = expr_literals l ++ expr_literals r
+  expr_literals (Comparison l operator token r) = expr_literals l ++ expr_literals r
+  expr_literals (Concatenation l operator r) = expr_literals l ++ expr_literals r
+  expr_literals (ListConcatenation l operator r) = expr_literals l ++ expr_literals r
+  expr_literals (Join l operator r) = expr_literals l ++ expr_literals r
+  expr_literals (Root operator r) = expr_literals r
+  expr_literals (If c b) = expr_literals c ++ expr_literals b
+  expr_literals (IfElse c b o) = expr_literals c ++ expr_literals b ++ expr_literals o
+  expr_literals (Not e) = expr_literals e
+  expr_literals (StringLiteral true token) = literal.Expanded token ∷ []
+  expr_literals (StringLiteral false token) = literal.Plain token ∷ []
+  expr_literals (FormatLiteral token) = literal.Single token ∷ []
+  expr_literals (FormatString start e parts) = literal.Start start ∷ expr_literals e ++ parts_literals start parts
+  expr_literals (Backtick token) = literal.Command token ∷ []
+  expr_literals (Assert name c) = expr_literals c
+  expr_literals (AssertMessage name c m) = expr_literals c ++ expr_literals m
+  expr_literals (Variable name) = []
+  expr_literals (Call name arguments) = exprs_literals arguments
+  expr_literals (Group e) = expr_literals e
+  expr_literals (ListOf opener elements) = exprs_literals elements
+
+  pub exprs_literals : {A B : Type 0} → Exprs A B → List (Literal A)
+  exprs_literals none = []
+  exprs_literals (more e others) = expr_literals e ++ exprs_literals others
+
+  -- those behind an expression of a format string that began so
+  pub parts_literals : {A B : Type 0} → (start : A) → Parts A B → List (Literal A)
+  parts_literals start (Last token) = literal.End start token ∷ []
+  parts_literals start (Continue token e parts) = literal.Continue start token ∷ expr_literals e ++ parts_literals start parts
 
 abbrev pub fragments_literals : {A B : Type 0} → List (Fragment A B) → List (Literal A)
 fragments_literals [] = []
@@ -70,17 +101,17 @@ pub record NumbersSuffice {A B C : Type 0} (binding recipe : ℕ) (items : List 
   pub recipes_suffice : recipe + recipes items ≤ 2 ^ 32 - 1
 
 -- the grammar alone: no limit of depth, and any text in a literal
-abbrev pub FileTree : List SignificantToken → Tree → Type 0
-FileTree tokens tree = File itself itself line_of Free tree tokens
+abbrev pub FileTree : List SignificantToken → Tree → List (Noted Tok) → Type 0
+FileTree tokens tree features = File itself itself line_of Free tree features tokens
 
--- the tree of a file's tokens, under an expander and a running version
-pub record FileDerives (expander : Answers) (current : VersionNumbers) (tokens : List SignificantToken) (tree : Tree) : Type 0 where
-  pub derives : File itself itself line_of Limited tree tokens
+-- the tree of a file's tokens, and its features, under an expander and a running version
+pub record FileDerives (expander : Answers) (current : VersionNumbers) (tokens : List SignificantToken) (tree : Tree) (features : List (Noted Tok)) : Type 0 where
+  pub derives : File itself itself line_of Limited tree features tokens
   pub cooked : List (List ℕ)
   pub cooks : Cooks expander (map (over_literal lexeme) (literals tree)) cooked
 
 -- the same of a shape
-pub record ShapeDerives (expander : Answers) (current : VersionNumbers) (tokens : List SignificantToken) (shape : Shape) : Type 0 where
-  pub derives : File lexeme nothing nothing Limited shape tokens
+pub record ShapeDerives (expander : Answers) (current : VersionNumbers) (tokens : List SignificantToken) (shape : Shape) (features : List (Noted (Unit {0}))) : Type 0 where
+  pub derives : File lexeme nothing nothing Limited shape features tokens
   pub cooked : List (List ℕ)
   pub cooks : Cooks expander (literals shape) cooked

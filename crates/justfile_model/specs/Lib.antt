@@ -1,12 +1,17 @@
 pub mod Answers
 pub mod Bytes
+pub mod ConditionalOperator
 pub mod Cook
 pub mod EscapeFault
+pub mod ExpressionReader
+pub mod Expressions
+pub mod Features
 pub mod Files
 pub mod FirstPiece
 pub mod Grammar
 pub mod Lexed
 pub mod LexicalFault
+pub mod ListFeature
 pub mod LiteralText
 pub mod Literals
 pub mod Modes
@@ -15,6 +20,7 @@ pub mod NormalShape
 pub mod Places
 pub mod Printing
 pub mod Reader
+pub mod Reading
 pub mod Recursive
 pub mod Refusals
 pub mod SignificantTokens

@@ -1,8 +1,10 @@
 -- The texts that literals stand for.
-use Rattle.std.specs.Prelude.{◌≡◌, ℕ, ◌-◌, ◌+◌, nat_eq, ◌⊎◌, List, [], ◌∷◌, length, take, drop, if◌then◌else◌, Option, Some, None, Result, Ok, Err, codes}
+use Rattle.std.specs.Prelude.{◌≡◌, ℕ, zero, suc, ◌-◌, ◌+◌, ◌⊎◌, List, [], ◌∷◌, ◌++◌, length, take, drop, if◌then◌else◌, Option, Some, None, Result, Ok, Err, codes}
 use Rattle.std.specs.List.{starts_with}
+use Rattle.std.specs.Prelude.{nat_eq}
 use Rattle.justfile_base.specs.declared.string_kind.StringKind.{StringKind}
 use Rattle.justfile_base.specs.StringKind.{kind_of, delimiter_len, escapes}
+use Rattle.justfile_model.specs.Bytes.{is_interpolation_escape}
 use Rattle.justfile_model.specs.Unindent.{unindented}
 use Rattle.justfile_model.specs.EscapeFault.{EscapeFault}
 use Rattle.justfile_model.specs.FirstPiece as pieces
@@ -15,17 +17,31 @@ pub data Literal (A : Type 0) : Type 0 where
   Expanded : (token : A) → Literal A
   -- a command between backticks
   Command : (token : A) → Literal A
+  -- a format string with nothing to fill in
+  Single : (token : A) → Literal A
+  -- the parts of a format string; each knows how that starts
+  Start : (token : A) → Literal A
+  Continue : (start token : A) → Literal A
+  End : (start token : A) → Literal A
 
 abbrev pub over_literal : {A B : Type 0} → (A → B) → Literal A → Literal B
 over_literal f (Plain token) = Plain (f token)
 over_literal f (Expanded token) = Expanded (f token)
 over_literal f (Command token) = Command (f token)
+over_literal f (Single token) = Single (f token)
+over_literal f (Start token) = Start (f token)
+over_literal f (Continue start token) = Continue (f start) (f token)
+over_literal f (End start token) = End (f start) (f token)
 
 -- what is kept of the token that has the text
 abbrev pub token_of : {A : Type 0} → Literal A → A
 token_of (Plain token) = token
 token_of (Expanded token) = token
 token_of (Command token) = token
+token_of (Single token) = token
+token_of (Start token) = token
+token_of (Continue start token) = token
+token_of (End start token) = token
 
 -- why a literal has no text
 pub data LiteralFault : Type 0 where
@@ -69,6 +85,20 @@ escaped kind text = if escapes kind.delimiter then by_escapes (pieces.cooked_tex
 abbrev pub string_text : List ℕ → Result (List ℕ) LiteralFault
 string_text lexeme = escaped (kind_of lexeme) (flush_text lexeme)
 
+-- with two braces for each four, from the left; so many bytes at the front are left out
+abbrev pub unescaped_from : ℕ → List ℕ → List ℕ
+unescaped_from skipped [] = []
+unescaped_from (suc skipped) (b ∷ bs) = unescaped_from skipped bs
+unescaped_from zero (b ∷ bs) = if is_interpolation_escape (b ∷ bs) then codes "{{" ++ unescaped_from 3 bs else b ∷ unescaped_from zero bs
+
+-- four braces, from the left, are two
+abbrev pub unescaped_braces : List ℕ → List ℕ
+unescaped_braces = unescaped_from 0
+
+-- a part of a format string is never unindented
+abbrev pub part_text : StringKind → List ℕ → Result (List ℕ) LiteralFault
+part_text kind text = escaped kind (unescaped_braces text)
+
 abbrev pub by_answer : Option (Result (List ℕ) (List ℕ)) → Result (List ℕ) LiteralFault
 by_answer None = Err Unasked
 by_answer (Some (Ok text)) = Ok text
@@ -84,6 +114,10 @@ abbrev pub cooked_text : Answers → Literal (List ℕ) → Result (List ℕ) Li
 cooked_text expander (Plain lexeme) = string_text lexeme
 cooked_text expander (Expanded lexeme) = expanded_text expander (string_text lexeme)
 cooked_text expander (Command lexeme) = if starts_with nat_eq (flush_text lexeme) (codes "#!") then Err Shebang else Ok (flush_text lexeme)
+cooked_text expander (Single lexeme) = part_text (kind_of lexeme) (between (delimiter_len (kind_of lexeme)) (delimiter_len (kind_of lexeme)) lexeme)
+cooked_text expander (Start lexeme) = part_text (kind_of lexeme) (between (delimiter_len (kind_of lexeme)) 2 lexeme)
+cooked_text expander (Continue start lexeme) = part_text (kind_of start) (between 2 2 lexeme)
+cooked_text expander (End start lexeme) = part_text (kind_of start) (between 2 (delimiter_len (kind_of start)) lexeme)
 
 -- these are the texts of the literals, in order
 abbrev pub Cooks : Answers → List (Literal (List ℕ)) → List (List ℕ) → Type 0

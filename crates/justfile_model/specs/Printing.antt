@@ -1,7 +1,9 @@
 -- The printed text, of a normal shape at an indentation.
 use Rattle.std.specs.Prelude.{ℕ, Bool, true, not, ◌&&◌, List, [], ◌∷◌, ◌++◌, ◌==◌, false, codes}
 use Rattle.std.specs.List.{flat_map}
-use Rattle.justfile_model.specs.Tree.{Expr, StringLiteral, Backtick, Variable, Fragment, Text, Interpolation, BodyLine, Line, Item, Assignment, Comment, Newline, Recipe, Shape}
+use Rattle.justfile_model.specs.declared.conditional_operator.ConditionalOperator.{ConditionalOperator}
+use Rattle.justfile_model.specs.declared.conditional_operator.ConditionalOperator.TheVariants.{Equality, Inequality, RegexMatch, RegexMismatch}
+use Rattle.justfile_model.specs.Tree.{Expr, Or, And, Comparison, Concatenation, ListConcatenation, Join, Root, If, IfElse, Not, StringLiteral, FormatLiteral, FormatString, Backtick, Assert, AssertMessage, Variable, Call, Group, ListOf, Exprs, none, more, Parts, Last, Continue, Fragment, Text, Interpolation, BodyLine, Line, Item, Assignment, Comment, Newline, Recipe, Shape}
 
 -- a piece that is the same in every text; kept folded, so that a text stays a row of pieces
 unfoldable pub piece : List ℕ → List ℕ
@@ -12,10 +14,54 @@ abbrev pub mark_text : (expanded : Bool) → List ℕ
 mark_text true = piece (codes "x")
 mark_text false = []
 
-abbrev pub expr_text : Expr (List ℕ) (Unit {0}) → List ℕ
-expr_text (StringLiteral expanded lexeme) = mark_text expanded ++ lexeme
-expr_text (Backtick lexeme) = lexeme
-expr_text (Variable name) = name
+abbrev pub operator_text : ConditionalOperator → List ℕ
+operator_text Equality = piece (codes " == ")
+operator_text Inequality = piece (codes " != ")
+operator_text RegexMatch = piece (codes " =~ ")
+operator_text RegexMismatch = piece (codes " !~ ")
+
+abbrev pub is_conditional : {A B : Type 0} → Expr A B → Bool
+is_conditional (If c b) = true
+is_conditional (IfElse c b o) = true
+is_conditional _ = false
+
+-- in braces, but for a conditional
+abbrev pub other_text : (conditional : Bool) → List ℕ → List ℕ
+other_text true text = text
+other_text false text = piece (codes "{ ") ++ text ++ piece (codes " }")
+
+abbrev mutual
+  pub expr_text : Expr (List ℕ) (Unit {0}) → List ℕ
+  expr_text (Or l r) = expr_text l ++ piece (codes " || ") ++ expr_text r
+  expr_text (And l r) = expr_text l ++ piece (codes " && ") ++ expr_text r
+  expr_text (Comparison l operator token r) = expr_text l ++ operator_text operator ++ expr_text r
+  expr_text (Concatenation l operator r) = expr_text l ++ piece (codes " + ") ++ expr_text r
+  expr_text (ListConcatenation l operator r) = expr_text l ++ piece (codes " ++ ") ++ expr_text r
+  expr_text (Join l operator r) = expr_text l ++ piece (codes " / ") ++ expr_text r
+  expr_text (Root operator r) = piece (codes "/ ") ++ expr_text r
+  expr_text (If c b) = piece (codes "if ") ++ expr_text c ++ piece (codes " { ") ++ expr_text b ++ piece (codes " }")
+  expr_text (IfElse c b o) = piece (codes "if ") ++ expr_text c ++ piece (codes " { ") ++ expr_text b ++ piece (codes " } else ") ++ other_text (is_conditional o) (expr_text o)
+  expr_text (Not e) = piece (codes "!") ++ expr_text e
+  expr_text (StringLiteral expanded lexeme) = mark_text expanded ++ lexeme
+  expr_text (FormatLiteral lexeme) = piece (codes "f") ++ lexeme
+  expr_text (FormatString start e parts) = piece (codes "f") ++ start ++ piece (codes " ") ++ expr_text e ++ piece (codes " ") ++ parts_text parts
+  expr_text (Backtick lexeme) = lexeme
+  expr_text (Assert name c) = piece (codes "assert(") ++ expr_text c ++ piece (codes ")")
+  expr_text (AssertMessage name c m) = piece (codes "assert(") ++ expr_text c ++ piece (codes ", ") ++ expr_text m ++ piece (codes ")")
+  expr_text (Variable name) = name
+  expr_text (Call name arguments) = name ++ piece (codes "(") ++ exprs_text arguments ++ piece (codes ")")
+  expr_text (Group e) = piece (codes "(") ++ expr_text e ++ piece (codes ")")
+  expr_text (ListOf opener elements) = piece (codes "[") ++ exprs_text elements ++ piece (codes "]")
+
+  -- separated by a comma and a space
+  pub exprs_text : Exprs (List ℕ) (Unit {0}) → List ℕ
+  exprs_text none = []
+  exprs_text (more e none) = expr_text e
+  exprs_text (more e others) = expr_text e ++ piece (codes ", ") ++ exprs_text others
+
+  pub parts_text : Parts (List ℕ) (Unit {0}) → List ℕ
+  parts_text (Last lexeme) = lexeme
+  parts_text (Continue lexeme e parts) = lexeme ++ piece (codes " ") ++ expr_text e ++ piece (codes " ") ++ parts_text parts
 
 abbrev pub fragment_text : Fragment (List ℕ) (Unit {0}) → List ℕ
 fragment_text (Text lexeme) = lexeme

@@ -1,14 +1,58 @@
 -- Syntax trees, over what stands at their leaves: `A` where a shape keeps a lexeme, `B` where it keeps nothing of a token, `C` where a
 -- tree keeps the line of a token. In a tree these are tokens, tokens and numbers; in a shape lexemes, nothing and nothing.
 use Rattle.std.specs.Prelude.{ℕ, Bool, List, [], ◌∷◌, map}
+use Rattle.justfile_model.specs.declared.conditional_operator.ConditionalOperator.{ConditionalOperator}
 use Rattle.justfile_model.specs.Tok.{Tok}
 
-pub data Expr (A B : Type 0) : Type 0 where
-  -- a string literal; it is expanded if it is marked `x`
-  StringLiteral : (expanded : Bool) (token : A) → Expr A B
-  -- a command between backticks
-  Backtick : (token : A) → Expr A B
-  Variable : (name : A) → Expr A B
+mutual
+  pub data Expr (A B : Type 0) : Type 0 where
+    -- `lhs || rhs`
+    Or : (lhs rhs : Expr A B) → Expr A B
+    -- `lhs && rhs`
+    And : (lhs rhs : Expr A B) → Expr A B
+    Comparison : (lhs : Expr A B) (operator : ConditionalOperator) (token : B) (rhs : Expr A B) → Expr A B
+    -- `lhs + rhs`
+    Concatenation : (lhs : Expr A B) (operator : B) (rhs : Expr A B) → Expr A B
+    -- `lhs ++ rhs`
+    ListConcatenation : (lhs : Expr A B) (operator : B) (rhs : Expr A B) → Expr A B
+    -- `lhs / rhs`
+    Join : (lhs : Expr A B) (operator : B) (rhs : Expr A B) → Expr A B
+    -- `/ rhs`
+    Root : (operator : B) (rhs : Expr A B) → Expr A B
+    -- `if condition { branch }`
+    If : (condition branch : Expr A B) → Expr A B
+    -- the same with `else { other }`, or with `else other` where that is a conditional itself
+    IfElse : (condition branch other : Expr A B) → Expr A B
+    -- `!operand`
+    Not : (operand : Expr A B) → Expr A B
+    -- a string literal; it is expanded if it is marked `x`
+    StringLiteral : (expanded : Bool) (token : A) → Expr A B
+    -- a format string with nothing to fill in
+    FormatLiteral : (token : A) → Expr A B
+    -- a format string, from its start over an expression to its other parts
+    FormatString : (start : A) (e : Expr A B) (parts : Parts A B) → Expr A B
+    -- a command between backticks
+    Backtick : (token : A) → Expr A B
+    -- `assert(condition)`
+    Assert : (name : B) (condition : Expr A B) → Expr A B
+    -- `assert(condition, message)`
+    AssertMessage : (name : B) (condition message : Expr A B) → Expr A B
+    Variable : (name : A) → Expr A B
+    -- `name(arguments)`
+    Call : (name : A) (arguments : Exprs A B) → Expr A B
+    -- `(contents)`
+    Group : (contents : Expr A B) → Expr A B
+    -- `[elements]`
+    ListOf : (opener : B) (elements : Exprs A B) → Expr A B
+
+  pub data Exprs (A B : Type 0) : Type 0 where
+    none : Exprs A B
+    more : (e : Expr A B) (others : Exprs A B) → Exprs A B
+
+  -- what stands behind an expression in a format string
+  pub data Parts (A B : Type 0) : Type 0 where
+    Last : (token : A) → Parts A B
+    Continue : (token : A) (e : Expr A B) (parts : Parts A B) → Parts A B
 
 -- a part of a line of a body: text that stands for itself, or an expression between `{{` and `}}`
 pub data Fragment (A B : Type 0) : Type 0 where
@@ -46,10 +90,36 @@ trimmed (l ∷ ls) = before l (trimmed ls)
 
 -- what is at the leaves replaced
 module _ {A B C D : Type 0} (f : A → C) (g : B → D) where
-  abbrev pub over_expr : Expr A B → Expr C D
-  over_expr (StringLiteral expanded token) = StringLiteral expanded (f token)
-  over_expr (Backtick token) = Backtick (f token)
-  over_expr (Variable name) = Variable (f name)
+  abbrev mutual
+    pub over_expr : Expr A B → Expr C D
+    over_expr (Or l r) = Or (over_expr l) (over_expr r)
+    over_expr (And l r) = And (over_expr l) (over_expr r)
+    over_expr (Comparison l operator token r) = Comparison (over_expr l) operator (g token) (over_expr r)
+    over_expr (Concatenation l operator r) = Concatenation (over_expr l) (g operator) (over_expr r)
+    over_expr (ListConcatenation l operator r) = ListConcatenation (over_expr l) (g operator) (over_expr r)
+    over_expr (Join l operator r) = Join (over_expr l) (g operator) (over_expr r)
+    over_expr (Root operator r) = Root (g operator) (over_expr r)
+    over_expr (If c b) = If (over_expr c) (over_expr b)
+    over_expr (IfElse c b o) = IfElse (over_expr c) (over_expr b) (over_expr o)
+    over_expr (Not e) = Not (over_expr e)
+    over_expr (StringLiteral expanded token) = StringLiteral expanded (f token)
+    over_expr (FormatLiteral token) = FormatLiteral (f token)
+    over_expr (FormatString start e parts) = FormatString (f start) (over_expr e) (over_parts parts)
+    over_expr (Backtick token) = Backtick (f token)
+    over_expr (Assert name c) = Assert (g name) (over_expr c)
+    over_expr (AssertMessage name c m) = AssertMessage (g name) (over_expr c) (over_expr m)
+    over_expr (Variable name) = Variable (f name)
+    over_expr (Call name arguments) = Call (f name) (over_exprs arguments)
+    over_expr (Group e) = Group (over_expr e)
+    over_expr (ListOf opener elements) = ListOf (g opener) (over_exprs elements)
+
+    pub over_exprs : Exprs A B → Exprs C D
+    over_exprs none = none
+    over_exprs (more e others) = more (over_expr e) (over_exprs others)
+
+    pub over_parts : Parts A B → Parts C D
+    over_parts (Last token) = Last (f token)
+    over_parts (Continue token e parts) = Continue (f token) (over_expr e) (over_parts parts)
 
   abbrev pub over_fragment : Fragment A B → Fragment C D
   over_fragment (Text token) = Text (f token)

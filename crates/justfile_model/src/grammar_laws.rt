@@ -1,45 +1,55 @@
 //! Laws of the grammar, each the contract of a function that does nothing.
-ghost use Rattle.std.specs.Prelude.{◌≡◌, ◌<◌, ◌≤◌, ℕ, ◌+◌, List, [], ◌∷◌, length, map, slice_index, Ok, Err, Some, true, false};
+ghost use Rattle.std.specs.Prelude.{◌≡◌, ◌<◌, ◌≤◌, ◌⊎◌, ℕ, ◌+◌, Bool, IsTrue, List, [], ◌∷◌, length, map, slice_index, Option, Ok, Err, Some, true, false};
 ghost use Rattle.justfile_base.specs.declared.token_kind.TokenKind.TheVariants.{ColonEquals, Identifier};
+ghost use Rattle.justfile_model.specs.Expressions.{Waived};
+ghost use Rattle.justfile_model.specs.Features.{Noted, over_noted};
 ghost use Rattle.justfile_model.specs.Files.{VersionNumbers, FileTree, FileDerives, NumbersFrom, ShapeDerives, literals, bindings, recipes};
+ghost use Rattle.justfile_model.specs.Grammar.{File};
 ghost use Rattle.justfile_model.specs.Literals.{Literal, over_literal, Answers, Within, Cooks};
 ghost use Rattle.justfile_model.specs.NormalShape.{normal};
 ghost use Rattle.justfile_model.specs.Printing.{printable, text};
-ghost use Rattle.justfile_model.specs.Reader.{Refusal, accept, assignment, file, items, next_are, recipe, with_front};
-ghost use Rattle.justfile_model.specs.Refusals.{RefusesLiteral};
+ghost use Rattle.justfile_model.specs.Reader.{assignment, file, items, recipe};
+ghost use Rattle.justfile_model.specs.Reading.{Input, Refusal, TooDeep, accept, after, next_are};
+ghost use Rattle.justfile_model.specs.Refusals.{IsDue};
 ghost use Rattle.justfile_model.specs.SignificantTokens.{SignificantToken, identifiers};
 ghost use Rattle.justfile_model.specs.Tok.{Tok};
-ghost use Rattle.justfile_model.specs.Tree.{Item, Tree, Shape, lexeme, shape_of};
+ghost use Rattle.justfile_model.specs.Tree.{Item, Tree, Shape, itself, lexeme, line_of, nothing, shape_of};
 
-/// The reader and the grammar agree, and tokens derive at most one tree.
+/// The reader and the grammar agree, and tokens derive at most one tree with its features.
 pub fn reads()
-    ensures sound { (E : Answers) (V : VersionNumbers) (ts : List SignificantToken) (tree : Tree) → file E ts ≡ Ok tree → FileDerives E V ts tree }
-    ensures complete { (E : Answers) (V : VersionNumbers) (ts : List SignificantToken) (tree : Tree) → FileDerives E V ts tree → file E ts ≡ Ok tree }
-    // In what is read yet no expression is too deep.
-    ensures free { (E : Answers) (ts : List SignificantToken) (tree : Tree) (cooked : List (List ℕ)) → FileTree ts tree → Cooks E (map (over_literal lexeme) (literals tree)) cooked → file E ts ≡ Ok tree }
-    // What the grammar alone has a tree for is refused at its first literal without a text, and only there.
-    ensures refused { (E : Answers) (ts : List SignificantToken) (tree : Tree) → FileTree ts tree → (r : Refusal) → file E ts ≡ Err r → RefusesLiteral E tree r }
-    ensures one { (E : Answers) (V : VersionNumbers) (ts : List SignificantToken) (tree other : Tree) → FileDerives E V ts tree → FileDerives E V ts other → tree ≡ other }
+    ensures sound { (E : Answers) (V : VersionNumbers) (ts : List SignificantToken) (tree : Tree) (features : List (Noted Tok)) → file E ts ≡ Ok (tree, features) → FileDerives E V ts tree features }
+    ensures complete { (E : Answers) (V : VersionNumbers) (ts : List SignificantToken) (tree : Tree) (features : List (Noted Tok)) → FileDerives E V ts tree features → file E ts ≡ Ok (tree, features) }
+    // Where the expressions that are entered at the limit begin at some tokens, it is read, or too deep at one of them.
+    ensures deep { (E : Answers) (ts : List SignificantToken) (tree : Tree) (features : List (Noted Tok)) (Hit : Option SignificantToken → Bool) → File itself itself line_of (Waived (λ at. IsTrue (Hit at))) tree features ts → (cooked : List (List ℕ)) → Cooks E (map (over_literal lexeme) (literals tree)) cooked → (file E ts ≡ Ok (tree, features)) ⊎ ((at : Option SignificantToken) × IsTrue (Hit at) × (file E ts ≡ Err (TooDeep at))) }
+    // Without the limit: it is read, or some expression is too deep.
+    ensures free { (E : Answers) (ts : List SignificantToken) (tree : Tree) (features : List (Noted Tok)) (cooked : List (List ℕ)) → FileTree ts tree features → Cooks E (map (over_literal lexeme) (literals tree)) cooked → (file E ts ≡ Ok (tree, features)) ⊎ ((at : Option SignificantToken) × (file E ts ≡ Err (TooDeep at))) }
+    // Where they begin at some tokens, it is refused for its first literal without a text, or as too deep at one of these
+    // tokens, and for nothing else.
+    ensures due { (E : Answers) (ts : List SignificantToken) (tree : Tree) (features : List (Noted Tok)) (Hit : Option SignificantToken → Bool) → File itself itself line_of (Waived (λ at. IsTrue (Hit at))) tree features ts → (r : Refusal) → file E ts ≡ Err r → IsDue E (λ at. IsTrue (Hit at)) (literals tree) r }
+    // The same of the grammar alone.
+    ensures refused { (E : Answers) (ts : List SignificantToken) (tree : Tree) (features : List (Noted Tok)) → FileTree ts tree features → (r : Refusal) → file E ts ≡ Err r → IsDue E (λ at. Unit {0}) (literals tree) r }
+    ensures one { (E : Answers) (V : VersionNumbers) (ts : List SignificantToken) (tree other : Tree) (features others : List (Noted Tok)) → FileDerives E V ts tree features → FileDerives E V ts other others → (tree ≡ other) × (features ≡ others) }
 {}
 
 /// A tree has at most as many bindings and recipes as its tokens have identifiers, and those of what was read first are
 /// some of them.
 pub fn counts()
-    ensures whole { (E : Answers) (ts : List SignificantToken) (tree : Tree) → file E ts ≡ Ok tree → bindings tree + recipes tree ≤ identifiers ts }
-    ensures first { (E : Answers) (done : Tree) (ts : List SignificantToken) (tree : Tree) → with_front E done (items E ts) ≡ Ok tree → bindings done ≤ bindings tree }
-    ensures first_recipes { (E : Answers) (done : Tree) (ts : List SignificantToken) (tree : Tree) → with_front E done (items E ts) ≡ Ok tree → recipes done ≤ recipes tree }
+    ensures whole { (E : Answers) (ts : List SignificantToken) (x : Tree × List (Noted Tok)) → file E ts ≡ Ok x → bindings x.0 + recipes x.0 ≤ identifiers ts }
+    ensures first { (E : Answers) (done : Tree) (s : Input) (all : Tree × Input) → after done (items E s) ≡ Ok all → bindings done ≤ bindings all.0 }
+    ensures first_recipes { (E : Answers) (done : Tree) (s : Input) (all : Tree × Input) → after done (items E s) ≡ Ok all → recipes done ≤ recipes all.0 }
     // A name before `:=` is a binding's, and any other name that begins a line is a recipe's.
-    ensures next { (E : Answers) (done : Tree) (ts : List SignificantToken) (tree : Tree) → with_front E done (items E ts) ≡ Ok tree → next_are (Identifier ∷ ColonEquals ∷ []) ts ≡ true → bindings done + 1 ≤ bindings tree }
-    ensures next_recipe { (E : Answers) (done : Tree) (ts : List SignificantToken) (tree : Tree) → with_front E done (items E ts) ≡ Ok tree → (x : SignificantToken × List SignificantToken) → accept Identifier ts ≡ Some x → next_are (Identifier ∷ ColonEquals ∷ []) ts ≡ false → recipes done + 1 ≤ recipes tree }
-    ensures assigned { (E : Answers) (done : Tree) (ts : List SignificantToken) (tree : Tree) → with_front E done (items E ts) ≡ Ok tree → (x : Item Tok Tok ℕ × List SignificantToken) → assignment E ts ≡ Ok x → bindings done + 1 ≤ bindings tree }
-    ensures headed { (E : Answers) (done : Tree) (ts : List SignificantToken) (tree : Tree) → with_front E done (items E ts) ≡ Ok tree → (x : Item Tok Tok ℕ × List SignificantToken) → recipe E ts ≡ Ok x → recipes done + 1 ≤ recipes tree }
+    ensures next { (E : Answers) (done : Tree) (s : Input) (all : Tree × Input) → after done (items E s) ≡ Ok all → next_are (Identifier ∷ ColonEquals ∷ []) s ≡ true → bindings done + 1 ≤ bindings all.0 }
+    ensures next_recipe { (E : Answers) (done : Tree) (s : Input) (all : Tree × Input) → after done (items E s) ≡ Ok all → (x : SignificantToken × Input) → accept Identifier s ≡ Some x → next_are (Identifier ∷ ColonEquals ∷ []) s ≡ false → recipes done + 1 ≤ recipes all.0 }
+    ensures assigned { (E : Answers) (done : Tree) (s : Input) (all : Tree × Input) → after done (items E s) ≡ Ok all → (x : Item Tok Tok ℕ × Input) → assignment E s ≡ Ok x → bindings done + 1 ≤ bindings all.0 }
+    ensures headed { (E : Answers) (done : Tree) (s : Input) (all : Tree × Input) → after done (items E s) ≡ Ok all → (x : Item Tok Tok ℕ × Input) → recipe E s ≡ Ok x → recipes done + 1 ≤ recipes all.0 }
 {}
 
-/// A tree derives where its shape does, and tokens derive at most one shape, whose literals have one row of texts.
+/// A tree derives where its shape does, with features at the same places but for what is kept of them; tokens derive at most
+/// one shape with its features, and literals have one row of texts.
 pub fn shapes()
-    ensures forget { (E : Answers) (V : VersionNumbers) (ts : List SignificantToken) (tree : Tree) → FileDerives E V ts tree → ShapeDerives E V ts (shape_of tree) }
-    ensures lift { (E : Answers) (V : VersionNumbers) (ts : List SignificantToken) (shape : Shape) → ShapeDerives E V ts shape → (tree : Tree) × FileDerives E V ts tree × (shape_of tree ≡ shape) }
-    ensures one { (E : Answers) (V : VersionNumbers) (ts : List SignificantToken) (shape other : Shape) → ShapeDerives E V ts shape → ShapeDerives E V ts other → shape ≡ other }
+    ensures forget { (E : Answers) (V : VersionNumbers) (ts : List SignificantToken) (tree : Tree) (features : List (Noted Tok)) → FileDerives E V ts tree features → ShapeDerives E V ts (shape_of tree) (map (over_noted nothing) features) }
+    ensures lift { (E : Answers) (V : VersionNumbers) (ts : List SignificantToken) (shape : Shape) (features : List (Noted (Unit {0}))) → ShapeDerives E V ts shape features → (tree : Tree) × (noted : List (Noted Tok)) × FileDerives E V ts tree noted × (shape_of tree ≡ shape) × (map (over_noted nothing) noted ≡ features) }
+    ensures one { (E : Answers) (V : VersionNumbers) (ts : List SignificantToken) (shape other : Shape) (features others : List (Noted (Unit {0}))) → ShapeDerives E V ts shape features → ShapeDerives E V ts other others → (shape ≡ other) × (features ≡ others) }
     ensures texts { (E : Answers) (literals : List (Literal (List ℕ))) (texts others : List (List ℕ)) → Cooks E literals texts → Cooks E literals others → texts ≡ others }
 {}
 
@@ -54,8 +64,8 @@ pub fn normal_twice()
 
 /// What derives where an expander answers less derives where it answers more.
 pub fn expanders()
-    ensures tree { (E F : Answers) → Within E F → (V : VersionNumbers) (ts : List SignificantToken) (tree : Tree) → FileDerives E V ts tree → FileDerives F V ts tree }
-    ensures shape { (E F : Answers) → Within E F → (V : VersionNumbers) (ts : List SignificantToken) (shape : Shape) → ShapeDerives E V ts shape → ShapeDerives F V ts shape }
+    ensures tree { (E F : Answers) → Within E F → (V : VersionNumbers) (ts : List SignificantToken) (tree : Tree) (features : List (Noted Tok)) → FileDerives E V ts tree features → FileDerives F V ts tree features }
+    ensures shape { (E F : Answers) → Within E F → (V : VersionNumbers) (ts : List SignificantToken) (shape : Shape) (features : List (Noted (Unit {0}))) → ShapeDerives E V ts shape features → ShapeDerives F V ts shape features }
 {}
 
 /// The printed text is a function of the normal shape and the indentation.

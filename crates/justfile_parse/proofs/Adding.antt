@@ -5,17 +5,18 @@ use Rattle.justfile_base.specs.declared.token.Token.{Token}
 use Rattle.justfile_base.specs.declared.numerator.Numerator.{Numerator}
 use Rattle.justfile_file.specs.declared.item.Item.{Item}
 use Rattle.justfile_base.specs.declared.token_kind.TokenKind.TheVariants as kinds
-use Rattle.justfile_model.specs.Reader.{accept, after, comment_item, on_line, line_end, behind, line}
+use Rattle.justfile_model.specs.Reader.{comment_item, on_line, line_end, behind, line}
+use Rattle.justfile_model.specs.Reading.{Input, accept, after}
 use Rattle.justfile_model.specs.SignificantTokens.{SignificantToken}
 use Rattle.justfile_model.specs.Tree.{Tree}
 use Rattle.justfile_parse.specs.declared.stop.Stop.{Stop}
-use Rattle.justfile_parse.specs.declared.stop.Stop.TheVariants.{Refused, Memory, Numbers}
+use Rattle.justfile_parse.specs.declared.stop.Stop.TheVariants.{Refused, Literal, Memory, Numbers}
 use Rattle.justfile_parse.proofs.Lines.{behind_comment, line_fails}
 use Rattle.justfile_parse.specs.Given.{IsInTable, IsGivenItems, IsUnnumberedItem}
 use Rattle.justfile_cook.specs.Literal.{answers_by}
-use Rattle.justfile_parse.specs.Reading.{StopsAt, refusal_at}
+use Rattle.justfile_parse.specs.Reading.{StopsAt, literal_refusal, refusal_at}
 use Rattle.justfile_parse.specs.WantsNumber.{LacksFirst}
-use Rattle.justfile_parse.specs.View.{rest_of, IsItemBy, IsNumbered, IsSameRun, IsGivenBy, AddsUnnumbered, Adds}
+use Rattle.justfile_parse.specs.View.{input_of, IsItemBy, IsNumbered, IsSameRun, IsGivenBy, AddsUnnumbered, Adds}
 use Rattle.justfile_parse.specs.declared.parser.Parser.{Parser}
 use Rattle.justfile_parse.proofs.GivenLemmas.{given_push, unnumbered_given, unnumbered_numbered}
 
@@ -68,24 +69,25 @@ module _ {X : Type 0} (answer : X → List ℕ → Result (List ℕ) (List ℕ))
     adds_later items new got gets h = record { adds = λ first so_far. back first gets new (h.adds first (there first got items so_far)) }
 
     -- a comment that trails an item, and what is behind it
-    pub behind_after : (done more : Tree) (c : SignificantToken) → accept kinds.Comment (rest_of p) ≡ Some (c, rest_of q) → more ≡ done ++ comment_item c ∷ []
-        → after more (line_end (answers_by answer q.expander.now) (rest_of q)) ≡ after done (behind (answers_by answer p.expander.now) (rest_of p))
+    pub behind_after : (done more : Tree) (c : SignificantToken) → accept kinds.Comment (input_of p) ≡ Some (c, input_of q) → more ≡ done ++ comment_item c ∷ []
+        → after more (line_end (answers_by answer q.expander.now) (input_of q)) ≡ after done (behind (answers_by answer p.expander.now) (input_of p))
     behind_after done more c taken is =
-        ap (λ (e : Bor X). after more (line_end (answers_by answer e.now) (rest_of q))) same.expander
-        ∙ ap (λ (t : Tree). after t (line_end (answers_by answer p.expander.now) (rest_of q))) is
-        ∙ sym (behind_comment (answers_by answer p.expander.now) done (rest_of p) c (rest_of q) taken)
+        ap (λ (e : Bor X). after more (line_end (answers_by answer e.now) (input_of q))) same.expander
+        ∙ ap (λ (t : Tree). after t (line_end (answers_by answer p.expander.now) (input_of q))) is
+        ∙ sym (behind_comment (answers_by answer p.expander.now) done (input_of p) c (input_of q) taken)
 
-    read_there : rest_of q ≡ rest_of p → on_line (answers_by answer q.expander.now) (rest_of q) ≡ on_line (answers_by answer p.expander.now) (rest_of p)
-    read_there here = ap (λ (e : Bor X). on_line (answers_by answer e.now) (rest_of q)) same.expander ∙ ap (on_line (answers_by answer p.expander.now)) here
+    read_there : input_of q ≡ input_of p → on_line (answers_by answer q.expander.now) (input_of q) ≡ on_line (answers_by answer p.expander.now) (input_of p)
+    read_there here = ap (λ (e : Bor X). on_line (answers_by answer e.now) (input_of q)) same.expander ∙ ap (on_line (answers_by answer p.expander.now)) here
 
     -- the first item of a line is refused
-    pub line_stops : (stop : Stop) (left : List SignificantToken) (old new : Numerator) (done : Tree)
-        → accept kinds.Eol (rest_of p) ≡ None → rest_of q ≡ rest_of p
-        → StopsAt stop left (LacksFirst (answers_by answer q.expander.now) (rest_of q) old new) (on_line (answers_by answer q.expander.now) (rest_of q))
-        → StopsAt stop left (LacksFirst (answers_by answer p.expander.now) (rest_of p) old new) (after done (line (answers_by answer p.expander.now) (rest_of p)))
-    line_stops (Refused r) left old new done none here h = (line_fails (answers_by answer p.expander.now) done (rest_of p) (refusal_at r left) none (sym (read_there here) ∙ h.0), h.1)
+    pub line_stops : (stop : Stop) (left : Input) (old new : Numerator) (done : Tree)
+        → accept kinds.Eol (input_of p) ≡ None → input_of q ≡ input_of p
+        → StopsAt stop left (LacksFirst (answers_by answer q.expander.now) (input_of q) old new) (on_line (answers_by answer q.expander.now) (input_of q))
+        → StopsAt stop left (LacksFirst (answers_by answer p.expander.now) (input_of p) old new) (after done (line (answers_by answer p.expander.now) (input_of p)))
+    line_stops (Refused r) left old new done none here h = line_fails (answers_by answer p.expander.now) done (input_of p) (refusal_at r left) none (sym (read_there here) ∙ h)
+    line_stops (Literal refused) left old new done none here h = line_fails (answers_by answer p.expander.now) done (input_of p) (literal_refusal refused.error refused.glued) none (sym (read_there here) ∙ h)
     line_stops Memory left old new done none here h = tt
     line_stops Numbers left old new done none here h =
-        let P : Bor X → Type 0 = λ e. LacksFirst (answers_by answer e.now) (rest_of q) old new in
-        let Q : List SignificantToken → Type 0 = λ ts. LacksFirst (answers_by answer p.expander.now) ts old new in
+        let P : Bor X → Type 0 = λ e. LacksFirst (answers_by answer e.now) (input_of q) old new in
+        let Q : Input → Type 0 = λ s. LacksFirst (answers_by answer p.expander.now) s old new in
         subst Q here (subst P same.expander h)

@@ -3,43 +3,45 @@ use Rattle.std.proofs.Common.{◌≡◌, Bool, true, false, cond, List, [], ◌�
 use Rattle.std.proofs.lemmas.List.{append-nil, append_assoc}
 use Rattle.justfile_base.specs.declared.token_kind.TokenKind.TheVariants as kinds
 use Rattle.justfile_model.specs.Literals.{Answers}
-use Rattle.justfile_model.specs.Reader.{Refusal, ◌>>=◌, Read, accept, after, assignment, expect, comment_item, ended, has_body, next_are, on_line, line_end, behind, line, recipe}
+use Rattle.justfile_model.specs.Reader.{assignment, comment_item, ended, has_body, on_line, line_end, behind, line, recipe}
+use Rattle.justfile_model.specs.Reading.{Input, Refusal, ◌>>=◌, Read, accept, after, expect, next_are}
 use Rattle.justfile_model.specs.SignificantTokens.{SignificantToken}
 use Rattle.justfile_model.specs.Tok.{Tok}
 use Rattle.justfile_model.specs.Tree as tree
 use Rattle.justfile_model.specs.Tree.{Item, Tree}
-use Rattle.justfile_parse.specs.Reading.{StopsAt, ended_by, refusal_at}
+use Rattle.justfile_parse.specs.Reading.{StopsAt, ended_by, literal_refusal, refusal_at}
 use Rattle.justfile_parse.specs.declared.stop.Stop.{Stop}
-use Rattle.justfile_parse.specs.declared.stop.Stop.TheVariants.{Refused, Memory, Numbers}
+use Rattle.justfile_parse.specs.declared.stop.Stop.TheVariants.{Refused, Literal, Memory, Numbers}
 
-module _ (expander : Answers) (ts : List SignificantToken) where
-  pub on_line_assignment : accept kinds.Comment ts ≡ None → next_are (kinds.Identifier ∷ kinds.ColonEquals ∷ []) ts ≡ true → on_line expander ts ≡ assignment expander ts
+module _ (expander : Answers) (s : Input) where
+  pub on_line_assignment : accept kinds.Comment s ≡ None → next_are (kinds.Identifier ∷ kinds.ColonEquals ∷ []) s ≡ true → on_line expander s ≡ assignment expander s
   unfolding on_line
   on_line_assignment h1 h2 = rw (h1, h2) refl
 
-  pub on_line_recipe : accept kinds.Comment ts ≡ None → next_are (kinds.Identifier ∷ kinds.ColonEquals ∷ []) ts ≡ false → on_line expander ts ≡ recipe expander ts
+  pub on_line_recipe : accept kinds.Comment s ≡ None → next_are (kinds.Identifier ∷ kinds.ColonEquals ∷ []) s ≡ false → on_line expander s ≡ recipe expander s
   unfolding on_line
   on_line_recipe h1 h2 = rw (h1, h2) refl
 
-module _ (expander : Answers) (done : Tree) (ts : List SignificantToken) where
-  pub line_end_closes : (end : SignificantToken × List SignificantToken) → accept kinds.Eof ts ≡ Some end → after done (line_end expander ts) ≡ Ok (done, ts)
+module _ (expander : Answers) (done : Tree) (s : Input) where
+  pub line_end_closes : (end : SignificantToken × Input) → accept kinds.Eof s ≡ Some end → after done (line_end expander s) ≡ Ok (done, s)
   unfolding after line_end
-  line_end_closes end h = rw h (ap (λ (l : Tree). Ok (l, ts)) (append-nil done))
+  line_end_closes end h = rw h (ap (λ (l : Tree). Ok (l, s)) (append-nil done))
 
-  pub line_end_newline : (t : SignificantToken) (rest : List SignificantToken) → accept kinds.Eof ts ≡ None → expect kinds.Eol ts ≡ Ok (t, rest) → after done (line_end expander ts) ≡ Ok (done ++ tree.Newline ∷ [], rest)
+  pub line_end_newline : (t : SignificantToken) (rest : Input) → accept kinds.Eof s ≡ None → expect kinds.Eol s ≡ Ok (t, rest) → after done (line_end expander s) ≡ Ok (done ++ tree.Newline ∷ [], rest)
   unfolding after line_end
   line_end_newline t rest h1 h2 = rw (h1, h2) refl
 
-  pub line_end_fails : (e : Refusal) → accept kinds.Eof ts ≡ None → expect kinds.Eol ts ≡ Err e → after done (line_end expander ts) ≡ Err e
+  pub line_end_fails : (e : Refusal) → accept kinds.Eof s ≡ None → expect kinds.Eol s ≡ Err e → after done (line_end expander s) ≡ Err e
   unfolding after line_end
   line_end_fails e h1 h2 = rw (h1, h2) refl
 
-  pub line_end_stops : (stop : Stop) (left : List SignificantToken) → accept kinds.Eof ts ≡ None → StopsAt stop left ⊥ (expect kinds.Eol ts) → StopsAt stop left ⊥ (after done (line_end expander ts))
-  line_end_stops (Refused r) left none h = (line_end_fails (refusal_at r left) none h.0, h.1)
+  pub line_end_stops : (stop : Stop) (left : Input) → accept kinds.Eof s ≡ None → StopsAt stop left ⊥ (expect kinds.Eol s) → StopsAt stop left ⊥ (after done (line_end expander s))
+  line_end_stops (Refused r) left none h = line_end_fails (refusal_at r left) none h
+  line_end_stops (Literal refused) left none h = line_end_fails (literal_refusal refused.error refused.glued) none h
   line_end_stops Memory left none h = tt
   line_end_stops Numbers left none h = h
 
-  pub behind_bare : accept kinds.Comment ts ≡ None → after done (behind expander ts) ≡ after done (line_end expander ts)
+  pub behind_bare : accept kinds.Comment s ≡ None → after done (behind expander s) ≡ after done (line_end expander s)
   unfolding behind
   behind_bare h = rw h refl
 
@@ -48,19 +50,19 @@ module _ (expander : Answers) (done : Tree) (ts : List SignificantToken) where
   then_end c (Ok x) = ap (λ (l : Tree). Ok (l, x.1)) (sym (append_assoc done (comment_item c ∷ []) x.0))
   then_end c (Err e) = refl
 
-  pub behind_comment : (c : SignificantToken) (rest : List SignificantToken) → accept kinds.Comment ts ≡ Some (c, rest) → after done (behind expander ts) ≡ after (done ++ comment_item c ∷ []) (line_end expander rest)
+  pub behind_comment : (c : SignificantToken) (rest : Input) → accept kinds.Comment s ≡ Some (c, rest) → after done (behind expander s) ≡ after (done ++ comment_item c ∷ []) (line_end expander rest)
   unfolding behind
   behind_comment c rest h = rw h (then_end c (line_end expander rest))
 
-  pub ended_body : (b : Bool) (new : Tree) → b ≡ true → new ≡ done ++ tree.Newline ∷ [] → after done (ended_by expander b ts) ≡ Ok (new, ts)
+  pub ended_body : (b : Bool) (new : Tree) → b ≡ true → new ≡ done ++ tree.Newline ∷ [] → after done (ended_by expander b s) ≡ Ok (new, s)
   unfolding after
-  ended_body b new h is = rw h (ap (λ (l : Tree). Ok (l, ts)) (sym is))
+  ended_body b new h is = rw h (ap (λ (l : Tree). Ok (l, s)) (sym is))
 
-  pub line_blank : (t : SignificantToken) (rest : List SignificantToken) → accept kinds.Eol ts ≡ Some (t, rest) → after done (line expander ts) ≡ Ok (done ++ tree.Newline ∷ [], rest)
+  pub line_blank : (t : SignificantToken) (rest : Input) → accept kinds.Eol s ≡ Some (t, rest) → after done (line expander s) ≡ Ok (done ++ tree.Newline ∷ [], rest)
   unfolding after line
   line_blank t rest h = rw h refl
 
-  pub line_fails : (e : Refusal) → accept kinds.Eol ts ≡ None → on_line expander ts ≡ Err e → after done (line expander ts) ≡ Err e
+  pub line_fails : (e : Refusal) → accept kinds.Eol s ≡ None → on_line expander s ≡ Err e → after done (line expander s) ≡ Err e
   unfolding after line
   line_fails e h1 h2 = rw (h1, h2) refl
 
@@ -69,10 +71,10 @@ module _ (expander : Answers) (done : Tree) (ts : List SignificantToken) where
   then_ended i (Ok x) = ap (λ (l : Tree). Ok (l, x.1)) (sym (append_assoc done (i ∷ []) x.0))
   then_ended i (Err e) = refl
 
-  choice : (b : Bool) (rest : List SignificantToken) → cond {A = Read Tree} b (Ok (tree.Newline ∷ [], rest)) (behind expander rest) ≡ ended_by expander b rest
+  choice : (b : Bool) (rest : Input) → cond {A = Read Tree} b (Ok (tree.Newline ∷ [], rest)) (behind expander rest) ≡ ended_by expander b rest
   choice true rest = refl
   choice false rest = refl
 
-  pub line_goes_on : (i : Item Tok Tok ℕ) (rest : List SignificantToken) → accept kinds.Eol ts ≡ None → on_line expander ts ≡ Ok (i, rest) → after done (line expander ts) ≡ after (done ++ i ∷ []) (ended_by expander (has_body i) rest)
+  pub line_goes_on : (i : Item Tok Tok ℕ) (rest : Input) → accept kinds.Eol s ≡ None → on_line expander s ≡ Ok (i, rest) → after done (line expander s) ≡ after (done ++ i ∷ []) (ended_by expander (has_body i) rest)
   unfolding line ended
   line_goes_on i rest h1 h2 = rw (h1, h2) (then_ended i (cond (has_body i) (Ok (tree.Newline ∷ [], rest)) (behind expander rest)) ∙ ap (after (done ++ i ∷ [])) (choice (has_body i) rest))

@@ -22,7 +22,7 @@ use Rattle.justfile_cook.specs.Literal.{IsKindOf}
 use Rattle.justfile_base.specs.ByteClass.{class_of}
 use Rattle.justfile_model.specs.Lexed.{IsFault, IsSpan}
 use Rattle.justfile_model.specs.Literals as literals
-use Rattle.justfile_model.specs.Reader as reader
+use Rattle.justfile_model.specs.Reading as reader
 use Rattle.justfile_model.specs.SignificantTokens.{SignificantToken}
 use Rattle.justfile_parse.specs.Errors.{IsErrorOf, IsUnexpected}
 use Rattle.justfile_model.specs.LexicalFault.{LexicalFault, NotLexical, Refusal, Here, Unclosed, lexical_fault_of}

@@ -1,24 +1,31 @@
 -- What is read of a table, and what that says of the tokens.
-use Rattle.std.proofs.Common.{◌≡◌, ℕ, ◌+◌, ◌<◌, ◌≤◌, Bool, true, false, not, ◌||◌, ◌&&◌, cond, IsTrue, rules, List, [], ◌∷◌, ◌++◌, map, length, All, Contains, Some, None, Option, Result, Ok, Err, IfSome, IfNone, inl, inr, refl, sym, ap, ◌∙◌, subst, arith}
+use Rattle.std.proofs.Common.{◌≡◌, ℕ, ◌+◌, ◌<◌, ◌≤◌, Bool, true, false, not, ◌||◌, ◌&&◌, cond, IsTrue, rules, List, [], ◌∷◌, ◌++◌, map, length, All, Contains, Some, None, Option, Result, Ok, Err, IfErr, IfSome, IfNone, inl, inr, refl, sym, ap, ◌∙◌, subst, arith}
 use Rattle.std.specs.Prelude.{◌⊎◌, ◌-◌, get_or, reverse, string_bytes}
 use Rattle.std.specs.List.{list_all, flat_map}
 use Rattle.std.proofs.lemmas.Bool.Decides.{nat_tests}
-use Rattle.std.proofs.lemmas.List.{length-map, map-append, reverse-append, reverse-reverse}
+use Rattle.std.proofs.lemmas.List.{append-nil, length-map, map-append, reverse-append, reverse-reverse}
 use Rattle.std.proofs.lemmas.List.Elements.{All-contains, All-head, All-tail, All-weaker}
 use denote.Enum.Bare.{same_true}
 use Rattle.justfile_base.specs.StringKind.{delimiter_len, kind_of}
+use Rattle.justfile_base.specs.StringLiteral.{begins_format_string}
+use Rattle.justfile_base.specs.declared.format_string_part.FormatStringPart.TheVariants as format_parts
+use Rattle.justfile_base.specs.declared.name.Name.{Name}
 use Rattle.justfile_base.specs.Token.{lexeme_of}
 use Rattle.justfile_base.specs.contracts.token_kind.TokenKind.{the_type}
 use Rattle.justfile_base.specs.declared.compile_error.CompileError.{CompileError}
 use Rattle.justfile_base.specs.declared.fault.Fault.{Fault}
 use Rattle.justfile_base.specs.declared.fault.Fault.TheVariants as faults
 use Rattle.justfile_base.specs.declared.numerator.Numerator.{Numerator}
+use Rattle.justfile_base.specs.declared.string_kind.StringKind.{StringKind}
+use Rattle.justfile_base.specs.declared.string_literal.StringLiteral as literals
 use Rattle.justfile_base.specs.declared.token.Token.{Token}
+use Rattle.justfile_base.specs.declared.token_kind.TokenKind.{TokenKind}
 use Rattle.justfile_base.specs.declared.token_kind.TokenKind.TheVariants as kinds
 use Rattle.std.specs.Str.{IsUtf8}
 use Rattle.justfile_canon.specs.RoundTrip.{TextDerives}
-use Rattle.justfile_canon.proofs.Quoted.{AreQuoted, IsQuoted, lexed_quoted}
+use Rattle.justfile_canon.proofs.Quoted.{AreFramed, AreQuoted, IsFramed, IsQuoted, lexed_framed, lexed_quoted}
 use Rattle.justfile_file.specs.Item.{fragment_of, fragment_cooked, item_of, item_cooked, line_of, line_cooked}
+use Rattle.justfile_file.specs.Ast.{features_of, tree_of}
 use Rattle.justfile_file.specs.declared.fragment.Fragment.{Fragment}
 use Rattle.justfile_file.specs.declared.fragment.Fragment.TheVariants as fragments
 use Rattle.justfile_file.specs.declared.line.Line.{Line}
@@ -26,87 +33,109 @@ use Rattle.justfile_file.specs.declared.ast.Ast.{Ast}
 use Rattle.justfile_file.specs.declared.item.Item.{Item}
 use Rattle.justfile_file.specs.declared.item.Item.TheVariants.{Assignment, Comment, Newline, Recipe}
 use Rattle.justfile_model.specs.Answers.{IsFrom, IsLexerFault}
-use Rattle.justfile_model.specs.Files.{VersionNumbers, FileDerives, body_literals, expr_literals, fragments_literals, item_literals, literals}
+use Rattle.justfile_model.specs.Files.{VersionNumbers, FileDerives, body_literals, expr_literals, exprs_literals, fragments_literals, item_literals, literals, parts_literals}
 use Rattle.justfile_model.specs.Lexed.{Lexed, IsFault}
 use Rattle.justfile_model.specs.LexicalFault.{LexicalFault}
-use Rattle.justfile_model.specs.Grammar.{front}
+use Rattle.justfile_model.specs.Expressions.{front, Waived}
+use Rattle.justfile_model.specs.Features.{Noted}
+use Rattle.justfile_model.specs.Grammar.{File}
+use Rattle.justfile_model.specs.Literals as lits
 use Rattle.justfile_model.specs.Literals.{Answers, Expanded, Literal, Plain, over_literal, cooked_text, Cooks}
+use Rattle.justfile_model.specs.declared.list_feature.ListFeature.{ListFeature}
 use Rattle.justfile_model.specs.Reader as reader
-use Rattle.justfile_model.specs.Reader.{same_kind, choose}
+use Rattle.justfile_model.specs.Reading as reading
+use Rattle.justfile_model.specs.Reading.{Input, same_kind}
 use Rattle.justfile_model.specs.SignificantTokens.{SignificantToken, is_whitespace, identifiers, significant_from, significant_tokens}
 use Rattle.justfile_model.specs.Tok.{Tok, tok_of}
 use Rattle.justfile_model.specs.Tree as tree
 use Rattle.justfile_model.specs.Tree.{Tree, lexeme}
 use Rattle.justfile_model.proofs.LexedLaws.{one_list, never_both}
-use Rattle.justfile_model.proofs.Agreement.{sound, complete, refused}
-use Rattle.justfile_model.proofs.Steps.{after_accept}
-use Rattle.justfile_parse.specs.Given.{IsGivenFragment, IsGivenItem, IsGivenExpression, IsGivenLine, IsInTable}
-use Rattle.justfile_cook.specs.Literal.{IsKindOf, is_quoted, is_quoted_by, string_of}
+use Rattle.justfile_model.proofs.Agreement.{sound, complete, due, refused}
+use Rattle.justfile_model.proofs.Counting.{accept_identifiers}
+use Rattle.justfile_parse.specs.Given.{AreGivenExpressions, AreGivenParts, AreNotedIn, IsGivenFragment, IsGivenHeld, IsGivenItem, IsGivenExpression, IsGivenLine, IsGivenPart, IsInTable, first_part, later_part}
+use Rattle.justfile_cook.specs.Literal.{IsKindOf, IsPartOf, is_framed, is_quoted, is_quoted_by, string_of}
 use Rattle.justfile_parse.specs.Errors.{IsAt, IsErrorOf}
-use Rattle.justfile_parse.specs.Quoted.{is_literal, is_sound}
+use Rattle.justfile_parse.specs.Literal.{is_delimited, is_sound}
 use Rattle.justfile_parse.specs.Parsing.{HasNoTree, IsOneLex, IsParsed, IsParsedText, IsUnparsed}
-use Rattle.justfile_parse.specs.Reading.{IsDue, IsFaultOf, IsKindAt, IsRead, IsUnread, StopsAt, literal_fault_of, not_cooked, refusal_at}
+use Rattle.justfile_parse.specs.Reading.{IsFaultOf, IsKindAt, IsGivenStop, IsRead, IsUnread, StopsAt, literal_refusal, refusal_at, view_of}
 use Rattle.justfile_parse.specs.Significant.{significant_of}
-use Rattle.justfile_parse.specs.WantsNumber.{WantsNumber}
+use Rattle.justfile_parse.specs.WantsNumber.{LinesWantNumber, WantsNumber, behind_mark}
 use Rattle.justfile_parse.specs.declared.stop.Refusal.{Refusal}
-use Rattle.justfile_parse.specs.declared.stop.Refusal.TheVariants.{Unexpected, TooDeep, NotCooked}
+use Rattle.justfile_parse.specs.declared.stop.Refusal.TheVariants.{Unexpected, TooDeep}
+use Rattle.justfile_parse.specs.declared.stop.Refused.{Refused}
 use Rattle.justfile_parse.specs.declared.stop.Stop.{Stop}
 use Rattle.justfile_parse.specs.declared.stop.Stop.TheVariants as stops
+use Rattle.justfile_parse.proofs.Cooked.{kind_is_due}
 use Rattle.justfile_parse.proofs.NotInternal.{not_internal, refusal_not_internal}
-use Rattle.justfile_parse.proofs.Values.{kind_fault, string_tok}
-use Rattle.justfile_parse.proofs.Wanted.{never_suffice}
-use Rattle.justfile_tree.specs.Expression.{expr_of, expr_cooked, literal_tok}
-use Rattle.justfile_tree.specs.declared.expression.Expression.{Expression}
-use Rattle.justfile_tree.specs.declared.expression.Expression.TheVariants as expressions
+use Rattle.justfile_parse.proofs.Wanted.{file_is, never_suffice, with_noted}
+use Rattle.justfile_tree.specs.Expression.{assert_of, conditional_of, expr_of, expr_cooked, exprs_cooked, exprs_of_row, format_of, held_cooked, join_of, literal_tok, part_tok, parts_cooked, parts_of_row}
+use Rattle.justfile_tree.specs.declared.expression.Expression.{Expression, And', Assert', Backtick, Call', Comparison', Concatenation', Conditional', FormatString', Group', Join', List', ListConcatenation', Not', Or', StringLiteral, Variable, Held-Expression-Assert-1, None', Some', Row_of-Expression, end_of-Expression, more_of-Expression, Row_of-Expression-FormatString-1-2, end_of-Expression-FormatString-1-2, more_of-Expression-FormatString-1-2}
 
 -- ---- the byte order mark
 
-pub accept_fewer : (ts rest : List SignificantToken) (t : SignificantToken) → reader.accept kinds.ByteOrderMark ts ≡ Some (t, rest) → identifiers rest ≤ identifiers ts
-accept_fewer ts rest t =
-    after_accept kinds.ByteOrderMark ts (λ o. o ≡ Some (t, rest) → identifiers rest ≤ identifiers ts) (λ _ e. cc)
-    (λ u us split _ e. omega (arith, ap identifiers split, ap (λ (p : SignificantToken × List SignificantToken). identifiers p.1) (inside _ _ e)))
-  where
-    inside : (a b : SignificantToken × List SignificantToken) → ◌≡◌ {A = Option (SignificantToken × List SignificantToken)} (Some a) (Some b) → a ≡ b
-    inside a b h = cc
+taken_fewer : (s : Input) (t : SignificantToken) (rest : Input) → reading.accept kinds.ByteOrderMark s ≡ Some (t, rest) → identifiers rest.tokens ≤ identifiers s.tokens
+taken_fewer s t rest = accept_identifiers kinds.ByteOrderMark s (t, rest)
 
-module _ (ts rest : List SignificantToken) where
-  pub mark_fewer : (o : Option (Token × Bool)) → IfSome o (λ entry. reader.accept kinds.ByteOrderMark ts ≡ Some (significant_of entry, rest)) → IfNone o (rest ≡ ts) → identifiers rest ≤ identifiers ts
-  mark_fewer None some none = omega (arith, ap identifiers none)
-  mark_fewer (Some entry) some none = accept_fewer ts rest (significant_of entry) some
+module _ (s rest : Input) where
+  pub mark_fewer : (o : Option (Token × Bool)) → IfSome o (λ entry. reading.accept kinds.ByteOrderMark s ≡ Some (significant_of entry, rest)) → IfNone o (rest ≡ s) → identifiers rest.tokens ≤ identifiers s.tokens
+  mark_fewer None some none = omega (arith, ap (λ (x : Input). identifiers x.tokens) none)
+  mark_fewer (Some entry) some none = taken_fewer s (significant_of entry) rest some
 
-  pub mark_is : (expander : Answers) (o : Option (Token × Bool)) → IfSome o (λ entry. reader.accept kinds.ByteOrderMark ts ≡ Some (significant_of entry, rest)) → IfNone o (reader.accept kinds.ByteOrderMark ts ≡ None) → IfNone o (rest ≡ ts)
-      → reader.file expander ts ≡ reader.items expander rest
-  unfolding reader.file
-  mark_is expander None some none same = rw none (ap (reader.items expander) (sym same))
-  mark_is expander (Some entry) some none same = rw some refl
+-- ---- a whole file
+
+pub none_noted : (table : List (Token × Bool)) → AreNotedIn table []
+none_noted table = record { all = λ k d h. absurd (omega arith) }
+
+module _ (expander : Answers) (ts : List SignificantToken) where
+  pub read_file : (tree : Tree) (rest : Input) → reader.items expander (behind_mark (reader.start expander ts)) ≡ Ok (tree, rest) → reader.file expander ts ≡ Ok (tree, rest.noted)
+  read_file tree rest h = file_is expander ts ∙ ap (with_noted expander) h
+
+  pub stopped_file : (stop : Stop) (left : Input) (old new : Numerator)
+      → StopsAt stop left (LinesWantNumber expander (behind_mark (reader.start expander ts)) old new) (reader.items expander (behind_mark (reader.start expander ts)))
+      → StopsAt stop left (WantsNumber expander ts old new) (reader.file expander ts)
+  stopped_file (stops.Refused r) left old new h = file_is expander ts ∙ ap (with_noted expander) h
+  stopped_file (stops.Literal refused) left old new h = file_is expander ts ∙ ap (with_noted expander) h
+  stopped_file stops.Memory left old new h = tt
+  stopped_file stops.Numbers left old new h = h
 
 -- ---- faults
 
-ok_is_no_error : (e : reader.Refusal) (tree : Tree) (found : Result Tree reader.Refusal) → found ≡ Err e → found ≡ Ok tree → ⊥
-ok_is_no_error e tree found h k = let both : ◌≡◌ {A = Result Tree reader.Refusal} (Err e) (Ok tree) = sym h ∙ k in cc
+abbrev FileRead : Type 0
+FileRead = Result (Tree × List (Noted Tok)) reading.Refusal
+
+ok_is_no_error : (e : reading.Refusal) (x : Tree × List (Noted Tok)) (found : FileRead) → found ≡ Err e → found ≡ Ok x → ⊥
+ok_is_no_error e x found h k = let both : ◌≡◌ {A = FileRead} (Err e) (Ok x) = sym h ∙ k in cc
 
 -- the error at the next token is that of the refusal
-error_of : (r : Refusal) (left tokens : List SignificantToken) (e : CompileError) → IsDue r left → IsKindAt r e.kind e.token → IsAt tokens (front left) e.token → IsErrorOf tokens (refusal_at r left) e
-error_of Unexpected left tokens e due kind at = (kind, at)
-error_of TooDeep left tokens e due kind at = (kind, at)
-error_of (NotCooked k) left tokens e due kind at =
-    let refusal : not_cooked (literal_fault_of k) (front left) ≡ reader.NotCooked due.fault due.token = rw (kind_fault due.fault k due.kind_is, due.token_is) refl in
-    let there : IsAt tokens (Some due.token) e.token = subst (λ (o : Option SignificantToken). IsAt tokens o e.token) due.token_is at in
-    subst (λ (f : reader.Refusal). IsErrorOf tokens f e) (sym refusal) (subst (IsKindOf due.fault) (sym kind) due.kind_is, there)
+error_of : (r : Refusal) (left : Input) (tokens : List SignificantToken) (e : CompileError) → IsKindAt r e.kind e.token → IsAt tokens (front left.tokens) e.token → IsErrorOf tokens (refusal_at r left) e
+unfolding reading.refused
+error_of Unexpected left tokens e kind at = (kind, at)
+error_of TooDeep left tokens e kind at = (kind, at)
 
-pub unread : (expander : Answers) (tokens : List SignificantToken) (table : List (Token × Bool)) (old new : Numerator) (left : List SignificantToken) (stop : Stop) (fault : Fault)
-    → StopsAt stop left (WantsNumber expander tokens old new) (reader.file expander tokens) → tokens ≡ map significant_of table → IsFaultOf table left stop fault → IsUnread expander tokens (IsInTable table) old new fault
-unread expander tokens table old new left (stops.Refused r) (faults.Compile e) h all is =
-    let at : IsAt tokens (front left) e.token = subst (λ (ts : List SignificantToken). IsAt ts (front left) e.token) (sym all) is.2 in
-    record { refusal = refusal_at r left; read = h.0; error = error_of r left tokens e h.1 is.1 at; among = is.0 }
-unread expander tokens table old new left (stops.Refused r) faults.Memory h all is = absurd is
-unread expander tokens table old new left (stops.Refused r) faults.Numbers h all is = absurd is
-unread expander tokens table old new left stops.Memory (faults.Compile e) h all is = absurd is
-unread expander tokens table old new left stops.Memory faults.Memory h all is = tt
-unread expander tokens table old new left stops.Memory faults.Numbers h all is = absurd is
-unread expander tokens table old new left stops.Numbers (faults.Compile e) h all is = absurd is
-unread expander tokens table old new left stops.Numbers faults.Memory h all is = absurd is
-unread expander tokens table old new left stops.Numbers faults.Numbers h all is = h
+-- the error of a literal is that of its refusal
+literal_error : (tokens : List SignificantToken) (refused : Refused) → IsErrorOf tokens (literal_refusal refused.error refused.glued) refused.error
+unfolding literal_refusal
+literal_error tokens refused = (kind_is_due refused.error.kind refused.is_literal, refl)
+
+pub unread : (expander : Answers) (tokens : List SignificantToken) (table : List (Token × Bool)) (old new : Numerator) (left : Input) (stop : Stop) (fault : Fault)
+    → StopsAt stop left (WantsNumber expander tokens old new) (reader.file expander tokens) → IsGivenStop table stop → tokens ≡ map significant_of table → IsFaultOf table left stop fault → IsUnread expander tokens (IsInTable table) old new fault
+unread expander tokens table old new left (stops.Refused r) (faults.Compile e) h given all is =
+    let at : IsAt tokens (front left.tokens) e.token = subst (λ (ts : List SignificantToken). IsAt ts (front left.tokens) e.token) (sym all) is.2 in
+    record { refusal = refusal_at r left; read = h; error = error_of r left tokens e is.1 at; among = is.0 }
+unread expander tokens table old new left (stops.Refused r) faults.Memory h given all is = absurd is
+unread expander tokens table old new left (stops.Refused r) faults.Numbers h given all is = absurd is
+unread expander tokens table old new left (stops.Literal refused) (faults.Compile e) h given all is =
+    let P : CompileError → Type 0 = λ x. IsErrorOf tokens (literal_refusal refused.error refused.glued) x in
+    let Q : CompileError → Type 0 = λ x. IsInTable table x.token in
+    record { refusal = literal_refusal refused.error refused.glued; read = h; error = subst P (sym is) (literal_error tokens refused); among = subst Q (sym is) given }
+unread expander tokens table old new left (stops.Literal refused) faults.Memory h given all is = absurd is
+unread expander tokens table old new left (stops.Literal refused) faults.Numbers h given all is = absurd is
+unread expander tokens table old new left stops.Memory (faults.Compile e) h given all is = absurd is
+unread expander tokens table old new left stops.Memory faults.Memory h given all is = tt
+unread expander tokens table old new left stops.Memory faults.Numbers h given all is = absurd is
+unread expander tokens table old new left stops.Numbers (faults.Compile e) h given all is = absurd is
+unread expander tokens table old new left stops.Numbers faults.Memory h given all is = absurd is
+unread expander tokens table old new left stops.Numbers faults.Numbers h given all is = h
 
 -- ---- the tokens of one lex
 
@@ -135,34 +164,36 @@ quoted_by n bytes long before behind = grind (arith, nat_tests, long, before, be
 quoted_test : (bytes : List ℕ) → IsQuoted bytes → is_quoted bytes ≡ true
 quoted_test bytes h = quoted_by (delimiter_len (kind_of bytes)) bytes h.long h.before h.behind
 
-sound_by : (b quoted : Bool) → (b ≡ true → quoted ≡ true) → (not b || quoted) ≡ true
-sound_by true quoted h = h refl
-sound_by false quoted h = refl
+framed_by : (front end : ℕ) (bytes : List ℕ) → front + end ≤ length bytes → get_or bytes (front - 1) 0 < 128 → get_or bytes (length bytes - end) 0 < 128 → is_framed front end bytes ≡ true
+framed_by front end bytes long before behind = grind (arith, nat_tests, long, before, behind)
 
-one_true : (a b : Bool) → (a || b) ≡ true → (a ≡ true) ⊎ (b ≡ true)
-one_true true b h = inl refl
-one_true false b h = inr h
+framed_test : (front end : ℕ) (bytes : List ℕ) → IsFramed front end bytes → is_framed front end bytes ≡ true
+framed_test front end bytes h = framed_by front end bytes h.long h.before h.behind
 
-sound_entry : (entry : Token × Bool) → (entry.0.kind ≡ kinds.StringToken → IsQuoted (lexeme_of entry.0)) → (entry.0.kind ≡ kinds.Backtick → IsQuoted (lexeme_of entry.0)) → is_sound entry ≡ true
-unfolding same_kind
-sound_entry entry h k =
-    sound_by (is_literal entry.0.kind) (is_quoted (lexeme_of entry.0)) (λ e. quoted_test (lexeme_of entry.0) (by_kind (one_true (same_kind entry.0.kind kinds.StringToken) (same_kind entry.0.kind kinds.Backtick) e)))
-  where
-    by_kind : (same_kind entry.0.kind kinds.StringToken ≡ true) ⊎ (same_kind entry.0.kind kinds.Backtick ≡ true) → IsQuoted (lexeme_of entry.0)
-    by_kind (inl e) = h (same_true the_type tt _ _ e)
-    by_kind (inr e) = k (same_true the_type tt _ _ e)
+-- each literal between delimiters, and each part of a format string but the last, is delimited
+delimited : (kind : TokenKind) (bytes : List ℕ) → (kind ≡ kinds.StringToken → IsQuoted bytes) → (kind ≡ kinds.Backtick → IsQuoted bytes)
+    → (kind ≡ kinds.FormatStringStart → IsFramed (delimiter_len (kind_of bytes)) 2 bytes) → (kind ≡ kinds.FormatStringContinue → IsFramed 2 2 bytes)
+    → is_delimited kind bytes ≡ true
+delimited kinds.StringToken bytes string command start part = quoted_test bytes (string refl)
+delimited kinds.Backtick bytes string command start part = quoted_test bytes (command refl)
+delimited kinds.FormatStringStart bytes string command start part = framed_test (delimiter_len (kind_of bytes)) 2 bytes (start refl)
+delimited kinds.FormatStringContinue bytes string command start part = framed_test 2 2 bytes (part refl)
+delimited _ bytes string command start part = refl
 
 both : (a b : Bool) → a ≡ true → b ≡ true → (a && b) ≡ true
 both true b h k = k
 both false b h k = cc
 
-sound_table : (table : List (Token × Bool)) → AreQuoted (map significant_of table) → list_all is_sound table ≡ true
-sound_table [] h = refl
-sound_table (entry ∷ table) h = both (is_sound entry) (list_all is_sound table) (sound_entry entry h.0 h.1) (sound_table table h.2)
+sound_table : (table : List (Token × Bool)) → AreQuoted (map significant_of table) → AreFramed (map significant_of table) → list_all is_sound table ≡ true
+sound_table [] h k = refl
+sound_table (entry ∷ table) h k =
+    both (is_sound entry) (list_all is_sound table) (delimited entry.0.kind (lexeme_of entry.0) h.0 h.1 k.0 k.1) (sound_table table h.2 k.3)
 
 pub sound_lex : (tokens : List Token) (table : List (Token × Bool)) → IsOneLex tokens → map significant_of table ≡ significant_tokens (map tok_of tokens) → IsTrue (list_all is_sound table)
 sound_lex tokens table l is =
-    let e : list_all is_sound table ≡ true = sound_table table (subst AreQuoted (sym is) (lexed_quoted l.text (map tok_of tokens) l.utf8 l.lexed)) in
+    let ts = map tok_of tokens in
+    let e : list_all is_sound table ≡ true
+    = sound_table table (subst AreQuoted (sym is) (lexed_quoted l.text ts l.utf8 l.lexed)) (subst AreFramed (sym is) (lexed_framed l.text ts l.utf8 l.lexed)) in
     search (rules, e)
 
 -- ---- what was given
@@ -171,10 +202,36 @@ in_tokens : (tokens : List Token) (table : List (Token × Bool)) → All (λ ent
 in_tokens tokens table all t h = All-contains (λ (entry : Token × Bool). Contains tokens entry.0) table (t, h.glued) all h.among
 
 module _ (expander : Answers) (P Q : Token → Type 0) (weaker : (t : Token) → P t → Q t) where
-  given_expression : (e : Expression) → IsGivenExpression expander P e → IsGivenExpression expander Q e
-  given_expression (expressions.StringLiteral l) h = record { among = weaker l.token h.among; cooked = h.cooked; kind = h.kind; part = h.part }
-  given_expression (expressions.Backtick contents token) h = record { among = weaker token h.among; cooked = h.cooked }
-  given_expression (expressions.Variable name number) h = (weaker name.token h.0, h.1)
+  mutual
+    given_expression : (e : Expression) → IsGivenExpression expander P e → IsGivenExpression expander Q e
+    given_expression (And' p lhs q rhs) h = (given_expression lhs h.0, given_expression rhs h.1)
+    given_expression (Assert' p condition message name) h = (given_expression condition h.0, given_held message h.1, weaker name.token h.2)
+    given_expression (Backtick contents token) h = record { among = weaker token h.among; cooked = h.cooked }
+    given_expression (Call' name n arguments) h = (weaker name.token h.0, given_row arguments h.1)
+    given_expression (Comparison' p lhs operator q rhs token) h = (given_expression lhs h.0, given_expression rhs h.1, weaker token h.2)
+    given_expression (Concatenation' p lhs operator q rhs) h = (given_expression lhs h.0, weaker operator h.1, given_expression rhs h.2)
+    given_expression (Conditional' p condition q branch otherwise) h = (given_expression condition h.0, given_expression branch h.1, given_held otherwise h.2)
+    given_expression (FormatString' start n expressions) h = (record { among = weaker start.token h.0.among; is = h.0.is }, given_parts (kind_of (lexeme_of start.token)) expressions h.1)
+    given_expression (Group' p contents) h = given_expression contents h
+    given_expression (Join' lhs operator q rhs) h = (given_held lhs h.0, weaker operator h.1, given_expression rhs h.2)
+    given_expression (List' n elements opener) h = (given_row elements h.0, weaker opener h.1)
+    given_expression (ListConcatenation' p lhs operator q rhs) h = (given_expression lhs h.0, weaker operator h.1, given_expression rhs h.2)
+    given_expression (Not' p operand) h = given_expression operand h
+    given_expression (Or' p lhs q rhs) h = (given_expression lhs h.0, given_expression rhs h.1)
+    given_expression (StringLiteral l) h = record { among = weaker l.token h.among; cooked = h.cooked; kind = h.kind; part = h.part }
+    given_expression (Variable name number) h = (weaker name.token h.0, h.1)
+
+    given_held : (e : Held-Expression-Assert-1) → IsGivenHeld expander P e → IsGivenHeld expander Q e
+    given_held None' h = tt
+    given_held (Some' p e) h = given_expression e h
+
+    given_row : {n : _} (es : Row_of-Expression n) → AreGivenExpressions expander P es → AreGivenExpressions expander Q es
+    given_row end_of-Expression h = tt
+    given_row (more_of-Expression e others) h = (given_expression e h.0, given_row others h.1)
+
+    given_parts : (kind : StringKind) {n : _} (es : Row_of-Expression-FormatString-1-2 n) → AreGivenParts expander P kind es → AreGivenParts expander Q kind es
+    given_parts kind end_of-Expression-FormatString-1-2 h = tt
+    given_parts kind (more_of-Expression-FormatString-1-2 e literal others) h = (given_expression e h.0, record { among = weaker literal.token h.1.among; is = h.1.is }, given_parts kind others h.2)
 
   given_fragment : (f : Fragment) → IsGivenFragment expander P f → IsGivenFragment expander Q f
   given_fragment (fragments.Interpolation e) h = given_expression e h
@@ -229,11 +286,81 @@ module _ (expander : Answers) where
   string_cooks true t bytes text same h = (ap (λ (b : List ℕ). cooked_text expander (Expanded b)) same ∙ h, tt)
   string_cooks false t bytes text same h = (ap (λ (b : List ℕ). cooked_text expander (Plain b)) same ∙ h, tt)
 
+-- the token of a later part is as it stands
+later_lexeme : (literal : literals.StringLiteral) → literal.expand ≡ false → begins_format_string literal.part ≡ false → (part_tok literal).lexeme ≡ lexeme_of literal.token
+later_lexeme literal h k = rw (h, k) refl
+
+string_tok : (literal : literals.StringLiteral) → literal.part ≡ None → literal_tok literal ≡ tok_of literal.token
+string_tok literal p = rw p refl
+
+module _ (expander : Answers) (start : Tok) (bytes : List ℕ) (same : start.lexeme ≡ bytes) (literal : literals.StringLiteral) where
+  part_end : IsPartOf (kind_of bytes) format_parts.End literal.token literal → cooked_text expander (lits.End start.lexeme (part_tok literal).lexeme) ≡ Ok (string_bytes literal.cooked)
+  part_end h =
+      ap (λ (l : List ℕ). cooked_text expander (lits.End start.lexeme l)) (later_lexeme literal h.expand_is (ap begins_format_string h.part_is))
+      ∙ ap (λ (b : List ℕ). cooked_text expander (lits.End b (lexeme_of literal.token))) same
+      ∙ h.cooked
+
+  part_continue : IsPartOf (kind_of bytes) format_parts.Continue literal.token literal → cooked_text expander (lits.Continue start.lexeme (part_tok literal).lexeme) ≡ Ok (string_bytes literal.cooked)
+  part_continue h =
+      ap (λ (l : List ℕ). cooked_text expander (lits.Continue start.lexeme l)) (later_lexeme literal h.expand_is (ap begins_format_string h.part_is))
+      ∙ ap (λ (b : List ℕ). cooked_text expander (lits.Continue b (lexeme_of literal.token))) same
+      ∙ h.cooked
+
 module _ (expander : Answers) (P : Token → Type 0) where
-  expression_cooks : (e : Expression) → IsGivenExpression expander P e → Cooks expander (lexemes (expr_literals (expr_of e))) (expr_cooked e)
-  expression_cooks (expressions.StringLiteral l) g = string_cooks expander l.expand (literal_tok l) (lexeme_of l.token) (string_bytes l.cooked) (ap (λ (t : Tok). t.lexeme) (string_tok l g.part)) g.cooked
-  expression_cooks (expressions.Backtick contents token) g = (g.cooked, tt)
-  expression_cooks (expressions.Variable name number) g = tt
+  mutual
+    expression_cooks : (e : Expression) → IsGivenExpression expander P e → Cooks expander (lexemes (expr_literals (expr_of e))) (expr_cooked e)
+    expression_cooks (And' p lhs q rhs) h = joined_cook expander (expr_literals (expr_of lhs)) _ (expr_cooked lhs) _ (expression_cooks lhs h.0) (expression_cooks rhs h.1)
+    expression_cooks (Assert' p condition message name) h = assert_cooks condition message name (expression_cooks condition h.0) h.1
+    expression_cooks (Backtick contents token) h = (h.cooked, tt)
+    expression_cooks (Call' name n arguments) h = row_cooks arguments h.1
+    expression_cooks (Comparison' p lhs operator q rhs token) h = joined_cook expander (expr_literals (expr_of lhs)) _ (expr_cooked lhs) _ (expression_cooks lhs h.0) (expression_cooks rhs h.1)
+    expression_cooks (Concatenation' p lhs operator q rhs) h = joined_cook expander (expr_literals (expr_of lhs)) _ (expr_cooked lhs) _ (expression_cooks lhs h.0) (expression_cooks rhs h.2)
+    expression_cooks (Conditional' p condition q branch otherwise) h = conditional_cooks condition branch otherwise (expression_cooks condition h.0) (expression_cooks branch h.1) h.2
+    expression_cooks (FormatString' start n expressions) h = format_cooks start expressions h.0 h.1
+    expression_cooks (Group' p contents) h = expression_cooks contents h
+    expression_cooks (Join' lhs operator q rhs) h = join_cooks lhs operator rhs h.0 (expression_cooks rhs h.2)
+    expression_cooks (List' n elements opener) h = row_cooks elements h.0
+    expression_cooks (ListConcatenation' p lhs operator q rhs) h = joined_cook expander (expr_literals (expr_of lhs)) _ (expr_cooked lhs) _ (expression_cooks lhs h.0) (expression_cooks rhs h.2)
+    expression_cooks (Not' p operand) h = expression_cooks operand h
+    expression_cooks (Or' p lhs q rhs) h = joined_cook expander (expr_literals (expr_of lhs)) _ (expr_cooked lhs) _ (expression_cooks lhs h.0) (expression_cooks rhs h.1)
+    expression_cooks (StringLiteral l) g = string_cooks expander l.expand (literal_tok l) (lexeme_of l.token) (string_bytes l.cooked) (ap (λ (t : Tok). t.lexeme) (string_tok l g.part)) g.cooked
+    expression_cooks (Variable name number) h = tt
+
+    assert_cooks : (condition : Expression) (message : Held-Expression-Assert-1) (name : Name) → Cooks expander (lexemes (expr_literals (expr_of condition))) (expr_cooked condition) → IsGivenHeld expander P message
+        → Cooks expander (lexemes (expr_literals (assert_of (tok_of name.token) (expr_of condition) message))) (expr_cooked condition ++ held_cooked message)
+    assert_cooks condition None' name h k = subst (Cooks expander (lexemes (expr_literals (expr_of condition)))) (sym (append-nil (expr_cooked condition))) h
+    assert_cooks condition (Some' p message) name h k = joined_cook expander (expr_literals (expr_of condition)) _ (expr_cooked condition) _ h (expression_cooks message k)
+
+    conditional_cooks : (condition branch : Expression) (otherwise : Held-Expression-Assert-1) → Cooks expander (lexemes (expr_literals (expr_of condition))) (expr_cooked condition) → Cooks expander (lexemes (expr_literals (expr_of branch))) (expr_cooked branch) → IsGivenHeld expander P otherwise
+        → Cooks expander (lexemes (expr_literals (conditional_of (expr_of condition) (expr_of branch) otherwise))) (expr_cooked condition ++ expr_cooked branch ++ held_cooked otherwise)
+    conditional_cooks condition branch None' h k m =
+        subst (Cooks expander (lexemes (expr_literals (tree.If (expr_of condition) (expr_of branch))))) (sym (append-nil (expr_cooked condition ++ expr_cooked branch)))
+        (joined_cook expander (expr_literals (expr_of condition)) _ (expr_cooked condition) _ h k)
+    conditional_cooks condition branch (Some' p other) h k m =
+        joined_cook expander (expr_literals (expr_of condition) ++ expr_literals (expr_of branch)) _ (expr_cooked condition ++ expr_cooked branch) _
+        (joined_cook expander (expr_literals (expr_of condition)) _ (expr_cooked condition) _ h k)
+        (expression_cooks other m)
+
+    join_cooks : (lhs : Held-Expression-Assert-1) (operator : Token) (rhs : Expression) → IsGivenHeld expander P lhs → Cooks expander (lexemes (expr_literals (expr_of rhs))) (expr_cooked rhs)
+        → Cooks expander (lexemes (expr_literals (join_of lhs (tok_of operator) (expr_of rhs)))) (held_cooked lhs ++ expr_cooked rhs)
+    join_cooks None' operator rhs h k = k
+    join_cooks (Some' p lhs) operator rhs h k = joined_cook expander (expr_literals (expr_of lhs)) _ (expr_cooked lhs) _ (expression_cooks lhs h) k
+
+    row_cooks : {n : _} (es : Row_of-Expression n) → AreGivenExpressions expander P es → Cooks expander (lexemes (exprs_literals (exprs_of_row es))) (exprs_cooked es)
+    row_cooks end_of-Expression h = tt
+    row_cooks (more_of-Expression e others) h = joined_cook expander (expr_literals (expr_of e)) _ (expr_cooked e) _ (expression_cooks e h.0) (row_cooks others h.1)
+
+    format_cooks : (start : literals.StringLiteral) {n : _} (es : Row_of-Expression-FormatString-1-2 n) → IsGivenPart P (kind_of (lexeme_of start.token)) (first_part es) start → AreGivenParts expander P (kind_of (lexeme_of start.token)) es
+        → Cooks expander (lexemes (expr_literals (format_of (tok_of start.token) es))) (string_bytes start.cooked ∷ parts_cooked es)
+    format_cooks start end_of-Expression-FormatString-1-2 h k = (h.is.cooked, tt)
+    format_cooks start (more_of-Expression-FormatString-1-2 e literal others) h k =
+        (h.is.cooked, joined_cook expander (expr_literals (expr_of e)) _ (expr_cooked e) _ (expression_cooks e k.0) (parts_cook (tok_of start.token) (lexeme_of start.token) refl literal others k.1 k.2))
+
+    parts_cook : (start : Tok) (bytes : List ℕ) → start.lexeme ≡ bytes → (literal : literals.StringLiteral) {n : _} (es : Row_of-Expression-FormatString-1-2 n) → IsGivenPart P (kind_of bytes) (later_part es) literal → AreGivenParts expander P (kind_of bytes) es
+        → Cooks expander (lexemes (parts_literals start (parts_of_row (part_tok literal) es))) (string_bytes literal.cooked ∷ parts_cooked es)
+    parts_cook start bytes same literal end_of-Expression-FormatString-1-2 h k = (part_end expander start bytes same literal h.is, tt)
+    parts_cook start bytes same literal (more_of-Expression-FormatString-1-2 e next others) h k =
+        (part_continue expander start bytes same literal h.is, joined_cook expander (expr_literals (expr_of e)) _ (expr_cooked e) _ (expression_cooks e k.0) (parts_cook start bytes same next others k.1 k.2))
 
   fragments_cook : (fs : List Fragment) → All (IsGivenFragment expander P) fs → Cooks expander (lexemes (fragments_literals (map fragment_of fs))) (flat_map fragment_cooked fs)
   fragments_cook [] all = tt
@@ -271,11 +398,11 @@ given_tokens expander tokens table file_depth import_offsets items all =
     (given_weaker expander (IsInTable table) (Contains tokens) (in_tokens tokens table all) file_depth import_offsets) items
 
 module _ (expander : Answers) (current : VersionNumbers) (tokens : List Token) (table : List (Token × Bool)) (old new : Numerator) (is : map significant_of table ≡ significant_tokens (map tok_of tokens)) where
-  found : (tree : Tree) → FileDerives expander current (significant_tokens (map tok_of tokens)) tree → reader.file expander (map significant_of table) ≡ Ok tree
-  found tree d = ap (reader.file expander) is ∙ complete expander current (significant_tokens (map tok_of tokens)) tree d
+  found : (tree : Tree) (features : List (Noted Tok)) → FileDerives expander current (significant_tokens (map tok_of tokens)) tree features → reader.file expander (map significant_of table) ≡ Ok (tree, features)
+  found tree features d = ap (reader.file expander) is ∙ complete expander current (significant_tokens (map tok_of tokens)) tree features d
 
-  pub derives_of : (tree : Tree) → reader.file expander (map significant_of table) ≡ Ok tree → FileDerives expander current (significant_tokens (map tok_of tokens)) tree
-  derives_of tree h = sound expander current (significant_tokens (map tok_of tokens)) tree (sym (ap (reader.file expander) is) ∙ h)
+  pub derives_of : (tree : Tree) (features : List (Noted Tok)) → reader.file expander (map significant_of table) ≡ Ok (tree, features) → FileDerives expander current (significant_tokens (map tok_of tokens)) tree features
+  derives_of tree features h = sound expander current (significant_tokens (map tok_of tokens)) tree features (sym (ap (reader.file expander) is) ∙ h)
 
   pub unparsed_of : All (λ entry. Contains tokens entry.0) table → (fault : Fault)
       → IsUnread expander (map significant_of table) (IsInTable table) old new fault
@@ -285,25 +412,27 @@ module _ (expander : Answers) (current : VersionNumbers) (tokens : List Token) (
       let read : reader.file expander ts ≡ Err h.refusal = sym (ap (reader.file expander) is) ∙ h.read in
       let error : IsErrorOf ts h.refusal e = subst (λ (us : List SignificantToken). IsErrorOf us h.refusal e) is h.error in
       record {
-        derives_none = λ tree d. ok_is_no_error h.refusal tree (reader.file expander (map significant_of table)) h.read (found tree d);
+        derives_none = λ tree features d. ok_is_no_error h.refusal (tree, features) (reader.file expander (map significant_of table)) h.read (found tree features d);
         among = in_tokens tokens table all e.token h.among;
         not_internal = refusal_not_internal ts h.refusal e error;
-        refused = record { refusal = h.refusal; read = read; error = error; breaks = λ tree d. refused expander ts tree d h.refusal read };
+        refused = record { refusal = h.refusal; read = read; error = error; 
+          breaks = λ tree features d. refused expander ts tree features d h.refusal read;
+          breaks_at = λ tree features Hit d. due expander ts tree features Hit d h.refusal read;
+        };
       }
   unparsed_of all faults.Memory h = tt
   unparsed_of all faults.Numbers h =
       let P : List SignificantToken → Type 0 = λ ts. WantsNumber expander ts old new in
       let wants = subst P is h in
-      let read : (tree : Tree) → FileDerives expander current (significant_tokens (map tok_of tokens)) tree → reader.file expander (significant_tokens (map tok_of tokens)) ≡ Ok tree
-      = λ tree d. complete expander current (significant_tokens (map tok_of tokens)) tree d in
-      (wants, λ tree d s. never_suffice expander (significant_tokens (map tok_of tokens)) old new tree wants (read tree d) s)
+      let ts = significant_tokens (map tok_of tokens) in
+      (wants, λ tree features d s. never_suffice expander ts old new (tree, features) wants (complete expander current ts tree features d) s)
 
   pub parsed_of : All (λ entry. Contains tokens entry.0) table → (file_depth : ℕ) (import_offsets : List ℕ) (ast : Ast)
-      → IsRead expander (IsInTable table) file_depth import_offsets (map significant_of table) old new ast.items.items → ast.unstable_features.keys ≡ []
+      → IsRead expander table file_depth import_offsets (map significant_of table) old new (ast.items.items, ast.list_features.items) → ast.unstable_features.keys ≡ []
       → IsParsed expander current (map tok_of tokens) (Contains tokens) file_depth import_offsets old new ast
   parsed_of all file_depth import_offsets ast h stable =
       record {
-        derives = derives_of (map item_of ast.items.items) h.read;
+        derives = derives_of (tree_of ast) (features_of ast) h.read;
         filled = record {
           cooks = cooks_of expander (IsInTable table) file_depth import_offsets ast.items.items h.given.given;
           numbered = h.given.numbered;
@@ -311,6 +440,7 @@ module _ (expander : Answers) (current : VersionNumbers) (tokens : List Token) (
           counted = h.given.counted;
           recipes_counted = h.given.recipes_counted;
           given = given_tokens expander tokens table file_depth import_offsets ast.items.items all h.given.given;
+          noted = All-weaker (λ (x : ListFeature × Token). IsInTable table x.1) (λ (x : ListFeature × Token). Contains tokens x.1) (λ x. in_tokens tokens table all x.1) ast.list_features.items h.noted.all;
           stable = stable;
         };
       }
@@ -321,21 +451,21 @@ module _ (expander : Answers) (current : VersionNumbers) (path src : List ℕ) (
   from_tokens : (t : Token) → Contains tokens t → IsFrom path src t
   from_tokens t h = All-contains (IsFrom path src) tokens t all h
 
-  derives_tokens : (tree : Tree) → TextDerives expander current src tree → FileDerives expander current (significant_tokens (map tok_of tokens)) tree
-  derives_tokens tree d =
-      let P : List Tok → Type 0 = λ ts. FileDerives expander current (significant_tokens ts) tree in
+  derives_tokens : (tree : Tree) (features : List (Noted Tok)) → TextDerives expander current src tree features → FileDerives expander current (significant_tokens (map tok_of tokens)) tree features
+  derives_tokens tree features d =
+      let P : List Tok → Type 0 = λ ts. FileDerives expander current (significant_tokens ts) tree features in
       subst P (one_list src d.tokens (map tok_of tokens) d.lexed lexed) d.file
 
   pub no_tree : (fault : Fault) → IsUnparsed expander current (map tok_of tokens) (Contains tokens) old new fault → HasNoTree expander current path src old new fault
   no_tree (faults.Compile e) h =
       record {
-        derives_none = λ tree d. h.derives_none tree (derives_tokens tree d);
+        derives_none = λ tree features d. h.derives_none tree features (derives_tokens tree features d);
         from = from_tokens e.token h.among;
         not_internal = h.not_internal;
         cause = inr (record { tokens = map tok_of tokens; lexed = lexed; refused = h.refused });
       }
   no_tree faults.Memory h = tt
-  no_tree faults.Numbers h = (record { tokens = map tok_of tokens; lexed = lexed; wants = h.0 }, λ tree d suffice. h.1 tree (derives_tokens tree d) suffice)
+  no_tree faults.Numbers h = (record { tokens = map tok_of tokens; lexed = lexed; wants = h.0 }, λ tree features d suffice. h.1 tree features (derives_tokens tree features d) suffice)
 
   pub text_parsed : (file_depth : ℕ) (import_offsets : List ℕ) (ast : Ast) → IsParsed expander current (map tok_of tokens) (Contains tokens) file_depth import_offsets old new ast → IsParsedText expander current path src file_depth import_offsets old new ast
   text_parsed file_depth import_offsets ast h =
@@ -350,6 +480,7 @@ module _ (expander : Answers) (current : VersionNumbers) (path src : List ℕ) (
           given =
               All-weaker (IsGivenItem expander (Contains tokens) file_depth import_offsets) (IsGivenItem expander (IsFrom path src) file_depth import_offsets)
               (given_weaker expander (Contains tokens) (IsFrom path src) from_tokens file_depth import_offsets) ast.items.items h.filled.given;
+          noted = All-weaker (λ (x : ListFeature × Token). Contains tokens x.1) (λ (x : ListFeature × Token). IsFrom path src x.1) (λ x. from_tokens x.1) ast.list_features.items h.filled.noted;
           stable = h.filled.stable;
         };
       }
@@ -358,7 +489,7 @@ module _ (expander : Answers) (current : VersionNumbers) (path src : List ℕ) (
 pub lexical : (expander : Answers) (current : VersionNumbers) (path src : List ℕ) (numerator : Numerator) (fault : Fault) → IsLexerFault path src fault → HasNoTree expander current path src numerator numerator fault
 lexical expander current path src numerator (faults.Compile e) h =
     record {
-      derives_none = λ tree d. never_both src d.tokens h.fault (tok_of e.token) d.lexed h.is_fault;
+      derives_none = λ tree features d. never_both src d.tokens h.fault (tok_of e.token) d.lexed h.is_fault;
       from = h.from;
       not_internal = not_internal src e.kind (tok_of e.token) (let P : LexicalFault → Type 0 = λ f. IsFault src f (tok_of e.token) in subst P (sym h.kind_is) h.is_fault);
       cause = inl (h, refl);

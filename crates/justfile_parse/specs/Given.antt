@@ -1,13 +1,16 @@
 -- What the parser gives the parts of a tree beside their tokens.
 use Rattle.std.specs.Prelude.{◌≡◌, ◌↔◌, ℕ, ◌+◌, map, Bool, false, ◌==◌, List, slice_index, None, Ok, IsSomeAnd, IsTrue, string_bytes, Contains, All}
+use Rattle.justfile_base.specs.declared.format_string_part.FormatStringPart.{FormatStringPart}
+use Rattle.justfile_base.specs.declared.format_string_part.FormatStringPart.TheVariants as parts
+use Rattle.justfile_base.specs.declared.string_kind.StringKind.{StringKind}
 use Rattle.std.specs.List.{flat_map, slice_get}
 use Rattle.justfile_base.specs.Numerator.{bindings_of, recipes_of}
 use Rattle.justfile_base.specs.StringKind.{kind_of}
 use Rattle.justfile_base.specs.Token.{lexeme_of}
 use Rattle.justfile_base.specs.declared.numerator.Numerator.{Numerator}
-use Rattle.justfile_base.specs.declared.string_literal.StringLiteral.{StringLiteral}
+use Rattle.justfile_base.specs.declared.string_literal.StringLiteral as literals
 use Rattle.justfile_base.specs.declared.token.Token.{Token}
-use Rattle.justfile_cook.specs.Literal.{string_of}
+use Rattle.justfile_cook.specs.Literal.{IsPartOf, string_of}
 use Rattle.justfile_file.specs.declared.binding.Binding.{Binding}
 use Rattle.justfile_file.specs.declared.fragment.Fragment.{Fragment}
 use Rattle.justfile_file.specs.declared.fragment.Fragment.TheVariants as fragments
@@ -19,16 +22,20 @@ use Rattle.justfile_file.specs.Item.{item_of, item_numbers, item_recipe_numbers}
 use Rattle.justfile_file.specs.Line.{IsShebang}
 use Rattle.justfile_model.specs.Files.{NumbersFrom, bindings, recipes}
 use Rattle.justfile_model.specs.Literals.{Answers, Command, cooked_text}
-use Rattle.justfile_tree.specs.declared.expression.Expression.{Expression}
-use Rattle.justfile_tree.specs.declared.expression.Expression.TheVariants as expressions
+use Rattle.justfile_model.specs.declared.list_feature.ListFeature.{ListFeature}
+use Rattle.justfile_tree.specs.declared.expression.Expression.{Expression, And', Assert', Backtick, Call', Comparison', Concatenation', Conditional', FormatString', Group', Join', List', ListConcatenation', Not', Or', StringLiteral, Variable, Held-Expression-Assert-1, None', Some', Row_of-Expression, end_of-Expression, more_of-Expression, Row_of-Expression-FormatString-1-2, end_of-Expression-FormatString-1-2, more_of-Expression-FormatString-1-2}
 
 -- the table has an entry for the token
 pub record IsInTable (table : List (Token × Bool)) (token : Token) : Type 0 where
   pub glued : Bool
   pub among : Contains table (token, glued)
 
+-- each feature was noted at a token of the table
+pub record AreNotedIn (table : List (Token × Bool)) (features : List (ListFeature × Token)) : Type 0 where
+  pub all : All (λ (x : ListFeature × Token). IsInTable table x.1) features
+
 -- a literal, of such a token, with its text, which is expanded if it is marked so; it is no part of a format string
-pub record IsGivenLiteral (expander : Answers) (IsToken : Token → Type 0) (literal : StringLiteral) : Type 0 where
+pub record IsGivenLiteral (expander : Answers) (IsToken : Token → Type 0) (literal : literals.StringLiteral) : Type 0 where
   pub among : IsToken literal.token
   pub cooked : cooked_text expander (string_of literal.expand (lexeme_of literal.token)) ≡ Ok (string_bytes literal.cooked)
   pub kind : literal.kind ≡ kind_of (lexeme_of literal.token)
@@ -39,10 +46,56 @@ pub record IsGivenCommand (expander : Answers) (IsToken : Token → Type 0) (con
   pub among : IsToken token
   pub cooked : cooked_text expander (Command (lexeme_of token)) ≡ Ok contents
 
-abbrev pub IsGivenExpression : Answers → (Token → Type 0) → Expression → Type 0
-IsGivenExpression expander IsToken (expressions.StringLiteral literal) = IsGivenLiteral expander IsToken literal
-IsGivenExpression expander IsToken (expressions.Backtick contents token) = IsGivenCommand expander IsToken (string_bytes contents) token
-IsGivenExpression expander IsToken (expressions.Variable name number) = IsToken name.token × (number ≡ None)
+-- a part of a format string of a kind, of such a token, with its text
+pub record IsGivenPart (IsToken : Token → Type 0) (kind : StringKind) (part : FormatStringPart) (literal : literals.StringLiteral) : Type 0 where
+  pub among : IsToken literal.token
+  pub is : IsPartOf kind part literal.token literal
+
+-- the part that a format string begins with, by what is behind it
+abbrev pub first_part : {n : _} → Row_of-Expression-FormatString-1-2 n → FormatStringPart
+first_part end_of-Expression-FormatString-1-2 = parts.Single
+first_part (more_of-Expression-FormatString-1-2 e literal others) = parts.Start
+
+-- the part behind an expression of a format string, by what is behind it
+abbrev pub later_part : {n : _} → Row_of-Expression-FormatString-1-2 n → FormatStringPart
+later_part end_of-Expression-FormatString-1-2 = parts.End
+later_part (more_of-Expression-FormatString-1-2 e literal others) = parts.Continue
+
+module _ (expander : Answers) (IsToken : Token → Type 0) where
+  abbrev mutual
+    -- Its names, operators and words are such tokens, its literals have their texts, and no name is resolved.
+    pub IsGivenExpression : Expression → Type 0
+    IsGivenExpression (And' p lhs q rhs) = IsGivenExpression lhs × IsGivenExpression rhs
+    IsGivenExpression (Assert' p condition message name) = IsGivenExpression condition × IsGivenHeld message × IsToken name.token
+    IsGivenExpression (Backtick contents token) = IsGivenCommand expander IsToken (string_bytes contents) token
+    IsGivenExpression (Call' name n arguments) = IsToken name.token × AreGivenExpressions arguments
+    IsGivenExpression (Comparison' p lhs operator q rhs token) = IsGivenExpression lhs × IsGivenExpression rhs × IsToken token
+    IsGivenExpression (Concatenation' p lhs operator q rhs) = IsGivenExpression lhs × IsToken operator × IsGivenExpression rhs
+    IsGivenExpression (Conditional' p condition q branch otherwise) = IsGivenExpression condition × IsGivenExpression branch × IsGivenHeld otherwise
+    IsGivenExpression (FormatString' start n expressions) =
+        IsGivenPart IsToken (kind_of (lexeme_of start.token)) (first_part expressions) start × AreGivenParts (kind_of (lexeme_of start.token)) expressions
+    IsGivenExpression (Group' p contents) = IsGivenExpression contents
+    IsGivenExpression (Join' lhs operator q rhs) = IsGivenHeld lhs × IsToken operator × IsGivenExpression rhs
+    IsGivenExpression (List' n elements opener) = AreGivenExpressions elements × IsToken opener
+    IsGivenExpression (ListConcatenation' p lhs operator q rhs) = IsGivenExpression lhs × IsToken operator × IsGivenExpression rhs
+    IsGivenExpression (Not' p operand) = IsGivenExpression operand
+    IsGivenExpression (Or' p lhs q rhs) = IsGivenExpression lhs × IsGivenExpression rhs
+    IsGivenExpression (StringLiteral literal) = IsGivenLiteral expander IsToken literal
+    IsGivenExpression (Variable name number) = IsToken name.token × (number ≡ None)
+
+    pub IsGivenHeld : Held-Expression-Assert-1 → Type 0
+    IsGivenHeld None' = Unit {0}
+    IsGivenHeld (Some' p e) = IsGivenExpression e
+
+    pub AreGivenExpressions : {n : _} → Row_of-Expression n → Type 0
+    AreGivenExpressions end_of-Expression = Unit {0}
+    AreGivenExpressions (more_of-Expression e others) = IsGivenExpression e × AreGivenExpressions others
+
+    -- what stands behind the start of a format string of a kind
+    pub AreGivenParts : (kind : StringKind) → {n : _} → Row_of-Expression-FormatString-1-2 n → Type 0
+    AreGivenParts kind end_of-Expression-FormatString-1-2 = Unit {0}
+    AreGivenParts kind (more_of-Expression-FormatString-1-2 e literal others) =
+        IsGivenExpression e × IsGivenPart IsToken kind (later_part others) literal × AreGivenParts kind others
 
 -- a name that begins with `_` is private
 abbrev pub is_private : List ℕ → Bool

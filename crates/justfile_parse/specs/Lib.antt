@@ -1,7 +1,8 @@
 pub mod Errors
+pub mod Fault
 pub mod Given
+pub mod Literal
 pub mod Parsing
-pub mod Quoted
 pub mod Reading
 pub mod Significant
 pub mod View

@@ -10,15 +10,17 @@ use Rattle.justfile_base.specs.declared.numerator.Numerator.{Numerator}
 use Rattle.justfile_base.specs.declared.token.Token.{Token}
 use Rattle.justfile_base.specs.declared.version.Version.{Version}
 use Rattle.justfile_canon.specs.RoundTrip.{TextDerives}
-use Rattle.justfile_file.specs.Ast.{tree_of, cooked_texts, binding_numbers, recipe_numbers}
+use Rattle.justfile_file.specs.Ast.{tree_of, features_of, cooked_texts, binding_numbers, recipe_numbers}
 use Rattle.justfile_file.specs.declared.ast.Ast.{Ast}
 use Rattle.justfile_model.specs.Answers.{IsFrom, IsLexicalError}
+use Rattle.justfile_model.specs.Features.{Noted}
 use Rattle.justfile_model.specs.Files.{VersionNumbers, FileDerives, NumbersFrom, NumbersSuffice, bindings, recipes, literals}
 use Rattle.justfile_model.specs.Lexed.{Lexed}
 use Rattle.justfile_model.specs.Literals.{over_literal, Answers, Cooks}
 use Rattle.justfile_model.specs.SignificantTokens.{significant_tokens}
 use Rattle.justfile_model.specs.Tok.{Tok, tok_of}
 use Rattle.justfile_model.specs.Tree.{Tree, lexeme}
+use Rattle.justfile_model.specs.declared.list_feature.ListFeature.{ListFeature}
 use Rattle.justfile_parse.specs.Errors.{IsRefused}
 use Rattle.justfile_parse.specs.Given.{IsGivenItem}
 use Rattle.justfile_parse.specs.WantsNumber.{WantsNumber}
@@ -34,7 +36,7 @@ pub record IsOneLex (tokens : List Token) : Type 0 where
   pub source : All (λ t. t.src.now ≡ text) tokens
 
 -- What a file has beside its tree: its literals their texts, its bindings and its recipes the numbers from the numerator's next on, its
--- parts what the parser gives them. It uses nothing unstable.
+-- parts what the parser gives them; its features stand at such tokens. It uses nothing unstable.
 pub record IsFilled (expander : Answers) (IsToken : Token → Type 0) (file_depth : ℕ) (import_offsets : List ℕ) (old new : Numerator) (ast : Ast) : Type 0 where
   pub cooks : Cooks expander (map (over_literal lexeme) (literals (tree_of ast))) (cooked_texts ast)
   pub numbered : NumbersFrom (bindings_of old) (binding_numbers ast)
@@ -42,16 +44,17 @@ pub record IsFilled (expander : Answers) (IsToken : Token → Type 0) (file_dept
   pub counted : bindings_of new ≡ bindings_of old + bindings (tree_of ast)
   pub recipes_counted : recipes_of new ≡ recipes_of old + recipes (tree_of ast)
   pub given : All (IsGivenItem expander IsToken file_depth import_offsets) ast.items.items
+  pub noted : All (λ (x : ListFeature × Token). IsToken x.1) ast.list_features.items
   pub stable : ast.unstable_features.keys ≡ []
 
--- the file's tokens derive its tree
+-- the file's tokens derive its tree and its features
 pub record IsParsed (expander : Answers) (current : VersionNumbers) (tokens : List Tok) (IsToken : Token → Type 0) (file_depth : ℕ) (import_offsets : List ℕ) (old new : Numerator) (ast : Ast) : Type 0 where
-  pub derives : FileDerives expander current (significant_tokens tokens) (tree_of ast)
+  pub derives : FileDerives expander current (significant_tokens tokens) (tree_of ast) (features_of ast)
   pub filled : IsFilled expander IsToken file_depth import_offsets old new ast
 
 -- no tree derives; the error is that of the refusal, stands at one of the tokens and is no fault of the program
 pub record IsCompileError (expander : Answers) (current : VersionNumbers) (tokens : List Tok) (IsToken : Token → Type 0) (e : CompileError) : Type 0 where
-  pub derives_none : (tree : Tree) → FileDerives expander current (significant_tokens tokens) tree → ⊥
+  pub derives_none : (tree : Tree) (features : List (Noted Tok)) → FileDerives expander current (significant_tokens tokens) tree features → ⊥
   pub among : IsToken e.token
   pub not_internal : internal_message e.kind ≡ None
   pub refused : IsRefused expander (significant_tokens tokens) e
@@ -63,11 +66,11 @@ IsUnparsed expander current tokens IsToken old new (faults.Compile e) = IsCompil
 IsUnparsed expander current tokens IsToken old new faults.Memory = Unit {0}
 IsUnparsed expander current tokens IsToken old new faults.Numbers =
     WantsNumber expander (significant_tokens tokens) old new
-    × ((tree : Tree) → FileDerives expander current (significant_tokens tokens) tree → NumbersSuffice (bindings_of old) (recipes_of old) tree → ⊥)
+    × ((tree : Tree) (features : List (Noted Tok)) → FileDerives expander current (significant_tokens tokens) tree features → NumbersSuffice (bindings_of old) (recipes_of old) tree → ⊥)
 
--- the text derives the file's tree
+-- the text derives the file's tree and its features
 pub record IsParsedText (expander : Answers) (current : VersionNumbers) (path src : List ℕ) (file_depth : ℕ) (import_offsets : List ℕ) (old new : Numerator) (ast : Ast) : Type 0 where
-  pub derives : TextDerives expander current src (tree_of ast)
+  pub derives : TextDerives expander current src (tree_of ast) (features_of ast)
   pub filled : IsFilled expander (IsFrom path src) file_depth import_offsets old new ast
 
 -- the text has tokens, and the error is that of their refusal
@@ -79,7 +82,7 @@ pub record IsTextRefused (expander : Answers) (src : List ℕ) (e : CompileError
 -- The text derives no tree, which the error says at a part of the text and never as a fault of the program: it is the fault of lexing,
 -- which leaves the numerator as it was, or that of the refusal of the text's tokens.
 pub record IsTreeless (expander : Answers) (current : VersionNumbers) (path src : List ℕ) (old new : Numerator) (e : CompileError) : Type 0 where
-  pub derives_none : (tree : Tree) → TextDerives expander current src tree → ⊥
+  pub derives_none : (tree : Tree) (features : List (Noted Tok)) → TextDerives expander current src tree features → ⊥
   pub from : IsFrom path src e.token
   pub not_internal : internal_message e.kind ≡ None
   pub cause : (IsLexicalError path src e × (new ≡ old)) ⊎ IsTextRefused expander src e
@@ -97,4 +100,4 @@ HasNoTree expander current path src old new (faults.Compile e) = IsTreeless expa
 HasNoTree expander current path src old new faults.Memory = Unit {0}
 HasNoTree expander current path src old new faults.Numbers =
     TextWantsNumber expander src old new
-    × ((tree : Tree) → TextDerives expander current src tree → NumbersSuffice (bindings_of old) (recipes_of old) tree → ⊥)
+    × ((tree : Tree) (features : List (Noted Tok)) → TextDerives expander current src tree features → NumbersSuffice (bindings_of old) (recipes_of old) tree → ⊥)

@@ -1,39 +1,35 @@
 -- What the definitions see of the parser.
-use Rattle.std.specs.Prelude.{◌≡◌, ◌<◌, ℕ, ◌+◌, Bool, List, ◌∷◌, length, map, drop, Result, IsTrue}
+use Rattle.std.specs.Prelude.{◌≡◌, ℕ, ◌+◌, Bool, List, map, drop, Result}
 use Rattle.justfile_base.specs.Numerator.{bindings_of, recipes_of}
 use Rattle.justfile_base.specs.declared.numerator.Numerator.{Numerator}
 use Rattle.justfile_base.specs.declared.token.Token.{Token}
+use Rattle.justfile_cook.specs.Literal.{answers_by}
+use Rattle.justfile_file.specs.Ast.{noted_of}
 use Rattle.justfile_file.specs.Item.{item_numbers, item_of, item_recipe_numbers}
 use Rattle.justfile_file.specs.declared.item.Item.{Item}
 use Rattle.justfile_model.specs.Files.{NumbersFrom, item_bindings, item_recipes}
-use Rattle.justfile_model.specs.SignificantTokens.{SignificantToken}
-use Rattle.justfile_parse.specs.Given.{IsInTable, IsGivenItem, IsGivenItems}
-use Rattle.justfile_cook.specs.Literal.{answers_by}
-use Rattle.justfile_parse.specs.Quoted.{is_sound}
+use Rattle.justfile_model.specs.Reading.{Input}
+use Rattle.justfile_model.specs.declared.list_feature.ListFeature.{ListFeature}
+use Rattle.justfile_parse.specs.Given.{AreNotedIn, IsInTable, IsGivenItem, IsGivenItems}
 use Rattle.justfile_parse.specs.Significant.{significant_of}
 use Rattle.justfile_parse.specs.declared.parser.Parser.{Parser}
 
-unfoldable pub rest_at : List (Token × Bool) → ℕ → List SignificantToken
-rest_at table n = map significant_of (drop n table)
+-- the tokens from an index on, and features that were noted before
+unfoldable pub input_at : List (Token × Bool) → ℕ → List (ListFeature × Token) → Input
+input_at table n features = record { tokens = map significant_of (drop n table); noted = map noted_of features }
 
--- the tokens that are still to read
-abbrev pub rest_of : {X : Type 0} → Parser X → List SignificantToken
-rest_of p = rest_at p.tokens.now p.next
+-- the tokens that are still to read, and the features noted so far
+abbrev pub input_of : {X : Type 0} → Parser X → Input
+input_of p = input_at p.tokens.now p.next p.list_features.items
 
--- the entry is the next to read
-pub record IsNext {X : Type 0} (p : Parser X) (entry : Token × Bool) : Type 0 where
-  pub within : p.next < length p.tokens.now
-  pub here : rest_of p ≡ significant_of entry ∷ rest_at p.tokens.now (p.next + 1)
-  pub among : IsInTable p.tokens.now entry.0
-  pub sound : IsTrue (is_sound entry)
-
--- the parser reads the same table for the same file
+-- the parser reads the same table for the same file, and noted features at tokens of the table
 pub record IsSameRun {X : Type 0} (old new : Parser X) : Type 0 where
   pub tokens : new.tokens ≡ old.tokens
   pub expander : new.expander ≡ old.expander
   pub file_depth : new.file_depth ≡ old.file_depth
   pub import_offsets : new.import_offsets ≡ old.import_offsets
   pub depth : new.depth ≡ old.depth
+  pub noted : AreNotedIn old.tokens.now old.list_features.items → AreNotedIn new.tokens.now new.list_features.items
 
 -- an item that this parser read
 abbrev pub IsItemBy : {X : Type 0} → (X → List ℕ → Result (List ℕ) (List ℕ)) → Parser X → Item → Type 0

@@ -1,4 +1,4 @@
-ghost use Rattle.std.specs.Prelude.{◌≡◌, ◌<◌, ◌≤◌, ◌-◌, ◌↔◌, ◌++◌, All, List, length, IfOk, OnOk, IsSomeAnd, IsTrue, map};
+ghost use Rattle.std.specs.Prelude.{◌≡◌, ◌<◌, ◌≤◌, ◌-◌, ◌↔◌, ◌++◌, All, List, length, IfErr, IfOk, OnOk, IsSomeAnd, IsTrue, map};
 ghost use Rattle.std.specs.List.{slice_get};
 ghost use Rattle.justfile_file.specs.Item.{fragment_of, line_of};
 ghost use Rattle.justfile_file.specs.declared.line.Line.{Line};
@@ -7,7 +7,7 @@ ghost use Rattle.justfile_model.specs.Reader as reader;
 ghost use Rattle.justfile_model.specs.Tree.{trimmed};
 ghost use Rattle.justfile_parse.specs.Given.{IsInTable, IsGivenFragment, IsGivenLine};
 ghost use Rattle.justfile_cook.specs.Literal.{answers_by};
-ghost use Rattle.justfile_parse.specs.Reading.{Gives};
+ghost use Rattle.justfile_parse.specs.Reading.{Gives, IsGivenStop};
 
 use crate::parser::Parser;
 use crate::stop::{Refusal, Stop};
@@ -15,7 +15,7 @@ use justfile_base::{Expander, TokenKind};
 use justfile_file::{Fragment, Line};
 
 impl<'src, X: Expander> Parser<'_, 'src, X> {
-    ghost use Rattle.justfile_parse.specs.View.{IsSameRun, rest_of};
+    ghost use Rattle.justfile_parse.specs.View.{IsSameRun, input_of};
 
     /// The body of a recipe, from the end of its header on; no line if it has none. A comment before
     /// a body is left out.
@@ -25,8 +25,9 @@ impl<'src, X: Expander> Parser<'_, 'src, X> {
         ensures same { OnOk result (IsSameRun self.old self.new) }
         ensures tokens { self.new.tokens ≡ self.old.tokens }
         ensures progress { OnOk result (self.old.next ≤ self.new.next) }
-        ensures value { Gives (λ lines. (map line_of lines.items, rest_of self.new)) result (rest_of self.new) (reader.body_behind (answers_by X.answer self.old.expander.now) (rest_of self.old)) }
+        ensures value { Gives (λ lines. (map line_of lines.items, input_of self.new)) result (input_of self.new) (reader.body_behind (answers_by X.answer self.old.expander.now) (input_of self.old)) }
         ensures given { IfOk result (λ lines. All (IsGivenLine (answers_by X.answer self.old.expander.now) (IsInTable self.old.tokens.now)) lines.items) }
+        ensures stop { IfErr result (IsGivenStop self.old.tokens.now) }
     {
         if self.next_are(&[TokenKind::Eol, TokenKind::Indent]) {
             self.skip(2);
@@ -46,8 +47,9 @@ impl<'src, X: Expander> Parser<'_, 'src, X> {
         ensures same { OnOk result (IsSameRun self.old self.new) }
         ensures tokens { self.new.tokens ≡ self.old.tokens }
         ensures progress { OnOk result (self.old.next ≤ self.new.next) }
-        ensures value { Gives (λ lines. (map line_of lines.items, rest_of self.new)) result (rest_of self.new) (reader.body (answers_by X.answer self.old.expander.now) (rest_of self.old)) }
+        ensures value { Gives (λ lines. (map line_of lines.items, input_of self.new)) result (input_of self.new) (reader.body (answers_by X.answer self.old.expander.now) (input_of self.old)) }
         ensures given { IfOk result (λ lines. All (IsGivenLine (answers_by X.answer self.old.expander.now) (IsInTable self.old.tokens.now)) lines.items) }
+        ensures stop { IfErr result (IsGivenStop self.old.tokens.now) }
     {
         let mut lines = self.parse_lines()?;
         trim_lines(&mut lines);
@@ -64,8 +66,9 @@ impl<'src, X: Expander> Parser<'_, 'src, X> {
         ensures same { OnOk result (IsSameRun self.old self.new) }
         ensures tokens { self.new.tokens ≡ self.old.tokens }
         ensures progress { OnOk result (self.old.next ≤ self.new.next) }
-        ensures value { Gives (λ lines. (map line_of lines.items, rest_of self.new)) result (rest_of self.new) (reader.lines (answers_by X.answer self.old.expander.now) (rest_of self.old)) }
+        ensures value { Gives (λ lines. (map line_of lines.items, input_of self.new)) result (input_of self.new) (reader.lines (answers_by X.answer self.old.expander.now) (input_of self.old)) }
         ensures given { IfOk result (λ lines. All (IsGivenLine (answers_by X.answer self.old.expander.now) (IsInTable self.old.tokens.now)) lines.items) }
+        ensures stop { IfErr result (IsGivenStop self.old.tokens.now) }
     {
         let mut lines = Vec::new(self.alloc);
         'lines: loop {
@@ -84,8 +87,9 @@ impl<'src, X: Expander> Parser<'_, 'src, X> {
         ensures same { OnOk result (IsSameRun self.old self.new) }
         ensures tokens { self.new.tokens ≡ self.old.tokens }
         ensures progress { OnOk result (self.old.next ≤ self.new.next) }
-        ensures value { Gives (λ line. (line_of line, rest_of self.new)) result (rest_of self.new) (reader.body_line (answers_by X.answer self.old.expander.now) (rest_of self.old)) }
+        ensures value { Gives (λ line. (line_of line, input_of self.new)) result (input_of self.new) (reader.body_line (answers_by X.answer self.old.expander.now) (input_of self.old)) }
         ensures given { IfOk result (IsGivenLine (answers_by X.answer self.old.expander.now) (IsInTable self.old.tokens.now)) }
+        ensures stop { IfErr result (IsGivenStop self.old.tokens.now) }
     {
         let number = self.line();
         let fragments = self.parse_line_rest()?;
@@ -94,7 +98,7 @@ impl<'src, X: Expander> Parser<'_, 'src, X> {
 
     /// The line of the source that the next token begins on, from 0; 0 where no token is left.
     fn line(&self) -> usize
-        ensures { result ≡ reader.line_at (rest_of self.now) }
+        ensures { result ≡ reader.line_at (input_of self.now).tokens }
     {
         match self.peek() {
             Some((token, _)) => token.line,
@@ -109,8 +113,9 @@ impl<'src, X: Expander> Parser<'_, 'src, X> {
         ensures same { OnOk result (IsSameRun self.old self.new) }
         ensures tokens { self.new.tokens ≡ self.old.tokens }
         ensures progress { OnOk result (self.old.next ≤ self.new.next) }
-        ensures value { Gives (λ fragments. (map fragment_of fragments.items, rest_of self.new)) result (rest_of self.new) (reader.line_rest (answers_by X.answer self.old.expander.now) (rest_of self.old)) }
+        ensures value { Gives (λ fragments. (map fragment_of fragments.items, input_of self.new)) result (input_of self.new) (reader.line_rest (answers_by X.answer self.old.expander.now) (input_of self.old)) }
         ensures given { IfOk result (λ fragments. All (IsGivenFragment (answers_by X.answer self.old.expander.now) (IsInTable self.old.tokens.now)) fragments.items) }
+        ensures stop { IfErr result (IsGivenStop self.old.tokens.now) }
     {
         let mut fragments = Vec::new(self.alloc);
         'fragments: loop {
@@ -132,8 +137,9 @@ impl<'src, X: Expander> Parser<'_, 'src, X> {
         ensures same { OnOk result (IsSameRun self.old self.new) }
         ensures tokens { self.new.tokens ≡ self.old.tokens }
         ensures progress { OnOk result (self.old.next < self.new.next) }
-        ensures value { Gives (λ f. (fragment_of f, rest_of self.new)) result (rest_of self.new) (reader.fragment (answers_by X.answer self.old.expander.now) (rest_of self.old)) }
+        ensures value { Gives (λ f. (fragment_of f, input_of self.new)) result (input_of self.new) (reader.fragment (answers_by X.answer self.old.expander.now) (input_of self.old)) }
         ensures given { IfOk result (IsGivenFragment (answers_by X.answer self.old.expander.now) (IsInTable self.old.tokens.now)) }
+        ensures stop { IfErr result (IsGivenStop self.old.tokens.now) }
     {
         if let Some((token, _)) = self.accept(TokenKind::Text) {
             return Ok(Fragment::Text { token });

@@ -5,12 +5,13 @@ ghost use Rattle.justfile_base.specs.Token.{lexeme_of};
 ghost use Rattle.justfile_file.specs.Item.{item_of};
 ghost use Rattle.justfile_file.specs.declared.item.Item.TheVariants as items;
 ghost use Rattle.justfile_model.specs.Reader as reader;
+ghost use Rattle.justfile_model.specs.Reading.{after};
 ghost use Rattle.justfile_model.specs.SignificantTokens.{identifiers};
 ghost use Rattle.justfile_model.specs.Tree as tree;
-ghost use Rattle.justfile_parse.specs.Given.{IsInTable, IsGivenBinding, IsUnnumberedItem, is_private};
+ghost use Rattle.justfile_parse.specs.Given.{AreNotedIn, IsInTable, IsGivenBinding, IsUnnumberedItem, is_private};
 ghost use Rattle.justfile_cook.specs.Literal.{answers_by};
-ghost use Rattle.justfile_parse.specs.Reading.{Gives, GivesNumbered, IsMoved, ended_by};
-ghost use Rattle.justfile_parse.specs.WantsNumber.{LacksBinding, LacksFirst, LinesWantNumber, WantsNumber};
+ghost use Rattle.justfile_parse.specs.Reading.{Gives, GivesNumbered, IsGivenStop, IsMoved, ended_by};
+ghost use Rattle.justfile_parse.specs.WantsNumber.{LacksBinding, LacksFirst, LinesWantNumber, behind_mark};
 ghost use Rattle.justfile_parse.specs.declared.stop.Stop.TheVariants as stops;
 
 use crate::parser::Parser;
@@ -19,7 +20,7 @@ use justfile_base::{Expander, Name, Numerator, Token, TokenKind};
 use justfile_file::{Assignment, Binding, Item};
 
 impl<'src, X: Expander> Parser<'_, 'src, X> {
-    ghost use Rattle.justfile_parse.specs.View.{Adds, AddsUnnumbered, IsGivenBy, IsItemBy, IsNumbered, IsSameRun, rest_of};
+    ghost use Rattle.justfile_parse.specs.View.{Adds, AddsUnnumbered, IsGivenBy, IsItemBy, IsNumbered, IsSameRun, input_of};
 
     /// The items of a file, where no expression is open.
     pub(crate) fn parse_file(
@@ -28,9 +29,11 @@ impl<'src, X: Expander> Parser<'_, 'src, X> {
     ) -> Result<Vec<Item<'src>>, Stop<'src>>
         requires { self.old.depth ≡ 0 }
         ensures tokens { self.new.tokens ≡ self.old.tokens }
-        ensures value { GivesNumbered (λ items. map item_of items.items) result (rest_of self.new) (WantsNumber (answers_by X.answer self.old.expander.now) (rest_of self.old) numerator.old numerator.new) (reader.file (answers_by X.answer self.old.expander.now) (rest_of self.old)) }
+        ensures value { GivesNumbered (λ items. (map item_of items.items, input_of self.new)) result (input_of self.new) (LinesWantNumber (answers_by X.answer self.old.expander.now) (behind_mark (input_of self.old)) numerator.old numerator.new) (reader.items (answers_by X.answer self.old.expander.now) (behind_mark (input_of self.old))) }
         ensures given { IfOk result (λ items. IsGivenBy X.answer self.old numerator.old numerator.new items.items) }
-        ensures moved { IsMoved numerator.old numerator.new (identifiers (rest_of self.old)) }
+        ensures stop { IfErr result (IsGivenStop self.old.tokens.now) }
+        ensures noted { OnOk result (AreNotedIn self.old.tokens.now self.old.list_features.items → AreNotedIn self.new.tokens.now self.new.list_features.items) }
+        ensures moved { IsMoved numerator.old numerator.new (identifiers (input_of self.old).tokens) }
     {
         self.accept_mark();
         self.parse_items(numerator)
@@ -40,9 +43,11 @@ impl<'src, X: Expander> Parser<'_, 'src, X> {
     fn parse_items(&mut self, numerator: &mut Numerator) -> Result<Vec<Item<'src>>, Stop<'src>>
         requires { self.old.depth ≡ 0 }
         ensures tokens { self.new.tokens ≡ self.old.tokens }
-        ensures value { GivesNumbered (λ items. map item_of items.items) result (rest_of self.new) (LinesWantNumber (answers_by X.answer self.old.expander.now) (rest_of self.old) numerator.old numerator.new) (reader.items (answers_by X.answer self.old.expander.now) (rest_of self.old)) }
+        ensures value { GivesNumbered (λ items. (map item_of items.items, input_of self.new)) result (input_of self.new) (LinesWantNumber (answers_by X.answer self.old.expander.now) (input_of self.old) numerator.old numerator.new) (reader.items (answers_by X.answer self.old.expander.now) (input_of self.old)) }
         ensures given { IfOk result (λ items. IsGivenBy X.answer self.old numerator.old numerator.new items.items) }
-        ensures moved { IsMoved numerator.old numerator.new (identifiers (rest_of self.old)) }
+        ensures stop { IfErr result (IsGivenStop self.old.tokens.now) }
+        ensures noted { OnOk result (AreNotedIn self.old.tokens.now self.old.list_features.items → AreNotedIn self.new.tokens.now self.new.list_features.items) }
+        ensures moved { IsMoved numerator.old numerator.new (identifiers (input_of self.old).tokens) }
     {
         let mut items = Vec::new(self.alloc);
         'lines: loop {
@@ -65,11 +70,12 @@ impl<'src, X: Expander> Parser<'_, 'src, X> {
         ensures same { OnOk result (IsSameRun self.old self.new) }
         ensures tokens { self.new.tokens ≡ self.old.tokens }
         ensures progress { OnOk result (self.old.next < self.new.next) }
-        ensures value { GivesNumbered (λ _. (map item_of items.new.items, rest_of self.new)) result (rest_of self.new) (LacksFirst (answers_by X.answer self.old.expander.now) (rest_of self.old) numerator.old numerator.new) (reader.after (map item_of items.old.items) (reader.line (answers_by X.answer self.old.expander.now) (rest_of self.old))) }
+        ensures value { GivesNumbered (λ _. (map item_of items.new.items, input_of self.new)) result (input_of self.new) (LacksFirst (answers_by X.answer self.old.expander.now) (input_of self.old) numerator.old numerator.new) (after (map item_of items.old.items) (reader.line (answers_by X.answer self.old.expander.now) (input_of self.old))) }
         ensures given { OnOk result (Adds X.answer self.old numerator.old numerator.new items.old.items items.new.items) }
+        ensures stop { IfErr result (IsGivenStop self.old.tokens.now) }
         ensures least { bindings_of numerator.old ≤ bindings_of numerator.new }
         ensures recipes_least { recipes_of numerator.old ≤ recipes_of numerator.new }
-        ensures most { bindings_of numerator.new + recipes_of numerator.new ≤ bindings_of numerator.old + recipes_of numerator.old + identifiers (rest_of self.old) }
+        ensures most { bindings_of numerator.new + recipes_of numerator.new ≤ bindings_of numerator.old + recipes_of numerator.old + identifiers (input_of self.old).tokens }
         ensures constants { constants_of numerator.new ≡ constants_of numerator.old }
     {
         if let Some(_newline) = self.accept(TokenKind::Eol) {
@@ -90,12 +96,13 @@ impl<'src, X: Expander> Parser<'_, 'src, X> {
         ensures same { OnOk result (IsSameRun self.old self.new) }
         ensures tokens { self.new.tokens ≡ self.old.tokens }
         ensures progress { OnOk result (self.old.next < self.new.next) }
-        ensures value { GivesNumbered (λ i. (item_of i, rest_of self.new)) result (rest_of self.new) (LacksFirst (answers_by X.answer self.old.expander.now) (rest_of self.old) numerator.old numerator.new) (reader.on_line (answers_by X.answer self.old.expander.now) (rest_of self.old)) }
+        ensures value { GivesNumbered (λ i. (item_of i, input_of self.new)) result (input_of self.new) (LacksFirst (answers_by X.answer self.old.expander.now) (input_of self.old) numerator.old numerator.new) (reader.on_line (answers_by X.answer self.old.expander.now) (input_of self.old)) }
         ensures given { IfOk result (IsItemBy X.answer self.old) }
+        ensures stop { IfErr result (IsGivenStop self.old.tokens.now) }
         ensures numbered { IfOk result (IsNumbered numerator.old numerator.new) }
         ensures least { bindings_of numerator.old ≤ bindings_of numerator.new }
         ensures recipes_least { recipes_of numerator.old ≤ recipes_of numerator.new }
-        ensures most { bindings_of numerator.new + recipes_of numerator.new ≤ bindings_of numerator.old + recipes_of numerator.old + identifiers (rest_of self.old) }
+        ensures most { bindings_of numerator.new + recipes_of numerator.new ≤ bindings_of numerator.old + recipes_of numerator.old + identifiers (input_of self.old).tokens }
         ensures constants { constants_of numerator.new ≡ constants_of numerator.old }
     {
         if let Some((comment, _)) = self.accept(TokenKind::Comment) {
@@ -119,8 +126,9 @@ impl<'src, X: Expander> Parser<'_, 'src, X> {
         ensures same { OnOk result (IsSameRun self.old self.new) }
         ensures tokens { self.new.tokens ≡ self.old.tokens }
         ensures progress { OnOk result (self.old.next < self.new.next) }
-        ensures value { GivesNumbered (λ a. (item_of (items.Assignment a), rest_of self.new)) result (rest_of self.new) (LacksBinding (answers_by X.answer self.old.expander.now) (rest_of self.old) numerator.old) (reader.assignment (answers_by X.answer self.old.expander.now) (rest_of self.old)) }
+        ensures value { GivesNumbered (λ a. (item_of (items.Assignment a), input_of self.new)) result (input_of self.new) (LacksBinding (answers_by X.answer self.old.expander.now) (input_of self.old) numerator.old) (reader.assignment (answers_by X.answer self.old.expander.now) (input_of self.old)) }
         ensures given { IfOk result (IsGivenBinding (answers_by X.answer self.old.expander.now) (IsInTable self.old.tokens.now) self.old.file_depth) }
+        ensures stop { IfErr result (IsGivenStop self.old.tokens.now) }
         ensures number { IfOk result (λ a. a.number ≡ number_of (bindings_of numerator.old)) }
         ensures counted { OnOk result (bindings_of numerator.new ≡ bindings_of numerator.old + 1) }
         ensures unmoved { OnErr result (numerator.new ≡ numerator.old) }
@@ -149,8 +157,9 @@ impl<'src, X: Expander> Parser<'_, 'src, X> {
         ensures same { OnOk result (IsSameRun self.old self.new) }
         ensures tokens { self.new.tokens ≡ self.old.tokens }
         ensures progress { OnOk result (self.old.next ≤ self.new.next) }
-        ensures value { Gives (λ _. (map item_of items.new.items, rest_of self.new)) result (rest_of self.new) (reader.after (map item_of items.old.items) (ended_by (answers_by X.answer self.old.expander.now) has_body (rest_of self.old))) }
+        ensures value { Gives (λ _. (map item_of items.new.items, input_of self.new)) result (input_of self.new) (after (map item_of items.old.items) (ended_by (answers_by X.answer self.old.expander.now) has_body (input_of self.old))) }
         ensures given { OnOk result (AddsUnnumbered X.answer self.old items.old.items items.new.items) }
+        ensures stop { IfErr result (IsGivenStop self.old.tokens.now) }
     {
         if has_body {
             push(items, Item::Newline)?;
@@ -165,8 +174,9 @@ impl<'src, X: Expander> Parser<'_, 'src, X> {
         ensures same { OnOk result (IsSameRun self.old self.new) }
         ensures tokens { self.new.tokens ≡ self.old.tokens }
         ensures progress { OnOk result (self.old.next ≤ self.new.next) }
-        ensures value { Gives (λ _. (map item_of items.new.items, rest_of self.new)) result (rest_of self.new) (reader.after (map item_of items.old.items) (reader.behind (answers_by X.answer self.old.expander.now) (rest_of self.old))) }
+        ensures value { Gives (λ _. (map item_of items.new.items, input_of self.new)) result (input_of self.new) (after (map item_of items.old.items) (reader.behind (answers_by X.answer self.old.expander.now) (input_of self.old))) }
         ensures given { OnOk result (AddsUnnumbered X.answer self.old items.old.items items.new.items) }
+        ensures stop { IfErr result (IsGivenStop self.old.tokens.now) }
     {
         match self.accept(TokenKind::Comment) {
             Some((comment, _)) => {
@@ -183,8 +193,9 @@ impl<'src, X: Expander> Parser<'_, 'src, X> {
         ensures same { OnOk result (IsSameRun self.old self.new) }
         ensures tokens { self.new.tokens ≡ self.old.tokens }
         ensures progress { OnOk result (self.old.next ≤ self.new.next) }
-        ensures value { Gives (λ _. (map item_of items.new.items, rest_of self.new)) result (rest_of self.new) (reader.after (map item_of items.old.items) (reader.line_end (answers_by X.answer self.old.expander.now) (rest_of self.old))) }
+        ensures value { Gives (λ _. (map item_of items.new.items, input_of self.new)) result (input_of self.new) (after (map item_of items.old.items) (reader.line_end (answers_by X.answer self.old.expander.now) (input_of self.old))) }
         ensures given { OnOk result (AddsUnnumbered X.answer self.old items.old.items items.new.items) }
+        ensures stop { IfErr result (IsGivenStop self.old.tokens.now) }
     {
         if let Some(_end) = self.next_if(TokenKind::Eof) {
             return Ok(());

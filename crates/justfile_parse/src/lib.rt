@@ -2,12 +2,14 @@
 #![tactic(auto)]
 
 mod body;
+mod expression;
+mod feature;
 mod items;
+mod literal;
 mod parse;
 mod parser;
 mod recipe;
 pub mod significant;
 mod stop;
-mod value;
 
 pub use crate::parser::Parser;

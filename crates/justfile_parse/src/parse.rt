@@ -46,7 +46,7 @@ impl<'src, X: Expander> Parser<'_, 'src, X> {
     {
         let _ = current;
         let table = significant(alloc, tokens)?;
-        let items = Parser::parse_table(
+        let (items, list_features) = Parser::parse_table(
             alloc,
             file_depth,
             import_offsets,
@@ -56,6 +56,7 @@ impl<'src, X: Expander> Parser<'_, 'src, X> {
         )?;
         Ok(Ast {
             items,
+            list_features,
             module_path: Modulepath::from_namepath(alloc, module_namepath)?,
             unstable_features: BTreeSet::new(alloc),
             working_directory: working_directory.to_string(alloc)?,

@@ -1,21 +1,33 @@
-use justfile_base::{CompileErrorKind, Fault};
+ghost use Rattle.std.specs.Prelude.{IsTrue};
+ghost use Rattle.justfile_parse.specs.Fault.{is_literal_kind};
+
+use justfile_base::CompileError;
 use std::alloc::{AllocError, AllocFailed};
 
 /// Why the next token is refused.
-#[derive(Drop)]
-pub(crate) enum Refusal<'src> {
+#[derive(Clone, Copy)]
+pub(crate) enum Refusal {
     /// No rule goes on with it.
     Unexpected,
     /// Too many expressions are open.
     TooDeep,
-    /// It is a literal that has no text, for the reason that is given.
-    NotCooked(CompileErrorKind<'src>),
+}
+
+/// A literal that has no text, by the error that says so.
+#[derive(Drop)]
+pub(crate) struct Refused<'src> {
+    pub(crate) error: CompileError<'src>,
+    /// Whether its token is glued to the one before.
+    pub(crate) glued: bool,
+    pub(crate) ghost is_literal: { IsTrue (is_literal_kind error.kind) },
 }
 
 /// Why reading stopped.
 #[derive(Drop)]
 pub(crate) enum Stop<'src> {
-    Refused(Refusal<'src>),
+    Refused(Refusal),
+    /// A literal has no text.
+    Literal(Refused<'src>),
     Memory,
     /// A number was wanted, and the counter had come to its end.
     Numbers,
@@ -40,21 +52,5 @@ impl<T: Drop> From<AllocFailed<T>> for Stop<'_> {
 
     fn from(_: AllocFailed<T>) -> Self {
         Stop::Memory
-    }
-}
-
-/// Why a literal, which is the next token, has no text.
-impl<'src> From<Fault<'src>> for Stop<'src> {
-    ghost use Rattle.std.specs.Prelude.{◌≡◌};
-    ghost use Rattle.justfile_parse.specs.Reading.{stop_of};
-
-    ghost from_gives = { λ fault stop. stop ≡ stop_of fault };
-
-    fn from(fault: Fault<'src>) -> Self {
-        match fault {
-            Fault::Compile(error) => Stop::Refused(Refusal::NotCooked(error.kind)),
-            Fault::Memory => Stop::Memory,
-            Fault::Numbers => Stop::Numbers,
-        }
     }
 }

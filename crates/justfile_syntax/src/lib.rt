@@ -25,6 +25,10 @@ pub mod compile_error_kind {
     pub use justfile_base::CompileErrorKind;
 }
 
+pub mod conditional_operator {
+    pub use justfile_model::ConditionalOperator;
+}
+
 pub mod delimiter {
     pub use justfile_base::Delimiter;
 }
@@ -83,6 +87,14 @@ pub mod laws {
 
 pub mod line {
     pub use justfile_file::Line;
+}
+
+pub mod list_feature {
+    pub use justfile_model::ListFeature;
+}
+
+pub mod list_operator {
+    pub use justfile_tree::ListOperator;
 }
 
 pub mod modulepath {

@@ -1,12 +1,46 @@
 -- Copies of expressions.
 use Rattle.std.specs.Prelude.{◌≡◌, string_bytes}
+use Rattle.justfile_base.specs.declared.string_literal.StringLiteral as literals
 use Rattle.justfile_base.specs.StringLiteral.{IsSameLiteral}
-use Rattle.justfile_tree.specs.declared.expression.Expression.{Expression}
-use Rattle.justfile_tree.specs.declared.expression.Expression.TheVariants.{StringLiteral, Backtick, Variable}
+use Rattle.justfile_tree.specs.declared.expression.Expression.{Expression, And', Assert', Backtick, Call', Comparison', Concatenation', Conditional', FormatString', Group', Join', List', ListConcatenation', Not', Or', StringLiteral, Variable, Held-Expression-Assert-1, None', Some', Row_of-Expression, end_of-Expression, more_of-Expression, Row_of-Expression-FormatString-1-2, end_of-Expression-FormatString-1-2, more_of-Expression-FormatString-1-2}
 
--- the same case with the same fields
-abbrev pub IsSameExpression : (copy original : Expression) → Type 0
-IsSameExpression (StringLiteral copy) (StringLiteral original) = IsSameLiteral copy original
-IsSameExpression (Backtick contents token) (Backtick contents' token') = (string_bytes contents ≡ string_bytes contents') × (token ≡ token')
-IsSameExpression (Variable name number) (Variable name' number') = (name ≡ name') × (number ≡ number')
-IsSameExpression _ _ = ⊥
+abbrev mutual
+  -- the same case with the same fields, wherever they lie in memory
+  pub IsSameExpression : (copy original : Expression) → Type 0
+  IsSameExpression (And' p lhs q rhs) (And' p' lhs' q' rhs') = IsSameExpression lhs lhs' × IsSameExpression rhs rhs'
+  IsSameExpression (Assert' p condition message name) (Assert' p' condition' message' name') = IsSameExpression condition condition' × IsSameHeld message message' × (name ≡ name')
+  IsSameExpression (Backtick contents token) (Backtick contents' token') = (string_bytes contents ≡ string_bytes contents') × (token ≡ token')
+  IsSameExpression (Call' name m arguments) (Call' name' n arguments') = (name ≡ name') × AreSameExpressions arguments arguments'
+  IsSameExpression (Comparison' p lhs operator q rhs token) (Comparison' p' lhs' operator' q' rhs' token') = IsSameExpression lhs lhs' × (operator ≡ operator') × IsSameExpression rhs rhs' × (token ≡ token')
+  IsSameExpression (Concatenation' p lhs operator q rhs) (Concatenation' p' lhs' operator' q' rhs') = IsSameExpression lhs lhs' × (operator ≡ operator') × IsSameExpression rhs rhs'
+  IsSameExpression (Conditional' p condition q branch otherwise) (Conditional' p' condition' q' branch' otherwise') = IsSameExpression condition condition' × IsSameExpression branch branch' × IsSameHeld otherwise otherwise'
+  IsSameExpression (FormatString' start m expressions) (FormatString' start' n expressions') = IsSameLiteral start start' × AreSameParts expressions expressions'
+  IsSameExpression (Group' p contents) (Group' p' contents') = IsSameExpression contents contents'
+  IsSameExpression (Join' lhs operator q rhs) (Join' lhs' operator' q' rhs') = IsSameHeld lhs lhs' × (operator ≡ operator') × IsSameExpression rhs rhs'
+  IsSameExpression (List' m elements opener) (List' n elements' opener') = AreSameExpressions elements elements' × (opener ≡ opener')
+  IsSameExpression (ListConcatenation' p lhs operator q rhs) (ListConcatenation' p' lhs' operator' q' rhs') = IsSameExpression lhs lhs' × (operator ≡ operator') × IsSameExpression rhs rhs'
+  IsSameExpression (Not' p operand) (Not' p' operand') = IsSameExpression operand operand'
+  IsSameExpression (Or' p lhs q rhs) (Or' p' lhs' q' rhs') = IsSameExpression lhs lhs' × IsSameExpression rhs rhs'
+  IsSameExpression (StringLiteral copy) (StringLiteral original) = IsSameLiteral copy original
+  IsSameExpression (Variable name number) (Variable name' number') = (name ≡ name') × (number ≡ number')
+  IsSameExpression _ _ = ⊥
+
+  -- an expression that may be absent
+  pub IsSameHeld : (copy original : Held-Expression-Assert-1) → Type 0
+  IsSameHeld None' None' = Unit {0}
+  IsSameHeld (Some' p copy) (Some' q original) = IsSameExpression copy original
+  IsSameHeld _ _ = ⊥
+
+  pub AreSameExpressions : {m n : _} → (copies : Row_of-Expression m) (originals : Row_of-Expression n) → Type 0
+  AreSameExpressions end_of-Expression end_of-Expression = Unit {0}
+  AreSameExpressions (more_of-Expression copy copies) (more_of-Expression original originals) = IsSameExpression copy original × AreSameExpressions copies originals
+  AreSameExpressions _ _ = ⊥
+
+  pub AreSameParts : {m n : _} → (copies : Row_of-Expression-FormatString-1-2 m) (originals : Row_of-Expression-FormatString-1-2 n) → Type 0
+  AreSameParts end_of-Expression-FormatString-1-2 end_of-Expression-FormatString-1-2 = Unit {0}
+  AreSameParts (more_of-Expression-FormatString-1-2 copy part copies) (more_of-Expression-FormatString-1-2 original part' originals) = IsSameExpression copy original × IsSameLiteral part part' × AreSameParts copies originals
+  AreSameParts _ _ = ⊥
+
+-- an expression of a format string, and the part behind it
+abbrev pub IsSamePart : (copy original : Expression × literals.StringLiteral) → Type 0
+IsSamePart copy original = IsSameExpression copy.0 original.0 × IsSameLiteral copy.1 original.1

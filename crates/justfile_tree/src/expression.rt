@@ -1,23 +1,93 @@
-ghost use Rattle.std.specs.Prelude.{◌++◌, OnOk, OnErr};
-ghost use Rattle.justfile_base.specs.StringLiteral.{format_mark};
-ghost use Rattle.justfile_base.specs.Token.{lexeme_of};
-ghost use Rattle.justfile_model.specs.Printing.{piece, expr_text, mark_text};
-ghost use Rattle.justfile_tree.specs.Expression.{expr_shape};
+ghost use Rattle.std.specs.Prelude.{IfOk};
+ghost use Rattle.std.specs.List.{AllZip};
+ghost use Rattle.justfile_tree.specs.Copies.{IsSameExpression, IsSamePart};
 
-use crate::sink::Sink;
 use justfile_base::{Name, Number, StringLiteral, Token};
+use justfile_model::ConditionalOperator;
 use std::alloc::{AllocError, Global};
-use std::fmt;
 
 /// What stands for a value.
 #[derive(Debug, Drop, PartialEq, Eq, PartialOrd, Ord)]
 pub enum Expression<'src> {
+    /// `lhs && rhs`
+    And {
+        lhs: Box<Expression<'src>>,
+        rhs: Box<Expression<'src>>,
+    },
+    /// `assert(condition)` or `assert(condition, message)`
+    Assert {
+        condition: Box<Expression<'src>>,
+        message: Option<Box<Expression<'src>>>,
+        /// The word `assert`.
+        name: Name<'src>,
+    },
     /// A command between backticks, and what it prints is the value.
     Backtick {
         /// The command: what stands between the backticks, unindented where they are tripled.
         contents: String,
         /// The command with its backticks.
         token: Token<'src>,
+    },
+    /// `name(arguments)`
+    Call {
+        name: Name<'src>,
+        arguments: Vec<Expression<'src>>,
+    },
+    /// `lhs == rhs`, or with another operator
+    Comparison {
+        lhs: Box<Expression<'src>>,
+        operator: ConditionalOperator,
+        rhs: Box<Expression<'src>>,
+        /// The operator.
+        token: Token<'src>,
+    },
+    /// `lhs + rhs`
+    Concatenation {
+        lhs: Box<Expression<'src>>,
+        operator: Token<'src>,
+        rhs: Box<Expression<'src>>,
+    },
+    /// `if condition { then }`, or with `else { otherwise }` behind it
+    Conditional {
+        condition: Box<Expression<'src>>,
+        then: Box<Expression<'src>>,
+        otherwise: Option<Box<Expression<'src>>>,
+    },
+    /// A format string: its first part, and each expression with the part behind it.
+    FormatString {
+        start: StringLiteral<'src>,
+        expressions: Vec<(Expression<'src>, StringLiteral<'src>)>,
+    },
+    /// `(contents)`
+    Group {
+        contents: Box<Expression<'src>>,
+    },
+    /// `lhs / rhs`, or `/ rhs`
+    Join {
+        lhs: Option<Box<Expression<'src>>>,
+        operator: Token<'src>,
+        rhs: Box<Expression<'src>>,
+    },
+    /// `[elements]`
+    List {
+        elements: Vec<Expression<'src>>,
+        /// The opening bracket.
+        opener: Token<'src>,
+    },
+    /// `lhs ++ rhs`
+    ListConcatenation {
+        lhs: Box<Expression<'src>>,
+        operator: Token<'src>,
+        rhs: Box<Expression<'src>>,
+    },
+    /// `!operand`
+    Not {
+        operand: Box<Expression<'src>>,
+    },
+    /// `lhs || rhs`
+    Or {
+        lhs: Box<Expression<'src>>,
+        rhs: Box<Expression<'src>>,
     },
     /// A literal in quotes.
     StringLiteral {
@@ -31,22 +101,124 @@ pub enum Expression<'src> {
 }
 
 impl<'src> Expression<'src> {
-    ghost use Rattle.std.specs.Prelude.{IfOk};
-    ghost use Rattle.justfile_tree.specs.Copies.{IsSameExpression};
-
     /// The same expression once more.
+    #[cycle(copy)]
     pub fn clone(&self, alloc: Global) -> Result<Self, AllocError>
         ensures { IfOk result (λ copy. IsSameExpression copy self.now) }
     {
         match self {
+            Expression::And { lhs, rhs } => Ok(Expression::And {
+                lhs: boxed(alloc, lhs)?,
+                rhs: boxed(alloc, rhs)?,
+            }),
+            Expression::Assert {
+                condition,
+                message,
+                name,
+            } => {
+                let condition = boxed(alloc, condition)?;
+                let name = *name;
+                match message {
+                    None => Ok(Expression::Assert {
+                        condition,
+                        message: None,
+                        name,
+                    }),
+                    Some(message) => Ok(Expression::Assert {
+                        condition,
+                        message: Some(boxed(alloc, message)?),
+                        name,
+                    }),
+                }
+            }
             Expression::Backtick { contents, token } => Ok(Expression::Backtick {
                 contents: contents.as_str().to_string(alloc)?,
                 token: *token,
             }),
-            Expression::StringLiteral { string_literal } => {
-                let string_literal = string_literal.clone(alloc)?;
-                Ok(Expression::StringLiteral { string_literal })
+            Expression::Call { name, arguments } => Ok(Expression::Call {
+                name: *name,
+                arguments: copied(alloc, arguments)?,
+            }),
+            Expression::Comparison {
+                lhs,
+                operator,
+                rhs,
+                token,
+            } => Ok(Expression::Comparison {
+                lhs: boxed(alloc, lhs)?,
+                operator: *operator,
+                rhs: boxed(alloc, rhs)?,
+                token: *token,
+            }),
+            Expression::Concatenation { lhs, operator, rhs } => Ok(Expression::Concatenation {
+                lhs: boxed(alloc, lhs)?,
+                operator: *operator,
+                rhs: boxed(alloc, rhs)?,
+            }),
+            Expression::Conditional {
+                condition,
+                then: branch,
+                otherwise,
+            } => {
+                let condition = boxed(alloc, condition)?;
+                let branch = boxed(alloc, branch)?;
+                match otherwise {
+                    None => Ok(Expression::Conditional {
+                        condition,
+                        then: branch,
+                        otherwise: None,
+                    }),
+                    Some(otherwise) => Ok(Expression::Conditional {
+                        condition,
+                        then: branch,
+                        otherwise: Some(boxed(alloc, otherwise)?),
+                    }),
+                }
             }
+            Expression::FormatString { start, expressions } => Ok(Expression::FormatString {
+                start: start.clone(alloc)?,
+                expressions: copied_parts(alloc, expressions)?,
+            }),
+            Expression::Group { contents } => Ok(Expression::Group {
+                contents: boxed(alloc, contents)?,
+            }),
+            Expression::Join { lhs, operator, rhs } => {
+                let operator = *operator;
+                let rhs = boxed(alloc, rhs)?;
+                match lhs {
+                    None => Ok(Expression::Join {
+                        lhs: None,
+                        operator,
+                        rhs,
+                    }),
+                    Some(lhs) => Ok(Expression::Join {
+                        lhs: Some(boxed(alloc, lhs)?),
+                        operator,
+                        rhs,
+                    }),
+                }
+            }
+            Expression::List { elements, opener } => Ok(Expression::List {
+                elements: copied(alloc, elements)?,
+                opener: *opener,
+            }),
+            Expression::ListConcatenation { lhs, operator, rhs } => Ok(
+                Expression::ListConcatenation {
+                    lhs: boxed(alloc, lhs)?,
+                    operator: *operator,
+                    rhs: boxed(alloc, rhs)?,
+                },
+            ),
+            Expression::Not { operand } => Ok(Expression::Not {
+                operand: boxed(alloc, operand)?,
+            }),
+            Expression::Or { lhs, rhs } => Ok(Expression::Or {
+                lhs: boxed(alloc, lhs)?,
+                rhs: boxed(alloc, rhs)?,
+            }),
+            Expression::StringLiteral { string_literal } => Ok(Expression::StringLiteral {
+                string_literal: string_literal.clone(alloc)?,
+            }),
             Expression::Variable { name, number } => Ok(Expression::Variable {
                 name: *name,
                 number: *number,
@@ -55,64 +227,47 @@ impl<'src> Expression<'src> {
     }
 }
 
-/// Puts a piece that is the same in every text.
-#[tactic(auto, unfolding(justfile_model::specs::Printing::piece))]
-pub fn put_piece<S: Sink>(bytes: &str, sink: &mut S) -> Result<(), S::Fault>
-    ensures ok { OnOk result (S.took sink.old (piece bytes.now) sink.new) }
-    ensures err { OnErr result (S.failed sink.old (piece bytes.now) sink.new) }
+/// The same expression once more, in a box of its own.
+#[cycle(copy)]
+fn boxed<'src>(
+    alloc: Global,
+    expression: &Expression<'src>,
+) -> Result<Box<Expression<'src>>, AllocError>
+    ensures { IfOk result (λ copy. IsSameExpression copy.value expression.now) }
 {
-    sink.put(bytes)
+    let copy = expression.clone(alloc)?;
+    Ok(Box::new(alloc, copy)?)
 }
 
-/// Puts the mark of a literal that is expanded.
-fn write_mark<S: Sink>(expanded: bool, sink: &mut S) -> Result<(), S::Fault>
-    ensures ok { OnOk result (S.took sink.old (mark_text expanded) sink.new) }
-    ensures err { OnErr result (S.failed sink.old (mark_text expanded) sink.new) }
+/// The same expressions once more.
+#[cycle(copy)]
+fn copied<'src>(
+    alloc: Global,
+    expressions: &Vec<Expression<'src>>,
+) -> Result<Vec<Expression<'src>>, AllocError>
+    ensures { IfOk result (λ copies. AllZip IsSameExpression copies.items expressions.now.items) }
 {
-    if expanded {
-        put_piece("x", sink)
-    } else {
-        Ok(())
+    let mut copies = Vec::new(alloc);
+    for expression in expressions {
+        let copy = expression.clone(alloc)?;
+        copies.push(copy)?;
     }
+    Ok(copies)
 }
 
-/// Puts the text of a string literal.
-fn write_string_literal<S: Sink>(literal: &StringLiteral<'_>, sink: &mut S) -> Result<(), S::Fault>
-    ensures ok { OnOk result (S.took sink.old (mark_text literal.now.expand ++ (format_mark literal.now ++ lexeme_of literal.now.token)) sink.new) }
-    ensures err { OnErr result (S.failed sink.old (mark_text literal.now.expand ++ (format_mark literal.now ++ lexeme_of literal.now.token)) sink.new) }
+/// The same expressions and parts of a format string once more.
+#[cycle(copy)]
+fn copied_parts<'src>(
+    alloc: Global,
+    expressions: &Vec<(Expression<'src>, StringLiteral<'src>)>,
+) -> Result<Vec<(Expression<'src>, StringLiteral<'src>)>, AllocError>
+    ensures { IfOk result (λ copies. AllZip IsSamePart copies.items expressions.now.items) }
 {
-    write_mark(literal.expand, sink)?;
-    write_unexpanded(literal, sink)
-}
-
-/// Puts the text of a string literal but for the mark of one that is expanded.
-fn write_unexpanded<S: Sink>(literal: &StringLiteral<'_>, sink: &mut S) -> Result<(), S::Fault>
-    ensures ok { OnOk result (S.took sink.old (format_mark literal.now ++ lexeme_of literal.now.token) sink.new) }
-    ensures err { OnErr result (S.failed sink.old (format_mark literal.now ++ lexeme_of literal.now.token) sink.new) }
-{
-    sink.put(literal.format_mark())?;
-    sink.put(literal.token.lexeme())?;
-    Ok(())
-}
-
-/// Puts the text of an expression.
-pub fn write_expression<S: Sink>(expression: &Expression<'_>, sink: &mut S) -> Result<(), S::Fault>
-    ensures ok { OnOk result (S.took sink.old (expr_text (expr_shape expression.now)) sink.new) }
-    ensures err { OnErr result (S.failed sink.old (expr_text (expr_shape expression.now)) sink.new) }
-{
-    match expression {
-        Expression::Backtick { token, .. } => sink.put(token.lexeme()),
-        Expression::StringLiteral { string_literal } => write_string_literal(string_literal, sink),
-        Expression::Variable { name, .. } => sink.put(name.lexeme()),
+    let mut parts = Vec::new(alloc);
+    for (expression, literal) in expressions {
+        let copy = expression.clone(alloc)?;
+        let part = literal.clone(alloc)?;
+        parts.push((copy, part))?;
     }
-}
-
-impl fmt::Display for Expression<'_> {
-    ghost use Rattle.std.specs.Prelude.{Some};
-
-    ghost output = { λ e. Some (expr_text (expr_shape e)) };
-
-    fn fmt<W: fmt::Write>(&self, f: &mut fmt::Formatter<W>) -> fmt::Result {
-        write_expression(self, f)
-    }
+    Ok(parts)
 }

@@ -2,8 +2,13 @@
 #![tactic(auto)]
 
 pub mod expression;
+mod list_operator;
+mod print;
 pub mod sink;
 mod sinks;
 
-pub use crate::expression::{Expression, put_piece, write_expression};
+pub use crate::expression::Expression;
+pub use crate::list_operator::ListOperator;
+pub use crate::print::{put_piece, write_expression};
 pub use crate::sink::Sink;
+pub use justfile_model::{ConditionalOperator, ListFeature};

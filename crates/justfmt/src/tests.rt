@@ -1,6 +1,7 @@
 //! What the program answers, with ample memory, and with a reader and a writer that fail.
 
 mod build;
+mod expressions;
 mod literals;
 
 use crate::run::run;

@@ -38,7 +38,7 @@ impl Expander for Refusing {
 }
 
 /// The token that the whole text is.
-fn whole(text: &str, kind: TokenKind) -> Token<'_>
+pub(super) fn whole(text: &str, kind: TokenKind) -> Token<'_>
     ensures { lexeme_of result ≡ text.now }
 {
     Token {
@@ -77,7 +77,7 @@ fn compare(
 }
 
 /// Sees that the error is of this kind, and at the token.
-fn is_at(
+pub(super) fn is_at(
     rt: &(impl Abort + AllocGlobal),
     error: CompileError<'_>,
     token: Token<'_>,

@@ -59,22 +59,6 @@ fn strings_alone_are_marked(rt: HostRuntime) -> Result<(), Fail> {
 }
 
 #[test]
-fn f_is_no_mark(rt: HostRuntime) -> Result<(), Fail> {
-    const TEXTS: &[&str] = &[
-        "a := f'a'\n",
-        "a := f\"a\"\n",
-        "a := f'''a'''\n",
-        "a := f 'a'\n",
-        "a := f'a{{b}}c'\n",
-        "foo:\n  {{f'a'}}\n",
-    ];
-    for text in TEXTS {
-        refusal(rt.alloc(), text)?;
-    }
-    Ok(())
-}
-
-#[test]
 fn marks_are_names_elsewhere(rt: HostRuntime) -> Result<(), Fail> {
     const ROWS: &[(&str, &[&str])] = &[
         ("a := x", &["a 0 2 false name x"]),

@@ -31,6 +31,10 @@ const TEXTS: &[&str] = &[
     "foo:\n  a\r{{b}}\n",
     "foo:\n  #!/bin/sh\n  {{\r\n  \"a\"\n}}{{b}}}}\n\n\n\nb := c # d \n",
     "a := x'b'\nc := `d`\n",
+    "foo:\n  a\n\n   b{{if x==y{'1'}else{if z{\"2\"}else{'3'}}}}c\n",
+    "x := f'a{{ f\"b{{c}}\" }}d'\n",
+    "a := !b ++ [c,] == d || e && assert(f, g(h)) # i\n",
+    "x := (\n  a\n  + / b\n)\ny := f\"\"\"{{{{{{x}}\\n\n{{y}}\"\"\"\n",
     "a := '''\n  b\\t\n  c\n'''\nd := x\"\"\"\\u{41}\\\r\n\"\"\" # e\n",
     "foo:\n  {{x\"\\n\\\\\"}}{{```\n   a\n  ```}} b\n",
     "foo:\n  a\n\n  \r \n",
@@ -48,6 +52,8 @@ const OTHERS: &[&str] = &[
     "  foo:\n    a\n",
     "a := \"\\u{D800}\"\n",
     "foo:\n  {{`#!x`}}\n",
+    "a := if b { c } else { if d { e } } else { f }\n",
+    "a := f\"b{{c}}\\q\"\n",
 ];
 
 /// Sees that what is printed of a file at an indentation is a file that prints as itself.

@@ -19,8 +19,6 @@ fn compare(rt: &impl Abort, alloc: Global, rows: &[(&str, usize)]) -> Result<(),
 fn assignments_need_a_value_at_the_front_of_a_line(rt: HostRuntime) -> Result<(), Fail> {
     const ROWS: &[(&str, usize)] = &[
         ("a :=", 4),
-        ("a := if\n", 5),
-        ("a := assert\n", 5),
         ("a := f 'x'\n", 7),
         ("  a := b\n", 0),
         ("a\r:= b\n", 1),
@@ -75,12 +73,10 @@ fn indented_lines_stand_right_behind_a_header_alone(rt: HostRuntime) -> Result<(
 }
 
 #[test]
-fn interpolations_hold_one_value(rt: HostRuntime) -> Result<(), Fail> {
+fn interpolations_hold_one_expression(rt: HostRuntime) -> Result<(), Fail> {
     const ROWS: &[(&str, usize)] = &[
         ("foo:\n  {{}}\n", 9),
         ("foo:\n  a{{ }}b\n", 11),
-        ("foo:\n  {{if}}\n", 9),
-        ("foo:\n  {{assert}}\n", 9),
         ("foo:\n  {{x y}}\n", 11),
         ("foo:\n  {{x 'y'}}\n", 11),
         ("foo:\n  {{# x\n  }}\n", 9),

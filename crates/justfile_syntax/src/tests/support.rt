@@ -185,6 +185,9 @@ pub(crate) fn shown(alloc: Global, item: &Item<'_>) -> Result<String, Fail> {
                 Expression::Variable { name: variable, .. } => {
                     format!(in alloc; "{name} {number} {file_depth} {private} name {variable}")?
                 }
+                value => {
+                    format!(in alloc; "{name} {number} {file_depth} {private} expression {value}")?
+                }
             }
         }
         Item::Comment(text) => format!(in alloc; "comment {text:?}")?,

@@ -8,4 +8,4 @@ pub range-requires-clause-start_boundary : goal.range-requires-clause-start_boun
 range-requires-clause-start_boundary c some =
     let by_kind = subst (λ k. IsTrue (is_quoted_by (delimiter_len k) c.args.lexeme.now)) (sym c.kind_of.ensures) c.requires in
     let quoted = subst (λ n. IsTrue (is_quoted_by n c.args.lexeme.now)) (sym c.delimiter_len-quotes.ensures) by_kind in
-    begins c.delimiter_len-quotes.result c.args.lexeme.now c.utf8.lexeme some quoted
+    begins c.delimiter_len-quotes.result c.delimiter_len-quotes.result c.args.lexeme.now c.utf8.lexeme some quoted

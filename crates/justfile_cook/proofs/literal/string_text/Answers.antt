@@ -16,8 +16,8 @@ flush c = c.as_str.ensures.value ∙ c.in_ok-text.ensures ∙ ap flush_text c.le
 
 pub returns-then-processes_escape_sequences-clause-ok : goal.returns-then-processes_escape_sequences-clause-ok
 returns-then-processes_escape_sequences-clause-ok c =
-    IfOk-weaker c.cook_string.result _ _ (λ cooked cooks. cooked_string (lexeme_of c.args.token) c.as_str.result.now _ c.as_str.utf8 (escaping c) (flush c) cooks) c.cook_string.ensures.ok
+    IfOk-weaker c.cook_string.result _ _ (λ cooked cooks. cooked_string (kind_of (lexeme_of c.args.token)) (flush_text (lexeme_of c.args.token)) c.as_str.result.now _ c.as_str.utf8 (escaping c) (flush c) cooks) c.cook_string.ensures.ok
 
 pub returns-then-processes_escape_sequences-clause-err : goal.returns-then-processes_escape_sequences-clause-err
 returns-then-processes_escape_sequences-clause-err c =
-    IfErr-weaker c.cook_string.result _ _ (λ fault is. refused_string (lexeme_of c.args.token) c.as_str.result.now c.args.token fault c.as_str.utf8 (escaping c) (flush c) is) c.cook_string.ensures.err
+    IfErr-weaker c.cook_string.result _ _ (λ fault is. refused_string (kind_of (lexeme_of c.args.token)) (flush_text (lexeme_of c.args.token)) c.as_str.result.now c.args.token fault c.as_str.utf8 (escaping c) (flush c) is) c.cook_string.ensures.err

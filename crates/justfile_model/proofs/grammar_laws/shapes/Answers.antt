@@ -1,6 +1,7 @@
+use Rattle.justfile_model.proofs.Agreement.{one_tree}
 use Rattle.justfile_model.proofs.CookedTexts.{same_texts}
 use Rattle.justfile_model.proofs.Leaves.{file_forgets, file_lifts, one_shape}
 use Rattle.justfile_model.proofs.grammar_laws.shapes.Goals as goal
 
 pub returns : goal.returns
-returns c = record { forget = file_forgets; lift = file_lifts; one = one_shape; texts = same_texts }
+returns c = record { forget = file_forgets; lift = file_lifts; one = λ E V ts. one_shape E V ts (one_tree E V ts); texts = same_texts }

@@ -3,7 +3,7 @@ use Rattle.std.specs.List.{list_all}
 use Rattle.std.proofs.lemmas.Result.{err_from_is_err_and}
 use Rattle.justfile_base.specs.declared.token.Token.{Token}
 use Rattle.justfile_model.specs.Tok.{tok_of}
-use Rattle.justfile_parse.specs.Quoted.{is_sound}
+use Rattle.justfile_parse.specs.Literal.{is_sound}
 use Rattle.justfile_parse.specs.Significant.{significant_of}
 use Rattle.justfile_parse.specs.Parsing.{version_numbers}
 use Rattle.justfile_cook.specs.Literal.{answers_by}

@@ -7,11 +7,9 @@ use Rattle.justfile_parse.proofs.Bodies.{all_front, body_none}
 use Rattle.justfile_parse.proofs.parser.Parser.parse_body.Goals as goal
 
 pub returns-then-is_empty-clause-value : goal.returns-then-is_empty-clause-value
-returns-then-is_empty-clause-value g c = (
-  body_none _ _ _ _ _ c.in_ok-lines.ensures.value c.trim_lines.ensures.tree
-      (nil_from_length c.trim_lines.new.lines.items (grind (arith, nat_tests, c.if-is_empty.ensures, c.trim_lines.new.lines.ok))),
-  tt,
-)
+returns-then-is_empty-clause-value g c =
+    body_none _ _ _ _ _ c.in_ok-lines.ensures.value c.trim_lines.ensures.tree
+    (nil_from_length c.trim_lines.new.lines.items (grind (arith, nat_tests, c.if-is_empty.ensures, c.trim_lines.new.lines.ok)))
 
 pub returns-clause-given : goal.returns-clause-given
 returns-clause-given g c =

@@ -6,7 +6,7 @@ pub returns-in_err-item-clause-value : goal.returns-in_err-item-clause-value
 returns-in_err-item-clause-value g c =
     let p = err_from_is_err_and c.from_residual-in_err-item.result c.from_residual-in_err-item.ensures.1 in
     rw (p.1, p.2)
-    (line_stops g.X.Expander.answer c.args.self.now c.accept.new.self c.accept.ensures.same c.in_err-item.field-0.0 _ _ _ _ c.in_default.ensures.none c.in_default.ensures.same_rest
+    (line_stops g.X.Expander.answer c.args.self.now c.accept.new.self c.accept.ensures.same c.in_err-item.field-0.0 _ _ _ _ c.in_default.ensures.none c.in_default.ensures.same_input
     c.in_err-item.ensures.value)
 
 pub returns-clause-given : goal.returns-clause-given

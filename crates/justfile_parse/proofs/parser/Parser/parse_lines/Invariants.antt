@@ -1,5 +1,5 @@
 use Rattle.std.proofs.Common.{length}
-use Rattle.justfile_parse.specs.View.{rest_of}
+use Rattle.justfile_parse.specs.View.{input_of}
 use Rattle.justfile_parse.proofs.Bodies.{IsBodyTo}
 use Rattle.justfile_parse.proofs.parser.Parser.parse_lines.Given as goal
 
@@ -7,4 +7,4 @@ abbrev pub invariant-lines : goal.invariant-lines
 invariant-lines g l = IsBodyTo g.X.Expander.answer l.fn.self l.self l.lines.items
 
 abbrev pub decreases-lines : goal.decreases-lines
-decreases-lines g l = length (rest_of l.self)
+decreases-lines g l = length (input_of l.self).tokens

@@ -1,0 +1,145 @@
+-- What a reader comes to where the grammar has a tree: it reads the tree, or refuses a literal that has no text, or too deep an
+-- expression.
+use Rattle.std.proofs.Common.{◌≡◌, ℕ, ◌<◌, ◌≤◌, false, cond, nat_lt, List, [], ◌∷◌, ◌++◌, Option, Result, Ok, Err, refl, sym, subst, ap, ◌∙◌, inl, inr, append_assoc, arith}
+use Rattle.std.proofs.lemmas.Bool.Decides.{nat_tests}
+use Rattle.justfile_model.specs.Tok.{Tok}
+use Rattle.justfile_model.specs.SignificantTokens.{SignificantToken}
+use Rattle.justfile_model.specs.Tree.{lexeme}
+use Rattle.justfile_model.specs.Features.{Noted}
+use Rattle.justfile_model.specs.Expressions.{Tokens, front, Limited, Free, Waived}
+use Rattle.justfile_model.specs.Literals.{Literal, over_literal, token_of, LiteralFault, Answers, cooked_text}
+use Rattle.justfile_model.specs.Reading.{Refusal, TooDeep, ◌>>=◌, Input, Read, refused}
+use Rattle.justfile_model.specs.ExpressionReader.{with_text}
+use Rattle.justfile_model.specs.Refusals.{LacksText, IsDue}
+use Rattle.justfile_model.proofs.CookedTexts.{AllCook, both_cook, then_cook, all_cook, texts_of}
+use Rattle.justfile_model.proofs.Steps.{input, after_test}
+
+at_limit : (d : ℕ) → d ≤ 256 → nat_lt d 256 ≡ false → d ≡ 256
+at_limit d within h = let not : 256 ≤ d = grind (arith, nat_tests) in omega (arith, within, not)
+
+-- under the limit nothing is waived
+pub kept : (d : ℕ) (at : Option SignificantToken) → Limited d at → Waived (λ at. ⊥) d at
+kept d at h = λ e. absurd (omega (arith, h, e))
+
+-- and without it everything
+pub dropped : (d : ℕ) (at : Option SignificantToken) → Free d at → Waived (λ at. Unit {0}) d at
+dropped d at h = λ e. tt
+
+module _ (expander : Answers) where
+  -- ---- the first literal without a text
+
+  lacks_first : (ls ms : List (Literal Tok)) (r : Refusal) → LacksText expander ls r → LacksText expander (ls ++ ms) r
+  lacks_first ls ms r h = record {
+    before = h.before;
+    literal = h.literal;
+    behind = h.behind ++ ms;
+    all_is = ap (λ (l : List (Literal Tok)). l ++ ms) h.all_is ∙ append_assoc h.before (h.literal ∷ h.behind) ms;
+    cooked = h.cooked;
+    cooks = h.cooks;
+    fault = h.fault;
+    no_text = h.no_text;
+    token = h.token;
+    token_is = h.token_is;
+    refusal_is = h.refusal_is;
+  }
+
+  lacks_then : (ls ms : List (Literal Tok)) (r : Refusal) → AllCook expander ls → LacksText expander ms r → LacksText expander (ls ++ ms) r
+  lacks_then ls ms r a h =
+      let texts = texts_of expander (ls ++ h.before) (both_cook expander ls h.before a (all_cook expander h.before h.cooked h.cooks)) in
+      record {
+        before = ls ++ h.before;
+        literal = h.literal;
+        behind = h.behind;
+        all_is = ap (λ (m : List (Literal Tok)). ls ++ m) h.all_is ∙ sym (append_assoc ls h.before (h.literal ∷ h.behind));
+        cooked = texts.0;
+        cooks = texts.1;
+        fault = h.fault;
+        no_text = h.no_text;
+        token = h.token;
+        token_is = h.token_is;
+        refusal_is = h.refusal_is;
+      }
+
+  text_or_none : (found : Result (List ℕ) LiteralFault) (text : List ℕ) (fault : LiteralFault) → found ≡ Ok text → found ≡ Err fault → ⊥
+  text_or_none found text fault h e = cc
+
+  -- no literal lacks a text where each has one
+  pub lacks_none : (ls : List (Literal Tok)) (r : Refusal) → AllCook expander ls → LacksText expander ls r → ⊥
+  lacks_none ls r a h =
+      let here = then_cook expander h.before (h.literal ∷ h.behind) (subst (AllCook expander) h.all_is a) in
+      text_or_none (cooked_text expander (over_literal lexeme h.literal)) here.0.text h.fault here.0.is h.no_text
+
+  -- ---- what is read if these literals have texts, where the limit is waived at some tokens
+
+  module _ (Hit : Option SignificantToken → Type 0) where
+    due_first : (ls ms : List (Literal Tok)) (r : Refusal) → IsDue expander Hit ls r → IsDue expander Hit (ls ++ ms) r
+    due_first ls ms r (inl h) = inl (lacks_first ls ms r h)
+    due_first ls ms r (inr h) = inr h
+
+    due_then : (ls ms : List (Literal Tok)) (r : Refusal) → AllCook expander ls → IsDue expander Hit ms r → IsDue expander Hit (ls ++ ms) r
+    due_then ls ms r a (inl h) = inl (lacks_then ls ms r a h)
+    due_then ls ms r a (inr h) = inr h
+
+    -- it is read, or a refusal that is due is given
+    pub data Reaches {X : Type 0} (found : Result X Refusal) (x : X) (ls : List (Literal Tok)) : Type 0 where
+      is_read : AllCook expander ls → found ≡ Ok x → Reaches found x ls
+      is_refused : {r : Refusal} → IsDue expander Hit ls r → found ≡ Err r → Reaches found x ls
+
+    pub by : {X : Type 0} {found found' : Result X Refusal} {x : X} {ls : List (Literal Tok)} → found ≡ found' → Reaches found' x ls → Reaches found x ls
+    by {x = x} {ls = ls} is h = subst (λ o. Reaches o x ls) (sym is) h
+
+    -- with the same features, put together otherwise
+    pub renoted : {A : Type 0} {found : Read A} {e : A} {rest : Tokens} {m n : List (Noted Tok)} {ls : List (Literal Tok)} → m ≡ n → Reaches found (e, input rest m) ls → Reaches found (e, input rest n) ls
+    renoted {A} {found} {e} {rest} {ls = ls} same h = subst (λ (n : List (Noted Tok)). Reaches found (e, input rest n) ls) same h
+
+    -- with the same literals, put together otherwise
+    pub regrouped : {X : Type 0} {found : Result X Refusal} {x : X} {ls ms : List (Literal Tok)} → ls ≡ ms → Reaches found x ls → Reaches found x ms
+    regrouped {found = found} {x = x} same h = subst (λ (ls : List (Literal Tok)). Reaches found x ls) same h
+
+    onto : {X : Type 0} {found : Result X Refusal} {x : X} (ls ms : List (Literal Tok)) → AllCook expander ls → Reaches found x ms → Reaches found x (ls ++ ms)
+    onto ls ms a (is_read b is) = is_read (both_cook expander ls ms a b) is
+    onto ls ms a (is_refused h is) = is_refused (due_then ls ms _ a h) is
+
+    -- a step, and those behind it
+    pub then : {X Y : Type 0} {found : Result X Refusal} {x : X} (f : X → Result Y Refusal) {y : Y} {ls ms : List (Literal Tok)} → Reaches found x ls → Reaches (f x) y ms → Reaches (found >>= f) y (ls ++ ms)
+    then f {y} {ls} {ms} (is_read a is) go = subst (λ o. Reaches (o >>= f) y (ls ++ ms)) (sym is) (onto ls ms a go)
+    then f {y} {ls} {ms} (is_refused h is) go = is_refused (due_first ls ms _ h) (ap (λ o. o >>= f) is)
+
+    -- no literal stands behind the step
+    pub pass : {X Y : Type 0} {found : Result X Refusal} {x : X} (f : X → Result Y Refusal) {y : Y} {ls : List (Literal Tok)} → Reaches found x ls → f x ≡ Ok y → Reaches (found >>= f) y ls
+    pass f (is_read a is) goes = is_read a (ap (λ o. o >>= f) is ∙ goes)
+    pass f (is_refused h is) goes = is_refused h (ap (λ o. o >>= f) is)
+
+    text_reached : {A : Type 0} (l : Literal Tok) (e : A) (t : SignificantToken) (s : Input) → t.tok ≡ token_of l
+        → (found : Result (List ℕ) LiteralFault) → cooked_text expander (over_literal lexeme l) ≡ found → Reaches (with_text e (t, s) found) (e, s) (l ∷ [])
+    text_reached l e t s at (Ok text) h = is_read (record { text = text; is = h }, tt) refl
+    text_reached l e t s at (Err fault) h =
+        is_refused
+        (inl (record { before = []; literal = l; behind = []; all_is = refl; cooked = []; cooks = tt; fault = fault; no_text = h; token = t; token_is = at; refusal_is = refl }))
+        refl
+
+    -- a literal
+    pub cooked : {A : Type 0} (l : Literal Tok) {e : A} (t : SignificantToken) {s : Input} → t.tok ≡ token_of l → Reaches (with_text e (t, s) (cooked_text expander (over_literal lexeme l))) (e, s) (l ∷ [])
+    cooked l {e} t {s} at = text_reached l e t s at (cooked_text expander (over_literal lexeme l)) refl
+
+    -- an expression is entered
+    pub entered : {A : Type 0} {x : Read A} {y : A × Input} {ls : List (Literal Tok)} (d : ℕ) (s : Input) → d ≤ 256 → Waived Hit d (front s.tokens) → (d < 256 → Reaches x y ls)
+        → Reaches (cond (nat_lt d 256) x (Err (refused TooDeep s))) y ls
+    unfolding refused
+    entered {x = x} {y = y} {ls = ls} d s within hit h =
+        after_test (nat_lt d 256) x _ (λ o. Reaches o y ls) (λ t. h (grind (arith, nat_tests)))
+        (λ t. is_refused (inr (record { token = front s.tokens; hit = hit (at_limit d within t); refusal_is = refl })) refl)
+
+  -- where nothing is waived and all literals have texts, it is read
+  pub only_read : {X : Type 0} {found : Result X Refusal} {x : X} {ls : List (Literal Tok)} → AllCook expander ls → Reaches (λ at. ⊥) found x ls → found ≡ Ok x
+  only_read a (is_read b is) = is
+  only_read {ls = ls} a (is_refused (inl h) is) = absurd (lacks_none ls _ a h)
+  only_read a (is_refused (inr h) is) = absurd h.hit
+
+  err_inside : {X : Type 0} (q r : Refusal) → ◌≡◌ {A = Result X Refusal} (Err q) (Err r) → q ≡ r
+  err_inside q r h = cc
+
+  -- a refusal is one that is due
+  pub only_due : (Hit : Option SignificantToken → Type 0) {X : Type 0} {found : Result X Refusal} {x : X} {ls : List (Literal Tok)} {r : Refusal} → found ≡ Err r → Reaches Hit found x ls → IsDue expander Hit ls r
+  only_due Hit e (is_read a is) = cc
+  only_due Hit {ls = ls} {r = r} e (is_refused {r = q} h is) = subst (IsDue expander Hit ls) (err_inside q r (sym is ∙ e)) h

@@ -1,0 +1,47 @@
+-- What of an expression needs the setting for lists.
+use Rattle.std.specs.Prelude.{ℕ, Bool, true, false, List, [], ◌∷◌, Option, Some, None, codes, if◌then◌else◌}
+use Rattle.std.specs.Str.{bytes_eq}
+use Rattle.justfile_model.specs.declared.list_feature.ListFeature.{ListFeature}
+use Rattle.justfile_model.specs.declared.list_feature.ListFeature.TheVariants as features
+use Rattle.justfile_model.specs.Tree.{Expr, Comparison}
+
+-- a feature, and what is kept of the token that it is noted at
+pub record Noted (B : Type 0) : Type 0 where
+  pub feature : ListFeature
+  pub at : B
+
+-- what is kept of the token replaced
+abbrev pub over_noted : {B D : Type 0} → (B → D) → Noted B → Noted D
+over_noted g n = record { feature = n.feature; at = g n.at }
+
+abbrev pub noted : {B : Type 0} → ListFeature → B → List (Noted B)
+noted feature at = record { feature = feature; at = at } ∷ []
+
+-- the operator of a comparison, but for the one that a condition begins with
+abbrev pub compared : {B : Type 0} → (condition : Bool) → B → List (Noted B)
+compared true at = []
+compared false at = noted features.ComparisonOperator at
+
+-- a condition that is no comparison, noted at its first token
+abbrev pub uncompared : {A B : Type 0} → Expr A B → B → List (Noted B)
+uncompared (Comparison l operator token r) at = []
+uncompared _ at = noted features.NonComparisonCondition at
+
+-- the feature that a function is
+abbrev pub function_feature : (name : List ℕ) → Option ListFeature
+function_feature name =
+    if bytes_eq name (codes "bool") then Some features.BoolFunction
+    else if bytes_eq name (codes "join_list") then Some features.JoinListFunction
+    else if bytes_eq name (codes "num_jobs") then Some features.NumJobsFunction
+    else if bytes_eq name (codes "show") then Some features.ShowFunction
+    else if bytes_eq name (codes "split") then Some features.SplitFunction
+    else if bytes_eq name (codes "which") then Some features.WhichFunction
+    else None
+
+abbrev pub noted_if : {B : Type 0} → Option ListFeature → B → List (Noted B)
+noted_if None at = []
+noted_if (Some feature) at = noted feature at
+
+-- a call, noted at its name
+abbrev pub called : {B : Type 0} → (name : List ℕ) → B → List (Noted B)
+called name at = noted_if (function_feature name) at

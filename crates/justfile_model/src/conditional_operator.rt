@@ -1,0 +1,44 @@
+ghost use Rattle.std.specs.Prelude.{◌≡◌};
+ghost use Rattle.justfile_model.specs.ConditionalOperator.{operator_sign};
+
+use std::fmt;
+
+/// What a comparison asks of its two sides.
+#[derive(Clone, Copy, Debug, PartialEq, Eq, PartialOrd, Ord)]
+pub enum ConditionalOperator {
+    /// `==`
+    Equality,
+    /// `!=`
+    Inequality,
+    /// `=~`
+    RegexMatch,
+    /// `!~`
+    RegexMismatch,
+}
+
+impl ConditionalOperator {
+    /// Its sign.
+    fn sign(self) -> &'static str
+        ensures { result.now ≡ operator_sign self }
+    {
+        match self {
+            ConditionalOperator::Equality => "==",
+            ConditionalOperator::Inequality => "!=",
+            ConditionalOperator::RegexMatch => "=~",
+            ConditionalOperator::RegexMismatch => "!~",
+        }
+    }
+}
+
+/// Width and alignment are left aside, as the sign is written whole.
+impl fmt::Display for ConditionalOperator {
+    ghost use Rattle.std.specs.Prelude.{Some};
+
+    ghost output = { λ operator. Some (operator_sign operator) };
+
+    ghost styled_output = { λ operator spec. Some (operator_sign operator) };
+
+    fn fmt<W: fmt::Write>(&self, f: &mut fmt::Formatter<W>) -> fmt::Result {
+        f.write_str(self.sign())
+    }
+}

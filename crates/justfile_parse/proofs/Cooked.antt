@@ -1,0 +1,162 @@
+-- Literals with their texts, and the refusals of those that have none.
+use Rattle.std.proofs.Common.{◌≡◌, Bool, true, false, IsTrue, ℕ, List, [], ◌++◌, Option, Some, None, Result, Ok, Err, string_bytes, refl, sym, ap, ◌∙◌, subst}
+use Rattle.justfile_base.specs.StringLiteral.{format_mark}
+use Rattle.justfile_base.specs.StringKind.{kind_of}
+use Rattle.justfile_base.specs.Token.{lexeme_of}
+use Rattle.justfile_base.specs.declared.format_string_part.FormatStringPart.{FormatStringPart}
+use Rattle.justfile_base.specs.declared.format_string_part.FormatStringPart.TheVariants as parts
+use Rattle.justfile_base.specs.declared.string_kind.StringKind.{StringKind}
+use Rattle.justfile_base.specs.declared.compile_error.CompileError.{CompileError}
+use Rattle.justfile_base.specs.declared.compile_error_kind.CompileErrorKind.{CompileErrorKind}
+use Rattle.justfile_base.specs.declared.compile_error_kind.CompileErrorKind.TheVariants as errors
+use Rattle.justfile_base.specs.declared.fault.Fault.{Fault}
+use Rattle.justfile_base.specs.declared.fault.Fault.TheVariants as faults
+use Rattle.justfile_base.specs.declared.string_literal.StringLiteral.{StringLiteral}
+use Rattle.justfile_base.specs.declared.token.Token.{Token}
+use Rattle.justfile_base.specs.declared.token_kind.TokenKind.{TokenKind}
+use Rattle.justfile_base.specs.declared.token_kind.TokenKind.TheVariants as kinds
+use Rattle.justfile_cook.specs.Literal.{IsKindOf, IsPartOf, IsStringOf, IsTextError, IsTextFault, expansion_message, format_text, is_part, is_quoted, string_of}
+use Rattle.justfile_model.specs.EscapeFault.{EscapeFault, escape_fault_of}
+use Rattle.justfile_model.specs.ExpressionReader.{with_text}
+use Rattle.justfile_model.specs.Literals as literal
+use Rattle.justfile_model.specs.Literals.{Answers, LiteralFault, Escape, Refused, Unasked, Shebang, cooked_text}
+use Rattle.justfile_model.specs.Reading.{Input, Read, Refusal, NotCooked}
+use Rattle.justfile_model.specs.SignificantTokens.{SignificantToken}
+use Rattle.justfile_model.specs.Tok.{Tok, tok_of}
+use Rattle.justfile_model.specs.Tree as tree
+use Rattle.justfile_model.specs.Tree.{Expr}
+use Rattle.justfile_parse.specs.Fault.{IsLiteralFault, fault_by, is_literal_kind, is_shebang, literal_fault, some_fault}
+use Rattle.justfile_parse.specs.Literal.{is_delimited, is_sound}
+use Rattle.justfile_parse.specs.Reading.{Gives, StopsAt, TextStops, literal_refusal}
+use Rattle.justfile_parse.specs.Significant.{significant_of}
+use Rattle.justfile_parse.specs.declared.stop.Stop.{Stop}
+use Rattle.justfile_parse.specs.declared.stop.Stop.TheVariants as stops
+use Rattle.justfile_tree.specs.Expression.{literal_tok, part_tok}
+
+pub quoted_string : (entry : Token × Bool) → entry.0.kind ≡ kinds.StringToken → IsTrue (is_sound entry) → IsTrue (is_quoted (lexeme_of entry.0))
+quoted_string entry e h = subst (λ (k : TokenKind). IsTrue (is_delimited k (lexeme_of entry.0))) e h
+
+pub quoted_command : (entry : Token × Bool) → entry.0.kind ≡ kinds.Backtick → IsTrue (is_sound entry) → IsTrue (is_quoted (lexeme_of entry.0))
+quoted_command entry e h = subst (λ (k : TokenKind). IsTrue (is_delimited k (lexeme_of entry.0))) e h
+
+-- ---- the fault of an error
+
+no_message : (kind : CompileErrorKind) (fault : EscapeFault) → escape_fault_of kind ≡ Some fault → expansion_message kind ≡ None
+no_message (errors.ShellExpansion err) fault h = cc
+no_message _ fault h = refl
+
+pub fault_is : (fault : LiteralFault) (kind : CompileErrorKind) → IsKindOf fault kind → literal_fault kind ≡ fault
+fault_is (Escape fault) kind h = rw (no_message kind fault h, h) refl
+fault_is (Refused reason) kind h = ap (λ (m : Option (List ℕ)). fault_by m (escape_fault_of kind)) h
+fault_is Unasked kind h = absurd h
+fault_is Shebang kind h = ap literal_fault h
+
+due : (fault : LiteralFault) (kind : CompileErrorKind) → IsKindOf fault kind → IsTrue (is_literal_kind kind)
+unfolding is_literal_kind
+due (Escape fault) kind h = rw (no_message kind fault h, h) refl
+due (Refused reason) kind h = rw h refl
+due Unasked kind h = absurd h
+due Shebang kind h = rw h refl
+
+-- the fault that the kind says is that of the kind
+pub kind_is_due : (kind : CompileErrorKind) → IsTrue (is_literal_kind kind) → IsKindOf (literal_fault kind) kind
+unfolding is_literal_kind
+kind_is_due kind h = by_parts (expansion_message kind) (escape_fault_of kind) refl refl h
+  where
+    shebang : (kind : CompileErrorKind) → IsTrue (is_shebang kind) → kind ≡ errors.BacktickShebang
+    shebang errors.BacktickShebang h = refl
+    shebang _ h = cc
+
+    by_parts : (message : Option (List ℕ)) (escape : Option EscapeFault) → expansion_message kind ≡ message → escape_fault_of kind ≡ escape → IsTrue (some_fault message escape (is_shebang kind)) → IsKindOf (fault_by message escape) kind
+    by_parts (Some reason) escape m e h = m
+    by_parts None (Some fault) m e h = e
+    by_parts None None m e h = shebang kind h
+
+pub is_literal : (text : Result (List ℕ) LiteralFault) (token : Token) (fault : Fault) → IsTextFault text token fault → IsLiteralFault fault
+is_literal text token (faults.Compile error) h = due h.fault error.kind h.kind_is
+is_literal text token faults.Memory h = tt
+is_literal text token faults.Numbers h = absurd h
+
+pub command_is_literal : (expander : Answers) (token : Token) (fault : Fault) → ((expander : Answers) → IsTextFault (cooked_text expander (literal.Command (lexeme_of token))) token fault) → IsLiteralFault fault
+command_is_literal expander token fault h = is_literal (cooked_text expander (literal.Command (lexeme_of token))) token fault (h expander)
+
+pub text_refused : {A : Type 0} (e : A) (s : Input) (text : Result (List ℕ) LiteralFault) (entry : Token × Bool) (fault : Fault) (stop : Stop) → IsTextFault text entry.0 fault → TextStops stop fault entry
+    → StopsAt stop s ⊥ (with_text e (significant_of entry, s) text)
+unfolding literal_refusal
+text_refused e s text entry (faults.Compile error) (stops.Literal x) h is =
+    let same : literal_fault error.kind ≡ h.fault = fault_is h.fault error.kind h.kind_is in
+    let refusal : CompileError → Bool → Refusal = λ e glued. NotCooked (literal_fault e.kind) (record { tok = tok_of e.token; glued = glued }) in
+    let there : NotCooked h.fault (significant_of entry) ≡ refusal error entry.1 = ap (λ (f : LiteralFault). NotCooked f (significant_of entry)) (sym same) ∙ ap (λ (t : Token). NotCooked (literal_fault error.kind) (significant_of (t, entry.1))) (sym h.token_is) in
+    let here : refusal error entry.1 ≡ refusal x.error x.glued = ap (λ (e : CompileError). refusal e entry.1) (sym is.0) ∙ ap (refusal x.error) (sym is.1) in
+    rw h.text_is (ap (λ (r : Refusal). Err r) (there ∙ here))
+text_refused e s text entry (faults.Compile error) (stops.Refused r) h is = absurd is
+text_refused e s text entry (faults.Compile error) stops.Memory h is = absurd is
+text_refused e s text entry (faults.Compile error) stops.Numbers h is = absurd is
+text_refused e s text entry faults.Memory (stops.Literal x) h is = absurd is
+text_refused e s text entry faults.Memory (stops.Refused r) h is = absurd is
+text_refused e s text entry faults.Memory stops.Memory h is = tt
+text_refused e s text entry faults.Memory stops.Numbers h is = absurd is
+text_refused e s text entry faults.Numbers stop h is = absurd h
+
+pub command_refused : (expander : Answers) (e : Expr Tok Tok) (s : Input) (entry : Token × Bool) (fault : Fault) (stop : Stop) → ((expander : Answers) → IsTextFault (cooked_text expander (literal.Command (lexeme_of entry.0))) entry.0 fault) → TextStops stop fault entry
+    → StopsAt stop s ⊥ (with_text e (significant_of entry, s) (cooked_text expander (literal.Command (lexeme_of entry.0))))
+command_refused expander e s entry fault stop h is = text_refused e s (cooked_text expander (literal.Command (lexeme_of entry.0))) entry fault stop (h expander) is
+
+-- ---- texts
+
+plain_tok : (l : StringLiteral) → l.part ≡ None → literal_tok l ≡ tok_of l.token
+plain_tok l p = rw p refl
+
+pub string_given : (expander : Answers) (s : Input) (entry : Token × Bool) (expand : Bool) (l : StringLiteral) → IsStringOf expander entry.0 expand l
+    → with_text {A = Expr Tok Tok} (tree.StringLiteral expand (tok_of entry.0)) (significant_of entry, s) (cooked_text expander (string_of expand (lexeme_of entry.0))) ≡ Ok (tree.StringLiteral l.expand (literal_tok l), s)
+string_given expander s entry expand l is = rw (is.cooked, is.expand_is, plain_tok l is.part, is.token_is) refl
+
+pub command_given : (expander : Answers) (s : Input) (entry : Token × Bool) (text : List ℕ) → ((expander : Answers) → cooked_text expander (literal.Command (lexeme_of entry.0)) ≡ Ok text)
+    → with_text {A = Expr Tok Tok} (tree.Backtick (tok_of entry.0)) (significant_of entry, s) (cooked_text expander (literal.Command (lexeme_of entry.0))) ≡ Ok (tree.Backtick (tok_of entry.0), s)
+command_given expander s entry text is = rw (is expander) refl
+
+-- ---- parts of format strings
+
+pub framed_single : (entry : Token × Bool) → entry.0.kind ≡ kinds.StringToken → IsTrue (is_sound entry) → IsTrue (is_part (kind_of (lexeme_of entry.0)) parts.Single (lexeme_of entry.0))
+framed_single entry e h = quoted_string entry e h
+
+pub framed_start : (entry : Token × Bool) → entry.0.kind ≡ kinds.FormatStringStart → IsTrue (is_sound entry) → IsTrue (is_part (kind_of (lexeme_of entry.0)) parts.Start (lexeme_of entry.0))
+framed_start entry e h = subst (λ (k : TokenKind). IsTrue (is_delimited k (lexeme_of entry.0))) e h
+
+pub framed_continue : (entry : Token × Bool) (kind : StringKind) → entry.0.kind ≡ kinds.FormatStringContinue → IsTrue (is_sound entry) → IsTrue (is_part kind parts.Continue (lexeme_of entry.0))
+framed_continue entry kind e h = subst (λ (k : TokenKind). IsTrue (is_delimited k (lexeme_of entry.0))) e h
+
+part_given : {A : Type 0} (e : A) (s : Input) (entry : Token × Bool) (kind : StringKind) (part : FormatStringPart) (l : StringLiteral) → IsPartOf kind part entry.0 l → with_text e (significant_of entry, s) (format_text kind part (lexeme_of entry.0)) ≡ Ok (e, s)
+part_given e s entry kind part l is = ap (with_text e (significant_of entry, s)) is.cooked
+
+abbrev flagged : Bool → Input → Tok → Read (Tok × Bool)
+flagged b s t = Ok ((t, b), s)
+
+module _ (expander : Answers) (s : Input) (entry : Token × Bool) (l : StringLiteral) where
+  pub single_given : IsPartOf (kind_of (lexeme_of entry.0)) parts.Single entry.0 l
+      → with_text {A = Expr Tok Tok} (tree.FormatLiteral (tok_of entry.0)) (significant_of entry, s) (cooked_text expander (literal.Single (lexeme_of entry.0))) ≡ Ok (tree.FormatLiteral (tok_of l.token), s)
+  single_given is =
+      part_given {A = Expr Tok Tok} (tree.FormatLiteral (tok_of entry.0)) s entry (kind_of (lexeme_of entry.0)) parts.Single l is
+      ∙ ap (λ (t : Token). Ok (tree.FormatLiteral (tok_of t), s)) (sym is.token_is)
+
+  pub start_given : IsPartOf (kind_of (lexeme_of entry.0)) parts.Start entry.0 l
+      → with_text {A = SignificantToken} (significant_of entry) (significant_of entry, s) (cooked_text expander (literal.Start (lexeme_of entry.0))) ≡ Ok (significant_of entry, s)
+  start_given is = part_given {A = SignificantToken} (significant_of entry) s entry (kind_of (lexeme_of entry.0)) parts.Start l is
+
+  pub continue_given : (start : Token) → IsPartOf (kind_of (lexeme_of start)) parts.Continue entry.0 l
+      → with_text {A = Tok × Bool} (tok_of entry.0, false) (significant_of entry, s) (cooked_text expander (literal.Continue (lexeme_of start) (lexeme_of entry.0))) ≡ Ok ((part_tok l, false), s)
+  continue_given start is =
+      part_given {A = Tok × Bool} (tok_of entry.0, false) s entry (kind_of (lexeme_of start)) parts.Continue l is
+      ∙ ap (flagged false s) (sym later)
+      where
+        later : part_tok l ≡ tok_of entry.0
+        later = rw (is.expand_is, is.part_is, is.token_is) refl
+
+  pub end_given : (start : Token) → IsPartOf (kind_of (lexeme_of start)) parts.End entry.0 l
+      → with_text {A = Tok × Bool} (tok_of entry.0, true) (significant_of entry, s) (cooked_text expander (literal.End (lexeme_of start) (lexeme_of entry.0))) ≡ Ok ((part_tok l, true), s)
+  end_given start is =
+      part_given {A = Tok × Bool} (tok_of entry.0, true) s entry (kind_of (lexeme_of start)) parts.End l is
+      ∙ ap (flagged true s) (sym later)
+      where
+        later : part_tok l ≡ tok_of entry.0
+        later = rw (is.expand_is, is.part_is, is.token_is) refl

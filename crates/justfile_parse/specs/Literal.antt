@@ -1,0 +1,20 @@
+-- What is known of the literals among the tokens.
+use Rattle.std.specs.Prelude.{ℕ, Bool, true, List}
+use Rattle.justfile_base.specs.StringKind.{kind_of}
+use Rattle.justfile_base.specs.Token.{lexeme_of}
+use Rattle.justfile_base.specs.declared.format_string_part.FormatStringPart.TheVariants as parts
+use Rattle.justfile_base.specs.declared.token.Token.{Token}
+use Rattle.justfile_base.specs.declared.token_kind.TokenKind.{TokenKind}
+use Rattle.justfile_base.specs.declared.token_kind.TokenKind.TheVariants as kinds
+use Rattle.justfile_cook.specs.Literal.{is_quoted, is_part}
+
+-- a literal is quoted, and a part of a format string framed
+abbrev pub is_delimited : TokenKind → List ℕ → Bool
+is_delimited kinds.StringToken lexeme = is_quoted lexeme
+is_delimited kinds.Backtick lexeme = is_quoted lexeme
+is_delimited kinds.FormatStringStart lexeme = is_part (kind_of lexeme) parts.Start lexeme
+is_delimited kinds.FormatStringContinue lexeme = is_part (kind_of lexeme) parts.Continue lexeme
+is_delimited _ lexeme = true
+
+abbrev pub is_sound : Token × Bool → Bool
+is_sound entry = is_delimited entry.0.kind (lexeme_of entry.0)

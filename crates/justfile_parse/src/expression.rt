@@ -1,0 +1,581 @@
+ghost use Rattle.std.specs.Prelude.{IfErr, IfOk, ◌≡◌, ◌<◌, Bool, true, false, IsTrue, OnOk, OnSome, IfSome, IfNone, Some, None};
+ghost use Rattle.justfile_base.specs.Token.{lexeme_of};
+ghost use Rattle.justfile_base.specs.declared.token_kind.TokenKind.TheVariants as kinds;
+ghost use Rattle.justfile_cook.specs.Literal.{answers_by};
+ghost use Rattle.justfile_model.specs.ExpressionReader as reader;
+ghost use Rattle.justfile_model.specs.ExpressionReader.{closed, read};
+ghost use Rattle.justfile_model.specs.Expressions.{ends_open};
+ghost use Rattle.justfile_model.specs.Tok.{tok_of};
+ghost use Rattle.justfile_model.specs.Tree as tree;
+ghost use Rattle.justfile_parse.specs.Given.{IsGivenExpression, IsInTable};
+ghost use Rattle.justfile_parse.specs.Literal.{is_sound};
+ghost use Rattle.justfile_parse.specs.Reading.{Gives, IsGivenStop, element_rule, format_rest, format_string_rule, otherwise_rule, pair_rule, part_rule};
+ghost use Rattle.justfile_parse.specs.Significant.{significant_of};
+ghost use Rattle.justfile_tree.specs.Expression.{expr_of, exprs_of, format_tree, part_tok};
+
+use crate::feature::{ends_open, function_feature};
+use crate::parser::{is_word, Entry, Parser};
+use crate::stop::{Refusal, Stop};
+use justfile_base::{Expander, Name, StringLiteral, Token, TokenKind};
+use justfile_tree::{ConditionalOperator, Expression, ListFeature};
+
+/// The number of expressions that may be open.
+const RECURSION_LIMIT: usize = 256;
+
+impl<'src, X: Expander> Parser<'_, 'src, X> {
+    ghost use Rattle.justfile_parse.specs.View.{IsSameRun, input_of};
+    /// An expression.
+    pub(crate) fn parse_expression(&mut self) -> Result<Expression<'src>, Stop<'src>>
+        ensures same { OnOk result (IsSameRun self.old self.new) }
+        ensures tokens { self.new.tokens ≡ self.old.tokens }
+        ensures progress { OnOk result (self.old.next < self.new.next) }
+        ensures value { Gives (λ e. (expr_of e, input_of self.new)) result (input_of self.new) (read (answers_by X.answer self.old.expander.now) (reader.Expression false self.old.depth (input_of self.old))) }
+        ensures given { IfOk result (IsGivenExpression (answers_by X.answer self.old.expander.now) (IsInTable self.old.tokens.now)) }
+        ensures stop { IfErr result (IsGivenStop self.old.tokens.now) }
+    {
+        self.parse_expression_with_condition(false)
+    }
+
+    /// An expression, which is a condition or not: `||`, to the right.
+    #[cycle(expression)]
+    #[tactic(auto, using(justfile_model::proofs::ExpressionReading::expression_is), unfolding(justfile_model::specs::ExpressionReader::expression_rule))]
+    fn parse_expression_with_condition(&mut self, condition: bool) -> Result<Expression<'src>, Stop<'src>>
+        ensures same { OnOk result (IsSameRun self.old self.new) }
+        ensures tokens { self.new.tokens ≡ self.old.tokens }
+        ensures progress { OnOk result (self.old.next < self.new.next) }
+        ensures value { Gives (λ e. (expr_of e, input_of self.new)) result (input_of self.new) (read (answers_by X.answer self.old.expander.now) (reader.Expression condition self.old.depth (input_of self.old))) }
+    {
+        if self.depth == RECURSION_LIMIT {
+            return Err(Stop::Refused(Refusal::TooDeep));
+        }
+        self.depth += 1;
+        let disjunct = self.parse_disjunct(condition)?;
+        if let Some((operator, _)) = self.accept(TokenKind::BarBar) {
+            self.note(ListFeature::LogicalOperator, operator)?;
+            let lhs = Box::new(self.alloc, disjunct)?;
+            let rhs = self.parse_expression_with_condition(false)?;
+            let rhs = Box::new(self.alloc, rhs)?;
+            self.depth -= 1;
+            Ok(Expression::Or { lhs, rhs })
+        } else {
+            self.depth -= 1;
+            Ok(disjunct)
+        }
+    }
+
+    /// `&&`, to the right.
+    #[cycle(expression)]
+    #[tactic(auto, using(justfile_model::proofs::ExpressionReading::disjunct_is), unfolding(justfile_model::specs::ExpressionReader::disjunct_rule))]
+    fn parse_disjunct(&mut self, condition: bool) -> Result<Expression<'src>, Stop<'src>>
+        ensures same { OnOk result (IsSameRun self.old self.new) }
+        ensures tokens { self.new.tokens ≡ self.old.tokens }
+        ensures progress { OnOk result (self.old.next < self.new.next) }
+        ensures value { Gives (λ e. (expr_of e, input_of self.new)) result (input_of self.new) (read (answers_by X.answer self.old.expander.now) (reader.Disjunct condition self.old.depth (input_of self.old))) }
+    {
+        let comparison = self.parse_comparison(condition)?;
+        if let Some((operator, _)) = self.accept(TokenKind::AmpersandAmpersand) {
+            self.note(ListFeature::LogicalOperator, operator)?;
+            let lhs = Box::new(self.alloc, comparison)?;
+            let rhs = self.parse_disjunct(false)?;
+            let rhs = Box::new(self.alloc, rhs)?;
+            Ok(Expression::And { lhs, rhs })
+        } else {
+            Ok(comparison)
+        }
+    }
+
+    /// One comparison at most.
+    #[cycle(expression)]
+    #[tactic(auto, using(justfile_model::proofs::ExpressionReading::compared_is), unfolding(justfile_model::specs::ExpressionReader::compared_rule))]
+    fn parse_comparison(&mut self, condition: bool) -> Result<Expression<'src>, Stop<'src>>
+        ensures same { OnOk result (IsSameRun self.old self.new) }
+        ensures tokens { self.new.tokens ≡ self.old.tokens }
+        ensures progress { OnOk result (self.old.next < self.new.next) }
+        ensures value { Gives (λ e. (expr_of e, input_of self.new)) result (input_of self.new) (read (answers_by X.answer self.old.expander.now) (reader.Compared condition self.old.depth (input_of self.old))) }
+    {
+        let lhs = self.parse_conjunct()?;
+        if let Some((operator, (token, _))) = self.accept_operator() {
+            self.note_comparison(condition, token)?;
+            let lhs = Box::new(self.alloc, lhs)?;
+            let rhs = self.parse_conjunct()?;
+            let rhs = Box::new(self.alloc, rhs)?;
+            Ok(Expression::Comparison {
+                lhs,
+                operator,
+                rhs,
+                token,
+            })
+        } else {
+            Ok(lhs)
+        }
+    }
+
+    /// `/`, `++` and `+`, to the right. `if` begins a conditional here.
+    #[cycle(expression)]
+    #[tactic(auto, using(justfile_model::proofs::ExpressionReading::conjunct_is), unfolding(justfile_model::specs::ExpressionReader::conjunct_rule))]
+    fn parse_conjunct(&mut self) -> Result<Expression<'src>, Stop<'src>>
+        ensures same { OnOk result (IsSameRun self.old self.new) }
+        ensures tokens { self.new.tokens ≡ self.old.tokens }
+        ensures progress { OnOk result (self.old.next < self.new.next) }
+        ensures value { Gives (λ e. (expr_of e, input_of self.new)) result (input_of self.new) (read (answers_by X.answer self.old.expander.now) (reader.Conjunct self.old.depth (input_of self.old))) }
+    {
+        if let Some(word) = self.accept_word("if") {
+            return self.parse_conditional(word);
+        }
+        if let Some((operator, _)) = self.accept(TokenKind::Slash) {
+            let rhs = self.parse_conjunct()?;
+            let rhs = Box::new(self.alloc, rhs)?;
+            return Ok(Expression::Join {
+                lhs: None,
+                operator,
+                rhs,
+            });
+        }
+        let value = self.parse_value()?;
+        if let Some((operator, _)) = self.accept(TokenKind::Slash) {
+            let lhs = Some(Box::new(self.alloc, value)?);
+            let rhs = self.parse_conjunct()?;
+            let rhs = Box::new(self.alloc, rhs)?;
+            return Ok(Expression::Join { lhs, operator, rhs });
+        }
+        if let Some((operator, _)) = self.accept(TokenKind::PlusPlus) {
+            self.note(ListFeature::ListConcatenationOperator, operator)?;
+            let lhs = Box::new(self.alloc, value)?;
+            let rhs = self.parse_conjunct()?;
+            let rhs = Box::new(self.alloc, rhs)?;
+            return Ok(Expression::ListConcatenation { lhs, operator, rhs });
+        }
+        if let Some((operator, _)) = self.accept(TokenKind::Plus) {
+            let lhs = Box::new(self.alloc, value)?;
+            let rhs = self.parse_conjunct()?;
+            let rhs = Box::new(self.alloc, rhs)?;
+            return Ok(Expression::Concatenation { lhs, operator, rhs });
+        }
+        Ok(value)
+    }
+
+    /// The condition of an `if` or `assert`.
+    #[cycle(expression)]
+    #[tactic(auto, using(crate::proofs::Conditions::note_is), unfolding(justfile_model::specs::ExpressionReader::condition))]
+    fn parse_condition(&mut self) -> Result<Expression<'src>, Stop<'src>>
+        ensures same { OnOk result (IsSameRun self.old self.new) }
+        ensures tokens { self.new.tokens ≡ self.old.tokens }
+        ensures progress { OnOk result (self.old.next < self.new.next) }
+        ensures value { Gives (λ e. (expr_of e, input_of self.new)) result (input_of self.new) (reader.condition (answers_by X.answer self.old.expander.now) (read (answers_by X.answer self.old.expander.now)) self.old.depth (input_of self.old)) }
+    {
+        let first = self.first();
+        let condition = self.parse_expression_with_condition(true)?;
+        self.note_condition(&condition, first)?;
+        Ok(condition)
+    }
+
+    /// An expression between braces.
+    #[cycle(expression)]
+    #[tactic(auto, unfolding(justfile_model::specs::ExpressionReader::braced))]
+    fn parse_braced(&mut self) -> Result<Expression<'src>, Stop<'src>>
+        ensures same { OnOk result (IsSameRun self.old self.new) }
+        ensures tokens { self.new.tokens ≡ self.old.tokens }
+        ensures progress { OnOk result (self.old.next < self.new.next) }
+        ensures value { Gives (λ e. (expr_of e, input_of self.new)) result (input_of self.new) (reader.braced (answers_by X.answer self.old.expander.now) (read (answers_by X.answer self.old.expander.now)) self.old.depth (input_of self.old)) }
+    {
+        self.expect(TokenKind::BraceL)?;
+        let expression = self.parse_expression_with_condition(false)?;
+        self.expect(TokenKind::BraceR)?;
+        Ok(expression)
+    }
+
+    /// A conditional, from behind its `if`.
+    #[cycle(expression)]
+    #[tactic(auto, using(crate::proofs::Conditions::conditional_is), unfolding(crate::specs::Reading::conditional_by))]
+    fn parse_conditional(&mut self, word: Entry<'src>) -> Result<Expression<'src>, Stop<'src>>
+        requires { IsInTable self.old.tokens.now word.0 }
+        ensures same { OnOk result (IsSameRun self.old self.new) }
+        ensures tokens { self.new.tokens ≡ self.old.tokens }
+        ensures progress { OnOk result (self.old.next < self.new.next) }
+        ensures value { Gives (λ e. (expr_of e, input_of self.new)) result (input_of self.new) (read (answers_by X.answer self.old.expander.now) (reader.Conditional self.old.depth (significant_of word.entry) (input_of self.old))) }
+    {
+        let condition = self.parse_condition()?;
+        let condition = Box::new(self.alloc, condition)?;
+        let then = self.parse_braced()?;
+        let then = Box::new(self.alloc, then)?;
+        let Some(_else) = self.accept_word("else") else {
+            self.note(ListFeature::IfWithoutElse, word.0)?;
+            return Ok(Expression::Conditional {
+                condition,
+                then,
+                otherwise: None,
+            });
+        };
+        let otherwise = self.parse_otherwise()?;
+        let otherwise = Some(Box::new(self.alloc, otherwise)?);
+        Ok(Expression::Conditional {
+            condition,
+            then,
+            otherwise,
+        })
+    }
+
+    /// The other branch of a conditional, from behind `else`.
+    #[cycle(expression)]
+    #[tactic(auto, unfolding(crate::specs::Reading::otherwise_rule))]
+    fn parse_otherwise(&mut self) -> Result<Expression<'src>, Stop<'src>>
+        ensures same { OnOk result (IsSameRun self.old self.new) }
+        ensures tokens { self.new.tokens ≡ self.old.tokens }
+        ensures progress { OnOk result (self.old.next < self.new.next) }
+        ensures value { Gives (λ e. (expr_of e, input_of self.new)) result (input_of self.new) (otherwise_rule (answers_by X.answer self.old.expander.now) self.old.depth (input_of self.old)) }
+    {
+        if let Some(word) = self.accept_word("if") {
+            return self.parse_conditional(word);
+        }
+        let otherwise = self.parse_braced()?;
+        self.expect_closed(&otherwise)?;
+        Ok(otherwise)
+    }
+
+    /// What may stand on either side of an operator: `!`, or what takes no operator before it.
+    #[cycle(expression)]
+    #[tactic(auto, using(justfile_model::proofs::ExpressionReading::value_is), unfolding(justfile_model::specs::ExpressionReader::value_rule))]
+    fn parse_value(&mut self) -> Result<Expression<'src>, Stop<'src>>
+        ensures same { OnOk result (IsSameRun self.old self.new) }
+        ensures tokens { self.new.tokens ≡ self.old.tokens }
+        ensures progress { OnOk result (self.old.next < self.new.next) }
+        ensures value { Gives (λ e. (expr_of e, input_of self.new)) result (input_of self.new) (read (answers_by X.answer self.old.expander.now) (reader.Value self.old.depth (input_of self.old))) }
+    {
+        if let Some((bang, _)) = self.accept(TokenKind::Bang) {
+            self.note(ListFeature::NegationOperator, bang)?;
+            let operand = self.parse_value()?;
+            let operand = Box::new(self.alloc, operand)?;
+            return Ok(Expression::Not { operand });
+        }
+        self.parse_literal()
+    }
+
+    /// A string, or another value.
+    #[cycle(expression)]
+    #[tactic(auto, unfolding(justfile_model::specs::ExpressionReader::literal_rule))]
+    fn parse_literal(&mut self) -> Result<Expression<'src>, Stop<'src>>
+        ensures same { OnOk result (IsSameRun self.old self.new) }
+        ensures tokens { self.new.tokens ≡ self.old.tokens }
+        ensures progress { OnOk result (self.old.next < self.new.next) }
+        ensures value { Gives (λ e. (expr_of e, input_of self.new)) result (input_of self.new) (reader.literal_rule (answers_by X.answer self.old.expander.now) (read (answers_by X.answer self.old.expander.now)) self.old.depth (input_of self.old)) }
+    {
+        if let Some(entry) = self.accept(TokenKind::StringToken) {
+            return self.string(entry, false);
+        }
+        if let Some(entry) = self.accept_marked("x", TokenKind::StringToken) {
+            return self.string(entry, true);
+        }
+        self.parse_format()
+    }
+
+    /// A format string, or another value.
+    #[cycle(expression)]
+    #[tactic(auto, using(crate::proofs::Conditions::format_is), unfolding(crate::specs::Reading::format_by))]
+    fn parse_format(&mut self) -> Result<Expression<'src>, Stop<'src>>
+        ensures same { OnOk result (IsSameRun self.old self.new) }
+        ensures tokens { self.new.tokens ≡ self.old.tokens }
+        ensures progress { OnOk result (self.old.next < self.new.next) }
+        ensures value { Gives (λ e. (expr_of e, input_of self.new)) result (input_of self.new) (reader.format_rule (answers_by X.answer self.old.expander.now) (read (answers_by X.answer self.old.expander.now)) self.old.depth (input_of self.old)) }
+    {
+        if let Some(entry) = self.accept_marked("f", TokenKind::StringToken) {
+            return self.single(entry);
+        }
+        if let Some(entry) = self.accept_marked("f", TokenKind::FormatStringStart) {
+            return self.parse_format_string(entry);
+        }
+        self.parse_backtick()
+    }
+
+    /// A format string, from behind its start.
+    #[cycle(expression)]
+    #[tactic(auto, unfolding(crate::specs::Reading::format_string_rule))]
+    fn parse_format_string(&mut self, start: Entry<'src>) -> Result<Expression<'src>, Stop<'src>>
+        requires kind { start.0.kind ≡ kinds.FormatStringStart }
+        requires sound { IsTrue (is_sound start) }
+        ensures same { OnOk result (IsSameRun self.old self.new) }
+        ensures tokens { self.new.tokens ≡ self.old.tokens }
+        ensures progress { OnOk result (self.old.next < self.new.next) }
+        ensures value { Gives (λ e. (expr_of e, input_of self.new)) result (input_of self.new) (format_string_rule (answers_by X.answer self.old.expander.now) self.old.depth (significant_of start.entry, input_of self.old)) }
+    {
+        let literal = self.format_start(start)?;
+        let expressions = self.parse_parts(start)?;
+        Ok(format_string(literal, expressions))
+    }
+
+    /// The expressions of a format string, each with the part behind it, from behind its start.
+    #[cycle(expression)]
+    #[tactic(auto, using(crate::proofs::Parts::begins, crate::proofs::Parts::goes_on, crate::proofs::Parts::ends, crate::proofs::Parts::fails))]
+    fn parse_parts(
+        &mut self,
+        start: Entry<'src>,
+    ) -> Result<Vec<(Expression<'src>, StringLiteral<'src>)>, Stop<'src>>
+        ensures same { OnOk result (IsSameRun self.old self.new) }
+        ensures tokens { self.new.tokens ≡ self.old.tokens }
+        ensures progress { OnOk result (self.old.next < self.new.next) }
+        ensures value { Gives (λ parts. (format_tree (tok_of start.entry.0) parts.items, input_of self.new)) result (input_of self.new) (format_rest (answers_by X.answer self.old.expander.now) (tok_of start.entry.0) self.old.depth (input_of self.old)) }
+    {
+        let mut parts = Vec::new(self.alloc);
+        'parts: loop {
+            let (expression, literal, is_last) = self.parse_pair(start)?;
+            parts.push((expression, literal))?;
+            if is_last {
+                return Ok(parts);
+            }
+        }
+    }
+
+    /// A command between backticks, or another value.
+    #[cycle(expression)]
+    #[tactic(auto, unfolding(justfile_model::specs::ExpressionReader::backtick_rule))]
+    fn parse_backtick(&mut self) -> Result<Expression<'src>, Stop<'src>>
+        ensures same { OnOk result (IsSameRun self.old self.new) }
+        ensures tokens { self.new.tokens ≡ self.old.tokens }
+        ensures progress { OnOk result (self.old.next < self.new.next) }
+        ensures value { Gives (λ e. (expr_of e, input_of self.new)) result (input_of self.new) (reader.backtick_rule (answers_by X.answer self.old.expander.now) (read (answers_by X.answer self.old.expander.now)) self.old.depth (input_of self.old)) }
+    {
+        if let Some(entry) = self.accept(TokenKind::Backtick) {
+            return self.backtick(entry);
+        }
+        self.parse_assert()
+    }
+
+    /// An assertion, or another value.
+    #[cycle(expression)]
+    #[tactic(auto, unfolding(justfile_model::specs::ExpressionReader::assert_rule))]
+    fn parse_assert(&mut self) -> Result<Expression<'src>, Stop<'src>>
+        ensures same { OnOk result (IsSameRun self.old self.new) }
+        ensures tokens { self.new.tokens ≡ self.old.tokens }
+        ensures progress { OnOk result (self.old.next < self.new.next) }
+        ensures value { Gives (λ e. (expr_of e, input_of self.new)) result (input_of self.new) (reader.assert_rule (answers_by X.answer self.old.expander.now) (read (answers_by X.answer self.old.expander.now)) self.old.depth (input_of self.old)) }
+    {
+        let Some((word, _)) = self.accept_word("assert") else {
+            return self.parse_name();
+        };
+        let name = Name::from_identifier(word);
+        self.expect(TokenKind::ParenL)?;
+        let condition = self.parse_condition()?;
+        let condition = Box::new(self.alloc, condition)?;
+        if let Some(_comma) = self.accept(TokenKind::Comma) {
+            let message = self.parse_expression_with_condition(false)?;
+            let message = Some(Box::new(self.alloc, message)?);
+            self.expect(TokenKind::ParenR)?;
+            return Ok(Expression::Assert {
+                condition,
+                message,
+                name,
+            });
+        }
+        self.expect(TokenKind::ParenR)?;
+        Ok(Expression::Assert {
+            condition,
+            message: None,
+            name,
+        })
+    }
+
+    /// A call or a variable, or another value.
+    #[cycle(expression)]
+    #[tactic(auto, unfolding(justfile_model::specs::ExpressionReader::name_rule))]
+    fn parse_name(&mut self) -> Result<Expression<'src>, Stop<'src>>
+        ensures same { OnOk result (IsSameRun self.old self.new) }
+        ensures tokens { self.new.tokens ≡ self.old.tokens }
+        ensures progress { OnOk result (self.old.next < self.new.next) }
+        ensures value { Gives (λ e. (expr_of e, input_of self.new)) result (input_of self.new) (reader.name_rule (answers_by X.answer self.old.expander.now) (read (answers_by X.answer self.old.expander.now)) self.old.depth (input_of self.old)) }
+    {
+        let Some((token, _)) = self.accept(TokenKind::Identifier) else {
+            return self.parse_group();
+        };
+        let name = Name::from_identifier(token);
+        let Some(_opening) = self.accept(TokenKind::ParenL) else {
+            return Ok(Expression::Variable { name, number: None });
+        };
+        let arguments = self.parse_sequence(TokenKind::ParenR)?;
+        self.note_if(function_feature(token.lexeme()), token)?;
+        Ok(call(name, arguments))
+    }
+
+    /// An expression in parentheses, or a list.
+    #[cycle(expression)]
+    #[tactic(auto, unfolding(justfile_model::specs::ExpressionReader::group_rule))]
+    fn parse_group(&mut self) -> Result<Expression<'src>, Stop<'src>>
+        ensures same { OnOk result (IsSameRun self.old self.new) }
+        ensures tokens { self.new.tokens ≡ self.old.tokens }
+        ensures progress { OnOk result (self.old.next < self.new.next) }
+        ensures value { Gives (λ e. (expr_of e, input_of self.new)) result (input_of self.new) (reader.group_rule (answers_by X.answer self.old.expander.now) (read (answers_by X.answer self.old.expander.now)) self.old.depth (input_of self.old)) }
+    {
+        let Some(_opening) = self.accept(TokenKind::ParenL) else {
+            return self.parse_list();
+        };
+        let contents = self.parse_expression_with_condition(false)?;
+        let contents = Box::new(self.alloc, contents)?;
+        self.expect(TokenKind::ParenR)?;
+        Ok(Expression::Group { contents })
+    }
+
+    /// A list.
+    #[cycle(expression)]
+    #[tactic(auto, unfolding(justfile_model::specs::ExpressionReader::list_rule))]
+    fn parse_list(&mut self) -> Result<Expression<'src>, Stop<'src>>
+        ensures same { OnOk result (IsSameRun self.old self.new) }
+        ensures tokens { self.new.tokens ≡ self.old.tokens }
+        ensures progress { OnOk result (self.old.next < self.new.next) }
+        ensures value { Gives (λ e. (expr_of e, input_of self.new)) result (input_of self.new) (reader.list_rule (answers_by X.answer self.old.expander.now) (read (answers_by X.answer self.old.expander.now)) self.old.depth (input_of self.old)) }
+    {
+        let Some((opener, _)) = self.accept(TokenKind::BracketL) else {
+            return Err(Stop::Refused(Refusal::Unexpected));
+        };
+        self.note(ListFeature::ListLiteral, opener)?;
+        let elements = self.parse_sequence(TokenKind::BracketR)?;
+        Ok(list(opener, elements))
+    }
+
+    /// Expressions with commas between, up to the closing delimiter and with it.
+    #[cycle(expression)]
+    #[tactic(auto, using(crate::proofs::Elements::begins, crate::proofs::Elements::goes_on, crate::proofs::Elements::closes, crate::proofs::Elements::closes_last, crate::proofs::Elements::fails))]
+    fn parse_sequence(&mut self, closing: TokenKind) -> Result<Vec<Expression<'src>>, Stop<'src>>
+        ensures same { OnOk result (IsSameRun self.old self.new) }
+        ensures tokens { self.new.tokens ≡ self.old.tokens }
+        ensures progress { OnOk result (self.old.next < self.new.next) }
+        ensures value { Gives (λ e. (exprs_of e.items, input_of self.new)) result (input_of self.new) (read (answers_by X.answer self.old.expander.now) (reader.Sequence closing self.old.depth (input_of self.old))) }
+    {
+        let mut elements = Vec::new(self.alloc);
+        'elements: loop {
+            if let Some(_closing) = self.accept(closing) {
+                return Ok(elements);
+            }
+            let (element, is_last) = self.parse_element(closing)?;
+            elements.push(element)?;
+            if is_last {
+                return Ok(elements);
+            }
+        }
+    }
+
+    /// An expression of a format string and the part behind it, and whether that is the last.
+    #[cycle(expression)]
+    #[tactic(auto, unfolding(crate::specs::Reading::pair_rule))]
+    fn parse_pair(
+        &mut self,
+        start: Entry<'src>,
+    ) -> Result<(Expression<'src>, StringLiteral<'src>, bool), Stop<'src>>
+        ensures same { OnOk result (IsSameRun self.old self.new) }
+        ensures tokens { self.new.tokens ≡ self.old.tokens }
+        ensures progress { OnOk result (self.old.next < self.new.next) }
+        ensures value { Gives (λ x. ((expr_of x.0, part_tok x.1, x.2), input_of self.new)) result (input_of self.new) (pair_rule (answers_by X.answer self.old.expander.now) (lexeme_of start.entry.0) self.old.depth (input_of self.old)) }
+    {
+        let expression = self.parse_expression_with_condition(false)?;
+        let (literal, is_last) = self.parse_part(start)?;
+        Ok((expression, literal, is_last))
+    }
+
+    /// An element of a sequence, and whether the sequence is closed behind it.
+    #[cycle(expression)]
+    #[tactic(auto, unfolding(crate::specs::Reading::element_rule))]
+    fn parse_element(&mut self, closing: TokenKind) -> Result<(Expression<'src>, bool), Stop<'src>>
+        ensures same { OnOk result (IsSameRun self.old self.new) }
+        ensures tokens { self.new.tokens ≡ self.old.tokens }
+        ensures progress { OnOk result (self.old.next < self.new.next) }
+        ensures value { Gives (λ x. ((expr_of x.0, x.1), input_of self.new)) result (input_of self.new) (element_rule (answers_by X.answer self.old.expander.now) closing self.old.depth (input_of self.old)) }
+    {
+        let element = self.parse_expression_with_condition(false)?;
+        if let Some(_comma) = self.accept(TokenKind::Comma) {
+            return Ok((element, false));
+        }
+        self.expect(closing)?;
+        Ok((element, true))
+    }
+
+    /// Takes the next token if it is a comparison operator.
+    #[tactic(auto, unfolding(justfile_model::specs::ExpressionReader::accept_operator))]
+    fn accept_operator(&mut self) -> Option<(ConditionalOperator, Entry<'src>)>
+        ensures same { IsSameRun self.old self.new }
+        ensures some { IfSome result (λ x. reader.accept_operator (input_of self.old) ≡ Some (x.0, significant_of x.1, input_of self.new)) }
+        ensures none { IfNone result (reader.accept_operator (input_of self.old) ≡ None) }
+        ensures same_input { IfNone result (input_of self.new ≡ input_of self.old) }
+        ensures stays { IfNone result (self.new.next ≡ self.old.next) }
+        ensures progress { OnSome result (self.old.next < self.new.next) }
+    {
+        if let Some(entry) = self.accept(TokenKind::BangEquals) {
+            return Some((ConditionalOperator::Inequality, entry));
+        }
+        if let Some(entry) = self.accept(TokenKind::EqualsTilde) {
+            return Some((ConditionalOperator::RegexMatch, entry));
+        }
+        if let Some(entry) = self.accept(TokenKind::BangTilde) {
+            return Some((ConditionalOperator::RegexMismatch, entry));
+        }
+        if let Some(entry) = self.accept(TokenKind::EqualsEquals) {
+            return Some((ConditionalOperator::Equality, entry));
+        }
+        None
+    }
+
+    /// No `else` may stand behind a branch that ends in a conditional without one.
+    fn expect_closed(&self, branch: &Expression<'src>) -> Result<(), Stop<'src>>
+        ensures { Gives (λ _. (expr_of branch.now, input_of self.now)) result (input_of self.now) (closed (ends_open (expr_of branch.now)) (expr_of branch.now) (input_of self.now)) }
+    {
+        if ends_open(branch) {
+            self.expect_no_else(branch)
+        } else {
+            Ok(())
+        }
+    }
+
+    /// The next token may not be `else`.
+    #[tactic(auto, unfolding(justfile_model::specs::Reading::accept_word, justfile_model::specs::Reading::refused))]
+    fn expect_no_else(&self, branch: &Expression<'src>) -> Result<(), Stop<'src>>
+        ensures { Gives (λ _. (expr_of branch.now, input_of self.now)) result (input_of self.now) (closed true (expr_of branch.now) (input_of self.now)) }
+    {
+        match self.peek() {
+            Some(entry) => {
+                if is_word(entry, "else") {
+                    Err(Stop::Refused(Refusal::Unexpected))
+                } else {
+                    Ok(())
+                }
+            }
+            None => Ok(()),
+        }
+    }
+
+    /// The part of a format string behind an expression, and whether it is the last.
+    #[tactic(auto, unfolding(crate::specs::Reading::part_rule))]
+    fn parse_part(&mut self, start: Entry<'src>) -> Result<(StringLiteral<'src>, bool), Stop<'src>>
+        ensures same { OnOk result (IsSameRun self.old self.new) }
+        ensures tokens { self.new.tokens ≡ self.old.tokens }
+        ensures progress { OnOk result (self.old.next < self.new.next) }
+        ensures value { Gives (λ x. ((part_tok x.0, x.1), input_of self.new)) result (input_of self.new) (part_rule (answers_by X.answer self.old.expander.now) (lexeme_of start.entry.0) (input_of self.old)) }
+    {
+        if let Some(entry) = self.accept(TokenKind::FormatStringContinue) {
+            let literal = self.format_continue(start, entry)?;
+            return Ok((literal, false));
+        }
+        let entry = self.expect(TokenKind::FormatStringEnd)?;
+        let literal = self.format_end(start, entry)?;
+        Ok((literal, true))
+    }
+}
+
+#[tactic(auto, using(crate::proofs::Rows::call_is))]
+fn call<'src>(name: Name<'src>, arguments: Vec<Expression<'src>>) -> Expression<'src>
+    ensures { expr_of result ≡ tree.Call (tok_of name.entry.token) (exprs_of arguments.entry.items) }
+{
+    Expression::Call { name, arguments }
+}
+
+#[tactic(auto, using(crate::proofs::Rows::list_is))]
+fn list<'src>(opener: Token<'src>, elements: Vec<Expression<'src>>) -> Expression<'src>
+    ensures { expr_of result ≡ tree.ListOf (tok_of opener.entry) (exprs_of elements.entry.items) }
+{
+    Expression::List { elements, opener }
+}
+
+#[tactic(auto, using(crate::proofs::Rows::format_is))]
+pub(crate) fn format_string<'src>(
+    start: StringLiteral<'src>,
+    expressions: Vec<(Expression<'src>, StringLiteral<'src>)>,
+) -> Expression<'src>
+    ensures { expr_of result ≡ format_tree (tok_of start.entry.token) expressions.entry.items }
+{
+    Expression::FormatString { start, expressions }
+}

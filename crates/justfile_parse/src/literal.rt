@@ -1,0 +1,149 @@
+ghost use Rattle.std.specs.Prelude.{◌≡◌, Bool, true, false, IfOk, IsTrue};
+ghost use Rattle.justfile_base.specs.StringKind.{kind_of};
+ghost use Rattle.justfile_base.specs.Token.{lexeme_of};
+ghost use Rattle.justfile_base.specs.declared.format_string_part.FormatStringPart.TheVariants as parts;
+ghost use Rattle.justfile_base.specs.declared.token_kind.TokenKind.TheVariants as kinds;
+ghost use Rattle.justfile_cook.specs.Literal.{answers_by, is_part, string_of};
+ghost use Rattle.justfile_model.specs.ExpressionReader.{with_text};
+ghost use Rattle.justfile_model.specs.Literals as literal;
+ghost use Rattle.justfile_model.specs.Literals.{cooked_text};
+ghost use Rattle.justfile_model.specs.Tok.{tok_of};
+ghost use Rattle.justfile_model.specs.Tree as tree;
+ghost use Rattle.justfile_parse.specs.Fault.{IsLiteralFault};
+ghost use Rattle.justfile_parse.specs.Literal.{is_sound};
+ghost use Rattle.justfile_parse.specs.Reading.{Gives, TextStops, with_part};
+ghost use Rattle.justfile_parse.specs.Significant.{significant_of};
+ghost use Rattle.justfile_tree.specs.Expression.{expr_of, part_tok};
+
+use crate::parser::{Entry, Parser};
+use crate::stop::{Refused, Stop};
+use crate::expression::format_string;
+use justfile_base::{Expander, Fault, FormatStringPart, StringKind, StringLiteral};
+use justfile_cook::{command, format_part, string_literal};
+use justfile_tree::Expression;
+
+impl<'src, X: Expander> Parser<'_, 'src, X> {
+    ghost use Rattle.justfile_parse.specs.View.{input_of};
+
+    /// The literal that a string is.
+    #[tactic(auto, using(crate::proofs::Cooked::quoted_string, crate::proofs::Cooked::string_given, crate::proofs::Cooked::text_refused, crate::proofs::Cooked::is_literal))]
+    pub(crate) fn string(&self, entry: Entry<'src>, expand: bool) -> Result<Expression<'src>, Stop<'src>>
+        requires kind { entry.0.kind ≡ kinds.StringToken }
+        requires sound { IsTrue (is_sound entry) }
+        ensures value { Gives (λ e. (expr_of e, input_of self.now)) result (input_of self.now) (with_text (tree.StringLiteral expand (tok_of entry.entry.0)) (significant_of entry.entry, input_of self.now) (cooked_text (answers_by X.answer self.now.expander.now) (string_of expand (lexeme_of entry.entry.0)))) }
+    {
+        match string_literal(self.alloc, entry.0, expand, self.expander) {
+            Ok(string_literal) => Ok(Expression::StringLiteral { string_literal }),
+            Err(fault) => Err(stop(fault, entry)),
+        }
+    }
+
+    /// The command that a backtick is.
+    #[tactic(auto, using(crate::proofs::Cooked::quoted_command, crate::proofs::Cooked::command_given, crate::proofs::Cooked::command_refused, crate::proofs::Cooked::command_is_literal))]
+    pub(crate) fn backtick(&self, entry: Entry<'src>) -> Result<Expression<'src>, Stop<'src>>
+        requires kind { entry.0.kind ≡ kinds.Backtick }
+        requires sound { IsTrue (is_sound entry) }
+        ensures value { Gives (λ e. (expr_of e, input_of self.now)) result (input_of self.now) (with_text (tree.Backtick (tok_of entry.entry.0)) (significant_of entry.entry, input_of self.now) (cooked_text (answers_by X.answer self.now.expander.now) (literal.Command (lexeme_of entry.entry.0)))) }
+    {
+        match command(self.alloc, entry.0) {
+            Ok(contents) => Ok(Expression::Backtick {
+                contents,
+                token: entry.0,
+            }),
+            Err(fault) => Err(stop(fault, entry)),
+        }
+    }
+
+    /// A format string with nothing to fill in.
+    #[tactic(auto, using(crate::proofs::Cooked::framed_single, crate::proofs::Cooked::single_given, crate::proofs::Cooked::text_refused, crate::proofs::Cooked::is_literal))]
+    pub(crate) fn single(&self, entry: Entry<'src>) -> Result<Expression<'src>, Stop<'src>>
+        requires kind { entry.0.kind ≡ kinds.StringToken }
+        requires sound { IsTrue (is_sound entry) }
+        ensures value { Gives (λ e. (expr_of e, input_of self.now)) result (input_of self.now) (with_text (tree.FormatLiteral (tok_of entry.entry.0)) (significant_of entry.entry, input_of self.now) (cooked_text (answers_by X.answer self.now.expander.now) (literal.Single (lexeme_of entry.entry.0)))) }
+    {
+        match format_part(self.alloc, entry.0, kind_of(entry), FormatStringPart::Single) {
+            Ok(literal) => Ok(format_string(literal, Vec::new(self.alloc))),
+            Err(fault) => Err(stop(fault, entry)),
+        }
+    }
+
+    /// The part of a format string that it begins with.
+    #[tactic(auto, using(crate::proofs::Cooked::framed_start, crate::proofs::Cooked::start_given, crate::proofs::Cooked::text_refused, crate::proofs::Cooked::is_literal))]
+    pub(crate) fn format_start(&self, entry: Entry<'src>) -> Result<StringLiteral<'src>, Stop<'src>>
+        requires kind { entry.0.kind ≡ kinds.FormatStringStart }
+        requires sound { IsTrue (is_sound entry) }
+        ensures token { IfOk result (λ l. l.token ≡ entry.entry.0) }
+        ensures value { Gives (λ l. (significant_of entry.entry, input_of self.now)) result (input_of self.now) (with_text (significant_of entry.entry) (significant_of entry.entry, input_of self.now) (cooked_text (answers_by X.answer self.now.expander.now) (literal.Start (lexeme_of entry.entry.0)))) }
+    {
+        match format_part(self.alloc, entry.0, kind_of(entry), FormatStringPart::Start) {
+            Ok(literal) => Ok(literal),
+            Err(fault) => Err(stop(fault, entry)),
+        }
+    }
+
+    /// A part between two expressions of a format string that starts so.
+    #[tactic(auto, using(crate::proofs::Cooked::framed_continue, crate::proofs::Cooked::continue_given, crate::proofs::Cooked::text_refused, crate::proofs::Cooked::is_literal))]
+    pub(crate) fn format_continue(
+        &self,
+        start: Entry<'src>,
+        entry: Entry<'src>,
+    ) -> Result<StringLiteral<'src>, Stop<'src>>
+        requires kind { entry.0.kind ≡ kinds.FormatStringContinue }
+        requires sound { IsTrue (is_sound entry) }
+        ensures value { Gives (λ l. ((part_tok l, false), input_of self.now)) result (input_of self.now) (with_part (tok_of entry.entry.0) false (significant_of entry.entry, input_of self.now) (cooked_text (answers_by X.answer self.now.expander.now) (literal.Continue (lexeme_of start.entry.0) (lexeme_of entry.entry.0)))) }
+    {
+        match format_part(self.alloc, entry.0, kind_of(start), FormatStringPart::Continue) {
+            Ok(literal) => Ok(literal),
+            Err(fault) => Err(stop(fault, entry)),
+        }
+    }
+
+    /// The part behind the last expression of a format string that starts so.
+    #[tactic(auto, using(crate::proofs::Cooked::end_given, crate::proofs::Cooked::text_refused, crate::proofs::Cooked::is_literal))]
+    pub(crate) fn format_end(
+        &self,
+        start: Entry<'src>,
+        entry: Entry<'src>,
+    ) -> Result<StringLiteral<'src>, Stop<'src>>
+        ensures value { Gives (λ l. ((part_tok l, true), input_of self.now)) result (input_of self.now) (with_part (tok_of entry.entry.0) true (significant_of entry.entry, input_of self.now) (cooked_text (answers_by X.answer self.now.expander.now) (literal.End (lexeme_of start.entry.0) (lexeme_of entry.entry.0)))) }
+    {
+        let kind = kind_of(start);
+        if !is_end(kind, entry.0.lexeme().as_bytes()) {
+            return Err(Stop::Memory);
+        }
+        match format_part(self.alloc, entry.0, kind, FormatStringPart::End) {
+            Ok(literal) => Ok(literal),
+            Err(fault) => Err(stop(fault, entry)),
+        }
+    }
+}
+
+/// How the literal is delimited.
+fn kind_of(entry: Entry<'_>) -> StringKind
+    ensures { result ≡ kind_of (lexeme_of entry.entry.0) }
+{
+    StringKind::of_opening(entry.0.lexeme().as_bytes())
+}
+
+/// Whether the bytes may be the last part of a format string of this kind.
+fn is_end(kind: StringKind, bytes: &[u8]) -> bool
+    ensures { IsTrue result → IsTrue (is_part kind parts.End bytes.now) }
+{
+    let end = kind.delimiter_len();
+    end + 2 <= bytes.len() && bytes[1] < 128 && bytes[bytes.len() - end] < 128
+}
+
+/// Why a literal at this token has no text.
+fn stop<'src>(fault: Fault<'src>, entry: Entry<'src>) -> Stop<'src>
+    requires { IsLiteralFault fault }
+    ensures { TextStops result fault.entry entry.entry }
+{
+    match fault {
+        Fault::Compile(error) => Stop::Literal(Refused {
+            error,
+            glued: entry.1,
+        }),
+        Fault::Memory => Stop::Memory,
+        Fault::Numbers => Stop::Numbers,
+    }
+}

@@ -1,0 +1,146 @@
+//! Expressions that are refused, and the token at which they are.
+
+use crate::tests::support::refusal;
+use std::alloc::Global;
+use std::process::Abort;
+use std::test::Fail;
+
+/// Sees that each text is refused at the offset.
+fn compare(rt: &impl Abort, alloc: Global, rows: &[(&str, usize)]) -> Result<(), Fail> {
+    for (text, offset) in rows {
+        let error = refusal(alloc, text)?;
+        assert_eq!(rt; error.token.offset, *offset, "{text:?}");
+    }
+    Ok(())
+}
+
+#[test]
+fn operators_need_their_operands(rt: HostRuntime) -> Result<(), Fail> {
+    const ROWS: &[(&str, usize)] = &[
+        ("a := b +\n", 8),
+        ("a := b ++\n", 9),
+        ("a := b /\n", 8),
+        ("a := /\n", 6),
+        ("a := !\n", 6),
+        ("a := b &&\n", 9),
+        ("a := b ||\n", 9),
+        ("a := b ==\n", 9),
+        ("a := + b\n", 5),
+        ("a := || b\n", 5),
+        ("a := == b\n", 5),
+        ("a := b + + c\n", 9),
+        ("a := b ! c\n", 7),
+        ("a := b = c\n", 7),
+        ("a := !/ b\n", 6),
+    ];
+    compare(&rt, rt.alloc(), ROWS)
+}
+
+#[test]
+fn comparisons_do_not_chain(rt: HostRuntime) -> Result<(), Fail> {
+    const ROWS: &[(&str, usize)] = &[
+        ("a := b == c == d\n", 12),
+        ("a := b != c =~ d\n", 12),
+        ("a := b == c + d !~ e\n", 16),
+    ];
+    compare(&rt, rt.alloc(), ROWS)
+}
+
+#[test]
+fn delimiters_hold_what_belongs_there_and_are_closed(rt: HostRuntime) -> Result<(), Fail> {
+    const ROWS: &[(&str, usize)] = &[
+        ("x := foo(", 9),
+        ("a := (b\n", 8),
+        ("a := ()\n", 6),
+        ("a := (b c)\n", 8),
+        ("a := (b, c)\n", 7),
+        ("a := (b,)\n", 7),
+        ("a := [b c]\n", 8),
+        ("a := [,]\n", 6),
+        ("a := [b,,]\n", 8),
+        ("a := [", 6),
+        ("a := f(,)\n", 7),
+        ("a := f(b,,)\n", 9),
+        ("a := f(b c)\n", 9),
+        ("a := {b}\n", 5),
+        ("a := (b # c\n)\n", 8),
+    ];
+    compare(&rt, rt.alloc(), ROWS)
+}
+
+#[test]
+fn asserts_need_a_condition_and_one_message_at_most(rt: HostRuntime) -> Result<(), Fail> {
+    const ROWS: &[(&str, usize)] = &[
+        ("a := assert\n", 11),
+        ("a := assert b\n", 12),
+        ("a := assert()\n", 12),
+        ("a := assert(b,)\n", 14),
+        ("a := assert(b, c,)\n", 16),
+        ("a := assert(b, c, d)\n", 16),
+        ("a := assert(b c)\n", 14),
+        ("a := !assert\n", 12),
+        ("foo:\n  {{assert}}\n", 15),
+    ];
+    compare(&rt, rt.alloc(), ROWS)
+}
+
+#[test]
+fn conditionals_need_their_parts(rt: HostRuntime) -> Result<(), Fail> {
+    const ROWS: &[(&str, usize)] = &[
+        ("a := if\n", 7),
+        ("a := if { b }\n", 8),
+        ("a := if b\n", 9),
+        ("a := if b c\n", 10),
+        ("a := if b { }\n", 12),
+        ("a := if b { c d }\n", 14),
+        ("a := if b { c } else d\n", 21),
+        ("a := if b { c } else\n", 20),
+        ("a := if b { c } else { }\n", 23),
+        ("a := if b { c } else if { d }\n", 24),
+        ("a := if == b { c }\n", 8),
+        ("a := if b { c\n", 14),
+        ("a := if b (c)\n", 13),
+        ("foo:\n  {{if}}\n", 11),
+    ];
+    compare(&rt, rt.alloc(), ROWS)
+}
+
+#[test]
+fn no_operand_follows_a_conditional_but_of_looser_operators(rt: HostRuntime) -> Result<(), Fail> {
+    const ROWS: &[(&str, usize)] = &[
+        ("a := if b { c } + d\n", 16),
+        ("a := if b { c } else { d } + e\n", 27),
+        ("a := if b { c } else { d } / e\n", 27),
+        ("a := if b { c } else { d } ++ e\n", 27),
+        ("a := if b { c } d\n", 16),
+    ];
+    compare(&rt, rt.alloc(), ROWS)
+}
+
+#[test]
+fn else_belongs_to_a_conditional_that_has_none(rt: HostRuntime) -> Result<(), Fail> {
+    const ROWS: &[(&str, usize)] = &[
+        ("a := b else { c }\n", 7),
+        ("a := if b { c } else { d } else { e }\n", 27),
+        ("a := if b { c } else { if d { e } } else { f }\n", 36),
+        ("a := if b { c } else { if d { e } } else\n", 36),
+        (
+            "a := if b { c } else { if d { e } else { if f { g } } } else { h }\n",
+            56,
+        ),
+        ("a := (if b { c }) else { d }\n", 18),
+    ];
+    compare(&rt, rt.alloc(), ROWS)
+}
+
+#[test]
+fn interpolations_end_behind_their_expression(rt: HostRuntime) -> Result<(), Fail> {
+    const ROWS: &[(&str, usize)] = &[
+        ("foo:\n  {{}}\n", 9),
+        ("foo:\n  {{a b}}\n", 11),
+        ("foo:\n  {{a +}}\n", 12),
+        ("foo:\n  {{a, b}}\n", 10),
+        ("foo:\n  {{a}}{{(b c)}}\n", 17),
+    ];
+    compare(&rt, rt.alloc(), ROWS)
+}

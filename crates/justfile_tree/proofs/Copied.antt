@@ -1,0 +1,76 @@
+-- Copies of expressions that hold a vector, by the vector's items.
+use mathlib.Core.Former.{Count}
+use Rattle.std.proofs.Common.{◌≡◌, ℕ, ◌+◌, ◌<◌, List, [], ◌∷◌, ◌++◌, length, take, get_or, refl, sym, ap, ◌∙◌, subst}
+use Rattle.std.specs.Global.{Vec}
+use Rattle.std.specs.List.{AllZip}
+use Rattle.std.proofs.lemmas.List.{take_more}
+use Rattle.std.proofs.lemmas.List.Elements.{AllZip-push}
+use Rattle.justfile_base.specs.declared.name.Name.{Name}
+use Rattle.justfile_base.specs.declared.token.Token.{Token}
+use Rattle.justfile_base.specs.declared.string_literal.StringLiteral.{StringLiteral}
+use Rattle.justfile_base.specs.StringLiteral.{IsSameLiteral}
+use Rattle.justfile_tree.specs.Copies.{IsSameExpression, AreSameExpressions, IsSamePart, AreSameParts}
+use Rattle.justfile_tree.specs.declared.expression.Expression.{Expression, Call, Call', FormatString, FormatString', List as List_of, List', Row_of-Expression, end_of-Expression, more_of-Expression, Row_of-Expression-FormatString-1-2, end_of-Expression-FormatString-1-2, more_of-Expression-FormatString-1-2, items-the_row-Expression, items-the_row-Expression-FormatString-1-2, items_hidden-the_row-Expression-0, items_hidden-the_row-Expression-FormatString-1-2-1}
+
+-- one more copy, of one more original
+pub one_more : {X : Type 0} (R : X → X → Type 0) (copies all later : List X) (i : ℕ) (copy original : X) → i < length all → original ≡ get_or all i original
+    → AllZip R copies (take i all) → R copy original → later ≡ copies ++ copy ∷ []
+    → AllZip R later (take (i + 1) all)
+one_more {X} R copies all later i copy original h is so_far same e =
+    subst (λ (l : List X). AllZip R l (take (i + 1) all)) (sym e)
+    (subst (λ (l : List X). AllZip R (copies ++ copy ∷ []) l)
+    (ap (λ (x : X). take i all ++ x ∷ []) is ∙ sym (take_more all i original h))
+    (AllZip-push R copies (take i all) copy original so_far same))
+
+same_row : (m n : Count) (copies : Row_of-Expression m) (originals : Row_of-Expression n) → AllZip IsSameExpression (items-the_row-Expression m copies) (items-the_row-Expression n originals) → AreSameExpressions copies originals
+same_row m n end_of-Expression end_of-Expression same = tt
+same_row m n end_of-Expression (more_of-Expression original originals) same = same
+same_row m n (more_of-Expression copy copies) end_of-Expression same = same
+same_row m n (more_of-Expression copy copies) (more_of-Expression original originals) same = (same.0, same_row _ _ copies originals same.1)
+
+same_parts : (m n : Count) (copies : Row_of-Expression-FormatString-1-2 m) (originals : Row_of-Expression-FormatString-1-2 n)
+    → AllZip IsSamePart (items-the_row-Expression-FormatString-1-2 m copies) (items-the_row-Expression-FormatString-1-2 n originals) → AreSameParts copies originals
+same_parts m n end_of-Expression-FormatString-1-2 end_of-Expression-FormatString-1-2 same = tt
+same_parts m n end_of-Expression-FormatString-1-2 (more_of-Expression-FormatString-1-2 original part' originals) same = same
+same_parts m n (more_of-Expression-FormatString-1-2 copy part copies) end_of-Expression-FormatString-1-2 same = same
+same_parts m n (more_of-Expression-FormatString-1-2 copy part copies) (more_of-Expression-FormatString-1-2 original part' originals) same = (same.0.0, same.0.1, same_parts _ _ copies originals same.1)
+
+abbrev row_of : Expression → (n : Count) × Row_of-Expression n
+row_of (Call' name _ row) = (_, row)
+row_of (List' _ row opener) = (_, row)
+row_of _ = (_, end_of-Expression)
+
+abbrev part_row_of : Expression → (n : Count) × Row_of-Expression-FormatString-1-2 n
+part_row_of (FormatString' start _ row) = (_, row)
+part_row_of _ = (_, end_of-Expression-FormatString-1-2)
+
+same_items : (v w : Vec Expression) (name : Name) → AllZip IsSameExpression v.items w.items → AreSameExpressions (row_of (Call name v)).1 (row_of (Call name w)).1
+same_items v w name same =
+    let copies = row_of (Call name v) in
+    let originals = row_of (Call name w) in
+    same_row copies.0 originals.0 copies.1 originals.1
+    (subst (λ (l : List Expression). AllZip IsSameExpression l (items-the_row-Expression originals.0 originals.1)) (sym (items_hidden-the_row-Expression-0 v))
+    (subst (λ (l : List Expression). AllZip IsSameExpression v.items l) (sym (items_hidden-the_row-Expression-0 w)) same))
+
+pub same_call : (name : Name) (v w : Vec Expression) → AllZip IsSameExpression v.items w.items → IsSameExpression (Call name v) (Call name w)
+same_call name v w same = (refl, same_items v w name same)
+
+pub same_list : (opener : Token) (v w : Vec Expression) → AllZip IsSameExpression v.items w.items → IsSameExpression (List_of v opener) (List_of w opener)
+same_list opener v w same =
+    let copies = row_of (List_of v opener) in
+    let originals = row_of (List_of w opener) in (
+      same_row copies.0 originals.0 copies.1 originals.1
+          (subst (λ (l : List Expression). AllZip IsSameExpression l (items-the_row-Expression originals.0 originals.1)) (sym (items_hidden-the_row-Expression-0 v))
+          (subst (λ (l : List Expression). AllZip IsSameExpression v.items l) (sym (items_hidden-the_row-Expression-0 w)) same)),
+      refl,
+    )
+
+pub same_format_string : (start start' : StringLiteral) (v w : Vec (Expression × StringLiteral)) → IsSameLiteral start start' → AllZip IsSamePart v.items w.items → IsSameExpression (FormatString start v) (FormatString start' w)
+same_format_string start start' v w is same =
+    let copies = part_row_of (FormatString start v) in
+    let originals = part_row_of (FormatString start' w) in (
+      is,
+      same_parts copies.0 originals.0 copies.1 originals.1
+          (subst (λ (l : List (Expression × StringLiteral)). AllZip IsSamePart l (items-the_row-Expression-FormatString-1-2 originals.0 originals.1)) (sym (items_hidden-the_row-Expression-FormatString-1-2-1 v))
+          (subst (λ (l : List (Expression × StringLiteral)). AllZip IsSamePart v.items l) (sym (items_hidden-the_row-Expression-FormatString-1-2-1 w)) same)),
+    )

@@ -1,0 +1,5 @@
+mod Conditionals
+mod Copied
+mod Loops
+mod Rows
+pub mod Trees

@@ -1,0 +1,86 @@
+-- The tree of an expression that holds a vector, by the vector's items; and the texts of its literals.
+use mathlib.Core.Former.{Count}
+use Rattle.std.proofs.Common.{◌≡◌, ℕ, Bool, false, if◌then◌else◌, List, [], ◌∷◌, ◌++◌, codes, string_bytes, refl, sym, ap, ◌∙◌, append_assoc}
+use Rattle.std.specs.Global.{Vec}
+use Rattle.std.specs.List.{flat_map}
+use Rattle.justfile_base.specs.declared.name.Name.{Name}
+use Rattle.justfile_base.specs.declared.token.Token.{Token}
+use Rattle.justfile_base.specs.declared.string_literal.StringLiteral.{StringLiteral}
+use Rattle.justfile_base.specs.StringLiteral.{begins_format_string}
+use Rattle.justfile_base.specs.Token.{lexeme_of}
+use Rattle.justfile_model.specs.Tok.{Tok, tok_of}
+use Rattle.justfile_model.specs.Tree as tree
+use Rattle.justfile_tree.specs.Expression.{expr_of, exprs_of, exprs_of_row, parts_of, parts_of_row, format_of, format_tree, part_tok, expr_cooked, exprs_cooked, parts_cooked}
+use Rattle.justfile_tree.specs.declared.expression.Expression.{Expression, Call, Call', FormatString, FormatString', List as List_of, List', Row_of-Expression, end_of-Expression, more_of-Expression, Row_of-Expression-FormatString-1-2, end_of-Expression-FormatString-1-2, more_of-Expression-FormatString-1-2, items-the_row-Expression, items-the_row-Expression-FormatString-1-2, items_hidden-the_row-Expression-0, items_hidden-the_row-Expression-FormatString-1-2-1}
+
+exprs_row : (n : Count) (row : Row_of-Expression n) → exprs_of_row row ≡ exprs_of (items-the_row-Expression n row)
+exprs_row n end_of-Expression = refl
+exprs_row n (more_of-Expression e others) = ap (λ es. tree.more (expr_of e) es) (exprs_row _ others)
+
+cooked_row : (n : Count) (row : Row_of-Expression n) → exprs_cooked row ≡ flat_map expr_cooked (items-the_row-Expression n row)
+cooked_row n end_of-Expression = refl
+cooked_row n (more_of-Expression e others) = ap (λ ts. expr_cooked e ++ ts) (cooked_row _ others)
+
+parts_row : (token : Tok) (n : Count) (row : Row_of-Expression-FormatString-1-2 n) → parts_of_row token row ≡ parts_of token (items-the_row-Expression-FormatString-1-2 n row)
+parts_row token n end_of-Expression-FormatString-1-2 = refl
+parts_row token n (more_of-Expression-FormatString-1-2 e literal others) = ap (λ ps. tree.Continue token (expr_of e) ps) (parts_row (part_tok literal) _ others)
+
+format_row : (start : Tok) (n : Count) (row : Row_of-Expression-FormatString-1-2 n) → format_of start row ≡ format_tree start (items-the_row-Expression-FormatString-1-2 n row)
+format_row start n end_of-Expression-FormatString-1-2 = refl
+format_row start n (more_of-Expression-FormatString-1-2 e literal others) = ap (λ ps. tree.FormatString start (expr_of e) ps) (parts_row (part_tok literal) _ others)
+
+-- the texts of an expression of a format string, and of the part behind it
+abbrev pub part_cooked : Expression × StringLiteral → List (List ℕ)
+part_cooked x = expr_cooked x.0 ++ string_bytes x.1.cooked ∷ []
+
+cooked_parts : (n : Count) (row : Row_of-Expression-FormatString-1-2 n) → parts_cooked row ≡ flat_map part_cooked (items-the_row-Expression-FormatString-1-2 n row)
+cooked_parts n end_of-Expression-FormatString-1-2 = refl
+cooked_parts n (more_of-Expression-FormatString-1-2 e literal others) =
+    ap (λ ts. expr_cooked e ++ string_bytes literal.cooked ∷ ts) (cooked_parts _ others)
+    ∙ sym (append_assoc (expr_cooked e) (string_bytes literal.cooked ∷ []) (flat_map part_cooked (items-the_row-Expression-FormatString-1-2 _ others)))
+
+abbrev row_of : Expression → (n : Count) × Row_of-Expression n
+row_of (Call' name _ row) = (_, row)
+row_of (List' _ row opener) = (_, row)
+row_of _ = (_, end_of-Expression)
+
+abbrev part_row_of : Expression → (n : Count) × Row_of-Expression-FormatString-1-2 n
+part_row_of (FormatString' start _ row) = (_, row)
+part_row_of _ = (_, end_of-Expression-FormatString-1-2)
+
+pub tree_call : (name : Name) (v : Vec Expression) → expr_of (Call name v) ≡ tree.Call (tok_of name.token) (exprs_of v.items)
+tree_call name v =
+    let row = row_of (Call name v) in
+    ap (tree.Call (tok_of name.token)) (exprs_row row.0 row.1 ∙ ap exprs_of (items_hidden-the_row-Expression-0 v))
+
+pub tree_list : (v : Vec Expression) (opener : Token) → expr_of (List_of v opener) ≡ tree.ListOf (tok_of opener) (exprs_of v.items)
+tree_list v opener =
+    let row = row_of (List_of v opener) in
+    ap (tree.ListOf (tok_of opener)) (exprs_row row.0 row.1 ∙ ap exprs_of (items_hidden-the_row-Expression-0 v))
+
+pub tree_format_string : (start : StringLiteral) (v : Vec (Expression × StringLiteral)) → expr_of (FormatString start v) ≡ format_tree (tok_of start.token) v.items
+tree_format_string start v =
+    let row = part_row_of (FormatString start v) in
+    format_row (tok_of start.token) row.0 row.1 ∙ ap (format_tree (tok_of start.token)) (items_hidden-the_row-Expression-FormatString-1-2-1 v)
+
+pub cooked_call : (name : Name) (v : Vec Expression) → expr_cooked (Call name v) ≡ flat_map expr_cooked v.items
+cooked_call name v =
+    let row = row_of (Call name v) in
+    cooked_row row.0 row.1 ∙ ap (flat_map expr_cooked) (items_hidden-the_row-Expression-0 v)
+
+pub cooked_list : (v : Vec Expression) (opener : Token) → expr_cooked (List_of v opener) ≡ flat_map expr_cooked v.items
+cooked_list v opener =
+    let row = row_of (List_of v opener) in
+    cooked_row row.0 row.1 ∙ ap (flat_map expr_cooked) (items_hidden-the_row-Expression-0 v)
+
+pub cooked_format_string : (start : StringLiteral) (v : Vec (Expression × StringLiteral)) → expr_cooked (FormatString start v) ≡ string_bytes start.cooked ∷ flat_map part_cooked v.items
+cooked_format_string start v =
+    let row = part_row_of (FormatString start v) in
+    ap (λ ts. string_bytes start.cooked ∷ ts) (cooked_parts row.0 row.1 ∙ ap (flat_map part_cooked) (items_hidden-the_row-Expression-FormatString-1-2-1 v))
+
+-- a later part that has no marks is its token
+pub unmarked : (literal : StringLiteral) → literal.expand ≡ false → begins_format_string literal.part ≡ false → part_tok literal ≡ tok_of literal.token
+unmarked literal plain later =
+    ap (λ (text : List ℕ). record (tok_of literal.token) { lexeme = text })
+    (ap (λ (b : Bool). ((if b then codes "x" else []) ++ (if begins_format_string literal.part then codes "f" else [])) ++ lexeme_of literal.token) plain
+    ∙ ap (λ (b : Bool). (if b then codes "f" else []) ++ lexeme_of literal.token) later)

@@ -1,0 +1,26 @@
+-- Texts of expressions that stand in a row.
+use Rattle.std.specs.Prelude.{ℕ, zero, suc, List, [], ◌∷◌, ◌++◌, codes}
+use Rattle.std.specs.List.{flat_map}
+use Rattle.justfile_base.specs.declared.string_literal.StringLiteral as literals
+use Rattle.justfile_base.specs.StringLiteral.{literal_text}
+use Rattle.justfile_model.specs.Printing.{piece, expr_text}
+use Rattle.justfile_tree.specs.declared.expression.Expression.{Expression}
+use Rattle.justfile_tree.specs.Expression.{expr_shape}
+
+-- the text of an expression
+abbrev pub text_of : Expression → List ℕ
+text_of e = expr_text (expr_shape e)
+
+-- joined by a comma and a space
+abbrev pub separated : List (List ℕ) → List ℕ
+separated [] = []
+separated (text ∷ texts) = text ++ flat_map (λ t. piece (codes ", ") ++ t) texts
+
+-- what stands before the text at a place
+abbrev pub separator : ℕ → List ℕ
+separator zero = []
+separator (suc place) = piece (codes ", ")
+
+-- an expression of a format string, and the part behind it
+abbrev pub part_text : Expression × literals.StringLiteral → List ℕ
+part_text p = piece (codes " ") ++ text_of p.0 ++ piece (codes " ") ++ literal_text p.1
