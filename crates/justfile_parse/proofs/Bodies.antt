@@ -19,6 +19,7 @@ use Rattle.justfile_parse.specs.Given.{IsGivenFragment, IsGivenLine, IsInTable}
 use Rattle.justfile_cook.specs.Literal.{answers_by}
 use Rattle.justfile_parse.specs.Reading.{StopsAt, literal_refusal, refusal_at}
 use Rattle.justfile_parse.specs.View.{IsSameRun, input_of}
+use Rattle.justfile_parse.proofs.Runs.{same_run}
 use Rattle.justfile_parse.specs.declared.parser.Parser.{Parser}
 use Rattle.justfile_parse.specs.declared.stop.Stop.{Stop}
 use Rattle.justfile_parse.specs.declared.stop.Stop.TheVariants.{Refused, Literal, Memory, Numbers}
@@ -31,17 +32,6 @@ pub record IsPartTo {X Z T : Type 0} (answer : X → List ℕ → Result (List �
   pub least : p.next ≤ q.next
   pub read : after (map view done) (whole (answers_by answer p.expander.now) (input_of q)) ≡ whole (answers_by answer p.expander.now) (input_of p)
   pub given : All (IsGood (answers_by answer p.expander.now) (IsInTable p.tokens.now)) done
-
-pub same_run : {X : Type 0} (p q r : Parser X) → IsSameRun p q → IsSameRun q r → IsSameRun p r
-same_run p q r a b =
-    record {
-      tokens = b.tokens ∙ a.tokens;
-      expander = b.expander ∙ a.expander;
-      file_depth = b.file_depth ∙ a.file_depth;
-      import_offsets = b.import_offsets ∙ a.import_offsets;
-      depth = b.depth ∙ a.depth;
-      noted = λ h. b.noted (a.noted h);
-    }
 
 module _ {X Z T : Type 0} (answer : X → List ℕ → Result (List ℕ) (List ℕ)) (view : Z → T) (whole : Answers → Input → Read (List T)) (IsGood : Answers → (Token → Type 0) → Z → Type 0) where
   pub part_begins : (p : Parser X) → IsPartTo answer view whole IsGood p p []
@@ -65,12 +55,12 @@ module _ {X Z T : Type 0} (answer : X → List ℕ → Result (List ℕ) (List �
         → IsPartTo answer view whole IsGood p b new
     part_goes_on b z new step same2 least value good is =
         let E = answers_by answer p.expander.now in
-        let run = same_run p q a so_far.same same in
+        let run = same_run so_far.same same in
         let G : Bor X → Type 0 = λ e. IsGood (answers_by answer e.now) (IsInTable a.tokens.now) z in
         let H : Bor (List (Token × Bool)) → Type 0 = λ t. IsGood E (IsInTable t.now) z in
         let N : List Z → Type 0 = λ l. All (IsGood E (IsInTable p.tokens.now)) l in
         record {
-          same = same_run p a b run same2;
+          same = same_run run same2;
           least = omega (arith, so_far.least, stays, least);
           read =
               ap (λ (l : List Z). after (map view l) (whole E (input_of b))) is

@@ -26,12 +26,14 @@ use Rattle.justfile_model.specs.Tok.{Tok, tok_of}
 use Rattle.justfile_model.specs.Tree as tree
 use Rattle.justfile_model.specs.Tree.{Expr}
 use Rattle.justfile_parse.specs.Fault.{IsLiteralFault, fault_by, is_literal_kind, is_shebang, literal_fault, some_fault}
+use Rattle.justfile_parse.specs.Given.{IsGivenFormat, IsGivenLiteral, IsGivenPart, IsInTable}
 use Rattle.justfile_parse.specs.Literal.{is_delimited, is_sound}
-use Rattle.justfile_parse.specs.Reading.{Gives, StopsAt, TextStops, literal_refusal}
+use Rattle.justfile_parse.specs.Reading.{Gives, IsGivenStop, StopsAt, TextStops, literal_refusal}
 use Rattle.justfile_parse.specs.Significant.{significant_of}
 use Rattle.justfile_parse.specs.declared.stop.Stop.{Stop}
 use Rattle.justfile_parse.specs.declared.stop.Stop.TheVariants as stops
 use Rattle.justfile_tree.specs.Expression.{literal_tok, part_tok}
+use Rattle.justfile_tree.specs.declared.expression.Expression.{Expression}
 
 pub quoted_string : (entry : Token × Bool) → entry.0.kind ≡ kinds.StringToken → IsTrue (is_sound entry) → IsTrue (is_quoted (lexeme_of entry.0))
 quoted_string entry e h = subst (λ (k : TokenKind). IsTrue (is_delimited k (lexeme_of entry.0))) e h
@@ -160,3 +162,34 @@ module _ (expander : Answers) (s : Input) (entry : Token × Bool) (l : StringLit
       where
         later : part_tok l ≡ tok_of entry.0
         later = rw (is.expand_is, is.part_is, is.token_is) refl
+
+-- ---- at tokens of the table
+
+module _ (table : List (Token × Bool)) (entry : Token × Bool) (among : IsInTable table entry.0) where
+  pub text_stop_given : (text : Result (List ℕ) LiteralFault) (fault : Fault) (stop : Stop) → IsTextFault text entry.0 fault → TextStops stop fault entry → IsGivenStop table stop
+  text_stop_given text (faults.Compile error) (stops.Literal refused) h is = subst (IsInTable table) (sym (ap (λ (e : CompileError). e.token) is.0 ∙ h.token_is)) among
+  text_stop_given text fault (stops.Refused r) h is = tt
+  text_stop_given text fault stops.Memory h is = tt
+  text_stop_given text fault stops.Numbers h is = tt
+  text_stop_given text faults.Memory (stops.Literal refused) h is = absurd is
+  text_stop_given text faults.Numbers (stops.Literal refused) h is = absurd is
+
+  pub string_is_given : (expander : Answers) (expand : Bool) (l : StringLiteral) → IsStringOf expander entry.0 expand l → IsGivenLiteral expander (IsInTable table) l
+  string_is_given expander expand l is = record {
+    among = subst (IsInTable table) (sym is.token_is) among;
+    cooked = rw (is.token_is, is.expand_is) is.cooked;
+    kind = rw is.token_is is.kind;
+    part = is.part;
+  }
+
+  pub part_is_given : (kind : StringKind) (part : FormatStringPart) (l : StringLiteral) → IsPartOf kind part entry.0 l → IsGivenPart (IsInTable table) kind part l
+  part_is_given kind part l is = record {
+    among = subst (IsInTable table) (sym is.token_is) among;
+    is = subst (λ (t : Token). IsPartOf kind part t l) (sym is.token_is) is;
+  }
+
+  -- a format string that is this part alone
+  pub single_is_given : (expander : Answers) (kind : StringKind) (l : StringLiteral) (others : List (Expression × StringLiteral)) → kind ≡ kind_of (lexeme_of entry.0) → others ≡ [] → IsPartOf kind parts.Single entry.0 l → IsGivenFormat expander (IsInTable table) l others
+  single_is_given expander kind l others k none is =
+      let own : IsPartOf (kind_of (lexeme_of l.token)) parts.Single entry.0 l = subst (λ (x : StringKind). IsPartOf x parts.Single entry.0 l) (k ∙ ap (λ (t : Token). kind_of (lexeme_of t)) (sym is.token_is)) is in
+      subst (IsGivenFormat expander (IsInTable table) l) (sym none) (part_is_given (kind_of (lexeme_of l.token)) parts.Single l own)

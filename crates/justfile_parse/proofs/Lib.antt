@@ -14,6 +14,7 @@ pub mod Parts
 pub mod Readings
 pub mod Rest
 pub mod Rows
+pub mod Runs
 pub mod Shapes
 pub mod SignificantLemmas
 pub mod Trims

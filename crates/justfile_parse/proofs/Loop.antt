@@ -15,7 +15,7 @@ use Rattle.justfile_model.specs.Tree.{Tree}
 use Rattle.justfile_model.proofs.Counting.{bindings_append, line_numbers, recipes_append}
 use Rattle.justfile_model.proofs.Reading.{after_nothing, after_refused, items_at_end, items_fail}
 use Rattle.justfile_parse.proofs.Adding.{adds_later}
-use Rattle.justfile_parse.proofs.Bodies.{same_run}
+use Rattle.justfile_parse.proofs.Runs.{same_run}
 use Rattle.justfile_cook.specs.Literal.{answers_by}
 use Rattle.justfile_parse.specs.Reading.{IsMoved, StopsAt, literal_refusal, refusal_at}
 use Rattle.justfile_parse.proofs.Wanted.{lines_items}
@@ -84,10 +84,10 @@ module _ {X : Type 0} (answer : X → List ℕ → Result (List ℕ) (List ℕ))
         let E = answers_by answer p.expander.now in
         let t = taken (map item_of done) (map item_of new) (input_of b) _ value in
         let read : line E (input_of q) ≡ Ok (t.0, input_of b) = sym line_there ∙ t.1 in
-        let given : IsGivenBy answer p first then new = (adds_later answer p a (same_run p q a so_far.same same) done new next then adds).adds first so_far.given in
+        let given : IsGivenBy answer p first then new = (adds_later answer p a (same_run so_far.same same) done new next then adds).adds first so_far.given in
         let counts = line_numbers E (input_of q) (t.0, input_of b) read in
         record {
-          same = same_run p a b (same_run p q a so_far.same same) same2;
+          same = same_run (same_run so_far.same same) same2;
           lines = subst (λ (l : Tree). AreLines E (input_of p) l (input_of b)) t.2 (more so_far.lines read);
           given = given;
           least = omega (arith, so_far.least);

@@ -1,5 +1,9 @@
 -- Reading the parts of a format string, as a loop does.
-use Rattle.std.proofs.Common.{◌≡◌, ℕ, Bool, true, false, cond, List, [], ◌∷◌, ◌++◌, Option, Some, None, Result, Ok, Err, refl, sym, ap, ◌∙◌}
+use Rattle.std.proofs.Common.{All, arith, suc, ◌≡◌, ℕ, Bool, true, false, cond, List, [], ◌∷◌, ◌++◌, Option, Some, None, Result, Ok, Err, refl, sym, ap, ◌∙◌}
+use Rattle.std.proofs.lemmas.List.Elements.{All-push}
+use Rattle.justfile_base.specs.declared.format_string_part.FormatStringPart.TheVariants as part_kinds
+use Rattle.justfile_base.specs.declared.string_kind.StringKind.{StringKind}
+use Rattle.justfile_base.specs.declared.token.Token.{Token}
 use Rattle.justfile_base.specs.declared.string_literal.StringLiteral.{StringLiteral}
 use Rattle.justfile_base.specs.declared.token_kind.TokenKind.TheVariants as kinds
 use Rattle.justfile_model.specs.ExpressionReader as r
@@ -12,6 +16,7 @@ use Rattle.justfile_model.specs.Tok.{Tok, tok_of}
 use Rattle.justfile_model.specs.Tree as tree
 use Rattle.justfile_model.specs.Tree.{Expr, Parts}
 use Rattle.justfile_model.proofs.ExpressionReading.{parts_is}
+use Rattle.justfile_parse.specs.Given.{AreGivenBehind, IsGivenExpression, IsGivenPart, IsInTable, part_by}
 use Rattle.justfile_parse.specs.Reading.{format_rest, pair_rule, part_rule}
 use Rattle.justfile_tree.specs.Expression.{expr_of, part_tok, parts_of, format_tree}
 use Rattle.justfile_tree.specs.declared.expression.Expression.{Expression}
@@ -167,3 +172,15 @@ module _ (expander : Answers) (start : Tok) (d : ℕ) where
 
     pub fails : (f : Refusal) → pair_rule expander start.lexeme d s ≡ Err f → with_front start ps (pair expander start.lexeme d s) ≡ Err f
     fails f h = rw (pair_by s, h) refl
+
+-- ---- given
+
+-- an expression and the part behind it, which is not the last
+abbrev pub IsGivenPair : Answers → (Token → Type 0) → StringKind → Expression × StringLiteral → Type 0
+IsGivenPair expander IsToken kind x = IsGivenExpression expander IsToken x.0 × IsGivenPart IsToken kind part_kinds.Continue x.1
+
+pub given_last : (expander : Answers) (IsToken : Token → Type 0) (kind : StringKind) (xs : List (Expression × StringLiteral)) (e : Expression) (l : StringLiteral) → All (IsGivenPair expander IsToken kind) xs → IsGivenExpression expander IsToken e → IsGivenPart IsToken kind part_kinds.End l
+    → AreGivenBehind expander IsToken kind (xs ++ (e, l) ∷ [])
+given_last expander IsToken kind [] e l h one last = (one, last)
+given_last expander IsToken kind (x ∷ []) e l h one last = ((h 0 x (omega arith)).0, (h 0 x (omega arith)).1, (one, last))
+given_last expander IsToken kind (x ∷ y ∷ xs) e l h one last = ((h 0 x (omega arith)).0, (h 0 x (omega arith)).1, given_last expander IsToken kind (y ∷ xs) e l (λ k d lt. h (suc k) d (omega (arith, lt))) one last)

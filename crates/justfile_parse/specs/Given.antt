@@ -1,5 +1,5 @@
 -- What the parser gives the parts of a tree beside their tokens.
-use Rattle.std.specs.Prelude.{◌≡◌, ◌↔◌, ℕ, ◌+◌, map, Bool, false, ◌==◌, List, slice_index, None, Ok, IsSomeAnd, IsTrue, string_bytes, Contains, All}
+use Rattle.std.specs.Prelude.{◌≡◌, ◌↔◌, ℕ, ◌+◌, map, Bool, true, false, ◌==◌, List, [], ◌∷◌, slice_index, None, Ok, IsSomeAnd, IsTrue, string_bytes, Contains, All}
 use Rattle.justfile_base.specs.declared.format_string_part.FormatStringPart.{FormatStringPart}
 use Rattle.justfile_base.specs.declared.format_string_part.FormatStringPart.TheVariants as parts
 use Rattle.justfile_base.specs.declared.string_kind.StringKind.{StringKind}
@@ -96,6 +96,22 @@ module _ (expander : Answers) (IsToken : Token → Type 0) where
     AreGivenParts kind end_of-Expression-FormatString-1-2 = Unit {0}
     AreGivenParts kind (more_of-Expression-FormatString-1-2 e literal others) =
         IsGivenExpression e × IsGivenPart IsToken kind (later_part others) literal × AreGivenParts kind others
+
+  -- expressions of a format string of a kind, each with the part behind it
+  abbrev pub AreGivenBehind : (kind : StringKind) → List (Expression × literals.StringLiteral) → Type 0
+  AreGivenBehind kind [] = ⊥
+  AreGivenBehind kind (x ∷ []) = IsGivenExpression x.0 × IsGivenPart IsToken kind parts.End x.1
+  AreGivenBehind kind (x ∷ y ∷ xs) = IsGivenExpression x.0 × IsGivenPart IsToken kind parts.Continue x.1 × AreGivenBehind kind (y ∷ xs)
+
+  -- a format string that begins with this part
+  abbrev pub IsGivenFormat : literals.StringLiteral → List (Expression × literals.StringLiteral) → Type 0
+  IsGivenFormat start [] = IsGivenPart IsToken (kind_of (lexeme_of start.token)) parts.Single start
+  IsGivenFormat start (x ∷ xs) = IsGivenPart IsToken (kind_of (lexeme_of start.token)) parts.Start start × AreGivenBehind (kind_of (lexeme_of start.token)) (x ∷ xs)
+
+-- a part behind an expression, by whether it is the last
+abbrev pub part_by : (is_last : Bool) → FormatStringPart
+part_by true = parts.End
+part_by false = parts.Continue
 
 -- a name that begins with `_` is private
 abbrev pub is_private : List ℕ → Bool

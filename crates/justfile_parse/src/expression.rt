@@ -1,13 +1,16 @@
-ghost use Rattle.std.specs.Prelude.{IfErr, IfOk, ◌≡◌, ◌<◌, Bool, true, false, IsTrue, OnOk, OnSome, IfSome, IfNone, Some, None};
+ghost use Rattle.std.specs.Prelude.{◌≡◌, ◌<◌, All, List, Bool, true, false, IsTrue, OnOk, OnSome, IfErr, IfOk, IfSome, IfNone, Some, None};
+ghost use Rattle.justfile_base.specs.StringKind.{kind_of};
 ghost use Rattle.justfile_base.specs.Token.{lexeme_of};
+ghost use Rattle.justfile_base.specs.declared.token.Token.{Token};
 ghost use Rattle.justfile_base.specs.declared.token_kind.TokenKind.TheVariants as kinds;
 ghost use Rattle.justfile_cook.specs.Literal.{answers_by};
 ghost use Rattle.justfile_model.specs.ExpressionReader as reader;
 ghost use Rattle.justfile_model.specs.ExpressionReader.{closed, read};
 ghost use Rattle.justfile_model.specs.Expressions.{ends_open};
+ghost use Rattle.justfile_model.specs.Literals.{Answers};
 ghost use Rattle.justfile_model.specs.Tok.{tok_of};
 ghost use Rattle.justfile_model.specs.Tree as tree;
-ghost use Rattle.justfile_parse.specs.Given.{IsGivenExpression, IsInTable};
+ghost use Rattle.justfile_parse.specs.Given.{AreGivenBehind, IsGivenExpression, IsGivenFormat, IsGivenPart, IsInTable, part_by};
 ghost use Rattle.justfile_parse.specs.Literal.{is_sound};
 ghost use Rattle.justfile_parse.specs.Reading.{Gives, IsGivenStop, element_rule, format_rest, format_string_rule, otherwise_rule, pair_rule, part_rule};
 ghost use Rattle.justfile_parse.specs.Significant.{significant_of};
@@ -29,9 +32,9 @@ impl<'src, X: Expander> Parser<'_, 'src, X> {
         ensures same { OnOk result (IsSameRun self.old self.new) }
         ensures tokens { self.new.tokens ≡ self.old.tokens }
         ensures progress { OnOk result (self.old.next < self.new.next) }
-        ensures value { Gives (λ e. (expr_of e, input_of self.new)) result (input_of self.new) (read (answers_by X.answer self.old.expander.now) (reader.Expression false self.old.depth (input_of self.old))) }
         ensures given { IfOk result (IsGivenExpression (answers_by X.answer self.old.expander.now) (IsInTable self.old.tokens.now)) }
         ensures stop { IfErr result (IsGivenStop self.old.tokens.now) }
+        ensures value { Gives (λ e. (expr_of e, input_of self.new)) result (input_of self.new) (read (answers_by X.answer self.old.expander.now) (reader.Expression false self.old.depth (input_of self.old))) }
     {
         self.parse_expression_with_condition(false)
     }
@@ -43,6 +46,8 @@ impl<'src, X: Expander> Parser<'_, 'src, X> {
         ensures same { OnOk result (IsSameRun self.old self.new) }
         ensures tokens { self.new.tokens ≡ self.old.tokens }
         ensures progress { OnOk result (self.old.next < self.new.next) }
+        ensures given { IfOk result (IsGivenExpression (answers_by X.answer self.old.expander.now) (IsInTable self.old.tokens.now)) }
+        ensures stop { IfErr result (IsGivenStop self.old.tokens.now) }
         ensures value { Gives (λ e. (expr_of e, input_of self.new)) result (input_of self.new) (read (answers_by X.answer self.old.expander.now) (reader.Expression condition self.old.depth (input_of self.old))) }
     {
         if self.depth == RECURSION_LIMIT {
@@ -70,6 +75,8 @@ impl<'src, X: Expander> Parser<'_, 'src, X> {
         ensures same { OnOk result (IsSameRun self.old self.new) }
         ensures tokens { self.new.tokens ≡ self.old.tokens }
         ensures progress { OnOk result (self.old.next < self.new.next) }
+        ensures given { IfOk result (IsGivenExpression (answers_by X.answer self.old.expander.now) (IsInTable self.old.tokens.now)) }
+        ensures stop { IfErr result (IsGivenStop self.old.tokens.now) }
         ensures value { Gives (λ e. (expr_of e, input_of self.new)) result (input_of self.new) (read (answers_by X.answer self.old.expander.now) (reader.Disjunct condition self.old.depth (input_of self.old))) }
     {
         let comparison = self.parse_comparison(condition)?;
@@ -91,6 +98,8 @@ impl<'src, X: Expander> Parser<'_, 'src, X> {
         ensures same { OnOk result (IsSameRun self.old self.new) }
         ensures tokens { self.new.tokens ≡ self.old.tokens }
         ensures progress { OnOk result (self.old.next < self.new.next) }
+        ensures given { IfOk result (IsGivenExpression (answers_by X.answer self.old.expander.now) (IsInTable self.old.tokens.now)) }
+        ensures stop { IfErr result (IsGivenStop self.old.tokens.now) }
         ensures value { Gives (λ e. (expr_of e, input_of self.new)) result (input_of self.new) (read (answers_by X.answer self.old.expander.now) (reader.Compared condition self.old.depth (input_of self.old))) }
     {
         let lhs = self.parse_conjunct()?;
@@ -117,6 +126,8 @@ impl<'src, X: Expander> Parser<'_, 'src, X> {
         ensures same { OnOk result (IsSameRun self.old self.new) }
         ensures tokens { self.new.tokens ≡ self.old.tokens }
         ensures progress { OnOk result (self.old.next < self.new.next) }
+        ensures given { IfOk result (IsGivenExpression (answers_by X.answer self.old.expander.now) (IsInTable self.old.tokens.now)) }
+        ensures stop { IfErr result (IsGivenStop self.old.tokens.now) }
         ensures value { Gives (λ e. (expr_of e, input_of self.new)) result (input_of self.new) (read (answers_by X.answer self.old.expander.now) (reader.Conjunct self.old.depth (input_of self.old))) }
     {
         if let Some(word) = self.accept_word("if") {
@@ -161,6 +172,8 @@ impl<'src, X: Expander> Parser<'_, 'src, X> {
         ensures same { OnOk result (IsSameRun self.old self.new) }
         ensures tokens { self.new.tokens ≡ self.old.tokens }
         ensures progress { OnOk result (self.old.next < self.new.next) }
+        ensures given { IfOk result (IsGivenExpression (answers_by X.answer self.old.expander.now) (IsInTable self.old.tokens.now)) }
+        ensures stop { IfErr result (IsGivenStop self.old.tokens.now) }
         ensures value { Gives (λ e. (expr_of e, input_of self.new)) result (input_of self.new) (reader.condition (answers_by X.answer self.old.expander.now) (read (answers_by X.answer self.old.expander.now)) self.old.depth (input_of self.old)) }
     {
         let first = self.first();
@@ -176,6 +189,8 @@ impl<'src, X: Expander> Parser<'_, 'src, X> {
         ensures same { OnOk result (IsSameRun self.old self.new) }
         ensures tokens { self.new.tokens ≡ self.old.tokens }
         ensures progress { OnOk result (self.old.next < self.new.next) }
+        ensures given { IfOk result (IsGivenExpression (answers_by X.answer self.old.expander.now) (IsInTable self.old.tokens.now)) }
+        ensures stop { IfErr result (IsGivenStop self.old.tokens.now) }
         ensures value { Gives (λ e. (expr_of e, input_of self.new)) result (input_of self.new) (reader.braced (answers_by X.answer self.old.expander.now) (read (answers_by X.answer self.old.expander.now)) self.old.depth (input_of self.old)) }
     {
         self.expect(TokenKind::BraceL)?;
@@ -188,10 +203,12 @@ impl<'src, X: Expander> Parser<'_, 'src, X> {
     #[cycle(expression)]
     #[tactic(auto, using(crate::proofs::Conditions::conditional_is), unfolding(crate::specs::Reading::conditional_by))]
     fn parse_conditional(&mut self, word: Entry<'src>) -> Result<Expression<'src>, Stop<'src>>
-        requires { IsInTable self.old.tokens.now word.0 }
+        requires among { IsInTable self.old.tokens.now word.0 }
         ensures same { OnOk result (IsSameRun self.old self.new) }
         ensures tokens { self.new.tokens ≡ self.old.tokens }
         ensures progress { OnOk result (self.old.next < self.new.next) }
+        ensures given { IfOk result (IsGivenExpression (answers_by X.answer self.old.expander.now) (IsInTable self.old.tokens.now)) }
+        ensures stop { IfErr result (IsGivenStop self.old.tokens.now) }
         ensures value { Gives (λ e. (expr_of e, input_of self.new)) result (input_of self.new) (read (answers_by X.answer self.old.expander.now) (reader.Conditional self.old.depth (significant_of word.entry) (input_of self.old))) }
     {
         let condition = self.parse_condition()?;
@@ -222,6 +239,8 @@ impl<'src, X: Expander> Parser<'_, 'src, X> {
         ensures same { OnOk result (IsSameRun self.old self.new) }
         ensures tokens { self.new.tokens ≡ self.old.tokens }
         ensures progress { OnOk result (self.old.next < self.new.next) }
+        ensures given { IfOk result (IsGivenExpression (answers_by X.answer self.old.expander.now) (IsInTable self.old.tokens.now)) }
+        ensures stop { IfErr result (IsGivenStop self.old.tokens.now) }
         ensures value { Gives (λ e. (expr_of e, input_of self.new)) result (input_of self.new) (otherwise_rule (answers_by X.answer self.old.expander.now) self.old.depth (input_of self.old)) }
     {
         if let Some(word) = self.accept_word("if") {
@@ -239,6 +258,8 @@ impl<'src, X: Expander> Parser<'_, 'src, X> {
         ensures same { OnOk result (IsSameRun self.old self.new) }
         ensures tokens { self.new.tokens ≡ self.old.tokens }
         ensures progress { OnOk result (self.old.next < self.new.next) }
+        ensures given { IfOk result (IsGivenExpression (answers_by X.answer self.old.expander.now) (IsInTable self.old.tokens.now)) }
+        ensures stop { IfErr result (IsGivenStop self.old.tokens.now) }
         ensures value { Gives (λ e. (expr_of e, input_of self.new)) result (input_of self.new) (read (answers_by X.answer self.old.expander.now) (reader.Value self.old.depth (input_of self.old))) }
     {
         if let Some((bang, _)) = self.accept(TokenKind::Bang) {
@@ -257,6 +278,8 @@ impl<'src, X: Expander> Parser<'_, 'src, X> {
         ensures same { OnOk result (IsSameRun self.old self.new) }
         ensures tokens { self.new.tokens ≡ self.old.tokens }
         ensures progress { OnOk result (self.old.next < self.new.next) }
+        ensures given { IfOk result (IsGivenExpression (answers_by X.answer self.old.expander.now) (IsInTable self.old.tokens.now)) }
+        ensures stop { IfErr result (IsGivenStop self.old.tokens.now) }
         ensures value { Gives (λ e. (expr_of e, input_of self.new)) result (input_of self.new) (reader.literal_rule (answers_by X.answer self.old.expander.now) (read (answers_by X.answer self.old.expander.now)) self.old.depth (input_of self.old)) }
     {
         if let Some(entry) = self.accept(TokenKind::StringToken) {
@@ -275,6 +298,8 @@ impl<'src, X: Expander> Parser<'_, 'src, X> {
         ensures same { OnOk result (IsSameRun self.old self.new) }
         ensures tokens { self.new.tokens ≡ self.old.tokens }
         ensures progress { OnOk result (self.old.next < self.new.next) }
+        ensures given { IfOk result (IsGivenExpression (answers_by X.answer self.old.expander.now) (IsInTable self.old.tokens.now)) }
+        ensures stop { IfErr result (IsGivenStop self.old.tokens.now) }
         ensures value { Gives (λ e. (expr_of e, input_of self.new)) result (input_of self.new) (reader.format_rule (answers_by X.answer self.old.expander.now) (read (answers_by X.answer self.old.expander.now)) self.old.depth (input_of self.old)) }
     {
         if let Some(entry) = self.accept_marked("f", TokenKind::StringToken) {
@@ -292,9 +317,12 @@ impl<'src, X: Expander> Parser<'_, 'src, X> {
     fn parse_format_string(&mut self, start: Entry<'src>) -> Result<Expression<'src>, Stop<'src>>
         requires kind { start.0.kind ≡ kinds.FormatStringStart }
         requires sound { IsTrue (is_sound start) }
+        requires among { IsInTable self.old.tokens.now start.0 }
         ensures same { OnOk result (IsSameRun self.old self.new) }
         ensures tokens { self.new.tokens ≡ self.old.tokens }
         ensures progress { OnOk result (self.old.next < self.new.next) }
+        ensures given { IfOk result (IsGivenExpression (answers_by X.answer self.old.expander.now) (IsInTable self.old.tokens.now)) }
+        ensures stop { IfErr result (IsGivenStop self.old.tokens.now) }
         ensures value { Gives (λ e. (expr_of e, input_of self.new)) result (input_of self.new) (format_string_rule (answers_by X.answer self.old.expander.now) self.old.depth (significant_of start.entry, input_of self.old)) }
     {
         let literal = self.format_start(start)?;
@@ -312,6 +340,8 @@ impl<'src, X: Expander> Parser<'_, 'src, X> {
         ensures same { OnOk result (IsSameRun self.old self.new) }
         ensures tokens { self.new.tokens ≡ self.old.tokens }
         ensures progress { OnOk result (self.old.next < self.new.next) }
+        ensures given { IfOk result (λ parts. AreGivenBehind (answers_by X.answer self.old.expander.now) (IsInTable self.old.tokens.now) (kind_of (lexeme_of start.entry.0)) parts.items) }
+        ensures stop { IfErr result (IsGivenStop self.old.tokens.now) }
         ensures value { Gives (λ parts. (format_tree (tok_of start.entry.0) parts.items, input_of self.new)) result (input_of self.new) (format_rest (answers_by X.answer self.old.expander.now) (tok_of start.entry.0) self.old.depth (input_of self.old)) }
     {
         let mut parts = Vec::new(self.alloc);
@@ -331,6 +361,8 @@ impl<'src, X: Expander> Parser<'_, 'src, X> {
         ensures same { OnOk result (IsSameRun self.old self.new) }
         ensures tokens { self.new.tokens ≡ self.old.tokens }
         ensures progress { OnOk result (self.old.next < self.new.next) }
+        ensures given { IfOk result (IsGivenExpression (answers_by X.answer self.old.expander.now) (IsInTable self.old.tokens.now)) }
+        ensures stop { IfErr result (IsGivenStop self.old.tokens.now) }
         ensures value { Gives (λ e. (expr_of e, input_of self.new)) result (input_of self.new) (reader.backtick_rule (answers_by X.answer self.old.expander.now) (read (answers_by X.answer self.old.expander.now)) self.old.depth (input_of self.old)) }
     {
         if let Some(entry) = self.accept(TokenKind::Backtick) {
@@ -346,6 +378,8 @@ impl<'src, X: Expander> Parser<'_, 'src, X> {
         ensures same { OnOk result (IsSameRun self.old self.new) }
         ensures tokens { self.new.tokens ≡ self.old.tokens }
         ensures progress { OnOk result (self.old.next < self.new.next) }
+        ensures given { IfOk result (IsGivenExpression (answers_by X.answer self.old.expander.now) (IsInTable self.old.tokens.now)) }
+        ensures stop { IfErr result (IsGivenStop self.old.tokens.now) }
         ensures value { Gives (λ e. (expr_of e, input_of self.new)) result (input_of self.new) (reader.assert_rule (answers_by X.answer self.old.expander.now) (read (answers_by X.answer self.old.expander.now)) self.old.depth (input_of self.old)) }
     {
         let Some((word, _)) = self.accept_word("assert") else {
@@ -380,6 +414,8 @@ impl<'src, X: Expander> Parser<'_, 'src, X> {
         ensures same { OnOk result (IsSameRun self.old self.new) }
         ensures tokens { self.new.tokens ≡ self.old.tokens }
         ensures progress { OnOk result (self.old.next < self.new.next) }
+        ensures given { IfOk result (IsGivenExpression (answers_by X.answer self.old.expander.now) (IsInTable self.old.tokens.now)) }
+        ensures stop { IfErr result (IsGivenStop self.old.tokens.now) }
         ensures value { Gives (λ e. (expr_of e, input_of self.new)) result (input_of self.new) (reader.name_rule (answers_by X.answer self.old.expander.now) (read (answers_by X.answer self.old.expander.now)) self.old.depth (input_of self.old)) }
     {
         let Some((token, _)) = self.accept(TokenKind::Identifier) else {
@@ -401,6 +437,8 @@ impl<'src, X: Expander> Parser<'_, 'src, X> {
         ensures same { OnOk result (IsSameRun self.old self.new) }
         ensures tokens { self.new.tokens ≡ self.old.tokens }
         ensures progress { OnOk result (self.old.next < self.new.next) }
+        ensures given { IfOk result (IsGivenExpression (answers_by X.answer self.old.expander.now) (IsInTable self.old.tokens.now)) }
+        ensures stop { IfErr result (IsGivenStop self.old.tokens.now) }
         ensures value { Gives (λ e. (expr_of e, input_of self.new)) result (input_of self.new) (reader.group_rule (answers_by X.answer self.old.expander.now) (read (answers_by X.answer self.old.expander.now)) self.old.depth (input_of self.old)) }
     {
         let Some(_opening) = self.accept(TokenKind::ParenL) else {
@@ -419,6 +457,8 @@ impl<'src, X: Expander> Parser<'_, 'src, X> {
         ensures same { OnOk result (IsSameRun self.old self.new) }
         ensures tokens { self.new.tokens ≡ self.old.tokens }
         ensures progress { OnOk result (self.old.next < self.new.next) }
+        ensures given { IfOk result (IsGivenExpression (answers_by X.answer self.old.expander.now) (IsInTable self.old.tokens.now)) }
+        ensures stop { IfErr result (IsGivenStop self.old.tokens.now) }
         ensures value { Gives (λ e. (expr_of e, input_of self.new)) result (input_of self.new) (reader.list_rule (answers_by X.answer self.old.expander.now) (read (answers_by X.answer self.old.expander.now)) self.old.depth (input_of self.old)) }
     {
         let Some((opener, _)) = self.accept(TokenKind::BracketL) else {
@@ -436,6 +476,8 @@ impl<'src, X: Expander> Parser<'_, 'src, X> {
         ensures same { OnOk result (IsSameRun self.old self.new) }
         ensures tokens { self.new.tokens ≡ self.old.tokens }
         ensures progress { OnOk result (self.old.next < self.new.next) }
+        ensures given { IfOk result (λ e. All (IsGivenExpression (answers_by X.answer self.old.expander.now) (IsInTable self.old.tokens.now)) e.items) }
+        ensures stop { IfErr result (IsGivenStop self.old.tokens.now) }
         ensures value { Gives (λ e. (exprs_of e.items, input_of self.new)) result (input_of self.new) (read (answers_by X.answer self.old.expander.now) (reader.Sequence closing self.old.depth (input_of self.old))) }
     {
         let mut elements = Vec::new(self.alloc);
@@ -461,6 +503,8 @@ impl<'src, X: Expander> Parser<'_, 'src, X> {
         ensures same { OnOk result (IsSameRun self.old self.new) }
         ensures tokens { self.new.tokens ≡ self.old.tokens }
         ensures progress { OnOk result (self.old.next < self.new.next) }
+        ensures given { IfOk result (λ x. IsGivenExpression (answers_by X.answer self.old.expander.now) (IsInTable self.old.tokens.now) x.0 × IsGivenPart (IsInTable self.old.tokens.now) (kind_of (lexeme_of start.entry.0)) (part_by x.2) x.1) }
+        ensures stop { IfErr result (IsGivenStop self.old.tokens.now) }
         ensures value { Gives (λ x. ((expr_of x.0, part_tok x.1, x.2), input_of self.new)) result (input_of self.new) (pair_rule (answers_by X.answer self.old.expander.now) (lexeme_of start.entry.0) self.old.depth (input_of self.old)) }
     {
         let expression = self.parse_expression_with_condition(false)?;
@@ -475,6 +519,8 @@ impl<'src, X: Expander> Parser<'_, 'src, X> {
         ensures same { OnOk result (IsSameRun self.old self.new) }
         ensures tokens { self.new.tokens ≡ self.old.tokens }
         ensures progress { OnOk result (self.old.next < self.new.next) }
+        ensures given { IfOk result (λ x. IsGivenExpression (answers_by X.answer self.old.expander.now) (IsInTable self.old.tokens.now) x.0) }
+        ensures stop { IfErr result (IsGivenStop self.old.tokens.now) }
         ensures value { Gives (λ x. ((expr_of x.0, x.1), input_of self.new)) result (input_of self.new) (element_rule (answers_by X.answer self.old.expander.now) closing self.old.depth (input_of self.old)) }
     {
         let element = self.parse_expression_with_condition(false)?;
@@ -494,6 +540,7 @@ impl<'src, X: Expander> Parser<'_, 'src, X> {
         ensures same_input { IfNone result (input_of self.new ≡ input_of self.old) }
         ensures stays { IfNone result (self.new.next ≡ self.old.next) }
         ensures progress { OnSome result (self.old.next < self.new.next) }
+        ensures among { IfSome result (λ x. IsInTable self.old.tokens.now x.1.0) }
     {
         if let Some(entry) = self.accept(TokenKind::BangEquals) {
             return Some((ConditionalOperator::Inequality, entry));
@@ -512,7 +559,8 @@ impl<'src, X: Expander> Parser<'_, 'src, X> {
 
     /// No `else` may stand behind a branch that ends in a conditional without one.
     fn expect_closed(&self, branch: &Expression<'src>) -> Result<(), Stop<'src>>
-        ensures { Gives (λ _. (expr_of branch.now, input_of self.now)) result (input_of self.now) (closed (ends_open (expr_of branch.now)) (expr_of branch.now) (input_of self.now)) }
+        ensures stop { IfErr result (IsGivenStop self.now.tokens.now) }
+        ensures value { Gives (λ _. (expr_of branch.now, input_of self.now)) result (input_of self.now) (closed (ends_open (expr_of branch.now)) (expr_of branch.now) (input_of self.now)) }
     {
         if ends_open(branch) {
             self.expect_no_else(branch)
@@ -524,7 +572,8 @@ impl<'src, X: Expander> Parser<'_, 'src, X> {
     /// The next token may not be `else`.
     #[tactic(auto, unfolding(justfile_model::specs::Reading::accept_word, justfile_model::specs::Reading::refused))]
     fn expect_no_else(&self, branch: &Expression<'src>) -> Result<(), Stop<'src>>
-        ensures { Gives (λ _. (expr_of branch.now, input_of self.now)) result (input_of self.now) (closed true (expr_of branch.now) (input_of self.now)) }
+        ensures stop { IfErr result (IsGivenStop self.now.tokens.now) }
+        ensures value { Gives (λ _. (expr_of branch.now, input_of self.now)) result (input_of self.now) (closed true (expr_of branch.now) (input_of self.now)) }
     {
         match self.peek() {
             Some(entry) => {
@@ -544,6 +593,8 @@ impl<'src, X: Expander> Parser<'_, 'src, X> {
         ensures same { OnOk result (IsSameRun self.old self.new) }
         ensures tokens { self.new.tokens ≡ self.old.tokens }
         ensures progress { OnOk result (self.old.next < self.new.next) }
+        ensures given { IfOk result (λ x. IsGivenPart (IsInTable self.old.tokens.now) (kind_of (lexeme_of start.entry.0)) (part_by x.1) x.0) }
+        ensures stop { IfErr result (IsGivenStop self.old.tokens.now) }
         ensures value { Gives (λ x. ((part_tok x.0, x.1), input_of self.new)) result (input_of self.new) (part_rule (answers_by X.answer self.old.expander.now) (lexeme_of start.entry.0) (input_of self.old)) }
     {
         if let Some(entry) = self.accept(TokenKind::FormatStringContinue) {
@@ -558,14 +609,16 @@ impl<'src, X: Expander> Parser<'_, 'src, X> {
 
 #[tactic(auto, using(crate::proofs::Rows::call_is))]
 fn call<'src>(name: Name<'src>, arguments: Vec<Expression<'src>>) -> Expression<'src>
-    ensures { expr_of result ≡ tree.Call (tok_of name.entry.token) (exprs_of arguments.entry.items) }
+    ensures is { expr_of result ≡ tree.Call (tok_of name.entry.token) (exprs_of arguments.entry.items) }
+    ensures given { (expander : Answers) (table : List (Token × Bool)) → IsInTable table name.entry.token → All (IsGivenExpression expander (IsInTable table)) arguments.entry.items → IsGivenExpression expander (IsInTable table) result }
 {
     Expression::Call { name, arguments }
 }
 
 #[tactic(auto, using(crate::proofs::Rows::list_is))]
 fn list<'src>(opener: Token<'src>, elements: Vec<Expression<'src>>) -> Expression<'src>
-    ensures { expr_of result ≡ tree.ListOf (tok_of opener.entry) (exprs_of elements.entry.items) }
+    ensures is { expr_of result ≡ tree.ListOf (tok_of opener.entry) (exprs_of elements.entry.items) }
+    ensures given { (expander : Answers) (table : List (Token × Bool)) → IsInTable table opener.entry → All (IsGivenExpression expander (IsInTable table)) elements.entry.items → IsGivenExpression expander (IsInTable table) result }
 {
     Expression::List { elements, opener }
 }
@@ -575,7 +628,8 @@ pub(crate) fn format_string<'src>(
     start: StringLiteral<'src>,
     expressions: Vec<(Expression<'src>, StringLiteral<'src>)>,
 ) -> Expression<'src>
-    ensures { expr_of result ≡ format_tree (tok_of start.entry.token) expressions.entry.items }
+    ensures is { expr_of result ≡ format_tree (tok_of start.entry.token) expressions.entry.items }
+    ensures given { (expander : Answers) (table : List (Token × Bool)) → IsGivenFormat expander (IsInTable table) start.entry expressions.entry.items → IsGivenExpression expander (IsInTable table) result }
 {
     Expression::FormatString { start, expressions }
 }

@@ -1,4 +1,4 @@
-ghost use Rattle.std.specs.Prelude.{◌≡◌, Bool, true, false, IfOk, IsTrue};
+ghost use Rattle.std.specs.Prelude.{◌≡◌, Bool, true, false, IfErr, IfOk, IsTrue};
 ghost use Rattle.justfile_base.specs.StringKind.{kind_of};
 ghost use Rattle.justfile_base.specs.Token.{lexeme_of};
 ghost use Rattle.justfile_base.specs.declared.format_string_part.FormatStringPart.TheVariants as parts;
@@ -10,8 +10,9 @@ ghost use Rattle.justfile_model.specs.Literals.{cooked_text};
 ghost use Rattle.justfile_model.specs.Tok.{tok_of};
 ghost use Rattle.justfile_model.specs.Tree as tree;
 ghost use Rattle.justfile_parse.specs.Fault.{IsLiteralFault};
+ghost use Rattle.justfile_parse.specs.Given.{IsGivenExpression, IsGivenPart, IsInTable};
 ghost use Rattle.justfile_parse.specs.Literal.{is_sound};
-ghost use Rattle.justfile_parse.specs.Reading.{Gives, TextStops, with_part};
+ghost use Rattle.justfile_parse.specs.Reading.{Gives, IsGivenStop, TextStops, with_part};
 ghost use Rattle.justfile_parse.specs.Significant.{significant_of};
 ghost use Rattle.justfile_tree.specs.Expression.{expr_of, part_tok};
 
@@ -26,10 +27,13 @@ impl<'src, X: Expander> Parser<'_, 'src, X> {
     ghost use Rattle.justfile_parse.specs.View.{input_of};
 
     /// The literal that a string is.
-    #[tactic(auto, using(crate::proofs::Cooked::quoted_string, crate::proofs::Cooked::string_given, crate::proofs::Cooked::text_refused, crate::proofs::Cooked::is_literal))]
+    #[tactic(auto, using(crate::proofs::Cooked::quoted_string, crate::proofs::Cooked::string_is_given, crate::proofs::Cooked::string_given, crate::proofs::Cooked::text_stop_given, crate::proofs::Cooked::text_refused, crate::proofs::Cooked::is_literal))]
     pub(crate) fn string(&self, entry: Entry<'src>, expand: bool) -> Result<Expression<'src>, Stop<'src>>
         requires kind { entry.0.kind ≡ kinds.StringToken }
         requires sound { IsTrue (is_sound entry) }
+        requires among { IsInTable self.now.tokens.now entry.0 }
+        ensures given { IfOk result (IsGivenExpression (answers_by X.answer self.now.expander.now) (IsInTable self.now.tokens.now)) }
+        ensures stop { IfErr result (IsGivenStop self.now.tokens.now) }
         ensures value { Gives (λ e. (expr_of e, input_of self.now)) result (input_of self.now) (with_text (tree.StringLiteral expand (tok_of entry.entry.0)) (significant_of entry.entry, input_of self.now) (cooked_text (answers_by X.answer self.now.expander.now) (string_of expand (lexeme_of entry.entry.0)))) }
     {
         match string_literal(self.alloc, entry.0, expand, self.expander) {
@@ -39,10 +43,13 @@ impl<'src, X: Expander> Parser<'_, 'src, X> {
     }
 
     /// The command that a backtick is.
-    #[tactic(auto, using(crate::proofs::Cooked::quoted_command, crate::proofs::Cooked::command_given, crate::proofs::Cooked::command_refused, crate::proofs::Cooked::command_is_literal))]
+    #[tactic(auto, using(crate::proofs::Cooked::quoted_command, crate::proofs::Cooked::command_given, crate::proofs::Cooked::text_stop_given, crate::proofs::Cooked::command_refused, crate::proofs::Cooked::command_is_literal))]
     pub(crate) fn backtick(&self, entry: Entry<'src>) -> Result<Expression<'src>, Stop<'src>>
         requires kind { entry.0.kind ≡ kinds.Backtick }
         requires sound { IsTrue (is_sound entry) }
+        requires among { IsInTable self.now.tokens.now entry.0 }
+        ensures given { IfOk result (IsGivenExpression (answers_by X.answer self.now.expander.now) (IsInTable self.now.tokens.now)) }
+        ensures stop { IfErr result (IsGivenStop self.now.tokens.now) }
         ensures value { Gives (λ e. (expr_of e, input_of self.now)) result (input_of self.now) (with_text (tree.Backtick (tok_of entry.entry.0)) (significant_of entry.entry, input_of self.now) (cooked_text (answers_by X.answer self.now.expander.now) (literal.Command (lexeme_of entry.entry.0)))) }
     {
         match command(self.alloc, entry.0) {
@@ -55,10 +62,13 @@ impl<'src, X: Expander> Parser<'_, 'src, X> {
     }
 
     /// A format string with nothing to fill in.
-    #[tactic(auto, using(crate::proofs::Cooked::framed_single, crate::proofs::Cooked::single_given, crate::proofs::Cooked::text_refused, crate::proofs::Cooked::is_literal))]
+    #[tactic(auto, using(crate::proofs::Cooked::framed_single, crate::proofs::Cooked::part_is_given, crate::proofs::Cooked::single_given, crate::proofs::Cooked::text_stop_given, crate::proofs::Cooked::text_refused, crate::proofs::Cooked::is_literal))]
     pub(crate) fn single(&self, entry: Entry<'src>) -> Result<Expression<'src>, Stop<'src>>
         requires kind { entry.0.kind ≡ kinds.StringToken }
         requires sound { IsTrue (is_sound entry) }
+        requires among { IsInTable self.now.tokens.now entry.0 }
+        ensures given { IfOk result (IsGivenExpression (answers_by X.answer self.now.expander.now) (IsInTable self.now.tokens.now)) }
+        ensures stop { IfErr result (IsGivenStop self.now.tokens.now) }
         ensures value { Gives (λ e. (expr_of e, input_of self.now)) result (input_of self.now) (with_text (tree.FormatLiteral (tok_of entry.entry.0)) (significant_of entry.entry, input_of self.now) (cooked_text (answers_by X.answer self.now.expander.now) (literal.Single (lexeme_of entry.entry.0)))) }
     {
         match format_part(self.alloc, entry.0, kind_of(entry), FormatStringPart::Single) {
@@ -68,11 +78,14 @@ impl<'src, X: Expander> Parser<'_, 'src, X> {
     }
 
     /// The part of a format string that it begins with.
-    #[tactic(auto, using(crate::proofs::Cooked::framed_start, crate::proofs::Cooked::start_given, crate::proofs::Cooked::text_refused, crate::proofs::Cooked::is_literal))]
+    #[tactic(auto, using(crate::proofs::Cooked::framed_start, crate::proofs::Cooked::part_is_given, crate::proofs::Cooked::start_given, crate::proofs::Cooked::text_stop_given, crate::proofs::Cooked::text_refused, crate::proofs::Cooked::is_literal))]
     pub(crate) fn format_start(&self, entry: Entry<'src>) -> Result<StringLiteral<'src>, Stop<'src>>
         requires kind { entry.0.kind ≡ kinds.FormatStringStart }
         requires sound { IsTrue (is_sound entry) }
+        requires among { IsInTable self.now.tokens.now entry.0 }
         ensures token { IfOk result (λ l. l.token ≡ entry.entry.0) }
+        ensures given { IfOk result (IsGivenPart (IsInTable self.now.tokens.now) (kind_of (lexeme_of entry.entry.0)) parts.Start) }
+        ensures stop { IfErr result (IsGivenStop self.now.tokens.now) }
         ensures value { Gives (λ l. (significant_of entry.entry, input_of self.now)) result (input_of self.now) (with_text (significant_of entry.entry) (significant_of entry.entry, input_of self.now) (cooked_text (answers_by X.answer self.now.expander.now) (literal.Start (lexeme_of entry.entry.0)))) }
     {
         match format_part(self.alloc, entry.0, kind_of(entry), FormatStringPart::Start) {
@@ -82,7 +95,7 @@ impl<'src, X: Expander> Parser<'_, 'src, X> {
     }
 
     /// A part between two expressions of a format string that starts so.
-    #[tactic(auto, using(crate::proofs::Cooked::framed_continue, crate::proofs::Cooked::continue_given, crate::proofs::Cooked::text_refused, crate::proofs::Cooked::is_literal))]
+    #[tactic(auto, using(crate::proofs::Cooked::framed_continue, crate::proofs::Cooked::part_is_given, crate::proofs::Cooked::continue_given, crate::proofs::Cooked::text_stop_given, crate::proofs::Cooked::text_refused, crate::proofs::Cooked::is_literal))]
     pub(crate) fn format_continue(
         &self,
         start: Entry<'src>,
@@ -90,6 +103,9 @@ impl<'src, X: Expander> Parser<'_, 'src, X> {
     ) -> Result<StringLiteral<'src>, Stop<'src>>
         requires kind { entry.0.kind ≡ kinds.FormatStringContinue }
         requires sound { IsTrue (is_sound entry) }
+        requires among { IsInTable self.now.tokens.now entry.0 }
+        ensures given { IfOk result (IsGivenPart (IsInTable self.now.tokens.now) (kind_of (lexeme_of start.entry.0)) parts.Continue) }
+        ensures stop { IfErr result (IsGivenStop self.now.tokens.now) }
         ensures value { Gives (λ l. ((part_tok l, false), input_of self.now)) result (input_of self.now) (with_part (tok_of entry.entry.0) false (significant_of entry.entry, input_of self.now) (cooked_text (answers_by X.answer self.now.expander.now) (literal.Continue (lexeme_of start.entry.0) (lexeme_of entry.entry.0)))) }
     {
         match format_part(self.alloc, entry.0, kind_of(start), FormatStringPart::Continue) {
@@ -99,12 +115,15 @@ impl<'src, X: Expander> Parser<'_, 'src, X> {
     }
 
     /// The part behind the last expression of a format string that starts so.
-    #[tactic(auto, using(crate::proofs::Cooked::end_given, crate::proofs::Cooked::text_refused, crate::proofs::Cooked::is_literal))]
+    #[tactic(auto, using(crate::proofs::Cooked::part_is_given, crate::proofs::Cooked::end_given, crate::proofs::Cooked::text_stop_given, crate::proofs::Cooked::text_refused, crate::proofs::Cooked::is_literal))]
     pub(crate) fn format_end(
         &self,
         start: Entry<'src>,
         entry: Entry<'src>,
     ) -> Result<StringLiteral<'src>, Stop<'src>>
+        requires among { IsInTable self.now.tokens.now entry.0 }
+        ensures given { IfOk result (IsGivenPart (IsInTable self.now.tokens.now) (kind_of (lexeme_of start.entry.0)) parts.End) }
+        ensures stop { IfErr result (IsGivenStop self.now.tokens.now) }
         ensures value { Gives (λ l. ((part_tok l, true), input_of self.now)) result (input_of self.now) (with_part (tok_of entry.entry.0) true (significant_of entry.entry, input_of self.now) (cooked_text (answers_by X.answer self.now.expander.now) (literal.End (lexeme_of start.entry.0) (lexeme_of entry.entry.0)))) }
     {
         let kind = kind_of(start);

@@ -1,16 +1,20 @@
-use Rattle.std.proofs.Common.{rules, ◌≡◌, ◌∙◌, Bool, true, false, List, None, Ok, sym, ap, arith}
+use Rattle.std.proofs.Common.{rules, ◌≡◌, ◌∙◌, Bool, true, false, List, None, Ok, sym, ap, subst, arith}
 use Rattle.std.proofs.lemmas.Grind.{common_steps}
+use Rattle.justfile_base.specs.StringKind.{kind_of}
 use Rattle.justfile_base.specs.Token.{lexeme_of}
 use Rattle.justfile_base.specs.declared.string_literal.StringLiteral.{StringLiteral}
 use Rattle.justfile_cook.specs.Literal.{answers_by}
-use Rattle.justfile_model.specs.ExpressionReader.{ReadExpr}
+use Rattle.justfile_model.specs.ExpressionReader.{ReadExpr, Sequence, read}
 use Rattle.justfile_model.specs.Reading.{Input, Read, accept}
 use Rattle.justfile_model.specs.Tok.{Tok, tok_of}
 use Rattle.justfile_model.specs.Tree.{Expr, Exprs}
+use Rattle.justfile_parse.specs.Given.{IsInTable}
 use Rattle.justfile_parse.specs.Reading.{element_rule, pair_rule}
 use Rattle.justfile_parse.specs.View.{input_of}
 use Rattle.justfile_parse.proofs.Elements.{closes_last}
+use Rattle.justfile_parse.proofs.Elements as elements
 use Rattle.justfile_parse.proofs.Parts as parts
+use Rattle.justfile_parse.proofs.Runs.{all_given, element_given, end_given, format_given, part_given, same_run}
 use Rattle.justfile_tree.specs.Expression.{expr_of, exprs_of, format_tree, part_tok}
 use Rattle.justfile_tree.specs.declared.expression.Expression.{Expression}
 use Rattle.justfile_parse.proofs.parser.Parser.+expression.Goals as goal
@@ -39,6 +43,24 @@ parse_parts-returns-then-is_last-clause-value g t c =
     let P : List (Expression × StringLiteral) → ReadExpr = λ ps. Ok (format_tree start ps, rest) in
     sym c.parts.invariant.value ∙ parts.ends A start d s c.parts.parts.items e l rest pair ∙ ap P (sym c.in_ok-push.ensures.items)
 
+pub parse_sequence-elements-preserved : goal.parse_sequence-elements-preserved
+parse_sequence-elements-preserved g t c =
+    let A = answers_by g.X.Expander.answer c.args.self.now.expander.now in
+    let d = c.args.self.now.depth in
+    let s = input_of c.elements.self in
+    let rest = input_of c.parse_element.new.self in
+    let e = c.in_ok-element.element in
+    let before = same_run c.elements.invariant.same c.in_default.ensures.same in
+    let none : accept c.args.closing s ≡ None = first_of (grind (arith, common_steps), search rules) in
+    let elem : ◌≡◌ {A = Read (Expr Tok Tok × Bool)} (element_rule A c.args.closing d s) (Ok ((expr_of e, false), rest)) = first_of (grind (arith, common_steps), search rules) in
+    let P : List Expression → Read (Exprs Tok Tok) = λ es. elements.with_front es (read A (Sequence c.args.closing d rest)) in
+    record {
+      same = same_run before c.in_ok-element.ensures.same;
+      ahead = omega (arith, c.elements.invariant.ahead, c.in_default.ensures.stays, c.in_ok-element.ensures.progress);
+      given = element_given (λ x. answers_by g.X.Expander.answer x.now) (λ x. x.now) before.expander before.tokens c.elements.elements.items c.push.new.self.items e c.in_ok-push.ensures.items c.elements.invariant.given c.in_ok-element.ensures.given;
+      value = ap P c.in_ok-push.ensures.items ∙ elements.goes_on A c.args.closing d s c.elements.elements.items e rest none elem ∙ c.elements.invariant.value;
+    }
+
 pub parse_parts-parts-preserved : goal.parse_parts-parts-preserved
 parse_parts-parts-preserved g t c =
     let A = answers_by g.X.Expander.answer c.args.self.now.expander.now in
@@ -49,17 +71,38 @@ parse_parts-parts-preserved g t c =
     let e = c.in_ok-expression.expression in
     let l = c.in_ok-expression.literal in
     let before = c.parts.invariant.same in
-    let now = c.in_ok-expression.ensures.same in
     let pair : ◌≡◌ {A = Read (Expr Tok Tok × Tok × Bool)} (pair_rule A (lexeme_of c.args.start.0) d s) (Ok ((expr_of e, part_tok l, false), rest)) = first_of (grind (arith, common_steps), search rules) in
     let P : List (Expression × StringLiteral) → ReadExpr = λ ps. parts.with_front start ps (parts.pair A (lexeme_of c.args.start.0) d rest) in
     record {
-      same = record {
-        tokens = now.tokens ∙ before.tokens;
-        expander = now.expander ∙ before.expander;
-        file_depth = now.file_depth ∙ before.file_depth;
-        import_offsets = now.import_offsets ∙ before.import_offsets;
-        depth = now.depth ∙ before.depth;
-      };
+      same = same_run before c.in_ok-expression.ensures.same;
       ahead = omega (arith, c.parts.invariant.ahead, c.in_ok-expression.ensures.progress);
+      given = part_given (λ x. answers_by g.X.Expander.answer x.now) (λ x. x.now) before.expander before.tokens (kind_of (lexeme_of c.args.start.0)) c.parts.parts.items c.push.new.self.items e l c.in_ok-push.ensures.items c.in_ok-expression.is_last c.parts.invariant.given c.in_ok-expression.ensures.given (search rules);
       value = ap P c.in_ok-push.ensures.items ∙ parts.goes_on A start d s c.parts.parts.items e l rest pair ∙ c.parts.invariant.value;
     }
+
+pub parse_parts-returns-then-is_last-clause-given : goal.parse_parts-returns-then-is_last-clause-given
+parse_parts-returns-then-is_last-clause-given g t c =
+    let before = c.parts.invariant.same in
+    end_given (λ x. answers_by g.X.Expander.answer x.now) (λ x. x.now) before.expander before.tokens (kind_of (lexeme_of c.args.start.0)) c.parts.parts.items c.push.new.self.items c.in_ok-expression.expression c.in_ok-expression.literal c.in_ok-push.ensures.items c.in_ok-expression.is_last c.parts.invariant.given
+    c.in_ok-expression.ensures.given (search rules)
+
+pub parse_format_string-returns-clause-given : goal.parse_format_string-returns-clause-given
+parse_format_string-returns-clause-given g t c =
+    let E = answers_by g.X.Expander.answer c.args.self.now.expander.now in
+    let table = c.args.self.now.tokens.now in
+    c.format_string.ensures.given E table (format_given E (IsInTable table) c.in_ok-literal.literal c.args.start.0 c.in_ok-expressions.expressions.items c.in_ok-literal.ensures.token c.in_ok-literal.ensures.given c.in_ok-expressions.ensures.given)
+
+pub parse_list-returns-clause-given : goal.parse_list-returns-clause-given
+parse_list-returns-clause-given g t c =
+    let E = answers_by g.X.Expander.answer c.args.self.now.expander.now in
+    let table = c.args.self.now.tokens.now in
+    let before = same_run c.in-Some.ensures.same c.in_ok-note.ensures.same in
+    c.list.ensures.given E table c.in-Some.ensures.among (all_given (λ x. answers_by g.X.Expander.answer x.now) (λ x. x.now) before.expander before.tokens c.in_ok-elements.elements.items c.in_ok-elements.ensures.given)
+
+pub parse_name-returns-clause-given : goal.parse_name-returns-clause-given
+parse_name-returns-clause-given g t c =
+    let E = answers_by g.X.Expander.answer c.args.self.now.expander.now in
+    let table = c.args.self.now.tokens.now in
+    let before = same_run c.in-Some.ensures.same c.in-Some-accept.ensures.same in
+    c.call.ensures.given E table (subst (IsInTable table) (sym c.from_identifier-name.ensures) c.in-Some.ensures.among)
+    (all_given (λ x. answers_by g.X.Expander.answer x.now) (λ x. x.now) before.expander before.tokens c.in_ok-arguments.arguments.items c.in_ok-arguments.ensures.given)

@@ -1,8 +1,10 @@
-use Rattle.std.proofs.Common.{◌≡◌, ◌≤◌, ◌*◌, ◌+◌, ◌-◌, length}
+use Rattle.std.proofs.Common.{◌≡◌, ◌≤◌, ◌*◌, ◌+◌, ◌-◌, length, All}
 use Rattle.justfile_cook.specs.Literal.{answers_by}
+use Rattle.justfile_base.specs.StringKind.{kind_of}
 use Rattle.justfile_base.specs.Token.{lexeme_of}
 use Rattle.justfile_model.specs.ExpressionReader.{read, Sequence}
 use Rattle.justfile_model.specs.Tok.{tok_of}
+use Rattle.justfile_parse.specs.Given.{IsGivenExpression, IsInTable}
 use Rattle.justfile_parse.specs.Reading.{format_rest}
 use Rattle.justfile_parse.specs.View.{IsSameRun, input_of}
 use Rattle.justfile_parse.proofs.Elements as elements
@@ -70,6 +72,7 @@ abbrev pub invariant-parse_sequence-elements : goal.invariant-parse_sequence-ele
 invariant-parse_sequence-elements g l = record {
   same : IsSameRun l.fn.self l.self;
   ahead : l.fn.self.next ≤ l.self.next;
+  given : All (IsGivenExpression (answers_by g.X.Expander.answer l.fn.self.expander.now) (IsInTable l.fn.self.tokens.now)) l.elements.items;
   value : elements.with_front l.elements.items (read (answers_by g.X.Expander.answer l.fn.self.expander.now) (Sequence l.closing l.fn.self.depth (input_of l.self))) ≡ read (answers_by g.X.Expander.answer l.fn.self.expander.now) (Sequence l.closing l.fn.self.depth (input_of l.fn.self));
 }
 
@@ -80,6 +83,7 @@ abbrev pub invariant-parse_parts-parts : goal.invariant-parse_parts-parts
 invariant-parse_parts-parts g l = record {
   same : IsSameRun l.fn.self l.self;
   ahead : l.fn.self.next ≤ l.self.next;
+  given : All (parts.IsGivenPair (answers_by g.X.Expander.answer l.fn.self.expander.now) (IsInTable l.fn.self.tokens.now) (kind_of (lexeme_of l.start.0))) l.parts.items;
   value : parts.with_front (tok_of l.start.0) l.parts.items (parts.pair (answers_by g.X.Expander.answer l.fn.self.expander.now) (lexeme_of l.start.0) l.fn.self.depth (input_of l.self)) ≡ format_rest (answers_by g.X.Expander.answer l.fn.self.expander.now) (tok_of l.start.0) l.fn.self.depth (input_of l.fn.self);
 }
 
