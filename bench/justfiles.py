@@ -1,13 +1,26 @@
 #!/usr/bin/env python3
 """Writes justfiles for the benchmark of the formatter: justfiles.py FOLDER SIZE..
 
-For each size in bytes, FOLDER gets one file for each kind of justfile, named KIND.SIZE, of that size
-within a line's length. Each is formatted without a fault.
+For each size in bytes, FOLDER gets one file for each kind of justfile, named KIND.SIZE, of at most
+that size: a kind repeats its lines as long as they fit. Each is formatted without a fault.
 """
 import os
 import sys
 
+# How many expressions are open at once, of the 256 that may be.
 DEPTH = 250
+
+# An expression of short tokens, nearly one for each byte, with most of the operators.
+SHORT = "(b+c)/[d,!e]++f(g,h)==i&&j||k"
+
+# Expressions that are nested to the depth.
+NESTED = (
+    "(" * DEPTH + "b" + ")" * DEPTH,
+    "[" * DEPTH + "b" + "]" * DEPTH,
+    "f(" * DEPTH + "b" + ")" * DEPTH,
+    "b||" * DEPTH + "b",
+    "if a==b{" * DEPTH + "c" + "}else{d}" * DEPTH,
+)
 
 
 def repeated(piece, size):
@@ -15,26 +28,44 @@ def repeated(piece, size):
     return piece * (size // len(piece))
 
 
+def recipes(line, size):
+    """Four recipes, each a quarter of the text and with this line again and again as its body."""
+    header = "build:\n"
+    return (header + repeated(line, size // 4 - len(header) - 1) + "\n") * 4
+
+
 def dense(size):
     """Assignments of short tokens."""
-    return repeated("a:=(b+c)/[d,!e]++f(g,h)==i&&j||k\n", size)
+    return repeated("a:=" + SHORT + "\n", size)
+
+
+def dense_bodies(size):
+    """Bodies of interpolations of short tokens, with a byte of text between them."""
+    return recipes("  {{a}}-{{" + SHORT + "}}\n", size)
 
 
 def bodies(size):
-    """Recipes of lines of text, each with an interpolation."""
-    line = "  echo some text that the shell reads, and {{a+b}} in it\n"
-    return repeated("build:\n" + line * 40 + "\n", size)
+    """Bodies of lines of text, each with an interpolation."""
+    return recipes("  echo some text that the shell reads, and {{a+b}} in it\n", size)
 
 
 def deep(size):
-    """Expressions that are nested as deep as they may be."""
-    groups = "a:=" + "(" * DEPTH + "b" + ")" * DEPTH + "\n"
-    lists = "a:=" + "[" * DEPTH + "b" + "]" * DEPTH + "\n"
-    ors = "a:=" + "b||" * DEPTH + "b\n"
-    return repeated(groups + lists + ors, size)
+    """Assignments of nested expressions."""
+    return repeated("".join("a:=" + value + "\n" for value in NESTED), size)
 
 
-KINDS = {"dense": dense, "bodies": bodies, "deep": deep}
+def deep_bodies(size):
+    """Bodies of interpolations of nested expressions."""
+    return recipes("".join("  {{" + value + "}}\n" for value in NESTED), size)
+
+
+KINDS = {
+    "dense": dense,
+    "dense_bodies": dense_bodies,
+    "bodies": bodies,
+    "deep": deep,
+    "deep_bodies": deep_bodies,
+}
 
 
 def main():

@@ -1,17 +1,34 @@
 #!/bin/sh
-# Times the lexer: builds the program lex_count, writes inputs of three sizes, and prints the least
-# time of five runs of the program on each. Needs rt and python3; all that it writes lies in
-# bench/out.
+# Times the lexer and the formatter: builds the programs lex_count and justfmt, writes inputs of
+# three sizes, and prints two tables, of lexing alone and of formatting beside lexing. Each time is
+# the least of five runs. Needs rt and python3; all that it writes lies in bench/out and in the
+# crates' folders out.
 set -eu
 top=$(cd "$(dirname "$0")/.." && pwd)
 out="$top/bench/out"
-program="$top/crates/lex_count/out/lex_count"
+sizes="100000 1000000 10000000"
+
+# Proves and builds a program.
+build() {
+    if ! (cd "$top/crates/$1" && rt run) >"$out/$1.log" 2>&1 </dev/null; then
+        cat "$out/$1.log"
+        exit 1
+    fi
+}
 
 rm -rf "$out"
 mkdir "$out"
-if ! (cd "$top/crates/lex_count" && rt run) >"$out/build.log" 2>&1 </dev/null; then
-    cat "$out/build.log"
-    exit 1
-fi
-python3 "$top/bench/inputs.py" "$out/inputs" 100000 1000000 10000000
-python3 "$top/bench/table.py" "$program" "$out/inputs"
+build lex_count
+build justfmt
+lexer="$top/crates/lex_count/out/lex_count"
+formatter="$top/crates/justfmt/out/justfmt"
+
+python3 "$top/bench/inputs.py" "$out/inputs" $sizes
+python3 "$top/bench/justfiles.py" "$out/justfiles" $sizes
+echo "Lexing"
+echo
+python3 "$top/bench/table.py" "$lexer" "$out/inputs"
+echo
+echo "Formatting"
+echo
+python3 "$top/bench/ratio.py" "$lexer" "$formatter" "$out/justfiles"

@@ -44,9 +44,11 @@ block_back : (ind name : List ℕ) (l : Row) (ls : List Row) (glued : Bool) (on 
     → (ns : Shown) × Block lexeme nothing nothing Limited (tree.Recipe name (l ∷ ls)) ns (significant glued (item_marks (tree.Recipe name (l ∷ ls)) (newline ∷ body_marks ind (l ∷ ls) on))) (significant true on)
 block_back ind name (tree.Line n fs) ls glued on h =
     let body : List Row = tree.Line n fs ∷ ls in
-    let read = body_back ind n fs ls on h.good in
-    (read.0, subst (λ x. Block lexeme nothing nothing Limited (tree.Recipe name x) read.0 (significant glued (item_marks (tree.Recipe name body) (newline ∷ body_marks ind body on))) (significant true on)) h.ended
-    (g.recipe {lines = body} refl refl (g.at_once refl refl) read.1 (subst NotEmpty (sym h.ended) tt)))
+    let read = body_back ind n fs ls on h.good in (
+      read.0,
+      subst (λ x. Block lexeme nothing nothing Limited (tree.Recipe name x) read.0 (significant glued (item_marks (tree.Recipe name body) (newline ∷ body_marks ind body on))) (significant true on)) h.ended
+          (g.recipe {lines = body} refl refl (g.at_once refl refl) read.1 (subst NotEmpty (sym h.ended) tt)),
+    )
 
 module _ (ind : List ℕ) where
   -- behind the value of an assignment nothing goes on with it

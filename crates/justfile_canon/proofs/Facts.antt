@@ -210,7 +210,7 @@ module _ (m : Mode) (rest : List ℕ) where
       let braces : is_interpolation_start (drop (raw_len (raw_texts.Literal k true) behind_front) behind_front) ≡ true = sym (ap (λ b. is_interpolation_start (drop (raw_len (raw_texts.Literal k b) behind_front) behind_front)) formats) ∙ start in
       let len' : delimiter_len k + raw_len (raw_texts.Literal k true) behind_front + 2 ≡ length l = sym (ap (λ b. delimiter_len k + raw_len (raw_texts.Literal k b) behind_front + 2) formats) ∙ len in
       let part = part_cut k false (delimiter_of k) behind_front _ (braces_front _ braces) l behind (sym (delimiter_front k rest opened) ∙ split)
-          (ap (λ n. n + raw_len (raw_texts.Literal k true) behind_front + 2) (sym (delimiter_length k)) ∙ len') in
+      (ap (λ n. n + raw_len (raw_texts.Literal k true) behind_front + 2) (sym (delimiter_length k)) ∙ len') in
       let same : kind_of l ≡ k = ap kind_of (sym (append-nil l)) ∙ start_opens k l [] behind part ∙ ap kind_of (sym split) ∙ is_kind in
       record {
         part = subst (λ k. IsPart k (delimiter_of k) false l) (sym same) part;
@@ -225,8 +225,8 @@ module _ (m : Mode) (rest : List ℕ) where
       let format : Bool = m.behind_f && not (is_backtick k.delimiter) in
       part_finds k format (delimiter_len k) kinds.FormatStringStart (token_kind_of k.delimiter)
       (λ start l behind split len.
-          let parts = and_parts format _ start in
-          start_fact k format refl (delimiter_there rest e) (no_backtick (is_backtick k.delimiter) (and_parts m.behind_f _ parts.0).1) parts.0 parts.1 l behind split len)
+      let parts = and_parts format _ start in
+      start_fact k format refl (delimiter_there rest e) (no_backtick (is_backtick k.delimiter) (and_parts m.behind_f _ parts.0).1) parts.0 parts.1 l behind split len)
       (λ unfinished no_start l behind split len. whole k.delimiter k.indented l behind (literal_fact k format rest refl (delimiter_there rest e) unfinished no_start l behind split len))
     where
       no_backtick : (b : Bool) → not b ≡ true → b ≡ false
@@ -264,8 +264,8 @@ module _ (m : Mode) (rest : List ℕ) where
   brace_finds (Some k) o same =
       if_finds (is_interpolation_end rest)
       (λ closed. part_finds k true 2 kinds.FormatStringContinue kinds.FormatStringEnd
-          (λ start l behind split len. subst (λ f. IsPartOfOpen f false l) same (later_fact k closed start l behind split len))
-          (λ unfinished no_start l behind split len. subst (λ f. IsPartOfOpen f true l) same (last_fact k closed unfinished no_start l behind split len)))
+      (λ start l behind split len. subst (λ f. IsPartOfOpen f false l) same (later_fact k closed start l behind split len))
+      (λ unfinished no_start l behind split len. subst (λ f. IsPartOfOpen f true l) same (last_fact k closed unfinished no_start l behind split len)))
       (λ _. close_finds o Brace kinds.BraceR (λ l i. tt))
 
   closing_finds : (b : ℕ) → Finds m rest (closing (head_of m.openers) b rest)

@@ -105,7 +105,7 @@ module _ (expander : Answers) (current : VersionNumbers) where
       let found = file_lifts expander current (significant_tokens (back_tokens s indentation)) s file.0 (record { derives = file.1; cooked = h.file.cooked; cooks = cooked }) in
       let same : map (over_literal lexeme) (literals found.0) ≡ literals (shape_of t) = sym (lexemes found.0) ∙ ap literals found.3 ∙ normal_literals (shape_of t) in
       let noted : map (over_noted nothing) found.1 ≡ map (over_noted nothing) fs =
-          found.4 ∙ of_file Limited file.1 ∙ normal_features (shape_of t) ∙ sym (of_file Limited (file_forgets expander current (significant_tokens h.tokens) t fs h.file).derives) in
+      found.4 ∙ of_file Limited file.1 ∙ normal_features (shape_of t) ∙ sym (of_file Limited (file_forgets expander current (significant_tokens h.tokens) t fs h.file).derives) in
       record {
         tree = found.0;
         found = found.1;

@@ -1,5 +1,5 @@
 -- The texts of literals, and where they are cut out.
-use Rattle.std.proofs.Common.{◌≡◌, ℕ, ◌+◌, ◌-◌, ◌<◌, ◌≤◌, Bool, true, if◌then◌else◌, IsTrue, List, length, slice_index, Ok, IsUtf8, sym, ap, ◌∙◌, subst, arith}
+use Rattle.std.proofs.Common.{◌≡◌, ℕ, ◌+◌, ◌-◌, ◌<◌, ◌≤◌, Bool, true, if◌then◌else◌, IsTrue, List, length, slice_index, Ok, Some, option_map, IsUtf8, sym, ap, ◌∙◌, subst, arith}
 use Rattle.std.specs.Str.{IsCharBoundary}
 use Rattle.std.proofs.lemmas.Str.{IsCharBoundary-after_ascii}
 use Rattle.std.proofs.lemmas.Bool.Decides.{nat_tests}
@@ -11,7 +11,10 @@ use Rattle.justfile_base.specs.StringKind.{escapes}
 use Rattle.justfile_model.specs.Cook.{Cooks, IsCookFault}
 use Rattle.justfile_model.specs.FirstPiece as pieces
 use Rattle.justfile_model.specs.Literals.{Escape, by_escapes, escaped}
-use Rattle.justfile_cook.specs.Literal.{IsTextFault, is_framed}
+use Rattle.justfile_cook.specs.Literal.{IsTextFault, is_framed, literal_fault_of}
+use Rattle.justfile_base.specs.declared.compile_error_kind.CompileErrorKind.{CompileErrorKind}
+use Rattle.justfile_base.specs.declared.compile_error_kind.CompileErrorKind.TheVariants as errors
+use Rattle.justfile_model.specs.EscapeFault.{EscapeFault, escape_fault_of}
 use Rattle.justfile_cook.proofs.Texts.{cooked_complete, fault_complete}
 
 -- so many bytes at the two ends leave a text, with a byte of ASCII on either side of it
@@ -40,11 +43,17 @@ string_is kind raw text e same = ap (escaped kind) (sym same) ∙ by_pieces kind
 pub cooked_string : (kind : StringKind) (raw text cooked : List ℕ) → IsUtf8 text → escapes kind.delimiter ≡ true → text ≡ raw → Cooks text cooked → escaped kind raw ≡ Ok cooked
 cooked_string kind raw text cooked u e same c = string_is kind raw text e same ∙ ap by_escapes (cooked_complete text cooked u c)
 
+-- an error of an escape is that of a literal
+escape_says : (kind : CompileErrorKind) (fault : EscapeFault) → escape_fault_of kind ≡ Some fault → literal_fault_of kind ≡ Some (Escape fault)
+escape_says (errors.ShellExpansion err) fault h = cc
+escape_says errors.BacktickShebang fault h = cc
+escape_says _ fault h = ap (option_map Escape) h
+
 pub refused_string : (kind : StringKind) (raw text : List ℕ) (token : Token) (fault : Fault) → IsUtf8 text → escapes kind.delimiter ≡ true → text ≡ raw → IsCookFault text token fault → IsTextFault (escaped kind raw) token fault
 refused_string kind raw text token (Compile error) u e same c = record {
   fault = Escape c.fault;
   text_is = string_is kind raw text e same ∙ ap by_escapes (fault_complete text c.fault u c.refused);
-  kind_is = c.kind_is;
+  kind_is = escape_says error.kind c.fault c.kind_is;
   token_is = c.token_is;
 }
 refused_string kind raw text token Memory u e same c = tt

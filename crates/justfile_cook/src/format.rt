@@ -1,7 +1,7 @@
 ghost use Rattle.std.specs.Prelude.{◌≡◌, IfErr, IfOk, IsTrue, Ok, string_bytes};
 ghost use Rattle.justfile_base.specs.Token.{lexeme_of};
-ghost use Rattle.justfile_model.specs.Literals.{between, unescaped_braces};
-ghost use Rattle.justfile_cook.specs.Literal.{IsPartOf, IsTextFault, end_len, format_text, front_len, is_part};
+ghost use Rattle.justfile_model.specs.Literals.{between, end_len, format_text, front_len, unescaped_braces};
+ghost use Rattle.justfile_cook.specs.Literal.{IsPartOf, IsTextFault, is_part};
 
 use crate::cook::cook_string;
 use justfile_base::{CompileResult, FormatStringPart, StringKind, StringLiteral, Token};

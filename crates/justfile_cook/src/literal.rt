@@ -1,8 +1,8 @@
 ghost use Rattle.std.specs.Prelude.{◌≡◌, IfErr, IfOk, IsTrue, Ok, string_bytes};
 ghost use Rattle.justfile_base.specs.StringKind.{kind_of};
 ghost use Rattle.justfile_base.specs.Token.{lexeme_of};
-ghost use Rattle.justfile_model.specs.Literals.{Answers, Command, between_quotes, by_answer, cooked_text, flush_text, string_text};
-ghost use Rattle.justfile_cook.specs.Literal.{IsStringOf, IsTextFault, answers_by, is_quoted, string_of};
+ghost use Rattle.justfile_model.specs.Literals.{Answers, Command, between_quotes, by_answer, cooked_text, flush_text, string_of, string_text};
+ghost use Rattle.justfile_cook.specs.Literal.{IsStringOf, IsTextFault, answers_by, is_quoted};
 
 use crate::cook::cook_string;
 use crate::unindent::unindent;

@@ -189,7 +189,7 @@ module _ (expander : Answers) (Hit : Option SignificantToken → Type 0) where
     first_read : rule (input ts ns) ≡ Ok (first, input rest ns)
     goes_on : AllReached (after first (items expander (input rest ns))) all (ns ++ fs)
 
-  ended_behind : (i : Item Tok Tok ℕ) (s : Input) → has_body i ≡ false → ended expander i s ≡ behind expander s
+  ended_behind : (i : Item Tok Tok ℕ) (s : Input) → has_body i ≡ false → ended expander (has_body i) s ≡ behind expander s
   unfolding ended
   ended_behind i s none = rw none refl
 
@@ -211,7 +211,7 @@ module _ (expander : Answers) (Hit : Option SignificantToken → Type 0) where
       (then expander Hit _ (pass expander Hit _ h (rw (ended_behind i (input rest (ns ++ is)) (has_none o), c.first_read) refl))
       (front_more i c.first all ((ns ++ is) ++ fs) (items expander (input c.rest (ns ++ is))) c.goes_on))))
 
-  some_body : (name : SignificantToken) (ls : List (BodyLine Tok Tok ℕ)) (s : Input) → NotEmpty ls → ended expander (tree.Recipe name.tok ls) s ≡ Ok (tree.Newline ∷ [], s)
+  some_body : (name : SignificantToken) (ls : List (BodyLine Tok Tok ℕ)) (s : Input) → NotEmpty ls → ended expander (has_body (tree.Recipe name.tok ls)) s ≡ Ok (tree.Newline ∷ [], s)
   unfolding ended
   some_body name [] s some = absurd some
   some_body name (l ∷ ls) s some = refl

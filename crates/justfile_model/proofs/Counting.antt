@@ -158,20 +158,20 @@ module _ (expander : Answers) where
   ends_by s true = omega arith
   ends_by s false = behind_keeps s
 
-  ended_keeps : (i : Item Tok Tok ℕ) (s : Input) → IfOk (ended expander i s) (Counts s)
+  ended_keeps : (b : Bool) (s : Input) → IfOk (ended expander b s) (Counts s)
   unfolding ended
-  ended_keeps i s = ends_by s (has_body i)
+  ended_keeps b s = ends_by s b
 
-  pub ended_numbers : (i : Item Tok Tok ℕ) (s : Input) (x : Tree × Input) → ended expander i s ≡ Ok x → bindings x.0 + recipes x.0 + identifiers x.1.tokens ≤ identifiers s.tokens
-  ended_numbers i s x is = known x (Counts s) is (ended_keeps i s)
+  pub ended_numbers : (b : Bool) (s : Input) (x : Tree × Input) → ended expander b s ≡ Ok x → bindings x.0 + recipes x.0 + identifiers x.1.tokens ≤ identifiers s.tokens
+  ended_numbers b s x is = known x (Counts s) is (ended_keeps b s)
 
   line_keeps : (s : Input) → IfOk (line expander s) (Counts s)
   unfolding line
   line_keeps s =
       let P : Read Tree → Type 0 = λ o. IfOk o (Counts s) in
       after_choose kinds.Eol s _ _ P
-      (λ _. after_bind (on_line expander s) _ P (λ e. tt) (λ i is. after_bind (ended expander i.0 i.1) _ P (λ e. tt) (λ b is2.
-      omega (arith, on_line_numbers s i is, ended_numbers i.0 i.1 b is2))))
+      (λ _. after_bind (on_line expander s) _ P (λ e. tt) (λ i is. after_bind (ended expander (has_body i.0) i.1) _ P (λ e. tt) (λ b is2.
+      omega (arith, on_line_numbers s i is, ended_numbers (has_body i.0) i.1 b is2))))
       (λ t rest split kind. omega (arith, fewer s.tokens rest t split))
 
   -- the bindings and recipes of a line, and the identifiers behind it

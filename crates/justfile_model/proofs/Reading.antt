@@ -130,20 +130,20 @@ module _ (expander : Answers) where
   ends_by s true = omega arith
   ends_by s false = behind_keeps s
 
-  ended_keeps : (i : Item Tok Tok ℕ) (s : Input) → IfOk (ended expander i s) (NoLonger s)
+  ended_keeps : (b : Bool) (s : Input) → IfOk (ended expander b s) (NoLonger s)
   unfolding ended
-  ended_keeps i s = ends_by s (has_body i)
+  ended_keeps b s = ends_by s b
 
-  pub ended_no_longer : (i : Item Tok Tok ℕ) (s : Input) (x : Tree × Input) → ended expander i s ≡ Ok x → length x.1.tokens ≤ length s.tokens
-  ended_no_longer i s x is = known x (NoLonger s) is (ended_keeps i s)
+  pub ended_no_longer : (b : Bool) (s : Input) (x : Tree × Input) → ended expander b s ≡ Ok x → length x.1.tokens ≤ length s.tokens
+  ended_no_longer b s x is = known x (NoLonger s) is (ended_keeps b s)
 
   line_keeps : (s : Input) → IfOk (line expander s) (Shorter s)
   unfolding line
   line_keeps s =
       let P : Read Tree → Type 0 = λ o. IfOk o (Shorter s) in
       after_choose kinds.Eol s _ _ P
-      (λ _. after_bind (on_line expander s) _ P (λ e. tt) (λ i is. after_bind (ended expander i.0 i.1) _ P (λ e. tt) (λ b is2.
-      omega (arith, on_line_shorter s i is, ended_no_longer i.0 i.1 b is2))))
+      (λ _. after_bind (on_line expander s) _ P (λ e. tt) (λ i is. after_bind (ended expander (has_body i.0) i.1) _ P (λ e. tt) (λ b is2.
+      omega (arith, on_line_shorter s i is, ended_no_longer (has_body i.0) i.1 b is2))))
       (λ t rest split kind. omega (arith, ap length split))
 
   pub line_shorter : (s : Input) (x : Tree × Input) → line expander s ≡ Ok x → length x.1.tokens < length s.tokens

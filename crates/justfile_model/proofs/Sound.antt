@@ -366,7 +366,7 @@ module _ (expander : Answers) where
   ends_by i is ts s true h = record { features = []; derives = λ more gs m. g.block h m; met = nothing_met }
   ends_by i is ts s false h = ends_line i is ts s h (behind expander s) (behind_sound s)
 
-  ended_sound : (i : Item Tok Tok ℕ) (is : List (Noted Tok)) (ts : Tokens) (s : Input) → Starts (has_body i) i is ts s.tokens → IfOk (ended expander i s) (Ends i is ts s)
+  ended_sound : (i : Item Tok Tok ℕ) (is : List (Noted Tok)) (ts : Tokens) (s : Input) → Starts (has_body i) i is ts s.tokens → IfOk (ended expander (has_body i) s) (Ends i is ts s)
   unfolding ended
   ended_sound i is ts s h = ends_by i is ts s (has_body i) h
 
@@ -375,7 +375,7 @@ module _ (expander : Answers) where
   line_sound s =
       let P : Read Tree → Type 0 = λ o. IfOk o (Leads Items s) in
       after_choose kinds.Eol s _ _ P
-      (λ _. after_bind (on_line expander s) _ P (λ e. tt) (λ i is. after_bind (ended expander i.0 i.1) _ P (λ e. tt) (λ b is2.
+      (λ _. after_bind (on_line expander s) _ P (λ e. tt) (λ i is. after_bind (ended expander (has_body i.0) i.1) _ P (λ e. tt) (λ b is2.
       let one = on_line_at s i is in
       let found = known b (Ends i.0 one.features s.tokens i.1) is2 (ended_sound i.0 one.features s.tokens i.1 one.derives) in
       record {

@@ -10,7 +10,7 @@ use Rattle.justfile_model.specs.SignificantTokens.{SignificantToken}
 use Rattle.justfile_model.specs.Tree as t
 use Rattle.justfile_model.specs.Tree.{Expr, Exprs, Parts}
 use Rattle.justfile_model.specs.Features.{compared, uncompared, called}
-use Rattle.justfile_model.specs.Expressions.{Tokens, ends_open}
+use Rattle.justfile_model.specs.Expressions.{Tokens, depth_limit, ends_open}
 use Rattle.justfile_model.specs.Literals as literal
 use Rattle.justfile_model.specs.Literals.{Answers, LiteralFault, cooked_text}
 use Rattle.justfile_model.specs.Reading.{◌>>=◌, Input, with, note, Read, Unexpected, TooDeep, NotCooked, refused, accept, accept_word, accept_marked, choose, expect}
@@ -77,7 +77,7 @@ note_uncompared e (first ∷ from) s = with (uncompared e first.tok) s
 
 module _ (expander : Answers) (read : (x : Place) → Out x) where
   unfoldable pub expression_rule : Bool → ℕ → Input → ReadExpr
-  expression_rule c d s = if nat_lt d 256 then (do
+  expression_rule c d s = if nat_lt d depth_limit then (do
     l ← read (Disjunct c (d + 1) s)
     choose (accept kinds.BarBar l.1) (Ok l) (λ op. do
       r ← read (Expression false (d + 1) (note features.LogicalOperator op.0 op.1))

@@ -22,11 +22,6 @@ abbrev pub compared : {B : Type 0} → (condition : Bool) → B → List (Noted 
 compared true at = []
 compared false at = noted features.ComparisonOperator at
 
--- a condition that is no comparison, noted at its first token
-abbrev pub uncompared : {A B : Type 0} → Expr A B → B → List (Noted B)
-uncompared (Comparison l operator token r) at = []
-uncompared _ at = noted features.NonComparisonCondition at
-
 -- the feature that a function is
 abbrev pub function_feature : (name : List ℕ) → Option ListFeature
 function_feature name =
@@ -41,6 +36,15 @@ function_feature name =
 abbrev pub noted_if : {B : Type 0} → Option ListFeature → B → List (Noted B)
 noted_if None at = []
 noted_if (Some feature) at = noted feature at
+
+-- the feature that a condition is, if it is no comparison
+abbrev pub uncompared_feature : {A B : Type 0} → Expr A B → Option ListFeature
+uncompared_feature (Comparison l operator token r) = None
+uncompared_feature _ = Some features.NonComparisonCondition
+
+-- such a condition, noted at its first token
+abbrev pub uncompared : {A B : Type 0} → Expr A B → B → List (Noted B)
+uncompared e at = noted_if (uncompared_feature e) at
 
 -- a call, noted at its name
 abbrev pub called : {B : Type 0} → (name : List ℕ) → B → List (Noted B)

@@ -1,5 +1,5 @@
 -- What a file derives.
-use Rattle.std.specs.Prelude.{◌≡◌, ℕ, ◌+◌, ◌-◌, ◌^◌, ◌≤◌, true, false, List, [], ◌∷◌, ◌++◌, map}
+use Rattle.std.specs.Prelude.{◌≡◌, ℕ, ◌+◌, ◌-◌, ◌^◌, ◌≤◌, List, [], ◌∷◌, ◌++◌, map}
 use Rattle.justfile_model.specs.SignificantTokens.{SignificantToken}
 use Rattle.justfile_model.specs.Tree.{Expr, Or, And, Comparison, Concatenation, ListConcatenation, Join, Root, If, IfElse, Not, StringLiteral, FormatLiteral, FormatString, Backtick, Assert, AssertMessage, Variable, Call, Group, ListOf, Exprs, none, more, Parts, Last, Continue, Fragment, Text, Interpolation, BodyLine, Line, Item, Assignment, Comment, Newline, Recipe, Tree, Shape, lexeme, nothing, itself, line_of}
 use Rattle.justfile_model.specs.Tok.{Tok}
@@ -28,8 +28,7 @@ abbrev mutual
   expr_literals (If c b) = expr_literals c ++ expr_literals b
   expr_literals (IfElse c b o) = expr_literals c ++ expr_literals b ++ expr_literals o
   expr_literals (Not e) = expr_literals e
-  expr_literals (StringLiteral true token) = literal.Expanded token ∷ []
-  expr_literals (StringLiteral false token) = literal.Plain token ∷ []
+  expr_literals (StringLiteral expanded token) = literal.string_of expanded token ∷ []
   expr_literals (FormatLiteral token) = literal.Single token ∷ []
   expr_literals (FormatString start e parts) = literal.Start start ∷ expr_literals e ++ parts_literals start parts
   expr_literals (Backtick token) = literal.Command token ∷ []

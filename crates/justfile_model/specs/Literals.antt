@@ -1,7 +1,9 @@
 -- The texts that literals stand for.
-use Rattle.std.specs.Prelude.{◌≡◌, ℕ, zero, suc, ◌-◌, ◌+◌, ◌⊎◌, List, [], ◌∷◌, ◌++◌, length, take, drop, if◌then◌else◌, Option, Some, None, Result, Ok, Err, codes}
+use Rattle.std.specs.Prelude.{◌≡◌, ℕ, zero, suc, ◌-◌, ◌+◌, ◌⊎◌, Bool, true, false, List, [], ◌∷◌, ◌++◌, length, take, drop, if◌then◌else◌, Option, Some, None, Result, Ok, Err, codes}
 use Rattle.std.specs.List.{starts_with}
 use Rattle.std.specs.Prelude.{nat_eq}
+use Rattle.justfile_base.specs.declared.format_string_part.FormatStringPart.{FormatStringPart}
+use Rattle.justfile_base.specs.declared.format_string_part.FormatStringPart.TheVariants as parts
 use Rattle.justfile_base.specs.declared.string_kind.StringKind.{StringKind}
 use Rattle.justfile_base.specs.StringKind.{kind_of, delimiter_len, escapes}
 use Rattle.justfile_model.specs.Bytes.{is_interpolation_escape}
@@ -23,6 +25,11 @@ pub data Literal (A : Type 0) : Type 0 where
   Start : (token : A) → Literal A
   Continue : (start token : A) → Literal A
   End : (start token : A) → Literal A
+
+-- the string, which is marked `x` or not
+abbrev pub string_of : {A : Type 0} → (expanded : Bool) → A → Literal A
+string_of true token = Expanded token
+string_of false token = Plain token
 
 abbrev pub over_literal : {A B : Type 0} → (A → B) → Literal A → Literal B
 over_literal f (Plain token) = Plain (f token)
@@ -99,6 +106,24 @@ unescaped_braces = unescaped_from 0
 abbrev pub part_text : StringKind → List ℕ → Result (List ℕ) LiteralFault
 part_text kind text = escaped kind (unescaped_braces text)
 
+-- how many bytes stand before the text of a part: the string's delimiter, or `}}`
+abbrev pub front_len : StringKind → FormatStringPart → ℕ
+front_len kind parts.Continue = 2
+front_len kind parts.End = 2
+front_len kind parts.Single = delimiter_len kind
+front_len kind parts.Start = delimiter_len kind
+
+-- and behind it: the delimiter, or `{{`
+abbrev pub end_len : StringKind → FormatStringPart → ℕ
+end_len kind parts.Continue = 2
+end_len kind parts.End = delimiter_len kind
+end_len kind parts.Single = delimiter_len kind
+end_len kind parts.Start = 2
+
+-- the text of a part of a format string of this kind
+abbrev pub format_text : StringKind → FormatStringPart → List ℕ → Result (List ℕ) LiteralFault
+format_text kind part lexeme = part_text kind (between (front_len kind part) (end_len kind part) lexeme)
+
 abbrev pub by_answer : Option (Result (List ℕ) (List ℕ)) → Result (List ℕ) LiteralFault
 by_answer None = Err Unasked
 by_answer (Some (Ok text)) = Ok text
@@ -114,10 +139,10 @@ abbrev pub cooked_text : Answers → Literal (List ℕ) → Result (List ℕ) Li
 cooked_text expander (Plain lexeme) = string_text lexeme
 cooked_text expander (Expanded lexeme) = expanded_text expander (string_text lexeme)
 cooked_text expander (Command lexeme) = if starts_with nat_eq (flush_text lexeme) (codes "#!") then Err Shebang else Ok (flush_text lexeme)
-cooked_text expander (Single lexeme) = part_text (kind_of lexeme) (between (delimiter_len (kind_of lexeme)) (delimiter_len (kind_of lexeme)) lexeme)
-cooked_text expander (Start lexeme) = part_text (kind_of lexeme) (between (delimiter_len (kind_of lexeme)) 2 lexeme)
-cooked_text expander (Continue start lexeme) = part_text (kind_of start) (between 2 2 lexeme)
-cooked_text expander (End start lexeme) = part_text (kind_of start) (between 2 (delimiter_len (kind_of start)) lexeme)
+cooked_text expander (Single lexeme) = format_text (kind_of lexeme) parts.Single lexeme
+cooked_text expander (Start lexeme) = format_text (kind_of lexeme) parts.Start lexeme
+cooked_text expander (Continue start lexeme) = format_text (kind_of start) parts.Continue lexeme
+cooked_text expander (End start lexeme) = format_text (kind_of start) parts.End lexeme
 
 -- these are the texts of the literals, in order
 abbrev pub Cooks : Answers → List (Literal (List ℕ)) → List (List ℕ) → Type 0

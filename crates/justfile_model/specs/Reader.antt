@@ -136,9 +136,9 @@ module _ (expander : Answers) where
         end ← line_end c.1
         Ok (comment_item c.0 ∷ end.0, end.1))
 
-  -- what ends an item: behind a body a line starts, and a line end is made
-  unfoldable pub ended : Item Tok Tok ℕ → Input → Read Tree
-  ended i s = if has_body i then Ok (tree.Newline ∷ [], s) else behind s
+  -- what ends an item, which has a body or not: behind a body a line starts, and a line end is made
+  unfoldable pub ended : (has_body : Bool) → Input → Read Tree
+  ended has_body s = if has_body then Ok (tree.Newline ∷ [], s) else behind s
 
   -- the items of a line: none but its end, or an item and what ends it
   unfoldable pub line : Input → Read Tree
@@ -146,7 +146,7 @@ module _ (expander : Answers) where
       choose (accept kinds.Eol s)
       (do
         i ← on_line s
-        b ← ended i.0 i.1
+        b ← ended (has_body i.0) i.1
         Ok (i.0 ∷ b.0, b.1))
       (λ newline. Ok (tree.Newline ∷ [], newline.1))
 

@@ -85,7 +85,7 @@ module _ {X : Type 0} (answer : X → List ℕ → Result (List ℕ) (List ℕ))
         → StopsAt stop left (LacksFirst (answers_by answer q.expander.now) (input_of q) old new) (on_line (answers_by answer q.expander.now) (input_of q))
         → StopsAt stop left (LacksFirst (answers_by answer p.expander.now) (input_of p) old new) (after done (line (answers_by answer p.expander.now) (input_of p)))
     line_stops (Refused r) left old new done none here h = line_fails (answers_by answer p.expander.now) done (input_of p) (refusal_at r left) none (sym (read_there here) ∙ h)
-    line_stops (Literal refused) left old new done none here h = line_fails (answers_by answer p.expander.now) done (input_of p) (literal_refusal refused.error refused.glued) none (sym (read_there here) ∙ h)
+    line_stops (Literal refused) left old new done none here h = line_fails (answers_by answer p.expander.now) done (input_of p) (literal_refusal refused.value.error refused.value.glued) none (sym (read_there here) ∙ h)
     line_stops Memory left old new done none here h = tt
     line_stops Numbers left old new done none here h =
         let P : Bor X → Type 0 = λ e. LacksFirst (answers_by answer e.now) (input_of q) old new in

@@ -76,7 +76,7 @@ module _ {X Z T : Type 0} (answer : X → List ℕ → Result (List ℕ) (List �
         → StopsAt stop left ⊥ (one (answers_by answer a.expander.now) (input_of a))
         → StopsAt stop left ⊥ (whole (answers_by answer p.expander.now) (input_of p))
     part_stops (Refused r) left step h = sym so_far.read ∙ step (refusal_at r left) (sym one_there ∙ h)
-    part_stops (Literal refused) left step h = sym so_far.read ∙ step (literal_refusal refused.error refused.glued) (sym one_there ∙ h)
+    part_stops (Literal refused) left step h = sym so_far.read ∙ step (literal_refusal refused.value.error refused.value.glued) (sym one_there ∙ h)
     part_stops Memory left step h = tt
     part_stops Numbers left step h = h
 

@@ -16,8 +16,7 @@ use Rattle.justfile_parse.specs.Reading.{first_tok, note_front, conditional_by, 
 
 pub note_is : (e : Expr Tok Tok) (from : Tokens) (s : Input) → note_uncompared e from s ≡ note_front e (first_tok from) s
 note_is e [] s = refl
-note_is (tree.Comparison l operator token o) (t ∷ ts) s = refl
-note_is _ (t ∷ ts) s = refl
+note_is e (t ∷ ts) s = refl
 
 closed_map : (b : Bool) (e : Expr Tok Tok) (f : Expr Tok Tok → Expr Tok Tok) (s : Input) → closed b (f e) s ≡ (closed b e s >>= λ o. Ok (f o.0, o.1))
 closed_map false e f s = refl

@@ -1,5 +1,5 @@
 -- Literals with their texts, and the refusals of those that have none.
-use Rattle.std.proofs.Common.{◌≡◌, Bool, true, false, IsTrue, ℕ, List, [], ◌++◌, Option, Some, None, Result, Ok, Err, string_bytes, refl, sym, ap, ◌∙◌, subst}
+use Rattle.std.proofs.Common.{◌≡◌, Bool, true, false, IsTrue, ℕ, List, [], ◌++◌, Option, Some, None, is_some, unwrap_or, Result, Ok, Err, refl, sym, ap, ◌∙◌, subst}
 use Rattle.justfile_base.specs.StringLiteral.{format_mark}
 use Rattle.justfile_base.specs.StringKind.{kind_of}
 use Rattle.justfile_base.specs.Token.{lexeme_of}
@@ -8,24 +8,22 @@ use Rattle.justfile_base.specs.declared.format_string_part.FormatStringPart.TheV
 use Rattle.justfile_base.specs.declared.string_kind.StringKind.{StringKind}
 use Rattle.justfile_base.specs.declared.compile_error.CompileError.{CompileError}
 use Rattle.justfile_base.specs.declared.compile_error_kind.CompileErrorKind.{CompileErrorKind}
-use Rattle.justfile_base.specs.declared.compile_error_kind.CompileErrorKind.TheVariants as errors
 use Rattle.justfile_base.specs.declared.fault.Fault.{Fault}
 use Rattle.justfile_base.specs.declared.fault.Fault.TheVariants as faults
 use Rattle.justfile_base.specs.declared.string_literal.StringLiteral.{StringLiteral}
 use Rattle.justfile_base.specs.declared.token.Token.{Token}
 use Rattle.justfile_base.specs.declared.token_kind.TokenKind.{TokenKind}
 use Rattle.justfile_base.specs.declared.token_kind.TokenKind.TheVariants as kinds
-use Rattle.justfile_cook.specs.Literal.{IsKindOf, IsPartOf, IsStringOf, IsTextError, IsTextFault, expansion_message, format_text, is_part, is_quoted, string_of}
-use Rattle.justfile_model.specs.EscapeFault.{EscapeFault, escape_fault_of}
+use Rattle.justfile_cook.specs.Literal.{IsKindOf, IsPartOf, IsStringOf, IsTextFault, is_part, is_quoted, literal_fault_of}
 use Rattle.justfile_model.specs.ExpressionReader.{with_text}
 use Rattle.justfile_model.specs.Literals as literal
-use Rattle.justfile_model.specs.Literals.{Answers, LiteralFault, Escape, Refused, Unasked, Shebang, cooked_text}
+use Rattle.justfile_model.specs.Literals.{Answers, LiteralFault, Unasked, cooked_text, format_text, string_of}
 use Rattle.justfile_model.specs.Reading.{Input, Read, Refusal, NotCooked}
 use Rattle.justfile_model.specs.SignificantTokens.{SignificantToken}
 use Rattle.justfile_model.specs.Tok.{Tok, tok_of}
 use Rattle.justfile_model.specs.Tree as tree
 use Rattle.justfile_model.specs.Tree.{Expr}
-use Rattle.justfile_parse.specs.Fault.{IsLiteralFault, fault_by, is_literal_kind, is_shebang, literal_fault, some_fault}
+use Rattle.justfile_parse.specs.Fault.{IsLiteralFault, is_literal_kind, literal_fault}
 use Rattle.justfile_parse.specs.Given.{IsGivenFormat, IsGivenLiteral, IsGivenPart, IsInTable}
 use Rattle.justfile_parse.specs.Literal.{is_delimited, is_sound}
 use Rattle.justfile_parse.specs.Reading.{Gives, IsGivenStop, StopsAt, TextStops, literal_refusal}
@@ -43,36 +41,21 @@ quoted_command entry e h = subst (λ (k : TokenKind). IsTrue (is_delimited k (le
 
 -- ---- the fault of an error
 
-no_message : (kind : CompileErrorKind) (fault : EscapeFault) → escape_fault_of kind ≡ Some fault → expansion_message kind ≡ None
-no_message (errors.ShellExpansion err) fault h = cc
-no_message _ fault h = refl
-
 pub fault_is : (fault : LiteralFault) (kind : CompileErrorKind) → IsKindOf fault kind → literal_fault kind ≡ fault
-fault_is (Escape fault) kind h = rw (no_message kind fault h, h) refl
-fault_is (Refused reason) kind h = ap (λ (m : Option (List ℕ)). fault_by m (escape_fault_of kind)) h
-fault_is Unasked kind h = absurd h
-fault_is Shebang kind h = ap literal_fault h
+fault_is fault kind h = rw h refl
 
 due : (fault : LiteralFault) (kind : CompileErrorKind) → IsKindOf fault kind → IsTrue (is_literal_kind kind)
 unfolding is_literal_kind
-due (Escape fault) kind h = rw (no_message kind fault h, h) refl
-due (Refused reason) kind h = rw h refl
-due Unasked kind h = absurd h
-due Shebang kind h = rw h refl
+due fault kind h = rw h refl
 
 -- the fault that the kind says is that of the kind
 pub kind_is_due : (kind : CompileErrorKind) → IsTrue (is_literal_kind kind) → IsKindOf (literal_fault kind) kind
 unfolding is_literal_kind
-kind_is_due kind h = by_parts (expansion_message kind) (escape_fault_of kind) refl refl h
+kind_is_due kind h = by_fault (literal_fault_of kind) refl h
   where
-    shebang : (kind : CompileErrorKind) → IsTrue (is_shebang kind) → kind ≡ errors.BacktickShebang
-    shebang errors.BacktickShebang h = refl
-    shebang _ h = cc
-
-    by_parts : (message : Option (List ℕ)) (escape : Option EscapeFault) → expansion_message kind ≡ message → escape_fault_of kind ≡ escape → IsTrue (some_fault message escape (is_shebang kind)) → IsKindOf (fault_by message escape) kind
-    by_parts (Some reason) escape m e h = m
-    by_parts None (Some fault) m e h = e
-    by_parts None None m e h = shebang kind h
+    by_fault : (found : Option LiteralFault) → literal_fault_of kind ≡ found → IsTrue (is_some found) → IsKindOf (unwrap_or found Unasked) kind
+    by_fault (Some fault) is h = is
+    by_fault None is h = cc
 
 pub is_literal : (text : Result (List ℕ) LiteralFault) (token : Token) (fault : Fault) → IsTextFault text token fault → IsLiteralFault fault
 is_literal text token (faults.Compile error) h = due h.fault error.kind h.kind_is
@@ -89,10 +72,10 @@ text_refused e s text entry (faults.Compile error) (stops.Literal x) h is =
     let same : literal_fault error.kind ≡ h.fault = fault_is h.fault error.kind h.kind_is in
     let refusal : CompileError → Bool → Refusal = λ e glued. NotCooked (literal_fault e.kind) (record { tok = tok_of e.token; glued = glued }) in
     let there : NotCooked h.fault (significant_of entry) ≡ refusal error entry.1 = ap (λ (f : LiteralFault). NotCooked f (significant_of entry)) (sym same) ∙ ap (λ (t : Token). NotCooked (literal_fault error.kind) (significant_of (t, entry.1))) (sym h.token_is) in
-    let here : refusal error entry.1 ≡ refusal x.error x.glued = ap (λ (e : CompileError). refusal e entry.1) (sym is.0) ∙ ap (refusal x.error) (sym is.1) in
+    let here : refusal error entry.1 ≡ refusal x.value.error x.value.glued = ap (λ (e : CompileError). refusal e entry.1) (sym is.0) ∙ ap (refusal x.value.error) (sym is.1) in
     rw h.text_is (ap (λ (r : Refusal). Err r) (there ∙ here))
 text_refused e s text entry (faults.Compile error) (stops.Refused r) h is = absurd is
-text_refused e s text entry (faults.Compile error) stops.Memory h is = absurd is
+text_refused e s text entry (faults.Compile error) stops.Memory h is = tt
 text_refused e s text entry (faults.Compile error) stops.Numbers h is = absurd is
 text_refused e s text entry faults.Memory (stops.Literal x) h is = absurd is
 text_refused e s text entry faults.Memory (stops.Refused r) h is = absurd is
@@ -150,18 +133,18 @@ module _ (expander : Answers) (s : Input) (entry : Token × Bool) (l : StringLit
   continue_given start is =
       part_given {A = Tok × Bool} (tok_of entry.0, false) s entry (kind_of (lexeme_of start)) parts.Continue l is
       ∙ ap (flagged false s) (sym later)
-      where
-        later : part_tok l ≡ tok_of entry.0
-        later = rw (is.expand_is, is.part_is, is.token_is) refl
+    where
+      later : part_tok l ≡ tok_of entry.0
+      later = rw (is.expand_is, is.part_is, is.token_is) refl
 
   pub end_given : (start : Token) → IsPartOf (kind_of (lexeme_of start)) parts.End entry.0 l
       → with_text {A = Tok × Bool} (tok_of entry.0, true) (significant_of entry, s) (cooked_text expander (literal.End (lexeme_of start) (lexeme_of entry.0))) ≡ Ok ((part_tok l, true), s)
   end_given start is =
       part_given {A = Tok × Bool} (tok_of entry.0, true) s entry (kind_of (lexeme_of start)) parts.End l is
       ∙ ap (flagged true s) (sym later)
-      where
-        later : part_tok l ≡ tok_of entry.0
-        later = rw (is.expand_is, is.part_is, is.token_is) refl
+    where
+      later : part_tok l ≡ tok_of entry.0
+      later = rw (is.expand_is, is.part_is, is.token_is) refl
 
 -- ---- at tokens of the table
 

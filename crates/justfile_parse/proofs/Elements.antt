@@ -10,7 +10,9 @@ use Rattle.justfile_model.specs.SignificantTokens.{SignificantToken}
 use Rattle.justfile_model.specs.Tok.{Tok}
 use Rattle.justfile_model.specs.Tree.{Expr, Exprs, none, more}
 use Rattle.justfile_model.proofs.ExpressionReading.{sequence_is}
-use Rattle.justfile_parse.specs.Reading.{element_rule}
+use Rattle.justfile_parse.specs.Reading.{StopsAt, element_rule, literal_refusal, refusal_at}
+use Rattle.justfile_parse.specs.declared.stop.Stop.{Stop}
+use Rattle.justfile_parse.specs.declared.stop.Stop.TheVariants.{Refused, Literal, Memory, Numbers}
 use Rattle.justfile_tree.specs.Expression.{expr_of, exprs_of}
 use Rattle.justfile_tree.specs.declared.expression.Expression.{Expression}
 
@@ -88,3 +90,10 @@ module _ (expander : Answers) (c : TokenKind) (d : ℕ) where
 
     pub fails : (f : Refusal) → accept c s ≡ None → element_rule expander c d s ≡ Err f → with_front es (read expander (r.Sequence c d s)) ≡ Err f
     fails f h1 h2 = rw (sequence_by s, h1, h2) refl
+
+    -- where an element stops, the sequence does
+    pub stops : (stop : Stop) (left : Input) (found : Read (Exprs Tok Tok)) → accept c s ≡ None → with_front es (read expander (r.Sequence c d s)) ≡ found → StopsAt stop left ⊥ (element_rule expander c d s) → StopsAt stop left ⊥ found
+    stops (Refused refusal) left found closed is h = sym is ∙ fails (refusal_at refusal left) closed h
+    stops (Literal refused) left found closed is h = sym is ∙ fails (literal_refusal refused.value.error refused.value.glued) closed h
+    stops Memory left found closed is h = tt
+    stops Numbers left found closed is h = absurd h

@@ -3,6 +3,7 @@ pub mod Bodies
 pub mod Conditions
 pub mod Cooked
 pub mod Elements
+pub mod Formats
 pub mod GivenLemmas
 pub mod Lines
 pub mod Loop

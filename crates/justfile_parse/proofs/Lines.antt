@@ -9,7 +9,7 @@ use Rattle.justfile_model.specs.SignificantTokens.{SignificantToken}
 use Rattle.justfile_model.specs.Tok.{Tok}
 use Rattle.justfile_model.specs.Tree as tree
 use Rattle.justfile_model.specs.Tree.{Item, Tree}
-use Rattle.justfile_parse.specs.Reading.{StopsAt, ended_by, literal_refusal, refusal_at}
+use Rattle.justfile_parse.specs.Reading.{StopsAt, literal_refusal, refusal_at}
 use Rattle.justfile_parse.specs.declared.stop.Stop.{Stop}
 use Rattle.justfile_parse.specs.declared.stop.Stop.TheVariants.{Refused, Literal, Memory, Numbers}
 
@@ -37,7 +37,7 @@ module _ (expander : Answers) (done : Tree) (s : Input) where
 
   pub line_end_stops : (stop : Stop) (left : Input) → accept kinds.Eof s ≡ None → StopsAt stop left ⊥ (expect kinds.Eol s) → StopsAt stop left ⊥ (after done (line_end expander s))
   line_end_stops (Refused r) left none h = line_end_fails (refusal_at r left) none h
-  line_end_stops (Literal refused) left none h = line_end_fails (literal_refusal refused.error refused.glued) none h
+  line_end_stops (Literal refused) left none h = line_end_fails (literal_refusal refused.value.error refused.value.glued) none h
   line_end_stops Memory left none h = tt
   line_end_stops Numbers left none h = h
 
@@ -54,9 +54,13 @@ module _ (expander : Answers) (done : Tree) (s : Input) where
   unfolding behind
   behind_comment c rest h = rw h (then_end c (line_end expander rest))
 
-  pub ended_body : (b : Bool) (new : Tree) → b ≡ true → new ≡ done ++ tree.Newline ∷ [] → after done (ended_by expander b s) ≡ Ok (new, s)
-  unfolding after
+  pub ended_body : (b : Bool) (new : Tree) → b ≡ true → new ≡ done ++ tree.Newline ∷ [] → after done (ended expander b s) ≡ Ok (new, s)
+  unfolding after ended
   ended_body b new h is = rw h (ap (λ (l : Tree). Ok (l, s)) (sym is))
+
+  pub ended_behind : (b : Bool) → b ≡ false → after done (ended expander b s) ≡ after done (behind expander s)
+  unfolding ended
+  ended_behind b h = rw h refl
 
   pub line_blank : (t : SignificantToken) (rest : Input) → accept kinds.Eol s ≡ Some (t, rest) → after done (line expander s) ≡ Ok (done ++ tree.Newline ∷ [], rest)
   unfolding after line
@@ -71,10 +75,6 @@ module _ (expander : Answers) (done : Tree) (s : Input) where
   then_ended i (Ok x) = ap (λ (l : Tree). Ok (l, x.1)) (sym (append_assoc done (i ∷ []) x.0))
   then_ended i (Err e) = refl
 
-  choice : (b : Bool) (rest : Input) → cond {A = Read Tree} b (Ok (tree.Newline ∷ [], rest)) (behind expander rest) ≡ ended_by expander b rest
-  choice true rest = refl
-  choice false rest = refl
-
-  pub line_goes_on : (i : Item Tok Tok ℕ) (rest : Input) → accept kinds.Eol s ≡ None → on_line expander s ≡ Ok (i, rest) → after done (line expander s) ≡ after (done ++ i ∷ []) (ended_by expander (has_body i) rest)
-  unfolding line ended
-  line_goes_on i rest h1 h2 = rw (h1, h2) (then_ended i (cond (has_body i) (Ok (tree.Newline ∷ [], rest)) (behind expander rest)) ∙ ap (after (done ++ i ∷ [])) (choice (has_body i) rest))
+  pub line_goes_on : (i : Item Tok Tok ℕ) (rest : Input) → accept kinds.Eol s ≡ None → on_line expander s ≡ Ok (i, rest) → after done (line expander s) ≡ after (done ++ i ∷ []) (ended expander (has_body i) rest)
+  unfolding line
+  line_goes_on i rest h1 h2 = rw (h1, h2) (then_ended i (ended expander (has_body i) rest))

@@ -118,7 +118,7 @@ module _ {X : Type 0} (answer : X → List ℕ → Result (List ℕ) (List ℕ))
         sym (lines_items E (input_of p) so_far.lines) ∙ items_fail E (map item_of done) (input_of q) (refusal_at r left) none (sym line_there ∙ refused_first (map item_of done) (refusal_at r left) _ h)
     stops (Literal refused) left then h =
         let E = answers_by answer p.expander.now in
-        sym (lines_items E (input_of p) so_far.lines) ∙ items_fail E (map item_of done) (input_of q) (literal_refusal refused.error refused.glued) none (sym line_there ∙ refused_first (map item_of done) (literal_refusal refused.error refused.glued) _ h)
+        sym (lines_items E (input_of p) so_far.lines) ∙ items_fail E (map item_of done) (input_of q) (literal_refusal refused.value.error refused.value.glued) none (sym line_there ∙ refused_first (map item_of done) (literal_refusal refused.value.error refused.value.glued) _ h)
     stops Memory left then h = tt
     stops Numbers left then h =
         let E = answers_by answer p.expander.now in
@@ -154,7 +154,7 @@ module _ {X : Type 0} (answer : X → List ℕ → Result (List ℕ) (List ℕ))
     pub goes_past : (expander : Answers) (end : SignificantToken) (rest : Input) (IsShort : Type 0) (stop : Stop) → accept kinds.Eof (input_of q) ≡ Some (end, rest) → StopsAt stop rest ⊥ (at_end expander rest)
         → StopsAt stop rest IsShort (items (answers_by answer p.expander.now) (input_of p))
     goes_past expander end rest IsShort (Refused r) is h = at_end_is expander end rest is ∙ ap (after (map item_of done)) h ∙ after_refused (map item_of done) (refusal_at r rest)
-    goes_past expander end rest IsShort (Literal refused) is h = at_end_is expander end rest is ∙ ap (after (map item_of done)) h ∙ after_refused (map item_of done) (literal_refusal refused.error refused.glued)
+    goes_past expander end rest IsShort (Literal refused) is h = at_end_is expander end rest is ∙ ap (after (map item_of done)) h ∙ after_refused (map item_of done) (literal_refusal refused.value.error refused.value.glued)
     goes_past expander end rest IsShort Memory is h = tt
     goes_past expander end rest IsShort Numbers is h = absurd h
 

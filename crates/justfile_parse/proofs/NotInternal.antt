@@ -182,12 +182,8 @@ unexpected_kind (Internal message) token h = absurd h
 unexpected_kind _ token h = refl
 
 literal_kind : (fault : literals.LiteralFault) (kind : CompileErrorKind) → IsKindOf fault kind → internal_message kind ≡ None
-literal_kind (literals.Escape f) (Internal message) h = cc
-literal_kind (literals.Escape f) _ h = refl
-literal_kind (literals.Refused reason) (Internal message) h = cc
-literal_kind (literals.Refused reason) _ h = refl
-literal_kind literals.Unasked kind h = absurd h
-literal_kind literals.Shebang kind h = ap internal_message h
+literal_kind fault (Internal message) h = cc
+literal_kind fault _ h = refl
 
 pub refusal_not_internal : (tokens : List SignificantToken) (r : reader.Refusal) (e : CompileError) → IsErrorOf tokens r e → internal_message e.kind ≡ None
 refusal_not_internal tokens (reader.Unexpected at) e h = unexpected_kind e.kind e.token h.0

@@ -40,7 +40,7 @@ use Rattle.justfile_model.specs.Expressions.{front, Waived}
 use Rattle.justfile_model.specs.Features.{Noted}
 use Rattle.justfile_model.specs.Grammar.{File}
 use Rattle.justfile_model.specs.Literals as lits
-use Rattle.justfile_model.specs.Literals.{Answers, Expanded, Literal, Plain, over_literal, cooked_text, Cooks}
+use Rattle.justfile_model.specs.Literals.{Answers, Expanded, Literal, Plain, over_literal, string_of, cooked_text, Cooks}
 use Rattle.justfile_model.specs.declared.list_feature.ListFeature.{ListFeature}
 use Rattle.justfile_model.specs.Reader as reader
 use Rattle.justfile_model.specs.Reading as reading
@@ -53,7 +53,7 @@ use Rattle.justfile_model.proofs.LexedLaws.{one_list, never_both}
 use Rattle.justfile_model.proofs.Agreement.{sound, complete, due, refused}
 use Rattle.justfile_model.proofs.Counting.{accept_identifiers}
 use Rattle.justfile_parse.specs.Given.{AreGivenExpressions, AreGivenParts, AreNotedIn, IsGivenFragment, IsGivenHeld, IsGivenItem, IsGivenExpression, IsGivenLine, IsGivenPart, IsInTable, first_part, later_part}
-use Rattle.justfile_cook.specs.Literal.{IsKindOf, IsPartOf, is_framed, is_quoted, is_quoted_by, string_of}
+use Rattle.justfile_cook.specs.Literal.{IsPartOf, is_framed, is_quoted}
 use Rattle.justfile_parse.specs.Errors.{IsAt, IsErrorOf}
 use Rattle.justfile_parse.specs.Literal.{is_delimited, is_sound}
 use Rattle.justfile_parse.specs.Parsing.{HasNoTree, IsOneLex, IsParsed, IsParsedText, IsUnparsed}
@@ -125,9 +125,9 @@ unread expander tokens table old new left (stops.Refused r) (faults.Compile e) h
 unread expander tokens table old new left (stops.Refused r) faults.Memory h given all is = absurd is
 unread expander tokens table old new left (stops.Refused r) faults.Numbers h given all is = absurd is
 unread expander tokens table old new left (stops.Literal refused) (faults.Compile e) h given all is =
-    let P : CompileError → Type 0 = λ x. IsErrorOf tokens (literal_refusal refused.error refused.glued) x in
+    let P : CompileError → Type 0 = λ x. IsErrorOf tokens (literal_refusal refused.value.error refused.value.glued) x in
     let Q : CompileError → Type 0 = λ x. IsInTable table x.token in
-    record { refusal = literal_refusal refused.error refused.glued; read = h; error = subst P (sym is) (literal_error tokens refused); among = subst Q (sym is) given }
+    record { refusal = literal_refusal refused.value.error refused.value.glued; read = h; error = subst P (sym is) (literal_error tokens refused.value); among = subst Q (sym is) given }
 unread expander tokens table old new left (stops.Literal refused) faults.Memory h given all is = absurd is
 unread expander tokens table old new left (stops.Literal refused) faults.Numbers h given all is = absurd is
 unread expander tokens table old new left stops.Memory (faults.Compile e) h given all is = absurd is
@@ -158,16 +158,13 @@ nonempty text ts table l is =
     let n : 0 < length (significant_from false (reverse l.earlier ++ l.last ∷ [])) = some_significant false (reverse l.earlier) l.last l.is_end in
     omega (arith, n, ap (λ (us : List Tok). length (significant_from false us)) (in_front text ts l), ap length is, length-map table significant_of)
 
-quoted_by : (n : ℕ) (bytes : List ℕ) → n + n ≤ length bytes → get_or bytes (n - 1) 0 < 128 → get_or bytes (length bytes - n) 0 < 128 → is_quoted_by n bytes ≡ true
-quoted_by n bytes long before behind = grind (arith, nat_tests, long, before, behind)
-
-quoted_test : (bytes : List ℕ) → IsQuoted bytes → is_quoted bytes ≡ true
-quoted_test bytes h = quoted_by (delimiter_len (kind_of bytes)) bytes h.long h.before h.behind
-
 framed_by : (front end : ℕ) (bytes : List ℕ) → front + end ≤ length bytes → get_or bytes (front - 1) 0 < 128 → get_or bytes (length bytes - end) 0 < 128 → is_framed front end bytes ≡ true
 framed_by front end bytes long before behind = grind (arith, nat_tests, long, before, behind)
 
-framed_test : (front end : ℕ) (bytes : List ℕ) → IsFramed front end bytes → is_framed front end bytes ≡ true
+quoted_test : (bytes : List ℕ) → IsQuoted bytes → is_quoted bytes ≡ true
+quoted_test bytes h = framed_by (delimiter_len (kind_of bytes)) (delimiter_len (kind_of bytes)) bytes h.long h.before h.behind
+
+pub framed_test : (front end : ℕ) (bytes : List ℕ) → IsFramed front end bytes → is_framed front end bytes ≡ true
 framed_test front end bytes h = framed_by front end bytes h.long h.before h.behind
 
 -- each literal between delimiters, and each part of a format string but the last, is delimited
@@ -415,7 +412,10 @@ module _ (expander : Answers) (current : VersionNumbers) (tokens : List Token) (
         derives_none = λ tree features d. ok_is_no_error h.refusal (tree, features) (reader.file expander (map significant_of table)) h.read (found tree features d);
         among = in_tokens tokens table all e.token h.among;
         not_internal = refusal_not_internal ts h.refusal e error;
-        refused = record { refusal = h.refusal; read = read; error = error; 
+        refused = record {
+          refusal = h.refusal;
+          read = read;
+          error = error;
           breaks = λ tree features d. refused expander ts tree features d h.refusal read;
           breaks_at = λ tree features Hit d. due expander ts tree features Hit d h.refusal read;
         };

@@ -163,7 +163,7 @@ module _ (expander : Answers) (start : Tok) (d : ℕ) where
         → with_front start (ps ++ (e, l) ∷ []) (pair expander start.lexeme d rest) ≡ with_front start ps (pair expander start.lexeme d s)
     goes_on e l rest h =
         let two : pair expander start.lexeme d s ≡ (pair expander start.lexeme d rest >>= joining (expr_of e) (part_tok l)) =
-            pair_by s ∙ rw h (ap (λ (f : Read (Parts Tok Tok)). f >>= paired (expr_of e)) (behind_pair (part_tok l) rest) ∙ pair_behind (expr_of e) (part_tok l) (pair expander start.lexeme d rest)) in
+        pair_by s ∙ rw h (ap (λ (f : Read (Parts Tok Tok)). f >>= paired (expr_of e)) (behind_pair (part_tok l) rest) ∙ pair_behind (expr_of e) (part_tok l) (pair expander start.lexeme d rest)) in
         regroup ps e l (pair expander start.lexeme d rest) ∙ sym (ap (with_front start ps) two)
 
     pub ends : (e : Expression) (l : StringLiteral) (rest : Input) → pair_rule expander start.lexeme d s ≡ Ok ((expr_of e, part_tok l, true), rest)

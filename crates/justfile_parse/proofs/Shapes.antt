@@ -4,7 +4,7 @@ use Rattle.justfile_model.specs.Expressions.{ends_open}
 use Rattle.justfile_model.specs.Tok.{Tok}
 use Rattle.justfile_model.specs.Tree.{Expr}
 use Rattle.justfile_model.specs.declared.list_feature.ListFeature.TheVariants as features
-use Rattle.justfile_parse.specs.Reading.{uncompared_feature}
+use Rattle.justfile_model.specs.Features.{uncompared_feature}
 use Rattle.justfile_tree.specs.Expression.{assert_of, conditional_of, join_of, format_of}
 use Rattle.justfile_tree.specs.declared.expression.Expression.{Held-Expression-Assert-1, None', Some', Row_of-Expression-FormatString-1-2, end_of-Expression-FormatString-1-2, more_of-Expression-FormatString-1-2}
 

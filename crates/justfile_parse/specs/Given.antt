@@ -10,7 +10,7 @@ use Rattle.justfile_base.specs.Token.{lexeme_of}
 use Rattle.justfile_base.specs.declared.numerator.Numerator.{Numerator}
 use Rattle.justfile_base.specs.declared.string_literal.StringLiteral as literals
 use Rattle.justfile_base.specs.declared.token.Token.{Token}
-use Rattle.justfile_cook.specs.Literal.{IsPartOf, string_of}
+use Rattle.justfile_cook.specs.Literal.{IsPartOf}
 use Rattle.justfile_file.specs.declared.binding.Binding.{Binding}
 use Rattle.justfile_file.specs.declared.fragment.Fragment.{Fragment}
 use Rattle.justfile_file.specs.declared.fragment.Fragment.TheVariants as fragments
@@ -21,7 +21,7 @@ use Rattle.justfile_file.specs.declared.recipe.UnresolvedRecipe.{UnresolvedRecip
 use Rattle.justfile_file.specs.Item.{item_of, item_numbers, item_recipe_numbers}
 use Rattle.justfile_file.specs.Line.{IsShebang}
 use Rattle.justfile_model.specs.Files.{NumbersFrom, bindings, recipes}
-use Rattle.justfile_model.specs.Literals.{Answers, Command, cooked_text}
+use Rattle.justfile_model.specs.Literals.{Answers, Command, cooked_text, string_of}
 use Rattle.justfile_model.specs.declared.list_feature.ListFeature.{ListFeature}
 use Rattle.justfile_tree.specs.declared.expression.Expression.{Expression, And', Assert', Backtick, Call', Comparison', Concatenation', Conditional', FormatString', Group', Join', List', ListConcatenation', Not', Or', StringLiteral, Variable, Held-Expression-Assert-1, None', Some', Row_of-Expression, end_of-Expression, more_of-Expression, Row_of-Expression-FormatString-1-2, end_of-Expression-FormatString-1-2, more_of-Expression-FormatString-1-2}
 

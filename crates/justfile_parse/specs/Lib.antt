@@ -1,5 +1,6 @@
 pub mod Errors
 pub mod Fault
+pub mod Formats
 pub mod Given
 pub mod Literal
 pub mod Parsing

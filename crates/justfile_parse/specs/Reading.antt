@@ -9,9 +9,9 @@ use Rattle.justfile_base.specs.declared.token_kind.TokenKind.TheVariants as kind
 use Rattle.justfile_model.specs.ExpressionReader as place
 use Rattle.justfile_model.specs.ExpressionReader.{ReadExpr, closed, read, with_text}
 use Rattle.justfile_model.specs.Expressions.{Tokens, ends_open, front}
-use Rattle.justfile_model.specs.Features.{noted_if, Noted}
+use Rattle.justfile_model.specs.Features.{uncompared, Noted}
 use Rattle.justfile_model.specs.Literals as literal
-use Rattle.justfile_model.specs.Literals.{Answers, cooked_text, LiteralFault, Escape, Refused, Shebang}
+use Rattle.justfile_model.specs.Literals.{Answers, cooked_text, LiteralFault}
 use Rattle.justfile_model.specs.Reading as reading
 use Rattle.justfile_model.specs.Reading.{◌>>=◌, Input, accept, accept_marked, accept_word, choose, expect, with}
 use Rattle.justfile_model.specs.SignificantTokens.{SignificantToken}
@@ -29,11 +29,9 @@ use Rattle.justfile_base.specs.Numerator.{bindings_of, constants_of, recipes_of}
 use Rattle.justfile_base.specs.declared.compile_error_kind.CompileErrorKind.{CompileErrorKind}
 use Rattle.justfile_base.specs.declared.compile_error_kind.CompileErrorKind.TheVariants as error_kinds
 use Rattle.justfile_base.specs.declared.numerator.Numerator.{Numerator}
-use Rattle.justfile_cook.specs.Literal.{IsKindOf, expansion_message}
 use Rattle.justfile_file.specs.Ast.{noted_of}
 use Rattle.justfile_file.specs.Item.{item_of}
 use Rattle.justfile_file.specs.declared.item.Item.{Item}
-use Rattle.justfile_model.specs.EscapeFault.{EscapeFault, escape_fault_of}
 use Rattle.justfile_model.specs.Reader as reader
 use Rattle.justfile_parse.specs.Errors.{IsAt, IsErrorOf, IsUnexpected}
 use Rattle.justfile_parse.specs.Given.{AreNotedIn, IsGivenItems, IsInTable}
@@ -52,7 +50,7 @@ refusal_at TooDeep s = reading.refused reading.TooDeep s
 -- Where reading stopped, the next token is refused, or a literal is, or a number is wanting. Want of memory says nothing.
 abbrev pub StopsAt : {Y : Type 0} → Stop → (left : Input) → (IsShort : Type 0) → Result Y reading.Refusal → Type 0
 StopsAt (stops.Refused refusal) left IsShort read = read ≡ Err (refusal_at refusal left)
-StopsAt (stops.Literal refused) left IsShort read = read ≡ Err (literal_refusal refused.error refused.glued)
+StopsAt (stops.Literal refused) left IsShort read = read ≡ Err (literal_refusal refused.value.error refused.value.glued)
 StopsAt stops.Memory left IsShort read = Unit {0}
 StopsAt stops.Numbers left IsShort read = IsShort
 
@@ -73,15 +71,10 @@ abbrev pub first_tok : Tokens → Option Tok
 first_tok [] = None
 first_tok (t ∷ ts) = Some t.tok
 
--- the feature that a condition is, if it is no comparison
-abbrev pub uncompared_feature : Expr Tok Tok → Option ListFeature
-uncompared_feature (tree.Comparison l operator token r) = None
-uncompared_feature _ = Some features.NonComparisonCondition
-
 -- a condition that is no comparison, noted at its first token
 abbrev pub note_front : Expr Tok Tok → Option Tok → Input → Input
 note_front e None s = s
-note_front e (Some first) s = with (noted_if (uncompared_feature e) first) s
+note_front e (Some first) s = with (uncompared e first) s
 
 abbrev pub option_tok : Option Token → Option Tok
 option_tok None = None
@@ -163,20 +156,16 @@ element_rule expander closing d s = do
 
 -- the fault of a literal at an entry, as reading stops for it
 abbrev pub TextStops : Stop → Fault → Token × Bool → Type 0
-TextStops (stops.Literal refused) (faults.Compile error) entry = (refused.error ≡ error) × (refused.glued ≡ entry.1)
+TextStops (stops.Literal refused) (faults.Compile error) entry = (refused.value.error ≡ error) × (refused.value.glued ≡ entry.1)
+TextStops stops.Memory (faults.Compile error) entry = Unit {0}
 TextStops stops.Memory faults.Memory entry = Unit {0}
 TextStops stops.Numbers faults.Numbers entry = Unit {0}
 TextStops _ _ entry = ⊥
 
 -- a literal's error stands at a token of the table
 abbrev pub IsGivenStop : (table : List (Token × Bool)) → Stop → Type 0
-IsGivenStop table (stops.Literal refused) = IsInTable table refused.error.token
+IsGivenStop table (stops.Literal refused) = IsInTable table refused.value.error.token
 IsGivenStop table _ = Unit {0}
-
--- what ends an item, which has a body or not
-abbrev pub ended_by : Answers → (has_body : Bool) → Input → reading.Read Tree
-ended_by expander true s = Ok (tree.Newline ∷ [], s)
-ended_by expander false s = reader.behind expander s
 
 -- bindings and recipes were numbered, together at most so many, and nothing else
 pub record IsMoved (old new : Numerator) (most : ℕ) : Type 0 where
@@ -193,7 +182,7 @@ IsKindAt TooDeep kind token = kind ≡ error_kinds.ParsingRecursionDepthExceeded
 -- The fault says why reading stopped: at the next of the tokens that are left, or at the last of the table where none is, or for a literal.
 abbrev pub IsFaultOf : List (Token × Bool) → (left : Input) → Stop → Fault → Type 0
 IsFaultOf table left (stops.Refused refusal) (faults.Compile e) = IsInTable table e.token × IsKindAt refusal e.kind e.token × IsAt (map significant_of table) (front left.tokens) e.token
-IsFaultOf table left (stops.Literal refused) (faults.Compile e) = e ≡ refused.error
+IsFaultOf table left (stops.Literal refused) (faults.Compile e) = e ≡ refused.value.error
 IsFaultOf table left stops.Memory faults.Memory = Unit {0}
 IsFaultOf table left stops.Numbers faults.Numbers = Unit {0}
 IsFaultOf table left _ _ = ⊥

@@ -1,4 +1,4 @@
-ghost use Rattle.std.specs.Prelude.{◌≡◌, ◌<◌, All, List, Bool, true, false, IsTrue, OnOk, OnSome, IfErr, IfOk, IfSome, IfNone, Some, None};
+ghost use Rattle.std.specs.Prelude.{◌≡◌, ◌<◌, ◌≤◌, All, List, Bool, true, false, IsTrue, OnOk, OnSome, IfErr, IfOk, IfSome, IfNone, Some, None};
 ghost use Rattle.justfile_base.specs.StringKind.{kind_of};
 ghost use Rattle.justfile_base.specs.Token.{lexeme_of};
 ghost use Rattle.justfile_base.specs.declared.token.Token.{Token};
@@ -10,14 +10,16 @@ ghost use Rattle.justfile_model.specs.Expressions.{ends_open};
 ghost use Rattle.justfile_model.specs.Literals.{Answers};
 ghost use Rattle.justfile_model.specs.Tok.{tok_of};
 ghost use Rattle.justfile_model.specs.Tree as tree;
+ghost use Rattle.justfile_parse.specs.Formats.{IsEnded, IsEndedBehind};
 ghost use Rattle.justfile_parse.specs.Given.{AreGivenBehind, IsGivenExpression, IsGivenFormat, IsGivenPart, IsInTable, part_by};
 ghost use Rattle.justfile_parse.specs.Literal.{is_sound};
 ghost use Rattle.justfile_parse.specs.Reading.{Gives, IsGivenStop, element_rule, format_rest, format_string_rule, otherwise_rule, pair_rule, part_rule};
 ghost use Rattle.justfile_parse.specs.Significant.{significant_of};
+ghost use Rattle.justfile_parse.specs.declared.stop.Stop.TheVariants as stops;
 ghost use Rattle.justfile_tree.specs.Expression.{expr_of, exprs_of, format_tree, part_tok};
 
 use crate::feature::{ends_open, function_feature};
-use crate::parser::{is_word, Entry, Parser};
+use crate::parser::{Entry, Parser, is_word};
 use crate::stop::{Refusal, Stop};
 use justfile_base::{Expander, Name, StringLiteral, Token, TokenKind};
 use justfile_tree::{ConditionalOperator, Expression, ListFeature};
@@ -36,84 +38,82 @@ impl<'src, X: Expander> Parser<'_, 'src, X> {
         ensures stop { IfErr result (IsGivenStop self.old.tokens.now) }
         ensures value { Gives (λ e. (expr_of e, input_of self.new)) result (input_of self.new) (read (answers_by X.answer self.old.expander.now) (reader.Expression false self.old.depth (input_of self.old))) }
     {
-        self.parse_expression_with_condition(false)
+        let expression = self.parse_expression_with_condition(false)?;
+        Ok(Box::into_inner(expression))
     }
 
     /// An expression, which is a condition or not: `||`, to the right.
     #[cycle(expression)]
     #[tactic(auto, using(justfile_model::proofs::ExpressionReading::expression_is), unfolding(justfile_model::specs::ExpressionReader::expression_rule))]
-    fn parse_expression_with_condition(&mut self, condition: bool) -> Result<Expression<'src>, Stop<'src>>
+    fn parse_expression_with_condition(
+        &mut self,
+        condition: bool,
+    ) -> Result<Box<Expression<'src>>, Stop<'src>>
         ensures same { OnOk result (IsSameRun self.old self.new) }
         ensures tokens { self.new.tokens ≡ self.old.tokens }
         ensures progress { OnOk result (self.old.next < self.new.next) }
-        ensures given { IfOk result (IsGivenExpression (answers_by X.answer self.old.expander.now) (IsInTable self.old.tokens.now)) }
+        ensures given { IfOk result (λ e. IsGivenExpression (answers_by X.answer self.old.expander.now) (IsInTable self.old.tokens.now) e.value) }
         ensures stop { IfErr result (IsGivenStop self.old.tokens.now) }
-        ensures value { Gives (λ e. (expr_of e, input_of self.new)) result (input_of self.new) (read (answers_by X.answer self.old.expander.now) (reader.Expression condition self.old.depth (input_of self.old))) }
+        ensures value { Gives (λ e. (expr_of e.value, input_of self.new)) result (input_of self.new) (read (answers_by X.answer self.old.expander.now) (reader.Expression condition self.old.depth (input_of self.old))) }
     {
         if self.depth == RECURSION_LIMIT {
             return Err(Stop::Refused(Refusal::TooDeep));
         }
         self.depth += 1;
-        let disjunct = self.parse_disjunct(condition)?;
+        let lhs = self.parse_disjunct(condition)?;
         if let Some((operator, _)) = self.accept(TokenKind::BarBar) {
             self.note(ListFeature::LogicalOperator, operator)?;
-            let lhs = Box::new(self.alloc, disjunct)?;
             let rhs = self.parse_expression_with_condition(false)?;
-            let rhs = Box::new(self.alloc, rhs)?;
             self.depth -= 1;
-            Ok(Expression::Or { lhs, rhs })
+            Ok(self.node(Expression::Or { lhs, rhs })?)
         } else {
             self.depth -= 1;
-            Ok(disjunct)
+            Ok(lhs)
         }
     }
 
     /// `&&`, to the right.
     #[cycle(expression)]
     #[tactic(auto, using(justfile_model::proofs::ExpressionReading::disjunct_is), unfolding(justfile_model::specs::ExpressionReader::disjunct_rule))]
-    fn parse_disjunct(&mut self, condition: bool) -> Result<Expression<'src>, Stop<'src>>
+    fn parse_disjunct(&mut self, condition: bool) -> Result<Box<Expression<'src>>, Stop<'src>>
         ensures same { OnOk result (IsSameRun self.old self.new) }
         ensures tokens { self.new.tokens ≡ self.old.tokens }
         ensures progress { OnOk result (self.old.next < self.new.next) }
-        ensures given { IfOk result (IsGivenExpression (answers_by X.answer self.old.expander.now) (IsInTable self.old.tokens.now)) }
+        ensures given { IfOk result (λ e. IsGivenExpression (answers_by X.answer self.old.expander.now) (IsInTable self.old.tokens.now) e.value) }
         ensures stop { IfErr result (IsGivenStop self.old.tokens.now) }
-        ensures value { Gives (λ e. (expr_of e, input_of self.new)) result (input_of self.new) (read (answers_by X.answer self.old.expander.now) (reader.Disjunct condition self.old.depth (input_of self.old))) }
+        ensures value { Gives (λ e. (expr_of e.value, input_of self.new)) result (input_of self.new) (read (answers_by X.answer self.old.expander.now) (reader.Disjunct condition self.old.depth (input_of self.old))) }
     {
-        let comparison = self.parse_comparison(condition)?;
+        let lhs = self.parse_comparison(condition)?;
         if let Some((operator, _)) = self.accept(TokenKind::AmpersandAmpersand) {
             self.note(ListFeature::LogicalOperator, operator)?;
-            let lhs = Box::new(self.alloc, comparison)?;
             let rhs = self.parse_disjunct(false)?;
-            let rhs = Box::new(self.alloc, rhs)?;
-            Ok(Expression::And { lhs, rhs })
+            Ok(self.node(Expression::And { lhs, rhs })?)
         } else {
-            Ok(comparison)
+            Ok(lhs)
         }
     }
 
     /// One comparison at most.
     #[cycle(expression)]
     #[tactic(auto, using(justfile_model::proofs::ExpressionReading::compared_is), unfolding(justfile_model::specs::ExpressionReader::compared_rule))]
-    fn parse_comparison(&mut self, condition: bool) -> Result<Expression<'src>, Stop<'src>>
+    fn parse_comparison(&mut self, condition: bool) -> Result<Box<Expression<'src>>, Stop<'src>>
         ensures same { OnOk result (IsSameRun self.old self.new) }
         ensures tokens { self.new.tokens ≡ self.old.tokens }
         ensures progress { OnOk result (self.old.next < self.new.next) }
-        ensures given { IfOk result (IsGivenExpression (answers_by X.answer self.old.expander.now) (IsInTable self.old.tokens.now)) }
+        ensures given { IfOk result (λ e. IsGivenExpression (answers_by X.answer self.old.expander.now) (IsInTable self.old.tokens.now) e.value) }
         ensures stop { IfErr result (IsGivenStop self.old.tokens.now) }
-        ensures value { Gives (λ e. (expr_of e, input_of self.new)) result (input_of self.new) (read (answers_by X.answer self.old.expander.now) (reader.Compared condition self.old.depth (input_of self.old))) }
+        ensures value { Gives (λ e. (expr_of e.value, input_of self.new)) result (input_of self.new) (read (answers_by X.answer self.old.expander.now) (reader.Compared condition self.old.depth (input_of self.old))) }
     {
         let lhs = self.parse_conjunct()?;
         if let Some((operator, (token, _))) = self.accept_operator() {
             self.note_comparison(condition, token)?;
-            let lhs = Box::new(self.alloc, lhs)?;
             let rhs = self.parse_conjunct()?;
-            let rhs = Box::new(self.alloc, rhs)?;
-            Ok(Expression::Comparison {
+            Ok(self.node(Expression::Comparison {
                 lhs,
                 operator,
                 rhs,
                 token,
-            })
+            })?)
         } else {
             Ok(lhs)
         }
@@ -122,59 +122,70 @@ impl<'src, X: Expander> Parser<'_, 'src, X> {
     /// `/`, `++` and `+`, to the right. `if` begins a conditional here.
     #[cycle(expression)]
     #[tactic(auto, using(justfile_model::proofs::ExpressionReading::conjunct_is), unfolding(justfile_model::specs::ExpressionReader::conjunct_rule))]
-    fn parse_conjunct(&mut self) -> Result<Expression<'src>, Stop<'src>>
+    fn parse_conjunct(&mut self) -> Result<Box<Expression<'src>>, Stop<'src>>
         ensures same { OnOk result (IsSameRun self.old self.new) }
         ensures tokens { self.new.tokens ≡ self.old.tokens }
         ensures progress { OnOk result (self.old.next < self.new.next) }
-        ensures given { IfOk result (IsGivenExpression (answers_by X.answer self.old.expander.now) (IsInTable self.old.tokens.now)) }
+        ensures given { IfOk result (λ e. IsGivenExpression (answers_by X.answer self.old.expander.now) (IsInTable self.old.tokens.now) e.value) }
         ensures stop { IfErr result (IsGivenStop self.old.tokens.now) }
-        ensures value { Gives (λ e. (expr_of e, input_of self.new)) result (input_of self.new) (read (answers_by X.answer self.old.expander.now) (reader.Conjunct self.old.depth (input_of self.old))) }
+        ensures value { Gives (λ e. (expr_of e.value, input_of self.new)) result (input_of self.new) (read (answers_by X.answer self.old.expander.now) (reader.Conjunct self.old.depth (input_of self.old))) }
     {
         if let Some(word) = self.accept_word("if") {
             return self.parse_conditional(word);
         }
         if let Some((operator, _)) = self.accept(TokenKind::Slash) {
             let rhs = self.parse_conjunct()?;
-            let rhs = Box::new(self.alloc, rhs)?;
-            return Ok(Expression::Join {
+            return Ok(self.node(Expression::Join {
                 lhs: None,
                 operator,
                 rhs,
-            });
+            })?);
         }
-        let value = self.parse_value()?;
+        let lhs = self.parse_value()?;
+        self.parse_joined(lhs)
+    }
+
+    /// `/`, `++` or `+` behind a value.
+    #[cycle(expression)]
+    fn parse_joined(
+        &mut self,
+        lhs: Box<Expression<'src>>,
+    ) -> Result<Box<Expression<'src>>, Stop<'src>>
+        requires given { IsGivenExpression (answers_by X.answer self.old.expander.now) (IsInTable self.old.tokens.now) lhs.value }
+        ensures same { OnOk result (IsSameRun self.old self.new) }
+        ensures tokens { self.new.tokens ≡ self.old.tokens }
+        ensures progress { OnOk result (self.old.next ≤ self.new.next) }
+        ensures given { IfOk result (λ e. IsGivenExpression (answers_by X.answer self.old.expander.now) (IsInTable self.old.tokens.now) e.value) }
+        ensures stop { IfErr result (IsGivenStop self.old.tokens.now) }
+        ensures value { Gives (λ e. (expr_of e.value, input_of self.new)) result (input_of self.new) (reader.conjunct_tail (answers_by X.answer self.old.expander.now) (read (answers_by X.answer self.old.expander.now)) self.old.depth (expr_of lhs.entry.value, input_of self.old)) }
+    {
         if let Some((operator, _)) = self.accept(TokenKind::Slash) {
-            let lhs = Some(Box::new(self.alloc, value)?);
+            let lhs = Some(lhs);
             let rhs = self.parse_conjunct()?;
-            let rhs = Box::new(self.alloc, rhs)?;
-            return Ok(Expression::Join { lhs, operator, rhs });
+            return Ok(self.node(Expression::Join { lhs, operator, rhs })?);
         }
         if let Some((operator, _)) = self.accept(TokenKind::PlusPlus) {
             self.note(ListFeature::ListConcatenationOperator, operator)?;
-            let lhs = Box::new(self.alloc, value)?;
             let rhs = self.parse_conjunct()?;
-            let rhs = Box::new(self.alloc, rhs)?;
-            return Ok(Expression::ListConcatenation { lhs, operator, rhs });
+            return Ok(self.node(Expression::ListConcatenation { lhs, operator, rhs })?);
         }
         if let Some((operator, _)) = self.accept(TokenKind::Plus) {
-            let lhs = Box::new(self.alloc, value)?;
             let rhs = self.parse_conjunct()?;
-            let rhs = Box::new(self.alloc, rhs)?;
-            return Ok(Expression::Concatenation { lhs, operator, rhs });
+            return Ok(self.node(Expression::Concatenation { lhs, operator, rhs })?);
         }
-        Ok(value)
+        Ok(lhs)
     }
 
     /// The condition of an `if` or `assert`.
     #[cycle(expression)]
     #[tactic(auto, using(crate::proofs::Conditions::note_is), unfolding(justfile_model::specs::ExpressionReader::condition))]
-    fn parse_condition(&mut self) -> Result<Expression<'src>, Stop<'src>>
+    fn parse_condition(&mut self) -> Result<Box<Expression<'src>>, Stop<'src>>
         ensures same { OnOk result (IsSameRun self.old self.new) }
         ensures tokens { self.new.tokens ≡ self.old.tokens }
         ensures progress { OnOk result (self.old.next < self.new.next) }
-        ensures given { IfOk result (IsGivenExpression (answers_by X.answer self.old.expander.now) (IsInTable self.old.tokens.now)) }
+        ensures given { IfOk result (λ e. IsGivenExpression (answers_by X.answer self.old.expander.now) (IsInTable self.old.tokens.now) e.value) }
         ensures stop { IfErr result (IsGivenStop self.old.tokens.now) }
-        ensures value { Gives (λ e. (expr_of e, input_of self.new)) result (input_of self.new) (reader.condition (answers_by X.answer self.old.expander.now) (read (answers_by X.answer self.old.expander.now)) self.old.depth (input_of self.old)) }
+        ensures value { Gives (λ e. (expr_of e.value, input_of self.new)) result (input_of self.new) (reader.condition (answers_by X.answer self.old.expander.now) (read (answers_by X.answer self.old.expander.now)) self.old.depth (input_of self.old)) }
     {
         let first = self.first();
         let condition = self.parse_expression_with_condition(true)?;
@@ -185,13 +196,13 @@ impl<'src, X: Expander> Parser<'_, 'src, X> {
     /// An expression between braces.
     #[cycle(expression)]
     #[tactic(auto, unfolding(justfile_model::specs::ExpressionReader::braced))]
-    fn parse_braced(&mut self) -> Result<Expression<'src>, Stop<'src>>
+    fn parse_braced(&mut self) -> Result<Box<Expression<'src>>, Stop<'src>>
         ensures same { OnOk result (IsSameRun self.old self.new) }
         ensures tokens { self.new.tokens ≡ self.old.tokens }
         ensures progress { OnOk result (self.old.next < self.new.next) }
-        ensures given { IfOk result (IsGivenExpression (answers_by X.answer self.old.expander.now) (IsInTable self.old.tokens.now)) }
+        ensures given { IfOk result (λ e. IsGivenExpression (answers_by X.answer self.old.expander.now) (IsInTable self.old.tokens.now) e.value) }
         ensures stop { IfErr result (IsGivenStop self.old.tokens.now) }
-        ensures value { Gives (λ e. (expr_of e, input_of self.new)) result (input_of self.new) (reader.braced (answers_by X.answer self.old.expander.now) (read (answers_by X.answer self.old.expander.now)) self.old.depth (input_of self.old)) }
+        ensures value { Gives (λ e. (expr_of e.value, input_of self.new)) result (input_of self.new) (reader.braced (answers_by X.answer self.old.expander.now) (read (answers_by X.answer self.old.expander.now)) self.old.depth (input_of self.old)) }
     {
         self.expect(TokenKind::BraceL)?;
         let expression = self.parse_expression_with_condition(false)?;
@@ -202,46 +213,43 @@ impl<'src, X: Expander> Parser<'_, 'src, X> {
     /// A conditional, from behind its `if`.
     #[cycle(expression)]
     #[tactic(auto, using(crate::proofs::Conditions::conditional_is), unfolding(crate::specs::Reading::conditional_by))]
-    fn parse_conditional(&mut self, word: Entry<'src>) -> Result<Expression<'src>, Stop<'src>>
+    fn parse_conditional(&mut self, word: Entry<'src>) -> Result<Box<Expression<'src>>, Stop<'src>>
         requires among { IsInTable self.old.tokens.now word.0 }
         ensures same { OnOk result (IsSameRun self.old self.new) }
         ensures tokens { self.new.tokens ≡ self.old.tokens }
         ensures progress { OnOk result (self.old.next < self.new.next) }
-        ensures given { IfOk result (IsGivenExpression (answers_by X.answer self.old.expander.now) (IsInTable self.old.tokens.now)) }
+        ensures given { IfOk result (λ e. IsGivenExpression (answers_by X.answer self.old.expander.now) (IsInTable self.old.tokens.now) e.value) }
         ensures stop { IfErr result (IsGivenStop self.old.tokens.now) }
-        ensures value { Gives (λ e. (expr_of e, input_of self.new)) result (input_of self.new) (read (answers_by X.answer self.old.expander.now) (reader.Conditional self.old.depth (significant_of word.entry) (input_of self.old))) }
+        ensures value { Gives (λ e. (expr_of e.value, input_of self.new)) result (input_of self.new) (read (answers_by X.answer self.old.expander.now) (reader.Conditional self.old.depth (significant_of word.entry) (input_of self.old))) }
     {
         let condition = self.parse_condition()?;
-        let condition = Box::new(self.alloc, condition)?;
         let then = self.parse_braced()?;
-        let then = Box::new(self.alloc, then)?;
         let Some(_else) = self.accept_word("else") else {
             self.note(ListFeature::IfWithoutElse, word.0)?;
-            return Ok(Expression::Conditional {
+            return Ok(self.node(Expression::Conditional {
                 condition,
                 then,
                 otherwise: None,
-            });
+            })?);
         };
-        let otherwise = self.parse_otherwise()?;
-        let otherwise = Some(Box::new(self.alloc, otherwise)?);
-        Ok(Expression::Conditional {
+        let otherwise = Some(self.parse_otherwise()?);
+        Ok(self.node(Expression::Conditional {
             condition,
             then,
             otherwise,
-        })
+        })?)
     }
 
     /// The other branch of a conditional, from behind `else`.
     #[cycle(expression)]
     #[tactic(auto, unfolding(crate::specs::Reading::otherwise_rule))]
-    fn parse_otherwise(&mut self) -> Result<Expression<'src>, Stop<'src>>
+    fn parse_otherwise(&mut self) -> Result<Box<Expression<'src>>, Stop<'src>>
         ensures same { OnOk result (IsSameRun self.old self.new) }
         ensures tokens { self.new.tokens ≡ self.old.tokens }
         ensures progress { OnOk result (self.old.next < self.new.next) }
-        ensures given { IfOk result (IsGivenExpression (answers_by X.answer self.old.expander.now) (IsInTable self.old.tokens.now)) }
+        ensures given { IfOk result (λ e. IsGivenExpression (answers_by X.answer self.old.expander.now) (IsInTable self.old.tokens.now) e.value) }
         ensures stop { IfErr result (IsGivenStop self.old.tokens.now) }
-        ensures value { Gives (λ e. (expr_of e, input_of self.new)) result (input_of self.new) (otherwise_rule (answers_by X.answer self.old.expander.now) self.old.depth (input_of self.old)) }
+        ensures value { Gives (λ e. (expr_of e.value, input_of self.new)) result (input_of self.new) (otherwise_rule (answers_by X.answer self.old.expander.now) self.old.depth (input_of self.old)) }
     {
         if let Some(word) = self.accept_word("if") {
             return self.parse_conditional(word);
@@ -254,19 +262,18 @@ impl<'src, X: Expander> Parser<'_, 'src, X> {
     /// What may stand on either side of an operator: `!`, or what takes no operator before it.
     #[cycle(expression)]
     #[tactic(auto, using(justfile_model::proofs::ExpressionReading::value_is), unfolding(justfile_model::specs::ExpressionReader::value_rule))]
-    fn parse_value(&mut self) -> Result<Expression<'src>, Stop<'src>>
+    fn parse_value(&mut self) -> Result<Box<Expression<'src>>, Stop<'src>>
         ensures same { OnOk result (IsSameRun self.old self.new) }
         ensures tokens { self.new.tokens ≡ self.old.tokens }
         ensures progress { OnOk result (self.old.next < self.new.next) }
-        ensures given { IfOk result (IsGivenExpression (answers_by X.answer self.old.expander.now) (IsInTable self.old.tokens.now)) }
+        ensures given { IfOk result (λ e. IsGivenExpression (answers_by X.answer self.old.expander.now) (IsInTable self.old.tokens.now) e.value) }
         ensures stop { IfErr result (IsGivenStop self.old.tokens.now) }
-        ensures value { Gives (λ e. (expr_of e, input_of self.new)) result (input_of self.new) (read (answers_by X.answer self.old.expander.now) (reader.Value self.old.depth (input_of self.old))) }
+        ensures value { Gives (λ e. (expr_of e.value, input_of self.new)) result (input_of self.new) (read (answers_by X.answer self.old.expander.now) (reader.Value self.old.depth (input_of self.old))) }
     {
         if let Some((bang, _)) = self.accept(TokenKind::Bang) {
             self.note(ListFeature::NegationOperator, bang)?;
             let operand = self.parse_value()?;
-            let operand = Box::new(self.alloc, operand)?;
-            return Ok(Expression::Not { operand });
+            return Ok(self.node(Expression::Not { operand })?);
         }
         self.parse_literal()
     }
@@ -274,13 +281,13 @@ impl<'src, X: Expander> Parser<'_, 'src, X> {
     /// A string, or another value.
     #[cycle(expression)]
     #[tactic(auto, unfolding(justfile_model::specs::ExpressionReader::literal_rule))]
-    fn parse_literal(&mut self) -> Result<Expression<'src>, Stop<'src>>
+    fn parse_literal(&mut self) -> Result<Box<Expression<'src>>, Stop<'src>>
         ensures same { OnOk result (IsSameRun self.old self.new) }
         ensures tokens { self.new.tokens ≡ self.old.tokens }
         ensures progress { OnOk result (self.old.next < self.new.next) }
-        ensures given { IfOk result (IsGivenExpression (answers_by X.answer self.old.expander.now) (IsInTable self.old.tokens.now)) }
+        ensures given { IfOk result (λ e. IsGivenExpression (answers_by X.answer self.old.expander.now) (IsInTable self.old.tokens.now) e.value) }
         ensures stop { IfErr result (IsGivenStop self.old.tokens.now) }
-        ensures value { Gives (λ e. (expr_of e, input_of self.new)) result (input_of self.new) (reader.literal_rule (answers_by X.answer self.old.expander.now) (read (answers_by X.answer self.old.expander.now)) self.old.depth (input_of self.old)) }
+        ensures value { Gives (λ e. (expr_of e.value, input_of self.new)) result (input_of self.new) (reader.literal_rule (answers_by X.answer self.old.expander.now) (read (answers_by X.answer self.old.expander.now)) self.old.depth (input_of self.old)) }
     {
         if let Some(entry) = self.accept(TokenKind::StringToken) {
             return self.string(entry, false);
@@ -294,13 +301,13 @@ impl<'src, X: Expander> Parser<'_, 'src, X> {
     /// A format string, or another value.
     #[cycle(expression)]
     #[tactic(auto, using(crate::proofs::Conditions::format_is), unfolding(crate::specs::Reading::format_by))]
-    fn parse_format(&mut self) -> Result<Expression<'src>, Stop<'src>>
+    fn parse_format(&mut self) -> Result<Box<Expression<'src>>, Stop<'src>>
         ensures same { OnOk result (IsSameRun self.old self.new) }
         ensures tokens { self.new.tokens ≡ self.old.tokens }
         ensures progress { OnOk result (self.old.next < self.new.next) }
-        ensures given { IfOk result (IsGivenExpression (answers_by X.answer self.old.expander.now) (IsInTable self.old.tokens.now)) }
+        ensures given { IfOk result (λ e. IsGivenExpression (answers_by X.answer self.old.expander.now) (IsInTable self.old.tokens.now) e.value) }
         ensures stop { IfErr result (IsGivenStop self.old.tokens.now) }
-        ensures value { Gives (λ e. (expr_of e, input_of self.new)) result (input_of self.new) (reader.format_rule (answers_by X.answer self.old.expander.now) (read (answers_by X.answer self.old.expander.now)) self.old.depth (input_of self.old)) }
+        ensures value { Gives (λ e. (expr_of e.value, input_of self.new)) result (input_of self.new) (reader.format_rule (answers_by X.answer self.old.expander.now) (read (answers_by X.answer self.old.expander.now)) self.old.depth (input_of self.old)) }
     {
         if let Some(entry) = self.accept_marked("f", TokenKind::StringToken) {
             return self.single(entry);
@@ -314,20 +321,24 @@ impl<'src, X: Expander> Parser<'_, 'src, X> {
     /// A format string, from behind its start.
     #[cycle(expression)]
     #[tactic(auto, unfolding(crate::specs::Reading::format_string_rule))]
-    fn parse_format_string(&mut self, start: Entry<'src>) -> Result<Expression<'src>, Stop<'src>>
+    fn parse_format_string(
+        &mut self,
+        start: Entry<'src>,
+    ) -> Result<Box<Expression<'src>>, Stop<'src>>
         requires kind { start.0.kind ≡ kinds.FormatStringStart }
         requires sound { IsTrue (is_sound start) }
         requires among { IsInTable self.old.tokens.now start.0 }
+        requires ended { IsEndedBehind (kind_of (lexeme_of start.0)) self.old.depth (input_of self.old).tokens }
         ensures same { OnOk result (IsSameRun self.old self.new) }
         ensures tokens { self.new.tokens ≡ self.old.tokens }
         ensures progress { OnOk result (self.old.next < self.new.next) }
-        ensures given { IfOk result (IsGivenExpression (answers_by X.answer self.old.expander.now) (IsInTable self.old.tokens.now)) }
+        ensures given { IfOk result (λ e. IsGivenExpression (answers_by X.answer self.old.expander.now) (IsInTable self.old.tokens.now) e.value) }
         ensures stop { IfErr result (IsGivenStop self.old.tokens.now) }
-        ensures value { Gives (λ e. (expr_of e, input_of self.new)) result (input_of self.new) (format_string_rule (answers_by X.answer self.old.expander.now) self.old.depth (significant_of start.entry, input_of self.old)) }
+        ensures value { Gives (λ e. (expr_of e.value, input_of self.new)) result (input_of self.new) (format_string_rule (answers_by X.answer self.old.expander.now) self.old.depth (significant_of start.entry, input_of self.old)) }
     {
         let literal = self.format_start(start)?;
         let expressions = self.parse_parts(start)?;
-        Ok(format_string(literal, expressions))
+        Ok(self.node(format_string(literal, expressions))?)
     }
 
     /// The expressions of a format string, each with the part behind it, from behind its start.
@@ -337,6 +348,7 @@ impl<'src, X: Expander> Parser<'_, 'src, X> {
         &mut self,
         start: Entry<'src>,
     ) -> Result<Vec<(Expression<'src>, StringLiteral<'src>)>, Stop<'src>>
+        requires ended { IsEndedBehind (kind_of (lexeme_of start.0)) self.old.depth (input_of self.old).tokens }
         ensures same { OnOk result (IsSameRun self.old self.new) }
         ensures tokens { self.new.tokens ≡ self.old.tokens }
         ensures progress { OnOk result (self.old.next < self.new.next) }
@@ -357,13 +369,13 @@ impl<'src, X: Expander> Parser<'_, 'src, X> {
     /// A command between backticks, or another value.
     #[cycle(expression)]
     #[tactic(auto, unfolding(justfile_model::specs::ExpressionReader::backtick_rule))]
-    fn parse_backtick(&mut self) -> Result<Expression<'src>, Stop<'src>>
+    fn parse_backtick(&mut self) -> Result<Box<Expression<'src>>, Stop<'src>>
         ensures same { OnOk result (IsSameRun self.old self.new) }
         ensures tokens { self.new.tokens ≡ self.old.tokens }
         ensures progress { OnOk result (self.old.next < self.new.next) }
-        ensures given { IfOk result (IsGivenExpression (answers_by X.answer self.old.expander.now) (IsInTable self.old.tokens.now)) }
+        ensures given { IfOk result (λ e. IsGivenExpression (answers_by X.answer self.old.expander.now) (IsInTable self.old.tokens.now) e.value) }
         ensures stop { IfErr result (IsGivenStop self.old.tokens.now) }
-        ensures value { Gives (λ e. (expr_of e, input_of self.new)) result (input_of self.new) (reader.backtick_rule (answers_by X.answer self.old.expander.now) (read (answers_by X.answer self.old.expander.now)) self.old.depth (input_of self.old)) }
+        ensures value { Gives (λ e. (expr_of e.value, input_of self.new)) result (input_of self.new) (reader.backtick_rule (answers_by X.answer self.old.expander.now) (read (answers_by X.answer self.old.expander.now)) self.old.depth (input_of self.old)) }
     {
         if let Some(entry) = self.accept(TokenKind::Backtick) {
             return self.backtick(entry);
@@ -374,13 +386,13 @@ impl<'src, X: Expander> Parser<'_, 'src, X> {
     /// An assertion, or another value.
     #[cycle(expression)]
     #[tactic(auto, unfolding(justfile_model::specs::ExpressionReader::assert_rule))]
-    fn parse_assert(&mut self) -> Result<Expression<'src>, Stop<'src>>
+    fn parse_assert(&mut self) -> Result<Box<Expression<'src>>, Stop<'src>>
         ensures same { OnOk result (IsSameRun self.old self.new) }
         ensures tokens { self.new.tokens ≡ self.old.tokens }
         ensures progress { OnOk result (self.old.next < self.new.next) }
-        ensures given { IfOk result (IsGivenExpression (answers_by X.answer self.old.expander.now) (IsInTable self.old.tokens.now)) }
+        ensures given { IfOk result (λ e. IsGivenExpression (answers_by X.answer self.old.expander.now) (IsInTable self.old.tokens.now) e.value) }
         ensures stop { IfErr result (IsGivenStop self.old.tokens.now) }
-        ensures value { Gives (λ e. (expr_of e, input_of self.new)) result (input_of self.new) (reader.assert_rule (answers_by X.answer self.old.expander.now) (read (answers_by X.answer self.old.expander.now)) self.old.depth (input_of self.old)) }
+        ensures value { Gives (λ e. (expr_of e.value, input_of self.new)) result (input_of self.new) (reader.assert_rule (answers_by X.answer self.old.expander.now) (read (answers_by X.answer self.old.expander.now)) self.old.depth (input_of self.old)) }
     {
         let Some((word, _)) = self.accept_word("assert") else {
             return self.parse_name();
@@ -388,90 +400,87 @@ impl<'src, X: Expander> Parser<'_, 'src, X> {
         let name = Name::from_identifier(word);
         self.expect(TokenKind::ParenL)?;
         let condition = self.parse_condition()?;
-        let condition = Box::new(self.alloc, condition)?;
         if let Some(_comma) = self.accept(TokenKind::Comma) {
-            let message = self.parse_expression_with_condition(false)?;
-            let message = Some(Box::new(self.alloc, message)?);
+            let message = Some(self.parse_expression_with_condition(false)?);
             self.expect(TokenKind::ParenR)?;
-            return Ok(Expression::Assert {
+            return Ok(self.node(Expression::Assert {
                 condition,
                 message,
                 name,
-            });
+            })?);
         }
         self.expect(TokenKind::ParenR)?;
-        Ok(Expression::Assert {
+        Ok(self.node(Expression::Assert {
             condition,
             message: None,
             name,
-        })
+        })?)
     }
 
     /// A call or a variable, or another value.
     #[cycle(expression)]
     #[tactic(auto, unfolding(justfile_model::specs::ExpressionReader::name_rule))]
-    fn parse_name(&mut self) -> Result<Expression<'src>, Stop<'src>>
+    fn parse_name(&mut self) -> Result<Box<Expression<'src>>, Stop<'src>>
         ensures same { OnOk result (IsSameRun self.old self.new) }
         ensures tokens { self.new.tokens ≡ self.old.tokens }
         ensures progress { OnOk result (self.old.next < self.new.next) }
-        ensures given { IfOk result (IsGivenExpression (answers_by X.answer self.old.expander.now) (IsInTable self.old.tokens.now)) }
+        ensures given { IfOk result (λ e. IsGivenExpression (answers_by X.answer self.old.expander.now) (IsInTable self.old.tokens.now) e.value) }
         ensures stop { IfErr result (IsGivenStop self.old.tokens.now) }
-        ensures value { Gives (λ e. (expr_of e, input_of self.new)) result (input_of self.new) (reader.name_rule (answers_by X.answer self.old.expander.now) (read (answers_by X.answer self.old.expander.now)) self.old.depth (input_of self.old)) }
+        ensures value { Gives (λ e. (expr_of e.value, input_of self.new)) result (input_of self.new) (reader.name_rule (answers_by X.answer self.old.expander.now) (read (answers_by X.answer self.old.expander.now)) self.old.depth (input_of self.old)) }
     {
         let Some((token, _)) = self.accept(TokenKind::Identifier) else {
             return self.parse_group();
         };
         let name = Name::from_identifier(token);
         let Some(_opening) = self.accept(TokenKind::ParenL) else {
-            return Ok(Expression::Variable { name, number: None });
+            return Ok(self.node(Expression::Variable { name, number: None })?);
         };
         let arguments = self.parse_sequence(TokenKind::ParenR)?;
         self.note_if(function_feature(token.lexeme()), token)?;
-        Ok(call(name, arguments))
+        Ok(self.node(call(name, arguments))?)
     }
 
     /// An expression in parentheses, or a list.
     #[cycle(expression)]
     #[tactic(auto, unfolding(justfile_model::specs::ExpressionReader::group_rule))]
-    fn parse_group(&mut self) -> Result<Expression<'src>, Stop<'src>>
+    fn parse_group(&mut self) -> Result<Box<Expression<'src>>, Stop<'src>>
         ensures same { OnOk result (IsSameRun self.old self.new) }
         ensures tokens { self.new.tokens ≡ self.old.tokens }
         ensures progress { OnOk result (self.old.next < self.new.next) }
-        ensures given { IfOk result (IsGivenExpression (answers_by X.answer self.old.expander.now) (IsInTable self.old.tokens.now)) }
+        ensures given { IfOk result (λ e. IsGivenExpression (answers_by X.answer self.old.expander.now) (IsInTable self.old.tokens.now) e.value) }
         ensures stop { IfErr result (IsGivenStop self.old.tokens.now) }
-        ensures value { Gives (λ e. (expr_of e, input_of self.new)) result (input_of self.new) (reader.group_rule (answers_by X.answer self.old.expander.now) (read (answers_by X.answer self.old.expander.now)) self.old.depth (input_of self.old)) }
+        ensures value { Gives (λ e. (expr_of e.value, input_of self.new)) result (input_of self.new) (reader.group_rule (answers_by X.answer self.old.expander.now) (read (answers_by X.answer self.old.expander.now)) self.old.depth (input_of self.old)) }
     {
         let Some(_opening) = self.accept(TokenKind::ParenL) else {
             return self.parse_list();
         };
         let contents = self.parse_expression_with_condition(false)?;
-        let contents = Box::new(self.alloc, contents)?;
         self.expect(TokenKind::ParenR)?;
-        Ok(Expression::Group { contents })
+        Ok(self.node(Expression::Group { contents })?)
     }
 
     /// A list.
     #[cycle(expression)]
     #[tactic(auto, unfolding(justfile_model::specs::ExpressionReader::list_rule))]
-    fn parse_list(&mut self) -> Result<Expression<'src>, Stop<'src>>
+    fn parse_list(&mut self) -> Result<Box<Expression<'src>>, Stop<'src>>
         ensures same { OnOk result (IsSameRun self.old self.new) }
         ensures tokens { self.new.tokens ≡ self.old.tokens }
         ensures progress { OnOk result (self.old.next < self.new.next) }
-        ensures given { IfOk result (IsGivenExpression (answers_by X.answer self.old.expander.now) (IsInTable self.old.tokens.now)) }
+        ensures given { IfOk result (λ e. IsGivenExpression (answers_by X.answer self.old.expander.now) (IsInTable self.old.tokens.now) e.value) }
         ensures stop { IfErr result (IsGivenStop self.old.tokens.now) }
-        ensures value { Gives (λ e. (expr_of e, input_of self.new)) result (input_of self.new) (reader.list_rule (answers_by X.answer self.old.expander.now) (read (answers_by X.answer self.old.expander.now)) self.old.depth (input_of self.old)) }
+        ensures value { Gives (λ e. (expr_of e.value, input_of self.new)) result (input_of self.new) (reader.list_rule (answers_by X.answer self.old.expander.now) (read (answers_by X.answer self.old.expander.now)) self.old.depth (input_of self.old)) }
     {
         let Some((opener, _)) = self.accept(TokenKind::BracketL) else {
             return Err(Stop::Refused(Refusal::Unexpected));
         };
         self.note(ListFeature::ListLiteral, opener)?;
         let elements = self.parse_sequence(TokenKind::BracketR)?;
-        Ok(list(opener, elements))
+        Ok(self.node(list(opener, elements))?)
     }
 
     /// Expressions with commas between, up to the closing delimiter and with it.
     #[cycle(expression)]
-    #[tactic(auto, using(crate::proofs::Elements::begins, crate::proofs::Elements::goes_on, crate::proofs::Elements::closes, crate::proofs::Elements::closes_last, crate::proofs::Elements::fails))]
+    #[tactic(auto, using(crate::proofs::Elements::begins, crate::proofs::Elements::goes_on, crate::proofs::Elements::closes, crate::proofs::Elements::closes_last, crate::proofs::Elements::fails, crate::proofs::Elements::stops))]
     fn parse_sequence(&mut self, closing: TokenKind) -> Result<Vec<Expression<'src>>, Stop<'src>>
         ensures same { OnOk result (IsSameRun self.old self.new) }
         ensures tokens { self.new.tokens ≡ self.old.tokens }
@@ -480,13 +489,13 @@ impl<'src, X: Expander> Parser<'_, 'src, X> {
         ensures stop { IfErr result (IsGivenStop self.old.tokens.now) }
         ensures value { Gives (λ e. (exprs_of e.items, input_of self.new)) result (input_of self.new) (read (answers_by X.answer self.old.expander.now) (reader.Sequence closing self.old.depth (input_of self.old))) }
     {
-        let mut elements = Vec::new(self.alloc);
+        let mut elements = Vec::with_capacity(self.alloc, 2)?;
         'elements: loop {
             if let Some(_closing) = self.accept(closing) {
                 return Ok(elements);
             }
             let (element, is_last) = self.parse_element(closing)?;
-            elements.push(element)?;
+            elements.push(Box::into_inner(element))?;
             if is_last {
                 return Ok(elements);
             }
@@ -500,6 +509,7 @@ impl<'src, X: Expander> Parser<'_, 'src, X> {
         &mut self,
         start: Entry<'src>,
     ) -> Result<(Expression<'src>, StringLiteral<'src>, bool), Stop<'src>>
+        requires ended { IsEndedBehind (kind_of (lexeme_of start.0)) self.old.depth (input_of self.old).tokens }
         ensures same { OnOk result (IsSameRun self.old self.new) }
         ensures tokens { self.new.tokens ≡ self.old.tokens }
         ensures progress { OnOk result (self.old.next < self.new.next) }
@@ -509,19 +519,22 @@ impl<'src, X: Expander> Parser<'_, 'src, X> {
     {
         let expression = self.parse_expression_with_condition(false)?;
         let (literal, is_last) = self.parse_part(start)?;
-        Ok((expression, literal, is_last))
+        Ok((Box::into_inner(expression), literal, is_last))
     }
 
     /// An element of a sequence, and whether the sequence is closed behind it.
     #[cycle(expression)]
     #[tactic(auto, unfolding(crate::specs::Reading::element_rule))]
-    fn parse_element(&mut self, closing: TokenKind) -> Result<(Expression<'src>, bool), Stop<'src>>
+    fn parse_element(
+        &mut self,
+        closing: TokenKind,
+    ) -> Result<(Box<Expression<'src>>, bool), Stop<'src>>
         ensures same { OnOk result (IsSameRun self.old self.new) }
         ensures tokens { self.new.tokens ≡ self.old.tokens }
         ensures progress { OnOk result (self.old.next < self.new.next) }
-        ensures given { IfOk result (λ x. IsGivenExpression (answers_by X.answer self.old.expander.now) (IsInTable self.old.tokens.now) x.0) }
+        ensures given { IfOk result (λ x. IsGivenExpression (answers_by X.answer self.old.expander.now) (IsInTable self.old.tokens.now) x.0.value) }
         ensures stop { IfErr result (IsGivenStop self.old.tokens.now) }
-        ensures value { Gives (λ x. ((expr_of x.0, x.1), input_of self.new)) result (input_of self.new) (element_rule (answers_by X.answer self.old.expander.now) closing self.old.depth (input_of self.old)) }
+        ensures value { Gives (λ x. ((expr_of x.0.value, x.1), input_of self.new)) result (input_of self.new) (element_rule (answers_by X.answer self.old.expander.now) closing self.old.depth (input_of self.old)) }
     {
         let element = self.parse_expression_with_condition(false)?;
         if let Some(_comma) = self.accept(TokenKind::Comma) {
@@ -529,6 +542,17 @@ impl<'src, X: Expander> Parser<'_, 'src, X> {
         }
         self.expect(closing)?;
         Ok((element, true))
+    }
+
+    /// An expression in a box of its own.
+    pub(crate) fn node(
+        &self,
+        expression: Expression<'src>,
+    ) -> Result<Box<Expression<'src>>, Stop<'src>>
+        ensures is { IfOk result (λ e. e.value ≡ expression.entry) }
+        ensures memory { IfErr result (λ stop. stop ≡ stops.Memory) }
+    {
+        Ok(Box::new(self.alloc, expression)?)
     }
 
     /// Takes the next token if it is a comparison operator.
@@ -590,6 +614,7 @@ impl<'src, X: Expander> Parser<'_, 'src, X> {
     /// The part of a format string behind an expression, and whether it is the last.
     #[tactic(auto, unfolding(crate::specs::Reading::part_rule))]
     fn parse_part(&mut self, start: Entry<'src>) -> Result<(StringLiteral<'src>, bool), Stop<'src>>
+        requires ended { IsEnded (kind_of (lexeme_of start.0)) self.old.depth (input_of self.old).tokens }
         ensures same { OnOk result (IsSameRun self.old self.new) }
         ensures tokens { self.new.tokens ≡ self.old.tokens }
         ensures progress { OnOk result (self.old.next < self.new.next) }

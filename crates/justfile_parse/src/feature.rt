@@ -1,10 +1,10 @@
 ghost use Rattle.std.specs.Prelude.{◌≡◌, IfErr, IfSome, OnOk};
 ghost use Rattle.justfile_model.specs.Expressions.{ends_open};
-ghost use Rattle.justfile_model.specs.Features.{compared, function_feature, noted, noted_if};
+ghost use Rattle.justfile_model.specs.Features.{compared, function_feature, noted, noted_if, uncompared_feature};
 ghost use Rattle.justfile_model.specs.Reading.{with};
 ghost use Rattle.justfile_model.specs.Tok.{tok_of};
 ghost use Rattle.justfile_parse.specs.Given.{IsInTable};
-ghost use Rattle.justfile_parse.specs.Reading.{note_front, option_tok, uncompared_feature};
+ghost use Rattle.justfile_parse.specs.Reading.{note_front, option_tok};
 ghost use Rattle.justfile_parse.specs.declared.stop.Stop.TheVariants as stops;
 ghost use Rattle.justfile_tree.specs.Expression.{expr_of};
 
@@ -18,7 +18,11 @@ impl<'src, X: Expander> Parser<'_, 'src, X> {
 
     /// Notes a feature that needs the setting for lists.
     #[tactic(auto, using(crate::proofs::Rest::input_noted, crate::proofs::Noting::noted_more))]
-    pub(crate) fn note(&mut self, feature: ListFeature, token: Token<'src>) -> Result<(), Stop<'src>>
+    pub(crate) fn note(
+        &mut self,
+        feature: ListFeature,
+        token: Token<'src>,
+    ) -> Result<(), Stop<'src>>
         requires { IsInTable self.old.tokens.now token }
         ensures same { IsSameRun self.old self.new }
         ensures stays { self.new.next ≡ self.old.next }

@@ -10,7 +10,7 @@ ghost use Rattle.justfile_model.specs.SignificantTokens.{identifiers};
 ghost use Rattle.justfile_model.specs.Tree as tree;
 ghost use Rattle.justfile_parse.specs.Given.{AreNotedIn, IsInTable, IsGivenBinding, IsUnnumberedItem, is_private};
 ghost use Rattle.justfile_cook.specs.Literal.{answers_by};
-ghost use Rattle.justfile_parse.specs.Reading.{Gives, GivesNumbered, IsGivenStop, IsMoved, ended_by};
+ghost use Rattle.justfile_parse.specs.Reading.{Gives, GivesNumbered, IsGivenStop, IsMoved};
 ghost use Rattle.justfile_parse.specs.WantsNumber.{LacksBinding, LacksFirst, LinesWantNumber, behind_mark};
 ghost use Rattle.justfile_parse.specs.declared.stop.Stop.TheVariants as stops;
 
@@ -152,12 +152,12 @@ impl<'src, X: Expander> Parser<'_, 'src, X> {
     }
 
     /// What ends an item: behind a body a line starts, and the line end before it is made.
-    #[tactic(auto, using(crate::proofs::Lines::ended_body, crate::proofs::Adding::unnumbered_item))]
+    #[tactic(auto, using(crate::proofs::Lines::ended_body, crate::proofs::Lines::ended_behind, crate::proofs::Adding::unnumbered_item))]
     fn parse_ended(&mut self, has_body: bool, items: &mut Vec<Item<'src>>) -> Result<(), Stop<'src>>
         ensures same { OnOk result (IsSameRun self.old self.new) }
         ensures tokens { self.new.tokens ≡ self.old.tokens }
         ensures progress { OnOk result (self.old.next ≤ self.new.next) }
-        ensures value { Gives (λ _. (map item_of items.new.items, input_of self.new)) result (input_of self.new) (after (map item_of items.old.items) (ended_by (answers_by X.answer self.old.expander.now) has_body (input_of self.old))) }
+        ensures value { Gives (λ _. (map item_of items.new.items, input_of self.new)) result (input_of self.new) (after (map item_of items.old.items) (reader.ended (answers_by X.answer self.old.expander.now) has_body (input_of self.old))) }
         ensures given { OnOk result (AddsUnnumbered X.answer self.old items.old.items items.new.items) }
         ensures stop { IfErr result (IsGivenStop self.old.tokens.now) }
     {

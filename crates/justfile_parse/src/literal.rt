@@ -3,10 +3,10 @@ ghost use Rattle.justfile_base.specs.StringKind.{kind_of};
 ghost use Rattle.justfile_base.specs.Token.{lexeme_of};
 ghost use Rattle.justfile_base.specs.declared.format_string_part.FormatStringPart.TheVariants as parts;
 ghost use Rattle.justfile_base.specs.declared.token_kind.TokenKind.TheVariants as kinds;
-ghost use Rattle.justfile_cook.specs.Literal.{answers_by, is_part, string_of};
+ghost use Rattle.justfile_cook.specs.Literal.{answers_by, is_part};
 ghost use Rattle.justfile_model.specs.ExpressionReader.{with_text};
 ghost use Rattle.justfile_model.specs.Literals as literal;
-ghost use Rattle.justfile_model.specs.Literals.{cooked_text};
+ghost use Rattle.justfile_model.specs.Literals.{cooked_text, string_of};
 ghost use Rattle.justfile_model.specs.Tok.{tok_of};
 ghost use Rattle.justfile_model.specs.Tree as tree;
 ghost use Rattle.justfile_parse.specs.Fault.{IsLiteralFault};
@@ -16,64 +16,74 @@ ghost use Rattle.justfile_parse.specs.Reading.{Gives, IsGivenStop, TextStops, wi
 ghost use Rattle.justfile_parse.specs.Significant.{significant_of};
 ghost use Rattle.justfile_tree.specs.Expression.{expr_of, part_tok};
 
+use crate::expression::format_string;
 use crate::parser::{Entry, Parser};
 use crate::stop::{Refused, Stop};
-use crate::expression::format_string;
 use justfile_base::{Expander, Fault, FormatStringPart, StringKind, StringLiteral};
 use justfile_cook::{command, format_part, string_literal};
 use justfile_tree::Expression;
+use std::alloc::Global;
 
 impl<'src, X: Expander> Parser<'_, 'src, X> {
     ghost use Rattle.justfile_parse.specs.View.{input_of};
 
     /// The literal that a string is.
     #[tactic(auto, using(crate::proofs::Cooked::quoted_string, crate::proofs::Cooked::string_is_given, crate::proofs::Cooked::string_given, crate::proofs::Cooked::text_stop_given, crate::proofs::Cooked::text_refused, crate::proofs::Cooked::is_literal))]
-    pub(crate) fn string(&self, entry: Entry<'src>, expand: bool) -> Result<Expression<'src>, Stop<'src>>
+    pub(crate) fn string(
+        &self,
+        entry: Entry<'src>,
+        expand: bool,
+    ) -> Result<Box<Expression<'src>>, Stop<'src>>
         requires kind { entry.0.kind ≡ kinds.StringToken }
         requires sound { IsTrue (is_sound entry) }
         requires among { IsInTable self.now.tokens.now entry.0 }
-        ensures given { IfOk result (IsGivenExpression (answers_by X.answer self.now.expander.now) (IsInTable self.now.tokens.now)) }
+        ensures given { IfOk result (λ e. IsGivenExpression (answers_by X.answer self.now.expander.now) (IsInTable self.now.tokens.now) e.value) }
         ensures stop { IfErr result (IsGivenStop self.now.tokens.now) }
-        ensures value { Gives (λ e. (expr_of e, input_of self.now)) result (input_of self.now) (with_text (tree.StringLiteral expand (tok_of entry.entry.0)) (significant_of entry.entry, input_of self.now) (cooked_text (answers_by X.answer self.now.expander.now) (string_of expand (lexeme_of entry.entry.0)))) }
+        ensures value { Gives (λ e. (expr_of e.value, input_of self.now)) result (input_of self.now) (with_text (tree.StringLiteral expand (tok_of entry.entry.0)) (significant_of entry.entry, input_of self.now) (cooked_text (answers_by X.answer self.now.expander.now) (string_of expand (lexeme_of entry.entry.0)))) }
     {
         match string_literal(self.alloc, entry.0, expand, self.expander) {
-            Ok(string_literal) => Ok(Expression::StringLiteral { string_literal }),
-            Err(fault) => Err(stop(fault, entry)),
+            Ok(string_literal) => Ok(self.node(Expression::StringLiteral { string_literal })?),
+            Err(fault) => Err(stop(self.alloc, fault, entry)),
         }
     }
 
     /// The command that a backtick is.
     #[tactic(auto, using(crate::proofs::Cooked::quoted_command, crate::proofs::Cooked::command_given, crate::proofs::Cooked::text_stop_given, crate::proofs::Cooked::command_refused, crate::proofs::Cooked::command_is_literal))]
-    pub(crate) fn backtick(&self, entry: Entry<'src>) -> Result<Expression<'src>, Stop<'src>>
+    pub(crate) fn backtick(&self, entry: Entry<'src>) -> Result<Box<Expression<'src>>, Stop<'src>>
         requires kind { entry.0.kind ≡ kinds.Backtick }
         requires sound { IsTrue (is_sound entry) }
         requires among { IsInTable self.now.tokens.now entry.0 }
-        ensures given { IfOk result (IsGivenExpression (answers_by X.answer self.now.expander.now) (IsInTable self.now.tokens.now)) }
+        ensures given { IfOk result (λ e. IsGivenExpression (answers_by X.answer self.now.expander.now) (IsInTable self.now.tokens.now) e.value) }
         ensures stop { IfErr result (IsGivenStop self.now.tokens.now) }
-        ensures value { Gives (λ e. (expr_of e, input_of self.now)) result (input_of self.now) (with_text (tree.Backtick (tok_of entry.entry.0)) (significant_of entry.entry, input_of self.now) (cooked_text (answers_by X.answer self.now.expander.now) (literal.Command (lexeme_of entry.entry.0)))) }
+        ensures value { Gives (λ e. (expr_of e.value, input_of self.now)) result (input_of self.now) (with_text (tree.Backtick (tok_of entry.entry.0)) (significant_of entry.entry, input_of self.now) (cooked_text (answers_by X.answer self.now.expander.now) (literal.Command (lexeme_of entry.entry.0)))) }
     {
         match command(self.alloc, entry.0) {
-            Ok(contents) => Ok(Expression::Backtick {
+            Ok(contents) => Ok(self.node(Expression::Backtick {
                 contents,
                 token: entry.0,
-            }),
-            Err(fault) => Err(stop(fault, entry)),
+            })?),
+            Err(fault) => Err(stop(self.alloc, fault, entry)),
         }
     }
 
     /// A format string with nothing to fill in.
     #[tactic(auto, using(crate::proofs::Cooked::framed_single, crate::proofs::Cooked::part_is_given, crate::proofs::Cooked::single_given, crate::proofs::Cooked::text_stop_given, crate::proofs::Cooked::text_refused, crate::proofs::Cooked::is_literal))]
-    pub(crate) fn single(&self, entry: Entry<'src>) -> Result<Expression<'src>, Stop<'src>>
+    pub(crate) fn single(&self, entry: Entry<'src>) -> Result<Box<Expression<'src>>, Stop<'src>>
         requires kind { entry.0.kind ≡ kinds.StringToken }
         requires sound { IsTrue (is_sound entry) }
         requires among { IsInTable self.now.tokens.now entry.0 }
-        ensures given { IfOk result (IsGivenExpression (answers_by X.answer self.now.expander.now) (IsInTable self.now.tokens.now)) }
+        ensures given { IfOk result (λ e. IsGivenExpression (answers_by X.answer self.now.expander.now) (IsInTable self.now.tokens.now) e.value) }
         ensures stop { IfErr result (IsGivenStop self.now.tokens.now) }
-        ensures value { Gives (λ e. (expr_of e, input_of self.now)) result (input_of self.now) (with_text (tree.FormatLiteral (tok_of entry.entry.0)) (significant_of entry.entry, input_of self.now) (cooked_text (answers_by X.answer self.now.expander.now) (literal.Single (lexeme_of entry.entry.0)))) }
+        ensures value { Gives (λ e. (expr_of e.value, input_of self.now)) result (input_of self.now) (with_text (tree.FormatLiteral (tok_of entry.entry.0)) (significant_of entry.entry, input_of self.now) (cooked_text (answers_by X.answer self.now.expander.now) (literal.Single (lexeme_of entry.entry.0)))) }
     {
-        match format_part(self.alloc, entry.0, kind_of(entry), FormatStringPart::Single) {
-            Ok(literal) => Ok(format_string(literal, Vec::new(self.alloc))),
-            Err(fault) => Err(stop(fault, entry)),
+        match format_part(
+            self.alloc,
+            entry.0,
+            kind_of(entry),
+            FormatStringPart::Single,
+        ) {
+            Ok(literal) => Ok(self.node(format_string(literal, Vec::new(self.alloc)))?),
+            Err(fault) => Err(stop(self.alloc, fault, entry)),
         }
     }
 
@@ -90,7 +100,7 @@ impl<'src, X: Expander> Parser<'_, 'src, X> {
     {
         match format_part(self.alloc, entry.0, kind_of(entry), FormatStringPart::Start) {
             Ok(literal) => Ok(literal),
-            Err(fault) => Err(stop(fault, entry)),
+            Err(fault) => Err(stop(self.alloc, fault, entry)),
         }
     }
 
@@ -108,9 +118,14 @@ impl<'src, X: Expander> Parser<'_, 'src, X> {
         ensures stop { IfErr result (IsGivenStop self.now.tokens.now) }
         ensures value { Gives (λ l. ((part_tok l, false), input_of self.now)) result (input_of self.now) (with_part (tok_of entry.entry.0) false (significant_of entry.entry, input_of self.now) (cooked_text (answers_by X.answer self.now.expander.now) (literal.Continue (lexeme_of start.entry.0) (lexeme_of entry.entry.0)))) }
     {
-        match format_part(self.alloc, entry.0, kind_of(start), FormatStringPart::Continue) {
+        match format_part(
+            self.alloc,
+            entry.0,
+            kind_of(start),
+            FormatStringPart::Continue,
+        ) {
             Ok(literal) => Ok(literal),
-            Err(fault) => Err(stop(fault, entry)),
+            Err(fault) => Err(stop(self.alloc, fault, entry)),
         }
     }
 
@@ -121,18 +136,15 @@ impl<'src, X: Expander> Parser<'_, 'src, X> {
         start: Entry<'src>,
         entry: Entry<'src>,
     ) -> Result<StringLiteral<'src>, Stop<'src>>
+        requires ended { IsTrue (is_part (kind_of (lexeme_of start.0)) parts.End (lexeme_of entry.0)) }
         requires among { IsInTable self.now.tokens.now entry.0 }
         ensures given { IfOk result (IsGivenPart (IsInTable self.now.tokens.now) (kind_of (lexeme_of start.entry.0)) parts.End) }
         ensures stop { IfErr result (IsGivenStop self.now.tokens.now) }
         ensures value { Gives (λ l. ((part_tok l, true), input_of self.now)) result (input_of self.now) (with_part (tok_of entry.entry.0) true (significant_of entry.entry, input_of self.now) (cooked_text (answers_by X.answer self.now.expander.now) (literal.End (lexeme_of start.entry.0) (lexeme_of entry.entry.0)))) }
     {
-        let kind = kind_of(start);
-        if !is_end(kind, entry.0.lexeme().as_bytes()) {
-            return Err(Stop::Memory);
-        }
-        match format_part(self.alloc, entry.0, kind, FormatStringPart::End) {
+        match format_part(self.alloc, entry.0, kind_of(start), FormatStringPart::End) {
             Ok(literal) => Ok(literal),
-            Err(fault) => Err(stop(fault, entry)),
+            Err(fault) => Err(stop(self.alloc, fault, entry)),
         }
     }
 }
@@ -144,24 +156,19 @@ fn kind_of(entry: Entry<'_>) -> StringKind
     StringKind::of_opening(entry.0.lexeme().as_bytes())
 }
 
-/// Whether the bytes may be the last part of a format string of this kind.
-fn is_end(kind: StringKind, bytes: &[u8]) -> bool
-    ensures { IsTrue result → IsTrue (is_part kind parts.End bytes.now) }
-{
-    let end = kind.delimiter_len();
-    end + 2 <= bytes.len() && bytes[1] < 128 && bytes[bytes.len() - end] < 128
-}
-
 /// Why a literal at this token has no text.
-fn stop<'src>(fault: Fault<'src>, entry: Entry<'src>) -> Stop<'src>
+fn stop<'src>(alloc: Global, fault: Fault<'src>, entry: Entry<'src>) -> Stop<'src>
     requires { IsLiteralFault fault }
     ensures { TextStops result fault.entry entry.entry }
 {
     match fault {
-        Fault::Compile(error) => Stop::Literal(Refused {
-            error,
-            glued: entry.1,
-        }),
+        Fault::Compile(error) => {
+            let glued = entry.1;
+            match Box::new(alloc, Refused { error, glued }) {
+                Ok(refused) => Stop::Literal(refused),
+                Err(_failed) => Stop::Memory,
+            }
+        }
         Fault::Memory => Stop::Memory,
         Fault::Numbers => Stop::Numbers,
     }

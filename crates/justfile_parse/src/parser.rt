@@ -2,11 +2,12 @@ ghost use Rattle.std.specs.Prelude.{◌≡◌, ◌<◌, ◌≤◌, ◌+◌, [], 
 ghost use Rattle.std.specs.List.{list_all};
 ghost use Rattle.justfile_base.specs.declared.token_kind.TokenKind.TheVariants as kinds;
 ghost use Rattle.justfile_cook.specs.Literal.{answers_by};
-ghost use Rattle.justfile_model.specs.Expressions.{front};
+ghost use Rattle.justfile_model.specs.Expressions.{depth_limit, front};
 ghost use Rattle.justfile_model.specs.Reader as reader;
 ghost use Rattle.justfile_model.specs.Reading as reading;
 ghost use Rattle.justfile_model.specs.SignificantTokens.{identifiers};
 ghost use Rattle.justfile_parse.specs.Errors.{IsAt};
+ghost use Rattle.justfile_parse.specs.Formats.{AreEnded, prop_ended};
 ghost use Rattle.justfile_parse.specs.Given.{IsInTable};
 ghost use Rattle.justfile_parse.specs.Literal.{is_sound};
 ghost use Rattle.justfile_parse.specs.Reading.{Gives, IsFaultOf, IsGivenStop, IsKindAt, IsMoved, IsRead, IsUnread, before, first_tok, marks, option_tok};
@@ -41,9 +42,10 @@ pub struct Parser<'run, 'src, X> {
     pub(crate) next: usize,
     pub(crate) tokens: &'run [(Token<'src>, bool)],
     ghost within: { next ≤ length tokens.now },
-    ghost shallow: { depth ≤ 256 },
+    ghost shallow: { depth ≤ depth_limit },
     ghost nonempty: { 0 < length tokens.now },
     ghost sound: { IsTrue (list_all is_sound tokens.now) },
+    ghost ended: { AreEnded (map significant_of tokens.now) } by { prop_ended (map significant_of tokens.now) },
 }
 
 impl<'run, 'src, X: Expander> Parser<'run, 'src, X> {
@@ -236,7 +238,7 @@ impl<'run, 'src, X: Expander> Parser<'run, 'src, X> {
     {
         match stop {
             Stop::Refused(refusal) => Fault::Compile(self.error(refusal)),
-            Stop::Literal(refused) => Fault::Compile(refused.error),
+            Stop::Literal(refused) => Fault::Compile(Box::into_inner(refused).error),
             Stop::Memory => Fault::Memory,
             Stop::Numbers => Fault::Numbers,
         }
@@ -281,6 +283,7 @@ impl<'run, 'src, X: Expander> Parser<'run, 'src, X> {
     ) -> CompileResult<'src, (Vec<Item<'src>>, Vec<(ListFeature, Token<'src>)>)>
         requires nonempty { 0 < length tokens.now }
         requires sound { IsTrue (list_all is_sound tokens.now) }
+        requires ended { AreEnded (map significant_of tokens.now) }
         ensures ok { IfOk result (λ x. IsRead (answers_by X.answer expander.now) tokens.now file_depth import_offsets.now (map significant_of tokens.now) numerator.old numerator.new (x.0.items, x.1.items)) }
         ensures err { IfErr result (IsUnread (answers_by X.answer expander.now) (map significant_of tokens.now) (IsInTable tokens.now) numerator.old numerator.new) }
         ensures moved { IsMoved numerator.old numerator.new (identifiers (map significant_of tokens.now)) }

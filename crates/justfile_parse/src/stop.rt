@@ -27,7 +27,7 @@ pub(crate) struct Refused<'src> {
 pub(crate) enum Stop<'src> {
     Refused(Refusal),
     /// A literal has no text.
-    Literal(Refused<'src>),
+    Literal(Box<Refused<'src>>),
     Memory,
     /// A number was wanted, and the counter had come to its end.
     Numbers,

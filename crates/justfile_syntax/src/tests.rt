@@ -16,6 +16,7 @@ mod literals;
 mod marks;
 mod names;
 mod operators;
+mod order;
 mod parts;
 mod prefixes;
 mod printing;

@@ -1,5 +1,6 @@
 -- Copies of expressions.
-use Rattle.std.specs.Prelude.{◌≡◌, string_bytes}
+use Rattle.std.specs.Prelude.{◌≡◌, Option, None, Some, string_bytes}
+use Rattle.std.specs.Global.{Box}
 use Rattle.justfile_base.specs.declared.string_literal.StringLiteral as literals
 use Rattle.justfile_base.specs.StringLiteral.{IsSameLiteral}
 use Rattle.justfile_tree.specs.declared.expression.Expression.{Expression, And', Assert', Backtick, Call', Comparison', Concatenation', Conditional', FormatString', Group', Join', List', ListConcatenation', Not', Or', StringLiteral, Variable, Held-Expression-Assert-1, None', Some', Row_of-Expression, end_of-Expression, more_of-Expression, Row_of-Expression-FormatString-1-2, end_of-Expression-FormatString-1-2, more_of-Expression-FormatString-1-2}
@@ -40,6 +41,12 @@ abbrev mutual
   AreSameParts end_of-Expression-FormatString-1-2 end_of-Expression-FormatString-1-2 = Unit {0}
   AreSameParts (more_of-Expression-FormatString-1-2 copy part copies) (more_of-Expression-FormatString-1-2 original part' originals) = IsSameExpression copy original × IsSameLiteral part part' × AreSameParts copies originals
   AreSameParts _ _ = ⊥
+
+-- the same where it may be absent
+abbrev pub IsSameOption : (copy original : Option (Box Expression)) → Type 0
+IsSameOption None None = Unit {0}
+IsSameOption (Some copy) (Some original) = IsSameExpression copy.value original.value
+IsSameOption _ _ = ⊥
 
 -- an expression of a format string, and the part behind it
 abbrev pub IsSamePart : (copy original : Expression × literals.StringLiteral) → Type 0

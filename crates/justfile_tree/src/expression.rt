@@ -1,6 +1,6 @@
 ghost use Rattle.std.specs.Prelude.{IfOk};
 ghost use Rattle.std.specs.List.{AllZip};
-ghost use Rattle.justfile_tree.specs.Copies.{IsSameExpression, IsSamePart};
+ghost use Rattle.justfile_tree.specs.Copies.{IsSameExpression, IsSameOption, IsSamePart};
 
 use justfile_base::{Name, Number, StringLiteral, Token};
 use justfile_model::ConditionalOperator;
@@ -107,30 +107,19 @@ impl<'src> Expression<'src> {
         ensures { IfOk result (λ copy. IsSameExpression copy self.now) }
     {
         match self {
-            Expression::And { lhs, rhs } => Ok(Expression::And {
-                lhs: boxed(alloc, lhs)?,
-                rhs: boxed(alloc, rhs)?,
-            }),
+            Expression::And { lhs, rhs } => {
+                let (lhs, rhs) = both(alloc, lhs, rhs)?;
+                Ok(Expression::And { lhs, rhs })
+            }
             Expression::Assert {
                 condition,
                 message,
                 name,
-            } => {
-                let condition = boxed(alloc, condition)?;
-                let name = *name;
-                match message {
-                    None => Ok(Expression::Assert {
-                        condition,
-                        message: None,
-                        name,
-                    }),
-                    Some(message) => Ok(Expression::Assert {
-                        condition,
-                        message: Some(boxed(alloc, message)?),
-                        name,
-                    }),
-                }
-            }
+            } => Ok(Expression::Assert {
+                condition: boxed(alloc, condition)?,
+                message: held(alloc, message)?,
+                name: *name,
+            }),
             Expression::Backtick { contents, token } => Ok(Expression::Backtick {
                 contents: contents.as_str().to_string(alloc)?,
                 token: *token,
@@ -144,36 +133,34 @@ impl<'src> Expression<'src> {
                 operator,
                 rhs,
                 token,
-            } => Ok(Expression::Comparison {
-                lhs: boxed(alloc, lhs)?,
-                operator: *operator,
-                rhs: boxed(alloc, rhs)?,
-                token: *token,
-            }),
-            Expression::Concatenation { lhs, operator, rhs } => Ok(Expression::Concatenation {
-                lhs: boxed(alloc, lhs)?,
-                operator: *operator,
-                rhs: boxed(alloc, rhs)?,
-            }),
+            } => {
+                let (lhs, rhs) = both(alloc, lhs, rhs)?;
+                Ok(Expression::Comparison {
+                    lhs,
+                    operator: *operator,
+                    rhs,
+                    token: *token,
+                })
+            }
+            Expression::Concatenation { lhs, operator, rhs } => {
+                let (lhs, rhs) = both(alloc, lhs, rhs)?;
+                Ok(Expression::Concatenation {
+                    lhs,
+                    operator: *operator,
+                    rhs,
+                })
+            }
             Expression::Conditional {
                 condition,
                 then: branch,
                 otherwise,
             } => {
-                let condition = boxed(alloc, condition)?;
-                let branch = boxed(alloc, branch)?;
-                match otherwise {
-                    None => Ok(Expression::Conditional {
-                        condition,
-                        then: branch,
-                        otherwise: None,
-                    }),
-                    Some(otherwise) => Ok(Expression::Conditional {
-                        condition,
-                        then: branch,
-                        otherwise: Some(boxed(alloc, otherwise)?),
-                    }),
-                }
+                let (condition, branch) = both(alloc, condition, branch)?;
+                Ok(Expression::Conditional {
+                    condition,
+                    then: branch,
+                    otherwise: held(alloc, otherwise)?,
+                })
             }
             Expression::FormatString { start, expressions } => Ok(Expression::FormatString {
                 start: start.clone(alloc)?,
@@ -182,40 +169,30 @@ impl<'src> Expression<'src> {
             Expression::Group { contents } => Ok(Expression::Group {
                 contents: boxed(alloc, contents)?,
             }),
-            Expression::Join { lhs, operator, rhs } => {
-                let operator = *operator;
-                let rhs = boxed(alloc, rhs)?;
-                match lhs {
-                    None => Ok(Expression::Join {
-                        lhs: None,
-                        operator,
-                        rhs,
-                    }),
-                    Some(lhs) => Ok(Expression::Join {
-                        lhs: Some(boxed(alloc, lhs)?),
-                        operator,
-                        rhs,
-                    }),
-                }
-            }
+            Expression::Join { lhs, operator, rhs } => Ok(Expression::Join {
+                lhs: held(alloc, lhs)?,
+                operator: *operator,
+                rhs: boxed(alloc, rhs)?,
+            }),
             Expression::List { elements, opener } => Ok(Expression::List {
                 elements: copied(alloc, elements)?,
                 opener: *opener,
             }),
-            Expression::ListConcatenation { lhs, operator, rhs } => Ok(
-                Expression::ListConcatenation {
-                    lhs: boxed(alloc, lhs)?,
+            Expression::ListConcatenation { lhs, operator, rhs } => {
+                let (lhs, rhs) = both(alloc, lhs, rhs)?;
+                Ok(Expression::ListConcatenation {
+                    lhs,
                     operator: *operator,
-                    rhs: boxed(alloc, rhs)?,
-                },
-            ),
+                    rhs,
+                })
+            }
             Expression::Not { operand } => Ok(Expression::Not {
                 operand: boxed(alloc, operand)?,
             }),
-            Expression::Or { lhs, rhs } => Ok(Expression::Or {
-                lhs: boxed(alloc, lhs)?,
-                rhs: boxed(alloc, rhs)?,
-            }),
+            Expression::Or { lhs, rhs } => {
+                let (lhs, rhs) = both(alloc, lhs, rhs)?;
+                Ok(Expression::Or { lhs, rhs })
+            }
             Expression::StringLiteral { string_literal } => Ok(Expression::StringLiteral {
                 string_literal: string_literal.clone(alloc)?,
             }),
@@ -224,6 +201,33 @@ impl<'src> Expression<'src> {
                 number: *number,
             }),
         }
+    }
+}
+
+/// Two expressions once more, each in a box of its own.
+#[cycle(copy)]
+fn both<'src>(
+    alloc: Global,
+    lhs: &Expression<'src>,
+    rhs: &Expression<'src>,
+) -> Result<(Box<Expression<'src>>, Box<Expression<'src>>), AllocError>
+    ensures { IfOk result (λ copies. IsSameExpression copies.0.value lhs.now × IsSameExpression copies.1.value rhs.now) }
+{
+    let copy = boxed(alloc, lhs)?;
+    Ok((copy, boxed(alloc, rhs)?))
+}
+
+/// An expression that may be absent once more.
+#[cycle(copy)]
+fn held<'src>(
+    alloc: Global,
+    expression: &Option<Box<Expression<'src>>>,
+) -> Result<Option<Box<Expression<'src>>>, AllocError>
+    ensures { IfOk result (λ copy. IsSameOption copy expression.now) }
+{
+    match expression {
+        None => Ok(None),
+        Some(expression) => Ok(Some(boxed(alloc, expression)?)),
     }
 }
 

@@ -5,7 +5,7 @@ ghost use Rattle.justfile_base.specs.StringLiteral.{format_mark, literal_text};
 ghost use Rattle.justfile_base.specs.Token.{lexeme_of};
 ghost use Rattle.justfile_model.specs.Printing.{piece, is_conditional, mark_text, operator_text, other_text};
 ghost use Rattle.justfile_tree.specs.Expression.{expr_shape};
-ghost use Rattle.justfile_tree.specs.Text.{text_of, part_text, separated, separator};
+ghost use Rattle.justfile_tree.specs.Text.{text_of, message_text, otherwise_text, part_text, separated, separator};
 
 use crate::expression::Expression;
 use crate::sink::Sink;
@@ -49,8 +49,7 @@ fn write_unexpanded<S: Sink>(literal: &StringLiteral<'_>, sink: &mut S) -> Resul
     ensures err { OnErr result (S.failed sink.old (format_mark literal.now ++ lexeme_of literal.now.token) sink.new) }
 {
     sink.put(literal.format_mark())?;
-    sink.put(literal.token.lexeme())?;
-    Ok(())
+    sink.put(literal.token.lexeme())
 }
 
 /// Puts a later part of a format string.
@@ -59,20 +58,18 @@ fn write_literal_part<S: Sink>(literal: &StringLiteral<'_>, sink: &mut S) -> Res
     ensures err { OnErr result (S.failed sink.old (literal_text literal.now) sink.new) }
 {
     sink.put(literal.marks())?;
-    sink.put(literal.token.lexeme())?;
-    Ok(())
+    sink.put(literal.token.lexeme())
 }
 
-/// Puts the operator of a comparison.
-fn write_operator<S: Sink>(operator: ConditionalOperator, sink: &mut S) -> Result<(), S::Fault>
-    ensures ok { OnOk result (S.took sink.old (operator_text operator) sink.new) }
-    ensures err { OnErr result (S.failed sink.old (operator_text operator) sink.new) }
+/// The operator of a comparison, with the spaces around it.
+fn operator_piece(operator: ConditionalOperator) -> &'static str
+    ensures { piece result.now ≡ operator_text operator }
 {
     match operator {
-        ConditionalOperator::Equality => put_piece(" == ", sink),
-        ConditionalOperator::Inequality => put_piece(" != ", sink),
-        ConditionalOperator::RegexMatch => put_piece(" =~ ", sink),
-        ConditionalOperator::RegexMismatch => put_piece(" !~ ", sink),
+        ConditionalOperator::Equality => " == ",
+        ConditionalOperator::Inequality => " != ",
+        ConditionalOperator::RegexMatch => " =~ ",
+        ConditionalOperator::RegexMismatch => " !~ ",
     }
 }
 
@@ -100,31 +97,14 @@ pub fn write_expression<S: Sink>(expression: &Expression<'_>, sink: &mut S) -> R
     ensures err { OnErr result (S.failed sink.old (text_of expression.now) sink.new) }
 {
     match expression {
-        Expression::And { lhs, rhs } => {
-            write_expression(lhs, sink)?;
-            put_piece(" && ", sink)?;
-            write_expression(rhs, sink)?;
-            Ok(())
-        }
+        Expression::And { lhs, rhs } => write_sides(lhs, " && ", rhs, sink),
         Expression::Assert {
             condition,
             message,
             ..
         } => {
-            put_piece("assert(", sink)?;
-            write_expression(condition, sink)?;
-            match message {
-                None => {
-                    put_piece(")", sink)?;
-                    Ok(())
-                }
-                Some(message) => {
-                    put_piece(", ", sink)?;
-                    write_expression(message, sink)?;
-                    put_piece(")", sink)?;
-                    Ok(())
-                }
-            }
+            write_behind("assert(", condition, sink)?;
+            write_message(message, sink)
         }
         Expression::Backtick { token, .. } => sink.put(token.lexeme()),
         Expression::Call { name, arguments } => write_call(*name, arguments, sink),
@@ -133,81 +113,109 @@ pub fn write_expression<S: Sink>(expression: &Expression<'_>, sink: &mut S) -> R
             operator,
             rhs,
             ..
-        } => {
-            write_expression(lhs, sink)?;
-            write_operator(*operator, sink)?;
-            write_expression(rhs, sink)?;
-            Ok(())
-        }
-        Expression::Concatenation { lhs, rhs, .. } => {
-            write_expression(lhs, sink)?;
-            put_piece(" + ", sink)?;
-            write_expression(rhs, sink)?;
-            Ok(())
-        }
+        } => write_sides(lhs, operator_piece(*operator), rhs, sink),
+        Expression::Concatenation { lhs, rhs, .. } => write_sides(lhs, " + ", rhs, sink),
         Expression::Conditional {
             condition,
             then: branch,
             otherwise,
         } => {
-            put_piece("if ", sink)?;
-            write_expression(condition, sink)?;
-            put_piece(" { ", sink)?;
+            write_enclosed("if ", condition, " { ", sink)?;
             write_expression(branch, sink)?;
-            match otherwise {
-                None => {
-                    put_piece(" }", sink)?;
-                    Ok(())
-                }
-                Some(otherwise) => {
-                    put_piece(" } else ", sink)?;
-                    write_other(otherwise, sink)?;
-                    Ok(())
-                }
-            }
+            write_otherwise(otherwise, sink)
         }
         Expression::FormatString { start, expressions } => {
             write_format_string(start, expressions, sink)
         }
-        Expression::Group { contents } => {
-            put_piece("(", sink)?;
-            write_expression(contents, sink)?;
-            put_piece(")", sink)?;
-            Ok(())
-        }
+        Expression::Group { contents } => write_enclosed("(", contents, ")", sink),
         Expression::Join { lhs, rhs, .. } => match lhs {
-            None => {
-                put_piece("/ ", sink)?;
-                write_expression(rhs, sink)?;
-                Ok(())
-            }
-            Some(lhs) => {
-                write_expression(lhs, sink)?;
-                put_piece(" / ", sink)?;
-                write_expression(rhs, sink)?;
-                Ok(())
-            }
+            None => write_behind("/ ", rhs, sink),
+            Some(lhs) => write_sides(lhs, " / ", rhs, sink),
         },
         Expression::List { elements, .. } => write_list(elements, sink),
-        Expression::ListConcatenation { lhs, rhs, .. } => {
-            write_expression(lhs, sink)?;
-            put_piece(" ++ ", sink)?;
-            write_expression(rhs, sink)?;
-            Ok(())
-        }
-        Expression::Not { operand } => {
-            put_piece("!", sink)?;
-            write_expression(operand, sink)?;
-            Ok(())
-        }
-        Expression::Or { lhs, rhs } => {
-            write_expression(lhs, sink)?;
-            put_piece(" || ", sink)?;
-            write_expression(rhs, sink)?;
-            Ok(())
-        }
+        Expression::ListConcatenation { lhs, rhs, .. } => write_sides(lhs, " ++ ", rhs, sink),
+        Expression::Not { operand } => write_behind("!", operand, sink),
+        Expression::Or { lhs, rhs } => write_sides(lhs, " || ", rhs, sink),
         Expression::StringLiteral { string_literal } => write_string_literal(string_literal, sink),
         Expression::Variable { name, .. } => sink.put(name.lexeme()),
+    }
+}
+
+/// Puts both sides of an operator, and it between them.
+#[cycle(write)]
+fn write_sides<S: Sink>(
+    lhs: &Expression<'_>,
+    operator: &str,
+    rhs: &Expression<'_>,
+    sink: &mut S,
+) -> Result<(), S::Fault>
+    ensures ok { OnOk result (S.took sink.old (text_of lhs.now ++ piece operator.now ++ text_of rhs.now) sink.new) }
+    ensures err { OnErr result (S.failed sink.old (text_of lhs.now ++ piece operator.now ++ text_of rhs.now) sink.new) }
+{
+    write_expression(lhs, sink)?;
+    put_piece(operator, sink)?;
+    write_expression(rhs, sink)
+}
+
+/// Puts an expression behind a piece.
+#[cycle(write)]
+fn write_behind<S: Sink>(
+    opening: &str,
+    expression: &Expression<'_>,
+    sink: &mut S,
+) -> Result<(), S::Fault>
+    ensures ok { OnOk result (S.took sink.old (piece opening.now ++ text_of expression.now) sink.new) }
+    ensures err { OnErr result (S.failed sink.old (piece opening.now ++ text_of expression.now) sink.new) }
+{
+    put_piece(opening, sink)?;
+    write_expression(expression, sink)
+}
+
+/// Puts an expression between two pieces.
+#[cycle(write)]
+fn write_enclosed<S: Sink>(
+    opening: &str,
+    expression: &Expression<'_>,
+    closing: &str,
+    sink: &mut S,
+) -> Result<(), S::Fault>
+    ensures ok { OnOk result (S.took sink.old (piece opening.now ++ text_of expression.now ++ piece closing.now) sink.new) }
+    ensures err { OnErr result (S.failed sink.old (piece opening.now ++ text_of expression.now ++ piece closing.now) sink.new) }
+{
+    write_behind(opening, expression, sink)?;
+    put_piece(closing, sink)
+}
+
+/// Puts what stands behind the condition of an `assert`.
+#[cycle(write)]
+fn write_message<S: Sink>(
+    message: &Option<Box<Expression<'_>>>,
+    sink: &mut S,
+) -> Result<(), S::Fault>
+    ensures ok { OnOk result (S.took sink.old (message_text message.now) sink.new) }
+    ensures err { OnErr result (S.failed sink.old (message_text message.now) sink.new) }
+{
+    match message {
+        None => put_piece(")", sink),
+        Some(message) => write_enclosed(", ", message, ")", sink),
+    }
+}
+
+/// Puts what stands behind the first branch of a conditional.
+#[cycle(write)]
+fn write_otherwise<S: Sink>(
+    otherwise: &Option<Box<Expression<'_>>>,
+    sink: &mut S,
+) -> Result<(), S::Fault>
+    ensures ok { OnOk result (S.took sink.old (otherwise_text otherwise.now) sink.new) }
+    ensures err { OnErr result (S.failed sink.old (otherwise_text otherwise.now) sink.new) }
+{
+    match otherwise {
+        None => put_piece(" }", sink),
+        Some(otherwise) => {
+            put_piece(" } else ", sink)?;
+            write_other(otherwise, sink)
+        }
     }
 }
 
@@ -220,10 +228,7 @@ fn write_other<S: Sink>(otherwise: &Expression<'_>, sink: &mut S) -> Result<(), 
     if is_conditional(otherwise) {
         write_expression(otherwise, sink)
     } else {
-        put_piece("{ ", sink)?;
-        write_expression(otherwise, sink)?;
-        put_piece(" }", sink)?;
-        Ok(())
+        write_enclosed("{ ", otherwise, " }", sink)
     }
 }
 
@@ -253,8 +258,7 @@ fn write_call<S: Sink>(
     sink.put(name.lexeme())?;
     put_piece("(", sink)?;
     write_separated(arguments, sink)?;
-    put_piece(")", sink)?;
-    Ok(())
+    put_piece(")", sink)
 }
 
 /// Puts a list.
@@ -265,8 +269,7 @@ fn write_list<S: Sink>(elements: &Vec<Expression<'_>>, sink: &mut S) -> Result<(
 {
     put_piece("[", sink)?;
     write_separated(elements, sink)?;
-    put_piece("]", sink)?;
-    Ok(())
+    put_piece("]", sink)
 }
 
 /// Puts a format string. Its first part is marked by its place, whatever marks it has itself.
@@ -281,8 +284,7 @@ fn write_format_string<S: Sink>(
 {
     put_piece("f", sink)?;
     sink.put(start.token.lexeme())?;
-    write_parts(expressions, sink)?;
-    Ok(())
+    write_parts(expressions, sink)
 }
 
 /// Puts what stands behind the start of a format string.
@@ -310,11 +312,8 @@ fn write_part<S: Sink>(
     ensures ok { OnOk result (S.took sink.old (part_text (value.now, literal.now)) sink.new) }
     ensures err { OnErr result (S.failed sink.old (part_text (value.now, literal.now)) sink.new) }
 {
-    put_piece(" ", sink)?;
-    write_expression(value, sink)?;
-    put_piece(" ", sink)?;
-    write_literal_part(literal, sink)?;
-    Ok(())
+    write_enclosed(" ", value, " ", sink)?;
+    write_literal_part(literal, sink)
 }
 
 impl fmt::Display for Expression<'_> {

@@ -128,6 +128,14 @@ fn else_belongs_to_a_conditional_that_has_none(rt: HostRuntime) -> Result<(), Fa
             "a := if b { c } else { if d { e } else { if f { g } } } else { h }\n",
             56,
         ),
+        (
+            "a := if b { c } else if d { e } else { if f { g } } else { h }\n",
+            52,
+        ),
+        (
+            "a := if b { c } else { if d { e } else if f { g } } else { h }\n",
+            52,
+        ),
         ("a := (if b { c }) else { d }\n", 18),
     ];
     compare(&rt, rt.alloc(), ROWS)

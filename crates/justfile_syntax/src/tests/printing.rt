@@ -139,6 +139,14 @@ fn conditionals_in_the_other_branch_lose_their_braces(rt: HostRuntime) -> Result
             "a := if b { c } else { (if d { e } else { f }) }\n",
         ),
         (
+            "a := if b { if c { d } else { if e { f } } } else { g }\n",
+            "a := if b { if c { d } else if e { f } } else { g }\n",
+        ),
+        (
+            "a := if b { c } else { if d { e } } == f\n",
+            "a := if b { c } else if d { e } == f\n",
+        ),
+        (
             "a := if b { c } else { if d { e } else { f } == g }\n",
             "a := if b { c } else { if d { e } else { f } == g }\n",
         ),

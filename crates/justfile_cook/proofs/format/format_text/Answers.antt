@@ -3,7 +3,7 @@ use Rattle.std.proofs.lemmas.Result.{IfErr-weaker, IfOk-weaker}
 use Rattle.justfile_base.specs.StringKind.{escapes}
 use Rattle.justfile_base.specs.Token.{lexeme_of}
 use Rattle.justfile_model.specs.Literals.{between, unescaped_braces}
-use Rattle.justfile_cook.specs.Literal.{end_len, front_len}
+use Rattle.justfile_model.specs.Literals.{end_len, front_len}
 use Rattle.justfile_cook.proofs.LiteralTexts.{cooked_string, refused_string}
 use Rattle.justfile_cook.proofs.format.format_text.Goals as goal
 

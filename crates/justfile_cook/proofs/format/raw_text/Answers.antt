@@ -1,5 +1,6 @@
 use Rattle.std.proofs.Common.{IsTrue, ℕ, subst, sym}
-use Rattle.justfile_cook.specs.Literal.{end_len, is_framed}
+use Rattle.justfile_model.specs.Literals.{end_len}
+use Rattle.justfile_cook.specs.Literal.{is_framed}
 use Rattle.justfile_cook.proofs.LiteralTexts.{begins}
 use Rattle.justfile_cook.proofs.format.raw_text.Goals as goal
 

@@ -1,4 +1,4 @@
-use Rattle.std.proofs.Common.{rules, ◌≡◌, ◌∙◌, Bool, true, false, List, None, Ok, sym, ap, subst, arith}
+use Rattle.std.proofs.Common.{rules, ◌≡◌, ◌∙◌, ℕ, Bool, true, false, List, [], ◌∷◌, ◌++◌, None, Ok, sym, ap, subst, arith}
 use Rattle.std.proofs.lemmas.Grind.{common_steps}
 use Rattle.justfile_base.specs.StringKind.{kind_of}
 use Rattle.justfile_base.specs.Token.{lexeme_of}
@@ -8,11 +8,14 @@ use Rattle.justfile_model.specs.ExpressionReader.{ReadExpr, Sequence, read}
 use Rattle.justfile_model.specs.Reading.{Input, Read, accept}
 use Rattle.justfile_model.specs.Tok.{Tok, tok_of}
 use Rattle.justfile_model.specs.Tree.{Expr, Exprs}
-use Rattle.justfile_parse.specs.Given.{IsInTable}
+use Rattle.justfile_parse.specs.Formats.{IsEnded}
+use Rattle.justfile_parse.specs.Given.{IsGivenExpression, IsInTable}
 use Rattle.justfile_parse.specs.Reading.{element_rule, pair_rule}
+use Rattle.justfile_parse.specs.Significant.{significant_of}
 use Rattle.justfile_parse.specs.View.{input_of}
 use Rattle.justfile_parse.proofs.Elements.{closes_last}
 use Rattle.justfile_parse.proofs.Elements as elements
+use Rattle.justfile_parse.proofs.Formats.{behind_expression, behind_pair, behind_start}
 use Rattle.justfile_parse.proofs.Parts as parts
 use Rattle.justfile_parse.proofs.Runs.{all_given, element_given, end_given, format_given, part_given, same_run}
 use Rattle.justfile_tree.specs.Expression.{expr_of, exprs_of, format_tree, part_tok}
@@ -26,9 +29,10 @@ parse_sequence-returns-then-is_last-clause-value g t c =
     let s = input_of c.elements.self in
     let rest = input_of c.parse_element.new.self in
     let none : accept c.args.closing s ≡ None = first_of (grind (arith, common_steps), search rules) in
-    let elem : ◌≡◌ {A = Read (Expr Tok Tok × Bool)} (element_rule A c.args.closing d s) (Ok ((expr_of c.in_ok-element.element, true), rest)) = first_of (grind (arith, common_steps), search rules) in
+    let elem : ◌≡◌ {A = Read (Expr Tok Tok × Bool)} (element_rule A c.args.closing d s) (Ok ((expr_of c.in_ok-element.element.value, true), rest)) = first_of (grind (arith, common_steps), search rules) in
     let P : List Expression → Read (Exprs Tok Tok) = λ es. Ok (exprs_of es, rest) in
-    sym c.elements.invariant.value ∙ closes_last A c.args.closing d s c.elements.elements.items c.in_ok-element.element rest none elem ∙ ap P (sym c.in_ok-push.ensures.items)
+    let Q : Expression → List Expression = λ e. c.elements.elements.items ++ e ∷ [] in
+    sym c.elements.invariant.value ∙ closes_last A c.args.closing d s c.elements.elements.items c.in_ok-element.element.value rest none elem ∙ ap P (sym (c.in_ok-push.ensures.items ∙ ap Q c.into_inner.ensures))
 
 pub parse_parts-returns-then-is_last-clause-value : goal.parse_parts-returns-then-is_last-clause-value
 parse_parts-returns-then-is_last-clause-value g t c =
@@ -49,16 +53,18 @@ parse_sequence-elements-preserved g t c =
     let d = c.args.self.now.depth in
     let s = input_of c.elements.self in
     let rest = input_of c.parse_element.new.self in
-    let e = c.in_ok-element.element in
+    let e = c.in_ok-element.element.value in
     let before = same_run c.elements.invariant.same c.in_default.ensures.same in
     let none : accept c.args.closing s ≡ None = first_of (grind (arith, common_steps), search rules) in
     let elem : ◌≡◌ {A = Read (Expr Tok Tok × Bool)} (element_rule A c.args.closing d s) (Ok ((expr_of e, false), rest)) = first_of (grind (arith, common_steps), search rules) in
     let P : List Expression → Read (Exprs Tok Tok) = λ es. elements.with_front es (read A (Sequence c.args.closing d rest)) in
+    let Q : Expression → List Expression = λ e. c.elements.elements.items ++ e ∷ [] in
+    let pushed = c.in_ok-push.ensures.items ∙ ap Q c.into_inner.ensures in
     record {
       same = same_run before c.in_ok-element.ensures.same;
       ahead = omega (arith, c.elements.invariant.ahead, c.in_default.ensures.stays, c.in_ok-element.ensures.progress);
-      given = element_given (λ x. answers_by g.X.Expander.answer x.now) (λ x. x.now) before.expander before.tokens c.elements.elements.items c.push.new.self.items e c.in_ok-push.ensures.items c.elements.invariant.given c.in_ok-element.ensures.given;
-      value = ap P c.in_ok-push.ensures.items ∙ elements.goes_on A c.args.closing d s c.elements.elements.items e rest none elem ∙ c.elements.invariant.value;
+      given = element_given (λ x. answers_by g.X.Expander.answer x.now) (λ x. x.now) before.expander before.tokens c.elements.elements.items c.push.new.self.items e pushed c.elements.invariant.given c.in_ok-element.ensures.given;
+      value = ap P pushed ∙ elements.goes_on A c.args.closing d s c.elements.elements.items e rest none elem ∙ c.elements.invariant.value;
     }
 
 pub parse_parts-parts-preserved : goal.parse_parts-parts-preserved
@@ -76,6 +82,7 @@ parse_parts-parts-preserved g t c =
     record {
       same = same_run before c.in_ok-expression.ensures.same;
       ahead = omega (arith, c.parts.invariant.ahead, c.in_ok-expression.ensures.progress);
+      ended = behind_pair A (kind_of (lexeme_of c.args.start.0)) d (lexeme_of c.args.start.0) s (expr_of e) (part_tok l) rest pair c.parts.invariant.ended;
       given = part_given (λ x. answers_by g.X.Expander.answer x.now) (λ x. x.now) before.expander before.tokens (kind_of (lexeme_of c.args.start.0)) c.parts.parts.items c.push.new.self.items e l c.in_ok-push.ensures.items c.in_ok-expression.is_last c.parts.invariant.given c.in_ok-expression.ensures.given (search rules);
       value = ap P c.in_ok-push.ensures.items ∙ parts.goes_on A start d s c.parts.parts.items e l rest pair ∙ c.parts.invariant.value;
     }
@@ -90,19 +97,39 @@ pub parse_format_string-returns-clause-given : goal.parse_format_string-returns-
 parse_format_string-returns-clause-given g t c =
     let E = answers_by g.X.Expander.answer c.args.self.now.expander.now in
     let table = c.args.self.now.tokens.now in
-    c.format_string.ensures.given E table (format_given E (IsInTable table) c.in_ok-literal.literal c.args.start.0 c.in_ok-expressions.expressions.items c.in_ok-literal.ensures.token c.in_ok-literal.ensures.given c.in_ok-expressions.ensures.given)
+    let whole = format_given E (IsInTable table) c.in_ok-literal.literal c.args.start.0 c.in_ok-expressions.expressions.items c.in_ok-literal.ensures.token c.in_ok-literal.ensures.given c.in_ok-expressions.ensures.given in
+    subst (IsGivenExpression E (IsInTable table)) (sym c.in_ok-node.ensures.is) (c.format_string.ensures.given E table whole)
 
 pub parse_list-returns-clause-given : goal.parse_list-returns-clause-given
 parse_list-returns-clause-given g t c =
     let E = answers_by g.X.Expander.answer c.args.self.now.expander.now in
     let table = c.args.self.now.tokens.now in
     let before = same_run c.in-Some.ensures.same c.in_ok-note.ensures.same in
-    c.list.ensures.given E table c.in-Some.ensures.among (all_given (λ x. answers_by g.X.Expander.answer x.now) (λ x. x.now) before.expander before.tokens c.in_ok-elements.elements.items c.in_ok-elements.ensures.given)
+    let all = all_given (λ x. answers_by g.X.Expander.answer x.now) (λ x. x.now) before.expander before.tokens c.in_ok-elements.elements.items c.in_ok-elements.ensures.given in
+    subst (IsGivenExpression E (IsInTable table)) (sym c.in_ok-node.ensures.is) (c.list.ensures.given E table c.in-Some.ensures.among all)
 
 pub parse_name-returns-clause-given : goal.parse_name-returns-clause-given
 parse_name-returns-clause-given g t c =
     let E = answers_by g.X.Expander.answer c.args.self.now.expander.now in
     let table = c.args.self.now.tokens.now in
     let before = same_run c.in-Some.ensures.same c.in-Some-accept.ensures.same in
-    c.call.ensures.given E table (subst (IsInTable table) (sym c.from_identifier-name.ensures) c.in-Some.ensures.among)
-    (all_given (λ x. answers_by g.X.Expander.answer x.now) (λ x. x.now) before.expander before.tokens c.in_ok-arguments.arguments.items c.in_ok-arguments.ensures.given)
+    let all = all_given (λ x. answers_by g.X.Expander.answer x.now) (λ x. x.now) before.expander before.tokens c.in_ok-arguments.arguments.items c.in_ok-arguments.ensures.given in
+    let name = subst (IsInTable table) (sym c.from_identifier-name.ensures) c.in-Some.ensures.among in
+    subst (IsGivenExpression E (IsInTable table)) (sym c.in_ok-node-2.ensures.is) (c.call.ensures.given E table name all)
+
+pub parse_pair-parse_part-requires : goal.parse_pair-parse_part-requires
+parse_pair-parse_part-requires g t c =
+    let A = answers_by g.X.Expander.answer c.args.self.now.expander.now in
+    let kind = kind_of (lexeme_of c.args.start.0) in
+    let now = c.in_ok-expression.ensures in
+    let P : ℕ → Type 0 = λ d. IsEnded kind d (input_of c.parse_expression_with_condition.new.self).tokens in
+    record { ended = subst P (sym now.same.depth) (behind_expression A kind c.args.self.now.depth (input_of c.args.self.now) (expr_of c.in_ok-expression.expression.value) (input_of c.parse_expression_with_condition.new.self) now.value c.requires.ended) }
+
+pub parse_format-parse_format_string-requires : goal.parse_format-parse_format_string-requires
+parse_format-parse_format_string-requires g t c κs within =
+    let p = c.accept_marked.new.self in
+    let now = c.in-Some-accept_marked.ensures in
+    let start = c.in-Some-accept_marked.entry in
+    let left = c.accept_marked-2.new.self in
+    let ended = behind_start p.tokens.now p.next p.list_features.items _ (significant_of start) (input_of left) p.ended now.some left.depth in
+    (first_of (grind (arith, common_steps), search rules), (search rules, (search rules, (search rules, (search rules, ended)))))

@@ -4,6 +4,7 @@ use Rattle.justfile_base.specs.StringKind.{kind_of}
 use Rattle.justfile_base.specs.Token.{lexeme_of}
 use Rattle.justfile_model.specs.ExpressionReader.{read, Sequence}
 use Rattle.justfile_model.specs.Tok.{tok_of}
+use Rattle.justfile_parse.specs.Formats.{IsEndedBehind}
 use Rattle.justfile_parse.specs.Given.{IsGivenExpression, IsInTable}
 use Rattle.justfile_parse.specs.Reading.{format_rest}
 use Rattle.justfile_parse.specs.View.{IsSameRun, input_of}
@@ -22,6 +23,9 @@ decreases-parse_comparison g l = 32 * (length l.self.now.tokens.now - l.self.now
 
 abbrev pub decreases-parse_conjunct : goal.decreases-parse_conjunct
 decreases-parse_conjunct g l = 32 * (length l.self.now.tokens.now - l.self.now.next) + 11
+
+abbrev pub decreases-parse_joined : goal.decreases-parse_joined
+decreases-parse_joined g l = 32 * (length l.self.now.tokens.now - l.self.now.next) + 2
 
 abbrev pub decreases-parse_value : goal.decreases-parse_value
 decreases-parse_value g l = 32 * (length l.self.now.tokens.now - l.self.now.next) + 10
@@ -83,6 +87,7 @@ abbrev pub invariant-parse_parts-parts : goal.invariant-parse_parts-parts
 invariant-parse_parts-parts g l = record {
   same : IsSameRun l.fn.self l.self;
   ahead : l.fn.self.next ≤ l.self.next;
+  ended : IsEndedBehind (kind_of (lexeme_of l.start.0)) l.fn.self.depth (input_of l.self).tokens;
   given : All (parts.IsGivenPair (answers_by g.X.Expander.answer l.fn.self.expander.now) (IsInTable l.fn.self.tokens.now) (kind_of (lexeme_of l.start.0))) l.parts.items;
   value : parts.with_front (tok_of l.start.0) l.parts.items (parts.pair (answers_by g.X.Expander.answer l.fn.self.expander.now) (lexeme_of l.start.0) l.fn.self.depth (input_of l.self)) ≡ format_rest (answers_by g.X.Expander.answer l.fn.self.expander.now) (tok_of l.start.0) l.fn.self.depth (input_of l.fn.self);
 }

@@ -3,10 +3,12 @@ use Rattle.std.specs.List.{list_all}
 use Rattle.std.proofs.lemmas.Result.{err_from_is_err_and}
 use Rattle.justfile_base.specs.declared.token.Token.{Token}
 use Rattle.justfile_model.specs.Tok.{tok_of}
+use Rattle.justfile_parse.specs.Formats.{AreEnded}
 use Rattle.justfile_parse.specs.Literal.{is_sound}
 use Rattle.justfile_parse.specs.Significant.{significant_of}
 use Rattle.justfile_parse.specs.Parsing.{version_numbers}
 use Rattle.justfile_cook.specs.Literal.{answers_by}
+use Rattle.justfile_parse.proofs.Formats.{ended_lex}
 use Rattle.justfile_parse.proofs.Parsed.{nonempty, parsed_of, sound_lex, unparsed_of}
 use Rattle.justfile_parse.proofs.SignificantLemmas.{entries_among}
 use Rattle.justfile_parse.proofs.parser.Parser.parse.Goals as goal
@@ -20,6 +22,11 @@ pub parse_table-requires-clause-sound : goal.parse_table-requires-clause-sound
 parse_table-requires-clause-sound g c =
     let P : List (Token × Bool) → Type 0 = λ t. IsTrue (list_all is_sound t) in
     subst P (sym c.as_slice.ensures.value) (sound_lex c.args.tokens.now c.in_ok-table.table.items c.requires c.in_ok-table.ensures.table)
+
+pub parse_table-requires-clause-ended : goal.parse_table-requires-clause-ended
+parse_table-requires-clause-ended g c =
+    let P : List (Token × Bool) → Type 0 = λ t. AreEnded (map significant_of t) in
+    subst P (sym c.as_slice.ensures.value) (ended_lex c.args.tokens.now c.in_ok-table.table.items c.requires c.in_ok-table.ensures.table)
 
 pub returns-in_err-items-clause-unparsed : goal.returns-in_err-items-clause-unparsed
 returns-in_err-items-clause-unparsed g c =

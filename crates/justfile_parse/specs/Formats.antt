@@ -1,0 +1,34 @@
+-- With which delimiter a format string ends.
+use Rattle.std.specs.Prelude.{◌≡◌, ℕ, false, IsTrue, List, ◌∷◌, ◌++◌}
+use Rattle.std.specs.Coded.{Coded-set, coded_bool}
+use Rattle.justfile_base.specs.StringKind.{kind_of}
+use Rattle.justfile_base.specs.declared.format_string_part.FormatStringPart.TheVariants.{End}
+use Rattle.justfile_base.specs.declared.string_kind.StringKind.{StringKind}
+use Rattle.justfile_base.specs.declared.token_kind.TokenKind.TheVariants.{FormatStringStart}
+use Rattle.justfile_cook.specs.Literal.{is_part}
+use Rattle.justfile_model.specs.Expressions as grammar
+use Rattle.justfile_model.specs.Expressions.{IsKind, Limited, Tokens}
+use Rattle.justfile_model.specs.Features.{Noted}
+use Rattle.justfile_model.specs.SignificantTokens.{SignificantToken}
+use Rattle.justfile_model.specs.Tok.{Tok}
+use Rattle.justfile_model.specs.Tree.{Expr, Parts, Last, Continue, itself}
+
+abbrev pub last_of : Parts Tok Tok → Tok
+last_of (Last token) = token
+last_of (Continue token e ps) = last_of ps
+
+-- Of the parts that these tokens derive behind an expression, the last ends with the delimiter of this kind.
+unfoldable pub IsEnded : StringKind → ℕ → Tokens → Type 0
+IsEnded kind depth tokens = (ps : Parts Tok Tok) (features : List (Noted Tok)) (rest : Tokens) → grammar.FormatParts itself itself Limited depth ps features tokens rest → IsTrue (is_part kind End (last_of ps).lexeme)
+
+-- the same where the tokens begin with the expression
+unfoldable pub IsEndedBehind : StringKind → ℕ → Tokens → Type 0
+IsEndedBehind kind depth tokens = (e : Expr Tok Tok) (features : List (Noted Tok)) (rest : Tokens) → grammar.Expression itself itself Limited false depth e features tokens rest → IsEnded kind depth rest
+
+-- each format string ends with the delimiter of its start
+unfoldable pub AreEnded : Tokens → Type 0
+AreEnded tokens = (before : Tokens) (start : SignificantToken) (behind : Tokens) → tokens ≡ before ++ start ∷ behind → IsKind FormatStringStart start → (depth : ℕ) → IsEndedBehind (kind_of start.tok.lexeme) depth behind
+
+pub prop_ended : (tokens : Tokens) → IsProp (AreEnded tokens)
+unfolding AreEnded IsEndedBehind IsEnded
+prop_ended tokens = hlevel (Coded-set coded_bool)
