@@ -1,11 +1,10 @@
 -- Conditionals and their conditions, read in steps.
-use Rattle.std.proofs.Common.{◌≡◌, ℕ, Bool, true, false, List, [], ◌∷◌, Option, Some, None, Result, Ok, Err, codes, refl, ◌∙◌}
+use Rattle.std.proofs.Common.{◌≡◌, ℕ, Bool, true, false, [], ◌∷◌, Some, None, Ok, Err, codes, refl, ◌∙◌}
 use Rattle.justfile_model.specs.ExpressionReader as r
 use Rattle.justfile_model.specs.ExpressionReader.{ReadExpr, closed, condition, braced, read, note_uncompared, conditional_rule, format_rule}
 use Rattle.justfile_model.specs.Expressions.{Tokens, ends_open}
-use Rattle.justfile_model.specs.Features.{Noted}
 use Rattle.justfile_model.specs.Literals.{Answers}
-use Rattle.justfile_model.specs.Reading.{◌>>=◌, Input, Taken, Unexpected, accept_word, choose, with}
+use Rattle.justfile_model.specs.Reading.{◌>>=◌, Input, Taken, Unexpected, accept_word, choose}
 use Rattle.justfile_model.specs.SignificantTokens.{SignificantToken}
 use Rattle.justfile_model.specs.Tok.{Tok}
 use Rattle.justfile_model.specs.Tree as tree

@@ -1,6 +1,5 @@
 -- Literals with their texts, and the refusals of those that have none.
-use Rattle.std.proofs.Common.{◌≡◌, Bool, true, false, IsTrue, ℕ, List, [], ◌++◌, Option, Some, None, is_some, unwrap_or, Result, Ok, Err, refl, sym, ap, ◌∙◌, subst}
-use Rattle.justfile_base.specs.StringLiteral.{format_mark}
+use Rattle.std.proofs.Common.{◌≡◌, Bool, true, false, IsTrue, ℕ, List, [], Option, Some, None, is_some, unwrap_or, Result, Ok, Err, refl, sym, ap, ◌∙◌, subst}
 use Rattle.justfile_base.specs.StringKind.{kind_of}
 use Rattle.justfile_base.specs.Token.{lexeme_of}
 use Rattle.justfile_base.specs.declared.format_string_part.FormatStringPart.{FormatStringPart}
@@ -26,7 +25,7 @@ use Rattle.justfile_model.specs.Tree.{Expr}
 use Rattle.justfile_parse.specs.Fault.{IsLiteralFault, is_literal_kind, literal_fault}
 use Rattle.justfile_parse.specs.Given.{IsGivenFormat, IsGivenLiteral, IsGivenPart, IsInTable}
 use Rattle.justfile_parse.specs.Literal.{is_delimited, is_sound}
-use Rattle.justfile_parse.specs.Reading.{Gives, IsGivenStop, StopsAt, TextStops, literal_refusal}
+use Rattle.justfile_parse.specs.Reading.{IsGivenStop, StopsAt, TextStops, literal_refusal}
 use Rattle.justfile_parse.specs.Significant.{significant_of}
 use Rattle.justfile_parse.specs.declared.stop.Stop.{Stop}
 use Rattle.justfile_parse.specs.declared.stop.Stop.TheVariants as stops

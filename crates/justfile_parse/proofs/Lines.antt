@@ -1,5 +1,5 @@
 -- The reader of lines, as the parser goes over it.
-use Rattle.std.proofs.Common.{◌≡◌, Bool, true, false, cond, List, [], ◌∷◌, ◌++◌, Some, None, Ok, Err, refl, ap, sym, ◌∙◌, ℕ}
+use Rattle.std.proofs.Common.{◌≡◌, Bool, true, false, [], ◌∷◌, ◌++◌, Some, None, Ok, Err, refl, ap, sym, ℕ}
 use Rattle.std.proofs.lemmas.List.{append-nil, append_assoc}
 use Rattle.justfile_base.specs.declared.token_kind.TokenKind.TheVariants as kinds
 use Rattle.justfile_model.specs.Literals.{Answers}

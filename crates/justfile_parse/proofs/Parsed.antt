@@ -1,17 +1,15 @@
 -- What is read of a table, and what that says of the tokens.
-use Rattle.std.proofs.Common.{◌≡◌, ℕ, ◌+◌, ◌<◌, ◌≤◌, Bool, true, false, not, ◌||◌, ◌&&◌, cond, IsTrue, rules, List, [], ◌∷◌, ◌++◌, map, length, All, Contains, Some, None, Option, Result, Ok, Err, IfErr, IfSome, IfNone, inl, inr, refl, sym, ap, ◌∙◌, subst, arith}
-use Rattle.std.specs.Prelude.{◌⊎◌, ◌-◌, get_or, reverse, string_bytes}
+use Rattle.std.proofs.Common.{◌≡◌, ℕ, ◌+◌, ◌<◌, ◌≤◌, Bool, true, false, ◌&&◌, cond, IsTrue, rules, List, [], ◌∷◌, ◌++◌, map, length, All, Contains, Some, None, Option, Result, Ok, Err, IfSome, IfNone, inl, inr, refl, sym, ap, ◌∙◌, subst, arith}
+use Rattle.std.specs.Prelude.{◌-◌, get_or, reverse, string_bytes}
 use Rattle.std.specs.List.{list_all, flat_map}
 use Rattle.std.proofs.lemmas.Bool.Decides.{nat_tests}
 use Rattle.std.proofs.lemmas.List.{append-nil, length-map, map-append, reverse-append, reverse-reverse}
 use Rattle.std.proofs.lemmas.List.Elements.{All-contains, All-head, All-tail, All-weaker}
-use denote.Enum.Bare.{same_true}
 use Rattle.justfile_base.specs.StringKind.{delimiter_len, kind_of}
 use Rattle.justfile_base.specs.StringLiteral.{begins_format_string}
 use Rattle.justfile_base.specs.declared.format_string_part.FormatStringPart.TheVariants as format_parts
 use Rattle.justfile_base.specs.declared.name.Name.{Name}
 use Rattle.justfile_base.specs.Token.{lexeme_of}
-use Rattle.justfile_base.specs.contracts.token_kind.TokenKind.{the_type}
 use Rattle.justfile_base.specs.declared.compile_error.CompileError.{CompileError}
 use Rattle.justfile_base.specs.declared.fault.Fault.{Fault}
 use Rattle.justfile_base.specs.declared.fault.Fault.TheVariants as faults
@@ -36,9 +34,8 @@ use Rattle.justfile_model.specs.Answers.{IsFrom, IsLexerFault}
 use Rattle.justfile_model.specs.Files.{VersionNumbers, FileDerives, body_literals, expr_literals, exprs_literals, fragments_literals, item_literals, literals, parts_literals}
 use Rattle.justfile_model.specs.Lexed.{Lexed, IsFault}
 use Rattle.justfile_model.specs.LexicalFault.{LexicalFault}
-use Rattle.justfile_model.specs.Expressions.{front, Waived}
+use Rattle.justfile_model.specs.Expressions.{front}
 use Rattle.justfile_model.specs.Features.{Noted}
-use Rattle.justfile_model.specs.Grammar.{File}
 use Rattle.justfile_model.specs.Literals as lits
 use Rattle.justfile_model.specs.Literals.{Answers, Expanded, Literal, Plain, over_literal, string_of, cooked_text, Cooks}
 use Rattle.justfile_model.specs.declared.list_feature.ListFeature.{ListFeature}
@@ -57,7 +54,7 @@ use Rattle.justfile_cook.specs.Literal.{IsPartOf, is_framed, is_quoted}
 use Rattle.justfile_parse.specs.Errors.{IsAt, IsErrorOf}
 use Rattle.justfile_parse.specs.Literal.{is_delimited, is_sound}
 use Rattle.justfile_parse.specs.Parsing.{HasNoTree, IsOneLex, IsParsed, IsParsedText, IsUnparsed}
-use Rattle.justfile_parse.specs.Reading.{IsFaultOf, IsKindAt, IsGivenStop, IsRead, IsUnread, StopsAt, literal_refusal, refusal_at, view_of}
+use Rattle.justfile_parse.specs.Reading.{IsFaultOf, IsKindAt, IsGivenStop, IsRead, IsUnread, StopsAt, literal_refusal, refusal_at}
 use Rattle.justfile_parse.specs.Significant.{significant_of}
 use Rattle.justfile_parse.specs.WantsNumber.{LinesWantNumber, WantsNumber, behind_mark}
 use Rattle.justfile_parse.specs.declared.stop.Refusal.{Refusal}

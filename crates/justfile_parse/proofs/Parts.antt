@@ -1,6 +1,5 @@
 -- Reading the parts of a format string, as a loop does.
-use Rattle.std.proofs.Common.{All, arith, suc, ◌≡◌, ℕ, Bool, true, false, cond, List, [], ◌∷◌, ◌++◌, Option, Some, None, Result, Ok, Err, refl, sym, ap, ◌∙◌}
-use Rattle.std.proofs.lemmas.List.Elements.{All-push}
+use Rattle.std.proofs.Common.{All, arith, suc, ◌≡◌, ℕ, Bool, true, false, cond, List, [], ◌∷◌, ◌++◌, Some, None, Result, Ok, Err, refl, sym, ap, ◌∙◌}
 use Rattle.justfile_base.specs.declared.format_string_part.FormatStringPart.TheVariants as part_kinds
 use Rattle.justfile_base.specs.declared.string_kind.StringKind.{StringKind}
 use Rattle.justfile_base.specs.declared.token.Token.{Token}
@@ -12,11 +11,11 @@ use Rattle.justfile_model.specs.Literals as literal
 use Rattle.justfile_model.specs.Literals.{Answers, LiteralFault, cooked_text}
 use Rattle.justfile_model.specs.Reading.{◌>>=◌, Input, Read, Refusal, Taken, accept, choose, expect}
 use Rattle.justfile_model.specs.SignificantTokens.{SignificantToken}
-use Rattle.justfile_model.specs.Tok.{Tok, tok_of}
+use Rattle.justfile_model.specs.Tok.{Tok}
 use Rattle.justfile_model.specs.Tree as tree
 use Rattle.justfile_model.specs.Tree.{Expr, Parts}
 use Rattle.justfile_model.proofs.ExpressionReading.{parts_is}
-use Rattle.justfile_parse.specs.Given.{AreGivenBehind, IsGivenExpression, IsGivenPart, IsInTable, part_by}
+use Rattle.justfile_parse.specs.Given.{AreGivenBehind, IsGivenExpression, IsGivenPart}
 use Rattle.justfile_parse.specs.Reading.{format_rest, pair_rule, part_rule}
 use Rattle.justfile_tree.specs.Expression.{expr_of, part_tok, parts_of, format_tree}
 use Rattle.justfile_tree.specs.declared.expression.Expression.{Expression}

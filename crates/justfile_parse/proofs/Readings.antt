@@ -1,5 +1,5 @@
 -- What is read, said otherwise.
-use Rattle.std.proofs.Common.{◌≡◌, List, Result, subst}
+use Rattle.std.proofs.Common.{◌≡◌, Result, subst}
 use Rattle.justfile_model.specs.Reading.{Input, Refusal}
 use Rattle.justfile_parse.specs.Reading.{Gives}
 use Rattle.justfile_parse.specs.declared.stop.Stop.{Stop}

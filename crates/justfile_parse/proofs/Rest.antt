@@ -1,5 +1,5 @@
 -- The tokens that are still to read, at an index.
-use Rattle.std.proofs.Common.{◌≡◌, ℕ, Bool, true, false, cond, rules, ◌+◌, ◌<◌, ◌≤◌, ◌-◌, ◌∙◌, List, [], ◌∷◌, ◌++◌, Option, Some, None, length, get_or, take, IsTrue, map, drop, refl, sym, ap, add-one, arith}
+use Rattle.std.proofs.Common.{◌≡◌, ℕ, Bool, true, false, cond, rules, ◌+◌, ◌<◌, ◌≤◌, ◌-◌, ◌∙◌, List, [], ◌∷◌, ◌++◌, Some, None, length, get_or, take, IsTrue, map, drop, refl, sym, ap, add-one, arith}
 use Rattle.std.proofs.Math.Seq.{drop-cons}
 use Rattle.std.proofs.lemmas.List.{take-append-drop, drop_all, length-drop, map-append, append-nil}
 use Rattle.std.specs.List.{list_all}
@@ -11,7 +11,7 @@ use Rattle.justfile_file.specs.Ast.{noted_of}
 use Rattle.justfile_model.specs.Features.{Noted, noted}
 use Rattle.justfile_model.specs.Literals.{Answers}
 use Rattle.justfile_model.specs.Reader.{start}
-use Rattle.justfile_model.specs.Reading.{Input, at, with, accept_marked, marked_by, Taken}
+use Rattle.justfile_model.specs.Reading.{Input, with, accept_marked, marked_by, Taken}
 use Rattle.justfile_model.specs.SignificantTokens.{SignificantToken}
 use Rattle.justfile_model.specs.Tok.{tok_of}
 use Rattle.justfile_model.specs.declared.list_feature.ListFeature.{ListFeature}

@@ -1,5 +1,5 @@
 -- A tree with a vector in it, by the vector's elements.
-use Rattle.std.proofs.Common.{◌≡◌, ◌∙◌, List, [], ◌∷◌, Bool, All, refl, sym, ap, subst, Vec, arith, suc}
+use Rattle.std.proofs.Common.{◌≡◌, ◌∙◌, List, Bool, All, refl, sym, ap, subst, Vec, arith, suc}
 use mathlib.Core.Former.{Count}
 use Rattle.std.specs.declared.alloc.Global.{Global}
 use Rattle.justfile_base.specs.declared.name.Name.{Name}

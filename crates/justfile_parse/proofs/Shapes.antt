@@ -1,5 +1,5 @@
 -- What an expression is by its tree.
-use Rattle.std.proofs.Common.{◌≡◌, Bool, true, false, Option, Some, None, refl}
+use Rattle.std.proofs.Common.{◌≡◌, false, Some, refl}
 use Rattle.justfile_model.specs.Expressions.{ends_open}
 use Rattle.justfile_model.specs.Tok.{Tok}
 use Rattle.justfile_model.specs.Tree.{Expr}

@@ -10,7 +10,7 @@ use Rattle.justfile_model.specs.Files.{NumbersSuffice}
 use Rattle.justfile_model.specs.Literals.{Answers}
 use Rattle.justfile_model.specs.Reader as r
 use Rattle.justfile_model.specs.Reader.{file, items, line, on_line, start}
-use Rattle.justfile_model.specs.Reading.{◌>>=◌, Input, Read, Refusal, Unexpected, accept, after, begin_with, choose, expect, next_are, refused, same_kind}
+use Rattle.justfile_model.specs.Reading.{◌>>=◌, Input, Read, Refusal, Unexpected, accept, after, begin_with, choose, expect, refused, same_kind}
 use Rattle.justfile_model.specs.SignificantTokens.{SignificantToken}
 use Rattle.justfile_model.specs.Tok.{Tok}
 use Rattle.justfile_model.specs.Tree.{Item, Tree}

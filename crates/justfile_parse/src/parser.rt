@@ -320,5 +320,5 @@ fn is_marked(mark: Entry<'_>, word: &str, entry: Entry<'_>, kind: TokenKind) -> 
     ensures is { result ≡ marks word.now kind (significant_of mark.entry) (significant_of entry.entry) }
     ensures kind { IsTrue result → entry.entry.0.kind ≡ kind }
 {
-    is_word(mark, word) && entry.0.kind == kind && entry.1
+    entry.0.kind == kind && entry.1 && is_word(mark, word)
 }

@@ -5,7 +5,7 @@ use Rattle.justfile_base.specs.Token.{lexeme_of}
 use Rattle.justfile_base.specs.declared.string_literal.StringLiteral.{StringLiteral}
 use Rattle.justfile_cook.specs.Literal.{answers_by}
 use Rattle.justfile_model.specs.ExpressionReader.{ReadExpr, Sequence, read}
-use Rattle.justfile_model.specs.Reading.{Input, Read, accept}
+use Rattle.justfile_model.specs.Reading.{Read, accept}
 use Rattle.justfile_model.specs.Tok.{Tok, tok_of}
 use Rattle.justfile_model.specs.Tree.{Expr, Exprs}
 use Rattle.justfile_parse.specs.Formats.{IsEnded}

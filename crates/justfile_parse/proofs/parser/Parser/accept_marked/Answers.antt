@@ -1,6 +1,4 @@
-use Rattle.std.proofs.Common.{rules, ◌≡◌, ◌∙◌, sym, arith, true, false, Bool}
-use Rattle.justfile_parse.specs.Reading.{marks}
-use Rattle.justfile_parse.specs.Significant.{significant_of}
+use Rattle.std.proofs.Common.{rules, ◌≡◌, ◌∙◌, sym, arith, true, false}
 use Rattle.justfile_parse.proofs.Rest.{marked_taken, marked_left}
 use Rattle.justfile_parse.proofs.parser.Parser.accept_marked.Goals as goal
 

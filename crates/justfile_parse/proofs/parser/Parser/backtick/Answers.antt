@@ -1,5 +1,4 @@
 use Rattle.std.proofs.Common.{rules, ◌∙◌, Ok, ap, sym, subst}
-use Rattle.justfile_base.specs.Token.{lexeme_of}
 use Rattle.justfile_cook.specs.Literal.{answers_by}
 use Rattle.justfile_model.specs.ExpressionReader.{ReadExpr}
 use Rattle.justfile_model.specs.Tok.{tok_of}

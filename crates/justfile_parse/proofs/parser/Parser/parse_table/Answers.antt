@@ -1,18 +1,17 @@
-use Rattle.std.proofs.Common.{◌≡◌, refl, ap, ◌∙◌, sym, subst, Bool, List, map, [], Some, None, Ok, Err}
+use Rattle.std.proofs.Common.{◌≡◌, refl, ap, ◌∙◌, sym, subst, Bool, List, map, Ok}
 use Rattle.std.specs.Borrow.{Bor}
 use Rattle.justfile_base.specs.declared.token.Token.{Token}
 use Rattle.justfile_model.specs.Reader as reader
 use Rattle.justfile_model.specs.Features.{Noted}
 use Rattle.justfile_model.specs.Reading.{Input}
 use Rattle.justfile_model.specs.Tok.{Tok}
-use Rattle.justfile_model.specs.SignificantTokens.{SignificantToken, identifiers}
-use Rattle.justfile_model.specs.declared.list_feature.ListFeature.{ListFeature}
+use Rattle.justfile_model.specs.SignificantTokens.{identifiers}
 use Rattle.justfile_file.specs.Item.{item_of}
 use Rattle.justfile_cook.specs.Literal.{answers_by}
 use Rattle.justfile_parse.specs.Given.{AreNotedIn}
-use Rattle.justfile_parse.specs.Reading.{IsFaultOf, IsGivenStop, IsMoved, StopsAt}
+use Rattle.justfile_parse.specs.Reading.{IsFaultOf, IsMoved, StopsAt}
 use Rattle.justfile_parse.specs.Significant.{significant_of}
-use Rattle.justfile_parse.specs.WantsNumber.{LinesWantNumber, WantsNumber, behind_mark}
+use Rattle.justfile_parse.specs.WantsNumber.{LinesWantNumber, behind_mark}
 use Rattle.justfile_parse.specs.View.{input_at, input_of}
 use Rattle.justfile_parse.proofs.Parsed.{none_noted, read_file, stopped_file, unread}
 use Rattle.justfile_parse.proofs.Rest.{input_noted_is, input_start}
