@@ -89,13 +89,7 @@ fn other_beginnings_of_commands_are_taken(rt: HostRuntime) -> Result<(), Fail> {
 fn copies_have_the_same_commands(rt: HostRuntime) -> Result<(), Fail> {
     let ast = parsed(rt.alloc(), 3, "a := ```\n  b\n  c```\n")?;
     let copy = ast.clone(rt.alloc())?;
-    for file in [&ast, &copy] {
-        compare_items(
-            &rt,
-            rt.alloc(),
-            file,
-            &["a 3 2 false command \"b\\nc\"", "newline"],
-        )?;
-    }
-    Ok(())
+    const ITEMS: &[&str] = &["a 3 2 false command \"b\\nc\"", "newline"];
+    compare_items(&rt, rt.alloc(), &ast, ITEMS)?;
+    compare_items(&rt, rt.alloc(), &copy, ITEMS)
 }

@@ -10,41 +10,33 @@ use std::alloc::Global;
 use std::process::Abort;
 use std::test::Fail;
 
-/// An operator or the like at its token, and behind a bar each text.
-fn listed(
-    alloc: Global,
-    token: Token<'_>,
-    expressions: &[&Expression<'_>],
-) -> Result<String, Fail> {
+/// An operator or the like at its token.
+fn head(alloc: Global, token: Token<'_>) -> Result<String, Fail> {
     let lexeme = token.lexeme();
     let offset = token.offset;
-    let mut listed = format!(in alloc; "{lexeme}@{offset}")?;
-    for expression in expressions {
-        write!(listed, " | {expression}")?;
-    }
-    Ok(listed)
+    Ok(format!(in alloc; "{lexeme}@{offset}")?)
 }
 
-/// The same, where the expressions are the elements of a list or the arguments of a call.
-fn listed_elements(
-    alloc: Global,
-    token: Token<'_>,
-    elements: &[Expression<'_>],
-) -> Result<String, Fail> {
-    let mut expressions = Vec::new(alloc);
+/// What was shown, and behind a bar the text of an expression.
+fn with(shown: String, expression: &Expression<'_>) -> Result<String, Fail> {
+    let mut shown = shown;
+    write!(shown, " | {expression}")?;
+    Ok(shown)
+}
+
+/// The same with both sides of an operator.
+fn both(shown: String, lhs: &Expression<'_>, rhs: &Expression<'_>) -> Result<String, Fail> {
+    let shown = with(shown, lhs)?;
+    with(shown, rhs)
+}
+
+/// The same with the elements of a list or the arguments of a call.
+fn all(shown: String, elements: &[Expression<'_>]) -> Result<String, Fail> {
+    let mut shown = shown;
     for element in elements {
-        expressions.push(element)?;
+        write!(shown, " | {element}")?;
     }
-    listed(alloc, token, expressions.as_slice())
-}
-
-/// A word, and behind a bar the text of each expression.
-fn joined(alloc: Global, word: &str, expressions: &[&Expression<'_>]) -> Result<String, Fail> {
-    let mut joined = word.to_string(alloc)?;
-    for expression in expressions {
-        write!(joined, " | {expression}")?;
-    }
-    Ok(joined)
+    Ok(shown)
 }
 
 /// A part of a format string: which one it is, and the text that it stands for.
@@ -70,38 +62,25 @@ fn format_string(
     Ok(shown)
 }
 
-/// A conditional: its parts.
-fn conditional(
-    alloc: Global,
-    condition: &Expression<'_>,
-    then: &Expression<'_>,
-    otherwise: Option<&Expression<'_>>,
-) -> Result<String, Fail> {
-    match otherwise {
-        Some(otherwise) => joined(alloc, "if", &[condition, then, otherwise]),
-        None => joined(alloc, "if", &[condition, then]),
-    }
-}
-
 /// What an expression is made of: its outermost form, with the token that is kept of it, and behind
 /// bars the texts of what stands inside.
 pub(crate) fn parts(alloc: Global, expression: &Expression<'_>) -> Result<String, Fail> {
     match expression {
-        Expression::And { lhs, rhs } => joined(alloc, "&&", &[&**lhs, &**rhs]),
-        Expression::Or { lhs, rhs } => joined(alloc, "||", &[&**lhs, &**rhs]),
+        Expression::And { lhs, rhs } => both("&&".to_string(alloc)?, lhs, rhs),
+        Expression::Or { lhs, rhs } => both("||".to_string(alloc)?, lhs, rhs),
         Expression::Assert {
             condition,
             message,
             name,
         } => match message {
-            Some(message) => listed(alloc, **name, &[&**condition, &**message]),
-            None => listed(alloc, **name, &[&**condition]),
+            Some(message) => both(head(alloc, **name)?, condition, message),
+            None => with(head(alloc, **name)?, condition),
         },
         Expression::Backtick { contents, .. } => {
             Ok(format!(in alloc; "command {:?}", contents.as_str())?)
         }
         Expression::Call { name, arguments } => {
-            let call = listed_elements(alloc, **name, arguments.as_slice())?;
+            let call = all(head(alloc, **name)?, arguments.as_slice())?;
             Ok(format!(in alloc; "call {call}")?)
         }
         Expression::Comparison {
@@ -110,30 +89,34 @@ pub(crate) fn parts(alloc: Global, expression: &Expression<'_>) -> Result<String
             rhs,
             token,
         } => {
-            let comparison = listed(alloc, *token, &[&**lhs, &**rhs])?;
+            let comparison = both(head(alloc, *token)?, lhs, rhs)?;
             Ok(format!(in alloc; "{operator:?} {comparison}")?)
         }
         Expression::Concatenation { lhs, operator, rhs }
         | Expression::ListConcatenation { lhs, operator, rhs } => {
-            listed(alloc, *operator, &[&**lhs, &**rhs])
+            both(head(alloc, *operator)?, lhs, rhs)
         }
         Expression::Conditional {
             condition,
             then,
             otherwise,
-        } => conditional(alloc, condition, then, otherwise.as_deref()),
+        } => {
+            let shown = both("if".to_string(alloc)?, condition, then)?;
+            match otherwise {
+                Some(otherwise) => with(shown, otherwise),
+                None => Ok(shown),
+            }
+        }
         Expression::FormatString { start, expressions } => {
             format_string(alloc, start, expressions.as_slice())
         }
-        Expression::Group { contents } => joined(alloc, "group", &[&**contents]),
+        Expression::Group { contents } => with("group".to_string(alloc)?, contents),
         Expression::Join { lhs, operator, rhs } => match lhs {
-            Some(lhs) => listed(alloc, *operator, &[&**lhs, &**rhs]),
-            None => listed(alloc, *operator, &[&**rhs]),
+            Some(lhs) => both(head(alloc, *operator)?, lhs, rhs),
+            None => with(head(alloc, *operator)?, rhs),
         },
-        Expression::List { elements, opener } => {
-            listed_elements(alloc, *opener, elements.as_slice())
-        }
-        Expression::Not { operand } => joined(alloc, "!", &[&**operand]),
+        Expression::List { elements, opener } => { all(head(alloc, *opener)?, elements.as_slice()) }
+        Expression::Not { operand } => with("!".to_string(alloc)?, operand),
         Expression::StringLiteral { string_literal } => part(alloc, string_literal),
         Expression::Variable { name, number } => match number {
             Some(_number) => Err(Fail::from("a variable with a number")),

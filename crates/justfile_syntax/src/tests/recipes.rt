@@ -1,10 +1,12 @@
 //! What recipes are read as: their lines, marks and numbers, and what their copies are.
 
+use crate::ast::Ast;
 use crate::fault::Fault;
 use crate::indentation::Indentation;
 use crate::item::Item;
 use crate::numerator::{Number, Numerator};
 use crate::tests::support::{compare_items, first_recipe, parse, parsed, parsed_from, shown};
+use std::alloc::Global;
 use std::process::Abort;
 use std::test::Fail;
 
@@ -222,6 +224,26 @@ fn recipes_take_no_numbers_of_bindings(rt: HostRuntime) -> Result<(), Fail> {
     Ok(())
 }
 
+/// Sees that a file has these items and prints so, and that its first recipe has its fields.
+fn compare_file(
+    rt: &impl Abort,
+    alloc: Global,
+    file: &Ast<'_>,
+    rows: &[&str],
+    printed: &str,
+) -> Result<(), Fail> {
+    compare_items(rt, alloc, file, rows)?;
+    let text = file.print(alloc, Indentation::default())?;
+    assert_eq!(rt; text.as_str(), printed);
+    let recipe = first_recipe(file)?;
+    assert_eq!(rt;
+        (recipe.private, recipe.shebang, recipe.file_depth),
+        (true, true, 2)
+    );
+    assert_eq!(rt; recipe.import_offsets.as_slice(), [3, 14].as_slice());
+    Ok(())
+}
+
 #[test]
 fn copies_have_the_same_recipes(rt: HostRuntime) -> Result<(), Fail> {
     const ROWS: &[&str] = &[
@@ -236,18 +258,8 @@ fn copies_have_the_same_recipes(rt: HostRuntime) -> Result<(), Fail> {
     let text = "_a:\n  #!x\n\n   b{{c}}{{\"d\"}}\n\ne: # f\n";
     let ast = parsed(rt.alloc(), 0, text)?;
     let copy = ast.clone(rt.alloc())?;
-    for file in [&ast, &copy] {
-        compare_items(&rt, rt.alloc(), file, ROWS)?;
-        let printed = file.print(rt.alloc(), Indentation::default())?;
-        assert_eq!(rt; printed.as_str(), PRINTED);
-        let recipe = first_recipe(file)?;
-        assert_eq!(rt;
-            (recipe.private, recipe.shebang, recipe.file_depth),
-            (true, true, 2)
-        );
-        assert_eq!(rt; recipe.import_offsets.as_slice(), [3, 14].as_slice());
-    }
-    Ok(())
+    compare_file(&rt, rt.alloc(), &ast, ROWS, PRINTED)?;
+    compare_file(&rt, rt.alloc(), &copy, ROWS, PRINTED)
 }
 
 #[test]
