@@ -4,13 +4,7 @@
 For each size in bytes, FOLDER gets one file for each kind of text, named KIND.SIZE, of that size
 within a line's length. Each text is lexed without a fault.
 """
-import os
-import sys
-
-
-def repeated(piece, size):
-    """The piece again and again, at most `size` bytes."""
-    return piece * (size // len(piece))
+from texts import repeated, write
 
 
 def tokens(size):
@@ -61,14 +55,5 @@ KINDS = {
 }
 
 
-def main():
-    folder = sys.argv[1]
-    os.makedirs(folder, exist_ok=True)
-    for size in map(int, sys.argv[2:]):
-        for kind, text in KINDS.items():
-            with open(os.path.join(folder, "%s.%d" % (kind, size)), "w", newline="") as file:
-                file.write(text(size))
-
-
 if __name__ == "__main__":
-    main()
+    write(KINDS)

@@ -4,8 +4,7 @@
 For each size in bytes, FOLDER gets one file for each kind of justfile, named KIND.SIZE, of at most
 that size: a kind repeats its lines as long as they fit. Each is formatted without a fault.
 """
-import os
-import sys
+from texts import repeated, write
 
 # How many expressions are open at once, of the 256 that may be.
 DEPTH = 250
@@ -21,11 +20,6 @@ NESTED = (
     "b||" * DEPTH + "b",
     "if a==b{" * DEPTH + "c" + "}else{d}" * DEPTH,
 )
-
-
-def repeated(piece, size):
-    """The piece again and again, at most `size` bytes."""
-    return piece * (size // len(piece))
 
 
 def recipes(line, size):
@@ -68,14 +62,5 @@ KINDS = {
 }
 
 
-def main():
-    folder = sys.argv[1]
-    os.makedirs(folder, exist_ok=True)
-    for size in map(int, sys.argv[2:]):
-        for kind, text in KINDS.items():
-            with open(os.path.join(folder, "%s.%d" % (kind, size)), "w", newline="") as file:
-                file.write(text(size))
-
-
 if __name__ == "__main__":
-    main()
+    write(KINDS)

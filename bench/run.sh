@@ -7,6 +7,7 @@ set -eu
 top=$(cd "$(dirname "$0")/.." && pwd)
 out="$top/bench/out"
 sizes="100000 1000000 10000000"
+export PYTHONDONTWRITEBYTECODE=1
 
 # Proves and builds a program.
 build() {
