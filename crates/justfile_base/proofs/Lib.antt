@@ -1,4 +1,5 @@
 mod ByteTable
+mod KeywordTable
 mod TokenStart
 pub mod IndentationLemmas
 pub mod PathLemmas

@@ -49,6 +49,52 @@ pub enum Keyword {
     X,
 }
 
+/// All keywords.
+static KEYWORDS: [Keyword; 42] = [
+    Keyword::Alias,
+    Keyword::AllowDuplicateRecipes,
+    Keyword::AllowDuplicateVariables,
+    Keyword::Assert,
+    Keyword::DefaultList,
+    Keyword::DefaultScript,
+    Keyword::DotenvCommand,
+    Keyword::DotenvFilename,
+    Keyword::DotenvLoad,
+    Keyword::DotenvOverride,
+    Keyword::DotenvPath,
+    Keyword::DotenvRequired,
+    Keyword::Eager,
+    Keyword::Else,
+    Keyword::Export,
+    Keyword::F,
+    Keyword::Fallback,
+    Keyword::False,
+    Keyword::Guards,
+    Keyword::If,
+    Keyword::IgnoreComments,
+    Keyword::Import,
+    Keyword::Indentation,
+    Keyword::Lazy,
+    Keyword::Lists,
+    Keyword::MinimumVersion,
+    Keyword::Mod,
+    Keyword::NoCd,
+    Keyword::NoExitMessage,
+    Keyword::PositionalArguments,
+    Keyword::Quiet,
+    Keyword::ScriptInterpreter,
+    Keyword::Set,
+    Keyword::Shell,
+    Keyword::Tempdir,
+    Keyword::True,
+    Keyword::Unexport,
+    Keyword::Unstable,
+    Keyword::WindowsPowershell,
+    Keyword::WindowsShell,
+    Keyword::WorkingDirectory,
+    Keyword::X,
+];
+
 impl Keyword {
     ghost use Rattle.justfile_base.specs.Keyword.{keyword_text};
 
@@ -56,51 +102,10 @@ impl Keyword {
     pub fn from_lexeme(lexeme: &str) -> Option<Self>
         ensures { MatchOption result ((k : Keyword) → ¬ (lexeme.now ≡ keyword_text k)) (λ k. lexeme.now ≡ keyword_text k) }
     {
-        match lexeme {
-            "alias" => Some(Keyword::Alias),
-            "allow-duplicate-recipes" => Some(Keyword::AllowDuplicateRecipes),
-            "allow-duplicate-variables" => Some(Keyword::AllowDuplicateVariables),
-            "assert" => Some(Keyword::Assert),
-            "default-list" => Some(Keyword::DefaultList),
-            "default-script" => Some(Keyword::DefaultScript),
-            "dotenv-command" => Some(Keyword::DotenvCommand),
-            "dotenv-filename" => Some(Keyword::DotenvFilename),
-            "dotenv-load" => Some(Keyword::DotenvLoad),
-            "dotenv-override" => Some(Keyword::DotenvOverride),
-            "dotenv-path" => Some(Keyword::DotenvPath),
-            "dotenv-required" => Some(Keyword::DotenvRequired),
-            "eager" => Some(Keyword::Eager),
-            "else" => Some(Keyword::Else),
-            "export" => Some(Keyword::Export),
-            "f" => Some(Keyword::F),
-            "fallback" => Some(Keyword::Fallback),
-            "false" => Some(Keyword::False),
-            "guards" => Some(Keyword::Guards),
-            "if" => Some(Keyword::If),
-            "ignore-comments" => Some(Keyword::IgnoreComments),
-            "import" => Some(Keyword::Import),
-            "indentation" => Some(Keyword::Indentation),
-            "lazy" => Some(Keyword::Lazy),
-            "lists" => Some(Keyword::Lists),
-            "minimum-version" => Some(Keyword::MinimumVersion),
-            "mod" => Some(Keyword::Mod),
-            "no-cd" => Some(Keyword::NoCd),
-            "no-exit-message" => Some(Keyword::NoExitMessage),
-            "positional-arguments" => Some(Keyword::PositionalArguments),
-            "quiet" => Some(Keyword::Quiet),
-            "script-interpreter" => Some(Keyword::ScriptInterpreter),
-            "set" => Some(Keyword::Set),
-            "shell" => Some(Keyword::Shell),
-            "tempdir" => Some(Keyword::Tempdir),
-            "true" => Some(Keyword::True),
-            "unexport" => Some(Keyword::Unexport),
-            "unstable" => Some(Keyword::Unstable),
-            "windows-powershell" => Some(Keyword::WindowsPowershell),
-            "windows-shell" => Some(Keyword::WindowsShell),
-            "working-directory" => Some(Keyword::WorkingDirectory),
-            "x" => Some(Keyword::X),
-            _ => None,
-        }
+        KEYWORDS
+            .iter()
+            .copied()
+            .find(|keyword| keyword.spells(lexeme))
     }
 
     /// How the keyword is spelled.

@@ -1,9 +1,10 @@
 -- What stays of lines, joined from the first to the last.
-use Rattle.std.proofs.Common.{◌≡◌, ℕ, false, List, [], ◌∷◌, ◌++◌, map, refl, sym, ap, ◌∙◌, append_assoc, append-nil, Some, Bor}
-use Rattle.std.specs.List.{All, flat_map, concat, list_any}
+use Rattle.std.proofs.Common.{◌≡◌, ℕ, false, List, [], ◌∷◌, ◌++◌, map, refl, sym, ap, ◌∙◌, append_assoc, append-nil, Bor, Result, Ok, Err}
+use Rattle.std.specs.Result.{OnOk, is_ok}
+use Rattle.std.specs.Bool.{if◌then◌else◌}
+use Rattle.std.specs.List.{flat_map, concat, list_any}
 use Rattle.std.proofs.lemmas.Bool.{or_parts}
 use Rattle.std.proofs.lemmas.List.{map_push}
-use Rattle.std.proofs.lemmas.List.Elements.{All-pop, All-rest}
 use Rattle.justfile_model.specs.Unindent.{is_blank_line, joined, lines, lines_behind, middle_line, outer_line}
 
 pub behind_push : (run : List ℕ) (middle : List (List ℕ)) (last : List ℕ) → lines_behind run (middle ++ last ∷ []) ≡ flat_map (middle_line run) middle ++ outer_line run last
@@ -12,16 +13,17 @@ behind_push run (line ∷ []) last = ap (λ v. v ++ outer_line run last) (sym (a
 behind_push run (line ∷ next ∷ more) last =
     ap (λ v. middle_line run line ++ v) (behind_push run (next ∷ more) last) ∙ sym (append_assoc (middle_line run line) (flat_map (middle_line run) (next ∷ more)) (outer_line run last))
 
--- a fact of each line, of those behind the first
-pub inner : {X : Type 0} (P : X → Type 0) (lines behind middle : List X) (first last : X) → lines ≡ first ∷ behind → behind ≡ middle ++ last ∷ [] → All P lines → All P middle × P last
-inner P lines behind middle first last e f h = All-pop P behind middle (Some last) f (All-rest P first behind lines e h)
-
-pub joined_is : (run : List ℕ) (lines behind middle : List (Bor (List ℕ))) (first last : Bor (List ℕ)) → lines ≡ first ∷ behind → behind ≡ middle ++ last ∷ []
-    → joined run (map (λ line. line.now) lines) ≡ (outer_line run first.now ++ flat_map (middle_line run) (map (λ line. line.now) middle)) ++ outer_line run last.now
-joined_is run lines behind middle first last e f =
+pub behind_is : (run front : List ℕ) (lines middle : List (Bor (List ℕ))) (last : Bor (List ℕ)) → lines ≡ middle ++ last ∷ []
+    → (front ++ flat_map (middle_line run) (map (λ line. line.now) middle)) ++ outer_line run last.now ≡ front ++ lines_behind run (map (λ line. line.now) lines)
+behind_is run front lines middle last e =
     let now : Bor (List ℕ) → List ℕ = λ line. line.now in
-    ap (λ ls. joined run (map now ls)) (e ∙ ap (λ ls. first ∷ ls) f) ∙ ap (λ ls. outer_line run first.now ++ lines_behind run ls) (map_push now middle last)
-    ∙ ap (λ v. outer_line run first.now ++ v) (behind_push run (map now middle) last.now) ∙ sym (append_assoc (outer_line run first.now) (flat_map (middle_line run) (map now middle)) (outer_line run last.now))
+    append_assoc front (flat_map (middle_line run) (map now middle)) (outer_line run last.now)
+    ∙ ap (λ v. front ++ v) (sym (ap (λ ls. lines_behind run (map now ls)) e ∙ ap (lines_behind run) (map_push now middle last) ∙ behind_push run (map now middle) last.now))
+
+-- what is known of a call that went well
+pub where_ok : {X E : Type 0} (r : Result X E) (after good before : List ℕ) → after ≡ (if is_ok r then good else before) → OnOk r (after ≡ good)
+where_ok (Ok _) after good before e = e
+where_ok (Err _) after good before e = tt
 
 -- ---- without a run, and without blank lines
 behind_same : (ls : List (List ℕ)) → list_any is_blank_line ls ≡ false → lines_behind [] ls ≡ concat ls

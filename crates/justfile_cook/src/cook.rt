@@ -1,7 +1,9 @@
-ghost use Rattle.std.specs.Prelude.{◌≡◌, ◌++◌, IfErr, IfOk, OnOk, encode_utf8_all, option_to_list, string_bytes};
-ghost use Rattle.justfile_model.specs.Cook.{Cooks, IsCookFault};
+ghost use Rattle.std.specs.Prelude.{◌≡◌, ◌++◌, ℕ, List, IfErr, IfOk, OnOk, encode_utf8_all, option_to_list, string_bytes};
+ghost use Rattle.justfile_model.specs.Cook.{Cooks, IsCookFault, Refused};
+ghost use Rattle.justfile_cook.specs.Found.{fault_of};
 
 use crate::escape::{first, piece};
+use crate::escape_fault::EscapeFault;
 use justfile_base::{CompileResult, Fault, Token};
 use std::alloc::{AllocError, Global};
 
@@ -22,10 +24,20 @@ pub fn cook_string<'src>(
                 put(&mut cooked, value)?;
                 rest = behind;
             }
-            Err(fault) => return Err(Fault::Compile(token.error(fault.into_kind(alloc)?))),
+            Err(fault) => return Err(refusal(alloc, token, fault)),
         }
     }
     Ok(cooked)
+}
+
+/// The refusal of a text with such an escape, at the token.
+fn refusal<'src>(alloc: Global, token: Token<'src>, fault: EscapeFault<'_>) -> Fault<'src>
+    ensures { (text : List ℕ) → Refused text (fault_of fault.entry) → IsCookFault text token.entry result }
+{
+    match fault.into_kind(alloc) {
+        Ok(kind) => Fault::Compile(token.error(kind)),
+        Err(_) => Fault::Memory,
+    }
 }
 
 /// Puts the character, if there is one, at the end.

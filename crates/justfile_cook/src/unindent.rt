@@ -1,7 +1,7 @@
-ghost use Rattle.std.specs.Prelude.{◌≡◌, [], ◌∷◌, false, true, IfOk, drop, length, map, nat_eq, string_bytes};
+ghost use Rattle.std.specs.Prelude.{◌≡◌, [], ◌∷◌, ◌++◌, false, true, IfOk, OnOk, drop, length, map, nat_eq, string_bytes};
 ghost use Rattle.std.specs.List.{All, common_prefix_len, list_all, prefix_len};
 ghost use Rattle.justfile_base.specs.Indentation.{is_blank};
-ghost use Rattle.justfile_model.specs.Unindent.{IsFront, IsIndented, indentation, is_blank_line, is_white, joined, leading_blanks, line_end, lines, middle_line, outer_line, shared_front, unindented};
+ghost use Rattle.justfile_model.specs.Unindent.{IsFront, IsIndented, indentation, is_blank_line, is_white, joined, leading_blanks, line_end, lines, lines_behind, middle_line, outer_line, shared_front, unindented};
 
 use std::alloc::{AllocError, Global};
 
@@ -124,23 +124,30 @@ fn middle_line<'text>(line: &'text str, run: &str) -> &'text str
     }
 }
 
+/// Puts what stays of the lines behind the first at the end.
+fn push_behind(text: &mut String, lines: &[&str], run: &str) -> Result<(), AllocError>
+    requires { All (λ line. IsIndented run.now line.now) lines.now }
+    ensures { OnOk result (string_bytes text.new ≡ string_bytes text.old ++ lines_behind run.now (map (λ line. line.now) lines.now)) }
+{
+    let Some((last, middle)) = lines.split_last() else {
+        return Ok(());
+    };
+    for line in middle {
+        text.push_str(middle_line(line, run))?;
+    }
+    text.push_str(outer_line(last, run))
+}
+
 /// What stays of the lines, joined.
 fn joined(alloc: Global, lines: &[&str], run: &str) -> Result<String, AllocError>
     requires { All (λ line. IsIndented run.now line.now) lines.now }
     ensures { IfOk result (λ text. string_bytes text ≡ joined run.now (map (λ line. line.now) lines.now)) }
 {
     let mut text = String::new(alloc);
-    let Some((first, behind)) = lines.split_first() else {
-        return Ok(text);
-    };
-    text.push_str(outer_line(first, run))?;
-    let Some((last, middle)) = behind.split_last() else {
-        return Ok(text);
-    };
-    for line in middle {
-        text.push_str(middle_line(line, run))?;
+    if let Some((first, behind)) = lines.split_first() {
+        text.push_str(outer_line(first, run))?;
+        push_behind(&mut text, behind, run)?;
     }
-    text.push_str(outer_line(last, run))?;
     Ok(text)
 }
 

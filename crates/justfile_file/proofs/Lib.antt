@@ -1,5 +1,5 @@
 pub mod Bodies
-pub mod Copied
+pub mod CopiedLists
 pub mod Gaps
 pub mod Loops
 pub mod PrintedBack

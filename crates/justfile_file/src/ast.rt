@@ -1,15 +1,15 @@
 ghost use Rattle.std.specs.Prelude.{◌≡◌, OnOk, OnErr, IfOk, map, string_bytes, None};
-ghost use Rattle.std.specs.List.{AllZip, list_all};
+ghost use Rattle.std.specs.List.{list_all};
 ghost use Rattle.justfile_base.specs.Indentation.{indentation_text};
 ghost use Rattle.justfile_model.specs.NormalShape.{normal};
 ghost use Rattle.justfile_model.specs.Printing.{printable, printable_item, text};
 ghost use Rattle.justfile_file.specs.Ast.{ast_shape};
-ghost use Rattle.justfile_file.specs.Copies.{IsSameItem};
 ghost use Rattle.justfile_file.specs.Gap.{front_text, end_text};
 ghost use Rattle.justfile_file.specs.Item.{item_shape};
 ghost use Rattle.justfile_file.specs.PrintsBack.{PrintsBack};
 ghost use Rattle.justfile_file.specs.declared.gap.Gap.TheVariants.{Start};
 
+use crate::copied::all_copied;
 use crate::gap::Gap;
 use crate::item::{Item, write_step};
 use justfile_base::{Indentation, Modulepath, Token, UnstableFeature};
@@ -53,12 +53,16 @@ impl<'src> Ast<'src> {
     pub fn clone(&self, alloc: Global) -> Result<Self, AllocError>
         ensures { IfOk result (λ copy. IsSameAst copy self.now) }
     {
+        let list_features = self.list_features.as_slice().to_vec(alloc)?;
+        let module_path = self.module_path.clone(alloc)?;
+        let unstable_features = self.unstable_features.clone()?;
+        let working_directory = self.working_directory.as_str().to_string(alloc)?;
         Ok(Ast {
-            items: copied(alloc, &self.items)?,
-            list_features: self.list_features.as_slice().to_vec(alloc)?,
-            module_path: self.module_path.clone(alloc)?,
-            unstable_features: self.unstable_features.clone()?,
-            working_directory: self.working_directory.as_str().to_string(alloc)?,
+            items: all_copied(alloc, &self.items)?,
+            list_features,
+            module_path,
+            unstable_features,
+            working_directory,
         })
     }
 
@@ -71,18 +75,6 @@ impl<'src> Ast<'src> {
         write_ast(self, indentation, &mut printed)?;
         Ok(printed)
     }
-}
-
-/// The same items once more.
-fn copied<'src>(alloc: Global, items: &[Item<'src>]) -> Result<Vec<Item<'src>>, AllocError>
-    ensures { IfOk result (λ copies. AllZip IsSameItem copies.items items.now) }
-{
-    let mut copies = Vec::new(alloc);
-    for item in items {
-        let copy = item.clone(alloc)?;
-        copies.push(copy)?;
-    }
-    Ok(copies)
 }
 
 /// Whether each of the items, printed, reads back.

@@ -2,6 +2,7 @@ ghost use Rattle.std.specs.Prelude.{OnOk, OnErr};
 ghost use Rattle.justfile_model.specs.Printing.{piece, fragment_text};
 ghost use Rattle.justfile_file.specs.Item.{fragment_shape};
 
+use crate::copied::Copied;
 use justfile_base::Token;
 use justfile_tree::{Expression, Sink, put_piece, write_expression};
 use std::alloc::{AllocError, Global};
@@ -27,8 +28,9 @@ impl<'src> Fragment<'src> {
     {
         match self {
             Fragment::Interpolation { expression } => {
-                let expression = expression.clone(alloc)?;
-                Ok(Fragment::Interpolation { expression })
+                Ok(Fragment::Interpolation {
+                    expression: expression.clone(alloc)?,
+                })
             }
             Fragment::Text { token } => Ok(Fragment::Text { token: *token }),
         }
@@ -42,6 +44,16 @@ impl<'src> Fragment<'src> {
             Fragment::Interpolation { .. } => None,
             Fragment::Text { token } => Some(token.lexeme()),
         }
+    }
+}
+
+impl Copied for Fragment<'_> {
+    ghost use Rattle.justfile_file.specs.Copies.{IsSameFragment};
+
+    ghost is_copy = { IsSameFragment };
+
+    fn copied(&self, alloc: Global) -> Result<Self, AllocError> {
+        self.clone(alloc)
     }
 }
 

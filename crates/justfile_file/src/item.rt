@@ -5,6 +5,7 @@ ghost use Rattle.justfile_file.specs.Gap.{gap_text, next_gap, step_text};
 ghost use Rattle.justfile_file.specs.Item.{item_shape};
 
 use crate::assignment::{Assignment, write_assignment};
+use crate::copied::Copied;
 use crate::gap::Gap;
 use crate::recipe::{UnresolvedRecipe, write_recipe};
 use justfile_base::Indentation;
@@ -32,16 +33,10 @@ impl<'src> Item<'src> {
         ensures { IfOk result (λ copy. IsSameItem copy self.now) }
     {
         match self {
-            Item::Assignment(assignment) => {
-                let assignment = assignment.clone(alloc)?;
-                Ok(Item::Assignment(assignment))
-            }
+            Item::Assignment(assignment) => Ok(Item::Assignment(assignment.clone(alloc)?)),
             Item::Comment(text) => Ok(Item::Comment(text)),
             Item::Newline => Ok(Item::Newline),
-            Item::Recipe(recipe) => {
-                let recipe = recipe.clone(alloc)?;
-                Ok(Item::Recipe(recipe))
-            }
+            Item::Recipe(recipe) => Ok(Item::Recipe(recipe.clone(alloc)?)),
         }
     }
 
@@ -72,6 +67,16 @@ impl<'src> Item<'src> {
         let mut printed = String::new(alloc);
         write_item(self, indentation, &mut printed)?;
         Ok(printed)
+    }
+}
+
+impl Copied for Item<'_> {
+    ghost use Rattle.justfile_file.specs.Copies.{IsSameItem};
+
+    ghost is_copy = { IsSameItem };
+
+    fn copied(&self, alloc: Global) -> Result<Self, AllocError> {
+        self.clone(alloc)
     }
 }
 

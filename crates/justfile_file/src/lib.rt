@@ -4,6 +4,7 @@
 pub mod assignment;
 pub mod ast;
 pub mod binding;
+mod copied;
 pub mod fragment;
 mod gap;
 pub mod item;

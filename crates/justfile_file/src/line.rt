@@ -1,13 +1,14 @@
 ghost use Rattle.std.specs.Prelude.{◌≡◌, ◌↔◌, OnOk, OnErr, IfOk, IsTrue};
-ghost use Rattle.std.specs.List.{AllZip, Contains};
+ghost use Rattle.std.specs.List.{Contains};
 ghost use Rattle.std.specs.Option.{option_copied};
 ghost use Rattle.justfile_base.specs.Indentation.{indentation_text};
 ghost use Rattle.justfile_model.specs.Printing.{ends_in_return, line_text, printable_fragments};
-ghost use Rattle.justfile_file.specs.Copies.{IsSameFragment, IsSameLine};
+ghost use Rattle.justfile_file.specs.Copies.{IsSameLine};
 ghost use Rattle.justfile_file.specs.Item.{fragment_shapes, fragments_text, line_shape};
 ghost use Rattle.justfile_file.specs.Line.{IsComment, IsContinuation, IsEmpty, IsShebang, HasSigil, first_text, last_text};
 ghost use Rattle.justfile_file.specs.Sigil.{IsSigilOf};
 
+use crate::copied::{Copied, all_copied};
 use crate::fragment::{Fragment, write_fragment};
 use crate::sigil::Sigil;
 use justfile_base::Indentation;
@@ -29,7 +30,7 @@ impl<'src> Line<'src> {
         ensures { IfOk result (λ copy. IsSameLine copy self.now) }
     {
         Ok(Line {
-            fragments: copied(alloc, &self.fragments)?,
+            fragments: all_copied(alloc, &self.fragments)?,
             number: self.number,
         })
     }
@@ -99,19 +100,12 @@ impl<'src> Line<'src> {
     }
 }
 
-/// The same fragments once more.
-fn copied<'src>(
-    alloc: Global,
-    fragments: &[Fragment<'src>],
-) -> Result<Vec<Fragment<'src>>, AllocError>
-    ensures { IfOk result (λ copies. AllZip IsSameFragment copies.items fragments.now) }
-{
-    let mut copies = Vec::new(alloc);
-    for fragment in fragments {
-        let copy = fragment.clone(alloc)?;
-        copies.push(copy)?;
+impl Copied for Line<'_> {
+    ghost is_copy = { IsSameLine };
+
+    fn copied(&self, alloc: Global) -> Result<Self, AllocError> {
+        self.clone(alloc)
     }
-    Ok(copies)
 }
 
 /// The sigils at the front of a text, up to another byte or one that stood before.

@@ -1,12 +1,13 @@
 ghost use Rattle.std.specs.Prelude.{◌≡◌, ◌++◌, OnOk, OnErr, IfOk, codes};
-ghost use Rattle.std.specs.List.{AllZip, list_all};
+ghost use Rattle.std.specs.List.{list_all};
 ghost use Rattle.justfile_base.specs.Indentation.{indentation_text};
 ghost use Rattle.justfile_base.specs.Token.{lexeme_of};
 ghost use Rattle.justfile_model.specs.Printing.{piece, line_text, body_text, printable_fragments, printable_body};
-ghost use Rattle.justfile_file.specs.Copies.{IsSameLine, IsSameRecipe};
+ghost use Rattle.justfile_file.specs.Copies.{IsSameRecipe};
 ghost use Rattle.justfile_file.specs.Item.{fragment_shapes, line_shape, line_shapes};
 ghost use Rattle.justfile_file.specs.Recipe.{recipe_text};
 
+use crate::copied::all_copied;
 use crate::line::{Line, write_line};
 use justfile_base::{Indentation, Name, Number};
 use justfile_tree::{Sink, put_piece};
@@ -34,10 +35,11 @@ impl<'src> UnresolvedRecipe<'src> {
     pub fn clone(&self, alloc: Global) -> Result<Self, AllocError>
         ensures { IfOk result (λ copy. IsSameRecipe copy self.now) }
     {
+        let import_offsets = self.import_offsets.clone()?;
         Ok(UnresolvedRecipe {
-            body: copied(alloc, &self.body)?,
+            body: all_copied(alloc, &self.body)?,
             file_depth: self.file_depth,
-            import_offsets: self.import_offsets.clone()?,
+            import_offsets,
             name: self.name,
             number: self.number,
             private: self.private,
@@ -52,18 +54,6 @@ impl<'src> UnresolvedRecipe<'src> {
     {
         are_printable(&self.body)
     }
-}
-
-/// The same lines once more.
-fn copied<'src>(alloc: Global, lines: &[Line<'src>]) -> Result<Vec<Line<'src>>, AllocError>
-    ensures { IfOk result (λ copies. AllZip IsSameLine copies.items lines.now) }
-{
-    let mut copies = Vec::new(alloc);
-    for line in lines {
-        let copy = line.clone(alloc)?;
-        copies.push(copy)?;
-    }
-    Ok(copies)
 }
 
 /// Whether each of the lines, printed, reads back.

@@ -1,7 +1,6 @@
 -- The parser adds items.
-use Rattle.std.proofs.Common.{◌≡◌, ℕ, Bool, List, [], ◌∷◌, ◌++◌, Some, None, Result, sym, ap, ◌∙◌, subst}
+use Rattle.std.proofs.Common.{◌≡◌, ℕ, List, [], ◌∷◌, ◌++◌, Some, None, Result, sym, ap, ◌∙◌, subst}
 use Rattle.std.specs.Borrow.{Bor}
-use Rattle.justfile_base.specs.declared.token.Token.{Token}
 use Rattle.justfile_base.specs.declared.numerator.Numerator.{Numerator}
 use Rattle.justfile_file.specs.declared.item.Item.{Item}
 use Rattle.justfile_base.specs.declared.token_kind.TokenKind.TheVariants as kinds
@@ -18,6 +17,7 @@ use Rattle.justfile_parse.specs.Reading.{StopsAt, literal_refusal, refusal_at}
 use Rattle.justfile_parse.specs.WantsNumber.{LacksFirst}
 use Rattle.justfile_parse.specs.View.{input_of, IsItemBy, IsNumbered, IsSameRun, IsGivenBy, AddsUnnumbered, Adds}
 use Rattle.justfile_parse.specs.declared.parser.Parser.{Parser}
+use Rattle.justfile_parse.specs.Significant.{TableEntry}
 use Rattle.justfile_parse.proofs.GivenLemmas.{given_push, unnumbered_given, unnumbered_numbered}
 
 module _ {X : Type 0} (answer : X → List ℕ → Result (List ℕ) (List ℕ)) (p : Parser X) where
@@ -43,7 +43,7 @@ module _ {X : Type 0} (answer : X → List ℕ → Result (List ℕ) (List ℕ))
     pub there : (first next : Numerator) (items : List Item) → IsGivenBy answer p first next items → IsGivenBy answer q first next items
     there first next items h =
         let P : Bor X → Type 0 = λ e. IsGivenItems (answers_by answer e.now) (IsInTable p.tokens.now) p.file_depth p.import_offsets.now first next items in
-        let Q : Bor (List (Token × Bool)) → Type 0 = λ t. IsGivenItems (answers_by answer q.expander.now) (IsInTable t.now) p.file_depth p.import_offsets.now first next items in
+        let Q : Bor (List TableEntry) → Type 0 = λ t. IsGivenItems (answers_by answer q.expander.now) (IsInTable t.now) p.file_depth p.import_offsets.now first next items in
         let R : ℕ → Type 0 = λ d. IsGivenItems (answers_by answer q.expander.now) (IsInTable q.tokens.now) d p.import_offsets.now first next items in
         let S : Bor (List ℕ) → Type 0 = λ o. IsGivenItems (answers_by answer q.expander.now) (IsInTable q.tokens.now) q.file_depth o.now first next items in
         subst S (sym same.import_offsets) (subst R (sym same.file_depth) (subst Q (sym same.tokens) (subst P (sym same.expander) h)))
@@ -51,7 +51,7 @@ module _ {X : Type 0} (answer : X → List ℕ → Result (List ℕ) (List ℕ))
     pub back : (first next : Numerator) (items : List Item) → IsGivenBy answer q first next items → IsGivenBy answer p first next items
     back first next items h =
         let P : Bor X → Type 0 = λ e. IsGivenItems (answers_by answer e.now) (IsInTable p.tokens.now) p.file_depth p.import_offsets.now first next items in
-        let Q : Bor (List (Token × Bool)) → Type 0 = λ t. IsGivenItems (answers_by answer q.expander.now) (IsInTable t.now) p.file_depth p.import_offsets.now first next items in
+        let Q : Bor (List TableEntry) → Type 0 = λ t. IsGivenItems (answers_by answer q.expander.now) (IsInTable t.now) p.file_depth p.import_offsets.now first next items in
         let R : ℕ → Type 0 = λ d. IsGivenItems (answers_by answer q.expander.now) (IsInTable q.tokens.now) d p.import_offsets.now first next items in
         let S : Bor (List ℕ) → Type 0 = λ o. IsGivenItems (answers_by answer q.expander.now) (IsInTable q.tokens.now) q.file_depth o.now first next items in
         subst P same.expander (subst Q same.tokens (subst R same.file_depth (subst S same.import_offsets h)))

@@ -23,6 +23,7 @@ use Rattle.justfile_parse.proofs.Runs.{same_run}
 use Rattle.justfile_parse.specs.declared.parser.Parser.{Parser}
 use Rattle.justfile_parse.specs.declared.stop.Stop.{Stop}
 use Rattle.justfile_parse.specs.declared.stop.Stop.TheVariants.{Refused, Literal, Memory, Numbers}
+use Rattle.justfile_parse.specs.Significant.{TableEntry}
 
 -- ---- parts of any kind, of which `whole` reads all that come
 
@@ -57,7 +58,7 @@ module _ {X Z T : Type 0} (answer : X → List ℕ → Result (List ℕ) (List �
         let E = answers_by answer p.expander.now in
         let run = same_run so_far.same same in
         let G : Bor X → Type 0 = λ e. IsGood (answers_by answer e.now) (IsInTable a.tokens.now) z in
-        let H : Bor (List (Token × Bool)) → Type 0 = λ t. IsGood E (IsInTable t.now) z in
+        let H : Bor (List TableEntry) → Type 0 = λ t. IsGood E (IsInTable t.now) z in
         let N : List Z → Type 0 = λ l. All (IsGood E (IsInTable p.tokens.now)) l in
         record {
           same = same_run run same2;

@@ -25,7 +25,7 @@ use Rattle.justfile_model.proofs.Steps.{after_choose, after_expect, after_marked
 use Rattle.justfile_parse.specs.Formats.{AreEnded, IsEnded, IsEndedBehind, last_of}
 use Rattle.justfile_parse.specs.Parsing.{IsOneLex}
 use Rattle.justfile_parse.specs.Reading.{pair_rule, part_rule}
-use Rattle.justfile_parse.specs.Significant.{significant_of}
+use Rattle.justfile_parse.specs.Significant.{TableEntry, significant_of}
 use Rattle.justfile_parse.specs.View.{input_at}
 use Rattle.justfile_parse.proofs.Parsed.{framed_test}
 
@@ -46,7 +46,7 @@ unfolding AreEnded IsEndedBehind IsEnded
 inside_ended ts h before start behind is kind depth e fs rest x ps gs end parts =
     parts_ended parts (expression_inside itself itself Limited x (start_inside before start behind (subst AreInFormat is h) kind))
 
-pub ended_lex : (tokens : List Token) (table : List (Token × Bool)) → IsOneLex tokens → map significant_of table ≡ significant_tokens (map tok_of tokens) → AreEnded (map significant_of table)
+pub ended_lex : (tokens : List Token) (table : List TableEntry) → IsOneLex tokens → map significant_of table ≡ significant_tokens (map tok_of tokens) → AreEnded (map significant_of table)
 ended_lex tokens table l is = subst AreEnded (sym is) (inside_ended (significant_tokens (map tok_of tokens)) (lexed_inside l.text (map tok_of tokens) l.utf8 l.lexed))
 
 -- ---- from a start on
@@ -58,7 +58,7 @@ AtStart ts (Some x) = (before : Tokens) × (ts ≡ before ++ x.0 ∷ x.1.tokens)
 marked_at : (word : List ℕ) (s : Input) → AtStart s.tokens (accept_marked word kinds.FormatStringStart s)
 marked_at word s = after_marked word kinds.FormatStringStart s (AtStart s.tokens) (λ no. tt) (λ m t rest split is. (m ∷ [], split, is.is_string))
 
-pub behind_start : (table : List (Token × Bool)) (n : ℕ) (fs : List (ListFeature × Token)) (word : List ℕ) (start : SignificantToken) (rest : Input) → AreEnded (map significant_of table) → accept_marked word kinds.FormatStringStart (input_at table n fs) ≡ Some (start, rest)
+pub behind_start : (table : List TableEntry) (n : ℕ) (fs : List (ListFeature × Token)) (word : List ℕ) (start : SignificantToken) (rest : Input) → AreEnded (map significant_of table) → accept_marked word kinds.FormatStringStart (input_at table n fs) ≡ Some (start, rest)
     → (depth : ℕ) → IsEndedBehind (kind_of start.tok.lexeme) depth rest.tokens
 unfolding input_at AreEnded
 behind_start table n fs word start rest h found =

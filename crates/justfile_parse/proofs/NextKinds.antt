@@ -8,17 +8,17 @@ use Rattle.justfile_base.specs.declared.token.Token.{Token}
 use Rattle.justfile_base.specs.declared.token_kind.TokenKind.{TokenKind}
 use Rattle.justfile_model.specs.Reading.{at, begin_with, same_kind}
 use Rattle.justfile_model.specs.declared.list_feature.ListFeature.{ListFeature}
-use Rattle.justfile_parse.specs.Significant.{significant_of}
+use Rattle.justfile_parse.specs.Significant.{TableEntry, significant_of}
 use Rattle.justfile_parse.specs.View.{input_at}
 use Rattle.justfile_parse.proofs.Rest.{rest_at, rest_here, rest_end, rest_is}
 
 -- the kinds before an index are those of the next tokens, and the others are left
-pub record AreTo (table : List (Token × Bool)) (kinds : List TokenKind) (start index next : ℕ) : Type 0 where
+pub record AreTo (table : List TableEntry) (kinds : List TokenKind) (start index next : ℕ) : Type 0 where
   pub at : next ≡ start + index
   pub within : next ≤ length table
   pub same : begin_with kinds (rest_at table start) ≡ begin_with (drop index kinds) (rest_at table next)
 
-module _ (table : List (Token × Bool)) (kinds : List TokenKind) where
+module _ (table : List TableEntry) (kinds : List TokenKind) where
   pub are_begin : (start : ℕ) → start ≤ length table → AreTo table kinds start 0 start
   are_begin start h = record { at = omega arith; within = h; same = refl }
 
@@ -40,20 +40,20 @@ module _ (table : List (Token × Bool)) (kinds : List TokenKind) where
           so_far.same ∙ ap (λ (ks : List TokenKind). begin_with ks (rest_at table next)) split
           ∙ ap (begin_with (get_or kinds index k ∷ drop (index + 1) kinds)) (rest_end table next (grind (arith, nat_tests, e)))
 
-      module _ (d entry : Token × Bool) (t : true ≡ nat_lt next (length table)) (is : entry ≡ get_or table next d) where
+      module _ (d entry : TableEntry) (t : true ≡ nat_lt next (length table)) (is : entry ≡ get_or table next d) where
         inside : next < length table
         inside = grind (arith, nat_tests, t)
 
-        here : begin_with kinds (rest_at table start) ≡ (same_kind entry.0.kind (get_or kinds index k) && begin_with (drop (index + 1) kinds) (rest_at table (next + 1)))
+        here : begin_with kinds (rest_at table start) ≡ (same_kind entry.0.now.kind (get_or kinds index k) && begin_with (drop (index + 1) kinds) (rest_at table (next + 1)))
         unfolding begin_with
         here =
             so_far.same ∙ ap (λ (ks : List TokenKind). begin_with ks (rest_at table next)) split
-            ∙ ap (begin_with (get_or kinds index k ∷ drop (index + 1) kinds)) (rest_here table next d inside ∙ ap (λ (e : Token × Bool). significant_of e ∷ rest_at table (next + 1)) (sym is))
+            ∙ ap (begin_with (get_or kinds index k ∷ drop (index + 1) kinds)) (rest_here table next d inside ∙ ap (λ (e : TableEntry). significant_of e ∷ rest_at table (next + 1)) (sym is))
 
-        pub are_other : same_kind entry.0.kind (get_or kinds index k) ≡ false → begin_with kinds (rest_at table start) ≡ false
+        pub are_other : same_kind entry.0.now.kind (get_or kinds index k) ≡ false → begin_with kinds (rest_at table start) ≡ false
         are_other other = here ∙ ap (λ (b : Bool). b && begin_with (drop (index + 1) kinds) (rest_at table (next + 1))) other
 
-        pub are_go_on : same_kind entry.0.kind (get_or kinds index k) ≡ true → AreTo table kinds start (index + 1) (next + 1)
+        pub are_go_on : same_kind entry.0.now.kind (get_or kinds index k) ≡ true → AreTo table kinds start (index + 1) (next + 1)
         are_go_on same_here =
             record {
               at = omega (arith, so_far.at);
@@ -63,21 +63,21 @@ module _ (table : List (Token × Bool)) (kinds : List TokenKind) where
 
 -- ---- the same of what is left
 
-module _ (table : List (Token × Bool)) (kinds : List TokenKind) (start : ℕ) (fs : List (ListFeature × Token)) where
+module _ (table : List TableEntry) (kinds : List TokenKind) (start : ℕ) (fs : List (ListFeature × Token)) where
   pub left_are : (b : Bool) → begin_with kinds (rest_at table start) ≡ b → begin_with kinds (input_at table start fs).tokens ≡ b
   left_are b h = ap (begin_with kinds) (rest_is table start fs) ∙ h
 
 -- ---- tokens that are taken
 
-pub input_skip : (table : List (Token × Bool)) (n count : ℕ) (fs : List (ListFeature × Token)) → input_at table (n + count) fs ≡ at (input_at table n fs) (drop count (input_at table n fs).tokens)
+pub input_skip : (table : List TableEntry) (n count : ℕ) (fs : List (ListFeature × Token)) → input_at table (n + count) fs ≡ at (input_at table n fs) (drop count (input_at table n fs).tokens)
 unfolding input_at
 input_skip table n count fs = ap (at (input_at table n fs)) (sym (drop_map count (drop n table) ∙ ap (map significant_of) (drop-drop count n table)))
   where
-    drop_map : (n : ℕ) (xs : List (Token × Bool)) → drop n (map significant_of xs) ≡ map significant_of (drop n xs)
+    drop_map : (n : ℕ) (xs : List TableEntry) → drop n (map significant_of xs) ≡ map significant_of (drop n xs)
     drop_map zero xs = refl
     drop_map (suc n) [] = refl
     drop_map (suc n) (x ∷ xs) = drop_map n xs
 
-pub input_length : (table : List (Token × Bool)) (n : ℕ) (fs : List (ListFeature × Token)) → length (input_at table n fs).tokens ≡ length table - n
+pub input_length : (table : List TableEntry) (n : ℕ) (fs : List (ListFeature × Token)) → length (input_at table n fs).tokens ≡ length table - n
 unfolding input_at
 input_length table n fs = length-map (drop n table) significant_of ∙ length-drop n table

@@ -55,7 +55,7 @@ use Rattle.justfile_parse.specs.Errors.{IsAt, IsErrorOf}
 use Rattle.justfile_parse.specs.Literal.{is_delimited, is_sound}
 use Rattle.justfile_parse.specs.Parsing.{HasNoTree, IsOneLex, IsParsed, IsParsedText, IsUnparsed}
 use Rattle.justfile_parse.specs.Reading.{IsFaultOf, IsKindAt, IsGivenStop, IsRead, IsUnread, StopsAt, literal_refusal, refusal_at}
-use Rattle.justfile_parse.specs.Significant.{significant_of}
+use Rattle.justfile_parse.specs.Significant.{TableEntry, significant_of}
 use Rattle.justfile_parse.specs.WantsNumber.{LinesWantNumber, WantsNumber, behind_mark}
 use Rattle.justfile_parse.specs.declared.stop.Refusal.{Refusal}
 use Rattle.justfile_parse.specs.declared.stop.Refusal.TheVariants.{Unexpected, TooDeep}
@@ -74,13 +74,13 @@ taken_fewer : (s : Input) (t : SignificantToken) (rest : Input) → reading.acce
 taken_fewer s t rest = accept_identifiers kinds.ByteOrderMark s (t, rest)
 
 module _ (s rest : Input) where
-  pub mark_fewer : (o : Option (Token × Bool)) → IfSome o (λ entry. reading.accept kinds.ByteOrderMark s ≡ Some (significant_of entry, rest)) → IfNone o (rest ≡ s) → identifiers rest.tokens ≤ identifiers s.tokens
+  pub mark_fewer : (o : Option TableEntry) → IfSome o (λ entry. reading.accept kinds.ByteOrderMark s ≡ Some (significant_of entry, rest)) → IfNone o (rest ≡ s) → identifiers rest.tokens ≤ identifiers s.tokens
   mark_fewer None some none = omega (arith, ap (λ (x : Input). identifiers x.tokens) none)
   mark_fewer (Some entry) some none = taken_fewer s (significant_of entry) rest some
 
 -- ---- a whole file
 
-pub none_noted : (table : List (Token × Bool)) → AreNotedIn table []
+pub none_noted : (table : List TableEntry) → AreNotedIn table []
 none_noted table = record { all = λ k d h. absurd (omega arith) }
 
 module _ (expander : Answers) (ts : List SignificantToken) where
@@ -114,7 +114,7 @@ literal_error : (tokens : List SignificantToken) (refused : Refused) → IsError
 unfolding literal_refusal
 literal_error tokens refused = (kind_is_due refused.error.kind refused.is_literal, refl)
 
-pub unread : (expander : Answers) (tokens : List SignificantToken) (table : List (Token × Bool)) (old new : Numerator) (left : Input) (stop : Stop) (fault : Fault)
+pub unread : (expander : Answers) (tokens : List SignificantToken) (table : List TableEntry) (old new : Numerator) (left : Input) (stop : Stop) (fault : Fault)
     → StopsAt stop left (WantsNumber expander tokens old new) (reader.file expander tokens) → IsGivenStop table stop → tokens ≡ map significant_of table → IsFaultOf table left stop fault → IsUnread expander tokens (IsInTable table) old new fault
 unread expander tokens table old new left (stops.Refused r) (faults.Compile e) h given all is =
     let at : IsAt tokens (front left.tokens) e.token = subst (λ (ts : List SignificantToken). IsAt ts (front left.tokens) e.token) (sym all) is.2 in
@@ -150,7 +150,7 @@ some_significant glued (t ∷ ts) last h = longer (is_whitespace t.kind) (record
 in_front : (text : List ℕ) (ts : List Tok) (l : Lexed text ts) → ts ≡ reverse l.earlier ++ (l.last ∷ [])
 in_front text ts l = sym (reverse-reverse ts) ∙ ap reverse l.are ∙ reverse-append (l.last ∷ []) l.earlier
 
-pub nonempty : (text : List ℕ) (ts : List Tok) (table : List (Token × Bool)) → Lexed text ts → map significant_of table ≡ significant_tokens ts → 0 < length table
+pub nonempty : (text : List ℕ) (ts : List Tok) (table : List TableEntry) → Lexed text ts → map significant_of table ≡ significant_tokens ts → 0 < length table
 nonempty text ts table l is =
     let n : 0 < length (significant_from false (reverse l.earlier ++ l.last ∷ [])) = some_significant false (reverse l.earlier) l.last l.is_end in
     omega (arith, n, ap (λ (us : List Tok). length (significant_from false us)) (in_front text ts l), ap length is, length-map table significant_of)
@@ -178,12 +178,12 @@ both : (a b : Bool) → a ≡ true → b ≡ true → (a && b) ≡ true
 both true b h k = k
 both false b h k = cc
 
-sound_table : (table : List (Token × Bool)) → AreQuoted (map significant_of table) → AreFramed (map significant_of table) → list_all is_sound table ≡ true
+sound_table : (table : List TableEntry) → AreQuoted (map significant_of table) → AreFramed (map significant_of table) → list_all is_sound table ≡ true
 sound_table [] h k = refl
 sound_table (entry ∷ table) h k =
-    both (is_sound entry) (list_all is_sound table) (delimited entry.0.kind (lexeme_of entry.0) h.0 h.1 k.0 k.1) (sound_table table h.2 k.3)
+    both (is_sound entry) (list_all is_sound table) (delimited entry.0.now.kind (lexeme_of entry.0.now) h.0 h.1 k.0 k.1) (sound_table table h.2 k.3)
 
-pub sound_lex : (tokens : List Token) (table : List (Token × Bool)) → IsOneLex tokens → map significant_of table ≡ significant_tokens (map tok_of tokens) → IsTrue (list_all is_sound table)
+pub sound_lex : (tokens : List Token) (table : List TableEntry) → IsOneLex tokens → map significant_of table ≡ significant_tokens (map tok_of tokens) → IsTrue (list_all is_sound table)
 sound_lex tokens table l is =
     let ts = map tok_of tokens in
     let e : list_all is_sound table ≡ true
@@ -192,8 +192,8 @@ sound_lex tokens table l is =
 
 -- ---- what was given
 
-in_tokens : (tokens : List Token) (table : List (Token × Bool)) → All (λ entry. Contains tokens entry.0) table → (t : Token) → IsInTable table t → Contains tokens t
-in_tokens tokens table all t h = All-contains (λ (entry : Token × Bool). Contains tokens entry.0) table (t, h.glued) all h.among
+in_tokens : (tokens : List Token) (table : List TableEntry) → All (λ entry. Contains tokens entry.0.now) table → (t : Token) → IsInTable table t → Contains tokens t
+in_tokens tokens table all t h = All-contains (λ (entry : TableEntry). Contains tokens entry.0.now) table (record { ref_ptr = h.ref_ptr; now = t }, h.glued) all h.among
 
 module _ (expander : Answers) (P Q : Token → Type 0) (weaker : (t : Token) → P t → Q t) where
   mutual
@@ -385,20 +385,20 @@ cooks_of expander P file_depth import_offsets (i ∷ items) all =
 
 -- ---- what is read derives
 
-pub given_tokens : (expander : Answers) (tokens : List Token) (table : List (Token × Bool)) (file_depth : ℕ) (import_offsets : List ℕ) (items : List Item) → All (λ entry. Contains tokens entry.0) table → All (IsGivenItem expander (IsInTable table) file_depth import_offsets) items
+pub given_tokens : (expander : Answers) (tokens : List Token) (table : List TableEntry) (file_depth : ℕ) (import_offsets : List ℕ) (items : List Item) → All (λ entry. Contains tokens entry.0.now) table → All (IsGivenItem expander (IsInTable table) file_depth import_offsets) items
     → All (IsGivenItem expander (Contains tokens) file_depth import_offsets) items
 given_tokens expander tokens table file_depth import_offsets items all =
     All-weaker (IsGivenItem expander (IsInTable table) file_depth import_offsets) (IsGivenItem expander (Contains tokens) file_depth import_offsets)
     (given_weaker expander (IsInTable table) (Contains tokens) (in_tokens tokens table all) file_depth import_offsets) items
 
-module _ (expander : Answers) (current : VersionNumbers) (tokens : List Token) (table : List (Token × Bool)) (old new : Numerator) (is : map significant_of table ≡ significant_tokens (map tok_of tokens)) where
+module _ (expander : Answers) (current : VersionNumbers) (tokens : List Token) (table : List TableEntry) (old new : Numerator) (is : map significant_of table ≡ significant_tokens (map tok_of tokens)) where
   found : (tree : Tree) (features : List (Noted Tok)) → FileDerives expander current (significant_tokens (map tok_of tokens)) tree features → reader.file expander (map significant_of table) ≡ Ok (tree, features)
   found tree features d = ap (reader.file expander) is ∙ complete expander current (significant_tokens (map tok_of tokens)) tree features d
 
   pub derives_of : (tree : Tree) (features : List (Noted Tok)) → reader.file expander (map significant_of table) ≡ Ok (tree, features) → FileDerives expander current (significant_tokens (map tok_of tokens)) tree features
   derives_of tree features h = sound expander current (significant_tokens (map tok_of tokens)) tree features (sym (ap (reader.file expander) is) ∙ h)
 
-  pub unparsed_of : All (λ entry. Contains tokens entry.0) table → (fault : Fault)
+  pub unparsed_of : All (λ entry. Contains tokens entry.0.now) table → (fault : Fault)
       → IsUnread expander (map significant_of table) (IsInTable table) old new fault
       → IsUnparsed expander current (map tok_of tokens) (Contains tokens) old new fault
   unparsed_of all (faults.Compile e) h =
@@ -424,7 +424,7 @@ module _ (expander : Answers) (current : VersionNumbers) (tokens : List Token) (
       let ts = significant_tokens (map tok_of tokens) in
       (wants, λ tree features d s. never_suffice expander ts old new (tree, features) wants (complete expander current ts tree features d) s)
 
-  pub parsed_of : All (λ entry. Contains tokens entry.0) table → (file_depth : ℕ) (import_offsets : List ℕ) (ast : Ast)
+  pub parsed_of : All (λ entry. Contains tokens entry.0.now) table → (file_depth : ℕ) (import_offsets : List ℕ) (ast : Ast)
       → IsRead expander table file_depth import_offsets (map significant_of table) old new (ast.items.items, ast.list_features.items) → ast.unstable_features.keys ≡ []
       → IsParsed expander current (map tok_of tokens) (Contains tokens) file_depth import_offsets old new ast
   parsed_of all file_depth import_offsets ast h stable =

@@ -1,5 +1,5 @@
 -- A tree with a vector in it, by the vector's elements.
-use Rattle.std.proofs.Common.{◌≡◌, ◌∙◌, List, Bool, All, refl, sym, ap, subst, Vec, arith, suc}
+use Rattle.std.proofs.Common.{◌≡◌, ◌∙◌, List, All, refl, sym, ap, subst, Vec, arith, suc}
 use mathlib.Core.Former.{Count}
 use Rattle.std.specs.declared.alloc.Global.{Global}
 use Rattle.justfile_base.specs.declared.name.Name.{Name}
@@ -16,6 +16,7 @@ use Rattle.justfile_tree.specs.Expression.{expr_of, exprs_of, exprs_of_row, form
 use Rattle.justfile_tree.specs.declared.expression.Expression.{Expression, Row_of-Expression, end_of-Expression, more_of-Expression, items-the_row-Expression, items_hidden-the_row-Expression-0, Row_of-Expression-FormatString-1-2, end_of-Expression-FormatString-1-2, more_of-Expression-FormatString-1-2, items-the_row-Expression-FormatString-1-2, items_hidden-the_row-Expression-FormatString-1-2-1}
 use Rattle.justfile_tree.specs.declared.expression.Expression.TheVariants as e
 use Rattle.justfile_tree.specs.declared.expression.Expression.TheVariants.{Call', List', FormatString'}
+use Rattle.justfile_parse.specs.Significant.{TableEntry}
 
 row_is : (n : Count) (row : Row_of-Expression n) → exprs_of_row row ≡ exprs_of (items-the_row-Expression n row)
 row_is n end_of-Expression = refl
@@ -53,7 +54,7 @@ format_is start v =
     let row = parts_row (e.FormatString start v) in
     row_format row.0 (tok_of start.token) row.1 ∙ ap (format_tree (tok_of start.token)) (items_hidden-the_row-Expression-FormatString-1-2-1 v)
 
-module _ (expander : Answers) (table : List (Token × Bool)) where
+module _ (expander : Answers) (table : List TableEntry) where
   abbrev IsGiven : Expression → Type 0
   IsGiven = IsGivenExpression expander (IsInTable table)
 

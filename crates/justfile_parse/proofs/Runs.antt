@@ -13,6 +13,7 @@ use Rattle.justfile_parse.specs.View.{IsSameRun}
 use Rattle.justfile_parse.specs.declared.parser.Parser.{Parser}
 use Rattle.justfile_parse.proofs.Parts.{IsGivenPair, given_last}
 use Rattle.justfile_tree.specs.declared.expression.Expression.{Expression}
+use Rattle.justfile_parse.specs.Significant.{TableEntry}
 
 pub same_run : {X : Type 0} {first now next : Parser X} → IsSameRun first now → IsSameRun now next → IsSameRun first next
 same_run one two = record {
@@ -29,7 +30,7 @@ earlier {Y} {Z} P {y} {y2} {z} {z2} e f h =
     let Q : Y → Type 0 = λ v. P v z in
     subst Q e (subst (P y2) f h)
 
-module _ {Y Z : Type 0} (E : Y → Answers) (T : Z → List (Token × Bool)) {y y2 : Y} {z z2 : Z} (expander : y2 ≡ y) (table : z2 ≡ z) where
+module _ {Y Z : Type 0} (E : Y → Answers) (T : Z → List TableEntry) {y y2 : Y} {z z2 : Z} (expander : y2 ≡ y) (table : z2 ≡ z) where
   abbrev Given : Y → Z → Expression → Type 0
   Given v w = IsGivenExpression (E v) (IsInTable (T w))
 

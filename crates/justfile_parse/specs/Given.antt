@@ -24,14 +24,16 @@ use Rattle.justfile_model.specs.Files.{NumbersFrom, bindings, recipes}
 use Rattle.justfile_model.specs.Literals.{Answers, Command, cooked_text, string_of}
 use Rattle.justfile_model.specs.declared.list_feature.ListFeature.{ListFeature}
 use Rattle.justfile_tree.specs.declared.expression.Expression.{Expression, And', Assert', Backtick, Call', Comparison', Concatenation', Conditional', FormatString', Group', Join', List', ListConcatenation', Not', Or', StringLiteral, Variable, Held-Expression-Assert-1, None', Some', Row_of-Expression, end_of-Expression, more_of-Expression, Row_of-Expression-FormatString-1-2, end_of-Expression-FormatString-1-2, more_of-Expression-FormatString-1-2}
+use Rattle.justfile_parse.specs.Significant.{TableEntry}
 
--- the table has an entry for the token
-pub record IsInTable (table : List (Token × Bool)) (token : Token) : Type 0 where
+-- the table has an entry for the token, by a reference to it
+pub record IsInTable (table : List TableEntry) (token : Token) : Type 0 where
+  pub ref_ptr : ℕ × ℕ
   pub glued : Bool
-  pub among : Contains table (token, glued)
+  pub among : Contains table (record { ref_ptr = ref_ptr; now = token }, glued)
 
 -- each feature was noted at a token of the table
-pub record AreNotedIn (table : List (Token × Bool)) (features : List (ListFeature × Token)) : Type 0 where
+pub record AreNotedIn (table : List TableEntry) (features : List (ListFeature × Token)) : Type 0 where
   pub all : All (λ (x : ListFeature × Token). IsInTable table x.1) features
 
 -- a literal, of such a token, with its text, which is expanded if it is marked so; it is no part of a format string

@@ -3,10 +3,10 @@ use Rattle.std.specs.Prelude.{ℕ, Bool, true, List}
 use Rattle.justfile_base.specs.StringKind.{kind_of}
 use Rattle.justfile_base.specs.Token.{lexeme_of}
 use Rattle.justfile_base.specs.declared.format_string_part.FormatStringPart.TheVariants as parts
-use Rattle.justfile_base.specs.declared.token.Token.{Token}
 use Rattle.justfile_base.specs.declared.token_kind.TokenKind.{TokenKind}
 use Rattle.justfile_base.specs.declared.token_kind.TokenKind.TheVariants as kinds
 use Rattle.justfile_cook.specs.Literal.{is_quoted, is_part}
+use Rattle.justfile_parse.specs.Significant.{TableEntry}
 
 -- a literal is quoted, and a part of a format string framed
 abbrev pub is_delimited : TokenKind → List ℕ → Bool
@@ -16,5 +16,5 @@ is_delimited kinds.FormatStringStart lexeme = is_part (kind_of lexeme) parts.Sta
 is_delimited kinds.FormatStringContinue lexeme = is_part (kind_of lexeme) parts.Continue lexeme
 is_delimited _ lexeme = true
 
-abbrev pub is_sound : Token × Bool → Bool
-is_sound entry = is_delimited entry.0.kind (lexeme_of entry.0)
+abbrev pub is_sound : TableEntry → Bool
+is_sound entry = is_delimited entry.0.now.kind (lexeme_of entry.0.now)

@@ -1,5 +1,6 @@
 -- What a function of the parser returns is what the definitions read.
 use Rattle.std.specs.Prelude.{◌≡◌, ℕ, Bool, true, false, ◌&&◌, List, [], ◌∷◌, Option, None, Some, Result, Ok, Err, codes, ◌≤◌, ◌+◌, map}
+use Rattle.std.specs.Borrow.{Bor}
 use Rattle.justfile_base.specs.declared.compile_error.CompileError.{CompileError}
 use Rattle.justfile_base.specs.declared.fault.Fault.{Fault}
 use Rattle.justfile_base.specs.declared.fault.Fault.TheVariants as faults
@@ -35,7 +36,7 @@ use Rattle.justfile_file.specs.declared.item.Item.{Item}
 use Rattle.justfile_model.specs.Reader as reader
 use Rattle.justfile_parse.specs.Errors.{IsAt, IsErrorOf, IsUnexpected}
 use Rattle.justfile_parse.specs.Given.{AreNotedIn, IsGivenItems, IsInTable}
-use Rattle.justfile_parse.specs.Significant.{significant_of}
+use Rattle.justfile_parse.specs.Significant.{TableEntry, significant_of}
 use Rattle.justfile_parse.specs.WantsNumber.{WantsNumber}
 
 -- the refusal of a literal that its error says
@@ -76,9 +77,9 @@ abbrev pub note_front : Expr Tok Tok → Option Tok → Input → Input
 note_front e None s = s
 note_front e (Some first) s = with (uncompared e first) s
 
-abbrev pub option_tok : Option Token → Option Tok
+abbrev pub option_tok : Option (Bor Token) → Option Tok
 option_tok None = None
-option_tok (Some token) = Some (tok_of token)
+option_tok (Some token) = Some (tok_of token.now)
 
 -- what follows the start of a format string
 unfoldable pub format_rest : Answers → (start : Tok) → ℕ → Input → ReadExpr
@@ -155,7 +156,7 @@ element_rule expander closing d s = do
       (λ comma. Ok ((e.0, false), comma.1))
 
 -- the fault of a literal at an entry, as reading stops for it
-abbrev pub TextStops : Stop → Fault → Token × Bool → Type 0
+abbrev pub TextStops : Stop → Fault → TableEntry → Type 0
 TextStops (stops.Literal refused) (faults.Compile error) entry = (refused.value.error ≡ error) × (refused.value.glued ≡ entry.1)
 TextStops stops.Memory (faults.Compile error) entry = Unit {0}
 TextStops stops.Memory faults.Memory entry = Unit {0}
@@ -163,7 +164,7 @@ TextStops stops.Numbers faults.Numbers entry = Unit {0}
 TextStops _ _ entry = ⊥
 
 -- a literal's error stands at a token of the table
-abbrev pub IsGivenStop : (table : List (Token × Bool)) → Stop → Type 0
+abbrev pub IsGivenStop : (table : List TableEntry) → Stop → Type 0
 IsGivenStop table (stops.Literal refused) = IsInTable table refused.value.error.token
 IsGivenStop table _ = Unit {0}
 
@@ -180,7 +181,7 @@ IsKindAt Unexpected kind token = IsUnexpected kind token
 IsKindAt TooDeep kind token = kind ≡ error_kinds.ParsingRecursionDepthExceeded
 
 -- The fault says why reading stopped: at the next of the tokens that are left, or at the last of the table where none is, or for a literal.
-abbrev pub IsFaultOf : List (Token × Bool) → (left : Input) → Stop → Fault → Type 0
+abbrev pub IsFaultOf : List TableEntry → (left : Input) → Stop → Fault → Type 0
 IsFaultOf table left (stops.Refused refusal) (faults.Compile e) = IsInTable table e.token × IsKindAt refusal e.kind e.token × IsAt (map significant_of table) (front left.tokens) e.token
 IsFaultOf table left (stops.Literal refused) (faults.Compile e) = e ≡ refused.value.error
 IsFaultOf table left stops.Memory faults.Memory = Unit {0}
@@ -192,7 +193,7 @@ abbrev pub view_of : List Item → List (ListFeature × Token) → Tree × List 
 view_of items features = (map item_of items, map noted_of features)
 
 -- the items and the features are what is read, and the numerator gave the items' numbers
-pub record IsRead (expander : Answers) (table : List (Token × Bool)) (file_depth : ℕ) (import_offsets : List ℕ) (tokens : List SignificantToken) (old new : Numerator) (x : List Item × List (ListFeature × Token)) : Type 0 where
+pub record IsRead (expander : Answers) (table : List TableEntry) (file_depth : ℕ) (import_offsets : List ℕ) (tokens : List SignificantToken) (old new : Numerator) (x : List Item × List (ListFeature × Token)) : Type 0 where
   pub read : reader.file expander tokens ≡ Ok (view_of x.0 x.1)
   pub given : IsGivenItems expander (IsInTable table) file_depth import_offsets old new x.0
   pub noted : AreNotedIn table x.1

@@ -1,5 +1,5 @@
 -- What the definitions see of the parser.
-use Rattle.std.specs.Prelude.{◌≡◌, ℕ, ◌+◌, Bool, List, map, drop, Result}
+use Rattle.std.specs.Prelude.{◌≡◌, ℕ, ◌+◌, List, map, drop, Result}
 use Rattle.justfile_base.specs.Numerator.{bindings_of, recipes_of}
 use Rattle.justfile_base.specs.declared.numerator.Numerator.{Numerator}
 use Rattle.justfile_base.specs.declared.token.Token.{Token}
@@ -11,11 +11,11 @@ use Rattle.justfile_model.specs.Files.{NumbersFrom, item_bindings, item_recipes}
 use Rattle.justfile_model.specs.Reading.{Input}
 use Rattle.justfile_model.specs.declared.list_feature.ListFeature.{ListFeature}
 use Rattle.justfile_parse.specs.Given.{AreNotedIn, IsInTable, IsGivenItem, IsGivenItems}
-use Rattle.justfile_parse.specs.Significant.{significant_of}
+use Rattle.justfile_parse.specs.Significant.{TableEntry, significant_of}
 use Rattle.justfile_parse.specs.declared.parser.Parser.{Parser}
 
 -- the tokens from an index on, and features that were noted before
-unfoldable pub input_at : List (Token × Bool) → ℕ → List (ListFeature × Token) → Input
+unfoldable pub input_at : List TableEntry → ℕ → List (ListFeature × Token) → Input
 input_at table n features = record { tokens = map significant_of (drop n table); noted = map noted_of features }
 
 -- the tokens that are still to read, and the features noted so far

@@ -141,13 +141,15 @@ impl<'src, X: Expander> Parser<'_, 'src, X> {
         ensures given { IfOk result (IsGivenFragment (answers_by X.answer self.old.expander.now) (IsInTable self.old.tokens.now)) }
         ensures stop { IfErr result (IsGivenStop self.old.tokens.now) }
     {
-        if let Some((token, _)) = self.accept(TokenKind::Text) {
+        if let Some((&token, _)) = self.accept(TokenKind::Text) {
             return Ok(Fragment::Text { token });
         }
         self.expect(TokenKind::InterpolationStart)?;
         let expression = self.parse_expression()?;
         self.expect(TokenKind::InterpolationEnd)?;
-        Ok(Fragment::Interpolation { expression })
+        Ok(Fragment::Interpolation {
+            expression: Box::into_inner(expression),
+        })
     }
 }
 

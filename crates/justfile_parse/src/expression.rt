@@ -1,7 +1,6 @@
-ghost use Rattle.std.specs.Prelude.{◌≡◌, ◌<◌, ◌≤◌, All, List, Bool, true, false, IsTrue, OnOk, OnSome, IfErr, IfOk, IfSome, IfNone, Some, None};
+ghost use Rattle.std.specs.Prelude.{◌≡◌, ◌<◌, ◌≤◌, All, List, true, false, IsTrue, OnOk, OnSome, IfErr, IfOk, IfSome, IfNone, Some, None};
 ghost use Rattle.justfile_base.specs.StringKind.{kind_of};
 ghost use Rattle.justfile_base.specs.Token.{lexeme_of};
-ghost use Rattle.justfile_base.specs.declared.token.Token.{Token};
 ghost use Rattle.justfile_base.specs.declared.token_kind.TokenKind.TheVariants as kinds;
 ghost use Rattle.justfile_cook.specs.Literal.{answers_by};
 ghost use Rattle.justfile_model.specs.ExpressionReader as reader;
@@ -14,7 +13,7 @@ ghost use Rattle.justfile_parse.specs.Formats.{IsEnded, IsEndedBehind};
 ghost use Rattle.justfile_parse.specs.Given.{AreGivenBehind, IsGivenExpression, IsGivenFormat, IsGivenPart, IsInTable, part_by};
 ghost use Rattle.justfile_parse.specs.Literal.{is_sound};
 ghost use Rattle.justfile_parse.specs.Reading.{Gives, IsGivenStop, element_rule, format_rest, format_string_rule, otherwise_rule, pair_rule, part_rule};
-ghost use Rattle.justfile_parse.specs.Significant.{significant_of};
+ghost use Rattle.justfile_parse.specs.Significant.{TableEntry, significant_of};
 ghost use Rattle.justfile_parse.specs.declared.stop.Stop.TheVariants as stops;
 ghost use Rattle.justfile_tree.specs.Expression.{expr_of, exprs_of, format_tree, part_tok};
 
@@ -27,19 +26,19 @@ use justfile_tree::{ConditionalOperator, Expression, ListFeature};
 /// The number of expressions that may be open.
 const RECURSION_LIMIT: usize = 256;
 
-impl<'src, X: Expander> Parser<'_, 'src, X> {
+impl<'run, 'src, X: Expander> Parser<'run, 'src, X> {
     ghost use Rattle.justfile_parse.specs.View.{IsSameRun, input_of};
-    /// An expression.
-    pub(crate) fn parse_expression(&mut self) -> Result<Expression<'src>, Stop<'src>>
+
+    /// An expression, in a box of its own.
+    pub(crate) fn parse_expression(&mut self) -> Result<Box<Expression<'src>>, Stop<'src>>
         ensures same { OnOk result (IsSameRun self.old self.new) }
         ensures tokens { self.new.tokens ≡ self.old.tokens }
         ensures progress { OnOk result (self.old.next < self.new.next) }
-        ensures given { IfOk result (IsGivenExpression (answers_by X.answer self.old.expander.now) (IsInTable self.old.tokens.now)) }
+        ensures given { IfOk result (λ e. IsGivenExpression (answers_by X.answer self.old.expander.now) (IsInTable self.old.tokens.now) e.value) }
         ensures stop { IfErr result (IsGivenStop self.old.tokens.now) }
-        ensures value { Gives (λ e. (expr_of e, input_of self.new)) result (input_of self.new) (read (answers_by X.answer self.old.expander.now) (reader.Expression false self.old.depth (input_of self.old))) }
+        ensures value { Gives (λ e. (expr_of e.value, input_of self.new)) result (input_of self.new) (read (answers_by X.answer self.old.expander.now) (reader.Expression false self.old.depth (input_of self.old))) }
     {
-        let expression = self.parse_expression_with_condition(false)?;
-        Ok(Box::into_inner(expression))
+        self.parse_expression_with_condition(false)
     }
 
     /// An expression, which is a condition or not: `||`, to the right.
@@ -61,7 +60,7 @@ impl<'src, X: Expander> Parser<'_, 'src, X> {
         }
         self.depth += 1;
         let lhs = self.parse_disjunct(condition)?;
-        if let Some((operator, _)) = self.accept(TokenKind::BarBar) {
+        if let Some((&operator, _)) = self.accept(TokenKind::BarBar) {
             self.note(ListFeature::LogicalOperator, operator)?;
             let rhs = self.parse_expression_with_condition(false)?;
             self.depth -= 1;
@@ -84,7 +83,7 @@ impl<'src, X: Expander> Parser<'_, 'src, X> {
         ensures value { Gives (λ e. (expr_of e.value, input_of self.new)) result (input_of self.new) (read (answers_by X.answer self.old.expander.now) (reader.Disjunct condition self.old.depth (input_of self.old))) }
     {
         let lhs = self.parse_comparison(condition)?;
-        if let Some((operator, _)) = self.accept(TokenKind::AmpersandAmpersand) {
+        if let Some((&operator, _)) = self.accept(TokenKind::AmpersandAmpersand) {
             self.note(ListFeature::LogicalOperator, operator)?;
             let rhs = self.parse_disjunct(false)?;
             Ok(self.node(Expression::And { lhs, rhs })?)
@@ -105,7 +104,7 @@ impl<'src, X: Expander> Parser<'_, 'src, X> {
         ensures value { Gives (λ e. (expr_of e.value, input_of self.new)) result (input_of self.new) (read (answers_by X.answer self.old.expander.now) (reader.Compared condition self.old.depth (input_of self.old))) }
     {
         let lhs = self.parse_conjunct()?;
-        if let Some((operator, (token, _))) = self.accept_operator() {
+        if let Some((operator, (&token, _))) = self.accept_operator() {
             self.note_comparison(condition, token)?;
             let rhs = self.parse_conjunct()?;
             Ok(self.node(Expression::Comparison {
@@ -133,7 +132,7 @@ impl<'src, X: Expander> Parser<'_, 'src, X> {
         if let Some(word) = self.accept_word("if") {
             return self.parse_conditional(word);
         }
-        if let Some((operator, _)) = self.accept(TokenKind::Slash) {
+        if let Some((&operator, _)) = self.accept(TokenKind::Slash) {
             let rhs = self.parse_conjunct()?;
             return Ok(self.node(Expression::Join {
                 lhs: None,
@@ -159,17 +158,17 @@ impl<'src, X: Expander> Parser<'_, 'src, X> {
         ensures stop { IfErr result (IsGivenStop self.old.tokens.now) }
         ensures value { Gives (λ e. (expr_of e.value, input_of self.new)) result (input_of self.new) (reader.conjunct_tail (answers_by X.answer self.old.expander.now) (read (answers_by X.answer self.old.expander.now)) self.old.depth (expr_of lhs.entry.value, input_of self.old)) }
     {
-        if let Some((operator, _)) = self.accept(TokenKind::Slash) {
+        if let Some((&operator, _)) = self.accept(TokenKind::Slash) {
             let lhs = Some(lhs);
             let rhs = self.parse_conjunct()?;
             return Ok(self.node(Expression::Join { lhs, operator, rhs })?);
         }
-        if let Some((operator, _)) = self.accept(TokenKind::PlusPlus) {
+        if let Some((&operator, _)) = self.accept(TokenKind::PlusPlus) {
             self.note(ListFeature::ListConcatenationOperator, operator)?;
             let rhs = self.parse_conjunct()?;
             return Ok(self.node(Expression::ListConcatenation { lhs, operator, rhs })?);
         }
-        if let Some((operator, _)) = self.accept(TokenKind::Plus) {
+        if let Some((&operator, _)) = self.accept(TokenKind::Plus) {
             let rhs = self.parse_conjunct()?;
             return Ok(self.node(Expression::Concatenation { lhs, operator, rhs })?);
         }
@@ -213,8 +212,11 @@ impl<'src, X: Expander> Parser<'_, 'src, X> {
     /// A conditional, from behind its `if`.
     #[cycle(expression)]
     #[tactic(auto, using(crate::proofs::Conditions::conditional_is), unfolding(crate::specs::Reading::conditional_by))]
-    fn parse_conditional(&mut self, word: Entry<'src>) -> Result<Box<Expression<'src>>, Stop<'src>>
-        requires among { IsInTable self.old.tokens.now word.0 }
+    fn parse_conditional(
+        &mut self,
+        word: Entry<'run, 'src>,
+    ) -> Result<Box<Expression<'src>>, Stop<'src>>
+        requires among { IsInTable self.old.tokens.now word.0.now }
         ensures same { OnOk result (IsSameRun self.old self.new) }
         ensures tokens { self.new.tokens ≡ self.old.tokens }
         ensures progress { OnOk result (self.old.next < self.new.next) }
@@ -225,7 +227,7 @@ impl<'src, X: Expander> Parser<'_, 'src, X> {
         let condition = self.parse_condition()?;
         let then = self.parse_braced()?;
         let Some(_else) = self.accept_word("else") else {
-            self.note(ListFeature::IfWithoutElse, word.0)?;
+            self.note(ListFeature::IfWithoutElse, *word.0)?;
             return Ok(self.node(Expression::Conditional {
                 condition,
                 then,
@@ -270,7 +272,7 @@ impl<'src, X: Expander> Parser<'_, 'src, X> {
         ensures stop { IfErr result (IsGivenStop self.old.tokens.now) }
         ensures value { Gives (λ e. (expr_of e.value, input_of self.new)) result (input_of self.new) (read (answers_by X.answer self.old.expander.now) (reader.Value self.old.depth (input_of self.old))) }
     {
-        if let Some((bang, _)) = self.accept(TokenKind::Bang) {
+        if let Some((&bang, _)) = self.accept(TokenKind::Bang) {
             self.note(ListFeature::NegationOperator, bang)?;
             let operand = self.parse_value()?;
             return Ok(self.node(Expression::Not { operand })?);
@@ -323,12 +325,12 @@ impl<'src, X: Expander> Parser<'_, 'src, X> {
     #[tactic(auto, unfolding(crate::specs::Reading::format_string_rule))]
     fn parse_format_string(
         &mut self,
-        start: Entry<'src>,
+        start: Entry<'run, 'src>,
     ) -> Result<Box<Expression<'src>>, Stop<'src>>
-        requires kind { start.0.kind ≡ kinds.FormatStringStart }
+        requires kind { start.0.now.kind ≡ kinds.FormatStringStart }
         requires sound { IsTrue (is_sound start) }
-        requires among { IsInTable self.old.tokens.now start.0 }
-        requires ended { IsEndedBehind (kind_of (lexeme_of start.0)) self.old.depth (input_of self.old).tokens }
+        requires among { IsInTable self.old.tokens.now start.0.now }
+        requires ended { IsEndedBehind (kind_of (lexeme_of start.0.now)) self.old.depth (input_of self.old).tokens }
         ensures same { OnOk result (IsSameRun self.old self.new) }
         ensures tokens { self.new.tokens ≡ self.old.tokens }
         ensures progress { OnOk result (self.old.next < self.new.next) }
@@ -346,15 +348,15 @@ impl<'src, X: Expander> Parser<'_, 'src, X> {
     #[tactic(auto, using(crate::proofs::Parts::begins, crate::proofs::Parts::goes_on, crate::proofs::Parts::ends, crate::proofs::Parts::fails))]
     fn parse_parts(
         &mut self,
-        start: Entry<'src>,
+        start: Entry<'run, 'src>,
     ) -> Result<Vec<(Expression<'src>, StringLiteral<'src>)>, Stop<'src>>
-        requires ended { IsEndedBehind (kind_of (lexeme_of start.0)) self.old.depth (input_of self.old).tokens }
+        requires ended { IsEndedBehind (kind_of (lexeme_of start.0.now)) self.old.depth (input_of self.old).tokens }
         ensures same { OnOk result (IsSameRun self.old self.new) }
         ensures tokens { self.new.tokens ≡ self.old.tokens }
         ensures progress { OnOk result (self.old.next < self.new.next) }
-        ensures given { IfOk result (λ parts. AreGivenBehind (answers_by X.answer self.old.expander.now) (IsInTable self.old.tokens.now) (kind_of (lexeme_of start.entry.0)) parts.items) }
+        ensures given { IfOk result (λ parts. AreGivenBehind (answers_by X.answer self.old.expander.now) (IsInTable self.old.tokens.now) (kind_of (lexeme_of start.entry.0.now)) parts.items) }
         ensures stop { IfErr result (IsGivenStop self.old.tokens.now) }
-        ensures value { Gives (λ parts. (format_tree (tok_of start.entry.0) parts.items, input_of self.new)) result (input_of self.new) (format_rest (answers_by X.answer self.old.expander.now) (tok_of start.entry.0) self.old.depth (input_of self.old)) }
+        ensures value { Gives (λ parts. (format_tree (tok_of start.entry.0.now) parts.items, input_of self.new)) result (input_of self.new) (format_rest (answers_by X.answer self.old.expander.now) (tok_of start.entry.0.now) self.old.depth (input_of self.old)) }
     {
         let mut parts = Vec::new(self.alloc);
         'parts: loop {
@@ -394,7 +396,7 @@ impl<'src, X: Expander> Parser<'_, 'src, X> {
         ensures stop { IfErr result (IsGivenStop self.old.tokens.now) }
         ensures value { Gives (λ e. (expr_of e.value, input_of self.new)) result (input_of self.new) (reader.assert_rule (answers_by X.answer self.old.expander.now) (read (answers_by X.answer self.old.expander.now)) self.old.depth (input_of self.old)) }
     {
-        let Some((word, _)) = self.accept_word("assert") else {
+        let Some((&word, _)) = self.accept_word("assert") else {
             return self.parse_name();
         };
         let name = Name::from_identifier(word);
@@ -428,7 +430,7 @@ impl<'src, X: Expander> Parser<'_, 'src, X> {
         ensures stop { IfErr result (IsGivenStop self.old.tokens.now) }
         ensures value { Gives (λ e. (expr_of e.value, input_of self.new)) result (input_of self.new) (reader.name_rule (answers_by X.answer self.old.expander.now) (read (answers_by X.answer self.old.expander.now)) self.old.depth (input_of self.old)) }
     {
-        let Some((token, _)) = self.accept(TokenKind::Identifier) else {
+        let Some((&token, _)) = self.accept(TokenKind::Identifier) else {
             return self.parse_group();
         };
         let name = Name::from_identifier(token);
@@ -470,7 +472,7 @@ impl<'src, X: Expander> Parser<'_, 'src, X> {
         ensures stop { IfErr result (IsGivenStop self.old.tokens.now) }
         ensures value { Gives (λ e. (expr_of e.value, input_of self.new)) result (input_of self.new) (reader.list_rule (answers_by X.answer self.old.expander.now) (read (answers_by X.answer self.old.expander.now)) self.old.depth (input_of self.old)) }
     {
-        let Some((opener, _)) = self.accept(TokenKind::BracketL) else {
+        let Some((&opener, _)) = self.accept(TokenKind::BracketL) else {
             return Err(Stop::Refused(Refusal::Unexpected));
         };
         self.note(ListFeature::ListLiteral, opener)?;
@@ -507,15 +509,15 @@ impl<'src, X: Expander> Parser<'_, 'src, X> {
     #[tactic(auto, unfolding(crate::specs::Reading::pair_rule))]
     fn parse_pair(
         &mut self,
-        start: Entry<'src>,
+        start: Entry<'run, 'src>,
     ) -> Result<(Expression<'src>, StringLiteral<'src>, bool), Stop<'src>>
-        requires ended { IsEndedBehind (kind_of (lexeme_of start.0)) self.old.depth (input_of self.old).tokens }
+        requires ended { IsEndedBehind (kind_of (lexeme_of start.0.now)) self.old.depth (input_of self.old).tokens }
         ensures same { OnOk result (IsSameRun self.old self.new) }
         ensures tokens { self.new.tokens ≡ self.old.tokens }
         ensures progress { OnOk result (self.old.next < self.new.next) }
-        ensures given { IfOk result (λ x. IsGivenExpression (answers_by X.answer self.old.expander.now) (IsInTable self.old.tokens.now) x.0 × IsGivenPart (IsInTable self.old.tokens.now) (kind_of (lexeme_of start.entry.0)) (part_by x.2) x.1) }
+        ensures given { IfOk result (λ x. IsGivenExpression (answers_by X.answer self.old.expander.now) (IsInTable self.old.tokens.now) x.0 × IsGivenPart (IsInTable self.old.tokens.now) (kind_of (lexeme_of start.entry.0.now)) (part_by x.2) x.1) }
         ensures stop { IfErr result (IsGivenStop self.old.tokens.now) }
-        ensures value { Gives (λ x. ((expr_of x.0, part_tok x.1, x.2), input_of self.new)) result (input_of self.new) (pair_rule (answers_by X.answer self.old.expander.now) (lexeme_of start.entry.0) self.old.depth (input_of self.old)) }
+        ensures value { Gives (λ x. ((expr_of x.0, part_tok x.1, x.2), input_of self.new)) result (input_of self.new) (pair_rule (answers_by X.answer self.old.expander.now) (lexeme_of start.entry.0.now) self.old.depth (input_of self.old)) }
     {
         let expression = self.parse_expression_with_condition(false)?;
         let (literal, is_last) = self.parse_part(start)?;
@@ -557,14 +559,14 @@ impl<'src, X: Expander> Parser<'_, 'src, X> {
 
     /// Takes the next token if it is a comparison operator.
     #[tactic(auto, unfolding(justfile_model::specs::ExpressionReader::accept_operator))]
-    fn accept_operator(&mut self) -> Option<(ConditionalOperator, Entry<'src>)>
+    fn accept_operator(&mut self) -> Option<(ConditionalOperator, Entry<'run, 'src>)>
         ensures same { IsSameRun self.old self.new }
         ensures some { IfSome result (λ x. reader.accept_operator (input_of self.old) ≡ Some (x.0, significant_of x.1, input_of self.new)) }
         ensures none { IfNone result (reader.accept_operator (input_of self.old) ≡ None) }
         ensures same_input { IfNone result (input_of self.new ≡ input_of self.old) }
         ensures stays { IfNone result (self.new.next ≡ self.old.next) }
         ensures progress { OnSome result (self.old.next < self.new.next) }
-        ensures among { IfSome result (λ x. IsInTable self.old.tokens.now x.1.0) }
+        ensures among { IfSome result (λ x. IsInTable self.old.tokens.now x.1.0.now) }
     {
         if let Some(entry) = self.accept(TokenKind::BangEquals) {
             return Some((ConditionalOperator::Inequality, entry));
@@ -613,14 +615,17 @@ impl<'src, X: Expander> Parser<'_, 'src, X> {
 
     /// The part of a format string behind an expression, and whether it is the last.
     #[tactic(auto, unfolding(crate::specs::Reading::part_rule))]
-    fn parse_part(&mut self, start: Entry<'src>) -> Result<(StringLiteral<'src>, bool), Stop<'src>>
-        requires ended { IsEnded (kind_of (lexeme_of start.0)) self.old.depth (input_of self.old).tokens }
+    fn parse_part(
+        &mut self,
+        start: Entry<'run, 'src>,
+    ) -> Result<(StringLiteral<'src>, bool), Stop<'src>>
+        requires ended { IsEnded (kind_of (lexeme_of start.0.now)) self.old.depth (input_of self.old).tokens }
         ensures same { OnOk result (IsSameRun self.old self.new) }
         ensures tokens { self.new.tokens ≡ self.old.tokens }
         ensures progress { OnOk result (self.old.next < self.new.next) }
-        ensures given { IfOk result (λ x. IsGivenPart (IsInTable self.old.tokens.now) (kind_of (lexeme_of start.entry.0)) (part_by x.1) x.0) }
+        ensures given { IfOk result (λ x. IsGivenPart (IsInTable self.old.tokens.now) (kind_of (lexeme_of start.entry.0.now)) (part_by x.1) x.0) }
         ensures stop { IfErr result (IsGivenStop self.old.tokens.now) }
-        ensures value { Gives (λ x. ((part_tok x.0, x.1), input_of self.new)) result (input_of self.new) (part_rule (answers_by X.answer self.old.expander.now) (lexeme_of start.entry.0) (input_of self.old)) }
+        ensures value { Gives (λ x. ((part_tok x.0, x.1), input_of self.new)) result (input_of self.new) (part_rule (answers_by X.answer self.old.expander.now) (lexeme_of start.entry.0.now) (input_of self.old)) }
     {
         if let Some(entry) = self.accept(TokenKind::FormatStringContinue) {
             let literal = self.format_continue(start, entry)?;
@@ -635,7 +640,7 @@ impl<'src, X: Expander> Parser<'_, 'src, X> {
 #[tactic(auto, using(crate::proofs::Rows::call_is))]
 fn call<'src>(name: Name<'src>, arguments: Vec<Expression<'src>>) -> Expression<'src>
     ensures is { expr_of result ≡ tree.Call (tok_of name.entry.token) (exprs_of arguments.entry.items) }
-    ensures given { (expander : Answers) (table : List (Token × Bool)) → IsInTable table name.entry.token → All (IsGivenExpression expander (IsInTable table)) arguments.entry.items → IsGivenExpression expander (IsInTable table) result }
+    ensures given { (expander : Answers) (table : List TableEntry) → IsInTable table name.entry.token → All (IsGivenExpression expander (IsInTable table)) arguments.entry.items → IsGivenExpression expander (IsInTable table) result }
 {
     Expression::Call { name, arguments }
 }
@@ -643,7 +648,7 @@ fn call<'src>(name: Name<'src>, arguments: Vec<Expression<'src>>) -> Expression<
 #[tactic(auto, using(crate::proofs::Rows::list_is))]
 fn list<'src>(opener: Token<'src>, elements: Vec<Expression<'src>>) -> Expression<'src>
     ensures is { expr_of result ≡ tree.ListOf (tok_of opener.entry) (exprs_of elements.entry.items) }
-    ensures given { (expander : Answers) (table : List (Token × Bool)) → IsInTable table opener.entry → All (IsGivenExpression expander (IsInTable table)) elements.entry.items → IsGivenExpression expander (IsInTable table) result }
+    ensures given { (expander : Answers) (table : List TableEntry) → IsInTable table opener.entry → All (IsGivenExpression expander (IsInTable table)) elements.entry.items → IsGivenExpression expander (IsInTable table) result }
 {
     Expression::List { elements, opener }
 }
@@ -654,7 +659,7 @@ pub(crate) fn format_string<'src>(
     expressions: Vec<(Expression<'src>, StringLiteral<'src>)>,
 ) -> Expression<'src>
     ensures is { expr_of result ≡ format_tree (tok_of start.entry.token) expressions.entry.items }
-    ensures given { (expander : Answers) (table : List (Token × Bool)) → IsGivenFormat expander (IsInTable table) start.entry expressions.entry.items → IsGivenExpression expander (IsInTable table) result }
+    ensures given { (expander : Answers) (table : List TableEntry) → IsGivenFormat expander (IsInTable table) start.entry expressions.entry.items → IsGivenExpression expander (IsInTable table) result }
 {
     Expression::FormatString { start, expressions }
 }

@@ -77,9 +77,9 @@ impl<'src, X: Expander> Parser<'_, 'src, X> {
     pub(crate) fn note_condition(
         &mut self,
         condition: &Expression<'src>,
-        first: Option<Token<'src>>,
+        first: Option<&Token<'src>>,
     ) -> Result<(), Stop<'src>>
-        requires { IfSome first (IsInTable self.old.tokens.now) }
+        requires { IfSome first (λ token. IsInTable self.old.tokens.now token.now) }
         ensures same { IsSameRun self.old self.new }
         ensures stays { self.new.next ≡ self.old.next }
         ensures value { OnOk result (input_of self.new ≡ note_front (expr_of condition.now) (option_tok first.entry) (input_of self.old)) }
@@ -88,7 +88,7 @@ impl<'src, X: Expander> Parser<'_, 'src, X> {
         let Some(first) = first else {
             return Ok(());
         };
-        self.note_if(condition_feature(condition), first)
+        self.note_if(condition_feature(condition), *first)
     }
 }
 

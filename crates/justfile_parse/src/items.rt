@@ -105,7 +105,7 @@ impl<'src, X: Expander> Parser<'_, 'src, X> {
         ensures most { bindings_of numerator.new + recipes_of numerator.new ≤ bindings_of numerator.old + recipes_of numerator.old + identifiers (input_of self.old).tokens }
         ensures constants { constants_of numerator.new ≡ constants_of numerator.old }
     {
-        if let Some((comment, _)) = self.accept(TokenKind::Comment) {
+        if let Some((&comment, _)) = self.accept(TokenKind::Comment) {
             return Ok(comment_item(comment));
         }
         if self.next_are(&[TokenKind::Identifier, TokenKind::ColonEquals]) {
@@ -135,7 +135,7 @@ impl<'src, X: Expander> Parser<'_, 'src, X> {
         ensures constants { constants_of numerator.new ≡ constants_of numerator.old }
         ensures recipes { recipes_of numerator.new ≡ recipes_of numerator.old }
     {
-        let (token, _) = self.expect(TokenKind::Identifier)?;
+        let (&token, _) = self.expect(TokenKind::Identifier)?;
         self.expect(TokenKind::ColonEquals)?;
         let value = self.parse_expression()?;
         let Some(number) = numerator.next_binding() else {
@@ -147,7 +147,7 @@ impl<'src, X: Expander> Parser<'_, 'src, X> {
             number,
             prelude: false,
             private: is_private(token.lexeme().as_bytes()),
-            value,
+            value: Box::into_inner(value),
         })
     }
 
@@ -179,7 +179,7 @@ impl<'src, X: Expander> Parser<'_, 'src, X> {
         ensures stop { IfErr result (IsGivenStop self.old.tokens.now) }
     {
         match self.accept(TokenKind::Comment) {
-            Some((comment, _)) => {
+            Some((&comment, _)) => {
                 push(items, comment_item(comment))?;
                 self.parse_line_end(items)
             }

@@ -23,7 +23,7 @@ use justfile_tree::ListFeature;
 use std::alloc::Global;
 
 /// A token, and whether it is glued to the one before.
-pub(crate) type Entry<'src> = (Token<'src>, bool);
+pub(crate) type Entry<'run, 'src> = (&'run Token<'src>, bool);
 
 /// Reads a table of significant tokens from left to right.
 #[derive(Drop)]
@@ -40,7 +40,7 @@ pub struct Parser<'run, 'src, X> {
     pub(crate) list_features: Vec<(ListFeature, Token<'src>)>,
     /// The index of the next token.
     pub(crate) next: usize,
-    pub(crate) tokens: &'run [(Token<'src>, bool)],
+    pub(crate) tokens: &'run [(&'run Token<'src>, bool)],
     ghost within: { next ≤ length tokens.now },
     ghost shallow: { depth ≤ depth_limit },
     ghost nonempty: { 0 < length tokens.now },
@@ -53,11 +53,11 @@ impl<'run, 'src, X: Expander> Parser<'run, 'src, X> {
 
     /// The next token; it is not taken yet.
     #[tactic(auto, using(crate::proofs::Rest::input_here, crate::proofs::Rest::input_end, crate::proofs::Rest::in_table, crate::proofs::Rest::sound_at))]
-    pub(crate) fn peek(&self) -> Option<Entry<'src>>
+    pub(crate) fn peek(&self) -> Option<Entry<'run, 'src>>
         ensures within { OnSome result (self.now.next < length self.now.tokens.now) }
         ensures some { IfSome result (λ entry. input_of self.now ≡ before (significant_of entry) (input_at self.now.tokens.now (self.now.next + 1) self.now.list_features.items)) }
         ensures none { IfNone result ((input_of self.now).tokens ≡ []) }
-        ensures among { IfSome result (λ entry. IsInTable self.now.tokens.now entry.0) }
+        ensures among { IfSome result (λ entry. IsInTable self.now.tokens.now entry.0.now) }
         ensures sound { IfSome result (λ entry. IsTrue (is_sound entry)) }
     {
         if self.next < self.tokens.len() {
@@ -68,9 +68,9 @@ impl<'run, 'src, X: Expander> Parser<'run, 'src, X> {
     }
 
     /// The next token alone, if there is one.
-    pub(crate) fn first(&self) -> Option<Token<'src>>
+    pub(crate) fn first(&self) -> Option<&'run Token<'src>>
         ensures is { option_tok result ≡ first_tok (input_of self.now).tokens }
-        ensures among { IfSome result (IsInTable self.now.tokens.now) }
+        ensures among { IfSome result (λ token. IsInTable self.now.tokens.now token.now) }
     {
         match self.peek() {
             Some((token, _)) => Some(token),
@@ -80,36 +80,30 @@ impl<'run, 'src, X: Expander> Parser<'run, 'src, X> {
 
     /// The next token if it is of this kind; it is not taken yet.
     #[tactic(auto, unfolding(justfile_model::specs::Reading::accept, justfile_model::specs::Reading::same_kind))]
-    pub(crate) fn next_if(&self, kind: TokenKind) -> Option<Entry<'src>>
+    pub(crate) fn next_if(&self, kind: TokenKind) -> Option<Entry<'run, 'src>>
         ensures within { OnSome result (self.now.next < length self.now.tokens.now) }
         ensures some { IfSome result (λ entry. reading.accept kind (input_of self.now) ≡ Some (significant_of entry, input_at self.now.tokens.now (self.now.next + 1) self.now.list_features.items)) }
         ensures none { IfNone result (reading.accept kind (input_of self.now) ≡ None) }
-        ensures among { IfSome result (λ entry. IsInTable self.now.tokens.now entry.0) }
-        ensures kind { IfSome result (λ entry. entry.0.kind ≡ kind) }
+        ensures among { IfSome result (λ entry. IsInTable self.now.tokens.now entry.0.now) }
+        ensures kind { IfSome result (λ entry. entry.0.now.kind ≡ kind) }
         ensures sound { IfSome result (λ entry. IsTrue (is_sound entry)) }
     {
         match self.peek() {
-            Some(entry) => {
-                if entry.0.kind == kind {
-                    Some(entry)
-                } else {
-                    None
-                }
-            }
-            None => None,
+            Some(entry) if entry.0.kind == kind => Some(entry),
+            _ => None,
         }
     }
 
     /// Takes the next token if it is of this kind.
-    pub(crate) fn accept(&mut self, kind: TokenKind) -> Option<Entry<'src>>
+    pub(crate) fn accept(&mut self, kind: TokenKind) -> Option<Entry<'run, 'src>>
         ensures same { IsSameRun self.old self.new }
         ensures some { IfSome result (λ entry. reading.accept kind (input_of self.old) ≡ Some (significant_of entry, input_of self.new)) }
         ensures none { IfNone result (reading.accept kind (input_of self.old) ≡ None) }
         ensures same_input { IfNone result (input_of self.new ≡ input_of self.old) }
         ensures stays { IfNone result (self.new.next ≡ self.old.next) }
         ensures progress { OnSome result (self.old.next < self.new.next) }
-        ensures among { IfSome result (λ entry. IsInTable self.old.tokens.now entry.0) }
-        ensures kind { IfSome result (λ entry. entry.0.kind ≡ kind) }
+        ensures among { IfSome result (λ entry. IsInTable self.old.tokens.now entry.0.now) }
+        ensures kind { IfSome result (λ entry. entry.0.now.kind ≡ kind) }
         ensures sound { IfSome result (λ entry. IsTrue (is_sound entry)) }
     {
         let entry = self.next_if(kind)?;
@@ -119,12 +113,12 @@ impl<'run, 'src, X: Expander> Parser<'run, 'src, X> {
 
     /// Takes the next token if it spells this word.
     #[tactic(auto, unfolding(justfile_model::specs::Reading::accept_word))]
-    pub(crate) fn accept_word(&mut self, word: &str) -> Option<Entry<'src>>
+    pub(crate) fn accept_word(&mut self, word: &str) -> Option<Entry<'run, 'src>>
         ensures same { IsSameRun self.old self.new }
         ensures some { IfSome result (λ entry. reading.accept_word word.now (input_of self.old) ≡ Some (significant_of entry, input_of self.new)) }
         ensures none { IfNone result (reading.accept_word word.now (input_of self.old) ≡ None) }
-        ensures among { IfSome result (λ entry. IsInTable self.old.tokens.now entry.0) }
-        ensures kind { IfSome result (λ entry. entry.0.kind ≡ kinds.Identifier) }
+        ensures among { IfSome result (λ entry. IsInTable self.old.tokens.now entry.0.now) }
+        ensures kind { IfSome result (λ entry. entry.0.now.kind ≡ kinds.Identifier) }
         ensures same_input { IfNone result (input_of self.new ≡ input_of self.old) }
         ensures stays { IfNone result (self.new.next ≡ self.old.next) }
         ensures progress { OnSome result (self.old.next < self.new.next) }
@@ -145,15 +139,15 @@ impl<'run, 'src, X: Expander> Parser<'run, 'src, X> {
     /// Takes the next token if it is a mark that is this word, and the string of this kind that is
     /// glued to it. The string is returned.
     #[tactic(auto, using(crate::proofs::Rest::marked_here, crate::proofs::Rest::marked_end, crate::proofs::Rest::in_table, crate::proofs::Rest::sound_at))]
-    pub(crate) fn accept_marked(&mut self, word: &str, kind: TokenKind) -> Option<Entry<'src>>
+    pub(crate) fn accept_marked(&mut self, word: &str, kind: TokenKind) -> Option<Entry<'run, 'src>>
         ensures same { IsSameRun self.old self.new }
         ensures some { IfSome result (λ entry. reading.accept_marked word.now kind (input_of self.old) ≡ Some (significant_of entry, input_of self.new)) }
         ensures none { IfNone result (reading.accept_marked word.now kind (input_of self.old) ≡ None) }
         ensures same_input { IfNone result (input_of self.new ≡ input_of self.old) }
         ensures stays { IfNone result (self.new.next ≡ self.old.next) }
         ensures progress { OnSome result (self.old.next < self.new.next) }
-        ensures among { IfSome result (λ entry. IsInTable self.old.tokens.now entry.0) }
-        ensures kind { IfSome result (λ entry. entry.0.kind ≡ kind) }
+        ensures among { IfSome result (λ entry. IsInTable self.old.tokens.now entry.0.now) }
+        ensures kind { IfSome result (λ entry. entry.0.now.kind ≡ kind) }
         ensures sound { IfSome result (λ entry. IsTrue (is_sound entry)) }
     {
         if self.tokens.len() - self.next < 2 {
@@ -171,12 +165,12 @@ impl<'run, 'src, X: Expander> Parser<'run, 'src, X> {
 
     /// Takes the next token, which has to be of this kind.
     #[tactic(auto, unfolding(justfile_model::specs::Reading::expect))]
-    pub(crate) fn expect(&mut self, kind: TokenKind) -> Result<Entry<'src>, Stop<'src>>
+    pub(crate) fn expect(&mut self, kind: TokenKind) -> Result<Entry<'run, 'src>, Stop<'src>>
         ensures same { IsSameRun self.old self.new }
         ensures value { Gives (λ entry. (significant_of entry, input_of self.new)) result (input_of self.new) (reading.expect kind (input_of self.old)) }
         ensures progress { OnOk result (self.old.next < self.new.next) }
-        ensures among { IfOk result (λ entry. IsInTable self.old.tokens.now entry.0) }
-        ensures kind { IfOk result (λ entry. entry.0.kind ≡ kind) }
+        ensures among { IfOk result (λ entry. IsInTable self.old.tokens.now entry.0.now) }
+        ensures kind { IfOk result (λ entry. entry.0.now.kind ≡ kind) }
         ensures stop { IfErr result (IsGivenStop self.old.tokens.now) }
     {
         match self.accept(kind) {
@@ -267,8 +261,8 @@ impl<'run, 'src, X: Expander> Parser<'run, 'src, X> {
         ensures at { IsAt (map significant_of self.now.tokens.now) (front (input_of self.now).tokens) result }
     {
         match self.peek() {
-            Some((token, _)) => token,
-            None => self.tokens[self.tokens.len() - 1].0,
+            Some((&token, _)) => token,
+            None => *self.tokens[self.tokens.len() - 1].0,
         }
     }
 
@@ -278,7 +272,7 @@ impl<'run, 'src, X: Expander> Parser<'run, 'src, X> {
         file_depth: u32,
         import_offsets: &'run [usize],
         numerator: &mut Numerator,
-        tokens: &'run [Entry<'src>],
+        tokens: &'run [Entry<'run, 'src>],
         expander: &'run X,
     ) -> CompileResult<'src, (Vec<Item<'src>>, Vec<(ListFeature, Token<'src>)>)>
         requires nonempty { 0 < length tokens.now }
@@ -307,18 +301,18 @@ impl<'run, 'src, X: Expander> Parser<'run, 'src, X> {
 
 /// Whether the token is this word.
 #[tactic(auto, unfolding(justfile_model::specs::Reading::is_word, justfile_model::specs::Reading::same_kind))]
-pub(crate) fn is_word(entry: Entry<'_>, word: &str) -> bool
+pub(crate) fn is_word(entry: Entry<'_, '_>, word: &str) -> bool
     ensures is { result ≡ reading.is_word word.now (significant_of entry.entry) }
-    ensures kind { IsTrue result → entry.entry.0.kind ≡ kinds.Identifier }
+    ensures kind { IsTrue result → entry.entry.0.now.kind ≡ kinds.Identifier }
 {
     entry.0.kind == TokenKind::Identifier && entry.0.lexeme() == word
 }
 
 /// Whether the token is a string of this kind, directly behind a mark that is this word.
 #[tactic(auto, unfolding(justfile_model::specs::Reading::same_kind))]
-fn is_marked(mark: Entry<'_>, word: &str, entry: Entry<'_>, kind: TokenKind) -> bool
+fn is_marked(mark: Entry<'_, '_>, word: &str, entry: Entry<'_, '_>, kind: TokenKind) -> bool
     ensures is { result ≡ marks word.now kind (significant_of mark.entry) (significant_of entry.entry) }
-    ensures kind { IsTrue result → entry.entry.0.kind ≡ kind }
+    ensures kind { IsTrue result → entry.entry.0.now.kind ≡ kind }
 {
     entry.0.kind == kind && entry.1 && is_word(mark, word)
 }

@@ -36,7 +36,7 @@ impl<'src, X: Expander> Parser<'_, 'src, X> {
         ensures bindings { bindings_of numerator.new ≡ bindings_of numerator.old }
         ensures constants { constants_of numerator.new ≡ constants_of numerator.old }
     {
-        let (token, _) = self.expect(TokenKind::Identifier)?;
+        let (&token, _) = self.expect(TokenKind::Identifier)?;
         self.expect(TokenKind::Colon)?;
         let body = self.parse_body_behind()?;
         let import_offsets = self.import_offsets.to_vec(self.alloc)?;

@@ -8,12 +8,12 @@ use std::alloc::{AllocError, Global};
 
 /// The tokens that the parser reads, all but whitespace, each with whether it is glued to the one
 /// before: whether no token stands between the two.
-pub fn significant<'src>(
+pub fn significant<'run, 'src>(
     alloc: Global,
-    tokens: &[Token<'src>],
-) -> Result<Vec<(Token<'src>, bool)>, AllocError>
+    tokens: &'run [Token<'src>],
+) -> Result<Vec<(&'run Token<'src>, bool)>, AllocError>
     ensures table { IfOk result (λ table. map significant_of table.items ≡ significant_tokens (map tok_of tokens.now)) }
-    ensures tokens { IfOk result (λ table. map (λ entry. entry.0) table.items ≡ without_whitespace tokens.now) }
+    ensures tokens { IfOk result (λ table. map (λ entry. entry.0.now) table.items ≡ without_whitespace tokens.now) }
 {
     let mut table = Vec::new(alloc);
     let mut glued = false;
@@ -21,7 +21,7 @@ pub fn significant<'src>(
         if is_whitespace(token.kind) {
             glued = false;
         } else {
-            add(&mut table, *token, glued)?;
+            add(&mut table, token, glued)?;
             glued = true;
         }
     }
@@ -38,9 +38,9 @@ fn is_whitespace(kind: TokenKind) -> bool
 }
 
 /// Adds an entry to the table.
-fn add<'src>(
-    table: &mut Vec<(Token<'src>, bool)>,
-    token: Token<'src>,
+fn add<'run, 'src>(
+    table: &mut Vec<(&'run Token<'src>, bool)>,
+    token: &'run Token<'src>,
     glued: bool,
 ) -> Result<(), AllocError>
     ensures { OnOk result (table.new.items ≡ table.old.items ++ (token.entry, glued) ∷ []) }

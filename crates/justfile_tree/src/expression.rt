@@ -269,9 +269,21 @@ fn copied_parts<'src>(
 {
     let mut parts = Vec::new(alloc);
     for (expression, literal) in expressions {
-        let copy = expression.clone(alloc)?;
-        let part = literal.clone(alloc)?;
-        parts.push((copy, part))?;
+        let part = copied_part(alloc, expression, literal)?;
+        parts.push(part)?;
     }
     Ok(parts)
+}
+
+/// The same expression of a format string once more, and the part behind it.
+#[cycle(copy)]
+fn copied_part<'src>(
+    alloc: Global,
+    expression: &Expression<'src>,
+    literal: &StringLiteral<'src>,
+) -> Result<(Expression<'src>, StringLiteral<'src>), AllocError>
+    ensures { IfOk result (λ copy. IsSamePart copy (expression.now, literal.now)) }
+{
+    let part = literal.clone(alloc)?;
+    Ok((expression.clone(alloc)?, part))
 }

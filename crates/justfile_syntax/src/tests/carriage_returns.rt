@@ -2,12 +2,24 @@
 
 use crate::compile_error_kind::CompileErrorKind;
 use crate::indentation::Indentation;
-use crate::tests::support::{compare_printed, parsed, refusal, shown};
+use crate::tests::support::{
+    compare_all_printed, compare_item, compare_print, first_item, holds, parsed, refusal, same,
+};
+use std::alloc::Global;
 use std::process::Abort;
-use std::test::Fail;
+
+/// Sees that a text is refused for a lone one, at a token of this offset, line, column and length.
+fn compare_unpaired(rt: &impl Abort, alloc: Global, text: &str, place: &[usize; 4]) {
+    let error = refusal(rt, alloc, text);
+    let token = error.token;
+    let is_unpaired = matches!(error.kind, CompileErrorKind::UnpairedCarriageReturn);
+    holds(rt, text, is_unpaired);
+    let found = [token.offset, token.line, token.column, token.length];
+    same(rt, text, &found, place);
+}
 
 #[test]
-fn lone_ones_are_refused_outside_texts(rt: HostRuntime) -> Result<(), Fail> {
+fn lone_ones_are_refused_outside_texts(rt: HostRuntime) {
     const ROWS: &[(&str, [usize; 4])] = &[
         ("a\r:= b\n", [1, 0, 1, 1]),
         ("a := \\\rb", [5, 0, 5, 2]),
@@ -17,23 +29,12 @@ fn lone_ones_are_refused_outside_texts(rt: HostRuntime) -> Result<(), Fail> {
         ("foo:\n  a\n\n  \r \nb:\n", [12, 3, 2, 1]),
     ];
     for (text, place) in ROWS {
-        let error = refusal(rt.alloc(), text)?;
-        let token = error.token;
-        assert!(rt;
-            matches!(error.kind, CompileErrorKind::UnpairedCarriageReturn),
-            "{text:?}"
-        );
-        assert_eq!(rt;
-            [token.offset, token.line, token.column, token.length],
-            *place,
-            "{text:?}"
-        );
+        compare_unpaired(&rt, rt.alloc(), text, place);
     }
-    Ok(())
 }
 
 #[test]
-fn lone_ones_stay_in_texts(rt: HostRuntime) -> Result<(), Fail> {
+fn lone_ones_stay_in_texts(rt: HostRuntime) {
     const ROWS: &[(&str, &str)] = &[
         ("# a\rb\n", "# a\rb\n"),
         ("a := 'x\ry'\n", "a := 'x\ry'\n"),
@@ -47,14 +48,11 @@ fn lone_ones_stay_in_texts(rt: HostRuntime) -> Result<(), Fail> {
         ("foo:\n  {{'a\r'}}\n", "foo:\n    {{ 'a\r' }}\n"),
         ("foo:\n  a\n\n  \r \n", "foo:\n    a\n\n    \r \n"),
     ];
-    for (text, printed) in ROWS {
-        compare_printed(&rt, rt.alloc(), text, "    ", printed)?;
-    }
-    Ok(())
+    compare_all_printed(&rt, rt.alloc(), ROWS);
 }
 
 #[test]
-fn those_of_line_ends_are_dropped(rt: HostRuntime) -> Result<(), Fail> {
+fn those_of_line_ends_are_dropped(rt: HostRuntime) {
     const ROWS: &[(&str, &str)] = &[
         ("foo:\r\n", "foo:\n"),
         ("foo:\r\n\ta\r\n", "foo:\n    a\n"),
@@ -65,14 +63,19 @@ fn those_of_line_ends_are_dropped(rt: HostRuntime) -> Result<(), Fail> {
         ("foo: \\\r\n  # a\r\n", "foo: # a\n"),
         ("foo:\n  {{\r\n  a\r\n}}\n", "foo:\n    {{ a }}\n"),
     ];
-    for (text, printed) in ROWS {
-        compare_printed(&rt, rt.alloc(), text, "    ", printed)?;
-    }
-    Ok(())
+    compare_all_printed(&rt, rt.alloc(), ROWS);
+}
+
+/// Sees that a file is not printable, what its recipe is, and what is printed of it all the same.
+fn compare_not_printable(rt: &impl Abort, alloc: Global, text: &str, recipe: &str, printed: &str) {
+    let ast = parsed(rt, alloc, 0, text);
+    holds(rt, text, !ast.printable());
+    compare_item(rt, alloc, first_item(rt, &ast), recipe);
+    compare_print(rt, alloc, &ast, Indentation::default(), printed);
 }
 
 #[test]
-fn a_line_that_ends_in_one_is_not_printable(rt: HostRuntime) -> Result<(), Fail> {
+fn a_line_that_ends_in_one_is_not_printable(rt: HostRuntime) {
     const ROWS: &[(&str, &str, &str)] = &[
         (
             "foo:\n  echo a\r\r\n",
@@ -87,14 +90,8 @@ fn a_line_that_ends_in_one_is_not_printable(rt: HostRuntime) -> Result<(), Fail>
         ),
     ];
     for (text, recipe, printed) in ROWS {
-        let ast = parsed(rt.alloc(), 0, text)?;
-        assert!(rt; !ast.printable(), "{text:?}");
-        let item = ast.items.first().ok_or("no item")?;
-        assert_eq!(rt; shown(rt.alloc(), item)?.as_str(), *recipe);
-        let found = ast.print(rt.alloc(), Indentation::default())?;
-        assert_eq!(rt; found.as_str(), *printed);
+        compare_not_printable(&rt, rt.alloc(), text, recipe, printed);
     }
-    let later = parsed(rt.alloc(), 0, "a:\n  b\nc:\n  d\n  e\r\r\nf:\n  g\n")?;
-    assert!(rt; !later.printable());
-    Ok(())
+    let text = "a:\n  b\nc:\n  d\n  e\r\r\nf:\n  g\n";
+    holds(&rt, text, !parsed(&rt, rt.alloc(), 0, text).printable());
 }

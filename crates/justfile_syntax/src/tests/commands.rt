@@ -1,12 +1,28 @@
 //! Commands between backticks.
 
-use crate::tests::support::{compare_items, parsed};
+use crate::tests::support::{compare_items, copied, parsed, same_text};
 use crate::tests::values::{compare_refusals, first_command};
+use std::alloc::Global;
 use std::process::Abort;
-use std::test::Fail;
+
+/// Sees that the first value of a text is a command with these contents and this lexeme.
+fn compare_command(rt: &impl Abort, alloc: Global, text: &str, (contents, lexeme): (&str, &str)) {
+    let ast = parsed(rt, alloc, 0, text);
+    let (found_contents, found_lexeme) = first_command(rt, &ast);
+    same_text(rt, text, found_contents, contents);
+    same_text(rt, text, found_lexeme, lexeme);
+}
+
+/// Sees that the first value of each text is a command with the contents beside it.
+fn compare_contents(rt: &impl Abort, alloc: Global, rows: &[(&str, &str)]) {
+    for (text, contents) in rows {
+        let ast = parsed(rt, alloc, 0, text);
+        same_text(rt, text, first_command(rt, &ast).0, contents);
+    }
+}
 
 #[test]
-fn contents_are_what_stands_between_the_backticks(rt: HostRuntime) -> Result<(), Fail> {
+fn contents_are_what_stands_between_the_backticks(rt: HostRuntime) {
     const ROWS: &[(&str, (&str, &str))] = &[
         ("x := `hello`\n", ("hello", "`hello`")),
         ("x := ``\n", ("", "``")),
@@ -23,14 +39,12 @@ fn contents_are_what_stands_between_the_backticks(rt: HostRuntime) -> Result<(),
         ("x := `$p`\n", ("$p", "`$p`")),
     ];
     for (text, command) in ROWS {
-        let ast = parsed(rt.alloc(), 0, text)?;
-        assert_eq!(rt; first_command(&ast)?, *command, "{text:?}");
+        compare_command(&rt, rt.alloc(), text, *command);
     }
-    Ok(())
 }
 
 #[test]
-fn tripled_ones_are_unindented(rt: HostRuntime) -> Result<(), Fail> {
+fn tripled_ones_are_unindented(rt: HostRuntime) {
     const ROWS: &[(&str, &str)] = &[
         (
             "x := ```\n  \\tfoo\\t\n  \\tbar\\n\n```\n",
@@ -45,15 +59,11 @@ fn tripled_ones_are_unindented(rt: HostRuntime) -> Result<(), Fail> {
         ("x := ```\n  a \\\n    b\n  ```\n", "a \\\n  b\n"),
         ("x := ```\r\n\ta\r\n\r\n\tb```\n", "a\r\n\r\nb"),
     ];
-    for (text, contents) in ROWS {
-        let ast = parsed(rt.alloc(), 0, text)?;
-        assert_eq!(rt; first_command(&ast)?.0, *contents, "{text:?}");
-    }
-    Ok(())
+    compare_contents(&rt, rt.alloc(), ROWS);
 }
 
 #[test]
-fn commands_begin_with_no_shebang(rt: HostRuntime) -> Result<(), Fail> {
+fn commands_begin_with_no_shebang(rt: HostRuntime) {
     const ROWS: &[(&str, (&str, usize, usize))] = &[
         ("a := `#!x`\n", ("BacktickShebang", 5, 5)),
         ("a := `#!`\n", ("BacktickShebang", 5, 4)),
@@ -63,11 +73,11 @@ fn commands_begin_with_no_shebang(rt: HostRuntime) -> Result<(), Fail> {
         ("a := b\nfoo:\n  a{{`#!x\n`}}\n", ("BacktickShebang", 17, 6)),
         ("a := `#!x` b\n", ("BacktickShebang", 5, 5)),
     ];
-    compare_refusals(&rt, rt.alloc(), ROWS)
+    compare_refusals(&rt, rt.alloc(), ROWS);
 }
 
 #[test]
-fn other_beginnings_of_commands_are_taken(rt: HostRuntime) -> Result<(), Fail> {
+fn other_beginnings_of_commands_are_taken(rt: HostRuntime) {
     const ROWS: &[(&str, &str)] = &[
         ("a := ` #!x`\n", " #!x"),
         ("a := `\n#!x`\n", "\n#!x"),
@@ -78,18 +88,14 @@ fn other_beginnings_of_commands_are_taken(rt: HostRuntime) -> Result<(), Fail> {
         ("a := ```\n\n#!x```\n", "\n#!x"),
         ("a := ```\n  a\n #!x```\n", " a\n#!x"),
     ];
-    for (text, contents) in ROWS {
-        let ast = parsed(rt.alloc(), 0, text)?;
-        assert_eq!(rt; first_command(&ast)?.0, *contents, "{text:?}");
-    }
-    Ok(())
+    compare_contents(&rt, rt.alloc(), ROWS);
 }
 
 #[test]
-fn copies_have_the_same_commands(rt: HostRuntime) -> Result<(), Fail> {
-    let ast = parsed(rt.alloc(), 3, "a := ```\n  b\n  c```\n")?;
-    let copy = ast.clone(rt.alloc())?;
+fn copies_have_the_same_commands(rt: HostRuntime) {
     const ITEMS: &[&str] = &["a 3 2 false command \"b\\nc\"", "newline"];
-    compare_items(&rt, rt.alloc(), &ast, ITEMS)?;
-    compare_items(&rt, rt.alloc(), &copy, ITEMS)
+    let alloc = rt.alloc();
+    let ast = parsed(&rt, alloc, 3, "a := ```\n  b\n  c```\n");
+    compare_items(&rt, alloc, &ast, ITEMS);
+    compare_items(&rt, alloc, &copied(&rt, alloc, &ast), ITEMS);
 }

@@ -1,13 +1,11 @@
 //! The texts that literals stand for.
 
-use crate::item::Item;
-use crate::tests::support::parsed;
-use crate::tests::values::{compare_cooked, first_literal};
+use crate::tests::support::{copied, holds, parsed, same_text};
+use crate::tests::values::{compare_cooked, first_literal, value_at};
 use std::process::Abort;
-use std::test::Fail;
 
 #[test]
-fn single_quotes_and_plain_texts_stand_for_what_is_inside(rt: HostRuntime) -> Result<(), Fail> {
+fn single_quotes_and_plain_texts_stand_for_what_is_inside(rt: HostRuntime) {
     const ROWS: &[(&str, &str)] = &[
         ("a := 'b'\n", "b"),
         ("a := \"b\"\n", "b"),
@@ -21,11 +19,11 @@ fn single_quotes_and_plain_texts_stand_for_what_is_inside(rt: HostRuntime) -> Re
         ("a := 'é\r\n  中\r'\n", "é\r\n  中\r"),
         ("a := x'$b'\n", "$b"),
     ];
-    compare_cooked(&rt, rt.alloc(), ROWS)
+    compare_cooked(&rt, rt.alloc(), ROWS);
 }
 
 #[test]
-fn escapes_stand_for_their_characters(rt: HostRuntime) -> Result<(), Fail> {
+fn escapes_stand_for_their_characters(rt: HostRuntime) {
     const ROWS: &[(&str, &str)] = &[
         ("x := \"foo\\nbar\"\n", "foo\nbar"),
         ("x := \"foo\\rbar\"\n", "foo\rbar"),
@@ -39,11 +37,11 @@ fn escapes_stand_for_their_characters(rt: HostRuntime) -> Result<(), Fail> {
         ("a := x\"\\t\"\n", "\t"),
         ("a := \"\"\"\\t\\\"\"\"\"\n", "\t\""),
     ];
-    compare_cooked(&rt, rt.alloc(), ROWS)
+    compare_cooked(&rt, rt.alloc(), ROWS);
 }
 
 #[test]
-fn line_ends_behind_a_backslash_stand_for_nothing(rt: HostRuntime) -> Result<(), Fail> {
+fn line_ends_behind_a_backslash_stand_for_nothing(rt: HostRuntime) {
     const ROWS: &[(&str, &str)] = &[
         ("x := \"foo\\\nbar\"\n", "foobar"),
         ("x := \"foo\\\r\nbar\"\n", "foobar"),
@@ -53,11 +51,11 @@ fn line_ends_behind_a_backslash_stand_for_nothing(rt: HostRuntime) -> Result<(),
         ("x := \"foo\\\\\nbar\"\n", "foo\\\nbar"),
         ("x := 'foo\\\nbar'\n", "foo\\\nbar"),
     ];
-    compare_cooked(&rt, rt.alloc(), ROWS)
+    compare_cooked(&rt, rt.alloc(), ROWS);
 }
 
 #[test]
-fn hex_digits_stand_for_their_character(rt: HostRuntime) -> Result<(), Fail> {
+fn hex_digits_stand_for_their_character(rt: HostRuntime) {
     const ROWS: &[(&str, &str)] = &[
         ("a := \"\\u{41}b\"\n", "Ab"),
         ("a := \"\\u{e9}\\u{E9}\"\n", "éé"),
@@ -71,11 +69,11 @@ fn hex_digits_stand_for_their_character(rt: HostRuntime) -> Result<(), Fail> {
         ("a := \"\\u{22}\"\n", "\""),
         ("a := \"\\u{0}\"\n", "\u{0}"),
     ];
-    compare_cooked(&rt, rt.alloc(), ROWS)
+    compare_cooked(&rt, rt.alloc(), ROWS);
 }
 
 #[test]
-fn tripled_ones_are_unindented(rt: HostRuntime) -> Result<(), Fail> {
+fn tripled_ones_are_unindented(rt: HostRuntime) {
     const ROWS: &[(&str, &str)] = &[
         ("x := '''\n  foo\\t\n  bar\n'''\n", "foo\\t\nbar\n"),
         ("x := '''\n  foo\\t\n  bar\\n\n'''\n", "foo\\t\nbar\\n\n"),
@@ -88,22 +86,22 @@ fn tripled_ones_are_unindented(rt: HostRuntime) -> Result<(), Fail> {
         ("x := '''\t\ta\n\t\t b'''\n", "a\n b"),
         ("x := x'''\n  a\n  b'''\n", "a\nb"),
     ];
-    compare_cooked(&rt, rt.alloc(), ROWS)
+    compare_cooked(&rt, rt.alloc(), ROWS);
 }
 
 #[test]
-fn others_keep_their_indentation(rt: HostRuntime) -> Result<(), Fail> {
+fn others_keep_their_indentation(rt: HostRuntime) {
     const ROWS: &[(&str, &str)] = &[
         ("x := '\n  a\n'\n", "\n  a\n"),
         ("x := \"\n  a\n  \"\n", "\n  a\n  "),
         ("x := x'  a\n  b'\n", "  a\n  b"),
         ("x := '  '\n", "  "),
     ];
-    compare_cooked(&rt, rt.alloc(), ROWS)
+    compare_cooked(&rt, rt.alloc(), ROWS);
 }
 
 #[test]
-fn tripled_ones_are_unindented_before_their_escapes(rt: HostRuntime) -> Result<(), Fail> {
+fn tripled_ones_are_unindented_before_their_escapes(rt: HostRuntime) {
     const ROWS: &[(&str, &str)] = &[
         (
             "x := \"\"\"\n  \\tfoo\\t\n  \\tbar\\n\n\"\"\"\n",
@@ -119,30 +117,28 @@ fn tripled_ones_are_unindented_before_their_escapes(rt: HostRuntime) -> Result<(
         ("x := \"\"\"\n  \\u{20}a\n   b\n\"\"\"\n", " a\n b\n"),
         ("x := \"\"\"  \\n\n    a\"\"\"\n", "\n\n  a"),
     ];
-    compare_cooked(&rt, rt.alloc(), ROWS)
+    compare_cooked(&rt, rt.alloc(), ROWS);
 }
 
 #[test]
-fn copies_stand_for_the_same(rt: HostRuntime) -> Result<(), Fail> {
-    let ast = parsed(rt.alloc(), 0, "a := x\"\"\"\n  \\u{41}\n  b\n\"\"\"\n")?;
-    let copy = ast.clone(rt.alloc())?;
-    let literal = first_literal(&copy)?;
-    assert_eq!(rt; literal.cooked.as_str(), "A\nb\n");
-    assert!(rt; literal.expand);
-    assert!(rt; literal == first_literal(&ast)?);
-    Ok(())
+fn copies_stand_for_the_same(rt: HostRuntime) {
+    let alloc = rt.alloc();
+    let text = "a := x\"\"\"\n  \\u{41}\n  b\n\"\"\"\n";
+    let ast = parsed(&rt, alloc, 0, text);
+    let copy = copied(&rt, alloc, &ast);
+    let literal = first_literal(&rt, &copy);
+    same_text(&rt, text, literal.cooked.as_str(), "A\nb\n");
+    holds(&rt, text, literal.expand);
+    holds(&rt, text, literal == first_literal(&rt, &ast));
 }
 
 #[test]
-fn equal_texts_at_other_places_are_other_literals(rt: HostRuntime) -> Result<(), Fail> {
-    let ast = parsed(rt.alloc(), 0, "a := 'b'\nc := 'b'\n")?;
-    let copy = ast.clone(rt.alloc())?;
-    let (Some(Item::Assignment(first)), Some(Item::Assignment(second))) = (
-        ast.items.first(),
-        copy.items.get(2),
-    ) else {
-        return Err(Fail::from("no assignments"));
-    };
-    assert!(rt; first.value != second.value);
-    Ok(())
+fn equal_texts_at_other_places_are_other_literals(rt: HostRuntime) {
+    let alloc = rt.alloc();
+    let text = "a := 'b'\nc := 'b'\n";
+    let ast = parsed(&rt, alloc, 0, text);
+    let copy = copied(&rt, alloc, &ast);
+    let first = value_at(&rt, &ast, 0);
+    let second = value_at(&rt, &copy, 2);
+    holds(&rt, text, *first != *second);
 }

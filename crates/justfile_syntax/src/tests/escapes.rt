@@ -1,23 +1,19 @@
 //! Escapes that are refused, each at the token of its literal.
 
-use crate::tests::support::refusal;
-use crate::tests::values::{compare_refusal, compare_refusals};
+use crate::tests::values::{compare_places, compare_refusals, compare_refused};
 use std::alloc::Global;
 use std::process::Abort;
-use std::test::Fail;
 
 /// Sees that each literal is refused so as a value, at all of it.
-fn compare(rt: &impl Abort, alloc: Global, rows: &[(&str, &str)]) -> Result<(), Fail> {
+fn compare(rt: &impl Abort, alloc: Global, rows: &[(&str, &str)]) {
     for (literal, kind) in rows {
-        let text = format!(in alloc; "a := {literal} # b\n")?;
-        let error = refusal(alloc, text.as_str())?;
-        compare_refusal(rt, alloc, &error, (kind, 5, literal.len()))?;
+        let text = format!(in alloc; "a := {literal} # b\n").expect(rt, literal);
+        compare_refused(rt, alloc, text.as_str(), (kind, 5, literal.len()));
     }
-    Ok(())
 }
 
 #[test]
-fn other_characters_behind_a_backslash(rt: HostRuntime) -> Result<(), Fail> {
+fn other_characters_behind_a_backslash(rt: HostRuntime) {
     const ROWS: &[(&str, &str)] = &[
         ("\"\\b\"", "InvalidEscapeSequence { character: 'b' }"),
         ("\"\\q\"", "InvalidEscapeSequence { character: 'q' }"),
@@ -35,11 +31,11 @@ fn other_characters_behind_a_backslash(rt: HostRuntime) -> Result<(), Fail> {
             "InvalidEscapeSequence { character: 'q' }",
         ),
     ];
-    compare(&rt, rt.alloc(), ROWS)
+    compare(&rt, rt.alloc(), ROWS);
 }
 
 #[test]
-fn lone_carriage_returns_behind_a_backslash(rt: HostRuntime) -> Result<(), Fail> {
+fn lone_carriage_returns_behind_a_backslash(rt: HostRuntime) {
     const ROWS: &[(&str, &str)] = &[
         ("\"a\\\rb\"", "InvalidEscapeSequence { character: '\\r' }"),
         ("\"a\\\r\"", "InvalidEscapeSequence { character: '\\r' }"),
@@ -49,11 +45,11 @@ fn lone_carriage_returns_behind_a_backslash(rt: HostRuntime) -> Result<(), Fail>
             "InvalidEscapeSequence { character: '\\r' }",
         ),
     ];
-    compare(&rt, rt.alloc(), ROWS)
+    compare(&rt, rt.alloc(), ROWS);
 }
 
 #[test]
-fn hex_digits_without_a_brace(rt: HostRuntime) -> Result<(), Fail> {
+fn hex_digits_without_a_brace(rt: HostRuntime) {
     const ROWS: &[(&str, &str)] = &[
         ("\"\\u0041\"", "UnicodeEscapeDelimiter { character: '0' }"),
         ("\"\\u(41)\"", "UnicodeEscapeDelimiter { character: '(' }"),
@@ -66,11 +62,11 @@ fn hex_digits_without_a_brace(rt: HostRuntime) -> Result<(), Fail> {
         ("\"\\u{}\"", "UnicodeEscapeEmpty"),
         ("\"a\\u{}b\"", "UnicodeEscapeEmpty"),
     ];
-    compare(&rt, rt.alloc(), ROWS)
+    compare(&rt, rt.alloc(), ROWS);
 }
 
 #[test]
-fn characters_that_are_no_hex_digits(rt: HostRuntime) -> Result<(), Fail> {
+fn characters_that_are_no_hex_digits(rt: HostRuntime) {
     const ROWS: &[(&str, &str)] = &[
         ("\"\\u{g}\"", "UnicodeEscapeCharacter { character: 'g' }"),
         ("\"\\u{G}\"", "UnicodeEscapeCharacter { character: 'G' }"),
@@ -89,11 +85,11 @@ fn characters_that_are_no_hex_digits(rt: HostRuntime) -> Result<(), Fail> {
             "UnicodeEscapeCharacter { character: 'g' }",
         ),
     ];
-    compare(&rt, rt.alloc(), ROWS)
+    compare(&rt, rt.alloc(), ROWS);
 }
 
 #[test]
-fn a_seventh_digit(rt: HostRuntime) -> Result<(), Fail> {
+fn a_seventh_digit(rt: HostRuntime) {
     const ROWS: &[(&str, &str)] = &[
         (
             "\"\\u{1234567}\"",
@@ -108,11 +104,11 @@ fn a_seventh_digit(rt: HostRuntime) -> Result<(), Fail> {
             "UnicodeEscapeLength { hex: \"abcdefA\" }",
         ),
     ];
-    compare(&rt, rt.alloc(), ROWS)
+    compare(&rt, rt.alloc(), ROWS);
 }
 
 #[test]
-fn values_that_are_no_character(rt: HostRuntime) -> Result<(), Fail> {
+fn values_that_are_no_character(rt: HostRuntime) {
     const ROWS: &[(&str, &str)] = &[
         ("\"\\u{D800}\"", "UnicodeEscapeRange { hex: \"D800\" }"),
         ("\"\\u{dfff}\"", "UnicodeEscapeRange { hex: \"dfff\" }"),
@@ -120,11 +116,11 @@ fn values_that_are_no_character(rt: HostRuntime) -> Result<(), Fail> {
         ("\"\\u{110000}\"", "UnicodeEscapeRange { hex: \"110000\" }"),
         ("\"\\u{FFFFFF}\"", "UnicodeEscapeRange { hex: \"FFFFFF\" }"),
     ];
-    compare(&rt, rt.alloc(), ROWS)
+    compare(&rt, rt.alloc(), ROWS);
 }
 
 #[test]
-fn escapes_that_do_not_end(rt: HostRuntime) -> Result<(), Fail> {
+fn escapes_that_do_not_end(rt: HostRuntime) {
     const ROWS: &[(&str, &str)] = &[
         ("\"\\u\"", "UnicodeEscapeUnterminated"),
         ("\"\\u{\"", "UnicodeEscapeUnterminated"),
@@ -133,11 +129,11 @@ fn escapes_that_do_not_end(rt: HostRuntime) -> Result<(), Fail> {
         ("\"\\u{D800\"", "UnicodeEscapeUnterminated"),
         ("\"\"\"a\n\\u{41\"\"\"", "UnicodeEscapeUnterminated"),
     ];
-    compare(&rt, rt.alloc(), ROWS)
+    compare(&rt, rt.alloc(), ROWS);
 }
 
 #[test]
-fn the_first_bad_piece_decides(rt: HostRuntime) -> Result<(), Fail> {
+fn the_first_bad_piece_decides(rt: HostRuntime) {
     const ROWS: &[(&str, &str)] = &[
         ("\"\\q\\u{}\"", "InvalidEscapeSequence { character: 'q' }"),
         ("\"\\u{}\\q\"", "UnicodeEscapeEmpty"),
@@ -151,11 +147,11 @@ fn the_first_bad_piece_decides(rt: HostRuntime) -> Result<(), Fail> {
         ),
         ("\"\\u{41}\\u\"", "UnicodeEscapeUnterminated"),
     ];
-    compare(&rt, rt.alloc(), ROWS)
+    compare(&rt, rt.alloc(), ROWS);
 }
 
 #[test]
-fn the_place_is_the_literal_without_its_mark(rt: HostRuntime) -> Result<(), Fail> {
+fn the_place_is_the_literal_without_its_mark(rt: HostRuntime) {
     const ROWS: &[(&str, (&str, usize, usize))] = &[
         (
             "foo := \"\\b\"",
@@ -171,11 +167,11 @@ fn the_place_is_the_literal_without_its_mark(rt: HostRuntime) -> Result<(), Fail
             ("UnicodeEscapeUnterminated", 15, 9),
         ),
     ];
-    compare_refusals(&rt, rt.alloc(), ROWS)
+    compare_refusals(&rt, rt.alloc(), ROWS);
 }
 
 #[test]
-fn the_first_refusal_of_a_file_decides(rt: HostRuntime) -> Result<(), Fail> {
+fn the_first_refusal_of_a_file_decides(rt: HostRuntime) {
     const ROWS: &[(&str, (&str, usize, usize))] = &[
         (
             "a := \"\\u{}\"\nb := \"\\u\"\n",
@@ -188,8 +184,6 @@ fn the_first_refusal_of_a_file_decides(rt: HostRuntime) -> Result<(), Fail> {
             ("UnicodeEscapeUnterminated", 9, 4),
         ),
     ];
-    compare_refusals(&rt, rt.alloc(), ROWS)?;
-    let error = refusal(rt.alloc(), "a := b c\nd := \"\\u{}\"\n")?;
-    assert_eq!(rt; (error.token.offset, error.token.length), (7, 1));
-    Ok(())
+    compare_refusals(&rt, rt.alloc(), ROWS);
+    compare_places(&rt, rt.alloc(), &[("a := b c\nd := \"\\u{}\"\n", (7, 1))]);
 }

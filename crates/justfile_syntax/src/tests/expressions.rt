@@ -1,14 +1,15 @@
 //! How expressions are made of their parts.
 
+use crate::expression::Expression;
 use crate::indentation::Indentation;
 use crate::tests::parts::{compare_parts, parts};
-use crate::tests::support::parsed;
+use crate::tests::support::{compare_print, copied, holds, parsed, same_text};
 use crate::tests::values::first_value;
+use std::alloc::Global;
 use std::process::Abort;
-use std::test::Fail;
 
 #[test]
-fn values_are_made_of_their_parts(rt: HostRuntime) -> Result<(), Fail> {
+fn values_are_made_of_their_parts(rt: HostRuntime) {
     const ROWS: &[(&str, &str)] = &[
         ("x := `hello`\n", "command \"hello\""),
         ("x := y\n", "name y"),
@@ -23,11 +24,11 @@ fn values_are_made_of_their_parts(rt: HostRuntime) -> Result<(), Fail> {
         ("a := [b]\n", "[@5 | b"),
         ("a := [b, [c, d,], 'e' + f]\n", "[@5 | b | [c, d] | 'e' + f"),
     ];
-    compare_parts(&rt, rt.alloc(), ROWS)
+    compare_parts(&rt, rt.alloc(), ROWS);
 }
 
 #[test]
-fn calls_have_their_arguments(rt: HostRuntime) -> Result<(), Fail> {
+fn calls_have_their_arguments(rt: HostRuntime) {
     const ROWS: &[(&str, &str)] = &[
         ("x := arch()\n", "call arch@5"),
         ("x := env_var(y)\n", "call env_var@5 | y"),
@@ -49,11 +50,11 @@ fn calls_have_their_arguments(rt: HostRuntime) -> Result<(), Fail> {
         ("x := x(y)\n", "call x@5 | y"),
         ("x := else(y)\n", "call else@5 | y"),
     ];
-    compare_parts(&rt, rt.alloc(), ROWS)
+    compare_parts(&rt, rt.alloc(), ROWS);
 }
 
 #[test]
-fn operators_nest_to_the_right(rt: HostRuntime) -> Result<(), Fail> {
+fn operators_nest_to_the_right(rt: HostRuntime) {
     const ROWS: &[(&str, &str)] = &[
         ("x := a + b\n", "+@7 | a | b"),
         ("x := a + b + c\n", "+@7 | a | b + c"),
@@ -70,11 +71,11 @@ fn operators_nest_to_the_right(rt: HostRuntime) -> Result<(), Fail> {
         ("x := a && b && c\n", "&& | a | b && c"),
         ("x := a || b || c\n", "|| | a | b || c"),
     ];
-    compare_parts(&rt, rt.alloc(), ROWS)
+    compare_parts(&rt, rt.alloc(), ROWS);
 }
 
 #[test]
-fn operators_bind_by_their_strength(rt: HostRuntime) -> Result<(), Fail> {
+fn operators_bind_by_their_strength(rt: HostRuntime) {
     const ROWS: &[(&str, &str)] = &[
         ("a := b == c\n", "Equality ==@7 | b | c"),
         ("a := b != c\n", "Inequality !=@7 | b | c"),
@@ -95,11 +96,11 @@ fn operators_bind_by_their_strength(rt: HostRuntime) -> Result<(), Fail> {
         ("a := (b || c) && d\n", "&& | (b || c) | d"),
         ("a := !b ++ [c,] == d || e\n", "|| | !b ++ [c] == d | e"),
     ];
-    compare_parts(&rt, rt.alloc(), ROWS)
+    compare_parts(&rt, rt.alloc(), ROWS);
 }
 
 #[test]
-fn conditionals_have_a_condition_and_branches(rt: HostRuntime) -> Result<(), Fail> {
+fn conditionals_have_a_condition_and_branches(rt: HostRuntime) {
     const ROWS: &[(&str, &str)] = &[
         ("a := if b { c } else { d }\n", "if | b | c | d"),
         ("a := if b { c }\n", "if | b | c"),
@@ -137,13 +138,11 @@ fn conditionals_have_a_condition_and_branches(rt: HostRuntime) -> Result<(), Fai
             "if | b | c | if d { e }",
         ),
     ];
-    compare_parts(&rt, rt.alloc(), ROWS)
+    compare_parts(&rt, rt.alloc(), ROWS);
 }
 
 #[test]
-fn conditionals_are_operands_at_the_right_and_of_looser_operators(
-    rt: HostRuntime,
-) -> Result<(), Fail> {
+fn conditionals_are_operands_at_the_right_and_of_looser_operators(rt: HostRuntime) {
     const ROWS: &[(&str, &str)] = &[
         (
             "a := b + if c { d } else { e }\n",
@@ -160,11 +159,11 @@ fn conditionals_are_operands_at_the_right_and_of_looser_operators(
             "|| | if b { c } else { d } | if e { f }",
         ),
     ];
-    compare_parts(&rt, rt.alloc(), ROWS)
+    compare_parts(&rt, rt.alloc(), ROWS);
 }
 
 #[test]
-fn asserts_have_a_condition_and_perhaps_a_message(rt: HostRuntime) -> Result<(), Fail> {
+fn asserts_have_a_condition_and_perhaps_a_message(rt: HostRuntime) {
     const ROWS: &[(&str, &str)] = &[
         ("a := assert(b, \"error\")\n", "assert@5 | b | \"error\""),
         ("a := assert(b)\n", "assert@5 | b"),
@@ -175,11 +174,11 @@ fn asserts_have_a_condition_and_perhaps_a_message(rt: HostRuntime) -> Result<(),
         ),
         ("a := assert (b, c || d)\n", "assert@5 | b | c || d"),
     ];
-    compare_parts(&rt, rt.alloc(), ROWS)
+    compare_parts(&rt, rt.alloc(), ROWS);
 }
 
 #[test]
-fn if_and_else_are_names_where_no_conditional_stands(rt: HostRuntime) -> Result<(), Fail> {
+fn if_and_else_are_names_where_no_conditional_stands(rt: HostRuntime) {
     const ROWS: &[(&str, &str)] = &[
         ("a := !if\n", "! | if"),
         ("a := !if(b)\n", "! | if(b)"),
@@ -193,11 +192,29 @@ fn if_and_else_are_names_where_no_conditional_stands(rt: HostRuntime) -> Result<
         ),
         ("a := asserts(b)\n", "call asserts@5 | b"),
     ];
-    compare_parts(&rt, rt.alloc(), ROWS)
+    compare_parts(&rt, rt.alloc(), ROWS);
+}
+
+/// Sees that two expressions are made of the same parts.
+fn same_parts(rt: &impl Abort, alloc: Global, left: &Expression<'_>, right: &Expression<'_>) {
+    let left = parts(alloc, left).expect(rt, "no memory");
+    let right = parts(alloc, right).expect(rt, "no memory");
+    same_text(rt, "parts of a copy", left.as_str(), right.as_str());
+}
+
+/// Sees that the copies of an expression and of its file are as they are.
+fn compare_copies(rt: &impl Abort, alloc: Global, text: &str) {
+    let ast = parsed(rt, alloc, 0, text);
+    let value = first_value(rt, &ast);
+    let copy = value.clone(alloc).expect(rt, text);
+    holds(rt, text, copy == *value);
+    same_parts(rt, alloc, &copy, value);
+    let file = copied(rt, alloc, &ast);
+    compare_print(rt, alloc, &file, Indentation::default(), text);
 }
 
 #[test]
-fn copies_are_equal_and_made_of_the_same_parts(rt: HostRuntime) -> Result<(), Fail> {
+fn copies_are_equal_and_made_of_the_same_parts(rt: HostRuntime) {
     const TEXTS: &[&str] = &[
         "a := !b ++ [c, `d`] == e || f\n",
         "a := b && / c / 'd' + e\n",
@@ -206,18 +223,6 @@ fn copies_are_equal_and_made_of_the_same_parts(rt: HostRuntime) -> Result<(), Fa
         "a := f'b{{ c }}d{{ !e }}f'\n",
     ];
     for text in TEXTS {
-        let ast = parsed(rt.alloc(), 0, text)?;
-        let value = first_value(&ast)?;
-        let copy = value.clone(rt.alloc())?;
-        assert!(rt; copy == *value, "{text:?}");
-        assert_eq!(rt;
-            parts(rt.alloc(), &copy)?.as_str(),
-            parts(rt.alloc(), value)?.as_str()
-        );
-        let printed = ast
-            .clone(rt.alloc())?
-            .print(rt.alloc(), Indentation::default())?;
-        assert_eq!(rt; printed.as_str(), *text);
+        compare_copies(&rt, rt.alloc(), text);
     }
-    Ok(())
 }

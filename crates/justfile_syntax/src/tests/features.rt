@@ -1,25 +1,28 @@
 //! What of a file needs the setting for lists, in the order in which it is noted.
 
 use crate::list_feature::ListFeature;
-use crate::tests::parts::features;
-use crate::tests::support::parsed;
+use crate::tests::parts::compare_features;
+use crate::tests::support::{copied, holds, parsed, same_text};
 use std::alloc::Global;
 use std::process::Abort;
-use std::test::Fail;
 
-/// Sees that these features are noted of each text, and of its copy.
-fn compare(rt: &impl Abort, alloc: Global, rows: &[(&str, &str)]) -> Result<(), Fail> {
+/// Sees that these features are noted of a text, and of its copy.
+fn compare_with_copy(rt: &impl Abort, alloc: Global, text: &str, expected: &str) {
+    let ast = parsed(rt, alloc, 0, text);
+    compare_features(rt, alloc, text, &ast, expected);
+    let copy = copied(rt, alloc, &ast);
+    compare_features(rt, alloc, text, &copy, expected);
+}
+
+/// The same of each text.
+fn compare(rt: &impl Abort, alloc: Global, rows: &[(&str, &str)]) {
     for (text, expected) in rows {
-        let ast = parsed(alloc, 0, text)?;
-        assert_eq!(rt; features(alloc, &ast)?.as_str(), *expected, "{text:?}");
-        let copy = ast.clone(alloc)?;
-        assert_eq!(rt; features(alloc, &copy)?.as_str(), *expected, "{text:?}");
+        compare_with_copy(rt, alloc, text, expected);
     }
-    Ok(())
 }
 
 #[test]
-fn most_forms_are_none(rt: HostRuntime) -> Result<(), Fail> {
+fn most_forms_are_none(rt: HostRuntime) {
     const ROWS: &[(&str, &str)] = &[
         ("a := b + 'c' / `d`\n", ""),
         ("a := / (b)\n", ""),
@@ -35,11 +38,11 @@ fn most_forms_are_none(rt: HostRuntime) -> Result<(), Fail> {
         ),
         ("foo:\n  [ ] ! ++ && {{{{!a}}\n", ""),
     ];
-    compare(&rt, rt.alloc(), ROWS)
+    compare(&rt, rt.alloc(), ROWS);
 }
 
 #[test]
-fn operators_and_lists_are_noted_at_their_token(rt: HostRuntime) -> Result<(), Fail> {
+fn operators_and_lists_are_noted_at_their_token(rt: HostRuntime) {
     const ROWS: &[(&str, &str)] = &[
         (
             "a := !b ++ [c,] == d || e\n",
@@ -64,13 +67,11 @@ fn operators_and_lists_are_noted_at_their_token(rt: HostRuntime) -> Result<(), F
             "ListLiteral@5‹[› ListConcatenationOperator@9‹++› NegationOperator@12‹!›",
         ),
     ];
-    compare(&rt, rt.alloc(), ROWS)
+    compare(&rt, rt.alloc(), ROWS);
 }
 
 #[test]
-fn conditions_that_are_no_comparison_are_noted_at_their_first_token(
-    rt: HostRuntime,
-) -> Result<(), Fail> {
+fn conditions_that_are_no_comparison_are_noted_at_their_first_token(rt: HostRuntime) {
     const ROWS: &[(&str, &str)] = &[
         (
             "a := if b { c }\n",
@@ -98,11 +99,11 @@ fn conditions_that_are_no_comparison_are_noted_at_their_first_token(
             "NonComparisonCondition@8‹f›",
         ),
     ];
-    compare(&rt, rt.alloc(), ROWS)
+    compare(&rt, rt.alloc(), ROWS);
 }
 
 #[test]
-fn the_comparison_that_a_condition_begins_with_is_none(rt: HostRuntime) -> Result<(), Fail> {
+fn the_comparison_that_a_condition_begins_with_is_none(rt: HostRuntime) {
     const ROWS: &[(&str, &str)] = &[
         (
             "a := if b && c == d { e } else { f }\n",
@@ -126,11 +127,11 @@ fn the_comparison_that_a_condition_begins_with_is_none(rt: HostRuntime) -> Resul
         ),
         ("a := assert(b == c, d == e)\n", "ComparisonOperator@22‹==›"),
     ];
-    compare(&rt, rt.alloc(), ROWS)
+    compare(&rt, rt.alloc(), ROWS);
 }
 
 #[test]
-fn conditionals_without_else_are_noted_behind_their_branch(rt: HostRuntime) -> Result<(), Fail> {
+fn conditionals_without_else_are_noted_behind_their_branch(rt: HostRuntime) {
     const ROWS: &[(&str, &str)] = &[
         ("a := if b == c { d }\n", "IfWithoutElse@5‹if›"),
         (
@@ -150,13 +151,11 @@ fn conditionals_without_else_are_noted_behind_their_branch(rt: HostRuntime) -> R
             "IfWithoutElse@28‹if›",
         ),
     ];
-    compare(&rt, rt.alloc(), ROWS)
+    compare(&rt, rt.alloc(), ROWS);
 }
 
 #[test]
-fn some_functions_are_noted_at_their_name_behind_their_arguments(
-    rt: HostRuntime,
-) -> Result<(), Fail> {
+fn some_functions_are_noted_at_their_name_behind_their_arguments(rt: HostRuntime) {
     const ROWS: &[(&str, &str)] = &[
         ("a := bool(b)\n", "BoolFunction@5‹bool›"),
         ("a := join_list()\n", "JoinListFunction@5‹join_list›"),
@@ -178,11 +177,11 @@ fn some_functions_are_noted_at_their_name_behind_their_arguments(
             "BoolFunction@41‹bool›",
         ),
     ];
-    compare(&rt, rt.alloc(), ROWS)
+    compare(&rt, rt.alloc(), ROWS);
 }
 
 #[test]
-fn those_of_all_items_are_noted_in_order(rt: HostRuntime) -> Result<(), Fail> {
+fn those_of_all_items_are_noted_in_order(rt: HostRuntime) {
     const ROWS: &[(&str, &str)] = &[
         (
             "a := !b\nfoo:\n  {{[c]}}{{which(d)}}\ne := f ++ g\n",
@@ -195,12 +194,25 @@ fn those_of_all_items_are_noted_in_order(rt: HostRuntime) -> Result<(), Fail> {
         ),
         ("a := (!b)\n", "NegationOperator@6‹!›"),
     ];
-    compare(&rt, rt.alloc(), ROWS)
+    compare(&rt, rt.alloc(), ROWS);
+}
+
+/// Sees that a feature is a function's, if it is said so, and is written so.
+fn compare_feature(
+    rt: &impl Abort,
+    alloc: Global,
+    feature: ListFeature,
+    is_function: bool,
+    text: &str,
+) {
+    holds(rt, text, feature.function() == is_function);
+    let written = feature.to_string(alloc).expect(rt, text);
+    same_text(rt, text, written.as_str(), text);
 }
 
 #[test]
-fn features_say_what_needs_the_setting(rt: HostRuntime) -> Result<(), Fail> {
-    const ROWS: &[(ListFeature, bool, &str)] = &[
+fn features_say_what_needs_the_setting(rt: HostRuntime) {
+    static ROWS: &[(ListFeature, bool, &str)] = &[
         (
             ListFeature::ArgMax,
             false,
@@ -288,8 +300,6 @@ fn features_say_what_needs_the_setting(rt: HostRuntime) -> Result<(), Fail> {
         ),
     ];
     for (feature, is_function, text) in ROWS {
-        assert_eq!(rt; feature.function(), *is_function, "{text:?}");
-        assert_eq!(rt; feature.to_string(rt.alloc())?.as_str(), *text);
+        compare_feature(&rt, rt.alloc(), *feature, *is_function, text);
     }
-    Ok(())
 }

@@ -1,18 +1,21 @@
 //! That parsing, copying and printing succeed where there is memory, and what they answer.
 
+use crate::ast::Ast;
 use crate::fault::Fault;
 use crate::indentation::Indentation;
 use crate::item::Item;
-use crate::lexer::Lexer;
 use crate::numerator::{Number, Numerator};
 use crate::parser::significant;
-use crate::tests::support::{compare_items, parse, parsed, shown};
+use crate::tests::support::{
+    compare_items, compare_print, copied, first_item, holds, lexed, parse, parsed, same, same_text,
+    shown,
+};
 use crate::token_kind::TokenKind;
+use std::alloc::Global;
 use std::process::Abort;
-use std::test::Fail;
 
 #[test]
-fn items(rt: HostRuntime) -> Result<(), Fail> {
+fn items(rt: HostRuntime) {
     const ROWS: &[&str] = &[
         "comment \"# top\"",
         "newline",
@@ -23,42 +26,57 @@ fn items(rt: HostRuntime) -> Result<(), Fail> {
         "_b 8 2 true name a",
         "newline",
     ];
-    let ast = parsed(rt.alloc(), 7, "# top \na  :=  'x \\y'  # c  \n\n_b:=a\n")?;
-    compare_items(&rt, rt.alloc(), &ast, ROWS)?;
-    assert_eq!(rt; ast.working_directory.as_str(), "/home");
-    assert!(rt; ast.unstable_features.is_empty());
-    assert!(rt; ast.printable());
-    assert_eq!(rt; ast.indentation(), None);
-    Ok(())
+    let text = "# top \na  :=  'x \\y'  # c  \n\n_b:=a\n";
+    let ast = parsed(&rt, rt.alloc(), 7, text);
+    compare_items(&rt, rt.alloc(), &ast, ROWS);
+    same_text(&rt, text, ast.working_directory.as_str(), "/home");
+    holds(&rt, text, ast.unstable_features.is_empty());
+    holds(&rt, text, ast.printable());
+    holds(&rt, text, ast.indentation() == None);
+}
+
+/// Sees that two items are shown alike.
+fn shown_alike(rt: &impl Abort, alloc: Global, left: &Item<'_>, right: &Item<'_>) {
+    let left = shown(alloc, left).expect(rt, "no memory");
+    let right = shown(alloc, right).expect(rt, "no memory");
+    same_text(rt, "an item", left.as_str(), right.as_str());
+}
+
+/// Sees that two files have items that are shown alike.
+fn all_shown_alike(rt: &impl Abort, alloc: Global, left: &Ast<'_>, right: &Ast<'_>) {
+    same(rt, "items", &left.items.len(), &right.items.len());
+    for (left, right) in left.items.iter().zip(&right.items) {
+        shown_alike(rt, alloc, left, right);
+    }
+}
+
+/// Sees that an item is an assignment, that it and its value are written so, and that it is printed
+/// so.
+fn compare_assignment(rt: &impl Abort, alloc: Global, item: &Item<'_>, text: &str, value: &str) {
+    let printed = item.print(alloc, Indentation::default()).expect(rt, text);
+    same_text(rt, "an item", printed.as_str(), text);
+    let Item::Assignment(assignment) = item else {
+        panic!(rt; "no assignment");
+    };
+    let written = assignment.to_string(alloc).expect(rt, text);
+    same_text(rt, "an assignment", written.as_str(), text);
+    let written = assignment.value.to_string(alloc).expect(rt, value);
+    same_text(rt, "a value", written.as_str(), value);
 }
 
 #[test]
-fn copies(rt: HostRuntime) -> Result<(), Fail> {
-    let ast = parsed(rt.alloc(), 0, "a:='x' # c\n\n\n\nb:=a")?;
-    let copy = ast.clone(rt.alloc())?;
-    assert_eq!(rt; copy.items.len(), ast.items.len());
-    for (item, original) in copy.items.iter().zip(&ast.items) {
-        assert_eq!(rt;
-            shown(rt.alloc(), item)?.as_str(),
-            shown(rt.alloc(), original)?.as_str()
-        );
-    }
-    let printed = copy.print(rt.alloc(), Indentation::default())?;
-    assert_eq!(rt; printed.as_str(), "a := 'x' # c\n\nb := a\n");
-    let item = copy.items.first().ok_or("no item")?;
-    assert_eq!(rt;
-        item.print(rt.alloc(), Indentation::default())?.as_str(),
-        "a := 'x'"
-    );
-    if let Item::Assignment(assignment) = item {
-        assert_eq!(rt; assignment.to_string(rt.alloc())?.as_str(), "a := 'x'");
-        assert_eq!(rt; assignment.value.to_string(rt.alloc())?.as_str(), "'x'");
-    }
-    Ok(())
+fn copies(rt: HostRuntime) {
+    let alloc = rt.alloc();
+    let ast = parsed(&rt, alloc, 0, "a:='x' # c\n\n\n\nb:=a");
+    let copy = copied(&rt, alloc, &ast);
+    all_shown_alike(&rt, alloc, &copy, &ast);
+    let printed = "a := 'x' # c\n\nb := a\n";
+    compare_print(&rt, alloc, &copy, Indentation::default(), printed);
+    compare_assignment(&rt, alloc, first_item(&rt, &copy), "a := 'x'", "'x'");
 }
 
 #[test]
-fn significant_tokens(rt: HostRuntime) -> Result<(), Fail> {
+fn significant_tokens(rt: HostRuntime) {
     const ROWS: &[(TokenKind, bool)] = &[
         (TokenKind::Identifier, false),
         (TokenKind::ColonEquals, false),
@@ -66,34 +84,32 @@ fn significant_tokens(rt: HostRuntime) -> Result<(), Fail> {
         (TokenKind::Comment, false),
         (TokenKind::Eof, true),
     ];
-    let Ok(tokens) = Lexer::lex(rt.alloc(), "justfile", "a :=b #c") else {
-        return Err(Fail::from("refused"));
-    };
-    let table = significant(rt.alloc(), tokens.as_slice())?;
-    assert_eq!(rt; table.len(), ROWS.len());
-    for ((token, glued), (kind, mark)) in table.iter().zip(ROWS) {
-        assert_eq!(rt; (token.kind, *glued), (*kind, *mark));
+    let text = "a :=b #c";
+    let tokens = lexed(&rt, rt.alloc(), text);
+    let table = significant(rt.alloc(), tokens.as_slice()).expect(&rt, text);
+    same(&rt, text, &table.len(), &ROWS.len());
+    for ((token, glued), row) in table.iter().zip(ROWS) {
+        same(&rt, text, &(token.kind, *glued), row);
     }
-    Ok(())
+}
+
+/// Sees that the number of a file's first assignment is this.
+fn compare_number(rt: &impl Abort, ast: &Ast<'_>, wanted: Number) {
+    let Item::Assignment(assignment) = first_item(rt, ast) else {
+        panic!(rt; "no assignment");
+    };
+    same(rt, "the first number", &assignment.number, &wanted);
 }
 
 #[test]
-fn numbers(rt: HostRuntime) -> Result<(), Fail> {
-    let ast = parsed(rt.alloc(), 4294967294, "a := b\n")?;
-    let number = match ast.items.first() {
-        Some(Item::Assignment(assignment)) => Some(assignment.number),
-        _ => None,
-    };
-    assert_eq!(rt; number, Some(Number(4294967294)));
+fn numbers(rt: HostRuntime) {
+    let ast = parsed(&rt, rt.alloc(), 4294967294, "a := b\n");
+    compare_number(&rt, &ast, Number(4294967294));
     let mut numerator = Numerator::new(4294967295);
-    assert!(rt;
-        matches!(
-            parse(rt.alloc(), &mut numerator, "a := b\n"),
-            Err(Fault::Numbers)
-        )
-    );
-    assert!(rt; matches!(parse(rt.alloc(), &mut numerator, "# a\n"), Ok(_)));
-    assert_eq!(rt; numerator.next_binding(), None);
-    assert_eq!(rt; numerator.next_recipe(), Some(Number(0)));
-    Ok(())
+    let answer = parse(rt.alloc(), &mut numerator, "a := b\n");
+    holds(&rt, "no number", matches!(answer, Err(Fault::Numbers)));
+    let answer = parse(rt.alloc(), &mut numerator, "# a\n");
+    holds(&rt, "no need", matches!(answer, Ok(_)));
+    holds(&rt, "no binding", numerator.next_binding() == None);
+    same(&rt, "a recipe", &numerator.next_recipe(), &Some(Number(0)));
 }

@@ -2,14 +2,14 @@
 
 use crate::expression::Expression;
 use crate::string_kind::{StringDelimiter, StringKind};
+use crate::string_literal::StringLiteral;
 use crate::tests::parts::compare_parts;
-use crate::tests::support::{compare_printed, parsed, refusal};
-use crate::tests::values::{Refusing, compare_refusals, first_value, parsed_with};
+use crate::tests::support::{compare_all_printed, holds, parsed, same, same_text};
+use crate::tests::values::{Refusing, compare_places, compare_refusals, first_value, parsed_with};
 use std::process::Abort;
-use std::test::Fail;
 
 #[test]
-fn parts_stand_between_expressions(rt: HostRuntime) -> Result<(), Fail> {
+fn parts_stand_between_expressions(rt: HostRuntime) {
     const ROWS: &[(&str, &str)] = &[
         ("foo := f'abc'\n", "Single \"abc\""),
         ("foo := f''\n", "Single \"\""),
@@ -35,11 +35,11 @@ fn parts_stand_between_expressions(rt: HostRuntime) -> Result<(), Fail> {
             "Start \"\" | if b { c } | End \"d\"",
         ),
     ];
-    compare_parts(&rt, rt.alloc(), ROWS)
+    compare_parts(&rt, rt.alloc(), ROWS);
 }
 
 #[test]
-fn four_braces_stand_for_two(rt: HostRuntime) -> Result<(), Fail> {
+fn four_braces_stand_for_two(rt: HostRuntime) {
     const ROWS: &[(&str, &str)] = &[
         ("x := f'a{{{{b'\n", "Single \"a{{b\""),
         ("x := f'{{{{{{{{'\n", "Single \"{{{{\""),
@@ -52,11 +52,11 @@ fn four_braces_stand_for_two(rt: HostRuntime) -> Result<(), Fail> {
         ("x := f\"{{{{\\n\"\n", "Single \"{{\\n\""),
         ("x := 'a{{{{b'\n", "text \"a{{{{b\""),
     ];
-    compare_parts(&rt, rt.alloc(), ROWS)
+    compare_parts(&rt, rt.alloc(), ROWS);
 }
 
 #[test]
-fn escapes_are_read_in_each_part_in_double_quotes(rt: HostRuntime) -> Result<(), Fail> {
+fn escapes_are_read_in_each_part_in_double_quotes(rt: HostRuntime) {
     const ROWS: &[(&str, &str)] = &[
         (
             "a := f\"\\t{{b}}\\\"{{c}}\\u{41}\"\n",
@@ -72,11 +72,11 @@ fn escapes_are_read_in_each_part_in_double_quotes(rt: HostRuntime) -> Result<(),
         ),
         ("a := f\"\\\\{{b}}\"\n", "Start \"\\\\\" | b | End \"\""),
     ];
-    compare_parts(&rt, rt.alloc(), ROWS)
+    compare_parts(&rt, rt.alloc(), ROWS);
 }
 
 #[test]
-fn tripled_ones_keep_their_indentation(rt: HostRuntime) -> Result<(), Fail> {
+fn tripled_ones_keep_their_indentation(rt: HostRuntime) {
     const ROWS: &[(&str, &str)] = &[
         ("a := f'''\n  b\n  c'''\n", "Single \"\\n  b\\n  c\""),
         (
@@ -88,11 +88,11 @@ fn tripled_ones_keep_their_indentation(rt: HostRuntime) -> Result<(), Fail> {
             "Start \"\\n  b\" | c | End \"\\\"'\"",
         ),
     ];
-    compare_parts(&rt, rt.alloc(), ROWS)
+    compare_parts(&rt, rt.alloc(), ROWS);
 }
 
 #[test]
-fn they_are_printed_with_blanks_around_expressions(rt: HostRuntime) -> Result<(), Fail> {
+fn they_are_printed_with_blanks_around_expressions(rt: HostRuntime) {
     const ROWS: &[(&str, &str)] = &[
         ("x:=f'a'", "x := f'a'\n"),
         ("x := f'a{{{{b'\n", "x := f'a{{{{b'\n"),
@@ -117,41 +117,41 @@ fn they_are_printed_with_blanks_around_expressions(rt: HostRuntime) -> Result<()
         ("x := f\"\\\\{{a}}\\\"\"\n", "x := f\"\\\\{{ a }}\\\"\"\n"),
         ("x := f'{{{{}}'\n", "x := f'{{{{}}'\n"),
     ];
-    for (text, printed) in ROWS {
-        compare_printed(&rt, rt.alloc(), text, "    ", printed)?;
-    }
-    Ok(())
+    compare_all_printed(&rt, rt.alloc(), ROWS);
 }
 
-#[test]
-fn parts_have_the_kind_of_their_start(rt: HostRuntime) -> Result<(), Fail> {
-    let ast = parsed(rt.alloc(), 0, "a := f\"\"\"b{{c}}d{{e}}f\"\"\"\n")?;
-    let Expression::FormatString { start, expressions } = first_value(&ast)? else {
-        return Err(Fail::from("no format string"));
-    };
+/// Sees that a part is in three double quotes, not expanded, and has this lexeme.
+fn compare_part(rt: &impl Abort, part: &StringLiteral<'_>, lexeme: &str) {
     let kind = StringKind {
         delimiter: StringDelimiter::QuoteDouble,
         indented: true,
     };
-    assert_eq!(rt; (start.kind, start.expand), (kind, false));
-    assert_eq!(rt; start.token.lexeme(), "\"\"\"b{{");
-    let mut lexemes = Vec::new(rt.alloc());
-    for (_expression, part) in expressions {
-        assert_eq!(rt; (part.kind, part.expand), (kind, false));
-        lexemes.push(part.token.lexeme())?;
+    same(rt, lexeme, &part.kind, &kind);
+    holds(rt, lexeme, !part.expand);
+    same_text(rt, "a part", part.token.lexeme(), lexeme);
+}
+
+#[test]
+fn parts_have_the_kind_of_their_start(rt: HostRuntime) {
+    let text = "a := f\"\"\"b{{c}}d{{e}}f\"\"\"\n";
+    let ast = parsed(&rt, rt.alloc(), 0, text);
+    let Expression::FormatString { start, expressions } = first_value(&rt, &ast) else {
+        panic!(rt; "no format string");
+    };
+    same(&rt, text, &expressions.len(), &2);
+    compare_part(&rt, start, "\"\"\"b{{");
+    for ((_expression, part), lexeme) in expressions.iter().zip(&["}}d{{", "}}f\"\"\""]) {
+        compare_part(&rt, part, lexeme);
     }
-    assert_eq!(rt; lexemes.as_slice(), ["}}d{{", "}}f\"\"\""].as_slice());
-    Ok(())
 }
 
 #[test]
-fn no_part_is_expanded(rt: HostRuntime) -> Result<(), Fail> {
-    parsed_with(rt.alloc(), &Refusing, "a := f'$b{{c}}$d' + f\"$e\"\n")?;
-    Ok(())
+fn no_part_is_expanded(rt: HostRuntime) {
+    parsed_with(&rt, rt.alloc(), &Refusing, "a := f'$b{{c}}$d' + f\"$e\"\n");
 }
 
 #[test]
-fn bad_escapes_are_refused_at_their_part(rt: HostRuntime) -> Result<(), Fail> {
+fn bad_escapes_are_refused_at_their_part(rt: HostRuntime) {
     const ROWS: &[(&str, (&str, usize, usize))] = &[
         (
             "a := f\"\\q\"\n",
@@ -175,11 +175,11 @@ fn bad_escapes_are_refused_at_their_part(rt: HostRuntime) -> Result<(), Fail> {
             ("UnicodeEscapeCharacter { character: '{' }", 6, 11),
         ),
     ];
-    compare_refusals(&rt, rt.alloc(), ROWS)
+    compare_refusals(&rt, rt.alloc(), ROWS);
 }
 
 #[test]
-fn they_end_and_their_mark_is_glued(rt: HostRuntime) -> Result<(), Fail> {
+fn they_end_and_their_mark_is_glued(rt: HostRuntime) {
     const ROWS: &[(&str, (usize, usize))] = &[
         ("a := f '{{x}}'\n", (7, 7)),
         ("a := f 'x'\n", (7, 3)),
@@ -192,17 +192,10 @@ fn they_end_and_their_mark_is_glued(rt: HostRuntime) -> Result<(), Fail> {
         ("a := f'{{b}}{{}}'\n", (14, 3)),
         ("a := f'b''c'\n", (9, 3)),
     ];
-    for (text, place) in ROWS {
-        let error = refusal(rt.alloc(), text)?;
-        assert_eq!(rt;
-            (error.token.offset, error.token.length),
-            *place,
-            "{text:?}"
-        );
-    }
+    compare_places(&rt, rt.alloc(), ROWS);
     compare_refusals(
         &rt,
         rt.alloc(),
         &[("x := f'a{{b}}c", ("UnterminatedString", 11, 2))],
-    )
+    );
 }

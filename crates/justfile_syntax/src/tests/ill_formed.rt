@@ -1,21 +1,9 @@
 //! Expressions that are refused, and the token at which they are.
 
-use crate::tests::support::refusal;
-use std::alloc::Global;
-use std::process::Abort;
-use std::test::Fail;
-
-/// Sees that each text is refused at the offset.
-fn compare(rt: &impl Abort, alloc: Global, rows: &[(&str, usize)]) -> Result<(), Fail> {
-    for (text, offset) in rows {
-        let error = refusal(alloc, text)?;
-        assert_eq!(rt; error.token.offset, *offset, "{text:?}");
-    }
-    Ok(())
-}
+use crate::tests::values::compare_offsets;
 
 #[test]
-fn operators_need_their_operands(rt: HostRuntime) -> Result<(), Fail> {
+fn operators_need_their_operands(rt: HostRuntime) {
     const ROWS: &[(&str, usize)] = &[
         ("a := b +\n", 8),
         ("a := b ++\n", 9),
@@ -33,21 +21,21 @@ fn operators_need_their_operands(rt: HostRuntime) -> Result<(), Fail> {
         ("a := b = c\n", 7),
         ("a := !/ b\n", 6),
     ];
-    compare(&rt, rt.alloc(), ROWS)
+    compare_offsets(&rt, rt.alloc(), ROWS);
 }
 
 #[test]
-fn comparisons_do_not_chain(rt: HostRuntime) -> Result<(), Fail> {
+fn comparisons_do_not_chain(rt: HostRuntime) {
     const ROWS: &[(&str, usize)] = &[
         ("a := b == c == d\n", 12),
         ("a := b != c =~ d\n", 12),
         ("a := b == c + d !~ e\n", 16),
     ];
-    compare(&rt, rt.alloc(), ROWS)
+    compare_offsets(&rt, rt.alloc(), ROWS);
 }
 
 #[test]
-fn delimiters_hold_what_belongs_there_and_are_closed(rt: HostRuntime) -> Result<(), Fail> {
+fn delimiters_hold_what_belongs_there_and_are_closed(rt: HostRuntime) {
     const ROWS: &[(&str, usize)] = &[
         ("x := foo(", 9),
         ("a := (b\n", 8),
@@ -65,11 +53,11 @@ fn delimiters_hold_what_belongs_there_and_are_closed(rt: HostRuntime) -> Result<
         ("a := {b}\n", 5),
         ("a := (b # c\n)\n", 8),
     ];
-    compare(&rt, rt.alloc(), ROWS)
+    compare_offsets(&rt, rt.alloc(), ROWS);
 }
 
 #[test]
-fn asserts_need_a_condition_and_one_message_at_most(rt: HostRuntime) -> Result<(), Fail> {
+fn asserts_need_a_condition_and_one_message_at_most(rt: HostRuntime) {
     const ROWS: &[(&str, usize)] = &[
         ("a := assert\n", 11),
         ("a := assert b\n", 12),
@@ -81,11 +69,11 @@ fn asserts_need_a_condition_and_one_message_at_most(rt: HostRuntime) -> Result<(
         ("a := !assert\n", 12),
         ("foo:\n  {{assert}}\n", 15),
     ];
-    compare(&rt, rt.alloc(), ROWS)
+    compare_offsets(&rt, rt.alloc(), ROWS);
 }
 
 #[test]
-fn conditionals_need_their_parts(rt: HostRuntime) -> Result<(), Fail> {
+fn conditionals_need_their_parts(rt: HostRuntime) {
     const ROWS: &[(&str, usize)] = &[
         ("a := if\n", 7),
         ("a := if { b }\n", 8),
@@ -102,11 +90,11 @@ fn conditionals_need_their_parts(rt: HostRuntime) -> Result<(), Fail> {
         ("a := if b (c)\n", 13),
         ("foo:\n  {{if}}\n", 11),
     ];
-    compare(&rt, rt.alloc(), ROWS)
+    compare_offsets(&rt, rt.alloc(), ROWS);
 }
 
 #[test]
-fn no_operand_follows_a_conditional_but_of_looser_operators(rt: HostRuntime) -> Result<(), Fail> {
+fn no_operand_follows_a_conditional_but_of_looser_operators(rt: HostRuntime) {
     const ROWS: &[(&str, usize)] = &[
         ("a := if b { c } + d\n", 16),
         ("a := if b { c } else { d } + e\n", 27),
@@ -114,11 +102,11 @@ fn no_operand_follows_a_conditional_but_of_looser_operators(rt: HostRuntime) -> 
         ("a := if b { c } else { d } ++ e\n", 27),
         ("a := if b { c } d\n", 16),
     ];
-    compare(&rt, rt.alloc(), ROWS)
+    compare_offsets(&rt, rt.alloc(), ROWS);
 }
 
 #[test]
-fn else_belongs_to_a_conditional_that_has_none(rt: HostRuntime) -> Result<(), Fail> {
+fn else_belongs_to_a_conditional_that_has_none(rt: HostRuntime) {
     const ROWS: &[(&str, usize)] = &[
         ("a := b else { c }\n", 7),
         ("a := if b { c } else { d } else { e }\n", 27),
@@ -138,11 +126,11 @@ fn else_belongs_to_a_conditional_that_has_none(rt: HostRuntime) -> Result<(), Fa
         ),
         ("a := (if b { c }) else { d }\n", 18),
     ];
-    compare(&rt, rt.alloc(), ROWS)
+    compare_offsets(&rt, rt.alloc(), ROWS);
 }
 
 #[test]
-fn interpolations_end_behind_their_expression(rt: HostRuntime) -> Result<(), Fail> {
+fn interpolations_end_behind_their_expression(rt: HostRuntime) {
     const ROWS: &[(&str, usize)] = &[
         ("foo:\n  {{}}\n", 9),
         ("foo:\n  {{a b}}\n", 11),
@@ -150,5 +138,5 @@ fn interpolations_end_behind_their_expression(rt: HostRuntime) -> Result<(), Fai
         ("foo:\n  {{a, b}}\n", 10),
         ("foo:\n  {{a}}{{(b c)}}\n", 17),
     ];
-    compare(&rt, rt.alloc(), ROWS)
+    compare_offsets(&rt, rt.alloc(), ROWS);
 }

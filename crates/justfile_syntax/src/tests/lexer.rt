@@ -3,54 +3,62 @@
 use crate::compile_error::CompileError;
 use crate::fault::Fault;
 use crate::lexer::Lexer;
+use crate::tests::support::{same, same_text};
 use crate::token::Token;
 use crate::token_kind::TokenKind;
-use std::alloc::Global;
+use std::alloc::{AllocError, Global};
 use std::process::Abort;
-use std::test::Fail;
 
-/// The lexeme that a listing leaves out.
-fn usual_lexeme(kind: TokenKind) -> Option<&'static str> {
-    match kind {
-        TokenKind::AmpersandAmpersand => Some("&&"),
-        TokenKind::Asterisk => Some("*"),
-        TokenKind::At => Some("@"),
-        TokenKind::Bang => Some("!"),
-        TokenKind::BangEquals => Some("!="),
-        TokenKind::BangTilde => Some("!~"),
-        TokenKind::BarBar => Some("||"),
-        TokenKind::BraceL => Some("{"),
-        TokenKind::BraceR => Some("}"),
-        TokenKind::BracketL => Some("["),
-        TokenKind::BracketR => Some("]"),
-        TokenKind::ByteOrderMark => Some("\u{FEFF}"),
-        TokenKind::Colon => Some(":"),
-        TokenKind::ColonColon => Some("::"),
-        TokenKind::ColonEquals => Some(":="),
-        TokenKind::Comma => Some(","),
-        TokenKind::Dedent | TokenKind::Eof => Some(""),
-        TokenKind::Dollar => Some("$"),
-        TokenKind::Eol => Some("\n"),
-        TokenKind::Equals => Some("="),
-        TokenKind::EqualsEquals => Some("=="),
-        TokenKind::EqualsTilde => Some("=~"),
-        TokenKind::Indent => Some("  "),
-        TokenKind::InterpolationEnd => Some("}}"),
-        TokenKind::InterpolationStart => Some("{{"),
-        TokenKind::ParenL => Some("("),
-        TokenKind::ParenR => Some(")"),
-        TokenKind::Plus => Some("+"),
-        TokenKind::PlusPlus => Some("++"),
-        TokenKind::QuestionMark => Some("?"),
-        TokenKind::Slash => Some("/"),
-        TokenKind::Whitespace => Some(" "),
-        _ => None,
+/// The lexemes that a listing leaves out.
+static USUAL_LEXEMES: &[(TokenKind, &str)] = &[
+    (TokenKind::AmpersandAmpersand, "&&"),
+    (TokenKind::Asterisk, "*"),
+    (TokenKind::At, "@"),
+    (TokenKind::Bang, "!"),
+    (TokenKind::BangEquals, "!="),
+    (TokenKind::BangTilde, "!~"),
+    (TokenKind::BarBar, "||"),
+    (TokenKind::BraceL, "{"),
+    (TokenKind::BraceR, "}"),
+    (TokenKind::BracketL, "["),
+    (TokenKind::BracketR, "]"),
+    (TokenKind::ByteOrderMark, "\u{FEFF}"),
+    (TokenKind::Colon, ":"),
+    (TokenKind::ColonColon, "::"),
+    (TokenKind::ColonEquals, ":="),
+    (TokenKind::Comma, ","),
+    (TokenKind::Dedent, ""),
+    (TokenKind::Eof, ""),
+    (TokenKind::Dollar, "$"),
+    (TokenKind::Eol, "\n"),
+    (TokenKind::Equals, "="),
+    (TokenKind::EqualsEquals, "=="),
+    (TokenKind::EqualsTilde, "=~"),
+    (TokenKind::Indent, "  "),
+    (TokenKind::InterpolationEnd, "}}"),
+    (TokenKind::InterpolationStart, "{{"),
+    (TokenKind::ParenL, "("),
+    (TokenKind::ParenR, ")"),
+    (TokenKind::Plus, "+"),
+    (TokenKind::PlusPlus, "++"),
+    (TokenKind::QuestionMark, "?"),
+    (TokenKind::Slash, "/"),
+    (TokenKind::Whitespace, " "),
+];
+
+/// Whether a listing leaves a lexeme out.
+fn is_usual(kind: TokenKind, lexeme: &str) -> bool {
+    for (usual_kind, usual) in USUAL_LEXEMES {
+        if *usual_kind == kind {
+            return *usual == lexeme;
+        }
     }
+    false
 }
 
 /// The tokens, separated by blanks: each by its kind, and in ‹› by its lexeme if that is another
 /// than the usual one.
-fn listing(alloc: Global, tokens: &[Token]) -> Result<String, Fail> {
+fn listing(alloc: Global, tokens: &[Token]) -> Result<String, AllocError> {
     let mut listing = String::new(alloc);
     for token in tokens {
         if !listing.is_empty() {
@@ -59,7 +67,7 @@ fn listing(alloc: Global, tokens: &[Token]) -> Result<String, Fail> {
         let kind = token.kind;
         write!(listing, "{kind:?}")?;
         let lexeme = token.lexeme();
-        if usual_lexeme(kind) != Some(lexeme) {
+        if !is_usual(kind, lexeme) {
             write!(listing, "‹{lexeme}›")?;
         }
     }
@@ -79,31 +87,29 @@ fn place_after(text: &str, before: &str) -> (usize, usize) {
     (line, before.len() - start)
 }
 
+/// Sees that a token of a text stands behind this beginning of it.
+fn compare_place(rt: &impl Abort, text: &str, before: &str, token: &Token) {
+    let (line, column) = place_after(text, before);
+    let lexeme = token.lexeme();
+    let found = (token.offset, token.line, token.column, token.length);
+    let wanted = (before.len(), line, column, lexeme.len());
+    same(rt, lexeme, &found, &wanted);
+    same_text(rt, lexeme, token.path, "justfile");
+    same_text(rt, lexeme, token.src, text);
+}
+
 /// Sees that the lexemes are the text, and that each token stands behind those before it.
-fn compare_places(
-    rt: &impl Abort,
-    alloc: Global,
-    text: &str,
-    tokens: &[Token],
-) -> Result<(), Fail> {
+fn compare_places(rt: &impl Abort, alloc: Global, text: &str, tokens: &[Token]) {
     let mut before = String::new(alloc);
     for token in tokens {
-        let lexeme = token.lexeme();
-        let (line, column) = place_after(text, before.as_str());
-        assert_eq!(rt;
-            (token.offset, token.line, token.column, token.length),
-            (before.len(), line, column, lexeme.len()),
-            "place of {lexeme:?} in {text:?}"
-        );
-        assert_eq!(rt; (token.path, token.src), ("justfile", text));
-        before.push_str(lexeme)?;
+        compare_place(rt, text, before.as_str(), token);
+        before.push_str(token.lexeme()).expect(rt, "no memory");
     }
-    assert_eq!(rt; before.as_str(), text, "joined lexemes");
-    Ok(())
+    same_text(rt, "joined lexemes", before.as_str(), text);
 }
 
 /// A refusal: its kind, and the kind and the place of its token.
-fn refusal(alloc: Global, error: &CompileError) -> Result<String, Fail> {
+fn refusal(alloc: Global, error: &CompileError) -> Result<String, AllocError> {
     let token = error.token;
     let kind = &error.kind;
     let token_kind = token.kind;
@@ -111,30 +117,33 @@ fn refusal(alloc: Global, error: &CompileError) -> Result<String, Fail> {
     let line = token.line;
     let column = token.column;
     let length = token.length;
-    Ok(format!(in alloc;
+    format!(in alloc;
         "{kind:?}: {token_kind:?} at {offset}, line {line}, column {column}, length {length}"
-    )?)
+    )
 }
 
-/// Lexes each text, and compares the listing of its tokens, or its refusal, with what stands
-/// beside it.
-fn compare(rt: &impl Abort, alloc: Global, rows: &[(&str, &str)]) -> Result<(), Fail> {
-    for (text, expected) in rows {
-        let found = match Lexer::lex(alloc, "justfile", text) {
-            Ok(tokens) => {
-                compare_places(rt, alloc, text, &tokens)?;
-                listing(alloc, &tokens)?
-            }
-            Err(Fault::Compile(error)) => refusal(alloc, &error)?,
-            Err(fault) => return Err(Fail::from(fault)),
-        };
-        assert_eq!(rt; found.as_str(), *expected, "answer for {text:?}");
+/// The listing of a text's tokens, or its refusal.
+fn answer(rt: &impl Abort, alloc: Global, text: &str) -> String {
+    match Lexer::lex(alloc, "justfile", text) {
+        Ok(tokens) => {
+            compare_places(rt, alloc, text, &tokens);
+            listing(alloc, &tokens).expect(rt, text)
+        }
+        Err(Fault::Compile(error)) => refusal(alloc, &error).expect(rt, text),
+        Err(fault) => panic!(rt; "{fault:?}"),
     }
-    Ok(())
+}
+
+/// Lexes each text, and compares the answer with what stands beside it.
+fn compare(rt: &impl Abort, alloc: Global, rows: &[(&str, &str)]) {
+    for (text, expected) in rows {
+        let found = answer(rt, alloc, text);
+        same_text(rt, text, found.as_str(), expected);
+    }
 }
 
 #[test]
-fn words_and_fixed_tokens(rt: HostRuntime) -> Result<(), Fail> {
+fn words_and_fixed_tokens(rt: HostRuntime) {
     const ROWS: &[(&str, &str)] = &[
         ("foo", "Identifier‹foo› Eof"),
         ("# hello", "Comment‹# hello› Eof"),
@@ -222,11 +231,11 @@ fn words_and_fixed_tokens(rt: HostRuntime) -> Result<(), Fail> {
              Whitespace‹  › Comment‹# c  › Eol Eol Eof",
         ),
     ];
-    compare(&rt, rt.alloc(), ROWS)
+    compare(&rt, rt.alloc(), ROWS);
 }
 
 #[test]
-fn literals(rt: HostRuntime) -> Result<(), Fail> {
+fn literals(rt: HostRuntime) {
     const ROWS: &[(&str, &str)] = &[
         ("`echo`", "Backtick‹`echo`› Eof"),
         ("`echo\necho`", "Backtick‹`echo\necho`› Eof"),
@@ -311,11 +320,11 @@ fn literals(rt: HostRuntime) -> Result<(), Fail> {
              FormatStringStart‹'a{{› Identifier‹b› Eof",
         ),
     ];
-    compare(&rt, rt.alloc(), ROWS)
+    compare(&rt, rt.alloc(), ROWS);
 }
 
 #[test]
-fn layout(rt: HostRuntime) -> Result<(), Fail> {
+fn layout(rt: HostRuntime) {
     const ROWS: &[(&str, &str)] = &[
         (
             "foo:\n a",
@@ -392,11 +401,11 @@ fn layout(rt: HostRuntime) -> Result<(), Fail> {
              Whitespace Eol Identifier‹b› Colon Eol Whitespace‹  › Eof",
         ),
     ];
-    compare(&rt, rt.alloc(), ROWS)
+    compare(&rt, rt.alloc(), ROWS);
 }
 
 #[test]
-fn recipes(rt: HostRuntime) -> Result<(), Fail> {
+fn recipes(rt: HostRuntime) {
     const ROWS: &[(&str, &str)] = &[
         (
             "b: a\n  @mv a b\n\na:\n  @touch F\n  @touch a\n\nd: c\n  @rm c\n\nc: b\n  @mv b c\n",
@@ -424,11 +433,11 @@ fn recipes(rt: HostRuntime) -> Result<(), Fail> {
              Comment‹# hello› Eol Identifier‹bob› Colon Eol Indent Text‹frank› Eol Eol Dedent Eof",
         ),
     ];
-    compare(&rt, rt.alloc(), ROWS)
+    compare(&rt, rt.alloc(), ROWS);
 }
 
 #[test]
-fn interpolations(rt: HostRuntime) -> Result<(), Fail> {
+fn interpolations(rt: HostRuntime) {
     const ROWS: &[(&str, &str)] = &[
         (
             "hello:\n echo {{}}",
@@ -489,11 +498,11 @@ fn interpolations(rt: HostRuntime) -> Result<(), Fail> {
              StringToken‹'3'› BraceR BraceR InterpolationEnd Text‹c› Eol Dedent Eof",
         ),
     ];
-    compare(&rt, rt.alloc(), ROWS)
+    compare(&rt, rt.alloc(), ROWS);
 }
 
 #[test]
-fn continued_lines_and_carriage_returns(rt: HostRuntime) -> Result<(), Fail> {
+fn continued_lines_and_carriage_returns(rt: HostRuntime) {
     const ROWS: &[(&str, &str)] = &[
         (
             "a := \\\nb\n",
@@ -549,11 +558,11 @@ fn continued_lines_and_carriage_returns(rt: HostRuntime) -> Result<(), Fail> {
              Eof",
         ),
     ];
-    compare(&rt, rt.alloc(), ROWS)
+    compare(&rt, rt.alloc(), ROWS);
 }
 
 #[test]
-fn refused_layout(rt: HostRuntime) -> Result<(), Fail> {
+fn refused_layout(rt: HostRuntime) {
     const ROWS: &[(&str, &str)] = &[
         (
             "a:\n 0\n 1\n\t2\n",
@@ -586,11 +595,11 @@ fn refused_layout(rt: HostRuntime) -> Result<(), Fail> {
              Unspecified at 14, line 3, column 0, length 2",
         ),
     ];
-    compare(&rt, rt.alloc(), ROWS)
+    compare(&rt, rt.alloc(), ROWS);
 }
 
 #[test]
-fn refused_characters(rt: HostRuntime) -> Result<(), Fail> {
+fn refused_characters(rt: HostRuntime) {
     const ROWS: &[(&str, &str)] = &[
         (
             "%",
@@ -668,11 +677,11 @@ fn refused_characters(rt: HostRuntime) -> Result<(), Fail> {
             "UnpairedCarriageReturn: Unspecified at 12, line 3, column 2, length 1",
         ),
     ];
-    compare(&rt, rt.alloc(), ROWS)
+    compare(&rt, rt.alloc(), ROWS);
 }
 
 #[test]
-fn refused_delimiters_and_literals(rt: HostRuntime) -> Result<(), Fail> {
+fn refused_delimiters_and_literals(rt: HostRuntime) {
     const ROWS: &[(&str, &str)] = &[
         (
             "(]",
@@ -731,5 +740,5 @@ fn refused_delimiters_and_literals(rt: HostRuntime) -> Result<(), Fail> {
             "UnterminatedInterpolation: InterpolationStart at 9, line 1, column 6, length 2",
         ),
     ];
-    compare(&rt, rt.alloc(), ROWS)
+    compare(&rt, rt.alloc(), ROWS);
 }

@@ -2,20 +2,29 @@
 
 use crate::line::Line;
 use crate::sigil::Sigil;
-use crate::tests::support::{first_recipe, parsed};
+use crate::tests::support::{first_recipe, parsed, same};
 use std::alloc::Global;
 use std::process::Abort;
-use std::test::Fail;
 
 /// A line of the first recipe's body, counted from 0.
-fn body_line<'src>(alloc: Global, text: &'src str, at: usize) -> Result<Line<'src>, Fail> {
-    let ast = parsed(alloc, 0, text)?;
-    let line = first_recipe(&ast)?.body.get(at).ok_or("no line")?;
-    Ok(line.clone(alloc)?)
+fn body_line<'src>(rt: &impl Abort, alloc: Global, text: &'src str, at: usize) -> Line<'src> {
+    let ast = parsed(rt, alloc, 0, text);
+    let line = first_recipe(rt, &ast).body.get(at).expect(rt, "no line");
+    line.clone(alloc).expect(rt, "no memory")
+}
+
+/// Sees that the first line of a body has these sigils, with guards or without.
+fn compare_sigils(rt: &impl Abort, alloc: Global, text: &str, guards: bool, expected: &[Sigil]) {
+    let line = body_line(rt, alloc, text, 0);
+    let found = line.sigils(alloc, guards).expect(rt, text);
+    same(rt, text, &found.len(), &expected.len());
+    for (sigil, wanted) in found.iter().zip(expected) {
+        same(rt, text, sigil, wanted);
+    }
 }
 
 #[test]
-fn sigils(rt: HostRuntime) -> Result<(), Fail> {
+fn sigils(rt: HostRuntime) {
     const ROWS: &[(&str, bool, &[Sigil])] = &[
         (
             "foo:\n  @-echo\n",
@@ -37,20 +46,9 @@ fn sigils(rt: HostRuntime) -> Result<(), Fail> {
         ("foo:\n  {{x}}@\n", false, &[]),
         ("foo:\n  é@\n", false, &[]),
     ];
-    let alloc = rt.alloc();
     for (text, guards, expected) in ROWS {
-        let line = body_line(alloc, text, 0)?;
-        let mut found = Vec::new(alloc);
-        for sigil in &line.sigils(alloc, *guards)? {
-            found.push(*sigil)?;
-        }
-        assert_eq!(&rt;
-            found.as_slice(),
-            *expected,
-            "sigils of {text:?} with guards {guards}"
-        );
+        compare_sigils(&rt, rt.alloc(), text, *guards, expected);
     }
-    Ok(())
 }
 
 /// Sees that a line of a body answers so: whether it is a comment, is a shebang, is a
@@ -59,22 +57,21 @@ fn compare(
     rt: &impl Abort,
     alloc: Global,
     (text, at): (&str, usize),
-    expected: (bool, bool, bool, bool),
-) -> Result<(), Fail> {
-    let line = body_line(alloc, text, at)?;
+    expected: &(bool, bool, bool, bool),
+) {
+    let line = body_line(rt, alloc, text, at);
     let found = (
         line.is_comment(),
         line.is_shebang(),
         line.is_continuation(),
         line.is_empty(),
     );
-    assert_eq!(rt; found, expected, "answers for line {at} of {text:?}");
-    assert_eq!(rt; Some(line.number), at.checked_add(1));
-    Ok(())
+    same(rt, text, &found, expected);
+    same(rt, text, &Some(line.number), &at.checked_add(1));
 }
 
 #[test]
-fn questions(rt: HostRuntime) -> Result<(), Fail> {
+fn questions(rt: HostRuntime) {
     const ROWS: &[((&str, usize), (bool, bool, bool, bool))] = &[
         (("foo:\n  a\n", 0), (false, false, false, false)),
         (("foo:\n  # a\n", 0), (true, false, false, false)),
@@ -91,7 +88,6 @@ fn questions(rt: HostRuntime) -> Result<(), Fail> {
         (("foo:\n  a\n\n  b\n", 1), (false, false, false, true)),
     ];
     for (place, expected) in ROWS {
-        compare(&rt, rt.alloc(), *place, *expected)?;
+        compare(&rt, rt.alloc(), *place, expected);
     }
-    Ok(())
 }

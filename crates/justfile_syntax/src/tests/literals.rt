@@ -1,22 +1,22 @@
 //! That literals of each form are values, and are printed as they are written.
 
 use crate::string_kind::{StringDelimiter, StringKind};
-use crate::tests::support::{compare_items, compare_printed, parsed};
+use crate::tests::support::{
+    compare_all_printed, compare_file, compare_printed, holds, parsed, same, same_text,
+};
 use crate::tests::values::first_literal;
 use std::alloc::Global;
 use std::process::Abort;
-use std::test::Fail;
 
 /// Sees that each text prints as itself.
-fn print_themselves(rt: &impl Abort, alloc: Global, texts: &[&str]) -> Result<(), Fail> {
+fn print_themselves(rt: &impl Abort, alloc: Global, texts: &[&str]) {
     for text in texts {
-        compare_printed(rt, alloc, text, "    ", text)?;
+        compare_printed(rt, alloc, text, "    ", text);
     }
-    Ok(())
 }
 
 #[test]
-fn each_form_prints_itself(rt: HostRuntime) -> Result<(), Fail> {
+fn each_form_prints_itself(rt: HostRuntime) {
     const TEXTS: &[&str] = &[
         "a := 'b'\n",
         "a := \"b\"\n",
@@ -29,11 +29,11 @@ fn each_form_prints_itself(rt: HostRuntime) -> Result<(), Fail> {
         "a := x'''b'''\n",
         "a := x\"\"\"b\"\"\"\n",
     ];
-    print_themselves(&rt, rt.alloc(), TEXTS)
+    print_themselves(&rt, rt.alloc(), TEXTS);
 }
 
 #[test]
-fn empty_ones_print_themselves(rt: HostRuntime) -> Result<(), Fail> {
+fn empty_ones_print_themselves(rt: HostRuntime) {
     const TEXTS: &[&str] = &[
         "a := ''\n",
         "a := \"\"\n",
@@ -44,11 +44,11 @@ fn empty_ones_print_themselves(rt: HostRuntime) -> Result<(), Fail> {
         "a := x''\n",
         "a := x\"\"\"\"\"\"\n",
     ];
-    print_themselves(&rt, rt.alloc(), TEXTS)
+    print_themselves(&rt, rt.alloc(), TEXTS);
 }
 
 #[test]
-fn what_stands_inside_is_printed_as_it_is(rt: HostRuntime) -> Result<(), Fail> {
+fn what_stands_inside_is_printed_as_it_is(rt: HostRuntime) {
     const TEXTS: &[&str] = &[
         "a := '\"`'\n",
         "a := \"'`\"\n",
@@ -66,11 +66,11 @@ fn what_stands_inside_is_printed_as_it_is(rt: HostRuntime) -> Result<(), Fail> {
         "a := x'$HOME/${p:-\"q\"}'\n",
         "a := '  b  '\n",
     ];
-    print_themselves(&rt, rt.alloc(), TEXTS)
+    print_themselves(&rt, rt.alloc(), TEXTS);
 }
 
 #[test]
-fn line_ends_inside_are_printed_as_they_are(rt: HostRuntime) -> Result<(), Fail> {
+fn line_ends_inside_are_printed_as_they_are(rt: HostRuntime) {
     const TEXTS: &[&str] = &[
         "x := '''\n  foo\\t\n  bar\n'''\n",
         "a := 'b\nc'\n",
@@ -84,11 +84,11 @@ fn line_ends_inside_are_printed_as_they_are(rt: HostRuntime) -> Result<(), Fail>
         "a := \"\"\"\n\t\tb  \n\t\n\t\"\"\"\n",
         "a := ```\n  b\n```\nc := d\n",
     ];
-    print_themselves(&rt, rt.alloc(), TEXTS)
+    print_themselves(&rt, rt.alloc(), TEXTS);
 }
 
 #[test]
-fn blanks_and_comments_around_are_printed_in_one_way(rt: HostRuntime) -> Result<(), Fail> {
+fn blanks_and_comments_around_are_printed_in_one_way(rt: HostRuntime) {
     const ROWS: &[(&str, &str)] = &[
         ("a:=x'b'#c", "a := x'b' #c\n"),
         ("a  :=\t'''\n  b'''  # c \n", "a := '''\n  b''' # c\n"),
@@ -98,14 +98,11 @@ fn blanks_and_comments_around_are_printed_in_one_way(rt: HostRuntime) -> Result<
         ("a:=x\nx:='a'\n", "a := x\nx := 'a'\n"),
         ("a := 'b'\r\nc := `d`\r\n", "a := 'b'\nc := `d`\n"),
     ];
-    for (text, printed) in ROWS {
-        compare_printed(&rt, rt.alloc(), text, "    ", printed)?;
-    }
-    Ok(())
+    compare_all_printed(&rt, rt.alloc(), ROWS);
 }
 
 #[test]
-fn interpolations_hold_literals_of_each_form(rt: HostRuntime) -> Result<(), Fail> {
+fn interpolations_hold_literals_of_each_form(rt: HostRuntime) {
     const ROWS: &[(&str, &str)] = &[
         (
             "foo:\n  {{x'a'}}{{`b`}}\n",
@@ -129,30 +126,49 @@ fn interpolations_hold_literals_of_each_form(rt: HostRuntime) -> Result<(), Fail
             "foo:\n    {{ x }}'a'{{ x }}x'b'\n",
         ),
     ];
-    for (text, printed) in ROWS {
-        compare_printed(&rt, rt.alloc(), text, "    ", printed)?;
-    }
-    Ok(())
+    compare_all_printed(&rt, rt.alloc(), ROWS);
 }
 
 #[test]
-fn lines_count_through_literals_of_bodies(rt: HostRuntime) -> Result<(), Fail> {
+fn lines_count_through_literals_of_bodies(rt: HostRuntime) {
     let text = "foo:\n  a {{'''\n    b\n  '''}} c\n  d\n  {{`\n`}}{{x'e\n'}}\n  f\n";
-    let ast = parsed(rt.alloc(), 0, text)?;
-    compare_items(
+    compare_file(
         &rt,
         rt.alloc(),
-        &ast,
+        text,
         &[
             "recipe foo 0 | 1 ‹a › ('''\n    b\n  ''') ‹ c› | 4 ‹d› | 5 (`\n`) (x'e\n') | 8 ‹f›",
             "newline",
         ],
-    )
+    );
+}
+
+/// Sees that the first literal of a text is of this kind, that it is marked, if it is said so, and
+/// which token it is.
+fn compare_literal(
+    rt: &impl Abort,
+    alloc: Global,
+    text: &str,
+    (delimiter, indented): (StringDelimiter, bool),
+    expand: bool,
+    (lexeme, offset): (&str, usize),
+) {
+    let ast = parsed(rt, alloc, 0, text);
+    let literal = first_literal(rt, &ast);
+    let kind = StringKind {
+        delimiter,
+        indented,
+    };
+    same(rt, text, &literal.kind, &kind);
+    holds(rt, text, literal.expand == expand);
+    holds(rt, text, literal.part == None);
+    same_text(rt, text, literal.token.lexeme(), lexeme);
+    same(rt, text, &literal.token.offset, &offset);
 }
 
 #[test]
-fn literals_have_their_kind_mark_and_token(rt: HostRuntime) -> Result<(), Fail> {
-    const ROWS: &[(&str, (StringDelimiter, bool), bool, (&str, usize))] = &[
+fn literals_have_their_kind_mark_and_token(rt: HostRuntime) {
+    static ROWS: &[(&str, (StringDelimiter, bool), bool, (&str, usize))] = &[
         (
             "a := 'b'\n",
             (StringDelimiter::QuoteSingle, false),
@@ -184,22 +200,7 @@ fn literals_have_their_kind_mark_and_token(rt: HostRuntime) -> Result<(), Fail> 
             ("''", 6),
         ),
     ];
-    for (text, (delimiter, indented), expand, (lexeme, offset)) in ROWS {
-        let ast = parsed(rt.alloc(), 0, text)?;
-        let literal = first_literal(&ast)?;
-        let kind = StringKind {
-            delimiter: *delimiter,
-            indented: *indented,
-        };
-        assert_eq!(rt;
-            (literal.kind, literal.expand, literal.part),
-            (kind, *expand, None),
-            "{text:?}"
-        );
-        assert_eq!(rt;
-            (literal.token.lexeme(), literal.token.offset),
-            (*lexeme, *offset)
-        );
+    for (text, kind, expand, token) in ROWS {
+        compare_literal(&rt, rt.alloc(), text, *kind, *expand, *token);
     }
-    Ok(())
 }

@@ -1,25 +1,10 @@
 //! Marks of literals, and names that are none.
 
-use crate::tests::support::{compare_items, parsed, refusal};
-use std::alloc::Global;
-use std::process::Abort;
-use std::test::Fail;
-
-/// Sees that each text is refused at the token of this offset and length.
-fn compare(rt: &impl Abort, alloc: Global, rows: &[(&str, (usize, usize))]) -> Result<(), Fail> {
-    for (text, place) in rows {
-        let error = refusal(alloc, text)?;
-        assert_eq!(rt;
-            (error.token.offset, error.token.length),
-            *place,
-            "{text:?}"
-        );
-    }
-    Ok(())
-}
+use crate::tests::support::compare_file;
+use crate::tests::values::compare_places;
 
 #[test]
-fn marks_are_glued_to_their_literal(rt: HostRuntime) -> Result<(), Fail> {
+fn marks_are_glued_to_their_literal(rt: HostRuntime) {
     const ROWS: &[(&str, (usize, usize))] = &[
         ("a := x 'a'\n", (7, 3)),
         ("a := x\t'a'\n", (7, 3)),
@@ -29,11 +14,11 @@ fn marks_are_glued_to_their_literal(rt: HostRuntime) -> Result<(), Fail> {
         ("foo:\n  {{x 'a'}}\n", (11, 3)),
         ("foo:\n  {{x\n'a'}}\n", (11, 3)),
     ];
-    compare(&rt, rt.alloc(), ROWS)
+    compare_places(&rt, rt.alloc(), ROWS);
 }
 
 #[test]
-fn other_names_are_no_marks(rt: HostRuntime) -> Result<(), Fail> {
+fn other_names_are_no_marks(rt: HostRuntime) {
     const ROWS: &[(&str, (usize, usize))] = &[
         ("a := X'a'\n", (6, 3)),
         ("a := xx'a'\n", (7, 3)),
@@ -41,11 +26,11 @@ fn other_names_are_no_marks(rt: HostRuntime) -> Result<(), Fail> {
         ("a := b'a'\n", (6, 3)),
         ("foo:\n  {{_x\"a\"}}\n", (11, 3)),
     ];
-    compare(&rt, rt.alloc(), ROWS)
+    compare_places(&rt, rt.alloc(), ROWS);
 }
 
 #[test]
-fn strings_alone_are_marked(rt: HostRuntime) -> Result<(), Fail> {
+fn strings_alone_are_marked(rt: HostRuntime) {
     const ROWS: &[(&str, (usize, usize))] = &[
         ("a := x`a`\n", (6, 3)),
         ("a := x```a```\n", (6, 7)),
@@ -55,11 +40,11 @@ fn strings_alone_are_marked(rt: HostRuntime) -> Result<(), Fail> {
         ("a := 'a'`b`\n", (8, 3)),
         ("a := `a``b`\n", (8, 3)),
     ];
-    compare(&rt, rt.alloc(), ROWS)
+    compare_places(&rt, rt.alloc(), ROWS);
 }
 
 #[test]
-fn marks_are_names_elsewhere(rt: HostRuntime) -> Result<(), Fail> {
+fn marks_are_names_elsewhere(rt: HostRuntime) {
     const ROWS: &[(&str, &[&str])] = &[
         ("a := x", &["a 0 2 false name x"]),
         ("a := x # 'b'", &["a 0 2 false name x", "comment \"# 'b'\""]),
@@ -71,8 +56,6 @@ fn marks_are_names_elsewhere(rt: HostRuntime) -> Result<(), Fail> {
         ("f:\n  f'a'\n", &["recipe f 0 | 1 ‹f'a'›", "newline"]),
     ];
     for (text, rows) in ROWS {
-        let ast = parsed(rt.alloc(), 0, text)?;
-        compare_items(&rt, rt.alloc(), &ast, rows)?;
+        compare_file(&rt, rt.alloc(), text, rows);
     }
-    Ok(())
 }

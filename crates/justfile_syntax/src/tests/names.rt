@@ -9,85 +9,101 @@ use crate::name::Name;
 use crate::namepath::Namepath;
 use crate::numerator::{Number, Numerator};
 use crate::parser::Parser;
-use crate::tests::support::{CURRENT, Unchanged, names};
-use std::alloc::Global;
+use crate::tests::support::{CURRENT, Unchanged, first_item, holds, names, same, same_text};
+use std::alloc::{AllocError, Global};
 use std::process::Abort;
-use std::test::Fail;
 
-/// The path of the names.
-fn path<'src>(alloc: Global, names: &[Name<'src>]) -> Result<Namepath<'src>, Fail> {
-    let first = *names.first().ok_or("no name")?;
+/// The path of a name and those behind it.
+fn path_from<'src>(
+    alloc: Global,
+    first: Name<'src>,
+    others: &[Name<'src>],
+) -> Result<Namepath<'src>, AllocError> {
     let mut path = Namepath::from_name(alloc, first)?;
-    for name in names.iter().skip(1) {
+    for name in others {
         path.push(*name)?;
     }
     Ok(path)
 }
 
+/// The path of the names.
+fn path<'src>(rt: &impl Abort, alloc: Global, names: &[Name<'src>]) -> Namepath<'src> {
+    let (first, others) = names.split_first().expect(rt, "no name");
+    path_from(alloc, *first, others).expect(rt, "no memory")
+}
+
 /// Sees that a path has these names, and is written so.
-fn compare(
-    rt: &impl Abort,
-    alloc: Global,
-    path: &Namepath<'_>,
-    names: &[Name<'_>],
-    text: &str,
-) -> Result<(), Fail> {
-    assert_eq!(rt; path.to_string(alloc)?.as_str(), text);
-    assert_eq!(rt; path.components(), names.len());
-    assert!(rt; path.iter().eq(names.iter()));
+fn compare(rt: &impl Abort, alloc: Global, path: &Namepath<'_>, names: &[Name<'_>], text: &str) {
+    let written = path.to_string(alloc).expect(rt, text);
+    same_text(rt, text, written.as_str(), text);
+    same(rt, text, &path.components(), &names.len());
+    holds(rt, text, path.iter().eq(names.iter()));
     let (last, modules) = path.split_last();
-    assert!(rt; modules.iter().chain(Some(last)).eq(names.iter()));
-    assert!(rt; path.last() == last);
-    Ok(())
+    holds(rt, text, modules.iter().chain(Some(last)).eq(names.iter()));
+    holds(rt, text, path.last() == last);
 }
 
 #[test]
-fn namepaths(rt: HostRuntime) -> Result<(), Fail> {
+fn namepaths(rt: HostRuntime) {
     let alloc = rt.alloc();
-    let names = names(alloc, "a b-1 _c")?;
-    assert_eq!(rt; names.len(), 3);
-    let single = Namepath::from_name(alloc, names[0])?;
-    let joined = single.join(alloc, names[1])?;
-    let mut longer = joined.clone(alloc)?;
-    assert!(rt; longer == joined);
-    longer.push(names[2])?;
-    compare(&rt, alloc, &single, &names[..1], "a")?;
-    compare(&rt, alloc, &joined, &names[..2], "a::b-1")?;
-    compare(&rt, alloc, &longer, &names[..3], "a::b-1::_c")
+    let names = names(&rt, alloc, "a b-1 _c");
+    assert!(rt; names.len() == 3);
+    let single = Namepath::from_name(alloc, names[0]).expect(&rt, "single");
+    let joined = single.join(alloc, names[1]).expect(&rt, "joined");
+    let mut longer = joined.clone(alloc).expect(&rt, "longer");
+    holds(&rt, "a copy", longer == joined);
+    longer.push(names[2]).expect(&rt, "longer");
+    compare(&rt, alloc, &single, &names[..1], "a");
+    compare(&rt, alloc, &joined, &names[..2], "a::b-1");
+    compare(&rt, alloc, &longer, &names[..3], "a::b-1::_c");
+}
+
+/// Sees that a path of modules is written so.
+fn compare_written(rt: &impl Abort, alloc: Global, modules: &Modulepath, text: &str) {
+    let written = modules.to_string(alloc).expect(rt, text);
+    same_text(rt, text, written.as_str(), text);
+}
+
+/// Sees that the path of modules of these names is written so, that its copy is equal and stays so,
+/// and that it is written as the other text with another name behind it.
+fn compare_modules(rt: &impl Abort, alloc: Global, text: &str, (written, longer): (&str, &str)) {
+    let namepath = path(rt, alloc, names(rt, alloc, text).as_slice());
+    let mut modules = Modulepath::from_namepath(alloc, Some(&namepath)).expect(rt, text);
+    compare_written(rt, alloc, &modules, written);
+    let copy = modules.clone(alloc).expect(rt, text);
+    holds(rt, text, copy == modules);
+    modules
+        .push("z".to_string(alloc).expect(rt, text))
+        .expect(rt, text);
+    compare_written(rt, alloc, &modules, longer);
+    compare_written(rt, alloc, &copy, written);
 }
 
 #[test]
-fn modulepaths(rt: HostRuntime) -> Result<(), Fail> {
-    const ROWS: &[(&str, &str)] = &[("a", "a"), ("a b", "a::b"), ("m n-1 _o", "m::n-1::_o")];
+fn modulepaths(rt: HostRuntime) {
+    const ROWS: &[(&str, (&str, &str))] = &[
+        ("a", ("a", "a::z")),
+        ("a b", ("a::b", "a::b::z")),
+        ("m n-1 _o", ("m::n-1::_o", "m::n-1::_o::z")),
+    ];
     let alloc = rt.alloc();
     let root = Modulepath::new(alloc);
-    assert_eq!(rt; root.to_string(alloc)?.as_str(), "");
-    assert!(rt; Modulepath::from_namepath(alloc, None)? == root);
-    for (text, expected) in ROWS {
-        let namepath = path(alloc, names(alloc, text)?.as_slice())?;
-        let mut modules = Modulepath::from_namepath(alloc, Some(&namepath))?;
-        assert_eq!(rt; modules.to_string(alloc)?.as_str(), *expected);
-        let copy = modules.clone(alloc)?;
-        assert!(rt; copy == modules);
-        modules.push("z".to_string(alloc)?)?;
-        assert_eq!(rt;
-            modules.to_string(alloc)?.as_str(),
-            format!(in alloc; "{expected}::z")?.as_str()
-        );
-        assert_eq!(rt; copy.to_string(alloc)?.as_str(), *expected);
+    compare_written(&rt, alloc, &root, "");
+    let of_none = Modulepath::from_namepath(alloc, None).expect(&rt, "no names");
+    holds(&rt, "no names", of_none == root);
+    for (text, written) in ROWS {
+        compare_modules(&rt, alloc, text, *written);
     }
-    Ok(())
 }
 
 #[test]
 fn constants(rt: HostRuntime) {
     let mut numerator = Numerator::new(3);
-    assert_eq!(rt;
-        (numerator.constant(0), numerator.constant(2)),
-        (Number(0), Number(2))
-    );
-    assert_eq!(rt; numerator.next_binding(), Some(Number(3)));
-    assert_eq!(rt; numerator.constant(2), Number(2));
+    same(&rt, "the first", &numerator.constant(0), &Number(0));
+    same(&rt, "the third", &numerator.constant(2), &Number(2));
+    let binding = numerator.next_binding();
+    same(&rt, "a binding", &binding, &Some(Number(3)));
+    same(&rt, "the third", &numerator.constant(2), &Number(2));
 }
 
 /// The file of a module that a text is.
@@ -112,19 +128,18 @@ fn parsed<'src>(
 }
 
 #[test]
-fn files_of_modules(rt: HostRuntime) -> Result<(), Fail> {
+fn files_of_modules(rt: HostRuntime) {
+    let text = "a := 'x'\n";
     let alloc = rt.alloc();
-    let namepath = path(alloc, names(alloc, "m n")?.as_slice())?;
+    let namepath = path(&rt, alloc, names(&rt, alloc, "m n").as_slice());
     let mut numerator = Numerator::new(5);
-    let Ok(ast) = parsed(alloc, &namepath, &mut numerator, "a := 'x'\n") else {
-        return Err(Fail::from("refused"));
+    let ast = parsed(alloc, &namepath, &mut numerator, text).expect(&rt, text);
+    compare_written(&rt, alloc, &ast.module_path, "m::n");
+    same_text(&rt, text, ast.working_directory.as_str(), "/home/m");
+    same(&rt, text, &ast.items.len(), &2);
+    let Item::Assignment(assignment) = first_item(&rt, &ast) else {
+        panic!(rt; "no assignment");
     };
-    assert_eq!(rt; ast.module_path.to_string(alloc)?.as_str(), "m::n");
-    assert_eq!(rt; ast.working_directory.as_str(), "/home/m");
-    assert_eq!(rt; ast.items.len(), 2);
-    let Some(Item::Assignment(assignment)) = ast.items.first() else {
-        return Err(Fail::from("no assignment"));
-    };
-    assert_eq!(rt; (assignment.file_depth, assignment.number), (3, Number(5)));
-    Ok(())
+    same(&rt, text, &assignment.file_depth, &3);
+    same(&rt, text, &assignment.number, &Number(5));
 }

@@ -2,32 +2,31 @@
 
 use crate::conditional_operator::ConditionalOperator;
 use crate::list_operator::ListOperator;
-use std::process::Abort;
-use std::test::Fail;
+use crate::tests::support::same_text;
 
 #[test]
-fn conditional_operators(rt: HostRuntime) -> Result<(), Fail> {
-    const ROWS: &[(ConditionalOperator, &str)] = &[
+fn conditional_operators(rt: HostRuntime) {
+    static ROWS: &[(ConditionalOperator, &str)] = &[
         (ConditionalOperator::Equality, "=="),
         (ConditionalOperator::Inequality, "!="),
         (ConditionalOperator::RegexMatch, "=~"),
         (ConditionalOperator::RegexMismatch, "!~"),
     ];
     for (operator, text) in ROWS {
-        assert_eq!(rt; operator.to_string(rt.alloc())?.as_str(), *text);
+        let written = operator.to_string(rt.alloc()).expect(&rt, text);
+        same_text(&rt, text, written.as_str(), text);
     }
-    Ok(())
 }
 
 #[test]
-fn list_operators(rt: HostRuntime) -> Result<(), Fail> {
-    const ROWS: &[(ListOperator, &str, &str)] = &[
+fn list_operators(rt: HostRuntime) {
+    static ROWS: &[(ListOperator, &str, &str)] = &[
         (ListOperator::Concatenate, "+", ""),
         (ListOperator::Join, "/", "/"),
     ];
     for (operator, text, separator) in ROWS {
-        assert_eq!(rt; operator.to_string(rt.alloc())?.as_str(), *text);
-        assert_eq!(rt; operator.separator(), *separator);
+        let written = operator.to_string(rt.alloc()).expect(&rt, text);
+        same_text(&rt, text, written.as_str(), text);
+        same_text(&rt, text, operator.separator(), separator);
     }
-    Ok(())
 }

@@ -6,11 +6,10 @@ use crate::name::Name;
 use crate::numerator::Number;
 use crate::string_kind::{StringDelimiter, StringKind};
 use crate::string_literal::{FormatStringPart, StringLiteral};
-use crate::tests::support::names;
+use crate::tests::support::{holds, names, same};
 use std::alloc::Global;
 use std::cmp::Ordering;
 use std::process::Abort;
-use std::test::Fail;
 
 /// The kind of a literal in double quotes.
 const QUOTED: StringKind = StringKind {
@@ -34,53 +33,58 @@ impl<'src> Ascending<'src> {
     }
 
     /// A part that is a name.
-    fn part(&self, name: Name<'src>) -> Result<Box<Expression<'src>>, Fail> {
+    fn part(&self, rt: &impl Abort, name: Name<'src>) -> Box<Expression<'src>> {
         let part = Expression::Variable { name, number: None };
-        Ok(Box::new(self.alloc, part)?)
+        Box::new(self.alloc, part).expect(rt, "no memory")
     }
 
     /// The same, where the part may be missing.
-    fn part_if(&self, name: Option<Name<'src>>) -> Result<Option<Box<Expression<'src>>>, Fail> {
+    fn part_if(&self, rt: &impl Abort, name: Option<Name<'src>>) -> Option<Box<Expression<'src>>> {
         match name {
-            Some(name) => Ok(Some(self.part(name)?)),
-            None => Ok(None),
+            Some(name) => Some(self.part(rt, name)),
+            None => None,
         }
     }
 
     /// A row of parts that are names.
-    fn row(&self, names: &[Name<'src>]) -> Result<Vec<Expression<'src>>, Fail> {
+    fn row(&self, rt: &impl Abort, names: &[Name<'src>]) -> Vec<Expression<'src>> {
         let mut row = Vec::new(self.alloc);
         for name in names {
-            row.push(Expression::Variable {
+            let part = Expression::Variable {
                 name: *name,
                 number: None,
-            })?;
+            };
+            row.push(part).expect(rt, "no memory");
         }
-        Ok(row)
+        row
     }
 
     /// A literal at the first name that stands for this text.
-    fn literal(&self, text: &str) -> Result<StringLiteral<'src>, Fail> {
-        Ok(StringLiteral {
-            cooked: text.to_string(self.alloc)?,
+    fn literal(&self, rt: &impl Abort, text: &str) -> StringLiteral<'src> {
+        StringLiteral {
+            cooked: text.to_string(self.alloc).expect(rt, "no memory"),
             expand: false,
             kind: QUOTED,
             part: None,
             token: *self.less,
-        })
+        }
     }
 
-    fn conjunctions(&mut self) -> Result<(), Fail> {
+    /// Puts an expression behind the others.
+    fn push(&mut self, rt: &impl Abort, value: Expression<'src>) {
+        self.values.push(value).expect(rt, "no memory");
+    }
+
+    fn conjunctions(&mut self, rt: &impl Abort) {
         let [b, c] = self.names();
         for (lhs, rhs) in [(b, b), (b, c), (c, b), (c, c)] {
-            let lhs = self.part(lhs)?;
-            let rhs = self.part(rhs)?;
-            self.values.push(Expression::And { lhs, rhs })?;
+            let lhs = self.part(rt, lhs);
+            let rhs = self.part(rt, rhs);
+            self.push(rt, Expression::And { lhs, rhs });
         }
-        Ok(())
     }
 
-    fn assertions(&mut self) -> Result<(), Fail> {
+    fn assertions(&mut self, rt: &impl Abort) {
         let [b, c] = self.names();
         for (condition, message, name) in [
             (b, None, b),
@@ -89,30 +93,34 @@ impl<'src> Ascending<'src> {
             (b, Some(c), b),
             (c, None, b),
         ] {
-            let condition = self.part(condition)?;
-            let message = self.part_if(message)?;
-            self.values.push(Expression::Assert {
-                condition,
-                message,
-                name,
-            })?;
+            let condition = self.part(rt, condition);
+            let message = self.part_if(rt, message);
+            self.push(
+                rt,
+                Expression::Assert {
+                    condition,
+                    message,
+                    name,
+                },
+            );
         }
-        Ok(())
     }
 
-    fn commands(&mut self) -> Result<(), Fail> {
+    fn commands(&mut self, rt: &impl Abort) {
         let [b, c] = self.names();
         for (contents, token) in [("", c), ("b", b), ("b", c), ("bb", b), ("c", b)] {
-            let contents = contents.to_string(self.alloc)?;
-            self.values.push(Expression::Backtick {
-                contents,
-                token: *token,
-            })?;
+            let contents = contents.to_string(self.alloc).expect(rt, "no memory");
+            self.push(
+                rt,
+                Expression::Backtick {
+                    contents,
+                    token: *token,
+                },
+            );
         }
-        Ok(())
     }
 
-    fn calls(&mut self) -> Result<(), Fail> {
+    fn calls(&mut self, rt: &impl Abort) {
         let [b, c] = self.names();
         let rows: [(Name<'src>, &[Name<'src>]); 5] = [
             (b, &[]),
@@ -122,13 +130,12 @@ impl<'src> Ascending<'src> {
             (c, &[]),
         ];
         for (name, arguments) in rows {
-            let arguments = self.row(arguments)?;
-            self.values.push(Expression::Call { name, arguments })?;
+            let arguments = self.row(rt, arguments);
+            self.push(rt, Expression::Call { name, arguments });
         }
-        Ok(())
     }
 
-    fn comparisons(&mut self) -> Result<(), Fail> {
+    fn comparisons(&mut self, rt: &impl Abort) {
         let [b, c] = self.names();
         for (lhs, operator, rhs, token) in [
             (b, ConditionalOperator::Equality, b, b),
@@ -139,31 +146,31 @@ impl<'src> Ascending<'src> {
             (b, ConditionalOperator::RegexMismatch, b, b),
             (c, ConditionalOperator::Equality, b, b),
         ] {
-            let lhs = self.part(lhs)?;
-            let rhs = self.part(rhs)?;
-            self.values.push(Expression::Comparison {
-                lhs,
-                operator,
-                rhs,
-                token: *token,
-            })?;
+            let lhs = self.part(rt, lhs);
+            let rhs = self.part(rt, rhs);
+            self.push(
+                rt,
+                Expression::Comparison {
+                    lhs,
+                    operator,
+                    rhs,
+                    token: *token,
+                },
+            );
         }
-        Ok(())
     }
 
-    fn concatenations(&mut self) -> Result<(), Fail> {
+    fn concatenations(&mut self, rt: &impl Abort) {
         let [b, c] = self.names();
         for (lhs, operator, rhs) in [(b, b, b), (b, b, c), (b, c, b), (c, b, b)] {
-            let lhs = self.part(lhs)?;
+            let lhs = self.part(rt, lhs);
             let operator = *operator;
-            let rhs = self.part(rhs)?;
-            self.values
-                .push(Expression::Concatenation { lhs, operator, rhs })?;
+            let rhs = self.part(rt, rhs);
+            self.push(rt, Expression::Concatenation { lhs, operator, rhs });
         }
-        Ok(())
     }
 
-    fn conditionals(&mut self) -> Result<(), Fail> {
+    fn conditionals(&mut self, rt: &impl Abort) {
         let [b, c] = self.names();
         for (condition, then, otherwise) in [
             (b, b, None),
@@ -172,19 +179,21 @@ impl<'src> Ascending<'src> {
             (b, c, None),
             (c, b, None),
         ] {
-            let condition = self.part(condition)?;
-            let then = self.part(then)?;
-            let otherwise = self.part_if(otherwise)?;
-            self.values.push(Expression::Conditional {
-                condition,
-                then,
-                otherwise,
-            })?;
+            let condition = self.part(rt, condition);
+            let then = self.part(rt, then);
+            let otherwise = self.part_if(rt, otherwise);
+            self.push(
+                rt,
+                Expression::Conditional {
+                    condition,
+                    then,
+                    otherwise,
+                },
+            );
         }
-        Ok(())
     }
 
-    fn format_strings(&mut self) -> Result<(), Fail> {
+    fn format_strings(&mut self, rt: &impl Abort) {
         let [b, c] = self.names();
         let rows: [(&str, &[(Name<'src>, &str)]); 6] = [
             ("b", &[]),
@@ -195,37 +204,37 @@ impl<'src> Ascending<'src> {
             ("c", &[]),
         ];
         for (start, behind) in rows {
-            let start = self.literal(start)?;
-            let expressions = self.filled(behind)?;
-            self.values
-                .push(Expression::FormatString { start, expressions })?;
+            let start = self.literal(rt, start);
+            let expressions = self.filled(rt, behind);
+            self.push(rt, Expression::FormatString { start, expressions });
         }
-        Ok(())
     }
 
     /// What stands behind the start of a format string.
     fn filled(
         &self,
+        rt: &impl Abort,
         parts: &[(Name<'src>, &str)],
-    ) -> Result<Vec<(Expression<'src>, StringLiteral<'src>)>, Fail> {
+    ) -> Vec<(Expression<'src>, StringLiteral<'src>)> {
         let mut expressions = Vec::new(self.alloc);
         for (name, text) in parts {
+            let literal = self.literal(rt, text);
             let name = *name;
-            let literal = self.literal(text)?;
-            expressions.push((Expression::Variable { name, number: None }, literal))?;
+            expressions
+                .push((Expression::Variable { name, number: None }, literal))
+                .expect(rt, "no memory");
         }
-        Ok(expressions)
+        expressions
     }
 
-    fn groups(&mut self) -> Result<(), Fail> {
+    fn groups(&mut self, rt: &impl Abort) {
         for contents in self.names() {
-            let contents = self.part(contents)?;
-            self.values.push(Expression::Group { contents })?;
+            let contents = self.part(rt, contents);
+            self.push(rt, Expression::Group { contents });
         }
-        Ok(())
     }
 
-    fn joins(&mut self) -> Result<(), Fail> {
+    fn joins(&mut self, rt: &impl Abort) {
         let [b, c] = self.names();
         for (lhs, operator, rhs) in [
             (None, b, b),
@@ -234,15 +243,14 @@ impl<'src> Ascending<'src> {
             (Some(b), b, b),
             (Some(c), b, b),
         ] {
-            let lhs = self.part_if(lhs)?;
+            let lhs = self.part_if(rt, lhs);
             let operator = *operator;
-            let rhs = self.part(rhs)?;
-            self.values.push(Expression::Join { lhs, operator, rhs })?;
+            let rhs = self.part(rt, rhs);
+            self.push(rt, Expression::Join { lhs, operator, rhs });
         }
-        Ok(())
     }
 
-    fn lists(&mut self) -> Result<(), Fail> {
+    fn lists(&mut self, rt: &impl Abort) {
         let [b, c] = self.names();
         let rows: [(&[Name<'src>], Name<'src>); 5] = [
             (&[], b),
@@ -252,44 +260,39 @@ impl<'src> Ascending<'src> {
             (&[c], b),
         ];
         for (elements, opener) in rows {
-            let elements = self.row(elements)?;
+            let elements = self.row(rt, elements);
             let opener = *opener;
-            self.values.push(Expression::List { elements, opener })?;
+            self.push(rt, Expression::List { elements, opener });
         }
-        Ok(())
     }
 
-    fn list_concatenations(&mut self) -> Result<(), Fail> {
+    fn list_concatenations(&mut self, rt: &impl Abort) {
         let [b, c] = self.names();
         for (lhs, operator, rhs) in [(b, b, b), (b, b, c), (b, c, b), (c, b, b)] {
-            let lhs = self.part(lhs)?;
+            let lhs = self.part(rt, lhs);
             let operator = *operator;
-            let rhs = self.part(rhs)?;
-            self.values
-                .push(Expression::ListConcatenation { lhs, operator, rhs })?;
+            let rhs = self.part(rt, rhs);
+            self.push(rt, Expression::ListConcatenation { lhs, operator, rhs });
         }
-        Ok(())
     }
 
-    fn negations(&mut self) -> Result<(), Fail> {
+    fn negations(&mut self, rt: &impl Abort) {
         for operand in self.names() {
-            let operand = self.part(operand)?;
-            self.values.push(Expression::Not { operand })?;
+            let operand = self.part(rt, operand);
+            self.push(rt, Expression::Not { operand });
         }
-        Ok(())
     }
 
-    fn disjunctions(&mut self) -> Result<(), Fail> {
+    fn disjunctions(&mut self, rt: &impl Abort) {
         let [b, c] = self.names();
         for (lhs, rhs) in [(b, b), (b, c), (c, b), (c, c)] {
-            let lhs = self.part(lhs)?;
-            let rhs = self.part(rhs)?;
-            self.values.push(Expression::Or { lhs, rhs })?;
+            let lhs = self.part(rt, lhs);
+            let rhs = self.part(rt, rhs);
+            self.push(rt, Expression::Or { lhs, rhs });
         }
-        Ok(())
     }
 
-    fn literals(&mut self) -> Result<(), Fail> {
+    fn literals(&mut self, rt: &impl Abort) {
         let [b, c] = self.names();
         let single = StringDelimiter::QuoteSingle;
         let double = StringDelimiter::QuoteDouble;
@@ -324,7 +327,7 @@ impl<'src> Ascending<'src> {
             ("c", false, (double, false), None, b),
         ] {
             let string_literal = StringLiteral {
-                cooked: cooked.to_string(self.alloc)?,
+                cooked: cooked.to_string(self.alloc).expect(rt, "no memory"),
                 expand,
                 kind: StringKind {
                     delimiter,
@@ -333,13 +336,11 @@ impl<'src> Ascending<'src> {
                 part,
                 token: *token,
             };
-            self.values
-                .push(Expression::StringLiteral { string_literal })?;
+            self.push(rt, Expression::StringLiteral { string_literal });
         }
-        Ok(())
     }
 
-    fn variables(&mut self) -> Result<(), Fail> {
+    fn variables(&mut self, rt: &impl Abort) {
         let [b, c] = self.names();
         for (name, number) in [
             (b, None),
@@ -347,38 +348,61 @@ impl<'src> Ascending<'src> {
             (b, Some(Number(1))),
             (c, None),
         ] {
-            self.values.push(Expression::Variable { name, number })?;
+            self.push(rt, Expression::Variable { name, number });
         }
-        Ok(())
     }
 }
 
 /// Expressions of each form of which each is less than the next.
-fn in_order(alloc: Global) -> Result<Vec<Expression<'static>>, Fail> {
-    let names = names(alloc, "b c")?;
+fn in_order(rt: &impl Abort, alloc: Global) -> Vec<Expression<'static>> {
+    let names = names(rt, alloc, "b c");
     let mut ascending = Ascending {
         alloc,
-        less: *names.first().ok_or("no name")?,
-        greater: *names.last().ok_or("no name")?,
+        less: *names.first().expect(rt, "no name"),
+        greater: *names.last().expect(rt, "no name"),
         values: Vec::new(alloc),
     };
-    ascending.conjunctions()?;
-    ascending.assertions()?;
-    ascending.commands()?;
-    ascending.calls()?;
-    ascending.comparisons()?;
-    ascending.concatenations()?;
-    ascending.conditionals()?;
-    ascending.format_strings()?;
-    ascending.groups()?;
-    ascending.joins()?;
-    ascending.lists()?;
-    ascending.list_concatenations()?;
-    ascending.negations()?;
-    ascending.disjunctions()?;
-    ascending.literals()?;
-    ascending.variables()?;
-    Ok(ascending.values)
+    ascending.conjunctions(rt);
+    ascending.assertions(rt);
+    ascending.commands(rt);
+    ascending.calls(rt);
+    ascending.comparisons(rt);
+    ascending.concatenations(rt);
+    ascending.conditionals(rt);
+    ascending.format_strings(rt);
+    ascending.groups(rt);
+    ascending.joins(rt);
+    ascending.lists(rt);
+    ascending.list_concatenations(rt);
+    ascending.negations(rt);
+    ascending.disjunctions(rt);
+    ascending.literals(rt);
+    ascending.variables(rt);
+    ascending.values
+}
+
+/// Sees that two expressions are ordered as their places are, by each way to compare them.
+fn compare<'src>(
+    rt: &impl Abort,
+    place: usize,
+    left: &Expression<'src>,
+    other_place: usize,
+    right: &Expression<'src>,
+) {
+    let order = place.cmp(&other_place);
+    let found = (
+        left.cmp(right),
+        left.partial_cmp(right),
+        left == right,
+        left < right,
+    );
+    let wanted = (
+        order,
+        Some(order),
+        place == other_place,
+        place < other_place,
+    );
+    assert_eq!(rt; found, wanted, "{place} and {other_place}");
 }
 
 /// Sees that an expression is less than what stands behind its place among these, equal to what
@@ -390,48 +414,41 @@ fn compare_with_all<'src>(
     others: &[Expression<'src>],
 ) {
     for (other_place, other) in others.iter().enumerate() {
-        let order = place.cmp(&other_place);
-        assert_eq!(rt; value.cmp(other), order, "{place} and {other_place}");
-        assert_eq!(rt; value.partial_cmp(other), Some(order));
-        assert_eq!(rt; value == other, place == other_place);
-        assert_eq!(rt; value < other, place < other_place);
+        compare(rt, place, value, other_place, other);
     }
 }
 
 #[test]
-fn expressions_are_ordered_by_their_form_and_then_by_their_parts(
-    rt: HostRuntime,
-) -> Result<(), Fail> {
-    let values = in_order(rt.alloc())?;
-    assert_eq!(rt; values.len(), 77);
-    let others = in_order(rt.alloc())?;
+fn expressions_are_ordered_by_their_form_and_then_by_their_parts(rt: HostRuntime) {
+    let values = in_order(&rt, rt.alloc());
+    same(&rt, "expressions", &values.len(), &77);
+    let others = in_order(&rt, rt.alloc());
     for (place, value) in values.iter().enumerate() {
         compare_with_all(&rt, place, value, others.as_slice());
     }
-    Ok(())
 }
 
 #[test]
-fn copies_of_expressions_are_equal(rt: HostRuntime) -> Result<(), Fail> {
-    for value in &in_order(rt.alloc())? {
-        let copy = value.clone(rt.alloc())?;
-        assert!(rt; copy == *value);
-        assert_eq!(rt; copy.cmp(value), Ordering::Equal);
+fn copies_of_expressions_are_equal(rt: HostRuntime) {
+    for value in &in_order(&rt, rt.alloc()) {
+        let copy = value.clone(rt.alloc()).expect(&rt, "no memory");
+        holds(&rt, "a copy", copy == *value);
+        same(&rt, "a copy", &copy.cmp(value), &Ordering::Equal);
     }
-    Ok(())
 }
 
 #[test]
-fn equal_texts_at_other_places_are_other_expressions(rt: HostRuntime) -> Result<(), Fail> {
+fn equal_texts_at_other_places_are_other_expressions(rt: HostRuntime) {
+    let names = names(&rt, rt.alloc(), "b b");
     let mut values = Vec::new(rt.alloc());
-    for name in &names(rt.alloc(), "b b")? {
-        values.push(Expression::Variable {
+    for name in &names {
+        let value = Expression::Variable {
             name: *name,
             number: None,
-        })?;
+        };
+        values.push(value).expect(&rt, "no memory");
     }
     for (place, value) in values.iter().enumerate() {
         compare_with_all(&rt, place, value, values.as_slice());
     }
-    Ok(())
 }

@@ -3,12 +3,10 @@
 use crate::ast::Ast;
 use crate::compile_error_kind::CompileErrorKind;
 use crate::fault::Fault;
-use crate::indentation::Indentation;
 use crate::numerator::Numerator;
-use crate::tests::support::{parse, parsed};
+use crate::tests::support::{compare_print, holds, indented, parse, parsed};
 use std::alloc::Global;
 use std::process::Abort;
-use std::test::Fail;
 
 /// Files that stand one behind the other. The beginnings of all are files or refused.
 const TEXTS: &[&str] = &[
@@ -57,60 +55,60 @@ const OTHERS: &[&str] = &[
 ];
 
 /// Sees that what is printed of a file at an indentation is a file that prints as itself.
-fn settles(rt: &impl Abort, alloc: Global, ast: &Ast<'_>, indentation: &str) -> Result<(), Fail> {
-    let indentation = indentation.parse::<Indentation>()?;
-    let printed = ast.print(alloc, indentation)?;
-    let again = parsed(alloc, 0, printed.as_str())?;
-    assert!(rt; again.printable(), "{printed:?}");
-    assert_eq!(rt; again.print(alloc, indentation)?.as_str(), printed.as_str());
-    Ok(())
+fn settles(rt: &impl Abort, alloc: Global, ast: &Ast<'_>, indentation: &str) {
+    let indentation = indented(rt, indentation);
+    let printed = ast.print(alloc, indentation).expect(rt, "no memory");
+    let again = parsed(rt, alloc, 0, printed.as_str());
+    holds(rt, printed.as_str(), again.printable());
+    compare_print(rt, alloc, &again, indentation, printed.as_str());
+}
+
+/// Sees that a file settles at each indentation, if it can be printed.
+fn settles_if_printable(rt: &impl Abort, alloc: Global, ast: &Ast<'_>) {
+    if ast.printable() {
+        settles(rt, alloc, ast, "    ");
+        settles(rt, alloc, ast, "  ");
+        settles(rt, alloc, ast, "\t");
+    }
 }
 
 /// Sees that a text is answered, and that it settles if it is a file. Answers whether it is one.
-fn is_answered(rt: &impl Abort, alloc: Global, text: &str) -> Result<bool, Fail> {
+fn is_answered(rt: &impl Abort, alloc: Global, text: &str) -> bool {
     let mut numerator = Numerator::new(0);
     match parse(alloc, &mut numerator, text) {
         Ok(ast) => {
-            if ast.printable() {
-                settles(rt, alloc, &ast, "    ")?;
-                settles(rt, alloc, &ast, "  ")?;
-                settles(rt, alloc, &ast, "\t")?;
-            }
-            Ok(true)
+            settles_if_printable(rt, alloc, &ast);
+            true
         }
         Err(Fault::Compile(error)) => {
-            assert!(rt;
-                !matches!(error.kind, CompileErrorKind::Internal { .. }),
-                "{text:?}"
-            );
-            Ok(false)
+            let is_internal = matches!(error.kind, CompileErrorKind::Internal { .. });
+            holds(rt, text, !is_internal);
+            false
         }
-        Err(fault) => Err(Fail::from(fault)),
+        Err(fault) => panic!(rt; "{fault:?}"),
     }
 }
 
 /// Sees that all beginnings of a text are answered. Answers whether the whole text is a file.
-fn are_answered(rt: &impl Abort, alloc: Global, text: &str) -> Result<bool, Fail> {
+fn are_answered(rt: &impl Abort, alloc: Global, text: &str) -> bool {
     let mut beginning = String::new(alloc);
-    let mut is_file = is_answered(rt, alloc, "")?;
+    let mut is_file = is_answered(rt, alloc, "");
     for character in text.chars() {
-        beginning.push(character)?;
-        is_file = is_answered(rt, alloc, beginning.as_str())?;
+        beginning.push(character).expect(rt, "no memory");
+        is_file = is_answered(rt, alloc, beginning.as_str());
     }
-    Ok(is_file)
+    is_file
 }
 
 #[test]
-fn beginnings_of_a_file_are_answered_and_settle(rt: HostRuntime) -> Result<(), Fail> {
-    let joined = TEXTS.concat(rt.alloc())?;
-    assert!(rt; are_answered(&rt, rt.alloc(), joined.as_str())?);
-    Ok(())
+fn beginnings_of_a_file_are_answered_and_settle(rt: HostRuntime) {
+    let joined = TEXTS.concat(rt.alloc()).expect(&rt, "no memory");
+    holds(&rt, "all", are_answered(&rt, rt.alloc(), joined.as_str()));
 }
 
 #[test]
-fn beginnings_of_other_texts_are_answered(rt: HostRuntime) -> Result<(), Fail> {
+fn beginnings_of_other_texts_are_answered(rt: HostRuntime) {
     for text in OTHERS {
-        are_answered(&rt, rt.alloc(), text)?;
+        are_answered(&rt, rt.alloc(), text);
     }
-    Ok(())
 }

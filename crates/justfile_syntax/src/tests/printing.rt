@@ -1,20 +1,9 @@
 //! How expressions are printed.
 
-use crate::tests::support::compare_printed;
-use std::alloc::Global;
-use std::process::Abort;
-use std::test::Fail;
-
-/// Sees that each text prints as the one beside it, and that one as itself.
-fn compare(rt: &impl Abort, alloc: Global, rows: &[(&str, &str)]) -> Result<(), Fail> {
-    for (text, printed) in rows {
-        compare_printed(rt, alloc, text, "    ", printed)?;
-    }
-    Ok(())
-}
+use crate::tests::support::compare_all_printed;
 
 #[test]
-fn operators_stand_between_blanks(rt: HostRuntime) -> Result<(), Fail> {
+fn operators_stand_between_blanks(rt: HostRuntime) {
     const ROWS: &[(&str, &str)] = &[
         ("a:=b+c", "a := b + c\n"),
         ("a:=b  ++\tc", "a := b ++ c\n"),
@@ -27,11 +16,11 @@ fn operators_stand_between_blanks(rt: HostRuntime) -> Result<(), Fail> {
         ("a:=b+c++d/e", "a := b + c ++ d / e\n"),
         ("a := b +\\\n  c # d\n", "a := b + c # d\n"),
     ];
-    compare(&rt, rt.alloc(), ROWS)
+    compare_all_printed(&rt, rt.alloc(), ROWS);
 }
 
 #[test]
-fn operators_in_front_are_printed_in_one_way(rt: HostRuntime) -> Result<(), Fail> {
+fn operators_in_front_are_printed_in_one_way(rt: HostRuntime) {
     const ROWS: &[(&str, &str)] = &[
         ("a:=/b", "a := / b\n"),
         ("a := /  b/c\n", "a := / b / c\n"),
@@ -43,11 +32,11 @@ fn operators_in_front_are_printed_in_one_way(rt: HostRuntime) -> Result<(), Fail
         ("a := ! 'b' + ! `c`\n", "a := !'b' + !`c`\n"),
         ("a := !x'b'\n", "a := !x'b'\n"),
     ];
-    compare(&rt, rt.alloc(), ROWS)
+    compare_all_printed(&rt, rt.alloc(), ROWS);
 }
 
 #[test]
-fn groups_and_lists_are_printed_on_one_line(rt: HostRuntime) -> Result<(), Fail> {
+fn groups_and_lists_are_printed_on_one_line(rt: HostRuntime) {
     const ROWS: &[(&str, &str)] = &[
         ("a := ( b )\n", "a := (b)\n"),
         ("a := ((b))\n", "a := ((b))\n"),
@@ -60,11 +49,11 @@ fn groups_and_lists_are_printed_on_one_line(rt: HostRuntime) -> Result<(), Fail>
         ("a:=[b]++[]", "a := [b] ++ []\n"),
         ("a := !b ++ [c,] == d || e\n", "a := !b ++ [c] == d || e\n"),
     ];
-    compare(&rt, rt.alloc(), ROWS)
+    compare_all_printed(&rt, rt.alloc(), ROWS);
 }
 
 #[test]
-fn calls_are_printed_without_blanks_and_trailing_commas(rt: HostRuntime) -> Result<(), Fail> {
+fn calls_are_printed_without_blanks_and_trailing_commas(rt: HostRuntime) {
     const ROWS: &[(&str, &str)] = &[
         ("a := f()\n", "a := f()\n"),
         ("a := f ( )\n", "a := f()\n"),
@@ -77,11 +66,11 @@ fn calls_are_printed_without_blanks_and_trailing_commas(rt: HostRuntime) -> Resu
         ("a := x('b')\n", "a := x('b')\n"),
         ("a := (f\n(b))\n", "a := (f(b))\n"),
     ];
-    compare(&rt, rt.alloc(), ROWS)
+    compare_all_printed(&rt, rt.alloc(), ROWS);
 }
 
 #[test]
-fn asserts_are_printed_like_calls(rt: HostRuntime) -> Result<(), Fail> {
+fn asserts_are_printed_like_calls(rt: HostRuntime) {
     const ROWS: &[(&str, &str)] = &[
         ("a := assert(b)\n", "a := assert(b)\n"),
         ("a := assert ( b==c )\n", "a := assert(b == c)\n"),
@@ -92,11 +81,11 @@ fn asserts_are_printed_like_calls(rt: HostRuntime) -> Result<(), Fail> {
         ),
         ("a := !assert(b)\n", "a := !assert(b)\n"),
     ];
-    compare(&rt, rt.alloc(), ROWS)
+    compare_all_printed(&rt, rt.alloc(), ROWS);
 }
 
 #[test]
-fn conditionals_are_printed_on_one_line(rt: HostRuntime) -> Result<(), Fail> {
+fn conditionals_are_printed_on_one_line(rt: HostRuntime) {
     const ROWS: &[(&str, &str)] = &[
         ("a:=if b{c}", "a := if b { c }\n"),
         ("a:=if b==c{d}else{e}", "a := if b == c { d } else { e }\n"),
@@ -116,11 +105,11 @@ fn conditionals_are_printed_on_one_line(rt: HostRuntime) -> Result<(), Fail> {
         ("a := if'b'{c}\n", "a := if 'b' { c }\n"),
         ("a := if b{c}&&d\n", "a := if b { c } && d\n"),
     ];
-    compare(&rt, rt.alloc(), ROWS)
+    compare_all_printed(&rt, rt.alloc(), ROWS);
 }
 
 #[test]
-fn conditionals_in_the_other_branch_lose_their_braces(rt: HostRuntime) -> Result<(), Fail> {
+fn conditionals_in_the_other_branch_lose_their_braces(rt: HostRuntime) {
     const ROWS: &[(&str, &str)] = &[
         (
             "a := if b { c } else { if d { e } else { f } }\n",
@@ -155,11 +144,11 @@ fn conditionals_in_the_other_branch_lose_their_braces(rt: HostRuntime) -> Result
             "a := if b { if c { d } else { e } } else { f }\n",
         ),
     ];
-    compare(&rt, rt.alloc(), ROWS)
+    compare_all_printed(&rt, rt.alloc(), ROWS);
 }
 
 #[test]
-fn interpolations_hold_expressions(rt: HostRuntime) -> Result<(), Fail> {
+fn interpolations_hold_expressions(rt: HostRuntime) {
     const ROWS: &[(&str, &str)] = &[
         (
             "foo:\n  a\n\n   b{{if x==y{'1'}else{if z{\"2\"}else{'3'}}}}c\n",
@@ -192,11 +181,11 @@ fn interpolations_hold_expressions(rt: HostRuntime) -> Result<(), Fail> {
         ("foo:\n  {{if a{b}}}c\n", "foo:\n    {{ if a { b } }}c\n"),
         ("foo:\n  {{ if a {b} }}c\n", "foo:\n    {{ if a { b } }}c\n"),
     ];
-    compare(&rt, rt.alloc(), ROWS)
+    compare_all_printed(&rt, rt.alloc(), ROWS);
 }
 
 #[test]
-fn expressions_stand_among_other_items(rt: HostRuntime) -> Result<(), Fail> {
+fn expressions_stand_among_other_items(rt: HostRuntime) {
     const ROWS: &[(&str, &str)] = &[
         (
             "a := '0'\nc := a + b + a + b\n\n\n\nb := '1'#d\n",
@@ -207,5 +196,5 @@ fn expressions_stand_among_other_items(rt: HostRuntime) -> Result<(), Fail> {
             "x := arch()\n\na:\n    {{ os() }}\n",
         ),
     ];
-    compare(&rt, rt.alloc(), ROWS)
+    compare_all_printed(&rt, rt.alloc(), ROWS);
 }

@@ -6,51 +6,84 @@ use crate::delimiter::Delimiter;
 use crate::indentation::Indentation;
 use crate::keyword::Keyword;
 use crate::string_kind::{StringDelimiter, StringKind};
-use crate::tests::support::first_token;
+use crate::tests::support::{first_token, holds, indented, same, same_text};
 use crate::token_kind::TokenKind;
 use crate::version::Version;
 use std::alloc::Global;
 use std::process::Abort;
-use std::test::Fail;
 
-#[test]
-fn versions(rt: HostRuntime) -> Result<(), Fail> {
-    const ROWS: &[(&str, Result<&str, &str>)] = &[
-        ("1.58.0", Ok("1.58.0")),
-        ("01.2.3", Ok("1.2.3")),
-        ("0.00.010", Ok("0.0.10")),
-        ("18446744073709551615.0.0", Ok("18446744073709551615.0.0")),
-        ("", Err("invalid version")),
-        ("1.2", Err("invalid version")),
-        ("1.2.3.4", Err("invalid version")),
-        ("a.b.c", Err("invalid version")),
-        ("+1.2.3", Err("invalid version")),
-        ("1.-2.3", Err("invalid version")),
-        ("1.2.3 ", Err("invalid version")),
-        ("1..3", Err("invalid version")),
-        ("1.2.", Err("invalid version")),
-        (".2.3", Err("invalid version")),
-        ("18446744073709551616.0.0", Err("invalid version")),
-    ];
-    for (text, expected) in ROWS {
-        match text.parse::<Version>() {
-            Ok(version) => {
-                let written = version.to_string(rt.alloc())?;
-                assert_eq!(rt; Ok(written.as_str()), *expected, "{text:?}");
-            }
-            Err(message) => assert_eq!(rt; Err(message), *expected, "{text:?}"),
-        }
-    }
-    let version = "1.58.0".parse::<Version>()?;
-    assert_eq!(rt; (version.major, version.minor, version.patch), (1, 58, 0));
-    assert!(rt; "1.9.0".parse::<Version>()? < "1.10.0".parse::<Version>()?);
-    assert!(rt; version < "2.0.0".parse::<Version>()?);
-    assert!(rt; version == "01.058.0".parse::<Version>()?);
-    Ok(())
+/// The version that a text is.
+fn version(rt: &impl Abort, text: &str) -> Version {
+    text.parse::<Version>().expect(rt, text)
+}
+
+/// Sees that a text is a version that is written so.
+fn compare_version(rt: &impl Abort, alloc: Global, text: &str, expected: &str) {
+    let written = version(rt, text).to_string(alloc).expect(rt, text);
+    same_text(rt, text, written.as_str(), expected);
 }
 
 #[test]
-fn indentations(rt: HostRuntime) -> Result<(), Fail> {
+fn versions(rt: HostRuntime) {
+    const ROWS: &[(&str, &str)] = &[
+        ("1.58.0", "1.58.0"),
+        ("01.2.3", "1.2.3"),
+        ("0.00.010", "0.0.10"),
+        ("18446744073709551615.0.0", "18446744073709551615.0.0"),
+    ];
+    for (text, expected) in ROWS {
+        compare_version(&rt, rt.alloc(), text, expected);
+    }
+}
+
+/// Sees that a text is refused as a version, with this message.
+fn compare_no_version(rt: &impl Abort, text: &str, expected: &str) {
+    match text.parse::<Version>() {
+        Ok(version) => panic!(rt; "{version:?}"),
+        Err(message) => same_text(rt, text, message, expected),
+    }
+}
+
+#[test]
+fn other_texts_are_no_versions(rt: HostRuntime) {
+    const TEXTS: &[&str] = &[
+        "",
+        "1.2",
+        "1.2.3.4",
+        "a.b.c",
+        "+1.2.3",
+        "1.-2.3",
+        "1.2.3 ",
+        "1..3",
+        "1.2.",
+        ".2.3",
+        "18446744073709551616.0.0",
+    ];
+    for text in TEXTS {
+        compare_no_version(&rt, text, "invalid version");
+    }
+}
+
+#[test]
+fn versions_are_ordered_by_their_numbers(rt: HostRuntime) {
+    let current = version(&rt, "1.58.0");
+    same(&rt, "major", &current.major, &1);
+    same(&rt, "minor", &current.minor, &58);
+    same(&rt, "patch", &current.patch, &0);
+    let earlier = version(&rt, "1.9.0");
+    holds(&rt, "1.9.0", earlier < version(&rt, "1.10.0"));
+    holds(&rt, "2.0.0", current < version(&rt, "2.0.0"));
+    holds(&rt, "01.058.0", current == version(&rt, "01.058.0"));
+}
+
+/// Sees that an indentation is written so.
+fn compare_indentation(rt: &impl Abort, alloc: Global, indentation: Indentation, text: &str) {
+    let written = indentation.to_string(alloc).expect(rt, text);
+    same_text(rt, text, written.as_str(), text);
+}
+
+#[test]
+fn indentations(rt: HostRuntime) {
     const REFUSED: &[(&str, &str)] = &[
         ("", "indentation must not be empty"),
         ("a", "indentation must be spaces or tabs"),
@@ -59,22 +92,30 @@ fn indentations(rt: HostRuntime) -> Result<(), Fail> {
         ("\t\t ", "indentation may not be mixed"),
         ("  x", "indentation may not be mixed"),
     ];
+    const TAKEN: &[&str] = &[" ", "\t\t", "   "];
     for (text, reason) in REFUSED {
-        assert_eq!(rt; text.parse::<Indentation>(), Err(*reason), "{text:?}");
+        same(&rt, text, &text.parse::<Indentation>(), &Err(*reason));
     }
-    for text in [" ", "\t\t", "   "] {
-        let indentation = text.parse::<Indentation>()?;
-        assert_eq!(rt; indentation.to_string(rt.alloc())?.as_str(), text);
+    for text in TAKEN {
+        compare_indentation(&rt, rt.alloc(), indented(&rt, text), text);
     }
     let four_spaces = Indentation::default();
-    assert_eq!(rt; "    ".parse::<Indentation>(), Ok(four_spaces));
-    assert_eq!(rt; four_spaces.to_string(rt.alloc())?.as_str(), "    ");
-    Ok(())
+    same(&rt, "four spaces", &indented(&rt, "    "), &four_spaces);
+    compare_indentation(&rt, rt.alloc(), four_spaces, "    ");
+}
+
+/// Sees that a text is this keyword, and the keyword's text.
+fn compare_keyword(rt: &impl Abort, alloc: Global, keyword: Keyword, text: &str) {
+    same(rt, text, &Keyword::from_lexeme(text), &Some(keyword));
+    same_text(rt, text, keyword.lexeme(), text);
+    holds(rt, text, keyword.spells(text));
+    let written = keyword.to_string(alloc).expect(rt, text);
+    same_text(rt, text, written.as_str(), text);
 }
 
 #[test]
-fn keywords(rt: HostRuntime) -> Result<(), Fail> {
-    const ROWS: &[(Keyword, &str)] = &[
+fn keywords(rt: HostRuntime) {
+    static ROWS: &[(Keyword, &str)] = &[
         (Keyword::Alias, "alias"),
         (Keyword::AllowDuplicateRecipes, "allow-duplicate-recipes"),
         (
@@ -122,57 +163,54 @@ fn keywords(rt: HostRuntime) -> Result<(), Fail> {
         (Keyword::X, "x"),
     ];
     for (keyword, text) in ROWS {
-        assert_eq!(rt;
-            (
-                Keyword::from_lexeme(text),
-                keyword.lexeme(),
-                keyword.spells(text)
-            ),
-            (Some(*keyword), *text, true)
-        );
-        assert_eq!(rt; keyword.to_string(rt.alloc())?.as_str(), *text);
+        compare_keyword(&rt, rt.alloc(), *keyword, text);
     }
-    for text in ["", "Alias", "no_cd", "alias ", "noCd", "xx"] {
-        assert_eq!(rt; Keyword::from_lexeme(text), None, "{text:?}");
-        assert!(rt; !Keyword::X.spells(text), "{text:?}");
+}
+
+#[test]
+fn other_texts_are_no_keywords(rt: HostRuntime) {
+    const TEXTS: &[&str] = &["", "Alias", "no_cd", "alias ", "noCd", "xx"];
+    for text in TEXTS {
+        same(&rt, text, &Keyword::from_lexeme(text), &None);
+        holds(&rt, text, !Keyword::X.spells(text));
     }
-    Ok(())
 }
 
 /// Sees that a literal's kind is read from its opening delimiter, and what it answers.
-fn compare_kind(
-    rt: &impl Abort,
-    (delimiter, indented): (StringDelimiter, bool),
-    text: &str,
-    token_kind: TokenKind,
-) {
-    let kind = StringKind {
-        delimiter,
-        indented,
-    };
-    assert_eq!(rt;
-        (kind.delimiter(), kind.delimiter_len(), kind.indented()),
-        (text, text.len(), indented)
+fn compare_kind(rt: &impl Abort, kind: StringKind, text: &str, token_kind: TokenKind) {
+    same_text(rt, text, kind.delimiter(), text);
+    same(rt, text, &kind.delimiter_len(), &text.len());
+    same(rt, text, &kind.token_kind(), &token_kind);
+    same(rt, text, &StringKind::from_token_start(text), &Some(kind));
+    same(rt, text, &StringKind::of_opening(text.as_bytes()), &kind);
+}
+
+/// Sees what else a kind of literal answers, which follows from its delimiter and whether it is
+/// tripled.
+fn compare_marks(rt: &impl Abort, kind: StringKind, text: &str) {
+    holds(rt, text, kind.indented() == kind.indented);
+    let has_escapes = kind.delimiter == StringDelimiter::QuoteDouble;
+    holds(rt, text, kind.processes_escape_sequences() == has_escapes);
+    let is_backtick = matches!(
+        kind.unterminated_error_kind(),
+        CompileErrorKind::UnterminatedBacktick
     );
-    assert_eq!(rt; kind.token_kind(), token_kind);
-    assert_eq!(rt;
-        kind.processes_escape_sequences(),
-        delimiter == StringDelimiter::QuoteDouble
+    holds(
+        rt,
+        text,
+        is_backtick == (kind.delimiter == StringDelimiter::Backtick),
     );
-    assert_eq!(rt;
-        matches!(
-            kind.unterminated_error_kind(),
-            CompileErrorKind::UnterminatedBacktick
-        ),
-        delimiter == StringDelimiter::Backtick
-    );
-    assert_eq!(rt; StringKind::from_token_start(text), Some(kind));
-    assert_eq!(rt; StringKind::of_opening(text.as_bytes()), kind);
+}
+
+/// Sees that a delimiter opens and closes so.
+fn compare_delimiter(rt: &impl Abort, delimiter: Delimiter, open: &str, close: &str) {
+    same_text(rt, close, delimiter.open(), open);
+    same_text(rt, open, delimiter.close(), close);
 }
 
 #[test]
 fn delimiters(rt: HostRuntime) {
-    const ROWS: &[((StringDelimiter, bool), &str, TokenKind)] = &[
+    static ROWS: &[((StringDelimiter, bool), &str, TokenKind)] = &[
         ((StringDelimiter::Backtick, false), "`", TokenKind::Backtick),
         (
             (StringDelimiter::Backtick, true),
@@ -200,82 +238,92 @@ fn delimiters(rt: HostRuntime) {
             TokenKind::StringToken,
         ),
     ];
-    for (kind, text, token_kind) in ROWS {
-        compare_kind(&rt, *kind, text, *token_kind);
-    }
-    let format_string = Delimiter::FormatString(StringKind::of_opening(b"'"));
-    assert_eq!(rt; (format_string.open(), format_string.close()), ("{{", "}}"));
-    assert_eq!(rt;
-        (Delimiter::Brace.open(), Delimiter::Brace.close()),
-        ("{", "}")
-    );
-    assert_eq!(rt;
-        (Delimiter::Bracket.open(), Delimiter::Bracket.close()),
-        ("[", "]")
-    );
-    assert_eq!(rt;
-        (Delimiter::Paren.open(), Delimiter::Paren.close()),
-        ("(", ")")
-    );
-}
-
-/// The kind of literal that the first token of a text is, or the message of the error.
-fn kind_of_token(
-    alloc: Global,
-    text: &str,
-) -> Result<(Option<StringKind>, Option<&'static str>), Fail> {
-    match StringKind::from_string_or_backtick(first_token(alloc, text)?) {
-        Ok(kind) => Ok((Some(kind), None)),
-        Err(error) => match error.kind {
-            CompileErrorKind::Internal { message } => Ok((None, Some(message))),
-            _ => Err(Fail::from("another fault")),
-        },
+    for ((delimiter, indented), text, token_kind) in ROWS {
+        let kind = StringKind {
+            delimiter: *delimiter,
+            indented: *indented,
+        };
+        compare_kind(&rt, kind, text, *token_kind);
+        compare_marks(&rt, kind, text);
     }
 }
 
 #[test]
-fn beginnings_of_literals(rt: HostRuntime) -> Result<(), Fail> {
-    const ROWS: &[(&str, Option<(StringDelimiter, bool)>)] = &[
-        ("`a`", Some((StringDelimiter::Backtick, false))),
-        ("``", Some((StringDelimiter::Backtick, false))),
-        ("```a```", Some((StringDelimiter::Backtick, true))),
-        ("\"a\"", Some((StringDelimiter::QuoteDouble, false))),
-        ("\"\"\"\"\"\"", Some((StringDelimiter::QuoteDouble, true))),
-        ("''", Some((StringDelimiter::QuoteSingle, false))),
-        ("'''a'''", Some((StringDelimiter::QuoteSingle, true))),
-        ("", None),
-        ("a", None),
-        ("# 'a'", None),
-        (" 'a'", None),
-    ];
-    const REFUSED: &str = "StringKind::from_token: expected string or backtick";
-    for (text, parts) in ROWS {
-        let kind = parts.map(|(delimiter, indented)| StringKind {
-            delimiter,
-            indented,
-        });
-        let message = if kind.is_none() { Some(REFUSED) } else { None };
-        assert_eq!(rt; StringKind::from_token_start(text), kind, "{text:?}");
-        assert_eq!(rt;
-            kind_of_token(rt.alloc(), text)?,
-            (kind, message),
-            "{text:?}"
-        );
+fn delimiters_open_and_close(rt: HostRuntime) {
+    let format_string = Delimiter::FormatString(StringKind::of_opening(b"'"));
+    compare_delimiter(&rt, format_string, "{{", "}}");
+    compare_delimiter(&rt, Delimiter::Brace, "{", "}");
+    compare_delimiter(&rt, Delimiter::Bracket, "[", "]");
+    compare_delimiter(&rt, Delimiter::Paren, "(", ")");
+}
+
+/// Sees that a text's first token is a literal of this kind.
+fn compare_literal(
+    rt: &impl Abort,
+    alloc: Global,
+    text: &str,
+    (delimiter, indented): (StringDelimiter, bool),
+) {
+    let kind = StringKind {
+        delimiter,
+        indented,
+    };
+    same(rt, text, &StringKind::from_token_start(text), &Some(kind));
+    match StringKind::from_string_or_backtick(first_token(rt, alloc, text)) {
+        Ok(found) => same(rt, text, &found, &kind),
+        Err(error) => panic!(rt; "{error:?}"),
     }
-    assert_eq!(rt; StringKind::from_token_start("é"), None);
-    Ok(())
+}
+
+/// Sees that a text's first token is no literal, with this message.
+fn compare_no_literal(rt: &impl Abort, alloc: Global, text: &str, expected: &str) {
+    same(rt, text, &StringKind::from_token_start(text), &None);
+    match StringKind::from_string_or_backtick(first_token(rt, alloc, text)) {
+        Ok(kind) => panic!(rt; "{kind:?}"),
+        Err(error) => compare_internal(rt, text, &error.kind, expected),
+    }
+}
+
+/// Sees that a refusal is for a mistake in the program, with this message.
+fn compare_internal(rt: &impl Abort, text: &str, kind: &CompileErrorKind<'_>, expected: &str) {
+    match kind {
+        CompileErrorKind::Internal { message } => same_text(rt, text, message, expected),
+        _ => panic!(rt; "another fault of {text:?}"),
+    }
+}
+
+#[test]
+fn beginnings_of_literals(rt: HostRuntime) {
+    static ROWS: &[(&str, (StringDelimiter, bool))] = &[
+        ("`a`", (StringDelimiter::Backtick, false)),
+        ("``", (StringDelimiter::Backtick, false)),
+        ("```a```", (StringDelimiter::Backtick, true)),
+        ("\"a\"", (StringDelimiter::QuoteDouble, false)),
+        ("\"\"\"\"\"\"", (StringDelimiter::QuoteDouble, true)),
+        ("''", (StringDelimiter::QuoteSingle, false)),
+        ("'''a'''", (StringDelimiter::QuoteSingle, true)),
+    ];
+    const OTHERS: &[&str] = &["", "a", "# 'a'", " 'a'"];
+    const REFUSED: &str = "StringKind::from_token: expected string or backtick";
+    for (text, kind) in ROWS {
+        compare_literal(&rt, rt.alloc(), text, *kind);
+    }
+    for text in OTHERS {
+        compare_no_literal(&rt, rt.alloc(), text, REFUSED);
+    }
+    same(&rt, "é", &StringKind::from_token_start("é"), &None);
 }
 
 /// Sees that all these bytes are of the class.
 fn compare_class(rt: &impl Abort, class: ByteClass, bytes: &[u8]) {
     for byte in bytes {
-        assert_eq!(rt; byte_class(*byte), class, "class of {byte}");
+        assert!(rt; byte_class(*byte) == class, "class of {byte}");
     }
 }
 
 #[test]
 fn classes_of_bytes(rt: HostRuntime) {
-    const ROWS: &[(ByteClass, &[u8])] = &[
+    static ROWS: &[(ByteClass, &[u8])] = &[
         (ByteClass::Blank, &[b' ', b'\t']),
         (ByteClass::LineFeed, &[b'\n']),
         (ByteClass::CarriageReturn, &[b'\r']),

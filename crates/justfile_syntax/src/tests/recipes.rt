@@ -5,13 +5,16 @@ use crate::fault::Fault;
 use crate::indentation::Indentation;
 use crate::item::Item;
 use crate::numerator::{Number, Numerator};
-use crate::tests::support::{compare_items, first_recipe, parse, parsed, parsed_from, shown};
+use crate::recipe::UnresolvedRecipe;
+use crate::tests::support::{
+    compare_file, compare_item, compare_items, compare_print, copied, first_item, first_recipe,
+    holds, indented, parse, parsed, parsed_from, same, same_text,
+};
 use std::alloc::Global;
 use std::process::Abort;
-use std::test::Fail;
 
 #[test]
-fn recipes_stand_among_other_items(rt: HostRuntime) -> Result<(), Fail> {
+fn recipes_stand_among_other_items(rt: HostRuntime) {
     const ROWS: &[(&str, &[&str])] = &[
         ("foo:", &["recipe foo 0"]),
         ("foo:\n", &["recipe foo 0", "newline"]),
@@ -67,14 +70,12 @@ fn recipes_stand_among_other_items(rt: HostRuntime) -> Result<(), Fail> {
         ),
     ];
     for (text, rows) in ROWS {
-        let ast = parsed(rt.alloc(), 0, text)?;
-        compare_items(&rt, rt.alloc(), &ast, rows)?;
+        compare_file(&rt, rt.alloc(), text, rows);
     }
-    Ok(())
 }
 
 #[test]
-fn bodies_are_numbered_lines_of_fragments(rt: HostRuntime) -> Result<(), Fail> {
+fn bodies_are_numbered_lines_of_fragments(rt: HostRuntime) {
     const ROWS: &[(&str, &str)] = &[
         ("foo:\n bar", "recipe foo 0 | 1 ‹bar›"),
         (
@@ -117,19 +118,17 @@ fn bodies_are_numbered_lines_of_fragments(rt: HostRuntime) -> Result<(), Fail> {
         ("foo:\n  a\n  \n  b\n\n", "recipe foo 0 | 1 ‹a› | 2 | 3 ‹b›"),
     ];
     for (text, recipe) in ROWS {
-        let ast = parsed(rt.alloc(), 0, text)?;
-        compare_items(&rt, rt.alloc(), &ast, &[*recipe, "newline"])?;
+        compare_file(&rt, rt.alloc(), text, &[*recipe, "newline"]);
     }
-    Ok(())
 }
 
 #[test]
-fn lines_count_from_the_start_of_the_file(rt: HostRuntime) -> Result<(), Fail> {
-    let ast = parsed(rt.alloc(), 0, "# c\n\nfoo:\n  a\n\n  b\n\nbar:\n  c\n")?;
-    compare_items(
+fn lines_count_from_the_start_of_the_file(rt: HostRuntime) {
+    let text = "# c\n\nfoo:\n  a\n\n  b\n\nbar:\n  c\n";
+    compare_file(
         &rt,
         rt.alloc(),
-        &ast,
+        text,
         &[
             "comment \"# c\"",
             "newline",
@@ -140,11 +139,22 @@ fn lines_count_from_the_start_of_the_file(rt: HostRuntime) -> Result<(), Fail> {
             "recipe bar 1 | 8 ‹c›",
             "newline",
         ],
-    )
+    );
+}
+
+/// Sees that a recipe has these marks, and what was handed in.
+fn compare_marks(rt: &impl Abort, text: &str, recipe: &UnresolvedRecipe<'_>, marks: (bool, bool)) {
+    same(rt, text, &(recipe.private, recipe.shebang), &marks);
+    same(rt, text, &recipe.file_depth, &2);
+    holds(
+        rt,
+        text,
+        recipe.import_offsets.as_slice() == [3, 14].as_slice(),
+    );
 }
 
 #[test]
-fn recipes_have_their_marks_and_what_is_handed_in(rt: HostRuntime) -> Result<(), Fail> {
+fn recipes_have_their_marks_and_what_is_handed_in(rt: HostRuntime) {
     const ROWS: &[(&str, bool, bool)] = &[
         ("foo:\n", false, false),
         ("foo_:\n", false, false),
@@ -162,21 +172,34 @@ fn recipes_have_their_marks_and_what_is_handed_in(rt: HostRuntime) -> Result<(),
         ("#!/usr/bin/env just\nfoo:\n  a\n", false, false),
     ];
     for (text, private, shebang) in ROWS {
-        let ast = parsed(rt.alloc(), 0, text)?;
-        let recipe = first_recipe(&ast)?;
-        assert_eq!(rt;
-            (recipe.private, recipe.shebang),
-            (*private, *shebang),
-            "{text:?}"
-        );
-        assert_eq!(rt; recipe.file_depth, 2);
-        assert_eq!(rt; recipe.import_offsets.as_slice(), [3, 14].as_slice());
+        let ast = parsed(&rt, rt.alloc(), 0, text);
+        compare_marks(&rt, text, first_recipe(&rt, &ast), (*private, *shebang));
     }
-    Ok(())
+}
+
+/// Sees that the numerator gives these numbers next, to a binding and to a recipe.
+fn compare_next(rt: &impl Abort, numerator: &mut Numerator, (binding, recipe): (u32, u32)) {
+    let next_binding = numerator.next_binding();
+    same(rt, "a binding", &next_binding, &Some(Number(binding)));
+    let next_recipe = numerator.next_recipe();
+    same(rt, "a recipe", &next_recipe, &Some(Number(recipe)));
+}
+
+/// Sees that what is printed of a file has these items, where its first binding has the number 8
+/// and its first recipe the number 1.
+fn compare_printed_again(rt: &impl Abort, alloc: Global, ast: &Ast<'_>, rows: &[&str]) {
+    let printed = ast
+        .print(alloc, Indentation::default())
+        .expect(rt, "no memory");
+    let mut numerator = Numerator::new(8);
+    let recipe = numerator.next_recipe();
+    same(rt, "a recipe", &recipe, &Some(Number(0)));
+    let again = parsed_from(rt, alloc, &mut numerator, printed.as_str());
+    compare_items(rt, alloc, &again, rows);
 }
 
 #[test]
-fn numbers_go_on_from_the_numerator(rt: HostRuntime) -> Result<(), Fail> {
+fn numbers_go_on_from_the_numerator(rt: HostRuntime) {
     const ROWS: &[&str] = &[
         "recipe x 1",
         "newline",
@@ -188,64 +211,48 @@ fn numbers_go_on_from_the_numerator(rt: HostRuntime) -> Result<(), Fail> {
         "newline",
     ];
     let mut numerator = Numerator::new(7);
-    assert_eq!(rt; numerator.next_binding(), Some(Number(7)));
-    assert_eq!(rt; numerator.next_recipe(), Some(Number(0)));
-    let ast = parsed_from(
-        rt.alloc(),
-        &mut numerator,
-        "x:\na:=b\ny:\n\t{{a}} c\n_d:='e'\n",
-    )?;
-    compare_items(&rt, rt.alloc(), &ast, ROWS)?;
-    assert_eq!(rt; numerator.next_binding(), Some(Number(10)));
-    assert_eq!(rt; numerator.next_recipe(), Some(Number(3)));
+    compare_next(&rt, &mut numerator, (7, 0));
+    let text = "x:\na:=b\ny:\n\t{{a}} c\n_d:='e'\n";
+    let ast = parsed_from(&rt, rt.alloc(), &mut numerator, text);
+    compare_items(&rt, rt.alloc(), &ast, ROWS);
+    compare_next(&rt, &mut numerator, (10, 3));
+    compare_printed_again(&rt, rt.alloc(), &ast, ROWS);
+}
 
-    let printed = ast.print(rt.alloc(), Indentation::default())?;
-    let mut same = Numerator::new(8);
-    assert_eq!(rt; same.next_recipe(), Some(Number(0)));
-    let again = parsed_from(rt.alloc(), &mut same, printed.as_str())?;
-    compare_items(&rt, rt.alloc(), &again, ROWS)
+/// Sees that a file's first recipe has this number.
+fn compare_number(rt: &impl Abort, ast: &Ast<'_>, number: u32) {
+    same(
+        rt,
+        "a recipe",
+        &first_recipe(rt, ast).number,
+        &Number(number),
+    );
 }
 
 #[test]
-fn recipes_take_no_numbers_of_bindings(rt: HostRuntime) -> Result<(), Fail> {
+fn recipes_take_no_numbers_of_bindings(rt: HostRuntime) {
+    let alloc = rt.alloc();
     let mut numerator = Numerator::new(4294967295);
-    let ast = parsed_from(rt.alloc(), &mut numerator, "r:\n")?;
-    assert_eq!(rt; first_recipe(&ast)?.number, Number(0));
-    let ast = parsed_from(rt.alloc(), &mut numerator, "s: # t\nu:\n  {{v}}\n")?;
-    assert_eq!(rt; first_recipe(&ast)?.number, Number(1));
-    assert_eq!(rt; numerator.next_recipe(), Some(Number(3)));
-    assert!(rt;
-        matches!(
-            parse(rt.alloc(), &mut numerator, "w:\n  {{v}}\na := b\n"),
-            Err(Fault::Numbers)
-        )
-    );
-    assert_eq!(rt; numerator.next_binding(), None);
-    Ok(())
+    let ast = parsed_from(&rt, alloc, &mut numerator, "r:\n");
+    compare_number(&rt, &ast, 0);
+    let ast = parsed_from(&rt, alloc, &mut numerator, "s: # t\nu:\n  {{v}}\n");
+    compare_number(&rt, &ast, 1);
+    let recipe = numerator.next_recipe();
+    same(&rt, "the next recipe", &recipe, &Some(Number(3)));
+    let answer = parse(alloc, &mut numerator, "w:\n  {{v}}\na := b\n");
+    holds(&rt, "no number", matches!(answer, Err(Fault::Numbers)));
+    holds(&rt, "no binding", numerator.next_binding() == None);
 }
 
 /// Sees that a file has these items and prints so, and that its first recipe has its fields.
-fn compare_file(
-    rt: &impl Abort,
-    alloc: Global,
-    file: &Ast<'_>,
-    rows: &[&str],
-    printed: &str,
-) -> Result<(), Fail> {
-    compare_items(rt, alloc, file, rows)?;
-    let text = file.print(alloc, Indentation::default())?;
-    assert_eq!(rt; text.as_str(), printed);
-    let recipe = first_recipe(file)?;
-    assert_eq!(rt;
-        (recipe.private, recipe.shebang, recipe.file_depth),
-        (true, true, 2)
-    );
-    assert_eq!(rt; recipe.import_offsets.as_slice(), [3, 14].as_slice());
-    Ok(())
+fn compare_whole(rt: &impl Abort, alloc: Global, ast: &Ast<'_>, rows: &[&str], printed: &str) {
+    compare_items(rt, alloc, ast, rows);
+    compare_print(rt, alloc, ast, Indentation::default(), printed);
+    compare_marks(rt, printed, first_recipe(rt, ast), (true, true));
 }
 
 #[test]
-fn copies_have_the_same_recipes(rt: HostRuntime) -> Result<(), Fail> {
+fn copies_have_the_same_recipes(rt: HostRuntime) {
     const ROWS: &[&str] = &[
         "recipe _a 0 | 1 ‹#!x› | 2 | 3 ‹ b› (c) (\"d\")",
         "newline",
@@ -255,28 +262,27 @@ fn copies_have_the_same_recipes(rt: HostRuntime) -> Result<(), Fail> {
         "newline",
     ];
     const PRINTED: &str = "_a:\n    #!x\n\n     b{{ c }}{{ \"d\" }}\n\ne: # f\n";
+    let alloc = rt.alloc();
     let text = "_a:\n  #!x\n\n   b{{c}}{{\"d\"}}\n\ne: # f\n";
-    let ast = parsed(rt.alloc(), 0, text)?;
-    let copy = ast.clone(rt.alloc())?;
-    compare_file(&rt, rt.alloc(), &ast, ROWS, PRINTED)?;
-    compare_file(&rt, rt.alloc(), &copy, ROWS, PRINTED)
+    let ast = parsed(&rt, alloc, 0, text);
+    compare_whole(&rt, alloc, &ast, ROWS, PRINTED);
+    compare_whole(&rt, alloc, &copied(&rt, alloc, &ast), ROWS, PRINTED);
+}
+
+/// Sees that an item is printed so at a tab.
+fn compare_at_tab(rt: &impl Abort, alloc: Global, item: &Item<'_>, printed: &str) {
+    let found = item.print(alloc, indented(rt, "\t")).expect(rt, printed);
+    same_text(rt, "at a tab", found.as_str(), printed);
 }
 
 #[test]
-fn items_and_recipes_are_copied_alone(rt: HostRuntime) -> Result<(), Fail> {
+fn items_and_recipes_are_copied_alone(rt: HostRuntime) {
+    let alloc = rt.alloc();
     let text = "foo: # dropped\n  a\n\n   {{b}}\n";
-    let ast = parsed(rt.alloc(), 0, text)?;
-    let item = ast.items.first().ok_or("no item")?.clone(rt.alloc())?;
-    assert_eq!(rt;
-        shown(rt.alloc(), &item)?.as_str(),
-        "recipe foo 0 | 1 ‹a› | 2 | 3 ‹ › (b)"
-    );
-    let recipe = first_recipe(&ast)?.clone(rt.alloc())?;
+    let ast = parsed(&rt, alloc, 0, text);
+    let item = first_item(&rt, &ast).clone(alloc).expect(&rt, text);
+    compare_item(&rt, alloc, &item, "recipe foo 0 | 1 ‹a› | 2 | 3 ‹ › (b)");
+    let recipe = first_recipe(&rt, &ast).clone(alloc).expect(&rt, text);
     let item = Item::Recipe(recipe);
-    let tab = "\t".parse::<Indentation>()?;
-    assert_eq!(rt;
-        item.print(rt.alloc(), tab)?.as_str(),
-        "foo:\n\ta\n\n\t {{ b }}"
-    );
-    Ok(())
+    compare_at_tab(&rt, alloc, &item, "foo:\n\ta\n\n\t {{ b }}");
 }

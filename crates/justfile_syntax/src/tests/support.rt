@@ -1,5 +1,6 @@
 //! What the tests of several files need.
 
+use crate::assignment::Assignment;
 use crate::ast::Ast;
 use crate::compile_error::CompileError;
 use crate::expander::{ExpandFault, Expander};
@@ -18,9 +19,9 @@ use crate::source::Source;
 use crate::token::Token;
 use crate::token_kind::TokenKind;
 use crate::version::Version;
-use std::alloc::Global;
+use std::alloc::{AllocError, Global};
+use std::fmt::Debug;
 use std::process::Abort;
-use std::test::Fail;
 
 pub(crate) const CURRENT: Version = Version {
     major: 1,
@@ -41,29 +42,43 @@ impl Expander for Unchanged {
     }
 }
 
+/// Sees that a text is the wanted one. A failure names what it was found of.
+pub(crate) fn same_text(rt: &impl Abort, of: &str, found: &str, wanted: &str) {
+    assert_eq!(rt; found, wanted, "{of:?}");
+}
+
+/// The same of other values.
+pub(crate) fn same<T: Debug + PartialEq>(rt: &impl Abort, of: &str, found: &T, wanted: &T) {
+    assert_eq!(rt; found, wanted, "{of:?}");
+}
+
+/// Sees that something is so of a text.
+pub(crate) fn holds(rt: &impl Abort, of: &str, is_so: bool) {
+    assert!(rt; is_so, "{of:?}");
+}
+
 /// The tokens of a text.
-fn lexed<'src>(alloc: Global, text: &'src str) -> Result<Vec<Token<'src>>, Fail> {
-    match Lexer::lex(alloc, "justfile", text) {
-        Ok(tokens) => Ok(tokens),
-        Err(_fault) => Err(Fail::from("refused")),
-    }
+pub(crate) fn lexed<'src>(rt: &impl Abort, alloc: Global, text: &'src str) -> Vec<Token<'src>> {
+    Lexer::lex(alloc, "justfile", text).expect(rt, text)
 }
 
 /// The first token of a text.
-pub(crate) fn first_token<'src>(alloc: Global, text: &'src str) -> Result<Token<'src>, Fail> {
-    let tokens = lexed(alloc, text)?;
-    Ok(*tokens.first().ok_or("no token")?)
+pub(crate) fn first_token<'src>(rt: &impl Abort, alloc: Global, text: &'src str) -> Token<'src> {
+    let tokens = lexed(rt, alloc, text);
+    *tokens.first().expect(rt, "no token")
 }
 
 /// The identifiers of a text, in order.
-pub(crate) fn names<'src>(alloc: Global, text: &'src str) -> Result<Vec<Name<'src>>, Fail> {
+pub(crate) fn names<'src>(rt: &impl Abort, alloc: Global, text: &'src str) -> Vec<Name<'src>> {
     let mut names = Vec::new(alloc);
-    for token in &lexed(alloc, text)? {
+    for token in &lexed(rt, alloc, text) {
         if let TokenKind::Identifier = token.kind {
-            names.push(Name::from_identifier(*token))?;
+            names
+                .push(Name::from_identifier(*token))
+                .expect(rt, "no memory");
         }
     }
-    Ok(names)
+    names
 }
 
 /// The file that a text is, which takes its numbers from the numerator, and what literals expand to
@@ -96,47 +111,68 @@ pub(crate) fn parse<'src>(
 
 /// The same, for a text that is a file.
 pub(crate) fn parsed_from<'src>(
+    rt: &impl Abort,
     alloc: Global,
     numerator: &mut Numerator,
     text: &'src str,
-) -> Result<Ast<'src>, Fail> {
-    match parse(alloc, numerator, text) {
-        Ok(ast) => Ok(ast),
-        Err(Fault::Compile(_)) => Err(Fail::from(format!(in alloc; "refused: {text:?}")?)),
-        Err(Fault::Memory) => Err(Fail::from("no memory")),
-        Err(Fault::Numbers) => Err(Fail::from("no numbers")),
-    }
+) -> Ast<'src> {
+    parse(alloc, numerator, text).expect(rt, text)
 }
 
 /// The same, where the numbers of bindings begin with the first.
-pub(crate) fn parsed<'src>(alloc: Global, first: u32, text: &'src str) -> Result<Ast<'src>, Fail> {
+pub(crate) fn parsed<'src>(
+    rt: &impl Abort,
+    alloc: Global,
+    first: u32,
+    text: &'src str,
+) -> Ast<'src> {
     let mut numerator = Numerator::new(first);
-    parsed_from(alloc, &mut numerator, text)
+    parsed_from(rt, alloc, &mut numerator, text)
+}
+
+/// Why a text is refused that was read so.
+pub(crate) fn refused<'src>(
+    rt: &impl Abort,
+    text: &str,
+    answer: CompileResult<'src, Ast<'src>>,
+) -> CompileError<'src> {
+    match answer {
+        Err(Fault::Compile(error)) => error,
+        _ => panic!(rt; "not refused: {text:?}"),
+    }
 }
 
 /// Why a text that is no file is refused.
-pub(crate) fn refusal<'src>(alloc: Global, text: &'src str) -> Result<CompileError<'src>, Fail> {
+pub(crate) fn refusal<'src>(rt: &impl Abort, alloc: Global, text: &'src str) -> CompileError<'src> {
     let mut numerator = Numerator::new(0);
-    match parse(alloc, &mut numerator, text) {
-        Err(Fault::Compile(error)) => Ok(error),
-        _ => Err(Fail::from(format!(in alloc; "not refused: {text:?}")?)),
-    }
+    refused(rt, text, parse(alloc, &mut numerator, text))
+}
+
+/// A copy of a file.
+pub(crate) fn copied<'src>(rt: &impl Abort, alloc: Global, ast: &Ast<'src>) -> Ast<'src> {
+    ast.clone(alloc).expect(rt, "no memory")
+}
+
+/// The first item of a file.
+pub(crate) fn first_item<'ast, 'src>(rt: &impl Abort, ast: &'ast Ast<'src>) -> &'ast Item<'src> {
+    ast.items.first().expect(rt, "no item")
 }
 
 /// The first recipe of a file.
 pub(crate) fn first_recipe<'ast, 'src>(
+    rt: &impl Abort,
     ast: &'ast Ast<'src>,
-) -> Result<&'ast UnresolvedRecipe<'src>, Fail> {
+) -> &'ast UnresolvedRecipe<'src> {
     for item in &ast.items {
         if let Item::Recipe(recipe) = item {
-            return Ok(recipe);
+            return recipe;
         }
     }
-    Err(Fail::from("no recipe"))
+    panic!(rt; "no recipe")
 }
 
 /// A line of a body: the number of its line, each text in ‹›, and each interpolation in ().
-fn shown_line(alloc: Global, line: &Line<'_>) -> Result<String, Fail> {
+fn shown_line(alloc: Global, line: &Line<'_>) -> Result<String, AllocError> {
     let number = line.number;
     let mut shown = format!(in alloc; "{number}")?;
     for fragment in &line.fragments {
@@ -152,7 +188,7 @@ fn shown_line(alloc: Global, line: &Line<'_>) -> Result<String, Fail> {
 }
 
 /// A recipe: its name, its number, and behind a bar each line of its body.
-fn shown_recipe(alloc: Global, recipe: &UnresolvedRecipe<'_>) -> Result<String, Fail> {
+fn shown_recipe(alloc: Global, recipe: &UnresolvedRecipe<'_>) -> Result<String, AllocError> {
     let name = recipe.name;
     let number = recipe.number.0;
     let mut shown = format!(in alloc; "recipe {name} {number}")?;
@@ -163,51 +199,82 @@ fn shown_recipe(alloc: Global, recipe: &UnresolvedRecipe<'_>) -> Result<String, 
     Ok(shown)
 }
 
-/// What is seen of an item, in a line.
-pub(crate) fn shown(alloc: Global, item: &Item<'_>) -> Result<String, Fail> {
-    Ok(match item {
-        Item::Assignment(assignment) => {
-            let name = assignment.name;
-            let number = assignment.number.0;
-            let file_depth = assignment.file_depth;
-            let private = assignment.private;
-            match &assignment.value {
-                Expression::Backtick { contents, .. } => {
-                    let contents = contents.as_str();
-                    format!(in alloc;
-                        "{name} {number} {file_depth} {private} command {contents:?}"
-                    )?
-                }
-                Expression::StringLiteral { string_literal } => {
-                    let cooked = string_literal.cooked.as_str();
-                    format!(in alloc; "{name} {number} {file_depth} {private} text {cooked:?}")?
-                }
-                Expression::Variable { name: variable, .. } => {
-                    format!(in alloc; "{name} {number} {file_depth} {private} name {variable}")?
-                }
-                value => {
-                    format!(in alloc; "{name} {number} {file_depth} {private} expression {value}")?
-                }
-            }
+/// The value of an assignment, behind a word for its form.
+fn shown_value(alloc: Global, value: &Expression<'_>) -> Result<String, AllocError> {
+    match value {
+        Expression::Backtick { contents, .. } => {
+            format!(in alloc; "command {:?}", contents.as_str())
         }
-        Item::Comment(text) => format!(in alloc; "comment {text:?}")?,
-        Item::Newline => "newline".to_string(alloc)?,
-        Item::Recipe(recipe) => shown_recipe(alloc, recipe)?,
-    })
+        Expression::StringLiteral { string_literal } => {
+            format!(in alloc; "text {:?}", string_literal.cooked.as_str())
+        }
+        Expression::Variable { name, .. } => format!(in alloc; "name {name}"),
+        value => format!(in alloc; "expression {value}"),
+    }
+}
+
+/// An assignment: its name, its number, its depth, whether it is private, and its value.
+fn shown_assignment(alloc: Global, assignment: &Assignment<'_>) -> Result<String, AllocError> {
+    let name = assignment.name;
+    let number = assignment.number.0;
+    let file_depth = assignment.file_depth;
+    let private = assignment.private;
+    let value = shown_value(alloc, &assignment.value)?;
+    format!(in alloc; "{name} {number} {file_depth} {private} {value}")
+}
+
+/// What is seen of an item, in a line.
+pub(crate) fn shown(alloc: Global, item: &Item<'_>) -> Result<String, AllocError> {
+    match item {
+        Item::Assignment(assignment) => shown_assignment(alloc, assignment),
+        Item::Comment(text) => format!(in alloc; "comment {text:?}"),
+        Item::Newline => "newline".to_string(alloc),
+        Item::Recipe(recipe) => shown_recipe(alloc, recipe),
+    }
+}
+
+/// Sees that an item is shown so.
+pub(crate) fn compare_item(rt: &impl Abort, alloc: Global, item: &Item<'_>, row: &str) {
+    let found = shown(alloc, item).expect(rt, row);
+    same_text(rt, row, found.as_str(), row);
 }
 
 /// Sees that a file has these items, as they are shown.
-pub(crate) fn compare_items(
+pub(crate) fn compare_items(rt: &impl Abort, alloc: Global, ast: &Ast<'_>, rows: &[&str]) {
+    assert!(rt; ast.items.len() == rows.len(), "items before {rows:?}");
+    for (item, row) in ast.items.iter().zip(rows) {
+        compare_item(rt, alloc, item, row);
+    }
+}
+
+/// Sees that a text is a file that has these items.
+pub(crate) fn compare_file(rt: &impl Abort, alloc: Global, text: &str, rows: &[&str]) {
+    let ast = parsed(rt, alloc, 0, text);
+    compare_items(rt, alloc, &ast, rows);
+}
+
+/// The indentation that a text is.
+pub(crate) fn indented(rt: &impl Abort, text: &str) -> Indentation {
+    text.parse::<Indentation>().expect(rt, text)
+}
+
+/// Sees that a file is printed so at an indentation.
+pub(crate) fn compare_print(
     rt: &impl Abort,
     alloc: Global,
     ast: &Ast<'_>,
-    rows: &[&str],
-) -> Result<(), Fail> {
-    assert_eq!(rt; ast.items.len(), rows.len(), "items before {rows:?}");
-    for (item, row) in ast.items.iter().zip(rows) {
-        assert_eq!(rt; shown(alloc, item)?.as_str(), *row);
-    }
-    Ok(())
+    indentation: Indentation,
+    printed: &str,
+) {
+    let found = ast.print(alloc, indentation).expect(rt, printed);
+    same_text(rt, printed, found.as_str(), printed);
+}
+
+/// Sees that a text is a file that can be printed, and is printed so at an indentation.
+fn prints(rt: &impl Abort, alloc: Global, text: &str, indentation: Indentation, printed: &str) {
+    let ast = parsed(rt, alloc, 0, text);
+    holds(rt, text, ast.printable());
+    compare_print(rt, alloc, &ast, indentation, printed);
 }
 
 /// Sees that a text prints as the other one at the indentation, and that one as itself.
@@ -217,13 +284,15 @@ pub(crate) fn compare_printed(
     text: &str,
     indentation: &str,
     printed: &str,
-) -> Result<(), Fail> {
-    let indentation = indentation.parse::<Indentation>()?;
-    for source in [text, printed] {
-        let ast = parsed(alloc, 0, source)?;
-        assert!(rt; ast.printable(), "{source:?}");
-        let found = ast.print(alloc, indentation)?;
-        assert_eq!(rt; found.as_str(), printed, "{source:?}");
+) {
+    let indentation = indented(rt, indentation);
+    prints(rt, alloc, text, indentation, printed);
+    prints(rt, alloc, printed, indentation, printed);
+}
+
+/// Sees that each text prints as the one beside it at four spaces, and that one as itself.
+pub(crate) fn compare_all_printed(rt: &impl Abort, alloc: Global, rows: &[(&str, &str)]) {
+    for (text, printed) in rows {
+        compare_printed(rt, alloc, text, "    ", printed);
     }
-    Ok(())
 }

@@ -2,30 +2,31 @@
 
 use crate::item::ItemKind;
 use crate::keyed::Keyed;
+use crate::name::Name;
 use crate::string_kind::{StringDelimiter, StringKind};
 use crate::string_literal::{FormatStringPart, StringLiteral};
-use crate::tests::support::{first_token, names};
+use crate::tests::support::{first_token, holds, names, same_text};
 use crate::token::Token;
 use crate::token_kind::TokenKind;
-use std::alloc::Global;
+use std::alloc::{AllocError, Global};
 use std::process::Abort;
-use std::test::Fail;
 
 /// Sees that an item's kind has this article and is written so.
-fn compare_kind(
-    rt: &impl Abort,
-    alloc: Global,
-    kind: ItemKind,
-    (article, text): (&str, &str),
-) -> Result<(), Fail> {
-    assert_eq!(rt; kind.article(), article);
-    assert_eq!(rt; kind.to_string(alloc)?.as_str(), text);
-    Ok(())
+fn compare_kind(rt: &impl Abort, alloc: Global, kind: ItemKind, (article, text): (&str, &str)) {
+    same_text(rt, text, kind.article(), article);
+    let written = kind.to_string(alloc).expect(rt, text);
+    same_text(rt, text, written.as_str(), text);
+}
+
+/// Sees that a token's kind is written so.
+fn compare_token_kind(rt: &impl Abort, alloc: Global, kind: TokenKind, text: &str) {
+    let written = kind.to_string(alloc).expect(rt, text);
+    same_text(rt, text, written.as_str(), text);
 }
 
 #[test]
-fn kinds(rt: HostRuntime) -> Result<(), Fail> {
-    const ROWS: &[(TokenKind, &str)] = &[
+fn kinds(rt: HostRuntime) {
+    static ROWS: &[(TokenKind, &str)] = &[
         (TokenKind::AmpersandAmpersand, "'&&'"),
         (TokenKind::Asterisk, "'*'"),
         (TokenKind::At, "'@'"),
@@ -70,53 +71,71 @@ fn kinds(rt: HostRuntime) -> Result<(), Fail> {
         (TokenKind::Whitespace, "whitespace"),
     ];
     for (kind, text) in ROWS {
-        assert_eq!(rt; kind.to_string(rt.alloc())?.as_str(), *text);
+        compare_token_kind(&rt, rt.alloc(), *kind, text);
     }
-    let comma = TokenKind::Comma;
-    assert_eq!(rt; format!(in rt.alloc(); "{comma:>9}")?.as_str(), "','");
-    compare_kind(&rt, rt.alloc(), ItemKind::Assignment, ("an", "assignment"))?;
-    compare_kind(&rt, rt.alloc(), ItemKind::Comment, ("a", "comment"))?;
-    compare_kind(&rt, rt.alloc(), ItemKind::Newline, ("a", "newline"))?;
-    compare_kind(&rt, rt.alloc(), ItemKind::Recipe, ("a", "recipe"))
 }
 
 #[test]
-fn padded_names(rt: HostRuntime) -> Result<(), Fail> {
-    let alloc = rt.alloc();
-    let names = names(alloc, "ab c-1")?;
-    assert_eq!(rt; names.len(), 2);
-    let (first, second) = (names[0], names[1]);
-    assert_eq!(rt; (first.key(), second.key()), ("ab", "c-1"));
-    assert_eq!(rt; format!(in alloc; "{first}|{second}")?.as_str(), "ab|c-1");
-    assert_eq!(rt;
-        format!(in alloc; "{first:>5}|{second:>5}")?.as_str(),
-        "   ab|  c-1"
-    );
-    assert_eq!(rt;
-        format!(in alloc; "{first:*<4}|{second:*<4}")?.as_str(),
-        "ab**|c-1*"
-    );
-    assert_eq!(rt;
-        format!(in alloc; "{first:-^5}|{second:-^5}")?.as_str(),
-        "-ab--|-c-1-"
-    );
-    assert_eq!(rt;
-        format!(in alloc; "{first:3}|{second:2}")?.as_str(),
-        "ab |c-1"
-    );
-    Ok(())
+fn kinds_are_not_padded(rt: HostRuntime) {
+    let comma = TokenKind::Comma;
+    let written = format!(in rt.alloc(); "{comma:>9}").expect(&rt, "no memory");
+    same_text(&rt, "a padded comma", written.as_str(), "','");
 }
 
-/// Sees that the literal that a token is, marked so, is written as the text, and its copy too.
-fn compare_literal<'src>(
+#[test]
+fn kinds_of_items(rt: HostRuntime) {
+    let alloc = rt.alloc();
+    compare_kind(&rt, alloc, ItemKind::Assignment, ("an", "assignment"));
+    compare_kind(&rt, alloc, ItemKind::Comment, ("a", "comment"));
+    compare_kind(&rt, alloc, ItemKind::Newline, ("a", "newline"));
+    compare_kind(&rt, alloc, ItemKind::Recipe, ("a", "recipe"));
+}
+
+/// Two names and a bar between them, padded so.
+fn padded(
+    alloc: Global,
+    first: Name<'_>,
+    second: Name<'_>,
+    padding: &str,
+) -> Result<String, AllocError> {
+    match padding {
+        ">5" => format!(in alloc; "{first:>5}|{second:>5}"),
+        "*<4" => format!(in alloc; "{first:*<4}|{second:*<4}"),
+        "-^5" => format!(in alloc; "{first:-^5}|{second:-^5}"),
+        "3 and 2" => format!(in alloc; "{first:3}|{second:2}"),
+        _ => format!(in alloc; "{first}|{second}"),
+    }
+}
+
+#[test]
+fn padded_names(rt: HostRuntime) {
+    const ROWS: &[(&str, &str)] = &[
+        ("none", "ab|c-1"),
+        (">5", "   ab|  c-1"),
+        ("*<4", "ab**|c-1*"),
+        ("-^5", "-ab--|-c-1-"),
+        ("3 and 2", "ab |c-1"),
+    ];
+    let names = names(&rt, rt.alloc(), "ab c-1");
+    assert!(rt; names.len() == 2);
+    let (first, second) = (names[0], names[1]);
+    same_text(&rt, "the first", first.key(), "ab");
+    same_text(&rt, "the second", second.key(), "c-1");
+    for (padding, text) in ROWS {
+        let written = padded(rt.alloc(), first, second, padding).expect(&rt, text);
+        same_text(&rt, padding, written.as_str(), text);
+    }
+}
+
+/// The literal that a token is, marked so.
+fn literal<'src>(
     rt: &impl Abort,
     alloc: Global,
     token: Token<'src>,
     (expand, part): (bool, Option<FormatStringPart>),
-    text: &str,
-) -> Result<(), Fail> {
-    let literal = StringLiteral {
-        cooked: "a".to_string(alloc)?,
+) -> StringLiteral<'src> {
+    StringLiteral {
+        cooked: "a".to_string(alloc).expect(rt, "no memory"),
         expand,
         kind: StringKind {
             delimiter: StringDelimiter::QuoteSingle,
@@ -124,17 +143,26 @@ fn compare_literal<'src>(
         },
         part,
         token,
-    };
-    let copy = literal.clone(alloc)?;
-    assert_eq!(rt; literal.to_string(alloc)?.as_str(), text);
-    assert_eq!(rt; copy.to_string(alloc)?.as_str(), text);
-    assert!(rt; copy == literal, "copy of {text}");
-    Ok(())
+    }
+}
+
+/// Sees that a literal is written so.
+fn compare_written(rt: &impl Abort, alloc: Global, literal: &StringLiteral<'_>, text: &str) {
+    let written = literal.to_string(alloc).expect(rt, text);
+    same_text(rt, text, written.as_str(), text);
+}
+
+/// Sees that a literal is written so, and its copy too, which is equal to it.
+fn compare_literal(rt: &impl Abort, alloc: Global, literal: &StringLiteral<'_>, text: &str) {
+    compare_written(rt, alloc, literal, text);
+    let copy = literal.clone(alloc).expect(rt, text);
+    compare_written(rt, alloc, &copy, text);
+    holds(rt, text, copy == *literal);
 }
 
 #[test]
-fn string_literals(rt: HostRuntime) -> Result<(), Fail> {
-    const ROWS: &[((bool, Option<FormatStringPart>), &str)] = &[
+fn string_literals(rt: HostRuntime) {
+    static ROWS: &[((bool, Option<FormatStringPart>), &str)] = &[
         ((false, None), "'a'"),
         ((true, None), "x'a'"),
         ((false, Some(FormatStringPart::Start)), "f'a'"),
@@ -144,9 +172,9 @@ fn string_literals(rt: HostRuntime) -> Result<(), Fail> {
         ((true, Some(FormatStringPart::Single)), "xf'a'"),
         ((true, Some(FormatStringPart::End)), "x'a'"),
     ];
-    let token = first_token(rt.alloc(), "'a'")?;
+    let token = first_token(&rt, rt.alloc(), "'a'");
     for (marks, text) in ROWS {
-        compare_literal(&rt, rt.alloc(), token, *marks, text)?;
+        let literal = literal(&rt, rt.alloc(), token, *marks);
+        compare_literal(&rt, rt.alloc(), &literal, text);
     }
-    Ok(())
 }

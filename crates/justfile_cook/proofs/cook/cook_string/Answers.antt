@@ -1,5 +1,4 @@
-use Rattle.std.proofs.Common.{sym, ap, ◌∙◌, chars, string_bytes}
-use Rattle.justfile_model.specs.EscapeFault.{escape_fault_of}
+use Rattle.std.proofs.Common.{sym, chars, string_bytes}
 use Rattle.justfile_cook.proofs.Leads.{leads_cooked, leads_first, leads_more, leads_refused, shorter}
 use Rattle.justfile_cook.proofs.cook.cook_string.Goals as goal
 
@@ -24,12 +23,7 @@ loop-character-preserved c =
 pub returns-in-Err-clause-err : goal.returns-in-Err-clause-err
 returns-in-Err-clause-err c =
     let i = c.loop-character.invariant in
-    record {
-      fault = _;
-      refused = leads_refused c.args.text.now (string_bytes c.loop-character.cooked) c.loop-character.rest.now i.leads i.utf8 (chars c.in-Some.behind.now) c.in-Some.character _ c.in-Some.ensures.value (sym c.in-Err.ensures.found);
-      kind_is = ap escape_fault_of c.error.ensures.kind ∙ c.in_ok-into_kind-in-Err.ensures;
-      token_is = c.error.ensures.token;
-    }
+    c.refusal.ensures c.args.text.now (leads_refused c.args.text.now (string_bytes c.loop-character.cooked) c.loop-character.rest.now i.leads i.utf8 (chars c.in-Some.behind.now) c.in-Some.character _ c.in-Some.ensures.value (sym c.in-Err.ensures.found))
 
 pub returns-clause-ok : goal.returns-clause-ok
 returns-clause-ok c =

@@ -1,6 +1,6 @@
-use Rattle.std.proofs.Common.{sym, ap, ◌∙◌, Bool, Vec}
+use Rattle.std.proofs.Common.{sym, ap, ◌∙◌, Vec}
 use Rattle.std.specs.declared.alloc.Global.{Global}
-use Rattle.justfile_base.specs.declared.token.Token.{Token}
+use Rattle.justfile_parse.specs.Significant.{TableEntry}
 use Rattle.justfile_parse.proofs.SignificantLemmas.{skips, takes, same_table}
 use Rattle.justfile_parse.proofs.significant.significant.Goals as goal
 use Rattle.justfile_parse.proofs.significant.significant.Goals.{then-is_whitespace, else-is_whitespace+in_ok-add}
@@ -12,6 +12,6 @@ loop-token-preserved c =
           same_table _ _ _ _ _ c.loop-token.table.items w.glued-is (cc)
           (skips _ _ _ _ c.token-item.result c.loop-token.invariant c.loop-token-test.true c.token-item.is (sym c.is_whitespace.ensures ∙ w.if-is_whitespace.true))
       | else-is_whitespace+in_ok-add w ↦
-          same_table _ _ _ _ _ _ w.glued-is (ap (λ (v : Vec (Token × Bool) Global). v.items) w.table-is ∙ w.in_ok-add.ensures)
-          (takes _ _ _ _ c.token-item.result c.loop-token.invariant c.loop-token-test.true c.token-item.is (sym c.is_whitespace.ensures ∙ w.if-is_whitespace.false))
+          same_table _ _ _ _ _ _ w.glued-is (ap (λ (v : Vec TableEntry Global). v.items) w.table-is ∙ w.in_ok-add.ensures)
+          (takes _ _ _ _ _ c.loop-token.invariant c.loop-token-test.true c.token-item.is (sym c.is_whitespace.ensures ∙ w.if-is_whitespace.false))
     ]

@@ -21,5 +21,5 @@ copied-loop-expression-preserved t c =
 
 pub copied_parts-loop-expression-preserved : goal.copied_parts-loop-expression-preserved
 copied_parts-loop-expression-preserved t c =
-    one_more IsSamePart c.loop-expression.parts.items c.deref-expression-items.result.now c.push.new.self.items c.loop-expression.expression-index (c.in_ok-copy.copy, c.in_ok-part.part) c.loop-expression-item.result
-    (omega arith) c.loop-expression-item.is c.loop-expression.invariant (c.in_ok-copy.ensures, c.in_ok-part.ensures) c.in_ok-push.ensures.items
+    one_more IsSamePart c.loop-expression.parts.items c.deref-expression-items.result.now c.push.new.self.items c.loop-expression.expression-index c.in_ok-part.part c.loop-expression-item.result
+    (omega arith) c.loop-expression-item.is c.loop-expression.invariant c.in_ok-part.ensures c.in_ok-push.ensures.items

@@ -21,7 +21,10 @@ abbrev pub decreases-copied : goal.decreases-copied
 decreases-copied l = 4 * goal.size-copied l + 1
 
 abbrev pub decreases-copied_parts : goal.decreases-copied_parts
-decreases-copied_parts l = 4 * goal.size-copied_parts l + 1
+decreases-copied_parts l = 4 * goal.size-copied_parts l + 2
+
+abbrev pub decreases-copied_part : goal.decreases-copied_part
+decreases-copied_part l = 4 * goal.size-copied_part l + 1
 
 abbrev pub invariant-copied-loop-expression : goal.invariant-copied-loop-expression
 invariant-copied-loop-expression l = AllZip IsSameExpression l.copies.items (take l.expression-index l.expression-items)

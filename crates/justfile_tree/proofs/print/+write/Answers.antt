@@ -23,6 +23,12 @@ write_expression-returns-in-FormatString-clause-ok g t c = rw (c.in-FormatString
 pub write_expression-returns-in-FormatString-clause-err : goal.write_expression-returns-in-FormatString-clause-err
 write_expression-returns-in-FormatString-clause-err g t c = rw (c.in-FormatString.is, text_format_string c.in-FormatString.start c.in-FormatString.expressions) c.write_format_string.ensures.err
 
+pub write_expression-returns-in-Group-clause-ok : goal.write_expression-returns-in-Group-clause-ok
+write_expression-returns-in-Group-clause-ok g t c = rw (c.in-Group.is, ← c.deref-in-Group.ensures) c.write_enclosed-in-Group.ensures.ok
+
+pub write_expression-returns-in-Group-clause-err : goal.write_expression-returns-in-Group-clause-err
+write_expression-returns-in-Group-clause-err g t c = rw (c.in-Group.is, ← c.deref-in-Group.ensures) c.write_enclosed-in-Group.ensures.err
+
 pub write_separated-returns-in_err-put_separator-clause-err : goal.write_separated-returns-in_err-put_separator-clause-err
 write_separated-returns-in_err-put_separator-clause-err g t c =
     let s = g.met.S.Sink in
@@ -45,3 +51,32 @@ write_parts-returns-in_err-write_part-clause-err g t c =
     let s = g.met.S.Sink in
     at_err _ (subst (λ xs. g.S.Sink.failed c.args.sink.now (flat_map part_text xs) c.write_part.new.sink) c.deref-expression-items.ensures.value
     (failed_next g.S.Sink.took g.S.Sink.failed s.took_more s.failed_later s.failed_before part_text c.deref-expression-items.result.now c.loop-expression.expression-index c.loop-expression-item.result (omega arith) c.loop-expression-item.is _ _ _ c.loop-expression.invariant c.in_err-write_part.ensures.err))
+
+pub write_sides-returns-in_err-write_expression-clause-err : goal.write_sides-returns-in_err-write_expression-clause-err
+write_sides-returns-in_err-write_expression-clause-err g t c =
+    let s = g.met.S.Sink in
+    at_err _ (s.failed_before _ _ _ _ (s.failed_before _ _ _ _ c.in_err-write_expression.ensures.err))
+
+pub write_sides-returns-in_err-put_piece-clause-err : goal.write_sides-returns-in_err-put_piece-clause-err
+write_sides-returns-in_err-put_piece-clause-err g t c =
+    let s = g.met.S.Sink in
+    at_err _ (s.failed_before _ _ _ _ (s.failed_later _ _ _ _ _ c.in_ok-write_expression.ensures.ok c.in_err-put_piece.ensures.err))
+
+pub write_behind-returns-in_err-put_piece-clause-err : goal.write_behind-returns-in_err-put_piece-clause-err
+write_behind-returns-in_err-put_piece-clause-err g t c = at_err _ ((g.met.S.Sink).failed_before _ _ _ _ c.in_err-put_piece.ensures.err)
+
+pub write_enclosed-returns-in_err-write_behind-clause-err : goal.write_enclosed-returns-in_err-write_behind-clause-err
+write_enclosed-returns-in_err-write_behind-clause-err g t c = at_err _ ((g.met.S.Sink).failed_before _ _ _ _ c.in_err-write_behind.ensures.err)
+
+pub write_list-returns-in_err-put_piece-clause-err : goal.write_list-returns-in_err-put_piece-clause-err
+write_list-returns-in_err-put_piece-clause-err g t c =
+    let s = g.met.S.Sink in
+    at_err _ (s.failed_before _ _ _ _ (s.failed_before _ _ _ _ c.in_err-put_piece.ensures.err))
+
+pub write_list-returns-in_err-write_separated-clause-err : goal.write_list-returns-in_err-write_separated-clause-err
+write_list-returns-in_err-write_separated-clause-err g t c =
+    let s = g.met.S.Sink in
+    at_err _ (s.failed_before _ _ _ _ (s.failed_later _ _ _ _ _ c.in_ok-put_piece.ensures.ok c.in_err-write_separated.ensures.err))
+
+pub write_part-returns-in_err-write_enclosed-clause-err : goal.write_part-returns-in_err-write_enclosed-clause-err
+write_part-returns-in_err-write_enclosed-clause-err g t c = at_err _ ((g.met.S.Sink).failed_before _ _ _ _ c.in_err-write_enclosed.ensures.err)

@@ -39,11 +39,11 @@ parse_parts-returns-then-is_last-clause-value g t c =
     let A = answers_by g.X.Expander.answer c.args.self.now.expander.now in
     let d = c.args.self.now.depth in
     let s = input_of c.parts.self in
-    let start = tok_of c.args.start.0 in
+    let start = tok_of c.args.start.0.now in
     let rest = input_of c.parse_pair.new.self in
     let e = c.in_ok-expression.expression in
     let l = c.in_ok-expression.literal in
-    let pair : ◌≡◌ {A = Read (Expr Tok Tok × Tok × Bool)} (pair_rule A (lexeme_of c.args.start.0) d s) (Ok ((expr_of e, part_tok l, true), rest)) = first_of (grind (arith, common_steps), search rules) in
+    let pair : ◌≡◌ {A = Read (Expr Tok Tok × Tok × Bool)} (pair_rule A (lexeme_of c.args.start.0.now) d s) (Ok ((expr_of e, part_tok l, true), rest)) = first_of (grind (arith, common_steps), search rules) in
     let P : List (Expression × StringLiteral) → ReadExpr = λ ps. Ok (format_tree start ps, rest) in
     sym c.parts.invariant.value ∙ parts.ends A start d s c.parts.parts.items e l rest pair ∙ ap P (sym c.in_ok-push.ensures.items)
 
@@ -72,32 +72,32 @@ parse_parts-parts-preserved g t c =
     let A = answers_by g.X.Expander.answer c.args.self.now.expander.now in
     let d = c.args.self.now.depth in
     let s = input_of c.parts.self in
-    let start = tok_of c.args.start.0 in
+    let start = tok_of c.args.start.0.now in
     let rest = input_of c.parse_pair.new.self in
     let e = c.in_ok-expression.expression in
     let l = c.in_ok-expression.literal in
     let before = c.parts.invariant.same in
-    let pair : ◌≡◌ {A = Read (Expr Tok Tok × Tok × Bool)} (pair_rule A (lexeme_of c.args.start.0) d s) (Ok ((expr_of e, part_tok l, false), rest)) = first_of (grind (arith, common_steps), search rules) in
-    let P : List (Expression × StringLiteral) → ReadExpr = λ ps. parts.with_front start ps (parts.pair A (lexeme_of c.args.start.0) d rest) in
+    let pair : ◌≡◌ {A = Read (Expr Tok Tok × Tok × Bool)} (pair_rule A (lexeme_of c.args.start.0.now) d s) (Ok ((expr_of e, part_tok l, false), rest)) = first_of (grind (arith, common_steps), search rules) in
+    let P : List (Expression × StringLiteral) → ReadExpr = λ ps. parts.with_front start ps (parts.pair A (lexeme_of c.args.start.0.now) d rest) in
     record {
       same = same_run before c.in_ok-expression.ensures.same;
       ahead = omega (arith, c.parts.invariant.ahead, c.in_ok-expression.ensures.progress);
-      ended = behind_pair A (kind_of (lexeme_of c.args.start.0)) d (lexeme_of c.args.start.0) s (expr_of e) (part_tok l) rest pair c.parts.invariant.ended;
-      given = part_given (λ x. answers_by g.X.Expander.answer x.now) (λ x. x.now) before.expander before.tokens (kind_of (lexeme_of c.args.start.0)) c.parts.parts.items c.push.new.self.items e l c.in_ok-push.ensures.items c.in_ok-expression.is_last c.parts.invariant.given c.in_ok-expression.ensures.given (search rules);
+      ended = behind_pair A (kind_of (lexeme_of c.args.start.0.now)) d (lexeme_of c.args.start.0.now) s (expr_of e) (part_tok l) rest pair c.parts.invariant.ended;
+      given = part_given (λ x. answers_by g.X.Expander.answer x.now) (λ x. x.now) before.expander before.tokens (kind_of (lexeme_of c.args.start.0.now)) c.parts.parts.items c.push.new.self.items e l c.in_ok-push.ensures.items c.in_ok-expression.is_last c.parts.invariant.given c.in_ok-expression.ensures.given (search rules);
       value = ap P c.in_ok-push.ensures.items ∙ parts.goes_on A start d s c.parts.parts.items e l rest pair ∙ c.parts.invariant.value;
     }
 
 pub parse_parts-returns-then-is_last-clause-given : goal.parse_parts-returns-then-is_last-clause-given
 parse_parts-returns-then-is_last-clause-given g t c =
     let before = c.parts.invariant.same in
-    end_given (λ x. answers_by g.X.Expander.answer x.now) (λ x. x.now) before.expander before.tokens (kind_of (lexeme_of c.args.start.0)) c.parts.parts.items c.push.new.self.items c.in_ok-expression.expression c.in_ok-expression.literal c.in_ok-push.ensures.items c.in_ok-expression.is_last c.parts.invariant.given
+    end_given (λ x. answers_by g.X.Expander.answer x.now) (λ x. x.now) before.expander before.tokens (kind_of (lexeme_of c.args.start.0.now)) c.parts.parts.items c.push.new.self.items c.in_ok-expression.expression c.in_ok-expression.literal c.in_ok-push.ensures.items c.in_ok-expression.is_last c.parts.invariant.given
     c.in_ok-expression.ensures.given (search rules)
 
 pub parse_format_string-returns-clause-given : goal.parse_format_string-returns-clause-given
 parse_format_string-returns-clause-given g t c =
     let E = answers_by g.X.Expander.answer c.args.self.now.expander.now in
     let table = c.args.self.now.tokens.now in
-    let whole = format_given E (IsInTable table) c.in_ok-literal.literal c.args.start.0 c.in_ok-expressions.expressions.items c.in_ok-literal.ensures.token c.in_ok-literal.ensures.given c.in_ok-expressions.ensures.given in
+    let whole = format_given E (IsInTable table) c.in_ok-literal.literal c.args.start.0.now c.in_ok-expressions.expressions.items c.in_ok-literal.ensures.token c.in_ok-literal.ensures.given c.in_ok-expressions.ensures.given in
     subst (IsGivenExpression E (IsInTable table)) (sym c.in_ok-node.ensures.is) (c.format_string.ensures.given E table whole)
 
 pub parse_list-returns-clause-given : goal.parse_list-returns-clause-given
@@ -120,7 +120,7 @@ parse_name-returns-clause-given g t c =
 pub parse_pair-parse_part-requires : goal.parse_pair-parse_part-requires
 parse_pair-parse_part-requires g t c =
     let A = answers_by g.X.Expander.answer c.args.self.now.expander.now in
-    let kind = kind_of (lexeme_of c.args.start.0) in
+    let kind = kind_of (lexeme_of c.args.start.0.now) in
     let now = c.in_ok-expression.ensures in
     let P : ℕ → Type 0 = λ d. IsEnded kind d (input_of c.parse_expression_with_condition.new.self).tokens in
     record { ended = subst P (sym now.same.depth) (behind_expression A kind c.args.self.now.depth (input_of c.args.self.now) (expr_of c.in_ok-expression.expression.value) (input_of c.parse_expression_with_condition.new.self) now.value c.requires.ended) }

@@ -87,9 +87,9 @@ abbrev pub invariant-parse_parts-parts : goal.invariant-parse_parts-parts
 invariant-parse_parts-parts g l = record {
   same : IsSameRun l.fn.self l.self;
   ahead : l.fn.self.next ≤ l.self.next;
-  ended : IsEndedBehind (kind_of (lexeme_of l.start.0)) l.fn.self.depth (input_of l.self).tokens;
-  given : All (parts.IsGivenPair (answers_by g.X.Expander.answer l.fn.self.expander.now) (IsInTable l.fn.self.tokens.now) (kind_of (lexeme_of l.start.0))) l.parts.items;
-  value : parts.with_front (tok_of l.start.0) l.parts.items (parts.pair (answers_by g.X.Expander.answer l.fn.self.expander.now) (lexeme_of l.start.0) l.fn.self.depth (input_of l.self)) ≡ format_rest (answers_by g.X.Expander.answer l.fn.self.expander.now) (tok_of l.start.0) l.fn.self.depth (input_of l.fn.self);
+  ended : IsEndedBehind (kind_of (lexeme_of l.start.0.now)) l.fn.self.depth (input_of l.self).tokens;
+  given : All (parts.IsGivenPair (answers_by g.X.Expander.answer l.fn.self.expander.now) (IsInTable l.fn.self.tokens.now) (kind_of (lexeme_of l.start.0.now))) l.parts.items;
+  value : parts.with_front (tok_of l.start.0.now) l.parts.items (parts.pair (answers_by g.X.Expander.answer l.fn.self.expander.now) (lexeme_of l.start.0.now) l.fn.self.depth (input_of l.self)) ≡ format_rest (answers_by g.X.Expander.answer l.fn.self.expander.now) (tok_of l.start.0.now) l.fn.self.depth (input_of l.fn.self);
 }
 
 abbrev pub decreases-parse_parts-parts : goal.decreases-parse_parts-parts

@@ -11,7 +11,7 @@ use Rattle.justfile_tree.specs.Expression.{expr_of}
 use Rattle.justfile_tree.specs.declared.expression.Expression.{Expression}
 
 pub stop-requires : goal.stop-requires
-stop-requires g c = command_is_literal (answers_by g.X.Expander.answer c.args.self.now.expander.now) c.args.entry.0 c.in-Err.fault c.in-Err.ensures.err
+stop-requires g c = command_is_literal (answers_by g.X.Expander.answer c.args.self.now.expander.now) c.args.entry.0.now c.in-Err.fault c.in-Err.ensures.err
 
 pub returns-in_ok-node-in-Ok-clause-given : goal.returns-in_ok-node-in-Ok-clause-given
 returns-in_ok-node-in-Ok-clause-given g c =
@@ -33,4 +33,4 @@ returns-in-Err-clause-stop g c =
 pub returns-in-Err-clause-value : goal.returns-in-Err-clause-value
 returns-in-Err-clause-value g c =
     let E = answers_by g.X.Expander.answer c.args.self.now.expander.now in
-    command_refused E (tree.Backtick (tok_of c.args.entry.0)) (input_of c.args.self.now) c.args.entry c.in-Err.fault c.stop.result c.in-Err.ensures.err c.stop.ensures
+    command_refused E (tree.Backtick (tok_of c.args.entry.0.now)) (input_of c.args.self.now) c.args.entry c.in-Err.fault c.stop.result c.in-Err.ensures.err c.stop.ensures

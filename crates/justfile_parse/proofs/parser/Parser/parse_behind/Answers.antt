@@ -3,7 +3,6 @@ use Rattle.std.proofs.lemmas.Result.{on_ok_weaker}
 use Rattle.justfile_file.specs.Item.{item_of}
 use Rattle.justfile_model.specs.Tok.{Tok}
 use Rattle.justfile_model.specs.Tree.{Item, Tree}
-use Rattle.justfile_parse.specs.Significant.{significant_of}
 use Rattle.justfile_parse.proofs.Adding.{behind_after, unnumbered_item, unnumbered_then}
 use Rattle.justfile_parse.proofs.Readings.{gives_alike}
 use Rattle.justfile_parse.proofs.parser.Parser.parse_behind.Goals as goal
@@ -13,7 +12,7 @@ returns-in_ok-push-in-Some-clause-value g c =
     let done : Tree = map item_of c.args.items.now.items in
     let more : map item_of c.push.new.items.items ≡ done ++ item_of c.comment_item.result ∷ [] = c.in_ok-push-in-Some.ensures.tree in
     gives_alike _ _ _ _ _
-    (behind_after g.X.Expander.answer c.args.self.now c.accept.new.self c.accept.ensures.same done _ (significant_of (c.in-Some.comment, c.in-Some.field-0-1)) c.in-Some.ensures.some
+    (behind_after g.X.Expander.answer c.args.self.now c.accept.new.self c.accept.ensures.same done _ _ c.in-Some.ensures.some
     (more ∙ ap (λ (i : Item Tok Tok ℕ). done ++ i ∷ []) c.comment_item.ensures.is))
     c.parse_line_end.ensures.value
 

@@ -1,6 +1,5 @@
-use Rattle.std.proofs.Common.{◌≡◌, refl, ap, ◌∙◌, sym, subst, Bool, List, map, Ok}
+use Rattle.std.proofs.Common.{◌≡◌, refl, ap, ◌∙◌, sym, subst, List, map, Ok}
 use Rattle.std.specs.Borrow.{Bor}
-use Rattle.justfile_base.specs.declared.token.Token.{Token}
 use Rattle.justfile_model.specs.Reader as reader
 use Rattle.justfile_model.specs.Features.{Noted}
 use Rattle.justfile_model.specs.Reading.{Input}
@@ -10,7 +9,7 @@ use Rattle.justfile_file.specs.Item.{item_of}
 use Rattle.justfile_cook.specs.Literal.{answers_by}
 use Rattle.justfile_parse.specs.Given.{AreNotedIn}
 use Rattle.justfile_parse.specs.Reading.{IsFaultOf, IsMoved, StopsAt}
-use Rattle.justfile_parse.specs.Significant.{significant_of}
+use Rattle.justfile_parse.specs.Significant.{TableEntry, significant_of}
 use Rattle.justfile_parse.specs.WantsNumber.{LinesWantNumber, behind_mark}
 use Rattle.justfile_parse.specs.View.{input_at, input_of}
 use Rattle.justfile_parse.proofs.Parsed.{none_noted, read_file, stopped_file, unread}
@@ -29,7 +28,7 @@ returns-in-Ok-clause-ok g c =
           ∙ ap (λ (n : List (Noted Tok)). Ok (map item_of c.in-Ok.items.items, n)) (input_noted_is p.tokens.now p.next p.list_features.items);
       given = c.in-Ok.ensures.given;
       noted =
-          let P : Bor (List (Token × Bool)) → Type 0 = λ t. AreNotedIn t.now p.list_features.items in
+          let P : Bor (List TableEntry) → Type 0 = λ t. AreNotedIn t.now p.list_features.items in
           subst P c.parse_file.ensures.tokens (c.in-Ok.ensures.noted (subst (AreNotedIn c.args.tokens.now) (sym c.new.ensures.items) (none_noted c.args.tokens.now)));
     }
 
@@ -49,7 +48,7 @@ returns-clause-err g c =
     let start : input_at c.args.tokens.now 0 c.new.result.items ≡ reader.start E ts
     = ap (input_at c.args.tokens.now 0) c.new.ensures.items ∙ input_start E c.args.tokens.now in
     let P : Input → Type 0 = λ s. StopsAt c.in-Err.stop left (LinesWantNumber E (behind_mark s) c.args.numerator.now c.parse_file.new.numerator) (reader.items E (behind_mark s)) in
-    let Q : Bor (List (Token × Bool)) → Type 0 = λ t. IsFaultOf t.now left c.in-Err.stop c.fault.result in
+    let Q : Bor (List TableEntry) → Type 0 = λ t. IsFaultOf t.now left c.in-Err.stop c.fault.result in
     unread E ts c.args.tokens.now c.args.numerator.now c.parse_file.new.numerator left c.in-Err.stop c.fault.result
     (stopped_file E ts c.in-Err.stop left c.args.numerator.now c.parse_file.new.numerator (subst P start c.in-Err.ensures.value)) c.in-Err.ensures.stop refl
     (subst Q c.parse_file.ensures.tokens c.fault.ensures)
