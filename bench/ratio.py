@@ -2,7 +2,7 @@
 """Times two programs on the files KIND.SIZE of a folder: ratio.py LEXER FORMATTER FOLDER
 
 Both read a file as their standard input, by turns. Prints a row for each file: the bytes, the
-tokens, the least processor time of five runs of each program, its start included, both times over
+tokens, the least processor time of nine runs of each program, its start included, both times over
 the bytes, and how many times the lexer's time the formatter's is; and at last the greatest of these.
 """
 import os

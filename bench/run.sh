@@ -1,7 +1,7 @@
 #!/bin/sh
 # Times the lexer and the formatter: builds the programs lex_count and justfmt, writes inputs of
 # three sizes, and prints two tables, of lexing alone and of formatting beside lexing. Each time is
-# the least of five runs. Needs rt and python3; all that it writes lies in bench/out and in the
+# the least of nine runs. Needs rt and python3; all that it writes lies in bench/out and in the
 # crates' folders out.
 set -eu
 top=$(cd "$(dirname "$0")/.." && pwd)

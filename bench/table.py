@@ -2,7 +2,7 @@
 """Times a program on the files KIND.SIZE of a folder: table.py PROGRAM FOLDER
 
 The program reads a file as its standard input. Prints a row for each file, and one for no input:
-the bytes, what the program wrote, the least processor time of five runs, its start included, and
+the bytes, what the program wrote, the least processor time of nine runs, its start included, and
 that time over the bytes.
 """
 import os
@@ -10,7 +10,7 @@ import resource
 import subprocess
 import sys
 
-RUNS = 5
+RUNS = 9
 
 
 def processor_seconds():
