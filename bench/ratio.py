@@ -38,7 +38,7 @@ def main():
         text, ratio = row(lexer, formatter, os.path.join(folder, kind + "." + size), kind)
         print(text, flush=True)
         ratios.append(ratio)
-    print("\nFormatting takes at most %.1f times what lexing alone takes." % max(ratios))
+    print("\nOn these justfiles formatting takes at most %.1f times as long as lexing alone." % max(ratios))
 
 
 if __name__ == "__main__":

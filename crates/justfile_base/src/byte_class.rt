@@ -9,16 +9,25 @@ use self::ByteClass::{
 /// What a byte may begin.
 #[derive(Clone, Copy, Debug, PartialEq, Eq)]
 pub enum ByteClass {
+    /// A space or a tab.
     Blank,
     LineFeed,
     CarriageReturn,
+    /// A letter or `_`, which begins a name.
     IdentifierStart,
+    /// A digit or `-`, which goes on with a name and begins none.
     IdentifierContinue,
+    /// A quote or a backtick, which begins a literal.
     Quote,
+    /// An opening delimiter.
     Opener,
+    /// A closing delimiter.
     Closer,
+    /// What begins a token of fixed text that is no delimiter, as an operator.
     Fixed,
+    /// The first byte of a character of several bytes.
     Lead,
+    /// Any other byte: `#`, which begins a comment, and what begins no token.
     Other,
 }
 

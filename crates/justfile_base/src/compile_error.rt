@@ -11,6 +11,7 @@ pub struct CompileError<'src> {
 }
 
 impl<'src> CompileError<'src> {
+    /// The refusal of this kind that stands at the token.
     pub fn new(token: Token<'src>, kind: CompileErrorKind<'src>) -> Self
         ensures kind { result.kind ≡ kind.entry }
         ensures token { result.token ≡ token.entry }

@@ -6,7 +6,9 @@ use crate::token_kind::TokenKind;
 pub enum CompileErrorKind<'src> {
     /// A command between backticks that begins with `#!`.
     BacktickShebang,
+    /// A text ends behind a backslash.
     EscapeEndOfFile,
+    /// A line of a body does not begin as the lines before it.
     InconsistentLeadingWhitespace {
         expected: &'src str,
         found: &'src str,
@@ -15,14 +17,18 @@ pub enum CompileErrorKind<'src> {
     Internal {
         message: &'static str,
     },
+    /// No escape has this character behind its backslash.
     InvalidEscapeSequence {
         character: char,
     },
+    /// A delimiter closes another one.
     MismatchedClosingDelimiter {
         close: Delimiter,
+        /// The line of the opening delimiter, from 0.
         open_line: usize,
         opener: Delimiter,
     },
+    /// The blanks that a body begins with are both spaces and tabs.
     MixedLeadingWhitespace {
         whitespace: &'src str,
     },
@@ -32,12 +38,15 @@ pub enum CompileErrorKind<'src> {
     ShellExpansion {
         err: String,
     },
+    /// Another character than these stands behind the first one of a token.
     UnexpectedCharacter {
         expected: Vec<char>,
     },
+    /// Nothing is open that the delimiter would close.
     UnexpectedClosingDelimiter {
         close: Delimiter,
     },
+    /// The text ends where one of these characters has to stand.
     UnexpectedEndOfToken {
         expected: Vec<char>,
     },
@@ -46,25 +55,36 @@ pub enum CompileErrorKind<'src> {
         expected: Vec<TokenKind>,
         found: TokenKind,
     },
+    /// A character in the braces of `\u{..}` is no hexadecimal digit.
     UnicodeEscapeCharacter {
         character: char,
     },
+    /// The character behind `\u` is no `{`.
     UnicodeEscapeDelimiter {
         character: char,
     },
+    /// No digit stands in the braces of `\u{..}`.
     UnicodeEscapeEmpty,
+    /// More than six digits stand there; the first seven are given.
     UnicodeEscapeLength {
         hex: String,
     },
+    /// The digits are the number of no character.
     UnicodeEscapeRange {
         hex: String,
     },
+    /// The text ends before the `}` of `\u{..}`.
     UnicodeEscapeUnterminated,
+    /// No token begins with this character.
     UnknownStartOfToken {
         start: char,
     },
+    /// No line feed stands behind a carriage return.
     UnpairedCarriageReturn,
+    /// A command has no closing backtick.
     UnterminatedBacktick,
+    /// The text ends in an interpolation.
     UnterminatedInterpolation,
+    /// A string has no closing quote.
     UnterminatedString,
 }

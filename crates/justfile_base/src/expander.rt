@@ -28,6 +28,11 @@ pub trait Expander {
     /// The expanded text, or the reason why there is none.
     ghost answer: { Self → List ℕ → Result (List ℕ) (List ℕ) };
 
+    /// The expanded text.
+    ///
+    /// # Errors
+    ///
+    /// `Refused` if the text has no expansion, with the reason; `Memory` if memory is wanting.
     fn expand(&self, alloc: Global, text: &str) -> Result<String, ExpandFault>
         ensures ok { IfOk result (λ expanded. answer self.now text.now ≡ Ok (string_bytes expanded)) }
         ensures err { IfErr result (Refuses (answer self.now text.now)) };

@@ -12,6 +12,7 @@ pub enum Fault<'src> {
     Numbers,
 }
 
+/// The answer of a call that reads a text, or why there is none.
 pub type CompileResult<'src, T = ()> = Result<T, Fault<'src>>;
 
 impl<'src> From<AllocError> for Fault<'src> {

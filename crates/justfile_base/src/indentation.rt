@@ -52,6 +52,11 @@ fn all_equal(bytes: &[u8], first: u8) -> bool
     bytes.iter().all(|byte| *byte == first)
 }
 
+/// Reads the indentation that a text is.
+///
+/// # Errors
+///
+/// A message, if the text is empty, or is not spaces alone or tabs alone.
 impl FromStr for Indentation {
     ghost use Rattle.justfile_base.specs.Indentation.{ReadsIndentation};
 

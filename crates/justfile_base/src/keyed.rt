@@ -8,6 +8,7 @@ pub trait Keyed<'key> {
     /// The bytes of the name.
     ghost key_text: { Self → List ℕ };
 
+    /// The name.
     fn key(&self) -> &'key str
         ensures { result.now ≡ key_text self.now };
 }

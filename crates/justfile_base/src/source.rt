@@ -9,5 +9,6 @@ pub struct Source<'a, 'src> {
     pub import_offsets: &'a [usize],
     /// The path of the module that the file belongs to, unless it is the root.
     pub namepath: Option<&'a Namepath<'src>>,
+    /// The working directory of the file's module.
     pub working_directory: &'a str,
 }

@@ -1,4 +1,4 @@
-ghost use Rattle.std.specs.Prelude.{◌≡◌, ◌<◌, IfErr, IfSome, slice_index, take, if◌then◌else◌};
+ghost use Rattle.std.specs.Prelude.{◌≡◌, IfErr, IfSome, slice_index, take, if◌then◌else◌};
 ghost use Rattle.std.specs.Result.{result_ok};
 ghost use Rattle.justfile_base.specs.CompileErrorKind.{internal_message};
 ghost use Rattle.justfile_base.specs.StringKind.{delimiter_at, delimiter_len, delimiter_text, escapes, is_quote, kind_at_start, kind_of, no_literal_message, token_kind_of, unterminated_kind_of};
@@ -102,11 +102,8 @@ impl StringKind {
         ensures begins { IfSome result (λ kind. take (delimiter_len kind) token_start.now ≡ delimiter_text kind) }
     {
         let bytes = token_start.as_bytes();
-        let delimiter = delimiter_of(*bytes.first()?)?;
-        Some(StringKind {
-            delimiter,
-            indented: is_tripled(bytes),
-        })
+        let _delimiter = delimiter_of(*bytes.first()?)?;
+        Some(StringKind::of_opening(bytes))
     }
 
     /// The kind of a token that is a string or a backtick. An error says that it is neither.
@@ -129,14 +126,6 @@ fn byte_at(bytes: &[u8], at: usize) -> u8
     ensures { result ≡ slice_index bytes.now at }
 {
     if at < bytes.len() { bytes[at] } else { 0 }
-}
-
-/// Whether the text begins with a byte that stands three times.
-fn is_tripled(bytes: &[u8]) -> bool
-    requires { 0 < slice_index bytes.now 0 }
-    ensures { result ≡ (kind_of bytes.now).indented }
-{
-    matches!(bytes, [first, second, third, ..] if second == first && third == first)
 }
 
 /// The delimiter that is made of this byte.

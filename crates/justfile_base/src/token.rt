@@ -6,7 +6,8 @@ use crate::compile_error_kind::CompileErrorKind;
 use crate::token_kind::TokenKind;
 
 /// A part of a source text, with its kind and its place. Lines and columns count from 0, columns
-/// in bytes.
+/// in bytes. The last newline of a text begins no line, so that what stands behind it is on the
+/// line that it ends.
 #[derive(Clone, Copy, Debug, PartialEq, Eq, PartialOrd, Ord)]
 pub struct Token<'src> {
     pub column: usize,
@@ -18,6 +19,7 @@ pub struct Token<'src> {
     pub offset: usize,
     /// The path of the source.
     pub path: &'src str,
+    /// The whole source.
     pub src: &'src str,
     pub ghost in_source: { IsWithin src.now offset length },
 }
@@ -29,6 +31,7 @@ impl<'src> Token<'src> {
     {
         &self.src[self.offset..self.offset + self.length]
     }
+
     /// A refusal that stands at the token.
     pub fn error(&self, kind: CompileErrorKind<'src>) -> CompileError<'src>
         ensures kind { result.kind ≡ kind.entry }

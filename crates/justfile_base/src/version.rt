@@ -63,6 +63,11 @@ impl Version {
     }
 }
 
+/// Reads three numbers with dots between.
+///
+/// # Errors
+///
+/// A message, if the text is none.
 impl FromStr for Version {
     ghost use Rattle.justfile_base.specs.Version.{ReadsVersion};
 

@@ -23,9 +23,8 @@ ghost use Rattle.justfile_canon.specs.RoundTrip.{TextDerives, ReadsBack, printed
 
 /// What is printed of a printable shape of any text derives the normal form of that shape, with the
 /// same features but for their places, the same texts of literals, as many bindings and as many
-/// recipes. Two such shapes are printed alike,
-/// at one indentation, exactly if their normal forms are equal. What is printed of the printed text
-/// is the same text.
+/// recipes. Two such shapes are printed alike, at one indentation, exactly if their normal forms are
+/// equal. What is printed of the printed text is the same text.
 pub fn reads_back()
     ensures back { (expander : Answers) (current : VersionNumbers) (source : List ℕ) (tree : Tree) (features : List (Noted Tok)) (indentation : List ℕ) → IsIndentation indentation → TextDerives expander current source tree features → printable (shape_of tree) ≡ true → ReadsBack expander current (shape_of tree) features indentation (printed (shape_of tree) indentation) }
     ensures alike { (shape other : Shape) (indentation : List ℕ) → normal shape ≡ normal other → printed shape indentation ≡ printed other indentation }

@@ -7,7 +7,11 @@ use crate::escape_fault::EscapeFault;
 use justfile_base::{CompileResult, Fault, Token};
 use std::alloc::{AllocError, Global};
 
-/// The text with its escapes replaced. A text that is refused is refused at the token.
+/// The text with its escapes replaced.
+///
+/// # Errors
+///
+/// `Compile` at the token, for the first escape that is none; `Memory` if memory is wanting.
 pub fn cook_string<'src>(
     alloc: Global,
     token: Token<'src>,

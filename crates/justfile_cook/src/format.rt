@@ -8,6 +8,10 @@ use justfile_base::{CompileResult, FormatStringPart, StringKind, StringLiteral, 
 use std::alloc::{AllocError, Global};
 
 /// The literal that a part of a format string is. The kind is that of the whole format string.
+///
+/// # Errors
+///
+/// `Compile` at the token, for the first escape that is none; `Memory` if memory is wanting.
 pub fn format_part<'src>(
     alloc: Global,
     token: Token<'src>,

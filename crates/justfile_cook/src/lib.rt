@@ -8,8 +8,6 @@ pub mod examples;
 pub mod format;
 pub mod laws;
 pub mod literal;
-#[cfg(test)]
-mod tests;
 pub mod unindent;
 
 pub use crate::cook::cook_string;

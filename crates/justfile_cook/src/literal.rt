@@ -12,6 +12,11 @@ use justfile_base::{
 use std::alloc::{AllocError, Global};
 
 /// The literal that a string is. It is marked `x` if its text is to be expanded.
+///
+/// # Errors
+///
+/// `Compile` at the token, for the first escape that is none, or if the expander refuses the text;
+/// `Memory` if memory is wanting.
 pub fn string_literal<'src, X: Expander>(
     alloc: Global,
     token: Token<'src>,
@@ -38,6 +43,10 @@ pub fn string_literal<'src, X: Expander>(
 }
 
 /// The command between backticks.
+///
+/// # Errors
+///
+/// `Compile` at the token, if the command begins with `#!`; `Memory` if memory is wanting.
 pub fn command<'src>(alloc: Global, token: Token<'src>) -> CompileResult<'src, String>
     requires { IsTrue (is_quoted (lexeme_of token)) }
     ensures ok { IfOk result (λ contents. (expander : Answers) → cooked_text expander (Command (lexeme_of token.entry)) ≡ Ok (string_bytes contents)) }

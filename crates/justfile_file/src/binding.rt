@@ -3,10 +3,12 @@ use justfile_base::{Keyed, Name, Number};
 /// What a name stands for.
 #[derive(Debug, Drop)]
 pub struct Binding<'src, V> {
-    /// How many files include the one that this stands in.
+    /// How many imports and modules lie between its file and the root.
     pub file_depth: u32,
     pub name: Name<'src>,
+    /// The number that no other binding of the numerator has.
     pub number: Number,
+    /// Whether it is built in, and stands in no file.
     pub prelude: bool,
     /// Whether lists of variables leave it out.
     pub private: bool,

@@ -18,11 +18,12 @@ use std::alloc::{AllocError, Global};
 pub struct UnresolvedRecipe<'src> {
     /// The lines of its body, without the empty ones at the end. There are none if it has no body.
     pub body: Vec<Line<'src>>,
-    /// How many files include the one that this stands in.
+    /// How many imports and modules lie between its file and the root.
     pub file_depth: u32,
     /// The offsets of the imports that lead to its file, the outermost first.
     pub import_offsets: Vec<usize>,
     pub name: Name<'src>,
+    /// The number that no other recipe of the numerator has.
     pub number: Number,
     /// Whether lists of recipes leave it out.
     pub private: bool,

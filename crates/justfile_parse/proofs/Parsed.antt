@@ -59,7 +59,7 @@ use Rattle.justfile_parse.specs.Significant.{TableEntry, significant_of}
 use Rattle.justfile_parse.specs.WantsNumber.{LinesWantNumber, WantsNumber, behind_mark}
 use Rattle.justfile_parse.specs.declared.stop.Refusal.{Refusal}
 use Rattle.justfile_parse.specs.declared.stop.Refusal.TheVariants.{Unexpected, TooDeep}
-use Rattle.justfile_parse.specs.declared.stop.Refused.{Refused}
+use Rattle.justfile_parse.specs.declared.stop.LiteralRefusal.{LiteralRefusal}
 use Rattle.justfile_parse.specs.declared.stop.Stop.{Stop}
 use Rattle.justfile_parse.specs.declared.stop.Stop.TheVariants as stops
 use Rattle.justfile_parse.proofs.Cooked.{kind_is_due}
@@ -110,7 +110,7 @@ error_of Unexpected left tokens e kind at = (kind, at)
 error_of TooDeep left tokens e kind at = (kind, at)
 
 -- the error of a literal is that of its refusal
-literal_error : (tokens : List SignificantToken) (refused : Refused) → IsErrorOf tokens (literal_refusal refused.error refused.glued) refused.error
+literal_error : (tokens : List SignificantToken) (refused : LiteralRefusal) → IsErrorOf tokens (literal_refusal refused.error refused.glued) refused.error
 unfolding literal_refusal
 literal_error tokens refused = (kind_is_due refused.error.kind refused.is_literal, refl)
 

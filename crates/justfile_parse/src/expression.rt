@@ -17,7 +17,7 @@ ghost use Rattle.justfile_parse.specs.Significant.{TableEntry, significant_of};
 ghost use Rattle.justfile_parse.specs.declared.stop.Stop.TheVariants as stops;
 ghost use Rattle.justfile_tree.specs.Expression.{expr_of, exprs_of, format_tree, part_tok};
 
-use crate::feature::{ends_open, function_feature};
+use crate::feature::function_feature;
 use crate::parser::{Entry, Parser, is_word};
 use crate::stop::{Refusal, Stop};
 use justfile_base::{Expander, Name, StringLiteral, Token, TokenKind};
@@ -261,7 +261,8 @@ impl<'run, 'src, X: Expander> Parser<'run, 'src, X> {
         Ok(otherwise)
     }
 
-    /// What may stand on either side of an operator: `!`, or what takes no operator before it.
+    /// What may stand on either side of an operator: `!`, or what takes no operator before it. Each of
+    /// the methods behind takes one form of it, and leaves the others to the next.
     #[cycle(expression)]
     #[tactic(auto, using(justfile_model::proofs::ExpressionReading::value_is), unfolding(justfile_model::specs::ExpressionReader::value_rule))]
     fn parse_value(&mut self) -> Result<Box<Expression<'src>>, Stop<'src>>
@@ -491,6 +492,7 @@ impl<'run, 'src, X: Expander> Parser<'run, 'src, X> {
         ensures stop { IfErr result (IsGivenStop self.old.tokens.now) }
         ensures value { Gives (λ e. (exprs_of e.items, input_of self.new)) result (input_of self.new) (read (answers_by X.answer self.old.expander.now) (reader.Sequence closing self.old.depth (input_of self.old))) }
     {
+        // most lists and calls hold no more
         let mut elements = Vec::with_capacity(self.alloc, 2)?;
         'elements: loop {
             if let Some(_closing) = self.accept(closing) {
@@ -634,6 +636,35 @@ impl<'run, 'src, X: Expander> Parser<'run, 'src, X> {
         let entry = self.expect(TokenKind::FormatStringEnd)?;
         let literal = self.format_end(start, entry)?;
         Ok((literal, true))
+    }
+}
+
+/// Whether the expression is a conditional whose chain of other branches ends in one without
+/// `else`.
+#[tactic(auto, using(crate::proofs::Shapes::assert_ends, crate::proofs::Shapes::format_ends, crate::proofs::Shapes::join_ends))]
+fn ends_open(expression: &Expression<'_>) -> bool
+    ensures { result ≡ ends_open (expr_of expression.now) }
+{
+    match expression {
+        Expression::Conditional { otherwise, .. } => match otherwise {
+            None => true,
+            Some(other) => ends_open(other),
+        },
+        Expression::And { .. }
+        | Expression::Assert { .. }
+        | Expression::Backtick { .. }
+        | Expression::Call { .. }
+        | Expression::Comparison { .. }
+        | Expression::Concatenation { .. }
+        | Expression::FormatString { .. }
+        | Expression::Group { .. }
+        | Expression::Join { .. }
+        | Expression::List { .. }
+        | Expression::ListConcatenation { .. }
+        | Expression::Not { .. }
+        | Expression::Or { .. }
+        | Expression::StringLiteral { .. }
+        | Expression::Variable { .. } => false,
     }
 }
 

@@ -1,5 +1,4 @@
 ghost use Rattle.std.specs.Prelude.{◌≡◌, IfErr, IfSome, OnOk};
-ghost use Rattle.justfile_model.specs.Expressions.{ends_open};
 ghost use Rattle.justfile_model.specs.Features.{compared, function_feature, noted, noted_if, uncompared_feature};
 ghost use Rattle.justfile_model.specs.Reading.{with};
 ghost use Rattle.justfile_model.specs.Tok.{tok_of};
@@ -135,34 +134,5 @@ pub(crate) fn function_feature(name: &str) -> Option<ListFeature>
         Some(ListFeature::WhichFunction)
     } else {
         None
-    }
-}
-
-/// Whether the expression is a conditional whose chain of other branches ends in one without
-/// `else`.
-#[tactic(auto, using(crate::proofs::Shapes::assert_ends, crate::proofs::Shapes::format_ends, crate::proofs::Shapes::join_ends))]
-pub(crate) fn ends_open(expression: &Expression<'_>) -> bool
-    ensures { result ≡ ends_open (expr_of expression.now) }
-{
-    match expression {
-        Expression::Conditional { otherwise, .. } => match otherwise {
-            None => true,
-            Some(other) => ends_open(other),
-        },
-        Expression::And { .. }
-        | Expression::Assert { .. }
-        | Expression::Backtick { .. }
-        | Expression::Call { .. }
-        | Expression::Comparison { .. }
-        | Expression::Concatenation { .. }
-        | Expression::FormatString { .. }
-        | Expression::Group { .. }
-        | Expression::Join { .. }
-        | Expression::List { .. }
-        | Expression::ListConcatenation { .. }
-        | Expression::Not { .. }
-        | Expression::Or { .. }
-        | Expression::StringLiteral { .. }
-        | Expression::Variable { .. } => false,
     }
 }

@@ -1,3 +1,4 @@
+//! Files, and the items on their lines.
 ghost use Rattle.std.specs.Prelude.{◌≡◌, ◌<◌, ◌≤◌, ◌+◌, [], ◌∷◌, ◌++◌, map, IfOk, OnOk, OnErr, IfErr};
 ghost use Rattle.std.specs.Str.{trim_end};
 ghost use Rattle.justfile_base.specs.Numerator.{bindings_of, constants_of, number_of, recipes_of};
@@ -35,7 +36,7 @@ impl<'src, X: Expander> Parser<'_, 'src, X> {
         ensures noted { OnOk result (AreNotedIn self.old.tokens.now self.old.list_features.items → AreNotedIn self.new.tokens.now self.new.list_features.items) }
         ensures moved { IsMoved numerator.old numerator.new (identifiers (input_of self.old).tokens) }
     {
-        self.accept_mark();
+        self.accept_byte_order_mark();
         self.parse_items(numerator)
     }
 
@@ -197,7 +198,7 @@ impl<'src, X: Expander> Parser<'_, 'src, X> {
         ensures given { OnOk result (AddsUnnumbered X.answer self.old items.old.items items.new.items) }
         ensures stop { IfErr result (IsGivenStop self.old.tokens.now) }
     {
-        if let Some(_end) = self.next_if(TokenKind::Eof) {
+        if let Some(_end) = self.peek_if(TokenKind::Eof) {
             return Ok(());
         }
         self.expect(TokenKind::Eol)?;

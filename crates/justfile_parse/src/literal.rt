@@ -18,7 +18,7 @@ ghost use Rattle.justfile_tree.specs.Expression.{expr_of, part_tok};
 
 use crate::expression::format_string;
 use crate::parser::{Entry, Parser};
-use crate::stop::{Refused, Stop};
+use crate::stop::{LiteralRefusal, Stop};
 use justfile_base::{Expander, Fault, FormatStringPart, StringKind, StringLiteral};
 use justfile_cook::{command, format_part, string_literal};
 use justfile_tree::Expression;
@@ -178,7 +178,7 @@ fn stop<'src>(alloc: Global, fault: Fault<'src>, entry: Entry<'_, 'src>) -> Stop
     match fault {
         Fault::Compile(error) => {
             let glued = entry.1;
-            match Box::new(alloc, Refused { error, glued }) {
+            match Box::new(alloc, LiteralRefusal { error, glued }) {
                 Ok(refused) => Stop::Literal(refused),
                 Err(_failed) => Stop::Memory,
             }

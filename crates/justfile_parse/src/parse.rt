@@ -1,3 +1,4 @@
+//! The public calls: files from tokens, and from texts.
 ghost use Rattle.std.specs.Prelude.{◌≡◌, List, map, Contains, IfOk, IfErr, string_bytes};
 ghost use Rattle.justfile_base.specs.Modulepath.{module_names, names_of};
 ghost use Rattle.justfile_base.specs.Numerator.{constants_of};
@@ -24,8 +25,8 @@ impl<'src, X: Expander> Parser<'_, 'src, X> {
     /// # Errors
     ///
     /// `Compile` if the tokens are no file, at one of them; `Numbers` if more numbers of bindings or
-    /// of recipes are wanted than there are; `Memory` if memory is wanting. The numerator's counters have then
-    /// moved up by no more than the number of identifiers.
+    /// of recipes are wanted than there are; `Memory` if memory is wanting. The numerator's counters
+    /// have then moved up by no more than the number of identifiers.
     pub fn parse(
         alloc: Global,
         file_depth: u32,
@@ -44,6 +45,7 @@ impl<'src, X: Expander> Parser<'_, 'src, X> {
         ensures unparsed { IfErr result (IsUnparsed (answers_by X.answer expander.now) (version_numbers current) (map tok_of tokens.now) (Contains tokens.now) numerator.old numerator.new) }
         ensures moved { IsMoved numerator.old numerator.new (identifiers (significant_tokens (map tok_of tokens.now))) }
     {
+        // nothing that is parsed yet asks for the version
         let _ = current;
         let table = significant(alloc, tokens)?;
         let (items, list_features) = Parser::parse_table(

@@ -1,3 +1,4 @@
+//! The parser, and how it takes tokens.
 ghost use Rattle.std.specs.Prelude.{◌≡◌, ◌<◌, ◌≤◌, ◌+◌, [], ◌∷◌, length, drop, map, IsTrue, IfOk, OnOk, OnSome, IfSome, IfNone, IfErr, Some, None};
 ghost use Rattle.std.specs.List.{list_all};
 ghost use Rattle.justfile_base.specs.declared.token_kind.TokenKind.TheVariants as kinds;
@@ -32,7 +33,7 @@ pub struct Parser<'run, 'src, X> {
     /// How many expressions are open.
     pub(crate) depth: usize,
     pub(crate) expander: &'run X,
-    /// How many files include the one that is read.
+    /// How many imports and modules lie between the file and the root.
     pub(crate) file_depth: u32,
     /// The offsets of the imports that lead to the file that is read, the outermost first.
     pub(crate) import_offsets: &'run [usize],
@@ -40,7 +41,7 @@ pub struct Parser<'run, 'src, X> {
     pub(crate) list_features: Vec<(ListFeature, Token<'src>)>,
     /// The index of the next token.
     pub(crate) next: usize,
-    pub(crate) tokens: &'run [(&'run Token<'src>, bool)],
+    pub(crate) tokens: &'run [Entry<'run, 'src>],
     ghost within: { next ≤ length tokens.now },
     ghost shallow: { depth ≤ depth_limit },
     ghost nonempty: { 0 < length tokens.now },
@@ -80,7 +81,7 @@ impl<'run, 'src, X: Expander> Parser<'run, 'src, X> {
 
     /// The next token if it is of this kind; it is not taken yet.
     #[tactic(auto, unfolding(justfile_model::specs::Reading::accept, justfile_model::specs::Reading::same_kind))]
-    pub(crate) fn next_if(&self, kind: TokenKind) -> Option<Entry<'run, 'src>>
+    pub(crate) fn peek_if(&self, kind: TokenKind) -> Option<Entry<'run, 'src>>
         ensures within { OnSome result (self.now.next < length self.now.tokens.now) }
         ensures some { IfSome result (λ entry. reading.accept kind (input_of self.now) ≡ Some (significant_of entry, input_at self.now.tokens.now (self.now.next + 1) self.now.list_features.items)) }
         ensures none { IfNone result (reading.accept kind (input_of self.now) ≡ None) }
@@ -106,7 +107,7 @@ impl<'run, 'src, X: Expander> Parser<'run, 'src, X> {
         ensures kind { IfSome result (λ entry. entry.0.now.kind ≡ kind) }
         ensures sound { IfSome result (λ entry. IsTrue (is_sound entry)) }
     {
-        let entry = self.next_if(kind)?;
+        let entry = self.peek_if(kind)?;
         self.next += 1;
         Some(entry)
     }
@@ -206,7 +207,7 @@ impl<'run, 'src, X: Expander> Parser<'run, 'src, X> {
     }
 
     /// Takes the byte order mark that a file may begin with.
-    pub(crate) fn accept_mark(&mut self)
+    pub(crate) fn accept_byte_order_mark(&mut self)
         ensures same { IsSameRun self.old self.new }
         ensures behind { input_of self.new ≡ behind_mark (input_of self.old) }
         ensures fewer { identifiers (input_of self.new).tokens ≤ identifiers (input_of self.old).tokens }

@@ -31,10 +31,7 @@ pub fn significant<'run, 'src>(
 fn is_whitespace(kind: TokenKind) -> bool
     ensures { result ≡ is_whitespace kind }
 {
-    match kind {
-        TokenKind::Whitespace => true,
-        _ => false,
-    }
+    matches!(kind, TokenKind::Whitespace)
 }
 
 /// Adds an entry to the table.

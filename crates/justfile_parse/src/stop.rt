@@ -15,7 +15,7 @@ pub(crate) enum Refusal {
 
 /// A literal that has no text, by the error that says so.
 #[derive(Drop)]
-pub(crate) struct Refused<'src> {
+pub(crate) struct LiteralRefusal<'src> {
     pub(crate) error: CompileError<'src>,
     /// Whether its token is glued to the one before.
     pub(crate) glued: bool,
@@ -27,7 +27,7 @@ pub(crate) struct Refused<'src> {
 pub(crate) enum Stop<'src> {
     Refused(Refusal),
     /// A literal has no text.
-    Literal(Box<Refused<'src>>),
+    Literal(Box<LiteralRefusal<'src>>),
     Memory,
     /// A number was wanted, and the counter had come to its end.
     Numbers,

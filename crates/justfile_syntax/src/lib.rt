@@ -66,12 +66,9 @@ pub mod keyword {
     pub use justfile_base::Keyword;
 }
 
-pub mod lexer {
-    pub use justfile_lex::Lexer;
-}
-
 pub mod laws {
-    pub use justfile_canon::reads_back;
+    pub use justfile_base::laws::{indentation_texts, one_spelling};
+    pub use justfile_canon::{modes_agree, reads_back};
     pub use justfile_cook::laws::{
         answer_for_all as literal_for_all, cooked_is_utf8, indentation_is_longest, lines_joined,
         longest_front, one_answer as one_literal, unindented_already,
@@ -83,6 +80,10 @@ pub mod laws {
         answer_for_all, eof_is_last, in_order, lines_start_at_column_0, offsets_rise, one_answer,
         tiling,
     };
+}
+
+pub mod lexer {
+    pub use justfile_lex::Lexer;
 }
 
 pub mod line {
@@ -113,6 +114,12 @@ pub mod numerator {
     pub use justfile_base::{Number, Numerator};
 }
 
+pub mod parser {
+    pub use justfile_cook::cook_string;
+    pub use justfile_parse::Parser;
+    pub use justfile_parse::significant::significant;
+}
+
 pub mod recipe {
     pub use justfile_file::UnresolvedRecipe;
 }
@@ -123,12 +130,6 @@ pub mod sigil {
 
 pub mod source {
     pub use justfile_base::Source;
-}
-
-pub mod parser {
-    pub use justfile_cook::cook_string;
-    pub use justfile_parse::Parser;
-    pub use justfile_parse::significant::significant;
 }
 
 pub mod string_kind {

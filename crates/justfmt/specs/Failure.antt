@@ -8,8 +8,8 @@ status_of Refused = 2
 status_of NotPrintable = 2
 status_of _ = 3
 
--- it says nothing of the text
-abbrev pub IsOfMachine : Failure → Type 0
-IsOfMachine Refused = ⊥
-IsOfMachine NotPrintable = ⊥
-IsOfMachine _ = Unit {0}
+-- the failure is no refusal of the text
+abbrev pub IsNoRefusal : Failure → Type 0
+IsNoRefusal Refused = ⊥
+IsNoRefusal NotPrintable = ⊥
+IsNoRefusal _ = Unit {0}

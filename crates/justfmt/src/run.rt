@@ -1,7 +1,8 @@
-ghost use Rattle.std.specs.Prelude.{◌≡◌, ◌≤◌, [], ◌∷◌, map, codes, true, false, Ok, Err, IfOk, IfErr, IfSome, OnOk, string_bytes};
+ghost use Rattle.std.specs.Prelude.{◌≡◌, ◌≤◌, true, false, Ok, Err, IfOk, IfErr, IfSome, OnOk};
 ghost use Rattle.std.specs.Io.KnownBytes.{Appends};
 ghost use Rattle.justfmt.specs.declared.failure.Failure.TheVariants as failures;
-ghost use Rattle.justfmt.specs.Failure.{IsOfMachine};
+ghost use Rattle.justfmt.specs.Arguments.{AsksCheck, AsksFormat};
+ghost use Rattle.justfmt.specs.Failure.{IsNoRefusal};
 ghost use Rattle.justfmt.specs.Formatting.{IsFormatted, IsRefused, IsUnprintable, Formats, Differs, HasNone};
 
 use crate::failure::{Failure, report};
@@ -24,10 +25,10 @@ impl Task {
 
     /// What the arguments ask for.
     fn of(arguments: &[String]) -> Result<Task, Failure>
-        ensures format { result ≡ Ok Format → map string_bytes arguments.now ≡ [] }
-        ensures check { result ≡ Ok Check → map string_bytes arguments.now ≡ codes "--check" ∷ [] }
-        ensures format_asked { map string_bytes arguments.now ≡ [] → result ≡ Ok Format }
-        ensures check_asked { map string_bytes arguments.now ≡ codes "--check" ∷ [] → result ≡ Ok Check }
+        ensures format { result ≡ Ok Format → AsksFormat arguments.now }
+        ensures check { result ≡ Ok Check → AsksCheck arguments.now }
+        ensures format_asked { AsksFormat arguments.now → result ≡ Ok Format }
+        ensures check_asked { AsksCheck arguments.now → result ≡ Ok Check }
         ensures usage { IfErr result (λ e. e ≡ failures.Usage) }
     {
         match arguments {
@@ -46,7 +47,7 @@ impl Task {
 /// All that the reader gives.
 fn read_all<R: Read>(alloc: Global, reader: &mut R) -> Result<Vec<u8>, Failure>
     ensures ok { IfOk result (λ bytes. IfSome (R.remaining reader.old) (λ source. bytes.items ≡ source)) }
-    ensures err { IfErr result IsOfMachine }
+    ensures err { IfErr result IsNoRefusal }
 {
     let mut bytes = Vec::new(alloc);
     match reader.read_to_end(&mut bytes) {
@@ -59,7 +60,7 @@ fn read_all<R: Read>(alloc: Global, reader: &mut R) -> Result<Vec<u8>, Failure>
 /// The text that the bytes are.
 fn text_of(bytes: &[u8]) -> Result<&str, Failure>
     ensures ok { IfOk result (λ text. text.now ≡ bytes.now) }
-    ensures err { IfErr result IsOfMachine }
+    ensures err { IfErr result IsNoRefusal }
 {
     match str::from_utf8(bytes) {
         Ok(text) => Ok(text),
@@ -69,7 +70,7 @@ fn text_of(bytes: &[u8]) -> Result<&str, Failure>
 
 fn write_all<W: Write>(text: &str, writer: &mut W) -> Result<(), Failure>
     ensures ok { OnOk result (Appends (W.contents writer.old) (W.contents writer.new) text.now) }
-    ensures err { IfErr result IsOfMachine }
+    ensures err { IfErr result IsNoRefusal }
 {
     if writer.write_all(text.as_bytes()).is_err() || writer.flush().is_err() {
         return Err(Failure::Writing);
@@ -106,7 +107,8 @@ fn check<R: Read>(alloc: Global, reader: &mut R) -> Result<bool, Failure>
 
 /// Formats what the reader gives, or with the one argument `--check` says whether it is canonical.
 /// Answers the exit status: 0 for a text that was written or is canonical, 1 for one that isn't, 2
-/// for one that can't be formatted, 3 where the program was called wrongly or the machine failed it.
+/// for one that can't be formatted, 3 where the program was called wrongly, the input is no UTF-8,
+/// numbers run out or the machine failed it.
 pub fn run<R: Read, W: Write, E: Write>(
     alloc: Global,
     arguments: &[String],
@@ -115,15 +117,15 @@ pub fn run<R: Read, W: Write, E: Write>(
     errors: &mut E,
 ) -> u8
     ensures statuses { result ≤ 3 }
-    ensures usage { (map string_bytes arguments.now ≡ [] → ⊥) → (map string_bytes arguments.now ≡ codes "--check" ∷ [] → ⊥) → result ≡ 3 }
-    ensures usage_reads_nothing { (map string_bytes arguments.now ≡ [] → ⊥) → (map string_bytes arguments.now ≡ codes "--check" ∷ [] → ⊥) → reader.new ≡ reader.old }
+    ensures usage { ¬ AsksFormat arguments.now → ¬ AsksCheck arguments.now → result ≡ 3 }
+    ensures usage_reads_nothing { ¬ AsksFormat arguments.now → ¬ AsksCheck arguments.now → reader.new ≡ reader.old }
 
-    ensures formatted { map string_bytes arguments.now ≡ [] → result ≡ 0 → IfSome (R.remaining reader.old) (λ source. Formats source (W.contents writer.old) (W.contents writer.new)) }
-    ensures canonical { map string_bytes arguments.now ≡ codes "--check" ∷ [] → result ≡ 0 → IfSome (R.remaining reader.old) (λ source. IsFormatted source source) }
-    ensures differs { result ≡ 1 → (map string_bytes arguments.now ≡ codes "--check" ∷ []) × IfSome (R.remaining reader.old) Differs }
+    ensures formatted { AsksFormat arguments.now → result ≡ 0 → IfSome (R.remaining reader.old) (λ source. Formats source (W.contents writer.old) (W.contents writer.new)) }
+    ensures canonical { AsksCheck arguments.now → result ≡ 0 → IfSome (R.remaining reader.old) (λ source. IsFormatted source source) }
+    ensures differs { result ≡ 1 → AsksCheck arguments.now × IfSome (R.remaining reader.old) Differs }
     ensures refused { result ≡ 2 → IfSome (R.remaining reader.old) HasNone }
 
-    ensures written_asked { (map string_bytes arguments.now ≡ [] → ⊥) → writer.new ≡ writer.old }
+    ensures written_asked { ¬ AsksFormat arguments.now → writer.new ≡ writer.old }
     ensures refused_writes_nothing { result ≡ 2 → writer.new ≡ writer.old }
     ensures silent { result ≤ 1 → errors.new ≡ errors.old }
 {

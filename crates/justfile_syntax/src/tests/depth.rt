@@ -94,6 +94,11 @@ fn branches_conditions_and_operands_of_or_nest_255_times(rt: HostRuntime) {
     all_nest(&rt, rt.alloc(), ROWS);
 }
 
+#[test]
+fn depth_is_refused_before_the_first_token_is_looked_at(rt: HostRuntime) {
+    is_too_deep(&rt, rt.alloc(), ("(", "", ")"), (261, 1));
+}
+
 /// What 255 other branches in braces print as.
 fn without_braces(alloc: Global) -> Result<String, AllocError> {
     let flat = repeated(alloc, "if b { c } else ", 255)?;

@@ -59,6 +59,7 @@ fn operators_nest_to_the_right(rt: HostRuntime) {
         ("x := a + b\n", "+@7 | a | b"),
         ("x := a + b + c\n", "+@7 | a | b + c"),
         ("c := a + b + a + b\n", "+@7 | a | b + a + b"),
+        ("c := b + a + b\n", "+@7 | b | a + b"),
         ("x := a ++ b\n", "++@7 | a | b"),
         ("x := a ++ b ++ c\n", "++@7 | a | b ++ c"),
         ("x := a / b\n", "/@7 | a | b"),

@@ -7,8 +7,8 @@ use crate::item::Item;
 use crate::numerator::{Number, Numerator};
 use crate::parser::significant;
 use crate::tests::support::{
-    compare_items, compare_print, copied, first_item, holds, lexed, parse, parsed, same, same_text,
-    shown,
+    compare_file, compare_items, compare_print, copied, first_item, holds, lexed, parse, parsed,
+    same, same_text, shown,
 };
 use crate::token_kind::TokenKind;
 use std::alloc::Global;
@@ -33,6 +33,17 @@ fn items(rt: HostRuntime) {
     holds(&rt, text, ast.unstable_features.is_empty());
     holds(&rt, text, ast.printable());
     holds(&rt, text, ast.indentation() == None);
+}
+
+#[test]
+fn assignments_alone_and_with_a_comment(rt: HostRuntime) {
+    const ROWS: &[(&str, &[&str])] = &[
+        ("x := 'hello'", &["x 0 2 false text \"hello\""]),
+        ("x := y # foo", &["x 0 2 false name y", "comment \"# foo\""]),
+    ];
+    for (text, rows) in ROWS {
+        compare_file(&rt, rt.alloc(), text, rows);
+    }
 }
 
 /// Sees that two items are shown alike.

@@ -1,6 +1,39 @@
 //! Expressions that are refused, and the token at which they are.
 
-use crate::tests::values::compare_offsets;
+use crate::compile_error_kind::CompileErrorKind;
+use crate::tests::support::{refusal, same};
+use crate::tests::values::{compare_offsets, compare_place};
+use crate::token_kind::TokenKind;
+use std::alloc::Global;
+use std::process::Abort;
+
+/// Sees that a text is refused at a token of this kind and at this place.
+fn compare_found(
+    rt: &impl Abort,
+    alloc: Global,
+    text: &str,
+    wanted: TokenKind,
+    place: (usize, usize),
+) {
+    let error = refusal(rt, alloc, text);
+    compare_place(rt, text, &error, place);
+    match &error.kind {
+        CompileErrorKind::UnexpectedToken { found, .. } => same(rt, text, found, &wanted),
+        _ => panic!(rt; "another refusal: {text:?}"),
+    }
+}
+
+#[test]
+fn refusals_name_the_kind_of_the_token(rt: HostRuntime) {
+    const ROWS: &[(&str, TokenKind, (usize, usize))] = &[
+        ("x := foo(", TokenKind::Eof, (9, 0)),
+        ("a := b = c\n", TokenKind::Equals, (7, 1)),
+        ("a := == b\n", TokenKind::EqualsEquals, (5, 2)),
+    ];
+    for (text, found, place) in ROWS {
+        compare_found(&rt, rt.alloc(), text, *found, *place);
+    }
+}
 
 #[test]
 fn operators_need_their_operands(rt: HostRuntime) {

@@ -192,8 +192,22 @@ fn expressions_stand_among_other_items(rt: HostRuntime) {
             "a := '0'\nc := a + b + a + b\n\nb := '1' #d\n",
         ),
         (
-            "x := arch()\n\na:\n  {{os()}}\n",
-            "x := arch()\n\na:\n    {{ os() }}\n",
+            "a := '0'\nc := a + b + a + b\nb := '1'\n",
+            "a := '0'\nc := a + b + a + b\nb := '1'\n",
+        ),
+        (
+            "a := `echo hello`\nc := a + b + a + b\nb := `echo goodbye`\n",
+            "a := `echo hello`\nc := a + b + a + b\nb := `echo goodbye`\n",
+        ),
+        (
+            "x := arch()\n\na:\n  {{os()}} {{os_family()}}\n",
+            "x := arch()\n\na:\n    {{ os() }} {{ os_family() }}\n",
+        ),
+        (
+            "x := env_var('foo',)\n\na:\n  {{env_var_or_default('foo' + 'bar', 'baz',)}} \
+             {{env_var(env_var('baz'))}}\n",
+            "x := env_var('foo')\n\na:\n    {{ env_var_or_default('foo' + 'bar', 'baz') }} \
+             {{ env_var(env_var('baz')) }}\n",
         ),
     ];
     compare_all_printed(&rt, rt.alloc(), ROWS);

@@ -21,6 +21,16 @@ fn recipes_stand_among_other_items(rt: HostRuntime) {
         ("foo \\\n  :\n", &["recipe foo 0", "newline"]),
         ("foo: # bar", &["recipe foo 0", "comment \"# bar\""]),
         (
+            "foo:\nbar:\nbaz:",
+            &[
+                "recipe foo 0",
+                "newline",
+                "recipe bar 1",
+                "newline",
+                "recipe baz 2",
+            ],
+        ),
+        (
             "#x\nfoo:\n",
             &["comment \"#x\"", "newline", "recipe foo 0", "newline"],
         ),

@@ -131,10 +131,10 @@ pub(crate) fn parsed<'src>(
 }
 
 /// Why a text is refused that was read so.
-pub(crate) fn refused<'src>(
+pub(crate) fn refused<'src, T: Drop>(
     rt: &impl Abort,
     text: &str,
-    answer: CompileResult<'src, Ast<'src>>,
+    answer: CompileResult<'src, T>,
 ) -> CompileError<'src> {
     match answer {
         Err(Fault::Compile(error)) => error,

@@ -27,6 +27,11 @@ fn expressions_are_formatted(rt: HostRuntime) -> Result<(), Fail> {
         "foo:\n  a\n\n   b{{if x==y{'1'}else{if z{\"2\"}else{'3'}}}}c\n",
         "foo:\n    a\n\n     b{{ if x == y { '1' } else if z { \"2\" } else { '3' } }}c\n",
     )?;
+    formats(
+        &rt,
+        "a:=if b==c{[d,]}else{if e{f(g)}}",
+        "a := if b == c { [d] } else if e { f(g) }\n",
+    )?;
     formats(&rt, "a:=env('b',)/c", "a := env('b') / c\n")
 }
 

@@ -1,11 +1,20 @@
-//! That unindenting succeeds where there is memory, and what it answers.
+//! What texts are without the indentation that their lines share.
 
+use crate::tests::support::same_text;
 use crate::unindent::unindent;
+use std::alloc::Global;
 use std::process::Abort;
-use std::test::Fail;
+
+/// Sees that each text is unindented to the one beside it.
+fn compare(rt: &impl Abort, alloc: Global, rows: &[(&str, &str)]) {
+    for (text, expected) in rows {
+        let unindented = unindent(alloc, text).expect(rt, text);
+        same_text(rt, text, unindented.as_str(), expected);
+    }
+}
 
 #[test]
-fn unindents(rt: HostRuntime) -> Result<(), Fail> {
+fn the_shared_indentation_and_blank_outer_lines_go(rt: HostRuntime) {
     const ROWS: &[(&str, &str)] = &[
         ("", ""),
         ("foo", "foo"),
@@ -28,8 +37,5 @@ fn unindents(rt: HostRuntime) -> Result<(), Fail> {
         (" \n  \r\n\n", "\r\n"),
         ("a\n\r\r\nb", "a\n\r\nb"),
     ];
-    for (text, unindented) in ROWS {
-        assert_eq!(rt; unindent(rt.alloc(), text)?.as_str(), *unindented);
-    }
-    Ok(())
+    compare(&rt, rt.alloc(), ROWS);
 }

@@ -1,4 +1,0 @@
-mod cook;
-mod format;
-mod literal;
-mod unindent;

@@ -1,0 +1,10 @@
+-- What the arguments ask for.
+use Rattle.std.specs.Prelude.{◌≡◌, List, [], ◌∷◌, String, codes, map, string_bytes}
+
+-- no argument: the canonical text is to be written
+abbrev pub AsksFormat : List String → Type 0
+AsksFormat arguments = map string_bytes arguments ≡ []
+
+-- `--check` alone: the status is to say whether the text is canonical
+abbrev pub AsksCheck : List String → Type 0
+AsksCheck arguments = map string_bytes arguments ≡ codes "--check" ∷ []
