@@ -64,7 +64,7 @@ impl<'run, 'src, X: Expander> Parser<'run, 'src, X> {
             self.note(ListFeature::LogicalOperator, operator)?;
             let rhs = self.parse_expression_with_condition(false)?;
             self.depth -= 1;
-            Ok(self.node(Expression::Or { lhs, rhs })?)
+            self.node(Expression::Or { lhs, rhs })
         } else {
             self.depth -= 1;
             Ok(lhs)
@@ -86,7 +86,7 @@ impl<'run, 'src, X: Expander> Parser<'run, 'src, X> {
         if let Some((&operator, _)) = self.accept(TokenKind::AmpersandAmpersand) {
             self.note(ListFeature::LogicalOperator, operator)?;
             let rhs = self.parse_disjunct(false)?;
-            Ok(self.node(Expression::And { lhs, rhs })?)
+            self.node(Expression::And { lhs, rhs })
         } else {
             Ok(lhs)
         }
@@ -107,12 +107,12 @@ impl<'run, 'src, X: Expander> Parser<'run, 'src, X> {
         if let Some((operator, (&token, _))) = self.accept_operator() {
             self.note_comparison(condition, token)?;
             let rhs = self.parse_conjunct()?;
-            Ok(self.node(Expression::Comparison {
+            self.node(Expression::Comparison {
                 lhs,
                 operator,
                 rhs,
                 token,
-            })?)
+            })
         } else {
             Ok(lhs)
         }
@@ -134,11 +134,11 @@ impl<'run, 'src, X: Expander> Parser<'run, 'src, X> {
         }
         if let Some((&operator, _)) = self.accept(TokenKind::Slash) {
             let rhs = self.parse_conjunct()?;
-            return Ok(self.node(Expression::Join {
+            return self.node(Expression::Join {
                 lhs: None,
                 operator,
                 rhs,
-            })?);
+            });
         }
         let lhs = self.parse_value()?;
         self.parse_joined(lhs)
@@ -161,16 +161,16 @@ impl<'run, 'src, X: Expander> Parser<'run, 'src, X> {
         if let Some((&operator, _)) = self.accept(TokenKind::Slash) {
             let lhs = Some(lhs);
             let rhs = self.parse_conjunct()?;
-            return Ok(self.node(Expression::Join { lhs, operator, rhs })?);
+            return self.node(Expression::Join { lhs, operator, rhs });
         }
         if let Some((&operator, _)) = self.accept(TokenKind::PlusPlus) {
             self.note(ListFeature::ListConcatenationOperator, operator)?;
             let rhs = self.parse_conjunct()?;
-            return Ok(self.node(Expression::ListConcatenation { lhs, operator, rhs })?);
+            return self.node(Expression::ListConcatenation { lhs, operator, rhs });
         }
         if let Some((&operator, _)) = self.accept(TokenKind::Plus) {
             let rhs = self.parse_conjunct()?;
-            return Ok(self.node(Expression::Concatenation { lhs, operator, rhs })?);
+            return self.node(Expression::Concatenation { lhs, operator, rhs });
         }
         Ok(lhs)
     }
@@ -228,18 +228,18 @@ impl<'run, 'src, X: Expander> Parser<'run, 'src, X> {
         let then = self.parse_braced()?;
         let Some(_else) = self.accept_word("else") else {
             self.note(ListFeature::IfWithoutElse, *word.0)?;
-            return Ok(self.node(Expression::Conditional {
+            return self.node(Expression::Conditional {
                 condition,
                 then,
                 otherwise: None,
-            })?);
+            });
         };
         let otherwise = Some(self.parse_otherwise()?);
-        Ok(self.node(Expression::Conditional {
+        self.node(Expression::Conditional {
             condition,
             then,
             otherwise,
-        })?)
+        })
     }
 
     /// The other branch of a conditional, from behind `else`.
@@ -276,7 +276,7 @@ impl<'run, 'src, X: Expander> Parser<'run, 'src, X> {
         if let Some((&bang, _)) = self.accept(TokenKind::Bang) {
             self.note(ListFeature::NegationOperator, bang)?;
             let operand = self.parse_value()?;
-            return Ok(self.node(Expression::Not { operand })?);
+            return self.node(Expression::Not { operand });
         }
         self.parse_literal()
     }
@@ -341,7 +341,7 @@ impl<'run, 'src, X: Expander> Parser<'run, 'src, X> {
     {
         let literal = self.format_start(start)?;
         let expressions = self.parse_parts(start)?;
-        Ok(self.node(format_string(literal, expressions))?)
+        self.node(format_string(literal, expressions))
     }
 
     /// The expressions of a format string, each with the part behind it, from behind its start.
@@ -406,18 +406,18 @@ impl<'run, 'src, X: Expander> Parser<'run, 'src, X> {
         if let Some(_comma) = self.accept(TokenKind::Comma) {
             let message = Some(self.parse_expression_with_condition(false)?);
             self.expect(TokenKind::ParenR)?;
-            return Ok(self.node(Expression::Assert {
+            return self.node(Expression::Assert {
                 condition,
                 message,
                 name,
-            })?);
+            });
         }
         self.expect(TokenKind::ParenR)?;
-        Ok(self.node(Expression::Assert {
+        self.node(Expression::Assert {
             condition,
             message: None,
             name,
-        })?)
+        })
     }
 
     /// A call or a variable, or another value.
@@ -436,11 +436,11 @@ impl<'run, 'src, X: Expander> Parser<'run, 'src, X> {
         };
         let name = Name::from_identifier(token);
         let Some(_opening) = self.accept(TokenKind::ParenL) else {
-            return Ok(self.node(Expression::Variable { name, number: None })?);
+            return self.node(Expression::Variable { name, number: None });
         };
         let arguments = self.parse_sequence(TokenKind::ParenR)?;
         self.note_if(function_feature(token.lexeme()), token)?;
-        Ok(self.node(call(name, arguments))?)
+        self.node(call(name, arguments))
     }
 
     /// An expression in parentheses, or a list.
@@ -459,7 +459,7 @@ impl<'run, 'src, X: Expander> Parser<'run, 'src, X> {
         };
         let contents = self.parse_expression_with_condition(false)?;
         self.expect(TokenKind::ParenR)?;
-        Ok(self.node(Expression::Group { contents })?)
+        self.node(Expression::Group { contents })
     }
 
     /// A list.
@@ -478,7 +478,7 @@ impl<'run, 'src, X: Expander> Parser<'run, 'src, X> {
         };
         self.note(ListFeature::ListLiteral, opener)?;
         let elements = self.parse_sequence(TokenKind::BracketR)?;
-        Ok(self.node(list(opener, elements))?)
+        self.node(list(opener, elements))
     }
 
     /// Expressions with commas between, up to the closing delimiter and with it.

@@ -1,5 +1,6 @@
 use Rattle.std.proofs.Common.{rules, ◌≡◌, ◌∙◌, ℕ, Bool, true, false, List, [], ◌∷◌, ◌++◌, None, Ok, sym, ap, subst, arith}
 use Rattle.std.proofs.lemmas.Grind.{common_steps}
+use Rattle.std.proofs.lemmas.Result.{IfOk-weaker}
 use Rattle.justfile_base.specs.StringKind.{kind_of}
 use Rattle.justfile_base.specs.Token.{lexeme_of}
 use Rattle.justfile_base.specs.declared.string_literal.StringLiteral.{StringLiteral}
@@ -12,7 +13,7 @@ use Rattle.justfile_parse.specs.Formats.{IsEnded}
 use Rattle.justfile_parse.specs.Given.{IsGivenExpression, IsInTable}
 use Rattle.justfile_parse.specs.Reading.{element_rule, pair_rule}
 use Rattle.justfile_parse.specs.Significant.{significant_of}
-use Rattle.justfile_parse.specs.View.{input_of}
+use Rattle.justfile_parse.specs.View.{IsSameRun, input_of}
 use Rattle.justfile_parse.proofs.Elements.{closes_last}
 use Rattle.justfile_parse.proofs.Elements as elements
 use Rattle.justfile_parse.proofs.Formats.{behind_expression, behind_pair, behind_start}
@@ -98,7 +99,7 @@ parse_format_string-returns-clause-given g t c =
     let E = answers_by g.X.Expander.answer c.args.self.now.expander.now in
     let table = c.args.self.now.tokens.now in
     let whole = format_given E (IsInTable table) c.in_ok-literal.literal c.args.start.0.now c.in_ok-expressions.expressions.items c.in_ok-literal.ensures.token c.in_ok-literal.ensures.given c.in_ok-expressions.ensures.given in
-    subst (IsGivenExpression E (IsInTable table)) (sym c.in_ok-node.ensures.is) (c.format_string.ensures.given E table whole)
+    IfOk-weaker c.node.result (λ e. e.value ≡ c.format_string.result) (λ e. IsGivenExpression E (IsInTable table) e.value) (λ e is. subst (IsGivenExpression E (IsInTable table)) (sym is) (c.format_string.ensures.given E table whole)) c.node.ensures.is
 
 pub parse_list-returns-clause-given : goal.parse_list-returns-clause-given
 parse_list-returns-clause-given g t c =
@@ -106,7 +107,7 @@ parse_list-returns-clause-given g t c =
     let table = c.args.self.now.tokens.now in
     let before = same_run c.in-Some.ensures.same c.in_ok-note.ensures.same in
     let all = all_given (λ x. answers_by g.X.Expander.answer x.now) (λ x. x.now) before.expander before.tokens c.in_ok-elements.elements.items c.in_ok-elements.ensures.given in
-    subst (IsGivenExpression E (IsInTable table)) (sym c.in_ok-node.ensures.is) (c.list.ensures.given E table c.in-Some.ensures.among all)
+    IfOk-weaker c.node.result (λ e. e.value ≡ c.list.result) (λ e. IsGivenExpression E (IsInTable table) e.value) (λ e is. subst (IsGivenExpression E (IsInTable table)) (sym is) (c.list.ensures.given E table c.in-Some.ensures.among all)) c.node.ensures.is
 
 pub parse_name-returns-clause-given : goal.parse_name-returns-clause-given
 parse_name-returns-clause-given g t c =
@@ -115,7 +116,7 @@ parse_name-returns-clause-given g t c =
     let before = same_run c.in-Some.ensures.same c.in-Some-accept.ensures.same in
     let all = all_given (λ x. answers_by g.X.Expander.answer x.now) (λ x. x.now) before.expander before.tokens c.in_ok-arguments.arguments.items c.in_ok-arguments.ensures.given in
     let name = subst (IsInTable table) (sym c.from_identifier-name.ensures) c.in-Some.ensures.among in
-    subst (IsGivenExpression E (IsInTable table)) (sym c.in_ok-node-2.ensures.is) (c.call.ensures.given E table name all)
+    IfOk-weaker c.node-2.result (λ e. e.value ≡ c.call.result) (λ e. IsGivenExpression E (IsInTable table) e.value) (λ e is. subst (IsGivenExpression E (IsInTable table)) (sym is) (c.call.ensures.given E table name all)) c.node-2.ensures.is
 
 pub parse_pair-parse_part-requires : goal.parse_pair-parse_part-requires
 parse_pair-parse_part-requires g t c =
@@ -133,3 +134,9 @@ parse_format-parse_format_string-requires g t c κs within =
     let left = c.accept_marked-2.new.self in
     let ended = behind_start p.tokens.now p.next p.list_features.items _ (significant_of start) (input_of left) p.ended now.some left.depth in
     (first_of (grind (arith, common_steps), search rules), (search rules, (search rules, (search rules, (search rules, ended)))))
+
+pub parse_name-returns-clause-same : goal.parse_name-returns-clause-same
+parse_name-returns-clause-same g t c =
+    let before = same_run c.in-Some.ensures.same c.in-Some-accept.ensures.same in
+    let noted = same_run (same_run before c.in_ok-arguments.ensures.same) c.in_ok-note_if.ensures.same in
+    IfOk-weaker c.node-2.result (λ e. e.value ≡ c.call.result) (λ e. IsSameRun c.args.self.now c.note_if.new.self) (λ e is. noted) c.node-2.ensures.is
