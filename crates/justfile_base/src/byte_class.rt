@@ -27,7 +27,7 @@ pub enum ByteClass {
     Fixed,
     /// The first byte of a character of several bytes.
     Lead,
-    /// Any other byte: `#`, which begins a comment, and what begins no token.
+    /// Any other byte. Of these, `#` and `\` begin a token: a comment, and a line end that is escaped.
     Other,
 }
 

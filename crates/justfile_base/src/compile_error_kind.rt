@@ -73,7 +73,7 @@ pub enum CompileErrorKind<'src> {
     UnicodeEscapeRange {
         hex: String,
     },
-    /// The text ends before the `}` of `\u{..}`.
+    /// The text ends within an escape.
     UnicodeEscapeUnterminated,
     /// No token begins with this character.
     UnknownStartOfToken {

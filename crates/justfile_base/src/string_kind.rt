@@ -88,10 +88,9 @@ impl StringKind {
     pub fn of_opening(bytes: &[u8]) -> Self
         ensures { result ≡ kind_of bytes.now }
     {
-        let quote = byte_at(bytes, 0);
         StringKind {
-            delimiter: delimiter_of(quote).unwrap_or(StringDelimiter::QuoteSingle),
-            indented: byte_at(bytes, 1) == quote && byte_at(bytes, 2) == quote,
+            delimiter: delimiter_of(byte_at(bytes, 0)).unwrap_or(StringDelimiter::QuoteSingle),
+            indented: is_tripled(bytes),
         }
     }
 
@@ -102,8 +101,11 @@ impl StringKind {
         ensures begins { IfSome result (λ kind. take (delimiter_len kind) token_start.now ≡ delimiter_text kind) }
     {
         let bytes = token_start.as_bytes();
-        let _delimiter = delimiter_of(*bytes.first()?)?;
-        Some(StringKind::of_opening(bytes))
+        let delimiter = delimiter_of(*bytes.first()?)?;
+        Some(StringKind {
+            delimiter,
+            indented: is_tripled(bytes),
+        })
     }
 
     /// The kind of a token that is a string or a backtick. An error says that it is neither.
@@ -126,6 +128,14 @@ fn byte_at(bytes: &[u8], at: usize) -> u8
     ensures { result ≡ slice_index bytes.now at }
 {
     if at < bytes.len() { bytes[at] } else { 0 }
+}
+
+/// Whether the first byte stands three times. A byte past the end counts as 0.
+fn is_tripled(bytes: &[u8]) -> bool
+    ensures { result ≡ (kind_of bytes.now).indented }
+{
+    let quote = byte_at(bytes, 0);
+    byte_at(bytes, 1) == quote && byte_at(bytes, 2) == quote
 }
 
 /// The delimiter that is made of this byte.

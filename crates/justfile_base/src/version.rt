@@ -67,7 +67,7 @@ impl Version {
 ///
 /// # Errors
 ///
-/// A message, if the text is none.
+/// A message, if the text is anything else.
 impl FromStr for Version {
     ghost use Rattle.justfile_base.specs.Version.{ReadsVersion};
 

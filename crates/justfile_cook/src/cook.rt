@@ -11,7 +11,7 @@ use std::alloc::{AllocError, Global};
 ///
 /// # Errors
 ///
-/// `Compile` at the token, for the first escape that is none; `Memory` if memory is wanting.
+/// `Compile` at the token, for the first bad escape; `Memory` if memory is wanting.
 pub fn cook_string<'src>(
     alloc: Global,
     token: Token<'src>,

@@ -15,7 +15,7 @@ use std::alloc::{AllocError, Global};
 ///
 /// # Errors
 ///
-/// `Compile` at the token, for the first escape that is none, or if the expander refuses the text;
+/// `Compile` at the token, for the first bad escape, or if the expander refuses the text;
 /// `Memory` if memory is wanting.
 pub fn string_literal<'src, X: Expander>(
     alloc: Global,
