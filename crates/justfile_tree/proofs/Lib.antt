@@ -1,3 +1,4 @@
+mod Compared
 mod Conditionals
 mod Copied
 mod Loops

@@ -1,5 +1,9 @@
 pub mod Copies
 pub mod Expression
+pub mod Key
+pub mod KeyLaws
+pub mod Leaf
 pub mod ListOperator
+pub mod Order
 pub mod SinkLaws
 pub mod Text

@@ -7,7 +7,7 @@ use justfile_model::ConditionalOperator;
 use std::alloc::{AllocError, Global};
 
 /// What stands for a value.
-#[derive(Debug, Drop, PartialEq, Eq, PartialOrd, Ord)]
+#[derive(Drop)]
 pub enum Expression<'src> {
     /// `lhs && rhs`
     And {

@@ -3,6 +3,7 @@
 
 pub mod expression;
 mod list_operator;
+mod order;
 mod print;
 pub mod sink;
 mod sinks;

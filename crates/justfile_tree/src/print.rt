@@ -325,3 +325,10 @@ impl fmt::Display for Expression<'_> {
         write_expression(self, f)
     }
 }
+
+/// The text, as `Display` puts it.
+impl fmt::Debug for Expression<'_> {
+    fn fmt<W: fmt::Write>(&self, f: &mut fmt::Formatter<W>) -> fmt::Result {
+        write_expression(self, f)
+    }
+}

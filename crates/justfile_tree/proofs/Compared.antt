@@ -1,0 +1,111 @@
+-- Comparisons of expressions that hold a vector, by the vector's items.
+use mathlib.Core.Former.{Count}
+use Rattle.std.proofs.Common.{◌≡◌, ◌∙◌, ℕ, zero, suc, ◌≤◌, List, [], ◌∷◌, length, drop, refl, sym, ap, arith}
+use Rattle.std.specs.Cmp.Lexicographic.{slice_cmp}
+use Rattle.std.specs.Global.{Vec}
+use Rattle.std.specs.Ordering.{nat_cmp, on, ordering_then}
+use Rattle.std.specs.declared.cmp.Ordering.{Ordering}
+use Rattle.std.proofs.lemmas.Bool.Decides.{nat_tests}
+use Rattle.justfile_base.specs.declared.name.Name.{Name}
+use Rattle.justfile_base.specs.declared.token.Token.{Token}
+use Rattle.justfile_base.specs.declared.string_literal.StringLiteral.{StringLiteral}
+use Rattle.justfile_tree.specs.Key.{Key, node, end, next, token_key, literal_key, row, keys_of, key_cmp, keys_cmp}
+use Rattle.justfile_tree.specs.KeyLaws.{then_end}
+use Rattle.justfile_tree.specs.Order.{key, part_key, row_keys, row_parts}
+use Rattle.justfile_tree.specs.declared.expression.Expression.{Expression, Call, Call', FormatString, FormatString', List as List_of, List', Row_of-Expression, end_of-Expression, more_of-Expression, Row_of-Expression-FormatString-1-2, end_of-Expression-FormatString-1-2, more_of-Expression-FormatString-1-2, items-the_row-Expression, items-the_row-Expression-FormatString-1-2, items_hidden-the_row-Expression-0, items_hidden-the_row-Expression-FormatString-1-2-1}
+
+module _ {X : Type 0} (R : X → X → Ordering) where
+  shift : (a b : ℕ) → nat_cmp a b ≡ nat_cmp (suc a) (suc b)
+  shift a b = grind (arith, nat_tests)
+
+  tail : (xs ys : List X) (i : ℕ) → length xs ≤ i → i ≤ length xs → i ≤ length ys → slice_cmp R (drop i xs) (drop i ys) ≡ nat_cmp (length xs) (length ys)
+  tail [] [] zero h k l = refl
+  tail [] (y ∷ ys) zero h k l = grind (arith, nat_tests)
+  tail [] ys (suc i) h k l = absurd (omega arith)
+  tail (x ∷ xs) ys zero h k l = absurd (omega arith)
+  tail (x ∷ xs) [] (suc i) h k l = absurd (omega arith)
+  tail (x ∷ xs) (y ∷ ys) (suc i) h k l = tail xs ys i (omega arith) (omega arith) (omega arith) ∙ shift (length xs) (length ys)
+
+  -- where the first list ends, the lengths decide; zs is the first list as the loop has it
+  pub at_end : (xs zs ys : List X) (i m n : ℕ) (r : Ordering) → zs ≡ xs → m ≡ length xs → n ≡ length ys → length zs ≤ i → i ≤ length zs → i ≤ length ys
+      → slice_cmp R (drop i zs) (drop i ys) ≡ slice_cmp R zs ys → r ≡ nat_cmp m n → r ≡ slice_cmp R xs ys
+  at_end xs zs ys i m n r z a b h k l w e =
+      e ∙ (λ j. nat_cmp ((a ∙ ap length (sym z)) j) (b j)) ∙ sym (tail zs ys i h k l) ∙ w ∙ ap (λ q. slice_cmp R q ys) z
+
+listed : {X : Type 0} (key_of : X → Key) (xs ys : List X) → keys_cmp (keys_of key_of xs) (keys_of key_of ys) ≡ slice_cmp (on key_of key_cmp) xs ys
+listed key_of [] [] = refl
+listed key_of [] (y ∷ ys) = refl
+listed key_of (x ∷ xs) [] = refl
+listed key_of (x ∷ xs) (y ∷ ys) = ap (ordering_then (key_cmp (key_of x) (key_of y))) (listed key_of xs ys)
+
+row_is : (n : Count) (items : Row_of-Expression n) → row_keys items ≡ keys_of key (items-the_row-Expression n items)
+row_is n end_of-Expression = refl
+row_is n (more_of-Expression e others) = ap (next (key e)) (row_is _ others)
+
+parts_are : (n : Count) (items : Row_of-Expression-FormatString-1-2 n) → row_parts items ≡ keys_of part_key (items-the_row-Expression-FormatString-1-2 n items)
+parts_are n end_of-Expression-FormatString-1-2 = refl
+parts_are n (more_of-Expression-FormatString-1-2 e part others) = ap (next (part_key (e, part))) (parts_are _ others)
+
+abbrev row_of : Expression → (n : Count) × Row_of-Expression n
+row_of (Call' name _ items) = (_, items)
+row_of (List' _ items opener) = (_, items)
+row_of _ = (_, end_of-Expression)
+
+abbrev part_row_of : Expression → (n : Count) × Row_of-Expression-FormatString-1-2 n
+part_row_of (FormatString' start _ items) = (_, items)
+part_row_of _ = (_, end_of-Expression-FormatString-1-2)
+
+abbrev call_key : Name → List Expression → Key
+call_key name arguments = node 3 (next (token_key name.token) (next (row (keys_of key arguments)) end))
+
+abbrev format_key : StringLiteral → List (Expression × StringLiteral) → Key
+format_key start expressions = node 7 (next (literal_key start) (next (row (keys_of part_key expressions)) end))
+
+abbrev list_key : List Expression → Token → Key
+list_key elements opener = node 10 (next (row (keys_of key elements)) (next (token_key opener) end))
+
+key_call : (name : Name) (v : Vec Expression) → call_key name v.items ≡ key (Call name v)
+key_call name v =
+    let items = row_of (Call name v) in
+    ap (λ ks. node 3 (next (token_key name.token) (next (row ks) end))) (sym (row_is items.0 items.1 ∙ ap (keys_of key) (items_hidden-the_row-Expression-0 v)))
+
+key_format : (start : StringLiteral) (v : Vec (Expression × StringLiteral)) → format_key start v.items ≡ key (FormatString start v)
+key_format start v =
+    let items = part_row_of (FormatString start v) in
+    ap (λ ks. node 7 (next (literal_key start) (next (row ks) end))) (sym (parts_are items.0 items.1 ∙ ap (keys_of part_key) (items_hidden-the_row-Expression-FormatString-1-2-1 v)))
+
+key_list : (v : Vec Expression) (opener : Token) → list_key v.items opener ≡ key (List_of v opener)
+key_list v opener =
+    let items = row_of (List_of v opener) in
+    ap (λ ks. node 10 (next (row ks) (next (token_key opener) end))) (sym (row_is items.0 items.1 ∙ ap (keys_of key) (items_hidden-the_row-Expression-0 v)))
+
+-- ---- what the function of a case gives
+
+pub from_call : (name : Name) (v : Vec Expression) (k : Key) (r : Ordering) → r ≡ key_cmp (call_key name v.items) k → r ≡ key_cmp (key (Call name v)) k
+from_call name v k r e = e ∙ ap (λ l. key_cmp l k) (key_call name v)
+
+pub from_format : (start : StringLiteral) (v : Vec (Expression × StringLiteral)) (k : Key) (r : Ordering) → r ≡ key_cmp (format_key start v.items) k → r ≡ key_cmp (key (FormatString start v)) k
+from_format start v k r e = e ∙ ap (λ l. key_cmp l k) (key_format start v)
+
+pub from_list : (v : Vec Expression) (opener : Token) (k : Key) (r : Ordering) → r ≡ key_cmp (list_key v.items opener) k → r ≡ key_cmp (key (List_of v opener)) k
+from_list v opener k r e = e ∙ ap (λ l. key_cmp l k) (key_list v opener)
+
+-- ---- two of one case, by their fields: p compares the first, and q the second
+
+pub both_calls : (name other : Name) (xs : List Expression) (v : Vec Expression) (p q r : Ordering)
+    → p ≡ key_cmp (token_key name.token) (token_key other.token) → q ≡ slice_cmp (on key key_cmp) xs v.items → r ≡ ordering_then p q
+    → r ≡ key_cmp (call_key name xs) (key (Call other v))
+both_calls name other xs v p q r e f g =
+    g ∙ (λ i. ordering_then (e i) ((f ∙ sym (listed key xs v.items) ∙ sym (then_end (keys_cmp (keys_of key xs) (keys_of key v.items)))) i)) ∙ ap (key_cmp (call_key name xs)) (key_call other v)
+
+pub both_formats : (start other : StringLiteral) (xs : List (Expression × StringLiteral)) (v : Vec (Expression × StringLiteral)) (p q r : Ordering)
+    → p ≡ key_cmp (literal_key start) (literal_key other) → q ≡ slice_cmp (on part_key key_cmp) xs v.items → r ≡ ordering_then p q
+    → r ≡ key_cmp (format_key start xs) (key (FormatString other v))
+both_formats start other xs v p q r e f g =
+    g ∙ (λ i. ordering_then (e i) ((f ∙ sym (listed part_key xs v.items) ∙ sym (then_end (keys_cmp (keys_of part_key xs) (keys_of part_key v.items)))) i)) ∙ ap (key_cmp (format_key start xs)) (key_format other v)
+
+pub both_lists : (opener other : Token) (xs : List Expression) (v : Vec Expression) (p q r : Ordering)
+    → p ≡ slice_cmp (on key key_cmp) xs v.items → q ≡ key_cmp (token_key opener) (token_key other) → r ≡ ordering_then p q
+    → r ≡ key_cmp (list_key xs opener) (key (List_of v other))
+both_lists opener other xs v p q r e f g =
+    g ∙ (λ i. ordering_then ((e ∙ sym (listed key xs v.items)) i) ((f ∙ sym (then_end (key_cmp (token_key opener) (token_key other)))) i)) ∙ ap (key_cmp (list_key xs opener)) (key_list v other)
