@@ -1,6 +1,10 @@
 mod Compared
 mod Conditionals
 mod Copied
+mod Ended
+mod Joined
 mod Loops
+mod Nodes
 mod Rows
 pub mod Trees
+mod Walk

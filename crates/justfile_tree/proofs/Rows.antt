@@ -1,11 +1,8 @@
--- The text of an expression that holds a vector, by the vector's items.
+-- The text of a row of expressions, by its items.
 use mathlib.Core.Former.{Count}
 use Rattle.std.proofs.Common.{◌≡◌, ℕ, List, ◌++◌, map, codes, refl, sym, ap, ◌∙◌, append_assoc, append-nil}
-use Rattle.std.specs.Global.{Vec}
 use Rattle.std.specs.List.{flat_map}
-use Rattle.justfile_base.specs.declared.name.Name.{Name}
 use Rattle.justfile_base.specs.declared.token.Token.{Token}
-use Rattle.justfile_base.specs.declared.string_literal.StringLiteral.{StringLiteral}
 use Rattle.justfile_base.specs.StringLiteral.{literal_text}
 use Rattle.justfile_base.specs.Token.{lexeme_of}
 use Rattle.justfile_model.specs.Tok.{Tok, tok_of}
@@ -13,9 +10,9 @@ use Rattle.justfile_model.specs.Tree.{over_expr, over_exprs, over_parts, lexeme,
 use Rattle.justfile_model.specs.Printing.{piece, expr_text, exprs_text, parts_text}
 use Rattle.justfile_tree.specs.Expression.{exprs_of_row, format_of, parts_of_row, part_tok}
 use Rattle.justfile_tree.specs.Text.{text_of, separated, part_text}
-use Rattle.justfile_tree.specs.declared.expression.Expression.{Expression, Call, Call', FormatString, FormatString', List as List_of, List', Row_of-Expression, end_of-Expression, more_of-Expression, Row_of-Expression-FormatString-1-2, end_of-Expression-FormatString-1-2, more_of-Expression-FormatString-1-2, items-the_row-Expression, items-the_row-Expression-FormatString-1-2, items_hidden-the_row-Expression-0, items_hidden-the_row-Expression-FormatString-1-2-1}
+use Rattle.justfile_tree.specs.declared.expression.Expression.{Row_of-Expression, end_of-Expression, more_of-Expression, Row_of-Expression-FormatString-1-2, end_of-Expression-FormatString-1-2, more_of-Expression-FormatString-1-2, items-the_row-Expression, items-the_row-Expression-FormatString-1-2}
 
-separated_row : (n : Count) (row : Row_of-Expression n) → exprs_text (over_exprs lexeme nothing (exprs_of_row row)) ≡ separated (map text_of (items-the_row-Expression n row))
+pub separated_row : (n : Count) (row : Row_of-Expression n) → exprs_text (over_exprs lexeme nothing (exprs_of_row row)) ≡ separated (map text_of (items-the_row-Expression n row))
 separated_row n end_of-Expression = refl
 separated_row n (more_of-Expression e end_of-Expression) = sym (append-nil (text_of e))
 separated_row n (more_of-Expression e (more_of-Expression next others)) =
@@ -23,7 +20,7 @@ separated_row n (more_of-Expression e (more_of-Expression next others)) =
     ∙ append_assoc (text_of e) (piece (codes ", ")) (separated (map text_of (items-the_row-Expression _ (more_of-Expression next others))))
     ∙ ap (λ t. text_of e ++ t) (sym (append_assoc (piece (codes ", ")) (text_of next) (flat_map (λ t. piece (codes ", ") ++ t) (map text_of (items-the_row-Expression _ others)))))
 
--- a text, and the five behind it
+-- a text, and the five after it
 grouped : (a s e t b f : List ℕ) → (((a ++ s) ++ e) ++ t) ++ (b ++ f) ≡ a ++ ((((s ++ e) ++ t) ++ b) ++ f)
 grouped a s e t b f =
     append_assoc ((a ++ s) ++ e) t (b ++ f) ∙ append_assoc (a ++ s) e (t ++ (b ++ f)) ∙ append_assoc a s (e ++ (t ++ (b ++ f)))
@@ -36,33 +33,9 @@ parts_row token n (more_of-Expression-FormatString-1-2 e next others) =
     ap (λ t. token.lexeme ++ piece (codes " ") ++ text_of e ++ piece (codes " ") ++ t) (parts_row (part_tok next) _ others)
     ∙ grouped token.lexeme (piece (codes " ")) (text_of e) (piece (codes " ")) (literal_text next) (flat_map part_text (items-the_row-Expression-FormatString-1-2 _ others))
 
-format_row : (start : Token) (n : Count) (row : Row_of-Expression-FormatString-1-2 n)
+pub format_row : (start : Token) (n : Count) (row : Row_of-Expression-FormatString-1-2 n)
     → expr_text (over_expr lexeme nothing (format_of (tok_of start) row)) ≡ (piece (codes "f") ++ lexeme_of start) ++ flat_map part_text (items-the_row-Expression-FormatString-1-2 n row)
 format_row start n end_of-Expression-FormatString-1-2 = sym (append-nil (piece (codes "f") ++ lexeme_of start))
 format_row start n (more_of-Expression-FormatString-1-2 e next others) =
     ap (λ t. piece (codes "f") ++ lexeme_of start ++ piece (codes " ") ++ text_of e ++ piece (codes " ") ++ t) (parts_row (part_tok next) _ others)
     ∙ grouped (piece (codes "f") ++ lexeme_of start) (piece (codes " ")) (text_of e) (piece (codes " ")) (literal_text next) (flat_map part_text (items-the_row-Expression-FormatString-1-2 _ others))
-
-abbrev row_of : Expression → (n : Count) × Row_of-Expression n
-row_of (Call' name _ row) = (_, row)
-row_of (List' _ row opener) = (_, row)
-row_of _ = (_, end_of-Expression)
-
-abbrev part_row_of : Expression → (n : Count) × Row_of-Expression-FormatString-1-2 n
-part_row_of (FormatString' start _ row) = (_, row)
-part_row_of _ = (_, end_of-Expression-FormatString-1-2)
-
-pub text_call : (name : Name) (v : Vec Expression) → text_of (Call name v) ≡ lexeme_of name.token ++ piece (codes "(") ++ separated (map text_of v.items) ++ piece (codes ")")
-text_call name v =
-    let row = row_of (Call name v) in
-    ap (λ ts. lexeme_of name.token ++ piece (codes "(") ++ ts ++ piece (codes ")")) (separated_row row.0 row.1 ∙ ap (λ es. separated (map text_of es)) (items_hidden-the_row-Expression-0 v))
-
-pub text_list : (v : Vec Expression) (opener : Token) → text_of (List_of v opener) ≡ piece (codes "[") ++ separated (map text_of v.items) ++ piece (codes "]")
-text_list v opener =
-    let row = row_of (List_of v opener) in
-    ap (λ ts. piece (codes "[") ++ ts ++ piece (codes "]")) (separated_row row.0 row.1 ∙ ap (λ es. separated (map text_of es)) (items_hidden-the_row-Expression-0 v))
-
-pub text_format_string : (start : StringLiteral) (v : Vec (Expression × StringLiteral)) → text_of (FormatString start v) ≡ piece (codes "f") ++ lexeme_of start.token ++ flat_map part_text v.items
-text_format_string start v =
-    let row = part_row_of (FormatString start v) in
-    format_row start.token row.0 row.1 ∙ ap (λ ps. piece (codes "f") ++ lexeme_of start.token ++ flat_map part_text ps) (items_hidden-the_row-Expression-FormatString-1-2-1 v)

@@ -29,7 +29,7 @@ format_row : (start : Tok) (n : Count) (row : Row_of-Expression-FormatString-1-2
 format_row start n end_of-Expression-FormatString-1-2 = refl
 format_row start n (more_of-Expression-FormatString-1-2 e literal others) = ap (λ ps. tree.FormatString start (expr_of e) ps) (parts_row (part_tok literal) _ others)
 
--- the texts of an expression of a format string, and of the part behind it
+-- the texts of an expression of a format string, and of the part after it
 abbrev pub part_cooked : Expression × StringLiteral → List (List ℕ)
 part_cooked x = expr_cooked x.0 ++ string_bytes x.1.cooked ∷ []
 

@@ -48,6 +48,6 @@ IsSameOption None None = Unit {0}
 IsSameOption (Some copy) (Some original) = IsSameExpression copy.value original.value
 IsSameOption _ _ = ⊥
 
--- an expression of a format string, and the part behind it
+-- an expression of a format string, and the part after it
 abbrev pub IsSamePart : (copy original : Expression × literals.StringLiteral) → Type 0
 IsSamePart copy original = IsSameExpression copy.0 original.0 × IsSameLiteral copy.1 original.1

@@ -1,3 +1,4 @@
+pub mod Children
 pub mod Copies
 pub mod Expression
 pub mod Key
@@ -7,3 +8,4 @@ pub mod ListOperator
 pub mod Order
 pub mod SinkLaws
 pub mod Text
+pub mod Texts

@@ -38,7 +38,7 @@ abbrev mutual
   row_parts end_of-Expression-FormatString-1-2 = end
   row_parts (more_of-Expression-FormatString-1-2 e l others) = next (row (next (key e) (next (literal_key l) end))) (row_parts others)
 
--- an expression of a format string, and the part behind it
+-- an expression of a format string, and the part after it
 abbrev pub part_key : Expression × literals.StringLiteral → Key
 part_key x = row (next (key x.0) (next (literal_key x.1) end))
 

@@ -47,13 +47,13 @@ pub enum Expression<'src> {
         operator: Token<'src>,
         rhs: Box<Expression<'src>>,
     },
-    /// `if condition { then }`, or with `else { otherwise }` behind it
+    /// `if condition { then }`, or with `else { otherwise }` after it
     Conditional {
         condition: Box<Expression<'src>>,
         then: Box<Expression<'src>>,
         otherwise: Option<Box<Expression<'src>>>,
     },
-    /// A format string: its first part, and each expression with the part behind it.
+    /// A format string: its first part, and each expression with the part after it.
     FormatString {
         start: StringLiteral<'src>,
         expressions: Vec<(Expression<'src>, StringLiteral<'src>)>,
@@ -101,7 +101,7 @@ pub enum Expression<'src> {
 }
 
 impl<'src> Expression<'src> {
-    /// The same expression once more.
+    /// A copy of the expression.
     #[cycle(copy)]
     pub fn clone(&self, alloc: Global) -> Result<Self, AllocError>
         ensures { IfOk result (λ copy. IsSameExpression copy self.now) }
@@ -204,7 +204,7 @@ impl<'src> Expression<'src> {
     }
 }
 
-/// Two expressions once more, each in a box of its own.
+/// Copies of two expressions, each in a box of its own.
 #[cycle(copy)]
 fn both<'src>(
     alloc: Global,
@@ -217,7 +217,7 @@ fn both<'src>(
     Ok((copy, boxed(alloc, rhs)?))
 }
 
-/// An expression that may be absent once more.
+/// A copy of an expression that may be absent.
 #[cycle(copy)]
 fn held<'src>(
     alloc: Global,
@@ -231,7 +231,7 @@ fn held<'src>(
     }
 }
 
-/// The same expression once more, in a box of its own.
+/// A copy of an expression, in a box of its own.
 #[cycle(copy)]
 fn boxed<'src>(
     alloc: Global,
@@ -243,7 +243,7 @@ fn boxed<'src>(
     Ok(Box::new(alloc, copy)?)
 }
 
-/// The same expressions once more.
+/// Copies of expressions.
 #[cycle(copy)]
 fn copied<'src>(
     alloc: Global,
@@ -259,7 +259,7 @@ fn copied<'src>(
     Ok(copies)
 }
 
-/// The same expressions and parts of a format string once more.
+/// Copies of the expressions of a format string, each with a copy of the part after it.
 #[cycle(copy)]
 fn copied_parts<'src>(
     alloc: Global,
@@ -275,7 +275,7 @@ fn copied_parts<'src>(
     Ok(parts)
 }
 
-/// The same expression of a format string once more, and the part behind it.
+/// A copy of an expression of a format string, with a copy of the part after it.
 #[cycle(copy)]
 fn copied_part<'src>(
     alloc: Global,

@@ -1,12 +1,14 @@
 //! Expressions, and the walk that prints them.
 #![tactic(auto)]
 
+mod children;
 pub mod expression;
 mod list_operator;
 mod order;
 mod print;
 pub mod sink;
 mod sinks;
+mod words;
 
 pub use crate::expression::Expression;
 pub use crate::list_operator::ListOperator;

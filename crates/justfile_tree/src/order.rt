@@ -1,4 +1,5 @@
-//! How expressions compare.
+//! How expressions compare: by their cases in declared order, and within a case by its fields in
+//! declared order, places included.
 ghost use Rattle.std.specs.Prelude.{◌≡◌, Some, string_bytes};
 ghost use Rattle.std.proofs.Common.{refl};
 ghost use Rattle.std.specs.Cmp.{eq_by_cmp_equiv, on_total, partial_equiv_from_equiv, partial_order_from_total};
@@ -13,7 +14,7 @@ use justfile_base::{Name, Number, StringLiteral, Token};
 use justfile_model::ConditionalOperator;
 use std::cmp::Ordering;
 
-/// The place of its case among those of the type.
+/// The place of an expression's case among the cases of the type.
 fn case(expression: &Expression<'_>) -> u8
     ensures { result ≡ label (key expression.now) }
 {
@@ -37,7 +38,8 @@ fn case(expression: &Expression<'_>) -> u8
     }
 }
 
-/// By the cases as they are declared, and in one case by the fields as they are declared.
+/// Compares two expressions: by their cases in declared order, and within a case by its fields in
+/// declared order.
 #[cycle(order)]
 fn compare<'src>(expression: &Expression<'src>, other: &Expression<'src>) -> Ordering
     ensures { result ≡ key_cmp (key expression.now) (key other.now) }
@@ -86,7 +88,7 @@ fn compare<'src>(expression: &Expression<'src>, other: &Expression<'src>) -> Ord
     }
 }
 
-/// None comes before some.
+/// Compares two expressions that may be absent: an absent one comes first.
 #[cycle(order)]
 fn compare_held<'src>(
     expression: &Option<Box<Expression<'src>>>,
@@ -106,7 +108,7 @@ fn compare_held<'src>(
     }
 }
 
-/// From the left.
+/// Compares two rows of expressions from the left: one that ends comes before a longer one.
 #[cycle(order)]
 fn compare_all<'src>(
     expressions: &Vec<Expression<'src>>,
@@ -126,7 +128,8 @@ fn compare_all<'src>(
     expressions.len().cmp(&others.len())
 }
 
-/// From the left, each expression and then the part behind it.
+/// Compares what follows the starts of two format strings, from the left: each expression, and then
+/// the part after it.
 #[cycle(order)]
 fn compare_parts<'src>(
     expressions: &Vec<(Expression<'src>, StringLiteral<'src>)>,
@@ -147,7 +150,7 @@ fn compare_parts<'src>(
     expressions.len().cmp(&others.len())
 }
 
-/// A conjunction of these fields with another expression.
+/// Compares a conjunction with these fields to another expression.
 #[cycle(order)]
 fn compare_and<'src>(
     lhs: &Expression<'src>,
@@ -165,7 +168,7 @@ fn compare_and<'src>(
     }
 }
 
-/// An assertion of these fields with another expression.
+/// Compares an assertion with these fields to another expression.
 #[cycle(order)]
 fn compare_assert<'src>(
     condition: &Expression<'src>,
@@ -187,7 +190,7 @@ fn compare_assert<'src>(
     }
 }
 
-/// A command of these fields with another expression.
+/// Compares a command with these fields to another expression.
 fn compare_backtick<'src>(
     contents: &String,
     token: &Token<'src>,
@@ -207,7 +210,7 @@ fn compare_backtick<'src>(
     }
 }
 
-/// A call of these fields with another expression.
+/// Compares a call with these fields to another expression.
 #[cycle(order)]
 fn compare_call<'src>(
     name: &Name<'src>,
@@ -228,7 +231,7 @@ fn compare_call<'src>(
     }
 }
 
-/// A comparison of these fields with another expression.
+/// Compares a comparison with these fields to another expression.
 #[cycle(order)]
 fn compare_comparison<'src>(
     lhs: &Expression<'src>,
@@ -253,7 +256,7 @@ fn compare_comparison<'src>(
     }
 }
 
-/// A concatenation of these fields with another expression.
+/// Compares a concatenation with these fields to another expression.
 #[cycle(order)]
 fn compare_concatenation<'src>(
     lhs: &Expression<'src>,
@@ -275,7 +278,7 @@ fn compare_concatenation<'src>(
     }
 }
 
-/// A conditional of these fields with another expression.
+/// Compares a conditional with these fields to another expression.
 #[cycle(order)]
 fn compare_conditional<'src>(
     condition: &Expression<'src>,
@@ -297,7 +300,7 @@ fn compare_conditional<'src>(
     }
 }
 
-/// A format string of these fields with another expression.
+/// Compares a format string with these fields to another expression.
 #[cycle(order)]
 fn compare_format_string<'src>(
     start: &StringLiteral<'src>,
@@ -317,7 +320,7 @@ fn compare_format_string<'src>(
     }
 }
 
-/// A group of this field with another expression.
+/// Compares a group with this field to another expression.
 #[cycle(order)]
 fn compare_group<'src>(contents: &Expression<'src>, other: &Expression<'src>) -> Ordering
     ensures { result ≡ key_cmp (node 8 (next (key contents.now) end)) (key other.now) }
@@ -330,7 +333,7 @@ fn compare_group<'src>(contents: &Expression<'src>, other: &Expression<'src>) ->
     }
 }
 
-/// A join of these fields with another expression.
+/// Compares a join with these fields to another expression.
 #[cycle(order)]
 fn compare_join<'src>(
     lhs: &Option<Box<Expression<'src>>>,
@@ -352,7 +355,7 @@ fn compare_join<'src>(
     }
 }
 
-/// A list of these fields with another expression.
+/// Compares a list with these fields to another expression.
 #[cycle(order)]
 fn compare_list<'src>(
     elements: &Vec<Expression<'src>>,
@@ -370,7 +373,7 @@ fn compare_list<'src>(
     }
 }
 
-/// A concatenation of lists of these fields with another expression.
+/// Compares a concatenation of lists with these fields to another expression.
 #[cycle(order)]
 fn compare_list_concatenation<'src>(
     lhs: &Expression<'src>,
@@ -392,7 +395,7 @@ fn compare_list_concatenation<'src>(
     }
 }
 
-/// A negation of this field with another expression.
+/// Compares a negation with this field to another expression.
 #[cycle(order)]
 fn compare_not<'src>(operand: &Expression<'src>, other: &Expression<'src>) -> Ordering
     ensures { result ≡ key_cmp (node 12 (next (key operand.now) end)) (key other.now) }
@@ -405,7 +408,7 @@ fn compare_not<'src>(operand: &Expression<'src>, other: &Expression<'src>) -> Or
     }
 }
 
-/// A disjunction of these fields with another expression.
+/// Compares a disjunction with these fields to another expression.
 #[cycle(order)]
 fn compare_or<'src>(
     lhs: &Expression<'src>,
@@ -423,7 +426,7 @@ fn compare_or<'src>(
     }
 }
 
-/// A literal of this field with another expression.
+/// Compares a literal with this field to another expression.
 fn compare_string_literal<'src>(
     string_literal: &StringLiteral<'src>,
     other: &Expression<'src>,
@@ -438,7 +441,7 @@ fn compare_string_literal<'src>(
     }
 }
 
-/// A variable of these fields with another expression.
+/// Compares a variable with these fields to another expression.
 fn compare_variable<'src>(
     name: &Name<'src>,
     number: &Option<Number>,
@@ -458,7 +461,7 @@ fn compare_variable<'src>(
     }
 }
 
-/// Equal where neither comes before the other.
+/// Two expressions are equal if neither comes before the other.
 impl PartialEq for Expression<'_> {
     ghost eq = { eq_by_cmp expression_cmp };
 
