@@ -63,7 +63,7 @@ good_file s indentation h =
 -- features without their places
 kinds_over : {A B : Type 0} (f : A → B) (ns : List (Noted A)) → kinds_of (map (over_noted f) ns) ≡ kinds_of ns
 kinds_over f [] = refl
-kinds_over f (n ∷ ns) = ap (λ ks. n.feature ∷ ks) (kinds_over f ns)
+kinds_over f (n ∷ ns) = ap (λ ks. n.0 ∷ ks) (kinds_over f ns)
 
 -- ---- numbers
 

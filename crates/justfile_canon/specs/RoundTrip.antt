@@ -25,7 +25,7 @@ printed shape indentation = text (normal shape) indentation
 
 -- features without their places
 abbrev pub kinds_of : {B : Type 0} → List (Noted B) → List ListFeature
-kinds_of = map (λ n. n.feature)
+kinds_of = map (λ n. n.0)
 
 -- The text derives the normal form of the shape, with the same features but for their places, the same texts of literals, as many bindings
 -- and as many recipes, and is what is printed of that.

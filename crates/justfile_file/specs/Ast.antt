@@ -17,7 +17,7 @@ abbrev pub ast_shape : Ast → Shape
 ast_shape ast = shape_of (tree_of ast)
 
 abbrev pub noted_of : ListFeature × Token → Noted Tok
-noted_of x = record { feature = x.0; at = tok_of x.1 }
+noted_of x = (x.0, tok_of x.1)
 
 -- what it uses that needs the setting for lists, in order
 abbrev pub features_of : Ast → List (Noted Tok)

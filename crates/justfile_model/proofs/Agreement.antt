@@ -8,8 +8,8 @@ use Rattle.justfile_model.specs.Expressions.{Tokens, Limited, Free, Waived}
 use Rattle.justfile_model.specs.Grammar.{File}
 use Rattle.justfile_model.specs.Literals.{Literal, over_literal, Answers, Cooks}
 use Rattle.justfile_model.specs.Files.{VersionNumbers, literals, FileTree, FileDerives}
-use Rattle.justfile_model.specs.Reading.{Refusal, TooDeep}
-use Rattle.justfile_model.specs.Reader.{file}
+use Rattle.justfile_model.specs.Reading.{TooDeep}
+use Rattle.justfile_model.specs.TreeReader.{Refusal, file}
 use Rattle.justfile_model.specs.Refusals.{IsDue}
 use Rattle.justfile_model.proofs.CookedTexts.{AllCook, all_cook, texts_of}
 use Rattle.justfile_model.proofs.Complete.{file_reached}

@@ -172,7 +172,7 @@ module _ {A B A' B' C D : Type 0} (leaf : Tok → A) (spot : Tok → B) (Open : 
   -- a feature, and those behind it
   noted_then : (feature : ListFeature) (t u : SignificantToken) → Rel t u → (fs : List (Noted B)) (fs' : List (Noted B')) → map (over_noted h') fs' ≡ map (over_noted h) fs
       → map (over_noted h') (noted feature (spot' u.tok) ++ fs') ≡ map (over_noted h) (noted feature (spot t.tok) ++ fs)
-  noted_then feature t u s fs fs' e = λ i. record { feature = feature; at = spots t u s i } ∷ e i
+  noted_then feature t u s fs fs' e = λ i. (feature, spots t u s i) ∷ e i
 
   -- three rows
   three : (fs gs ks : List (Noted B)) (fs' gs' ks' : List (Noted B')) → map (over_noted h') fs' ≡ map (over_noted h) fs → map (over_noted h') gs' ≡ map (over_noted h) gs

@@ -31,6 +31,10 @@ module _ {expander : Answers} where
   pub noted_met : {fs : List (Noted Tok)} (gs : List (Noted Tok)) {ls : List (Literal Tok)} {a b : List (Noted Tok)} → Met expander fs ls a b → Met expander (fs ++ gs) ls a (b ++ gs)
   noted_met {fs} gs {a = a} h = record { noted_is = ap (λ l. l ++ gs) h.noted_is ∙ append_assoc a fs gs; cooks = h.cooks }
 
+  -- no feature is one more
+  pub unnoted_met : {fs : List (Noted Tok)} {ls : List (Literal Tok)} {a b : List (Noted Tok)} → Met expander fs ls a b → Met expander fs ls a (b ++ [])
+  unnoted_met {b = b} h = record { noted_is = append-nil b ∙ h.noted_is; cooks = h.cooks }
+
   -- as the literals of a list
   pub all_met : {fs : List (Noted Tok)} {ls : List (Literal Tok)} {a b : List (Noted Tok)} → Met expander fs ls a b → Met expander fs (ls ++ []) a b
   all_met {ls = ls} h = record { noted_is = h.noted_is; cooks = both_cook expander ls [] h.cooks tt }

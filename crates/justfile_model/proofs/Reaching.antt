@@ -8,11 +8,14 @@ use Rattle.justfile_model.specs.Tree.{lexeme}
 use Rattle.justfile_model.specs.Features.{Noted}
 use Rattle.justfile_model.specs.Expressions.{Tokens, front, Limited, Free, Waived}
 use Rattle.justfile_model.specs.Literals.{Literal, over_literal, token_of, LiteralFault, Answers, cooked_text}
-use Rattle.justfile_model.specs.Reading.{Refusal, TooDeep, ◌>>=◌, Input, Read, refused}
-use Rattle.justfile_model.specs.ExpressionReader.{with_text}
+use Rattle.justfile_model.specs.Reading.{TooDeep, NotCooked, ◌>>=◌, refused}
+use Rattle.justfile_model.specs.ExpressionReader as r
+use Rattle.justfile_model.specs.ExpressionReader.{by_text}
+use Rattle.justfile_model.specs.TreeReader.{Read, Refusal, State, token_leaves}
 use Rattle.justfile_model.specs.Refusals.{LacksText, IsDue}
 use Rattle.justfile_model.proofs.CookedTexts.{AllCook, both_cook, then_cook, all_cook, texts_of}
-use Rattle.justfile_model.proofs.Steps.{input, after_test}
+use Rattle.justfile_model.proofs.ReadingSteps.{after_test}
+use Rattle.justfile_model.proofs.Steps.{input}
 
 at_limit : (d : ℕ) → d ≤ 256 → nat_lt d 256 ≡ false → d ≡ 256
 at_limit d within h = let not : 256 ≤ d = grind (arith, nat_tests) in omega (arith, within, not)
@@ -38,8 +41,6 @@ module _ (expander : Answers) where
     cooks = h.cooks;
     fault = h.fault;
     no_text = h.no_text;
-    token = h.token;
-    token_is = h.token_is;
     refusal_is = h.refusal_is;
   }
 
@@ -55,8 +56,6 @@ module _ (expander : Answers) where
         cooks = texts.1;
         fault = h.fault;
         no_text = h.no_text;
-        token = h.token;
-        token_is = h.token_is;
         refusal_is = h.refusal_is;
       }
 
@@ -89,8 +88,8 @@ module _ (expander : Answers) where
     by {x = x} {ls = ls} is h = subst (λ o. Reaches o x ls) (sym is) h
 
     -- with the same features, put together otherwise
-    pub renoted : {A : Type 0} {found : Read A} {e : A} {rest : Tokens} {m n : List (Noted Tok)} {ls : List (Literal Tok)} → m ≡ n → Reaches found (e, input rest m) ls → Reaches found (e, input rest n) ls
-    renoted {A} {found} {e} {rest} {ls = ls} same h = subst (λ (n : List (Noted Tok)). Reaches found (e, input rest n) ls) same h
+    pub renoted : {A : Type 0} {found : Read A} {e : A} {d : ℕ} {rest : Tokens} {m n : List (Noted Tok)} {ls : List (Literal Tok)} → m ≡ n → Reaches found (e, input expander d rest m) ls → Reaches found (e, input expander d rest n) ls
+    renoted {A} {found} {e} {d} {rest} {ls = ls} same h = subst (λ (n : List (Noted Tok)). Reaches found (e, input expander d rest n) ls) same h
 
     -- with the same literals, put together otherwise
     pub regrouped : {X : Type 0} {found : Result X Refusal} {x : X} {ls ms : List (Literal Tok)} → ls ≡ ms → Reaches found x ls → Reaches found x ms
@@ -110,25 +109,27 @@ module _ (expander : Answers) where
     pass f (is_read a is) goes = is_read a (ap (λ o. o >>= f) is ∙ goes)
     pass f (is_refused h is) goes = is_refused h (ap (λ o. o >>= f) is)
 
-    text_reached : {A : Type 0} (l : Literal Tok) (e : A) (t : SignificantToken) (s : Input) → t.tok ≡ token_of l
-        → (found : Result (List ℕ) LiteralFault) → cooked_text expander (over_literal lexeme l) ≡ found → Reaches (with_text e (t, s) found) (e, s) (l ∷ [])
+    text_reached : {A : Type 0} (l : Literal Tok) (e : A) (t : SignificantToken) (s : State) → t.tok ≡ token_of l
+        → (found : Result (List ℕ) LiteralFault) → cooked_text expander (over_literal lexeme l) ≡ found → Reaches (by_text token_leaves (λ text. e) (t, s) found) (e, s) (l ∷ [])
     text_reached l e t s at (Ok text) h = is_read (record { text = text; is = h }, tt) refl
     text_reached l e t s at (Err fault) h =
         is_refused
-        (inl (record { before = []; literal = l; behind = []; all_is = refl; cooked = []; cooks = tt; fault = fault; no_text = h; token = t; token_is = at; refusal_is = refl }))
+        (inl (record { before = []; literal = l; behind = []; all_is = refl; cooked = []; cooks = tt; fault = fault; no_text = h; refusal_is = ap (λ (t : Tok). NotCooked fault t) at }))
         refl
 
     -- a literal
-    pub cooked : {A : Type 0} (l : Literal Tok) {e : A} (t : SignificantToken) {s : Input} → t.tok ≡ token_of l → Reaches (with_text e (t, s) (cooked_text expander (over_literal lexeme l))) (e, s) (l ∷ [])
-    cooked l {e} t {s} at = text_reached l e t s at (cooked_text expander (over_literal lexeme l)) refl
+    pub cooked : {A : Type 0} (make : Tok → A) (ask : List ℕ → Literal (List ℕ)) (l : Literal Tok) (t : SignificantToken) {d : ℕ} {ts : Tokens} {ns : List (Noted Tok)} → t.tok ≡ token_of l → ask t.tok.lexeme ≡ over_literal lexeme l
+        → Reaches (r.cooked token_leaves make ask (t, input expander d ts ns)) (make t.tok, input expander d ts ns) (l ∷ [])
+    unfolding r.cooked
+    cooked make ask l t {d} {ts} {ns} at asks = text_reached l (make t.tok) t (input expander d ts ns) at (cooked_text expander (ask t.tok.lexeme)) (ap (cooked_text expander) (sym asks))
 
     -- an expression is entered
-    pub entered : {A : Type 0} {x : Read A} {y : A × Input} {ls : List (Literal Tok)} (d : ℕ) (s : Input) → d ≤ 256 → Waived Hit d (front s.tokens) → (d < 256 → Reaches x y ls)
+    pub entered : {A : Type 0} {x : Read A} {y : A × State} {ls : List (Literal Tok)} (d : ℕ) (s : State) → d ≤ 256 → Waived Hit d (front s.left) → (d < 256 → Reaches x y ls)
         → Reaches (cond (nat_lt d 256) x (Err (refused TooDeep s))) y ls
     unfolding refused
     entered {x = x} {y = y} {ls = ls} d s within hit h =
         after_test (nat_lt d 256) x _ (λ o. Reaches o y ls) (λ t. h (grind (arith, nat_tests)))
-        (λ t. is_refused (inr (record { token = front s.tokens; hit = hit (at_limit d within t); refusal_is = refl })) refl)
+        (λ t. is_refused (inr (record { token = front s.left; hit = hit (at_limit d within t); refusal_is = refl })) refl)
 
   -- where nothing is waived and all literals have texts, it is read
   pub only_read : {X : Type 0} {found : Result X Refusal} {x : X} {ls : List (Literal Tok)} → AllCook expander ls → Reaches (λ at. ⊥) found x ls → found ≡ Ok x

@@ -1,297 +1,338 @@
 -- The reader of items and of bodies, one rule at a time, and as a loop goes over them.
-use Rattle.std.proofs.Common.{◌≡◌, ℕ, ◌<◌, ◌≤◌, true, false, Bool, cond, List, [], ◌∷◌, ◌++◌, length, Some, None, Ok, Err, IfOk, refl, sym, ap, ◌∙◌, arith}
-use Rattle.std.proofs.lemmas.List.{append-nil, append_assoc}
+use Rattle.std.proofs.Common.{◌≡◌, ℕ, ◌<◌, true, false, Bool, ◌&&◌, cond, List, [], ◌∷◌, ◌++◌, length, drop, Some, None, Ok, Err, refl, sym, ap, ◌∙◌, arith}
+use Rattle.std.proofs.lemmas.List.{append-nil, append_assoc, length-drop}
+use Rattle.justfile_base.specs.declared.token_kind.TokenKind.{TokenKind}
 use Rattle.justfile_base.specs.declared.token_kind.TokenKind.TheVariants as kinds
-use Rattle.justfile_model.specs.Tok.{Tok}
-use Rattle.justfile_model.specs.SignificantTokens.{SignificantToken}
-use Rattle.justfile_model.specs.Tree as tree
-use Rattle.justfile_model.specs.Tree.{Expr, Fragment, BodyLine, Item, Tree, itself, line_of}
-use Rattle.justfile_model.specs.Features.{Noted}
-use Rattle.justfile_model.specs.Expressions.{Tokens, Limited}
-use Rattle.justfile_model.specs.Literals.{Answers}
+use Rattle.justfile_model.specs.declared.level.Level.TheVariants.{Expression}
+use Rattle.justfile_model.specs.ExpressionReader as expressions
+use Rattle.justfile_model.specs.Reader.{Start, after_numbered, assignment, at_end, behind, body, body_behind, body_line, draw_binding, draw_recipe, ended, expression, fragment, has_body, items, items_from, items_rule, line, line_end, line_rest, line_rest_rule, lines, lines_rule, no_line_rest, no_lines, on_line, recipe, some_lines, stop}
+use Rattle.justfile_model.specs.Reading.{Counters, Leaves, Read, Refusal, State, Taken, accept, accept_by, after, at, begin_with, choose, expect, next_are, same_kind}
 use Rattle.justfile_model.specs.Recursive.{below}
-use Rattle.justfile_model.specs.Reading.{Refusal, Unexpected, Input, at, Read, refused, accept, next_are, after}
-use Rattle.justfile_model.specs.Reader.{has_body, expression, assignment, fragment, no_line_rest, line_rest_rule, line_rest, body_line, no_lines, lines_rule, lines, body, body_behind, recipe, on_line, line_end, behind, ended, line, at_end, items_rule, stop, items}
-use Rattle.justfile_model.proofs.Turns.{recursive_is, below_smaller}
-use Rattle.justfile_model.proofs.Steps.{input, accept_none, known, after_bind, after_choose, after_expect, bind_alike, choose_alike, test_alike}
-use Rattle.justfile_model.proofs.ExpressionReading as e
-use Rattle.justfile_model.proofs.Progress.{line_rest_keeps, line_rest_progress, before_progress, lines_progress, on_line_progress, block_progress}
-use Rattle.justfile_model.proofs.Sound.{Starts, line_rest_at, lines_at, body_at, body_behind_at, on_line_at, assignment_at, recipe_at, IsBodyBehind, no_body, a_body}
+use Rattle.justfile_model.specs.Tree.{Fragment, BodyLine, Item, trimmed}
+use Rattle.justfile_model.proofs.ExpressionReading.{advances}
+use Rattle.justfile_model.proofs.ReadingSteps.{Behind, Goes, Keeps, accepts, after_test, bind_alike, choose_alike, either, either_goes, expects, first, from_there, keeps, past, test_alike, then, then_goes, there}
+use Rattle.justfile_model.proofs.Turns.{below_smaller, recursive_is, recursive_keeps}
 
--- so many tokens are left
-abbrev pub size : Input → ℕ
-size s = length s.tokens
+-- ---- what was read before, and what is read after it
 
-starts_progress : (b : Bool) (i : Item Tok Tok ℕ) (fs : List (Noted Tok)) (ts rest : Tokens) → Starts b i fs ts rest → length rest < length ts
-starts_progress true i fs ts rest h = block_progress itself itself line_of Limited h
-starts_progress false i fs ts rest h = on_line_progress itself itself line_of Limited h
+module _ {R T B : Type 0} where
+  -- nothing is read yet
+  pub after_begin : {X : Type 0} (found : Read R T B (List X)) → after [] found ≡ found
+  unfolding after
+  after_begin (Ok x) = refl
+  after_begin (Err e) = refl
 
-module _ (expander : Answers) where
-  -- ---- what is read leaves fewer tokens
+  pub after_regroups : {X : Type 0} (done more : List X) (found : Read R T B (List X)) → after done (after more found) ≡ after (done ++ more) found
+  unfolding after
+  after_regroups {X} done more (Ok x) = ap (λ (l : List X). Ok (l, x.1)) (sym (append_assoc done more x.0))
+  after_regroups done more (Err e) = refl
 
-  pub expression_shorter : (depth : ℕ) (s : Input) (x : Expr Tok Tok × Input) → expression expander depth s ≡ Ok x → length x.1.tokens < length s.tokens
-  expression_shorter depth s x is = e.expression_shorter expander false depth s x is
+  pub after_nothing : {X : Type 0} (done : List X) (rest : State R T B) → after done (Ok ([], rest)) ≡ Ok (done, rest)
+  unfolding after
+  after_nothing {X} done rest = ap (λ (l : List X). Ok (l, rest)) (append-nil done)
 
-  pub assignment_shorter : (s : Input) (x : Item Tok Tok ℕ × Input) → assignment expander s ≡ Ok x → length x.1.tokens < length s.tokens
-  assignment_shorter s x is =
-      let found = assignment_at expander s x is in
-      starts_progress (has_body x.0) x.0 found.features s.tokens x.1.tokens found.derives
+  pub after_refused : {X : Type 0} (done : List X) (e : Refusal T B) → after {R = R} done (Err e) ≡ Err e
+  unfolding after
+  after_refused done e = refl
 
-  abbrev NoLonger : {X : Type 0} → Input → X × Input → Type 0
-  NoLonger s x = length x.1.tokens ≤ length s.tokens
+  after_keeps : {X : Type 0} (done : List X) (s : State R T B) (found : Read R T B (List X)) → Keeps s found → Keeps s (after done found)
+  unfolding after
+  after_keeps done s (Ok x) h = h
+  after_keeps done s (Err e) h = tt
 
-  abbrev Shorter : {X : Type 0} → Input → X × Input → Type 0
-  Shorter s x = length x.1.tokens < length s.tokens
+  after_goes : {X : Type 0} (done : List X) (s : State R T B) (found : Read R T B (List X)) → Goes s found → Goes s (after done found)
+  unfolding after
+  after_goes done s (Ok x) h = h
+  after_goes done s (Err e) h = tt
 
-  fragment_keeps : (s : Input) → IfOk (fragment expander s) (Shorter s)
+  -- the same with what is drawn for it
+  pub numbered_begin : {X : Type 0} (found : Read R T B (List X × Counters)) → after_numbered [] found ≡ found
+  unfolding after_numbered
+  numbered_begin (Ok x) = refl
+  numbered_begin (Err e) = refl
+
+  pub numbered_regroups : {X : Type 0} (done more : List X) (found : Read R T B (List X × Counters)) → after_numbered done (after_numbered more found) ≡ after_numbered (done ++ more) found
+  unfolding after_numbered
+  numbered_regroups {X} done more (Ok x) = ap (λ (l : List X). Ok ((l, x.0.1), x.1)) (sym (append_assoc done more x.0.0))
+  numbered_regroups done more (Err e) = refl
+
+  pub numbered_nothing : {X : Type 0} (done : List X) (n : Counters) (rest : State R T B) → after_numbered done (Ok (([], n), rest)) ≡ Ok ((done, n), rest)
+  unfolding after_numbered
+  numbered_nothing {X} done n rest = ap (λ (l : List X). Ok ((l, n), rest)) (append-nil done)
+
+  pub numbered_refused : {X : Type 0} (done : List X) (e : Refusal T B) → after_numbered {R = R} done (Err e) ≡ Err e
+  unfolding after_numbered
+  numbered_refused done e = refl
+
+  at_drop : (n : ℕ) (s : State R T B) → Behind s (at s (drop n s.left))
+  at_drop n s = (omega (arith, length-drop n s.left), refl, refl)
+
+module _ {R T A B : Type 0} (leaves : Leaves R T A B) where
+  -- ---- what is read leaves fewer tokens, in the same run and at the same depth
+
+  pub expression_goes : (s : State R T B) → Goes s (expression leaves s)
+  expression_goes s = advances leaves (expressions.At Expression false s)
+
+  pub fragment_goes : (s : State R T B) → Goes s (fragment leaves s)
   unfolding fragment
-  fragment_keeps s =
-      let P : Read (Fragment Tok Tok) → Type 0 = λ o. IfOk o (Shorter s) in
-      after_choose kinds.Text s _ _ P
-      (λ _. after_expect kinds.InterpolationStart s _ P (λ e. tt) (λ start t1 split kind.
-      after_bind (expression expander 0 (at s t1)) _ P (λ e. tt) (λ e is.
-      after_expect kinds.InterpolationEnd e.1 _ P (λ e. tt) (λ end t2 split2 kind2.
-      omega (arith, ap length split, ap length split2, expression_shorter 0 (at s t1) e is)))))
-      (λ t rest split kind. omega (arith, ap length split))
-
-  pub fragment_shorter : (s : Input) (x : Fragment Tok Tok × Input) → fragment expander s ≡ Ok x → length x.1.tokens < length s.tokens
-  fragment_shorter s x is = known x (Shorter s) is (fragment_keeps s)
+  fragment_goes s =
+      either_goes s (accept leaves kinds.Text s) _ _ (accepts leaves kinds.Text s)
+      (first s (expect leaves kinds.InterpolationStart s) _ (expects leaves kinds.InterpolationStart s) (λ start.
+      then start.1 (expression leaves start.1) _ (keeps start.1 _ (expression_goes start.1)) (λ e.
+      then e.1 (expect leaves kinds.InterpolationEnd e.1) _ (keeps e.1 _ (expects leaves kinds.InterpolationEnd e.1)) (λ end. there end.1))))
+      (λ t. there t.1)
 
   -- the end of a body is left
-  pub line_rest_no_longer : (s : Input) (x : List (Fragment Tok Tok) × Input) → line_rest expander s ≡ Ok x → length x.1.tokens ≤ length s.tokens
-  line_rest_no_longer s x is = line_rest_keeps itself itself Limited (line_rest_at expander s x is).derives
+  line_rest_rule_keeps : (f : State R T B → Read R T B (List (Fragment A B))) → ((s : State R T B) → Keeps s (f s)) → (s : State R T B) → Keeps s (line_rest_rule leaves f s)
+  unfolding line_rest_rule
+  line_rest_rule_keeps f h s =
+      either s (accept leaves kinds.Eol s) _ _ (accepts leaves kinds.Eol s)
+      (after_test (next_are leaves (kinds.Dedent ∷ []) s) _ _ (Keeps {X = List (Fragment A B)} s) (λ _. there s)
+      (λ _. then s (fragment leaves s) _ (keeps s _ (fragment_goes s)) (λ x. after_keeps (x.0 ∷ []) x.1 (f x.1) (h x.1))))
+      (λ newline. there newline.1)
 
-  pub line_rest_shorter : (s : Input) (x : List (Fragment Tok Tok) × Input) → accept kinds.Dedent s ≡ None → line_rest expander s ≡ Ok x → length x.1.tokens < length s.tokens
-  line_rest_shorter s x not is = line_rest_progress itself itself Limited (line_rest_at expander s x is).derives (accept_none kinds.Dedent s not)
+  pub line_rest_keeps : (s : State R T B) → Keeps s (line_rest leaves s)
+  unfolding line_rest
+  line_rest_keeps = recursive_keeps (λ s. length s.left) (no_line_rest leaves) (line_rest_rule leaves) (λ s found. Keeps s found) (λ s. tt) line_rest_rule_keeps
 
-  body_line_keeps : (s : Input) → accept kinds.Dedent s ≡ None → IfOk (body_line expander s) (Shorter s)
+  -- ---- the rule of lines of a body
+
+  inside_line : State R T B → State R T B → Read R T B (List (Fragment A B))
+  inside_line s = below (λ s. length s.left) (no_line_rest leaves) (line_rest_rule leaves) s (line_rest leaves)
+
+  line_unfolded : (s : State R T B) → line_rest leaves s ≡ line_rest_rule leaves (inside_line s) s
+  unfolding line_rest inside_line
+  line_unfolded s = recursive_is (λ s. length s.left) (no_line_rest leaves) (line_rest_rule leaves) s
+
+  inside_line_is : (s t : State R T B) → length t.left < length s.left → inside_line s t ≡ line_rest leaves t
+  unfolding inside_line
+  inside_line_is s t h = below_smaller (λ s. length s.left) (no_line_rest leaves) (line_rest_rule leaves) s (line_rest leaves) t h
+
+  pub line_rest_is : (s : State R T B) → line_rest leaves s ≡ line_rest_rule leaves (line_rest leaves) s
+  unfolding line_rest_rule
+  line_rest_is s =
+      line_unfolded s ∙ choose_alike (accept leaves kinds.Eol s) _ _ _ _
+      (λ _. test_alike (next_are leaves (kinds.Dedent ∷ []) s) _ _ _ _ (λ _. refl)
+      (λ _. bind_alike (fragment leaves s) _ _ (λ f is. ap (after (f.0 ∷ [])) (inside_line_is s f.1 (past s _ f (fragment_goes s) is).0))))
+      (λ _ _. refl)
+
+  -- a token that comes next is taken
+  next_taken : (kind : TokenKind) (s : State R T B) → accept leaves kind s ≡ None → next_are leaves (kind ∷ []) s ≡ true → ⊥
+  unfolding accept begin_with
+  next_taken kind s = go s.left
+    where
+      by_test : (b : Bool) (t : T) (ts : List T) → ◌≡◌ {A = Taken R T B} (cond b (Some (t, at s ts)) None) None → (b && true) ≡ true → ⊥
+      by_test true t ts e h = cc
+      by_test false t ts e h = cc
+
+      go : (l : List T) → accept_by leaves (λ t. same_kind t.tok.kind kind) s l ≡ None → begin_with leaves (kind ∷ []) l ≡ true → ⊥
+      go [] e h = cc
+      go (t ∷ ts) e h = by_test (same_kind (leaves.see t).tok.kind kind) t ts e h
+
+  -- where no body ends, what is left of a line takes a token
+  line_rest_goes : (s : State R T B) → accept leaves kinds.Dedent s ≡ None → Goes s (line_rest leaves s)
+  unfolding line_rest_rule
+  line_rest_goes s not =
+      rw (line_rest_is s) (either_goes s (accept leaves kinds.Eol s) _ _ (accepts leaves kinds.Eol s)
+      (after_test (next_are leaves (kinds.Dedent ∷ []) s) _ _ (Goes {X = List (Fragment A B)} s) (λ e. absurd (next_taken kinds.Dedent s not e))
+      (λ _. first s (fragment leaves s) _ (fragment_goes s) (λ x. after_keeps (x.0 ∷ []) x.1 (line_rest leaves x.1) (line_rest_keeps x.1))))
+      (λ newline. there newline.1))
+
+  pub body_line_goes : (s : State R T B) → accept leaves kinds.Dedent s ≡ None → Goes s (body_line leaves s)
   unfolding body_line
-  body_line_keeps s not = after_bind (line_rest expander s) _ (λ o. IfOk o (Shorter s)) (λ e. tt) (λ x is. line_rest_shorter s x not is)
+  body_line_goes s not = first s (line_rest leaves s) _ (line_rest_goes s not) (λ x. there x.1)
 
-  -- where no body ends, a line takes a token
-  pub body_line_shorter : (s : Input) (x : BodyLine Tok Tok ℕ × Input) → accept kinds.Dedent s ≡ None → body_line expander s ≡ Ok x → length x.1.tokens < length s.tokens
-  body_line_shorter s x not is = known x (Shorter s) is (body_line_keeps s not)
-
-  body_line_rests : (s : Input) → IfOk (body_line expander s) (NoLonger s)
+  pub body_line_keeps : (s : State R T B) → Keeps s (body_line leaves s)
   unfolding body_line
-  body_line_rests s = after_bind (line_rest expander s) _ (λ o. IfOk o (NoLonger s)) (λ e. tt) (λ x is. line_rest_no_longer s x is)
+  body_line_keeps s = then s (line_rest leaves s) _ (line_rest_keeps s) (λ x. there x.1)
 
-  pub body_line_no_longer : (s : Input) (x : BodyLine Tok Tok ℕ × Input) → body_line expander s ≡ Ok x → length x.1.tokens ≤ length s.tokens
-  body_line_no_longer s x is = known x (NoLonger s) is (body_line_rests s)
+  lines_rule_go : (f : State R T B → Read R T B (List (BodyLine A B ℕ))) → ((s : State R T B) → Goes s (f s)) → (s : State R T B) → Goes s (lines_rule leaves f s)
+  unfolding lines_rule
+  lines_rule_go f h s =
+      either_goes s (accept leaves kinds.Dedent s) _ _ (accepts leaves kinds.Dedent s)
+      (then_goes s (body_line leaves s) _ (body_line_keeps s) (λ x. after_goes (x.0 ∷ []) x.1 (f x.1) (h x.1)))
+      (λ end. there end.1)
 
-  pub lines_shorter : (s : Input) (x : List (BodyLine Tok Tok ℕ) × Input) → lines expander s ≡ Ok x → length x.1.tokens < length s.tokens
-  lines_shorter s x is = lines_progress itself itself line_of Limited (lines_at expander s x is).derives
+  pub lines_go : (s : State R T B) → Goes s (lines leaves s)
+  unfolding lines
+  lines_go = recursive_keeps (λ s. length s.left) (no_lines leaves) (lines_rule leaves) (λ s found. Goes s found) (λ s. tt) lines_rule_go
 
-  pub body_shorter : (s : Input) (x : List (BodyLine Tok Tok ℕ) × Input) → body expander s ≡ Ok x → length x.1.tokens < length s.tokens
-  body_shorter s x is = lines_progress itself itself line_of Limited (body_at expander s x is).lines
+  inside_body : State R T B → State R T B → Read R T B (List (BodyLine A B ℕ))
+  inside_body s = below (λ s. length s.left) (no_lines leaves) (lines_rule leaves) s (lines leaves)
 
-  behind_keeps_tokens : (s : Input) (x : List (BodyLine Tok Tok ℕ) × Input) → IsBodyBehind expander s x → length x.1.tokens ≤ length s.tokens
-  behind_keeps_tokens s x no_body = omega arith
-  behind_keeps_tokens s x (a_body b h) = omega (arith, before_progress b, lines_progress itself itself line_of Limited h.lines)
+  body_unfolded : (s : State R T B) → lines leaves s ≡ lines_rule leaves (inside_body s) s
+  unfolding lines inside_body
+  body_unfolded s = recursive_is (λ s. length s.left) (no_lines leaves) (lines_rule leaves) s
+
+  inside_body_is : (s t : State R T B) → length t.left < length s.left → inside_body s t ≡ lines leaves t
+  unfolding inside_body
+  inside_body_is s t h = below_smaller (λ s. length s.left) (no_lines leaves) (lines_rule leaves) s (lines leaves) t h
+
+  pub lines_is : (s : State R T B) → lines leaves s ≡ lines_rule leaves (lines leaves) s
+  unfolding lines_rule
+  lines_is s =
+      body_unfolded s ∙ choose_alike (accept leaves kinds.Dedent s) _ _ _ _
+      (λ not. bind_alike (body_line leaves s) _ _ (λ l is. ap (after (l.0 ∷ [])) (inside_body_is s l.1 (past s _ l (body_line_goes s not) is).0)))
+      (λ _ _. refl)
+
+  some_keeps : (ls : List (BodyLine A B ℕ)) (s : State R T B) → Keeps s (some_lines leaves ls s)
+  some_keeps [] s = tt
+  some_keeps (l ∷ ls) s = there s
+
+  pub body_goes : (s : State R T B) → Goes s (body leaves s)
+  unfolding body
+  body_goes s = first s (lines leaves s) _ (lines_go s) (λ x. some_keeps (trimmed x.0) x.1)
 
   -- a recipe may have no body
-  pub body_behind_no_longer : (s : Input) (x : List (BodyLine Tok Tok ℕ) × Input) → body_behind expander s ≡ Ok x → length x.1.tokens ≤ length s.tokens
-  body_behind_no_longer s x is = behind_keeps_tokens s x (body_behind_at expander s x is)
+  pub body_behind_keeps : (s : State R T B) → Keeps s (body_behind leaves s)
+  unfolding body_behind
+  body_behind_keeps s =
+      let K : Read R T B (List (BodyLine A B ℕ)) → Type 0 = Keeps s in
+      let short : State R T B = at s (drop 2 s.left) in
+      let long : State R T B = at s (drop 3 s.left) in
+      after_test (next_are leaves (kinds.Eol ∷ kinds.Indent ∷ []) s) _ _ K
+      (λ _. from_there s short _ (at_drop 2 s) (keeps short _ (body_goes short)))
+      (λ _. after_test (next_are leaves (kinds.Comment ∷ kinds.Eol ∷ kinds.Indent ∷ []) s) _ _ K
+      (λ _. from_there s long _ (at_drop 3 s) (keeps long _ (body_goes long)))
+      (λ _. there s))
 
-  pub recipe_shorter : (s : Input) (x : Item Tok Tok ℕ × Input) → recipe expander s ≡ Ok x → length x.1.tokens < length s.tokens
-  recipe_shorter s x is =
-      let found = recipe_at expander s x is in
-      starts_progress (has_body x.0) x.0 found.features s.tokens x.1.tokens found.derives
+  -- ---- items
 
-  pub on_line_shorter : (s : Input) (x : Item Tok Tok ℕ × Input) → on_line expander s ≡ Ok x → length x.1.tokens < length s.tokens
-  on_line_shorter s x is =
-      let found = on_line_at expander s x is in
-      starts_progress (has_body x.0) x.0 found.features s.tokens x.1.tokens found.derives
+  -- a number takes no token
+  pub binding_keeps : (n : Counters) (s : State R T B) → Keeps s (draw_binding leaves n s)
+  unfolding draw_binding
+  binding_keeps n s = after_test (leaves.has_number n.bindings) _ _ (Keeps {X = ℕ × Counters} s) (λ _. there s) (λ _. tt)
 
-  line_end_keeps : (s : Input) → IfOk (line_end expander s) (NoLonger s)
-  unfolding line_end
-  line_end_keeps s =
-      let P : Read Tree → Type 0 = λ o. IfOk o (NoLonger s) in
-      after_choose kinds.Eof s _ _ P
-      (λ _. after_expect kinds.Eol s _ P (λ e. tt) (λ t rest split kind. omega (arith, ap length split)))
-      (λ t rest split kind. omega arith)
+  pub recipe_number_keeps : (n : Counters) (s : State R T B) → Keeps s (draw_recipe leaves n s)
+  unfolding draw_recipe
+  recipe_number_keeps n s = after_test (leaves.has_number n.recipes) _ _ (Keeps {X = ℕ × Counters} s) (λ _. there s) (λ _. tt)
+
+  pub assignment_goes : (n : Counters) (s : State R T B) → Goes s (assignment leaves n s)
+  unfolding assignment
+  assignment_goes n s =
+      first s (expect leaves kinds.Identifier s) _ (expects leaves kinds.Identifier s) (λ name.
+      then name.1 (expect leaves kinds.ColonEquals name.1) _ (keeps name.1 _ (expects leaves kinds.ColonEquals name.1)) (λ operator.
+      then operator.1 (expression leaves operator.1) _ (keeps operator.1 _ (expression_goes operator.1)) (λ e.
+      then e.1 (draw_binding leaves n e.1) _ (binding_keeps n e.1) (λ number. there number.1))))
+
+  pub recipe_goes : (n : Counters) (s : State R T B) → Goes s (recipe leaves n s)
+  unfolding recipe
+  recipe_goes n s =
+      first s (expect leaves kinds.Identifier s) _ (expects leaves kinds.Identifier s) (λ name.
+      then name.1 (expect leaves kinds.Colon name.1) _ (keeps name.1 _ (expects leaves kinds.Colon name.1)) (λ colon.
+      then colon.1 (body_behind leaves colon.1) _ (body_behind_keeps colon.1) (λ b.
+      then b.1 (draw_recipe leaves n b.1) _ (recipe_number_keeps n b.1) (λ number. there number.1))))
+
+  pub on_line_goes : (n : Counters) (s : State R T B) → Goes s (on_line leaves n s)
+  unfolding on_line
+  on_line_goes n s =
+      either_goes s (accept leaves kinds.Comment s) _ _ (accepts leaves kinds.Comment s)
+      (after_test (next_are leaves (kinds.Identifier ∷ kinds.ColonEquals ∷ []) s) _ _ (Goes {X = Item A B ℕ × Counters} s) (λ _. assignment_goes n s) (λ _. recipe_goes n s))
+      (λ c. there c.1)
 
   -- the end of the file is left
-  pub line_end_no_longer : (s : Input) (x : Tree × Input) → line_end expander s ≡ Ok x → length x.1.tokens ≤ length s.tokens
-  line_end_no_longer s x is = known x (NoLonger s) is (line_end_keeps s)
+  pub line_end_keeps : (s : State R T B) → Keeps s (line_end leaves s)
+  unfolding line_end
+  line_end_keeps s =
+      ending (accept leaves kinds.Eof s) _ (then s (expect leaves kinds.Eol s) _ (keeps s _ (expects leaves kinds.Eol s)) (λ x. there x.1))
+    where
+      ending : (o : Taken R T B) (x : Read R T B (List (Item A B ℕ))) → Keeps s x → Keeps s (choose o x (λ y. Ok ([], s)))
+      ending None x h = h
+      ending (Some p) x h = there s
 
-  behind_keeps : (s : Input) → IfOk (behind expander s) (NoLonger s)
+  pub behind_keeps : (s : State R T B) → Keeps s (behind leaves s)
   unfolding behind
   behind_keeps s =
-      let P : Read Tree → Type 0 = λ o. IfOk o (NoLonger s) in
-      after_choose kinds.Comment s _ _ P
-      (λ _. line_end_keeps s)
-      (λ c rest split kind. after_bind (line_end expander (at s rest)) _ P (λ e. tt) (λ x is. omega (arith, ap length split, line_end_no_longer (at s rest) x is)))
+      either s (accept leaves kinds.Comment s) _ _ (accepts leaves kinds.Comment s) (line_end_keeps s)
+      (λ c. then c.1 (line_end leaves c.1) _ (line_end_keeps c.1) (λ end. there end.1))
 
-  pub behind_no_longer : (s : Input) (x : Tree × Input) → behind expander s ≡ Ok x → length x.1.tokens ≤ length s.tokens
-  behind_no_longer s x is = known x (NoLonger s) is (behind_keeps s)
-
-  ends_by : (s : Input) (b : Bool) → IfOk (cond b (Ok (tree.Newline ∷ [], s)) (behind expander s)) (NoLonger s)
-  ends_by s true = omega arith
-  ends_by s false = behind_keeps s
-
-  ended_keeps : (b : Bool) (s : Input) → IfOk (ended expander b s) (NoLonger s)
+  pub ended_keeps : (b : Bool) (s : State R T B) → Keeps s (ended leaves b s)
   unfolding ended
-  ended_keeps b s = ends_by s b
+  ended_keeps b s = after_test b _ _ (Keeps {X = List (Item A B ℕ)} s) (λ _. there s) (λ _. behind_keeps s)
 
-  pub ended_no_longer : (b : Bool) (s : Input) (x : Tree × Input) → ended expander b s ≡ Ok x → length x.1.tokens ≤ length s.tokens
-  ended_no_longer b s x is = known x (NoLonger s) is (ended_keeps b s)
-
-  line_keeps : (s : Input) → IfOk (line expander s) (Shorter s)
+  pub line_goes : (n : Counters) (s : State R T B) → Goes s (line leaves n s)
   unfolding line
-  line_keeps s =
-      let P : Read Tree → Type 0 = λ o. IfOk o (Shorter s) in
-      after_choose kinds.Eol s _ _ P
-      (λ _. after_bind (on_line expander s) _ P (λ e. tt) (λ i is. after_bind (ended expander (has_body i.0) i.1) _ P (λ e. tt) (λ b is2.
-      omega (arith, on_line_shorter s i is, ended_no_longer (has_body i.0) i.1 b is2))))
-      (λ t rest split kind. omega (arith, ap length split))
-
-  pub line_shorter : (s : Input) (x : Tree × Input) → line expander s ≡ Ok x → length x.1.tokens < length s.tokens
-  line_shorter s x is = known x (Shorter s) is (line_keeps s)
+  line_goes n s =
+      either_goes s (accept leaves kinds.Eol s) _ _ (accepts leaves kinds.Eol s)
+      (first s (on_line leaves n s) _ (on_line_goes n s) (λ i. then i.1 (ended leaves (has_body i.0.0) i.1) _ (ended_keeps (has_body i.0.0) i.1) (λ b. there b.1)))
+      (λ newline. there newline.1)
 
   -- ---- the rule of items
 
-  inside : Input → Input → Read Tree
-  inside s = below size (stop expander) (items_rule expander) s (items expander)
+  inside : Start leaves → Start leaves → Read R T B (List (Item A B ℕ) × Counters)
+  inside x = below (λ x. length x.1.left) (stop leaves) (items_rule leaves) x (items_from leaves)
 
-  unfolded : (s : Input) → items expander s ≡ items_rule expander (inside s) s
-  unfolding items inside
-  unfolded s = recursive_is size (stop expander) (items_rule expander) s
+  unfolded : (x : Start leaves) → items_from leaves x ≡ items_rule leaves (inside x) x
+  unfolding items_from inside
+  unfolded x = recursive_is (λ x. length x.1.left) (stop leaves) (items_rule leaves) x
 
-  inside_is : (s r : Input) → length r.tokens < length s.tokens → inside s r ≡ items expander r
+  inside_is : (x y : Start leaves) → length y.1.left < length x.1.left → inside x y ≡ items_from leaves y
   unfolding inside
-  inside_is s r h = below_smaller size (stop expander) (items_rule expander) s (items expander) r h
+  inside_is x y h = below_smaller (λ x. length x.1.left) (stop leaves) (items_rule leaves) x (items_from leaves) y h
 
-  pub items_is : (s : Input) → items expander s ≡ items_rule expander (items expander) s
+  pub items_is : (n : Counters) (s : State R T B) → items leaves n s ≡ items_rule leaves (items_from leaves) (n, s)
   unfolding items_rule
-  items_is s =
-      unfolded s ∙ choose_alike (accept kinds.Eof s) _ _ _ _
-      (λ _. bind_alike (line expander s) _ _ (λ l is. ap (after l.0) (inside_is s l.1 (line_shorter s l is))))
+  items_is n s =
+      unfolded (n, s) ∙ choose_alike (accept leaves kinds.Eof s) _ _ _ _
+      (λ _. bind_alike (line leaves n s) _ _ (λ l is. ap (after_numbered l.0.0) (inside_is (n, s) (l.0.1, l.1) (past s _ l (line_goes n s) is).0)))
       (λ _ _. refl)
 
-  -- ---- the rules of bodies
+  -- ---- a loop over items: `done` was read before, and `s` is what is left
 
-  inside_line : Input → Input → Read (List (Fragment Tok Tok))
-  inside_line s = below size (no_line_rest expander) (line_rest_rule expander) s (line_rest expander)
+  module _ (done : List (Item A B ℕ)) (n : Counters) (s : State R T B) where
+    -- a line is read
+    pub items_go_on : (more : List (Item A B ℕ)) (m : Counters) (rest : State R T B) → accept leaves kinds.Eof s ≡ None → line leaves n s ≡ Ok ((more, m), rest)
+        → after_numbered done (items leaves n s) ≡ after_numbered (done ++ more) (items leaves m rest)
+    unfolding items_rule
+    items_go_on more m rest h1 h2 = rw (items_is n s, h1, h2) (numbered_regroups done more (items leaves m rest))
 
-  line_unfolded : (s : Input) → line_rest expander s ≡ line_rest_rule expander (inside_line s) s
-  unfolding line_rest inside_line
-  line_unfolded s = recursive_is size (no_line_rest expander) (line_rest_rule expander) s
+    -- the end of the file, whatever stands after it
+    pub items_at_end : (end : T) (rest : State R T B) → accept leaves kinds.Eof s ≡ Some (end, rest) → after_numbered done (items leaves n s) ≡ after_numbered done (at_end leaves n rest)
+    unfolding items_rule
+    items_at_end end rest h = rw (items_is n s, h) refl
 
-  inside_line_is : (s r : Input) → length r.tokens < length s.tokens → inside_line s r ≡ line_rest expander r
-  unfolding inside_line
-  inside_line_is s r h = below_smaller size (no_line_rest expander) (line_rest_rule expander) s (line_rest expander) r h
+    -- a line is refused
+    pub items_fail : (e : Refusal T B) → accept leaves kinds.Eof s ≡ None → line leaves n s ≡ Err e → after_numbered done (items leaves n s) ≡ Err e
+    unfolding items_rule
+    items_fail e h1 h2 = rw (items_is n s, h1, h2) (numbered_refused done e)
 
-  pub line_rest_is : (s : Input) → line_rest expander s ≡ line_rest_rule expander (line_rest expander) s
-  unfolding line_rest_rule
-  line_rest_is s =
-      line_unfolded s ∙ choose_alike (accept kinds.Eol s) _ _ _ _
-      (λ _. test_alike (next_are (kinds.Dedent ∷ []) s) _ _ _ _ (λ _. refl)
-      (λ _. bind_alike (fragment expander s) _ _ (λ f is. ap (after (f.0 ∷ [])) (inside_line_is s f.1 (fragment_shorter s f is)))))
-      (λ _ _. refl)
+  -- ---- the same over the parts of a body
 
-  inside_body : Input → Input → Read (List (BodyLine Tok Tok ℕ))
-  inside_body s = below size (no_lines expander) (lines_rule expander) s (lines expander)
+  module _ (done : List (Fragment A B)) (s : State R T B) where
+    -- a fragment is read
+    pub line_rest_go_on : (f : Fragment A B) (rest : State R T B) → accept leaves kinds.Eol s ≡ None → next_are leaves (kinds.Dedent ∷ []) s ≡ false → fragment leaves s ≡ Ok (f, rest)
+        → after done (line_rest leaves s) ≡ after (done ++ f ∷ []) (line_rest leaves rest)
+    unfolding line_rest_rule
+    line_rest_go_on f rest h1 h2 h3 = rw (line_rest_is s, h1, h2, h3) (after_regroups done (f ∷ []) (line_rest leaves rest))
 
-  body_unfolded : (s : Input) → lines expander s ≡ lines_rule expander (inside_body s) s
-  unfolding lines inside_body
-  body_unfolded s = recursive_is size (no_lines expander) (lines_rule expander) s
+    -- the end of the line is taken
+    pub line_rest_end : (end : T) (rest : State R T B) → accept leaves kinds.Eol s ≡ Some (end, rest) → after done (line_rest leaves s) ≡ Ok (done, rest)
+    unfolding line_rest_rule
+    line_rest_end end rest h = rw (line_rest_is s, h) (after_nothing done rest)
 
-  inside_body_is : (s r : Input) → length r.tokens < length s.tokens → inside_body s r ≡ lines expander r
-  unfolding inside_body
-  inside_body_is s r h = below_smaller size (no_lines expander) (lines_rule expander) s (lines expander) r h
+    -- that of the body is left
+    pub line_rest_left : accept leaves kinds.Eol s ≡ None → next_are leaves (kinds.Dedent ∷ []) s ≡ true → after done (line_rest leaves s) ≡ Ok (done, s)
+    unfolding line_rest_rule
+    line_rest_left h1 h2 = rw (line_rest_is s, h1, h2) (after_nothing done s)
 
-  pub lines_is : (s : Input) → lines expander s ≡ lines_rule expander (lines expander) s
-  unfolding lines_rule
-  lines_is s =
-      body_unfolded s ∙ choose_alike (accept kinds.Dedent s) _ _ _ _
-      (λ not. bind_alike (body_line expander s) _ _ (λ l is. ap (after (l.0 ∷ [])) (inside_body_is s l.1 (body_line_shorter s l not is))))
-      (λ _ _. refl)
+    -- a fragment is refused
+    pub line_rest_fail : (e : Refusal T B) → accept leaves kinds.Eol s ≡ None → next_are leaves (kinds.Dedent ∷ []) s ≡ false → fragment leaves s ≡ Err e → after done (line_rest leaves s) ≡ Err e
+    unfolding line_rest_rule
+    line_rest_fail e h1 h2 h3 = rw (line_rest_is s, h1, h2, h3) (after_refused done e)
 
--- ---- a loop over items, or over the parts of a body: `done` was read before, and `s` is what is left
+  module _ (done : List (BodyLine A B ℕ)) (s : State R T B) where
+    -- a line is read
+    pub lines_go_on : (l : BodyLine A B ℕ) (rest : State R T B) → accept leaves kinds.Dedent s ≡ None → body_line leaves s ≡ Ok (l, rest)
+        → after done (lines leaves s) ≡ after (done ++ l ∷ []) (lines leaves rest)
+    unfolding lines_rule
+    lines_go_on l rest h1 h2 = rw (lines_is s, h1, h2) (after_regroups done (l ∷ []) (lines leaves rest))
 
--- nothing is read yet
-pub after_begin : {X : Type 0} (found : Read (List X)) → after [] found ≡ found
-unfolding after
-after_begin (Ok x) = refl
-after_begin (Err e) = refl
+    -- the end of the body is taken
+    pub lines_end : (end : T) (rest : State R T B) → accept leaves kinds.Dedent s ≡ Some (end, rest) → after done (lines leaves s) ≡ Ok (done, rest)
+    unfolding lines_rule
+    lines_end end rest h = rw (lines_is s, h) (after_nothing done rest)
 
-pub after_regroups : {X : Type 0} (done more : List X) (found : Read (List X)) → after done (after more found) ≡ after (done ++ more) found
-unfolding after
-after_regroups done more (Ok x) = ap (λ (l : List _). Ok (l, x.1)) (sym (append_assoc done more x.0))
-after_regroups done more (Err e) = refl
-
-pub after_nothing : {X : Type 0} (done : List X) (rest : Input) → after done (Ok ([], rest)) ≡ Ok (done, rest)
-unfolding after
-after_nothing done rest = ap (λ (l : List _). Ok (l, rest)) (append-nil done)
-
-pub after_refused : {X : Type 0} (done : List X) (e : Refusal) → after done (Err e) ≡ Err e
-unfolding after
-after_refused done e = refl
-
-module _ (expander : Answers) (done : Tree) (s : Input) where
-  -- a line is read
-  pub items_go_on : (more : Tree) (rest : Input) → accept kinds.Eof s ≡ None → line expander s ≡ Ok (more, rest)
-      → after done (items expander s) ≡ after (done ++ more) (items expander rest)
-  unfolding items_rule
-  items_go_on more rest h1 h2 = rw (items_is expander s, h1, h2) (after_regroups done more (items expander rest))
-
-  -- the end of the file, whatever stands behind it
-  pub items_at_end : (end : SignificantToken) (rest : Input) → accept kinds.Eof s ≡ Some (end, rest) → after done (items expander s) ≡ after done (at_end expander rest)
-  unfolding items_rule
-  items_at_end end rest h = rw (items_is expander s, h) refl
-
-  -- nothing does
-  pub items_end : (end : SignificantToken) (noted : List (Noted Tok)) → accept kinds.Eof s ≡ Some (end, input [] noted) → after done (items expander s) ≡ Ok (done, input [] noted)
-  unfolding items_rule at_end
-  items_end end noted h = rw (items_is expander s, h) (after_nothing done (input [] noted))
-
-  -- a line is refused
-  pub items_fail : (e : Refusal) → accept kinds.Eof s ≡ None → line expander s ≡ Err e → after done (items expander s) ≡ Err e
-  unfolding items_rule
-  items_fail e h1 h2 = rw (items_is expander s, h1, h2) (after_refused done e)
-
-  -- something stands behind the end of the file
-  pub items_fail_behind : (end t : SignificantToken) (rest : Tokens) (noted : List (Noted Tok)) → accept kinds.Eof s ≡ Some (end, input (t ∷ rest) noted)
-      → after done (items expander s) ≡ Err (refused Unexpected (input (t ∷ rest) noted))
-  unfolding items_rule at_end
-  items_fail_behind end t rest noted h = rw (items_is expander s, h) (after_refused done (refused Unexpected (input (t ∷ rest) noted)))
-
-module _ (expander : Answers) (done : List (Fragment Tok Tok)) (s : Input) where
-  -- a fragment is read
-  pub line_rest_go_on : (f : Fragment Tok Tok) (rest : Input) → accept kinds.Eol s ≡ None → next_are (kinds.Dedent ∷ []) s ≡ false → fragment expander s ≡ Ok (f, rest)
-      → after done (line_rest expander s) ≡ after (done ++ f ∷ []) (line_rest expander rest)
-  unfolding line_rest_rule
-  line_rest_go_on f rest h1 h2 h3 = rw (line_rest_is expander s, h1, h2, h3) (after_regroups done (f ∷ []) (line_rest expander rest))
-
-  -- the end of the line is taken
-  pub line_rest_end : (end : SignificantToken) (rest : Input) → accept kinds.Eol s ≡ Some (end, rest) → after done (line_rest expander s) ≡ Ok (done, rest)
-  unfolding line_rest_rule
-  line_rest_end end rest h = rw (line_rest_is expander s, h) (after_nothing done rest)
-
-  -- that of the body is left
-  pub line_rest_left : accept kinds.Eol s ≡ None → next_are (kinds.Dedent ∷ []) s ≡ true → after done (line_rest expander s) ≡ Ok (done, s)
-  unfolding line_rest_rule
-  line_rest_left h1 h2 = rw (line_rest_is expander s, h1, h2) (after_nothing done s)
-
-  -- a fragment is refused
-  pub line_rest_fail : (e : Refusal) → accept kinds.Eol s ≡ None → next_are (kinds.Dedent ∷ []) s ≡ false → fragment expander s ≡ Err e → after done (line_rest expander s) ≡ Err e
-  unfolding line_rest_rule
-  line_rest_fail e h1 h2 h3 = rw (line_rest_is expander s, h1, h2, h3) (after_refused done e)
-
-module _ (expander : Answers) (done : List (BodyLine Tok Tok ℕ)) (s : Input) where
-  -- a line is read
-  pub lines_go_on : (l : BodyLine Tok Tok ℕ) (rest : Input) → accept kinds.Dedent s ≡ None → body_line expander s ≡ Ok (l, rest)
-      → after done (lines expander s) ≡ after (done ++ l ∷ []) (lines expander rest)
-  unfolding lines_rule
-  lines_go_on l rest h1 h2 = rw (lines_is expander s, h1, h2) (after_regroups done (l ∷ []) (lines expander rest))
-
-  -- the end of the body is taken
-  pub lines_end : (end : SignificantToken) (rest : Input) → accept kinds.Dedent s ≡ Some (end, rest) → after done (lines expander s) ≡ Ok (done, rest)
-  unfolding lines_rule
-  lines_end end rest h = rw (lines_is expander s, h) (after_nothing done rest)
-
-  -- a line is refused
-  pub lines_fail : (e : Refusal) → accept kinds.Dedent s ≡ None → body_line expander s ≡ Err e → after done (lines expander s) ≡ Err e
-  unfolding lines_rule
-  lines_fail e h1 h2 = rw (lines_is expander s, h1, h2) (after_refused done e)
+    -- a line is refused
+    pub lines_fail : (e : Refusal T B) → accept leaves kinds.Dedent s ≡ None → body_line leaves s ≡ Err e → after done (lines leaves s) ≡ Err e
+    unfolding lines_rule
+    lines_fail e h1 h2 = rw (lines_is s, h1, h2) (after_refused done e)

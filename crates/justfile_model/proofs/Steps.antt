@@ -1,5 +1,5 @@
--- How the steps of a reader go, whatever is read.
-use Rattle.std.proofs.Common.{◌≡◌, ℕ, ◌<◌, Bool, true, false, ◌&&◌, cond, List, [], ◌∷◌, length, Option, Some, None, Result, Ok, Err, IfOk, refl, subst, ap, arith}
+-- How the steps of a reader go over significant tokens: which tokens come next.
+use Rattle.std.proofs.Common.{◌≡◌, ℕ, Bool, true, false, ◌&&◌, cond, List, [], ◌∷◌, Option, Some, None, Result, Ok, Err, IfOk, refl, sym, subst, ap, ◌∙◌}
 use Rattle.std.specs.Str.{bytes_eq}
 use Rattle.std.proofs.lemmas.Bool.{and_parts}
 use Rattle.std.proofs.lemmas.Slice.Eq.{bytes_eq-Decides}
@@ -9,41 +9,29 @@ use Rattle.justfile_base.specs.declared.token_kind.TokenKind.{TokenKind}
 use Rattle.justfile_base.specs.declared.token_kind.TokenKind.TheVariants as kinds
 use Rattle.justfile_model.specs.declared.conditional_operator.ConditionalOperator.{ConditionalOperator}
 use Rattle.justfile_model.specs.declared.conditional_operator.ConditionalOperator.TheVariants.{Equality, Inequality, RegexMatch, RegexMismatch}
+use Rattle.justfile_model.specs.declared.level.Level.{Level}
+use Rattle.justfile_model.specs.declared.level.Level.TheVariants as levels
+use Rattle.justfile_model.specs.declared.operator.Operator.{Operator}
+use Rattle.justfile_model.specs.declared.operator.Operator.TheVariants as operators
+use Rattle.justfile_model.specs.Operators.{is_at, operator_of}
 use Rattle.justfile_model.specs.Tok.{Tok}
 use Rattle.justfile_model.specs.SignificantTokens.{SignificantToken}
 use Rattle.justfile_model.specs.Features.{Noted}
-use Rattle.justfile_model.specs.Expressions.{Tokens, IsKind, NotNext, IsWord, NotWord, IsMarked, NotMarked, operator_kind, NotCompared}
-use Rattle.justfile_model.specs.Reading.{Refusal, Unexpected, ◌>>=◌, Input, at, Read, Taken, refused, same_kind, accept_by, accept, is_word, accept_word, marked_by, accept_marked, choose, expect, begin_with, next_are}
-use Rattle.justfile_model.specs.ExpressionReader.{accept_operator}
+use Rattle.justfile_model.specs.Literals.{Answers}
+use Rattle.justfile_model.specs.Expressions.{Tokens, IsKind, NotNext, IsWord, NotWord, IsMarked, NotMarked, operator_kind, NotCompared, NotJoined}
+use Rattle.justfile_model.specs.Reading.{Unexpected, ◌>>=◌, at, refused, same_kind, accept_by, accept, is_word, accept_word, marked_by, marks, accept_marked, choose, expect, begin_with, next_are}
+use Rattle.justfile_model.specs.ExpressionReader as r
+use Rattle.justfile_model.specs.ExpressionReader.{accept_operator, met_at, operator_by}
+use Rattle.justfile_model.specs.TreeReader.{Refusal, State, Taken, token_leaves}
 
--- these tokens are left, and these features were noted
-abbrev pub input : Tokens → List (Noted Tok) → Input
-input tokens noted = record { tokens = tokens; noted = noted }
+-- in this run at this depth, these tokens are left, and these features were noted
+abbrev pub input : Answers → ℕ → Tokens → List (Noted Tok) → State
+input expander depth tokens noted = record { run = expander; depth = depth; left = tokens; noted = noted }
 
 -- what holds of each outcome of a step holds of the whole
 pub after_bind : {A B : Type 0} (r : Result A Refusal) (f : A → Result B Refusal) (P : Result B Refusal → Type 0) → ((e : Refusal) → P (Err e)) → ((x : A) → r ≡ Ok x → P (f x)) → P (r >>= f)
 after_bind (Ok x) f P fails goes = goes x refl
 after_bind (Err e) f P fails goes = fails e
-
-pub bind_alike : {A B : Type 0} (r : Result A Refusal) (f g : A → Result B Refusal) → ((x : A) → r ≡ Ok x → f x ≡ g x) → (r >>= f) ≡ (r >>= g)
-bind_alike (Ok x) f g h = h x refl
-bind_alike (Err e) f g h = refl
-
--- the first step may be written by an equal one
-pub first_alike : {A B : Type 0} (r s : Result A Refusal) (f : A → Result B Refusal) → r ≡ s → (r >>= f) ≡ (s >>= f)
-first_alike r s f e = ap (λ o. o >>= f) e
-
-pub after_test : {A : Type 0} (b : Bool) (x y : A) (P : A → Type 0) → (b ≡ true → P x) → (b ≡ false → P y) → P (cond b x y)
-after_test true x y P then otherwise = then refl
-after_test false x y P then otherwise = otherwise refl
-
-pub test_alike : {A : Type 0} (b : Bool) (x y z w : A) → (b ≡ true → x ≡ y) → (b ≡ false → z ≡ w) → cond b x z ≡ cond b y w
-test_alike true x y z w h k = h refl
-test_alike false x y z w h k = k refl
-
--- what is known of an answer
-pub known : {A : Type 0} {found : Result A Refusal} (x : A) (Q : A → Type 0) → found ≡ Ok x → IfOk found Q → Q x
-known x Q e h = let P : Result _ Refusal → Type 0 = λ o. IfOk o Q in subst P e h
 
 pub weaken : {A : Type 0} (found : Result A Refusal) (Q R : A → Type 0) → ((x : A) → Q x → R x) → IfOk found Q → IfOk found R
 weaken (Ok x) Q R f h = f x h
@@ -61,7 +49,7 @@ both_true x y e f = rw (e, f) refl
 
 -- ---- a token that passes a test
 
-tested : (t : SignificantToken) (X : Input) (Q : Type 0) (P : Taken → Type 0) (b : Bool) → (b ≡ true → Q) → (Q → b ≡ true) → ((Q → ⊥) → P None) → (Q → P (Some (t, X))) → P (cond b (Some (t, X)) None)
+tested : (t : SignificantToken) (X : State) (Q : Type 0) (P : Taken → Type 0) (b : Bool) → (b ≡ true → Q) → (Q → b ≡ true) → ((Q → ⊥) → P None) → (Q → P (Some (t, X))) → P (cond b (Some (t, X)) None)
 tested t X Q P true is test not_here here = here (is refl)
 tested t X Q P false is test not_here here = not_here (λ q. true_not_false false (test q) refl)
 
@@ -76,26 +64,22 @@ unfolding same_kind
 kind_test kind t h = true_same the_type _ _ h
 
 -- either no such token comes next, or one does
-pub after_accept : (kind : TokenKind) (s : Input) (P : Taken → Type 0) → (NotNext kind s.tokens → P None) → ((t : SignificantToken) (rest : Tokens) → s.tokens ≡ t ∷ rest → IsKind kind t → P (Some (t, at s rest))) → P (accept kind s)
+pub after_accept : (kind : TokenKind) (s : State) (P : Taken → Type 0) → (NotNext kind s.left → P None) → ((t : SignificantToken) (rest : Tokens) → s.left ≡ t ∷ rest → IsKind kind t → P (Some (t, at s rest))) → P (accept token_leaves kind s)
 unfolding accept
-after_accept kind s P = go s.tokens
+after_accept kind s P = go s.left
   where
-    go : (ts : Tokens) → (NotNext kind ts → P None) → ((t : SignificantToken) (rest : Tokens) → ts ≡ t ∷ rest → IsKind kind t → P (Some (t, at s rest))) → P (accept_by (λ t. same_kind t.tok.kind kind) s ts)
+    go : (ts : Tokens) → (NotNext kind ts → P None) → ((t : SignificantToken) (rest : Tokens) → ts ≡ t ∷ rest → IsKind kind t → P (Some (t, at s rest))) → P (accept_by token_leaves (λ t. same_kind t.tok.kind kind) s ts)
     go [] not_here here = not_here tt
     go (t ∷ ts) not_here here = tested t (at s ts) (IsKind kind t) P (same_kind t.tok.kind kind) (kind_is kind t) (kind_test kind t) not_here (here t ts refl)
 
-pub accept_taken : (kind : TokenKind) (t : SignificantToken) (ts : Tokens) (ns : List (Noted Tok)) → IsKind kind t → accept kind (input (t ∷ ts) ns) ≡ Some (t, input ts ns)
+pub accept_taken : (kind : TokenKind) (t : SignificantToken) (ts : Tokens) (E : Answers) (d : ℕ) (ns : List (Noted Tok)) → IsKind kind t → accept token_leaves kind (input E d (t ∷ ts) ns) ≡ Some (t, input E d ts ns)
 unfolding accept
-accept_taken kind t ts ns e = rw (kind_test kind t e) refl
+accept_taken kind t ts E d ns e = rw (kind_test kind t e) refl
 
-pub accept_left : (kind : TokenKind) (ts : Tokens) (ns : List (Noted Tok)) → NotNext kind ts → accept kind (input ts ns) ≡ None
+pub accept_left : (kind : TokenKind) (ts : Tokens) (E : Answers) (d : ℕ) (ns : List (Noted Tok)) → NotNext kind ts → accept token_leaves kind (input E d ts ns) ≡ None
 unfolding accept
-accept_left kind [] ns h = refl
-accept_left kind (t ∷ ts) ns h = rw (is_false (same_kind t.tok.kind kind) (λ e. h (kind_is kind t e))) refl
-
--- no such token comes next
-pub accept_none : (kind : TokenKind) (s : Input) → accept kind s ≡ None → NotNext kind s.tokens
-accept_none kind s = after_accept kind s (λ o. o ≡ None → NotNext kind s.tokens) (λ not e. not) (λ t rest split is e. cc)
+accept_left kind [] E d ns h = refl
+accept_left kind (t ∷ ts) E d ns h = rw (is_false (same_kind t.tok.kind kind) (λ e. h (kind_is kind t e))) refl
 
 -- ---- tokens of these kinds
 
@@ -105,31 +89,28 @@ AreNext [] ts = Unit {0}
 AreNext (kind ∷ kinds) [] = ⊥
 AreNext (kind ∷ kinds) (t ∷ ts) = IsKind kind t × AreNext kinds ts
 
-begins : (kinds : List TokenKind) (ts : Tokens) → begin_with kinds ts ≡ true → AreNext kinds ts
+begins : (kinds : List TokenKind) (ts : Tokens) → begin_with token_leaves kinds ts ≡ true → AreNext kinds ts
 unfolding begin_with
 begins [] ts h = tt
 begins (kind ∷ kinds) [] h = cc
 begins (kind ∷ kinds) (t ∷ ts) h =
-    let parts = and_parts (same_kind t.tok.kind kind) (begin_with kinds ts) h in
+    let parts = and_parts (same_kind t.tok.kind kind) (begin_with token_leaves kinds ts) h in
     (kind_is kind t parts.0, begins kinds ts parts.1)
 
-begins_taken : (kinds : List TokenKind) (ts : Tokens) → AreNext kinds ts → begin_with kinds ts ≡ true
+begins_taken : (kinds : List TokenKind) (ts : Tokens) → AreNext kinds ts → begin_with token_leaves kinds ts ≡ true
 unfolding begin_with
 begins_taken [] ts h = refl
 begins_taken (kind ∷ kinds) [] h = absurd h
-begins_taken (kind ∷ kinds) (t ∷ ts) h = both_true (same_kind t.tok.kind kind) (begin_with kinds ts) (kind_test kind t h.0) (begins_taken kinds ts h.1)
+begins_taken (kind ∷ kinds) (t ∷ ts) h = both_true (same_kind t.tok.kind kind) (begin_with token_leaves kinds ts) (kind_test kind t h.0) (begins_taken kinds ts h.1)
 
-pub are_next : (kinds : List TokenKind) (s : Input) → next_are kinds s ≡ true → AreNext kinds s.tokens
-are_next kinds s h = begins kinds s.tokens h
+pub are_next : (kinds : List TokenKind) (s : State) → next_are token_leaves kinds s ≡ true → AreNext kinds s.left
+are_next kinds s h = begins kinds s.left h
 
-pub next_taken : (kinds : List TokenKind) (s : Input) → AreNext kinds s.tokens → next_are kinds s ≡ true
-next_taken kinds s h = begins_taken kinds s.tokens h
+pub next_taken : (kinds : List TokenKind) (s : State) → AreNext kinds s.left → next_are token_leaves kinds s ≡ true
+next_taken kinds s h = begins_taken kinds s.left h
 
-pub next_left : (kinds : List TokenKind) (s : Input) → (AreNext kinds s.tokens → ⊥) → next_are kinds s ≡ false
-next_left kinds s h = is_false (next_are kinds s) (λ e. h (are_next kinds s e))
-
-pub not_next : (kinds : List TokenKind) (s : Input) → next_are kinds s ≡ false → AreNext kinds s.tokens → ⊥
-not_next kinds s e h = true_not_false (next_are kinds s) (next_taken kinds s h) e
+pub next_left : (kinds : List TokenKind) (s : State) → (AreNext kinds s.left → ⊥) → next_are token_leaves kinds s ≡ false
+next_left kinds s h = is_false (next_are token_leaves kinds s) (λ e. h (are_next kinds s e))
 
 -- ---- a keyword
 
@@ -143,22 +124,22 @@ word_test : (word : List ℕ) (t : SignificantToken) → IsWord word t → is_wo
 unfolding is_word
 word_test word t h = both_true (same_kind t.tok.kind kinds.Identifier) (bytes_eq t.tok.lexeme word) (kind_test kinds.Identifier t h.is_name) ((bytes_eq-Decides t.tok.lexeme word).1 h.spelled)
 
-pub after_word : (word : List ℕ) (s : Input) (P : Taken → Type 0) → (NotWord word s.tokens → P None) → ((t : SignificantToken) (rest : Tokens) → s.tokens ≡ t ∷ rest → IsWord word t → P (Some (t, at s rest))) → P (accept_word word s)
+pub after_word : (word : List ℕ) (s : State) (P : Taken → Type 0) → (NotWord word s.left → P None) → ((t : SignificantToken) (rest : Tokens) → s.left ≡ t ∷ rest → IsWord word t → P (Some (t, at s rest))) → P (accept_word token_leaves word s)
 unfolding accept_word
-after_word word s P = go s.tokens
+after_word word s P = go s.left
   where
-    go : (ts : Tokens) → (NotWord word ts → P None) → ((t : SignificantToken) (rest : Tokens) → ts ≡ t ∷ rest → IsWord word t → P (Some (t, at s rest))) → P (accept_by (is_word word) s ts)
+    go : (ts : Tokens) → (NotWord word ts → P None) → ((t : SignificantToken) (rest : Tokens) → ts ≡ t ∷ rest → IsWord word t → P (Some (t, at s rest))) → P (accept_by token_leaves (is_word word) s ts)
     go [] not_here here = not_here tt
     go (t ∷ ts) not_here here = tested t (at s ts) (IsWord word t) P (is_word word t) (word_is word t) (word_test word t) not_here (here t ts refl)
 
-pub word_taken : (word : List ℕ) (t : SignificantToken) (ts : Tokens) (ns : List (Noted Tok)) → IsWord word t → accept_word word (input (t ∷ ts) ns) ≡ Some (t, input ts ns)
+pub word_taken : (word : List ℕ) (t : SignificantToken) (ts : Tokens) (E : Answers) (d : ℕ) (ns : List (Noted Tok)) → IsWord word t → accept_word token_leaves word (input E d (t ∷ ts) ns) ≡ Some (t, input E d ts ns)
 unfolding accept_word
-word_taken word t ts ns e = rw (word_test word t e) refl
+word_taken word t ts E d ns e = rw (word_test word t e) refl
 
-pub word_left : (word : List ℕ) (ts : Tokens) (ns : List (Noted Tok)) → NotWord word ts → accept_word word (input ts ns) ≡ None
+pub word_left : (word : List ℕ) (ts : Tokens) (E : Answers) (d : ℕ) (ns : List (Noted Tok)) → NotWord word ts → accept_word token_leaves word (input E d ts ns) ≡ None
 unfolding accept_word
-word_left word [] ns h = refl
-word_left word (t ∷ ts) ns h = rw (is_false (is_word word t) (λ e. h (word_is word t e))) refl
+word_left word [] E d ns h = refl
+word_left word (t ∷ ts) E d ns h = rw (is_false (is_word word t) (λ e. h (word_is word t e))) refl
 
 -- ---- a string that a name marks
 
@@ -167,132 +148,234 @@ abbrev pub NoMark : List ℕ → TokenKind → Tokens → Type 0
 NoMark word kind [] = Unit {0}
 NoMark word kind (m ∷ ts) = NotMarked word kind m ts
 
-abbrev is_marked : List ℕ → TokenKind → SignificantToken → SignificantToken → Bool
-is_marked word kind m t = is_word word m && same_kind t.tok.kind kind && t.glued
-
-marked_is : (word : List ℕ) (kind : TokenKind) (m t : SignificantToken) → is_marked word kind m t ≡ true → IsMarked word kind m t
+marked_is : (word : List ℕ) (kind : TokenKind) (m t : SignificantToken) → marks word kind m t ≡ true → IsMarked word kind m t
 marked_is word kind m t h =
     let parts = and_parts (is_word word m && same_kind t.tok.kind kind) t.glued h in
     let tokens = and_parts (is_word word m) (same_kind t.tok.kind kind) parts.0 in
     record { marks = word_is word m tokens.0; is_string = kind_is kind t tokens.1; glued = parts.1 }
 
-marked_test : (word : List ℕ) (kind : TokenKind) (m t : SignificantToken) → IsMarked word kind m t → is_marked word kind m t ≡ true
+marked_test : (word : List ℕ) (kind : TokenKind) (m t : SignificantToken) → IsMarked word kind m t → marks word kind m t ≡ true
 marked_test word kind m t h =
     both_true (is_word word m && same_kind t.tok.kind kind) t.glued
     (both_true (is_word word m) (same_kind t.tok.kind kind) (word_test word m h.marks) (kind_test kind t h.is_string))
     h.glued
 
-pub after_marked : (word : List ℕ) (kind : TokenKind) (s : Input) (P : Taken → Type 0) → (NoMark word kind s.tokens → P None) → ((m t : SignificantToken) (rest : Tokens) → s.tokens ≡ m ∷ t ∷ rest → IsMarked word kind m t → P (Some (t, at s rest))) → P (accept_marked word kind s)
+pub after_marked : (word : List ℕ) (kind : TokenKind) (s : State) (P : Taken → Type 0) → (NoMark word kind s.left → P None) → ((m t : SignificantToken) (rest : Tokens) → s.left ≡ m ∷ t ∷ rest → IsMarked word kind m t → P (Some (t, at s rest))) → P (accept_marked token_leaves word kind s)
 unfolding accept_marked
-after_marked word kind s P = go s.tokens
+after_marked word kind s P = go s.left
   where
-    go : (ts : Tokens) → (NoMark word kind ts → P None) → ((m t : SignificantToken) (rest : Tokens) → ts ≡ m ∷ t ∷ rest → IsMarked word kind m t → P (Some (t, at s rest))) → P (marked_by word kind s ts)
+    go : (ts : Tokens) → (NoMark word kind ts → P None) → ((m t : SignificantToken) (rest : Tokens) → ts ≡ m ∷ t ∷ rest → IsMarked word kind m t → P (Some (t, at s rest))) → P (marked_by token_leaves word kind s ts)
     go [] not_here here = not_here tt
     go (m ∷ []) not_here here = not_here tt
-    go (m ∷ t ∷ ts) not_here here = tested t (at s ts) (IsMarked word kind m t) P (is_marked word kind m t) (marked_is word kind m t) (marked_test word kind m t) not_here (here m t ts refl)
+    go (m ∷ t ∷ ts) not_here here = tested t (at s ts) (IsMarked word kind m t) P (marks word kind m t) (marked_is word kind m t) (marked_test word kind m t) not_here (here m t ts refl)
 
-pub marked_taken : (word : List ℕ) (kind : TokenKind) (m t : SignificantToken) (ts : Tokens) (ns : List (Noted Tok)) → IsMarked word kind m t → accept_marked word kind (input (m ∷ t ∷ ts) ns) ≡ Some (t, input ts ns)
+pub marked_taken : (word : List ℕ) (kind : TokenKind) (m t : SignificantToken) (ts : Tokens) (E : Answers) (d : ℕ) (ns : List (Noted Tok)) → IsMarked word kind m t → accept_marked token_leaves word kind (input E d (m ∷ t ∷ ts) ns) ≡ Some (t, input E d ts ns)
 unfolding accept_marked
-marked_taken word kind m t ts ns e = rw (marked_test word kind m t e) refl
+marked_taken word kind m t ts E d ns e = rw (marked_test word kind m t e) refl
 
-pub marked_left : (word : List ℕ) (kind : TokenKind) (ts : Tokens) (ns : List (Noted Tok)) → NoMark word kind ts → accept_marked word kind (input ts ns) ≡ None
+pub marked_left : (word : List ℕ) (kind : TokenKind) (ts : Tokens) (E : Answers) (d : ℕ) (ns : List (Noted Tok)) → NoMark word kind ts → accept_marked token_leaves word kind (input E d ts ns) ≡ None
 unfolding accept_marked
-marked_left word kind [] ns h = refl
-marked_left word kind (m ∷ []) ns h = refl
-marked_left word kind (m ∷ t ∷ ts) ns h = rw (is_false (is_marked word kind m t) (λ e. h (marked_is word kind m t e))) refl
-
--- ---- what was taken leaves fewer tokens
-
-taken_shorter : (s : Input) (t : SignificantToken) (rest : Tokens) (p : SignificantToken × Input) → s.tokens ≡ t ∷ rest → ◌≡◌ {A = Taken} (Some (t, at s rest)) (Some p) → length p.1.tokens < length s.tokens
-taken_shorter s t rest p split e =
-    let pairs : ◌≡◌ {A = SignificantToken × Input} (t, at s rest) p = cc in
-    omega (arith, ap length split, ap (λ (p : SignificantToken × Input). length p.1.tokens) pairs)
-
-pub accept_shorter : (kind : TokenKind) (s : Input) (p : SignificantToken × Input) → accept kind s ≡ Some p → length p.1.tokens < length s.tokens
-accept_shorter kind s p = after_accept kind s (λ o. o ≡ Some p → length p.1.tokens < length s.tokens) (λ not e. cc) (λ t rest split is. taken_shorter s t rest p split)
-
-pub word_shorter : (word : List ℕ) (s : Input) (p : SignificantToken × Input) → accept_word word s ≡ Some p → length p.1.tokens < length s.tokens
-word_shorter word s p = after_word word s (λ o. o ≡ Some p → length p.1.tokens < length s.tokens) (λ not e. cc) (λ t rest split is. taken_shorter s t rest p split)
-
-pub marked_shorter : (word : List ℕ) (kind : TokenKind) (s : Input) (p : SignificantToken × Input) → accept_marked word kind s ≡ Some p → length p.1.tokens < length s.tokens
-marked_shorter word kind s p = after_marked word kind s (λ o. o ≡ Some p → length p.1.tokens < length s.tokens) (λ not e. cc) (λ m t rest split is e.
-    let pairs : ◌≡◌ {A = SignificantToken × Input} (t, at s rest) p = cc in
-    omega (arith, ap length split, ap (λ (p : SignificantToken × Input). length p.1.tokens) pairs))
+marked_left word kind [] E d ns h = refl
+marked_left word kind (m ∷ []) E d ns h = refl
+marked_left word kind (m ∷ t ∷ ts) E d ns h = rw (is_false (marks word kind m t) (λ e. h (marked_is word kind m t e))) refl
 
 -- ---- choices
 
-pub choose_alike : {A : Type 0} (o : Taken) (x y : A) (f g : SignificantToken × Input → A) → (o ≡ None → x ≡ y) → ((p : SignificantToken × Input) → o ≡ Some p → f p ≡ g p) → choose o x f ≡ choose o y g
-choose_alike None x y f g e h = e refl
-choose_alike (Some p) x y f g e h = h p refl
-
-pub after_choose : {A : Type 0} (kind : TokenKind) (s : Input) (x : A) (f : SignificantToken × Input → A) (P : A → Type 0) → (NotNext kind s.tokens → P x) → ((t : SignificantToken) (rest : Tokens) → s.tokens ≡ t ∷ rest → IsKind kind t → P (f (t, at s rest))) → P (choose (accept kind s) x f)
+pub after_choose : {A : Type 0} (kind : TokenKind) (s : State) (x : A) (f : SignificantToken × State → A) (P : A → Type 0) → (NotNext kind s.left → P x) → ((t : SignificantToken) (rest : Tokens) → s.left ≡ t ∷ rest → IsKind kind t → P (f (t, at s rest))) → P (choose (accept token_leaves kind s) x f)
 after_choose kind s x f P = after_accept kind s (λ o. P (choose o x f))
 
-pub after_choose_word : {A : Type 0} (word : List ℕ) (s : Input) (x : A) (f : SignificantToken × Input → A) (P : A → Type 0) → (NotWord word s.tokens → P x) → ((t : SignificantToken) (rest : Tokens) → s.tokens ≡ t ∷ rest → IsWord word t → P (f (t, at s rest))) → P (choose (accept_word word s) x f)
+pub after_choose_word : {A : Type 0} (word : List ℕ) (s : State) (x : A) (f : SignificantToken × State → A) (P : A → Type 0) → (NotWord word s.left → P x) → ((t : SignificantToken) (rest : Tokens) → s.left ≡ t ∷ rest → IsWord word t → P (f (t, at s rest))) → P (choose (accept_word token_leaves word s) x f)
 after_choose_word word s x f P = after_word word s (λ o. P (choose o x f))
 
-pub after_choose_marked : {A : Type 0} (word : List ℕ) (kind : TokenKind) (s : Input) (x : A) (f : SignificantToken × Input → A) (P : A → Type 0) → (NoMark word kind s.tokens → P x) → ((m t : SignificantToken) (rest : Tokens) → s.tokens ≡ m ∷ t ∷ rest → IsMarked word kind m t → P (f (t, at s rest))) → P (choose (accept_marked word kind s) x f)
+pub after_choose_marked : {A : Type 0} (word : List ℕ) (kind : TokenKind) (s : State) (x : A) (f : SignificantToken × State → A) (P : A → Type 0) → (NoMark word kind s.left → P x) → ((m t : SignificantToken) (rest : Tokens) → s.left ≡ m ∷ t ∷ rest → IsMarked word kind m t → P (f (t, at s rest))) → P (choose (accept_marked token_leaves word kind s) x f)
 after_choose_marked word kind s x f P = after_marked word kind s (λ o. P (choose o x f))
 
-pub expect_taken : (kind : TokenKind) (t : SignificantToken) (ts : Tokens) (ns : List (Noted Tok)) → IsKind kind t → expect kind (input (t ∷ ts) ns) ≡ Ok (t, input ts ns)
+pub expect_taken : (kind : TokenKind) (t : SignificantToken) (ts : Tokens) (E : Answers) (d : ℕ) (ns : List (Noted Tok)) → IsKind kind t → expect token_leaves kind (input E d (t ∷ ts) ns) ≡ Ok (t, input E d ts ns)
 unfolding expect
-expect_taken kind t ts ns e = rw (accept_taken kind t ts ns e) refl
+expect_taken kind t ts E d ns e = rw (accept_taken kind t ts E d ns e) refl
 
 -- where the token is the one that is expected, it is read
-pub after_expect : {B : Type 0} (kind : TokenKind) (s : Input) (f : SignificantToken × Input → Result B Refusal) (P : Result B Refusal → Type 0) → ((e : Refusal) → P (Err e)) → ((t : SignificantToken) (rest : Tokens) → s.tokens ≡ t ∷ rest → IsKind kind t → P (f (t, at s rest))) → P (expect kind s >>= f)
+pub after_expect : {B : Type 0} (kind : TokenKind) (s : State) (f : SignificantToken × State → Result B Refusal) (P : Result B Refusal → Type 0) → ((e : Refusal) → P (Err e)) → ((t : SignificantToken) (rest : Tokens) → s.left ≡ t ∷ rest → IsKind kind t → P (f (t, at s rest))) → P (expect token_leaves kind s >>= f)
 unfolding expect
 after_expect kind s f P fails goes = after_accept kind s (λ o. P (choose o (Err (refused Unexpected s)) (λ x. Ok x) >>= f)) (λ not. fails _) goes
 
-pub expect_shorter : (kind : TokenKind) (s : Input) (p : SignificantToken × Input) → expect kind s ≡ Ok p → length p.1.tokens < length s.tokens
-unfolding expect
-expect_shorter kind s p = after_accept kind s (λ o. choose {A = Read SignificantToken} o (Err (refused Unexpected s)) (λ x. Ok x) ≡ Ok p → length p.1.tokens < length s.tokens) (λ not e. cc) (λ t rest split is e.
-    let pairs : ◌≡◌ {A = SignificantToken × Input} (t, at s rest) p = cc in
-    omega (arith, ap length split, ap (λ (p : SignificantToken × Input). length p.1.tokens) pairs))
+-- ---- an operator
 
--- ---- a comparison operator
+-- the token that an operator is
+abbrev pub operator_token : Operator → TokenKind
+operator_token operators.Or = kinds.BarBar
+operator_token operators.And = kinds.AmpersandAmpersand
+operator_token (operators.Compare by) = operator_kind by
+operator_token operators.Join = kinds.Slash
+operator_token operators.ListConcatenation = kinds.PlusPlus
+operator_token operators.Concatenation = kinds.Plus
+
+token_operator : (o : Operator) → operator_of (operator_token o) ≡ Some o
+token_operator operators.Or = refl
+token_operator operators.And = refl
+token_operator (operators.Compare Equality) = refl
+token_operator (operators.Compare Inequality) = refl
+token_operator (operators.Compare RegexMatch) = refl
+token_operator (operators.Compare RegexMismatch) = refl
+token_operator operators.Join = refl
+token_operator operators.ListConcatenation = refl
+token_operator operators.Concatenation = refl
+
+same_token : (kind : TokenKind) (p o : Operator) → kind ≡ operator_token p → ◌≡◌ {A = Option Operator} (Some p) (Some o) → kind ≡ operator_token o
+same_token kind p o is e = let same : p ≡ o = cc in is ∙ ap operator_token same
+
+is_operator : (kind : TokenKind) (o : Operator) → operator_of kind ≡ Some o → kind ≡ operator_token o
+is_operator kinds.BarBar o e = same_token kinds.BarBar operators.Or o refl e
+is_operator kinds.AmpersandAmpersand o e = same_token kinds.AmpersandAmpersand operators.And o refl e
+is_operator kinds.BangEquals o e = same_token kinds.BangEquals (operators.Compare Inequality) o refl e
+is_operator kinds.EqualsTilde o e = same_token kinds.EqualsTilde (operators.Compare RegexMatch) o refl e
+is_operator kinds.BangTilde o e = same_token kinds.BangTilde (operators.Compare RegexMismatch) o refl e
+is_operator kinds.EqualsEquals o e = same_token kinds.EqualsEquals (operators.Compare Equality) o refl e
+is_operator kinds.Slash o e = same_token kinds.Slash operators.Join o refl e
+is_operator kinds.PlusPlus o e = same_token kinds.PlusPlus operators.ListConcatenation o refl e
+is_operator kinds.Plus o e = same_token kinds.Plus operators.Concatenation o refl e
+is_operator _ o e = cc
 
 -- an operator that was taken, and what is left
 abbrev pub TakenOperator : Type 0
-TakenOperator = Option (ConditionalOperator × SignificantToken × Input)
+TakenOperator = r.Met Answers SignificantToken Tok
+
+-- no operator of the level comes next
+abbrev pub NoOperator : Level → Tokens → Type 0
+NoOperator level ts = (o : Operator) → is_at level o ≡ true → NotNext (operator_token o) ts
 
 -- either none comes next, or one does
-pub after_operator : (s : Input) (P : TakenOperator → Type 0) → (NotCompared s.tokens → P None) → ((by : ConditionalOperator) (t : SignificantToken) (rest : Tokens) → s.tokens ≡ t ∷ rest → IsKind (operator_kind by) t → P (Some (by, t, at s rest))) → P (accept_operator s)
+after_operator : (level : Level) (s : State) (P : TakenOperator → Type 0) → (NoOperator level s.left → P None)
+    → ((o : Operator) (t : SignificantToken) (rest : Tokens) → is_at level o ≡ true → s.left ≡ t ∷ rest → IsKind (operator_token o) t → P (Some (o, t, at s rest))) → P (accept_operator token_leaves level s)
 unfolding accept_operator
-after_operator s P not_here here =
-    after_choose kinds.BangEquals s _ _ P
-    (λ n1. after_choose kinds.EqualsTilde s _ _ P
-    (λ n2. after_choose kinds.BangTilde s _ _ P
-    (λ n3. after_choose kinds.EqualsEquals s _ _ P
-    (λ n4. not_here (record { equality = n4; inequality = n1; regex_match = n2; regex_mismatch = n3 }))
-    (here Equality))
-    (here RegexMismatch))
-    (here RegexMatch))
-    (here Inequality)
+after_operator level s P = go s.left
+  where
+    other : (t : SignificantToken) (o : Operator) → operator_of t.tok.kind ≡ None → IsKind (operator_token o) t → ⊥
+    other t o e k = let same : operator_of t.tok.kind ≡ Some o = ap operator_of k ∙ token_operator o in cc
 
-pub operator_taken : (by : ConditionalOperator) (t : SignificantToken) (ts : Tokens) (ns : List (Noted Tok)) → IsKind (operator_kind by) t → accept_operator (input (t ∷ ts) ns) ≡ Some (by, t, input ts ns)
+    not_at : (t : SignificantToken) (o p : Operator) → operator_of t.tok.kind ≡ Some o → is_at level o ≡ false → is_at level p ≡ true → IsKind (operator_token p) t → ⊥
+    not_at t o p e apart fits k =
+        let same : operator_of t.tok.kind ≡ Some p = ap operator_of k ∙ token_operator p in
+        let one : o ≡ p = cc in
+        true_not_false (is_at level p) fits (sym (ap (is_at level) one) ∙ apart)
+
+    by_level : (t : SignificantToken) (ts : Tokens) (o : Operator) (b : Bool) → operator_of t.tok.kind ≡ Some o → is_at level o ≡ b → (NoOperator level (t ∷ ts) → P None)
+        → ((o : Operator) (u : SignificantToken) (rest : Tokens) → is_at level o ≡ true → ◌≡◌ {A = Tokens} (t ∷ ts) (u ∷ rest) → IsKind (operator_token o) u → P (Some (o, u, at s rest))) → P (cond b (Some (o, t, at s ts)) None)
+    by_level t ts o true e is not_here here = here o t ts is refl (is_operator t.tok.kind o e)
+    by_level t ts o false e is not_here here = not_here (λ p fits. not_at t o p e is fits)
+
+    by_kind : (t : SignificantToken) (ts : Tokens) (o : Option Operator) → operator_of t.tok.kind ≡ o → (NoOperator level (t ∷ ts) → P None)
+        → ((o : Operator) (u : SignificantToken) (rest : Tokens) → is_at level o ≡ true → ◌≡◌ {A = Tokens} (t ∷ ts) (u ∷ rest) → IsKind (operator_token o) u → P (Some (o, u, at s rest))) → P (met_at token_leaves level s t ts o)
+    by_kind t ts None e not_here here = not_here (λ p fits. other t p e)
+    by_kind t ts (Some o) e not_here here = by_level t ts o (is_at level o) e refl not_here here
+
+    go : (ts : Tokens) → (NoOperator level ts → P None) → ((o : Operator) (u : SignificantToken) (rest : Tokens) → is_at level o ≡ true → ts ≡ u ∷ rest → IsKind (operator_token o) u → P (Some (o, u, at s rest)))
+        → P (operator_by token_leaves level s ts)
+    go [] not_here here = not_here (λ o fits. tt)
+    go (t ∷ ts) not_here here = by_kind t ts (operator_of t.tok.kind) refl not_here here
+
+module _ (s : State) (P : TakenOperator → Type 0) where
+  pub after_or : (NotNext kinds.BarBar s.left → P None) → ((t : SignificantToken) (rest : Tokens) → s.left ≡ t ∷ rest → IsKind kinds.BarBar t → P (Some (operators.Or, t, at s rest))) → P (accept_operator token_leaves levels.Expression s)
+  after_or not_here here = after_operator levels.Expression s P (λ apart. not_here (apart operators.Or refl)) one
+    where
+      one : (o : Operator) (t : SignificantToken) (rest : Tokens) → is_at levels.Expression o ≡ true → s.left ≡ t ∷ rest → IsKind (operator_token o) t → P (Some (o, t, at s rest))
+      one operators.Or t rest fits = here t rest
+      one operators.And t rest fits = cc
+      one (operators.Compare by) t rest fits = cc
+      one operators.Join t rest fits = cc
+      one operators.ListConcatenation t rest fits = cc
+      one operators.Concatenation t rest fits = cc
+
+  pub after_and : (NotNext kinds.AmpersandAmpersand s.left → P None) → ((t : SignificantToken) (rest : Tokens) → s.left ≡ t ∷ rest → IsKind kinds.AmpersandAmpersand t → P (Some (operators.And, t, at s rest))) → P (accept_operator token_leaves levels.Disjunct s)
+  after_and not_here here = after_operator levels.Disjunct s P (λ apart. not_here (apart operators.And refl)) one
+    where
+      one : (o : Operator) (t : SignificantToken) (rest : Tokens) → is_at levels.Disjunct o ≡ true → s.left ≡ t ∷ rest → IsKind (operator_token o) t → P (Some (o, t, at s rest))
+      one operators.And t rest fits = here t rest
+      one operators.Or t rest fits = cc
+      one (operators.Compare by) t rest fits = cc
+      one operators.Join t rest fits = cc
+      one operators.ListConcatenation t rest fits = cc
+      one operators.Concatenation t rest fits = cc
+
+  pub after_comparison : (NotCompared s.left → P None) → ((by : ConditionalOperator) (t : SignificantToken) (rest : Tokens) → s.left ≡ t ∷ rest → IsKind (operator_kind by) t → P (Some (operators.Compare by, t, at s rest)))
+      → P (accept_operator token_leaves levels.Compared s)
+  after_comparison not_here here = after_operator levels.Compared s P (λ apart. not_here (none apart)) one
+    where
+      none : NoOperator levels.Compared s.left → NotCompared s.left
+      none apart = record {
+        equality = apart (operators.Compare Equality) refl;
+        inequality = apart (operators.Compare Inequality) refl;
+        regex_match = apart (operators.Compare RegexMatch) refl;
+        regex_mismatch = apart (operators.Compare RegexMismatch) refl;
+      }
+
+      one : (o : Operator) (t : SignificantToken) (rest : Tokens) → is_at levels.Compared o ≡ true → s.left ≡ t ∷ rest → IsKind (operator_token o) t → P (Some (o, t, at s rest))
+      one (operators.Compare by) t rest fits = here by t rest
+      one operators.Or t rest fits = cc
+      one operators.And t rest fits = cc
+      one operators.Join t rest fits = cc
+      one operators.ListConcatenation t rest fits = cc
+      one operators.Concatenation t rest fits = cc
+
+  pub after_joined : (NotJoined s.left → P None)
+      → ((t : SignificantToken) (rest : Tokens) → s.left ≡ t ∷ rest → IsKind kinds.Slash t → P (Some (operators.Join, t, at s rest)))
+      → ((t : SignificantToken) (rest : Tokens) → s.left ≡ t ∷ rest → IsKind kinds.PlusPlus t → P (Some (operators.ListConcatenation, t, at s rest)))
+      → ((t : SignificantToken) (rest : Tokens) → s.left ≡ t ∷ rest → IsKind kinds.Plus t → P (Some (operators.Concatenation, t, at s rest)))
+      → P (accept_operator token_leaves levels.Conjunct s)
+  after_joined not_here join lists texts = after_operator levels.Conjunct s P (λ apart. not_here (none apart)) one
+    where
+      none : NoOperator levels.Conjunct s.left → NotJoined s.left
+      none apart = record { join = apart operators.Join refl; list_concatenation = apart operators.ListConcatenation refl; concatenation = apart operators.Concatenation refl }
+
+      one : (o : Operator) (t : SignificantToken) (rest : Tokens) → is_at levels.Conjunct o ≡ true → s.left ≡ t ∷ rest → IsKind (operator_token o) t → P (Some (o, t, at s rest))
+      one operators.Join t rest fits = join t rest
+      one operators.ListConcatenation t rest fits = lists t rest
+      one operators.Concatenation t rest fits = texts t rest
+      one operators.Or t rest fits = cc
+      one operators.And t rest fits = cc
+      one (operators.Compare by) t rest fits = cc
+
+pub operator_taken : (level : Level) (o : Operator) (t : SignificantToken) (ts : Tokens) (E : Answers) (d : ℕ) (ns : List (Noted Tok)) → is_at level o ≡ true → IsKind (operator_token o) t → accept_operator token_leaves level (input E d (t ∷ ts) ns) ≡ Some (o, t, input E d ts ns)
 unfolding accept_operator
-operator_taken Inequality t ts ns e = rw (accept_taken kinds.BangEquals t ts ns e) refl
-operator_taken RegexMatch t ts ns e = rw (accept_left kinds.BangEquals (t ∷ ts) ns (λ h. cc), accept_taken kinds.EqualsTilde t ts ns e) refl
-operator_taken RegexMismatch t ts ns e = rw (accept_left kinds.BangEquals (t ∷ ts) ns (λ h. cc), accept_left kinds.EqualsTilde (t ∷ ts) ns (λ h. cc), accept_taken kinds.BangTilde t ts ns e) refl
-operator_taken Equality t ts ns e =
-    rw (
-      accept_left kinds.BangEquals (t ∷ ts) ns (λ h. cc),
-      accept_left kinds.EqualsTilde (t ∷ ts) ns (λ h. cc),
-      accept_left kinds.BangTilde (t ∷ ts) ns (λ h. cc),
-      accept_taken kinds.EqualsEquals t ts ns e,
-    ) refl
+operator_taken level o t ts E d ns fits e = let same : operator_of t.tok.kind ≡ Some o = ap operator_of e ∙ token_operator o in rw (same, fits) refl
 
-pub operator_left : (ts : Tokens) (ns : List (Noted Tok)) → NotCompared ts → accept_operator (input ts ns) ≡ None
-unfolding accept_operator
-operator_left ts ns h =
-    rw (
-      accept_left kinds.BangEquals ts ns h.inequality,
-      accept_left kinds.EqualsTilde ts ns h.regex_match,
-      accept_left kinds.BangTilde ts ns h.regex_mismatch,
-      accept_left kinds.EqualsEquals ts ns h.equality,
-    ) refl
+pub operator_left : (level : Level) (ts : Tokens) (E : Answers) (d : ℕ) (ns : List (Noted Tok)) → NoOperator level ts → accept_operator token_leaves level (input E d ts ns) ≡ None
+operator_left level ts E d ns apart =
+    after_operator level (input E d ts ns) (λ o. o ≡ None) (λ _. refl) (λ o t rest fits split e. absurd (subst (NotNext (operator_token o)) split (apart o fits) e))
 
-pub operator_shorter : (s : Input) (op : ConditionalOperator × SignificantToken × Input) → accept_operator s ≡ Some op → length op.2.tokens < length s.tokens
-operator_shorter s op = after_operator s (λ o. o ≡ Some op → length op.2.tokens < length s.tokens) (λ not e. cc) (λ by t rest split is e.
-    let triples : ◌≡◌ {A = ConditionalOperator × SignificantToken × Input} (by, t, at s rest) op = cc in
-    omega (arith, ap length split, ap (λ (op : ConditionalOperator × SignificantToken × Input). length op.2.tokens) triples))
+-- no operator of a level comes next
+
+pub no_or : (ts : Tokens) → NotNext kinds.BarBar ts → NoOperator levels.Expression ts
+no_or ts h operators.Or fits = h
+no_or ts h operators.And fits = cc
+no_or ts h (operators.Compare by) fits = cc
+no_or ts h operators.Join fits = cc
+no_or ts h operators.ListConcatenation fits = cc
+no_or ts h operators.Concatenation fits = cc
+
+pub no_and : (ts : Tokens) → NotNext kinds.AmpersandAmpersand ts → NoOperator levels.Disjunct ts
+no_and ts h operators.And fits = h
+no_and ts h operators.Or fits = cc
+no_and ts h (operators.Compare by) fits = cc
+no_and ts h operators.Join fits = cc
+no_and ts h operators.ListConcatenation fits = cc
+no_and ts h operators.Concatenation fits = cc
+
+pub no_comparison : (ts : Tokens) → NotCompared ts → NoOperator levels.Compared ts
+no_comparison ts h (operators.Compare Equality) fits = h.equality
+no_comparison ts h (operators.Compare Inequality) fits = h.inequality
+no_comparison ts h (operators.Compare RegexMatch) fits = h.regex_match
+no_comparison ts h (operators.Compare RegexMismatch) fits = h.regex_mismatch
+no_comparison ts h operators.Or fits = cc
+no_comparison ts h operators.And fits = cc
+no_comparison ts h operators.Join fits = cc
+no_comparison ts h operators.ListConcatenation fits = cc
+no_comparison ts h operators.Concatenation fits = cc
+
+pub no_joined : (ts : Tokens) → NotJoined ts → NoOperator levels.Conjunct ts
+no_joined ts h operators.Join fits = h.join
+no_joined ts h operators.ListConcatenation fits = h.list_concatenation
+no_joined ts h operators.Concatenation fits = h.concatenation
+no_joined ts h operators.Or fits = cc
+no_joined ts h operators.And fits = cc
+no_joined ts h (operators.Compare by) fits = cc

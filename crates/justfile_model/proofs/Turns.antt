@@ -1,5 +1,5 @@
 -- The laws of `recursive`.
-use Rattle.std.proofs.Common.{◌≡◌, ℕ, zero, suc, ◌<◌, Bool, true, false, cond, nat_lt, refl, ap, arith}
+use Rattle.std.proofs.Common.{◌≡◌, ℕ, zero, suc, ◌<◌, Bool, true, false, cond, nat_lt, refl, subst, ap, arith}
 use Rattle.std.proofs.lemmas.Bool.Decides.{nat_tests}
 use Rattle.justfile_model.specs.Recursive.{below, turns, recursive}
 
@@ -47,3 +47,26 @@ module _ {X : Type 0} {R : X → Type 0} (size : X → ℕ) (stop : (x : X) → 
       let same : (y : X) → below size stop rule x (turns size stop rule (size x)) y ≡ below size stop rule x (recursive size stop rule) y =
       λ y. below_alike x (turns size stop rule (size x)) (recursive size stop rule) (λ z lt. turns_alike (size x) (suc (size z)) z lt (omega arith)) y (nat_lt (size y) (size x)) refl in
       λ i. rule (λ y. same y i) x
+
+-- Two recursions side by side: where related arguments have the same size, and the rules keep what is related, the answers are related.
+module _ {X Y : Type 0} {R : X → Type 0} {S : Y → Type 0} (size : X → ℕ) (stop : (x : X) → R x) (rule : ((y : X) → R y) → (x : X) → R x)
+    (size' : Y → ℕ) (stop' : (y : Y) → S y) (rule' : ((y : Y) → S y) → (x : Y) → S x)
+    (Like : X → Y → Type 0) (same : (x : X) (y : Y) → Like x y → size x ≡ size' y) (P : (x : X) (y : Y) → R x → S y → Type 0) (stops : (x : X) (y : Y) → Like x y → P x y (stop x) (stop' y))
+    (keeps : (f : (x : X) → R x) (g : (y : Y) → S y) → ((x : X) (y : Y) → Like x y → P x y (f x) (g y)) → (x : X) (y : Y) → Like x y → P x y (rule f x) (rule' g y)) where
+  both_choices : (b c : Bool) → b ≡ c → (x : X) (y : Y) → Like x y → (r : R x) (s : S y) → P x y r s → P x y (cond b r (stop x)) (cond c s (stop' y))
+  both_choices true true e x y l r s h = h
+  both_choices false false e x y l r s h = stops x y l
+  both_choices true false e x y l r s h = cc
+  both_choices false true e x y l r s h = cc
+
+  both_turn : (n : ℕ) (x : X) (y : Y) → Like x y → P x y (turns size stop rule n x) (turns size' stop' rule' n y)
+  unfolding below turns
+  both_turn zero x y l = stops x y l
+  both_turn (suc n) x y l =
+      let smaller : (z : X) (w : Y) → Like z w → nat_lt (size z) (size x) ≡ nat_lt (size' w) (size' y) = λ z w k i. nat_lt (same z w k i) (same x y l i) in
+      keeps (below size stop rule x (turns size stop rule n)) (below size' stop' rule' y (turns size' stop' rule' n))
+      (λ z w k. both_choices (nat_lt (size z) (size x)) (nat_lt (size' w) (size' y)) (smaller z w k) z w k (turns size stop rule n z) (turns size' stop' rule' n w) (both_turn n z w k)) x y l
+
+  pub both_recur : (x : X) (y : Y) → Like x y → P x y (recursive size stop rule x) (recursive size' stop' rule' y)
+  unfolding recursive
+  both_recur x y l = subst (λ n. P x y (turns size stop rule (suc (size x)) x) (turns size' stop' rule' (suc n) y)) (same x y l) (both_turn (suc (size x)) x y l)

@@ -1,262 +1,353 @@
--- Reading expressions, with their features. That it agrees with the grammar is a law.
+-- Reading expressions, with their features and the texts of their literals. That it agrees with the grammar is a law.
 use Rattle.std.specs.Prelude.{ℕ, ◌+◌, ◌*◌, Bool, true, false, List, [], ◌∷◌, length, Option, Some, None, Result, Ok, Err, nat_lt, if◌then◌else◌, codes}
 use Rattle.justfile_base.specs.declared.token_kind.TokenKind.{TokenKind}
 use Rattle.justfile_base.specs.declared.token_kind.TokenKind.TheVariants as kinds
-use Rattle.justfile_model.specs.declared.conditional_operator.ConditionalOperator.{ConditionalOperator}
-use Rattle.justfile_model.specs.declared.conditional_operator.ConditionalOperator.TheVariants.{Equality, Inequality, RegexMatch, RegexMismatch}
+use Rattle.justfile_model.specs.declared.level.Level.{Level}
+use Rattle.justfile_model.specs.declared.level.Level.TheVariants.{Expression, Conjunct, Value}
 use Rattle.justfile_model.specs.declared.list_feature.ListFeature.TheVariants as features
-use Rattle.justfile_model.specs.Tok.{Tok}
-use Rattle.justfile_model.specs.SignificantTokens.{SignificantToken}
+use Rattle.justfile_model.specs.declared.operator.Operator.{Operator}
 use Rattle.justfile_model.specs.Tree as t
 use Rattle.justfile_model.specs.Tree.{Expr, Exprs, Parts}
-use Rattle.justfile_model.specs.Features.{compared, uncompared, called}
-use Rattle.justfile_model.specs.Expressions.{Tokens, depth_limit, ends_open}
-use Rattle.justfile_model.specs.Literals as literal
-use Rattle.justfile_model.specs.Literals.{Answers, LiteralFault, cooked_text}
-use Rattle.justfile_model.specs.Reading.{◌>>=◌, Input, with, note, Read, Unexpected, TooDeep, NotCooked, refused, accept, accept_word, accept_marked, choose, expect}
+use Rattle.justfile_model.specs.Features.{called, noted_if, uncompared}
+use Rattle.justfile_model.specs.Expressions.{depth_limit, ends_open}
+use Rattle.justfile_model.specs.Literals as literals
+use Rattle.justfile_model.specs.Literals.{Literal, LiteralFault, cooked_text, string_of}
+use Rattle.justfile_model.specs.Operators.{binary, feature_of, is_at, operand, operator_of, rank, right}
+use Rattle.justfile_model.specs.Reading.{◌>>=◌, Leaves, NotCooked, Read, State, TooDeep, Unexpected, accept, accept_marked, accept_word, at, choose, deeper, expect, note, refused, shallower, with}
 use Rattle.justfile_model.specs.Recursive.{recursive}
 
-abbrev pub ReadExpr : Type 0
-ReadExpr = Read (Expr Tok Tok)
-
--- what is read, how many expressions are open around it, and what is left there
-pub data Place : Type 0 where
-  Expression : (condition : Bool) (depth : ℕ) (s : Input) → Place
-  Disjunct : (condition : Bool) (depth : ℕ) (s : Input) → Place
-  Compared : (condition : Bool) (depth : ℕ) (s : Input) → Place
-  Conjunct : (depth : ℕ) (s : Input) → Place
-  -- from behind the `if`, which is the word
-  Conditional : (depth : ℕ) (word : SignificantToken) (s : Input) → Place
-  Value : (depth : ℕ) (s : Input) → Place
+-- what is read, and where
+pub data Place (R T B : Type 0) : Type 0 where
+  -- an expression of a level, which is a condition or not
+  At : (level : Level) (condition : Bool) (s : State R T B) → Place R T B
+  -- from after the `if`, which is the word
+  Conditional : (word : T) (s : State R T B) → Place R T B
   -- up to the closing delimiter and with it
-  Sequence : (closing : TokenKind) (depth : ℕ) (s : Input) → Place
-  -- from behind an expression of a format string that starts so
-  FormatParts : (start : List ℕ) (depth : ℕ) (s : Input) → Place
+  Sequence : (closing : TokenKind) (s : State R T B) → Place R T B
+  -- from after an expression of a format string that starts so
+  FormatParts : (start : List ℕ) (s : State R T B) → Place R T B
 
-abbrev pub size : Place → ℕ
-size (Expression c d s) = 8 * length s.tokens + 4
-size (Disjunct c d s) = 8 * length s.tokens + 3
-size (Compared c d s) = 8 * length s.tokens + 2
-size (Conjunct d s) = 8 * length s.tokens + 1
-size (Value d s) = 8 * length s.tokens
-size (Conditional d w s) = 8 * length s.tokens + 5
-size (Sequence c d s) = 8 * length s.tokens + 5
-size (FormatParts l d s) = 8 * length s.tokens
+abbrev pub size : {R T B : Type 0} → Place R T B → ℕ
+size (At level c s) = 8 * length s.left + rank level
+size (Conditional w s) = 8 * length s.left + 5
+size (Sequence c s) = 8 * length s.left + 5
+size (FormatParts l s) = 8 * length s.left
 
-abbrev pub Out : Place → Type 0
-Out (Sequence c d s) = Read (Exprs Tok Tok)
-Out (FormatParts l d s) = Read (Parts Tok Tok)
-Out _ = ReadExpr
+-- an operator that was taken, and what is left
+abbrev pub Met : (R T B : Type 0) → Type 0
+Met R T B = Option (Operator × T × State R T B)
 
--- a tree with a literal, if that has a text
-abbrev pub with_text : {A : Type 0} → A → SignificantToken × Input → Result (List ℕ) LiteralFault → Read A
-with_text e x (Ok text) = Ok (e, x.1)
-with_text e x (Err fault) = Err (NotCooked fault x.0)
+-- an expression is opened and closed at the loosest level, up to the limit of depth
+module _ {R T B : Type 0} where
+  abbrev pub is_within : Level → State R T B → Bool
+  is_within Expression s = nat_lt s.depth depth_limit
+  is_within _ s = true
 
--- behind the other branch: no `else` where that ends in a conditional without one
-abbrev pub closed : Bool → Expr Tok Tok → Input → ReadExpr
-closed false e s = Ok (e, s)
-closed true e s = choose (accept_word (codes "else") s) (Ok (e, s)) (λ w. Err (Unexpected (Some w.0)))
+  abbrev pub opened : Level → State R T B → State R T B
+  opened Expression s = deeper s
+  opened _ s = s
 
--- the next token if it is a comparison operator, which operator it is, and what is left
-unfoldable pub accept_operator : Input → Option (ConditionalOperator × SignificantToken × Input)
-accept_operator s =
-    choose (accept kinds.BangEquals s)
-    (choose (accept kinds.EqualsTilde s)
-    (choose (accept kinds.BangTilde s)
-    (choose (accept kinds.EqualsEquals s) None
-    (λ x. Some (Equality, x.0, x.1)))
-    (λ x. Some (RegexMismatch, x.0, x.1)))
-    (λ x. Some (RegexMatch, x.0, x.1)))
-    (λ x. Some (Inequality, x.0, x.1))
+  abbrev pub closed : Level → State R T B → State R T B
+  closed Expression s = shallower s
+  closed _ s = s
 
--- a condition that is no comparison, noted at its first token
-abbrev pub note_uncompared : Expr Tok Tok → (from : Tokens) → Input → Input
-note_uncompared e [] s = s
-note_uncompared e (first ∷ from) s = with (uncompared e first.tok) s
+module _ {R T A B : Type 0} (leaves : Leaves R T A B) where
+  abbrev pub ReadExpr : Type 0
+  ReadExpr = Read R T B (Expr A B)
 
-module _ (expander : Answers) (read : (x : Place) → Out x) where
-  unfoldable pub expression_rule : Bool → ℕ → Input → ReadExpr
-  expression_rule c d s = if nat_lt d depth_limit then (do
-    l ← read (Disjunct c (d + 1) s)
-    choose (accept kinds.BarBar l.1) (Ok l) (λ op. do
-      r ← read (Expression false (d + 1) (note features.LogicalOperator op.0 op.1))
-      Ok (t.Or l.0 r.0, r.1)))
-      else Err (refused TooDeep s)
+  abbrev pub Out : Place R T B → Type 0
+  Out (Sequence c s) = Read R T B (Exprs A B)
+  Out (FormatParts l s) = Read R T B (Parts A B)
+  Out _ = ReadExpr
 
-  unfoldable pub disjunct_rule : Bool → ℕ → Input → ReadExpr
-  disjunct_rule c d s = do
-    l ← read (Compared c d s)
-    choose (accept kinds.AmpersandAmpersand l.1) (Ok l) (λ op. do
-      r ← read (Disjunct false d (note features.LogicalOperator op.0 op.1))
-      Ok (t.And l.0 r.0, r.1))
+  -- ---- literals
 
-  -- what goes on behind the left side
-  abbrev pub compared_tail : Bool → ℕ → Expr Tok Tok × Input → Option (ConditionalOperator × SignificantToken × Input) → ReadExpr
-  compared_tail c d l None = Ok l
-  compared_tail c d l (Some op) = do
-    r ← read (Conjunct d (with (compared c op.1.tok) op.2))
-    Ok (t.Comparison l.0 op.0 op.1.tok r.0, r.1)
+  -- what is made of a literal's text, if it has one
+  abbrev pub by_text : {X : Type 0} → (List ℕ → X) → T × State R T B → Result (List ℕ) LiteralFault → Read R T B X
+  by_text make x (Ok text) = Ok (make text, x.1)
+  by_text make x (Err fault) = Err (NotCooked fault (leaves.spot x.0))
 
-  unfoldable pub compared_rule : Bool → ℕ → Input → ReadExpr
-  compared_rule c d s = do
-    l ← read (Conjunct d s)
-    compared_tail c d l (accept_operator l.1)
+  -- a literal, and what is made of its leaf
+  abbrev pub cooked_by : {X : Type 0} → (A → X) → T × State R T B → Literal (List ℕ) → Read R T B X
+  cooked_by make x literal = by_text (λ text. make (leaves.literal x.0 literal text)) x (cooked_text (leaves.expander x.1.run) literal)
 
-  -- what goes on behind a value
-  abbrev pub conjunct_tail : ℕ → Expr Tok Tok × Input → ReadExpr
-  conjunct_tail d l =
-      choose (accept kinds.Slash l.1)
-      (choose (accept kinds.PlusPlus l.1)
-      (choose (accept kinds.Plus l.1) (Ok l) (λ op. do
-        r ← read (Conjunct d op.1)
-        Ok (t.Concatenation l.0 op.0.tok r.0, r.1)))
-      (λ op. do
-        r ← read (Conjunct d (note features.ListConcatenationOperator op.0 op.1))
-        Ok (t.ListConcatenation l.0 op.0.tok r.0, r.1)))
-      (λ op. do
-        r ← read (Conjunct d op.1)
-        Ok (t.Join l.0 op.0.tok r.0, r.1))
+  -- the same of a token, which is such a literal
+  unfoldable pub cooked : {X : Type 0} → (A → X) → (List ℕ → Literal (List ℕ)) → T × State R T B → Read R T B X
+  cooked make literal x = cooked_by make x (literal (leaves.see x.0).tok.lexeme)
 
-  unfoldable pub conjunct_rule : ℕ → Input → ReadExpr
-  conjunct_rule d s =
-      choose (accept_word (codes "if") s)
-      (choose (accept kinds.Slash s)
-      (read (Value d s) >>= conjunct_tail d)
-      (λ op. do
-        r ← read (Conjunct d op.1)
-        Ok (t.Root op.0.tok r.0, r.1)))
-      (λ w. read (Conditional d w.0 w.1))
+  unfoldable pub string : (expanded : Bool) → T × State R T B → ReadExpr
+  string expanded = cooked (t.StringLiteral expanded) (string_of expanded)
 
-  -- the condition of an `if` or `assert`
-  unfoldable pub condition : ℕ → Input → ReadExpr
-  condition d s = do
-    e ← read (Expression true d s)
-    Ok (e.0, note_uncompared e.0 s.tokens e.1)
+  -- a format string with nothing to fill in
+  unfoldable pub single : T × State R T B → ReadExpr
+  single = cooked t.FormatLiteral literals.Single
 
-  -- from the opening brace to the closing one
-  unfoldable pub braced : ℕ → Input → ReadExpr
-  braced d s = do
-    o ← expect kinds.BraceL s
-    e ← read (Expression false d o.1)
-    c ← expect kinds.BraceR e.1
-    Ok (e.0, c.1)
+  unfoldable pub backtick : T × State R T B → ReadExpr
+  backtick = cooked t.Backtick literals.Command
 
-  unfoldable pub conditional_rule : ℕ → SignificantToken → Input → ReadExpr
-  conditional_rule d word s = do
-    c ← condition d s
-    b ← braced d c.1
-    choose (accept_word (codes "else") b.1)
-        (Ok (t.If c.0 b.0, note features.IfWithoutElse word b.1))
-        (λ w.
-        choose (accept_word (codes "if") w.1)
+  -- what was found
+  abbrev pub found : Expr A B × State R T B → Read R T B (Option (Expr A B))
+  found x = Ok (Some x.0, x.1)
+
+  -- a literal, if one stands next
+  unfoldable pub literal : State R T B → Read R T B (Option (Expr A B))
+  literal s =
+      choose (accept leaves kinds.StringToken s)
+      (choose (accept_marked leaves (codes "x") kinds.StringToken s)
+      (choose (accept_marked leaves (codes "f") kinds.StringToken s)
+      (choose (accept leaves kinds.Backtick s) (Ok (None, s))
+      (λ x. backtick x >>= found))
+      (λ x. single x >>= found))
+      (λ x. string true x >>= found))
+      (λ x. string false x >>= found)
+
+  -- the part of a format string after an expression, and whether it is the last
+  unfoldable pub part : (start : List ℕ) → State R T B → Read R T B (A × Bool)
+  part start s =
+      choose (accept leaves kinds.FormatStringContinue s)
+      (expect leaves kinds.FormatStringEnd s >>= cooked (λ l. (l, true)) (literals.End start))
+      (cooked (λ l. (l, false)) (literals.Continue start))
+
+  -- ---- operators
+
+  abbrev pub met_at : Level → State R T B → T → List T → Option Operator → Met R T B
+  met_at level s t ts None = None
+  met_at level s t ts (Some operator) = if is_at level operator then Some (operator, t, at s ts) else None
+
+  abbrev pub operator_by : Level → State R T B → List T → Met R T B
+  operator_by level s [] = None
+  operator_by level s (t ∷ ts) = met_at level s t ts (operator_of (leaves.see t).tok.kind)
+
+  -- the next token if it is an operator of the level
+  unfoldable pub accept_operator : Level → State R T B → Met R T B
+  accept_operator level s = operator_by level s s.left
+
+  -- ---- conditionals
+
+  -- after the other branch: no `else` where that ends in a conditional without one
+  abbrev pub ended_by : Bool → Expr A B → State R T B → ReadExpr
+  ended_by false e s = Ok (e, s)
+  ended_by true e s = choose (accept_word leaves (codes "else") s) (Ok (e, s)) (λ w. Err (Unexpected (Some w.0)))
+
+  -- a condition that is no comparison, noted at its first token
+  abbrev pub note_uncompared : Expr A B → (from : List T) → State R T B → State R T B
+  note_uncompared e [] s = s
+  note_uncompared e (first ∷ from) s = with (uncompared e (leaves.spot first)) s
+
+  -- ---- what is read at a place
+
+  module _ (read : (x : Place R T B) → Out x) where
+    -- what goes on after the left side
+    abbrev pub binary_tail : Level → Bool → Expr A B × State R T B → Met R T B → ReadExpr
+    binary_tail level c l None = Ok (l.0, closed level l.1)
+    binary_tail level c l (Some op) = do
+      r ← read (At (right level) false (with (noted_if (feature_of op.0 c) (leaves.spot op.1)) op.2))
+      Ok (binary op.0 l.0 (leaves.spot op.1) r.0, closed level r.1)
+
+    -- an operator of the level, and what stands on either side of it, or the left side alone
+    unfoldable pub binary_rule : Level → Bool → State R T B → ReadExpr
+    binary_rule level c s = if is_within level s then (do
+      l ← read (At (operand level) c (opened level s))
+      binary_tail level c l (accept_operator level l.1))
+        else Err (refused TooDeep s)
+
+    unfoldable pub conjunct_rule : Bool → State R T B → ReadExpr
+    conjunct_rule c s =
+        choose (accept_word leaves (codes "if") s)
+        (choose (accept leaves kinds.Slash s)
+        (binary_rule Conjunct c s)
+        (λ op. do
+          r ← read (At Conjunct false op.1)
+          Ok (t.Root (leaves.spot op.0) r.0, r.1)))
+        (λ w. read (Conditional w.0 w.1))
+
+    -- the condition of an `if` or `assert`
+    unfoldable pub condition_rule : State R T B → ReadExpr
+    condition_rule s = do
+      e ← read (At Expression true s)
+      Ok (e.0, note_uncompared e.0 s.left e.1)
+
+    -- from the opening brace to the closing one
+    unfoldable pub braced_rule : State R T B → ReadExpr
+    braced_rule s = do
+      o ← expect leaves kinds.BraceL s
+      e ← read (At Expression false o.1)
+      c ← expect leaves kinds.BraceR e.1
+      Ok (e.0, c.1)
+
+    -- the other branch of a conditional, from after `else`
+    unfoldable pub otherwise_rule : State R T B → ReadExpr
+    otherwise_rule s =
+        choose (accept_word leaves (codes "if") s)
         (do
-          o ← braced d w.1
-          closed (ends_open o.0) (t.IfElse c.0 b.0 o.0) o.1)
-        (λ i. do
-          o ← read (Conditional d i.0 i.1)
-          Ok (t.IfElse c.0 b.0 o.0, o.1)))
+          o ← braced_rule s
+          ended_by (ends_open o.0) o.0 o.1)
+        (λ i. read (Conditional i.0 i.1))
 
-  unfoldable pub sequence_rule : TokenKind → ℕ → Input → Read (Exprs Tok Tok)
-  sequence_rule closing d s = choose (accept closing s)
-      (do
-        e ← read (Expression false d s)
-        choose (accept kinds.Comma e.1)
-            (do
-              x ← expect closing e.1
-              Ok (t.more e.0 t.none, x.1))
-            (λ comma. do
-              es ← read (Sequence closing d comma.1)
-              Ok (t.more e.0 es.0, es.1)))
-      (λ x. Ok (t.none, x.1))
+    unfoldable pub conditional_rule : T → State R T B → ReadExpr
+    conditional_rule word s = do
+      c ← condition_rule s
+      b ← braced_rule c.1
+      choose (accept_word leaves (codes "else") b.1)
+          (Ok (t.If c.0 b.0, note leaves features.IfWithoutElse word b.1))
+          (λ w. do
+            o ← otherwise_rule w.1
+            Ok (t.IfElse c.0 b.0 o.0, o.1))
 
-  unfoldable pub parts_rule : List ℕ → ℕ → Input → Read (Parts Tok Tok)
-  parts_rule start d s = choose (accept kinds.FormatStringContinue s)
-      (do
-        x ← expect kinds.FormatStringEnd s
-        with_text (t.Last x.0.tok) x (cooked_text expander (literal.End start x.0.tok.lexeme)))
-      (λ x. do
-        token ← with_text x.0 x (cooked_text expander (literal.Continue start x.0.tok.lexeme))
-        e ← read (Expression false d token.1)
-        ps ← read (FormatParts start d e.1)
-        Ok (t.Continue token.0.tok e.0 ps.0, ps.1))
+    -- an element of a sequence, and whether the sequence is closed after it
+    unfoldable pub element_rule : TokenKind → State R T B → Read R T B (Expr A B × Bool)
+    element_rule closing s = do
+      e ← read (At Expression false s)
+      choose {X = Read R T B (Expr A B × Bool)} (accept leaves kinds.Comma e.1)
+          (do
+            x ← expect leaves closing e.1
+            Ok ((e.0, true), x.1))
+          (λ comma. Ok ((e.0, false), comma.1))
 
-  unfoldable pub list_rule : ℕ → Input → ReadExpr
-  list_rule d s = choose (accept kinds.BracketL s) (Err (refused Unexpected s)) (λ o. do
-    es ← read (Sequence kinds.BracketR d (note features.ListLiteral o.0 o.1))
-    Ok (t.ListOf o.0.tok es.0, es.1))
+    -- after an element: the others, if the sequence is not closed
+    abbrev pub elements : TokenKind → Expr A B → (is_closed : Bool) → State R T B → Read R T B (Exprs A B)
+    elements closing e true s = Ok (t.more e t.none, s)
+    elements closing e false s = do
+      es ← read (Sequence closing s)
+      Ok (t.more e es.0, es.1)
 
-  unfoldable pub group_rule : ℕ → Input → ReadExpr
-  group_rule d s = choose (accept kinds.ParenL s) (list_rule d s) (λ o. do
-    e ← read (Expression false d o.1)
-    c ← expect kinds.ParenR e.1
-    Ok (t.Group e.0, c.1))
-
-  unfoldable pub name_rule : ℕ → Input → ReadExpr
-  name_rule d s = choose (accept kinds.Identifier s) (group_rule d s) (λ n.
-      choose (accept kinds.ParenL n.1) (Ok (t.Variable n.0.tok, n.1)) (λ o. do
-        es ← read (Sequence kinds.ParenR d o.1)
-        Ok (t.Call n.0.tok es.0, with (called n.0.tok.lexeme n.0.tok) es.1)))
-
-  unfoldable pub assert_rule : ℕ → Input → ReadExpr
-  assert_rule d s = choose (accept_word (codes "assert") s) (name_rule d s) (λ w. do
-    o ← expect kinds.ParenL w.1
-    c ← condition d o.1
-    choose (accept kinds.Comma c.1)
+    unfoldable pub sequence_rule : TokenKind → State R T B → Read R T B (Exprs A B)
+    sequence_rule closing s =
+        choose (accept leaves closing s)
         (do
-          p ← expect kinds.ParenR c.1
-          Ok (t.Assert w.0.tok c.0, p.1))
-        (λ comma. do
-          m ← read (Expression false d comma.1)
-          p ← expect kinds.ParenR m.1
-          Ok (t.AssertMessage w.0.tok c.0 m.0, p.1)))
+          e ← element_rule closing s
+          elements closing e.0.0 e.0.1 e.1)
+        (λ x. Ok (t.none, x.1))
 
-  unfoldable pub backtick_rule : ℕ → Input → ReadExpr
-  backtick_rule d s = choose (accept kinds.Backtick s) (assert_rule d s)
-      (λ x. with_text (t.Backtick x.0.tok) x (cooked_text expander (literal.Command x.0.tok.lexeme)))
+    -- after a part of a format string: the others, if it is not the last
+    abbrev pub parts : (start : List ℕ) → A → (is_last : Bool) → State R T B → Read R T B (Parts A B)
+    parts start leaf true s = Ok (t.Last leaf, s)
+    parts start leaf false s = do
+      e ← read (At Expression false s)
+      ps ← read (FormatParts start e.1)
+      Ok (t.Continue leaf e.0 ps.0, ps.1)
 
-  unfoldable pub format_rule : ℕ → Input → ReadExpr
-  format_rule d s =
-      choose (accept_marked (codes "f") kinds.StringToken s)
-      (choose (accept_marked (codes "f") kinds.FormatStringStart s) (backtick_rule d s)
-      (λ x. do
-        start ← with_text x.0 x (cooked_text expander (literal.Start x.0.tok.lexeme))
-        e ← read (Expression false d start.1)
-        ps ← read (FormatParts start.0.tok.lexeme d e.1)
-        Ok (t.FormatString start.0.tok e.0 ps.0, ps.1)))
-      (λ x. with_text (t.FormatLiteral x.0.tok) x (cooked_text expander (literal.Single x.0.tok.lexeme)))
+    unfoldable pub parts_rule : (start : List ℕ) → State R T B → Read R T B (Parts A B)
+    parts_rule start s = do
+      p ← part start s
+      parts start p.0.0 p.0.1 p.1
 
-  unfoldable pub literal_rule : ℕ → Input → ReadExpr
-  literal_rule d s =
-      choose (accept kinds.StringToken s)
-      (choose (accept_marked (codes "x") kinds.StringToken s) (format_rule d s)
-      (λ x. with_text (t.StringLiteral true x.0.tok) x (cooked_text expander (literal.Expanded x.0.tok.lexeme))))
-      (λ x. with_text (t.StringLiteral false x.0.tok) x (cooked_text expander (literal.Plain x.0.tok.lexeme)))
+    -- what follows the start of a format string
+    unfoldable pub format_rest_rule : A → (start : List ℕ) → State R T B → ReadExpr
+    format_rest_rule leaf start s = do
+      e ← read (At Expression false s)
+      ps ← read (FormatParts start e.1)
+      Ok (t.FormatString leaf e.0 ps.0, ps.1)
 
-  unfoldable pub value_rule : ℕ → Input → ReadExpr
-  value_rule d s = choose (accept kinds.Bang s) (literal_rule d s) (λ b. do
-    v ← read (Value d (note features.NegationOperator b.0 b.1))
-    Ok (t.Not v.0, v.1))
+    -- a format string, from its start on
+    unfoldable pub format_string_rule : T × State R T B → ReadExpr
+    format_string_rule x = do
+      start ← cooked (λ l. l) literals.Start x
+      format_rest_rule start.0 (leaves.see x.0).tok.lexeme start.1
 
-  abbrev pub rule : (x : Place) → Out x
-  rule (Expression c d s) = expression_rule c d s
-  rule (Disjunct c d s) = disjunct_rule c d s
-  rule (Compared c d s) = compared_rule c d s
-  rule (Conjunct d s) = conjunct_rule d s
-  rule (Conditional d w s) = conditional_rule d w s
-  rule (Value d s) = value_rule d s
-  rule (Sequence c d s) = sequence_rule c d s
-  rule (FormatParts l d s) = parts_rule l d s
+    unfoldable pub list_rule : State R T B → ReadExpr
+    list_rule s = choose (accept leaves kinds.BracketL s) (Err (refused Unexpected s)) (λ o. do
+      es ← read (Sequence kinds.BracketR (note leaves features.ListLiteral o.0 o.1))
+      Ok (t.ListOf (leaves.spot o.0) es.0, es.1))
 
-abbrev pub stop : (x : Place) → Out x
-stop (Expression c d s) = Err (Unexpected None)
-stop (Disjunct c d s) = Err (Unexpected None)
-stop (Compared c d s) = Err (Unexpected None)
-stop (Conjunct d s) = Err (Unexpected None)
-stop (Conditional d w s) = Err (Unexpected None)
-stop (Value d s) = Err (Unexpected None)
-stop (Sequence c d s) = Err (Unexpected None)
-stop (FormatParts l d s) = Err (Unexpected None)
+    unfoldable pub group_rule : State R T B → ReadExpr
+    group_rule s = choose (accept leaves kinds.ParenL s) (list_rule s) (λ o. do
+      e ← read (At Expression false o.1)
+      c ← expect leaves kinds.ParenR e.1
+      Ok (t.Group e.0, c.1))
 
-unfoldable pub read : Answers → (x : Place) → Out x
-read expander = recursive size stop (rule expander)
+    unfoldable pub name_rule : State R T B → ReadExpr
+    name_rule s = choose (accept leaves kinds.Identifier s) (group_rule s) (λ n.
+        choose (accept leaves kinds.ParenL n.1) (Ok (t.Variable (leaves.name n.0), n.1)) (λ o. do
+          es ← read (Sequence kinds.ParenR o.1)
+          Ok (t.Call (leaves.name n.0) es.0, with (called (leaves.see n.0).tok.lexeme (leaves.spot n.0)) es.1)))
+
+    unfoldable pub assert_rule : State R T B → ReadExpr
+    assert_rule s = choose (accept_word leaves (codes "assert") s) (name_rule s) (λ w. do
+      o ← expect leaves kinds.ParenL w.1
+      c ← condition_rule o.1
+      choose (accept leaves kinds.Comma c.1)
+          (do
+            p ← expect leaves kinds.ParenR c.1
+            Ok (t.Assert (leaves.spot w.0) c.0, p.1))
+          (λ comma. do
+            m ← read (At Expression false comma.1)
+            p ← expect leaves kinds.ParenR m.1
+            Ok (t.AssertMessage (leaves.spot w.0) c.0 m.0, p.1)))
+
+    -- a value that is no literal
+    unfoldable pub format_rule : State R T B → ReadExpr
+    format_rule s = choose (accept_marked leaves (codes "f") kinds.FormatStringStart s) (assert_rule s) format_string_rule
+
+    abbrev pub literal_or : Option (Expr A B) → State R T B → ReadExpr
+    literal_or (Some e) s = Ok (e, s)
+    literal_or None s = format_rule s
+
+    unfoldable pub value_rule : State R T B → ReadExpr
+    value_rule s = choose (accept leaves kinds.Bang s)
+        (do
+          l ← literal s
+          literal_or l.0 l.1)
+        (λ b. do
+          v ← read (At Value false (note leaves features.NegationOperator b.0 b.1))
+          Ok (t.Not v.0, v.1))
+
+    abbrev pub at_rule : Level → Bool → State R T B → ReadExpr
+    at_rule Value c s = value_rule s
+    at_rule Conjunct c s = conjunct_rule c s
+    at_rule level c s = binary_rule level c s
+
+    abbrev pub rule : (x : Place R T B) → Out x
+    rule (At level c s) = at_rule level c s
+    rule (Conditional w s) = conditional_rule w s
+    rule (Sequence c s) = sequence_rule c s
+    rule (FormatParts l s) = parts_rule l s
+
+  abbrev pub stop : (x : Place R T B) → Out x
+  stop (At level c s) = Err (Unexpected None)
+  stop (Conditional w s) = Err (Unexpected None)
+  stop (Sequence c s) = Err (Unexpected None)
+  stop (FormatParts l s) = Err (Unexpected None)
+
+  unfoldable pub read : (x : Place R T B) → Out x
+  read = recursive size stop rule
+
+  -- the rules, whose calls are the reader's
+  abbrev pub binary_from : Level → Bool → State R T B → ReadExpr
+  binary_from = binary_rule read
+
+  abbrev pub condition : State R T B → ReadExpr
+  condition = condition_rule read
+
+  abbrev pub braced : State R T B → ReadExpr
+  braced = braced_rule read
+
+  abbrev pub otherwise : State R T B → ReadExpr
+  otherwise = otherwise_rule read
+
+  abbrev pub element : TokenKind → State R T B → Read R T B (Expr A B × Bool)
+  element = element_rule read
+
+  abbrev pub format_rest : A → (start : List ℕ) → State R T B → ReadExpr
+  format_rest = format_rest_rule read
+
+  abbrev pub format_string : T × State R T B → ReadExpr
+  format_string = format_string_rule read
+
+  abbrev pub value : State R T B → ReadExpr
+  value = value_rule read
+
+  abbrev pub format : State R T B → ReadExpr
+  format = format_rule read
+
+  abbrev pub assert : State R T B → ReadExpr
+  assert = assert_rule read
+
+  abbrev pub name : State R T B → ReadExpr
+  name = name_rule read
+
+  abbrev pub group : State R T B → ReadExpr
+  group = group_rule read
+
+  abbrev pub list : State R T B → ReadExpr
+  list = list_rule read

@@ -18,7 +18,7 @@ abbrev pub Tokens : Type 0
 Tokens = List SignificantToken
 
 -- the next token, if there is one
-abbrev pub front : Tokens → Option SignificantToken
+abbrev pub front : {T : Type 0} → List T → Option T
 front [] = None
 front (t ∷ ts) = Some t
 

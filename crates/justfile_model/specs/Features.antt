@@ -6,16 +6,15 @@ use Rattle.justfile_model.specs.declared.list_feature.ListFeature.TheVariants as
 use Rattle.justfile_model.specs.Tree.{Expr, Comparison}
 
 -- a feature, and what is kept of the token that it is noted at
-pub record Noted (B : Type 0) : Type 0 where
-  pub feature : ListFeature
-  pub at : B
+abbrev pub Noted : Type 0 → Type 0
+Noted B = ListFeature × B
 
 -- what is kept of the token replaced
 abbrev pub over_noted : {B D : Type 0} → (B → D) → Noted B → Noted D
-over_noted g n = record { feature = n.feature; at = g n.at }
+over_noted g n = (n.0, g n.1)
 
 abbrev pub noted : {B : Type 0} → ListFeature → B → List (Noted B)
-noted feature at = record { feature = feature; at = at } ∷ []
+noted feature at = (feature, at) ∷ []
 
 -- the operator of a comparison, but for the one that a condition begins with
 abbrev pub compared : {B : Type 0} → (condition : Bool) → B → List (Noted B)

@@ -17,6 +17,7 @@ pub mod Literals
 pub mod Modes
 pub mod Next
 pub mod NormalShape
+pub mod Operators
 pub mod Places
 pub mod Printing
 pub mod Reader
@@ -26,4 +27,5 @@ pub mod Refusals
 pub mod SignificantTokens
 pub mod Tok
 pub mod Tree
+pub mod TreeReader
 pub mod Unindent

@@ -1,184 +1,220 @@
--- Reading the tokens of a file from left to right, up to the first refusal. That it agrees with the grammar is a law.
-use Rattle.std.specs.Prelude.{ℕ, Bool, true, false, List, [], ◌∷◌, length, drop, None, Result, Ok, Err, if◌then◌else◌}
+-- Reading the tokens of a file from left to right, up to the first refusal, and the numbers that its items get. That it agrees with the
+-- grammar is a law.
+use Rattle.std.specs.Prelude.{ℕ, ◌+◌, Bool, true, false, List, [], ◌∷◌, ◌++◌, length, drop, None, Ok, Err, if◌then◌else◌}
 use Rattle.std.specs.Str.{trim_end}
 use Rattle.justfile_base.specs.declared.token_kind.TokenKind.TheVariants as kinds
-use Rattle.justfile_model.specs.Tok.{Tok}
-use Rattle.justfile_model.specs.SignificantTokens.{SignificantToken}
+use Rattle.justfile_model.specs.declared.level.Level.TheVariants.{Expression}
 use Rattle.justfile_model.specs.Tree as tree
-use Rattle.justfile_model.specs.Tree.{Expr, Fragment, BodyLine, Line, Item, Tree, trimmed}
-use Rattle.justfile_model.specs.Features.{Noted}
-use Rattle.justfile_model.specs.Expressions.{Tokens}
+use Rattle.justfile_model.specs.Tree.{Expr, Fragment, BodyLine, Line, Item, trimmed}
 use Rattle.justfile_model.specs.ExpressionReader as expressions
-use Rattle.justfile_model.specs.Literals.{Answers}
 use Rattle.justfile_model.specs.Recursive.{recursive}
-use Rattle.justfile_model.specs.Reading.{◌>>=◌, Input, at, Read, Refusal, Unexpected, refused, accept, choose, expect, next_are, after}
+use Rattle.justfile_model.specs.Reading.{◌>>=◌, Counters, Leaves, NoNumber, Read, State, Unexpected, accept, after, at, choose, expect, next_are, refused}
 
--- a comment is kept without the white space at its end
-abbrev pub comment_item : SignificantToken → Item Tok Tok ℕ
-comment_item t = tree.Comment (trim_end t.tok.lexeme)
+abbrev pub with_bindings : ℕ → Counters → Counters
+with_bindings bindings n = record { bindings = bindings; constants = n.constants; recipes = n.recipes }
 
--- the line that the next token begins on
-abbrev pub line_at : Tokens → ℕ
-line_at [] = 0
-line_at (t ∷ ts) = t.tok.line
+abbrev pub with_recipes : ℕ → Counters → Counters
+with_recipes recipes n = record { bindings = n.bindings; constants = n.constants; recipes = recipes }
 
 -- a recipe with a body
 abbrev pub has_body : {A B C : Type 0} → Item A B C → Bool
 has_body (tree.Recipe name (l ∷ lines)) = true
 has_body _ = false
 
-module _ (expander : Answers) where
-  -- an expression, where so many are open
-  abbrev pub expression : ℕ → Input → Read (Expr Tok Tok)
-  expression depth s = expressions.read expander (expressions.Expression false depth s)
+-- these, and what is read after them, with the counters
+unfoldable pub after_numbered : {R T B X : Type 0} → List X → Read R T B (List X × Counters) → Read R T B (List X × Counters)
+after_numbered done found = do
+  more ← found
+  Ok ((done ++ more.0.0, more.0.1), more.1)
 
-  unfoldable pub assignment : Input → Read (Item Tok Tok ℕ)
-  assignment s = do
-    name ← expect kinds.Identifier s
-    operator ← expect kinds.ColonEquals name.1
-    e ← expression 0 operator.1
-    Ok (tree.Assignment name.0.tok e.0, e.1)
+module _ {R T A B : Type 0} (leaves : Leaves R T A B) where
+  abbrev pub expression : State R T B → Read R T B (Expr A B)
+  expression s = expressions.read leaves (expressions.At Expression false s)
+
+  -- the line that the next token begins on
+  abbrev pub line_at : List T → ℕ
+  line_at [] = 0
+  line_at (t ∷ ts) = (leaves.see t).tok.line
+
+  -- ---- numbers
+
+  -- the next number of a binding
+  unfoldable pub draw_binding : Counters → State R T B → Read R T B (ℕ × Counters)
+  draw_binding n s = if leaves.has_number n.bindings then Ok ((n.bindings, with_bindings (n.bindings + 1) n), s) else Err (NoNumber n)
+
+  -- the next number of a recipe
+  unfoldable pub draw_recipe : Counters → State R T B → Read R T B (ℕ × Counters)
+  draw_recipe n s = if leaves.has_number n.recipes then Ok ((n.recipes, with_recipes (n.recipes + 1) n), s) else Err (NoNumber n)
+
+  -- ---- bodies
 
   -- a text, or an expression between `{{` and `}}`
-  unfoldable pub fragment : Input → Read (Fragment Tok Tok)
+  unfoldable pub fragment : State R T B → Read R T B (Fragment A B)
   fragment s =
-      choose (accept kinds.Text s)
+      choose (accept leaves kinds.Text s)
       (do
-        start ← expect kinds.InterpolationStart s
-        e ← expression 0 start.1
-        end ← expect kinds.InterpolationEnd e.1
+        start ← expect leaves kinds.InterpolationStart s
+        e ← expression start.1
+        end ← expect leaves kinds.InterpolationEnd e.1
         Ok (tree.Interpolation e.0, end.1))
-      (λ t. Ok (tree.Text t.0.tok, t.1))
+      (λ t. Ok (tree.Text (leaves.text t.0), t.1))
 
-  abbrev pub no_line_rest : Input → Read (List (Fragment Tok Tok))
+  abbrev pub no_line_rest : State R T B → Read R T B (List (Fragment A B))
   no_line_rest s = Err (Unexpected None)
 
-  unfoldable pub line_rest_rule : (Input → Read (List (Fragment Tok Tok))) → Input → Read (List (Fragment Tok Tok))
+  unfoldable pub line_rest_rule : (State R T B → Read R T B (List (Fragment A B))) → State R T B → Read R T B (List (Fragment A B))
   line_rest_rule read s =
-      choose (accept kinds.Eol s)
-      (if next_are (kinds.Dedent ∷ []) s then Ok ([], s)
+      choose (accept leaves kinds.Eol s)
+      (if next_are leaves (kinds.Dedent ∷ []) s then Ok ([], s)
       else (do
         f ← fragment s
         after (f.0 ∷ []) (read f.1)))
       (λ newline. Ok ([], newline.1))
 
   -- what is left of a line of a body; its end is taken, that of the body is left
-  unfoldable pub line_rest : Input → Read (List (Fragment Tok Tok))
-  line_rest = recursive (λ s. length s.tokens) no_line_rest line_rest_rule
+  unfoldable pub line_rest : State R T B → Read R T B (List (Fragment A B))
+  line_rest = recursive (λ s. length s.left) no_line_rest line_rest_rule
 
-  unfoldable pub body_line : Input → Read (BodyLine Tok Tok ℕ)
+  unfoldable pub body_line : State R T B → Read R T B (BodyLine A B ℕ)
   body_line s = do
     fragments ← line_rest s
-    Ok (Line (line_at s.tokens) fragments.0, fragments.1)
+    Ok (Line (line_at s.left) fragments.0, fragments.1)
 
-  abbrev pub no_lines : Input → Read (List (BodyLine Tok Tok ℕ))
+  abbrev pub no_lines : State R T B → Read R T B (List (BodyLine A B ℕ))
   no_lines s = Err (Unexpected None)
 
-  unfoldable pub lines_rule : (Input → Read (List (BodyLine Tok Tok ℕ))) → Input → Read (List (BodyLine Tok Tok ℕ))
+  unfoldable pub lines_rule : (State R T B → Read R T B (List (BodyLine A B ℕ))) → State R T B → Read R T B (List (BodyLine A B ℕ))
   lines_rule read s =
-      choose (accept kinds.Dedent s)
+      choose (accept leaves kinds.Dedent s)
       (do
         l ← body_line s
         after (l.0 ∷ []) (read l.1))
       (λ end. Ok ([], end.1))
 
   -- the lines of a body, and its end
-  unfoldable pub lines : Input → Read (List (BodyLine Tok Tok ℕ))
-  lines = recursive (λ s. length s.tokens) no_lines lines_rule
+  unfoldable pub lines : State R T B → Read R T B (List (BodyLine A B ℕ))
+  lines = recursive (λ s. length s.left) no_lines lines_rule
 
   -- a body has a line that is not empty
-  abbrev pub some_lines : List (BodyLine Tok Tok ℕ) → Input → Read (List (BodyLine Tok Tok ℕ))
+  abbrev pub some_lines : List (BodyLine A B ℕ) → State R T B → Read R T B (List (BodyLine A B ℕ))
   some_lines [] s = Err (refused Unexpected s)
   some_lines (l ∷ ls) s = Ok (l ∷ ls, s)
 
   -- a body, from its first line on
-  unfoldable pub body : Input → Read (List (BodyLine Tok Tok ℕ))
+  unfoldable pub body : State R T B → Read R T B (List (BodyLine A B ℕ))
   body s = do
     ls ← lines s
     some_lines (trimmed ls.0) ls.1
 
   -- the body of a recipe, from the end of its header on, if it has one
-  unfoldable pub body_behind : Input → Read (List (BodyLine Tok Tok ℕ))
+  unfoldable pub body_behind : State R T B → Read R T B (List (BodyLine A B ℕ))
   body_behind s =
-      if next_are (kinds.Eol ∷ kinds.Indent ∷ []) s then body (at s (drop 2 s.tokens))
-      else if next_are (kinds.Comment ∷ kinds.Eol ∷ kinds.Indent ∷ []) s then body (at s (drop 3 s.tokens))
+      if next_are leaves (kinds.Eol ∷ kinds.Indent ∷ []) s then body (at s (drop 2 s.left))
+      else if next_are leaves (kinds.Comment ∷ kinds.Eol ∷ kinds.Indent ∷ []) s then body (at s (drop 3 s.left))
       else Ok ([], s)
 
-  -- a recipe up to its end
-  unfoldable pub recipe : Input → Read (Item Tok Tok ℕ)
-  recipe s = do
-    name ← expect kinds.Identifier s
-    colon ← expect kinds.Colon name.1
-    b ← body_behind colon.1
-    Ok (tree.Recipe name.0.tok b.0, b.1)
+  -- ---- items
 
-  unfoldable pub on_line : Input → Read (Item Tok Tok ℕ)
-  on_line s =
-      choose (accept kinds.Comment s)
-      (if next_are (kinds.Identifier ∷ kinds.ColonEquals ∷ []) s then assignment s else recipe s)
-      (λ c. Ok (comment_item c.0, c.1))
+  -- a comment is kept without the white space at its end
+  abbrev pub comment_item : T → Item A B ℕ
+  comment_item t = tree.Comment (trim_end (leaves.see t).tok.lexeme)
+
+  -- an assignment of a value, which got a number
+  abbrev pub assigned : T → Expr A B → (ℕ × Counters) × State R T B → Read R T B (Item A B ℕ × Counters)
+  assigned name value x = Ok ((tree.Assignment (leaves.assignment x.1.run name x.0.0) value, x.0.1), x.1)
+
+  unfoldable pub assignment : Counters → State R T B → Read R T B (Item A B ℕ × Counters)
+  assignment n s = do
+    name ← expect leaves kinds.Identifier s
+    operator ← expect leaves kinds.ColonEquals name.1
+    e ← expression operator.1
+    number ← draw_binding n e.1
+    assigned name.0 e.0 number
+
+  -- a recipe with a body, which got a number
+  abbrev pub headed : T → List (BodyLine A B ℕ) → (ℕ × Counters) × State R T B → Read R T B (Item A B ℕ × Counters)
+  headed name body x = Ok ((tree.Recipe (leaves.recipe x.1.run name x.0.0 body) body, x.0.1), x.1)
+
+  -- a recipe up to its end, after which it gets its number
+  unfoldable pub recipe : Counters → State R T B → Read R T B (Item A B ℕ × Counters)
+  recipe n s = do
+    name ← expect leaves kinds.Identifier s
+    colon ← expect leaves kinds.Colon name.1
+    b ← body_behind colon.1
+    number ← draw_recipe n b.1
+    headed name.0 b.0 number
+
+  unfoldable pub on_line : Counters → State R T B → Read R T B (Item A B ℕ × Counters)
+  on_line n s =
+      choose (accept leaves kinds.Comment s)
+      (if next_are leaves (kinds.Identifier ∷ kinds.ColonEquals ∷ []) s then assignment n s else recipe n s)
+      (λ c. Ok ((comment_item c.0, n), c.1))
 
   -- the end of the line is an item; the end of the file is none, and is left
-  unfoldable pub line_end : Input → Read Tree
+  unfoldable pub line_end : State R T B → Read R T B (List (Item A B ℕ))
   line_end s =
-      choose (accept kinds.Eof s)
+      choose (accept leaves kinds.Eof s)
       (do
-        newline ← expect kinds.Eol s
+        newline ← expect leaves kinds.Eol s
         Ok (tree.Newline ∷ [], newline.1))
       (λ x. Ok ([], s))
 
   -- a trailing comment, and the line's end
-  unfoldable pub behind : Input → Read Tree
+  unfoldable pub behind : State R T B → Read R T B (List (Item A B ℕ))
   behind s =
-      choose (accept kinds.Comment s)
+      choose (accept leaves kinds.Comment s)
       (line_end s)
       (λ c. do
         end ← line_end c.1
         Ok (comment_item c.0 ∷ end.0, end.1))
 
-  -- what ends an item, which has a body or not: behind a body a line starts, and a line end is made
-  unfoldable pub ended : (has_body : Bool) → Input → Read Tree
+  -- what ends an item, which has a body or not: after a body a line starts, and a line end is made
+  unfoldable pub ended : (has_body : Bool) → State R T B → Read R T B (List (Item A B ℕ))
   ended has_body s = if has_body then Ok (tree.Newline ∷ [], s) else behind s
 
   -- the items of a line: none but its end, or an item and what ends it
-  unfoldable pub line : Input → Read Tree
-  line s =
-      choose (accept kinds.Eol s)
+  unfoldable pub line : Counters → State R T B → Read R T B (List (Item A B ℕ) × Counters)
+  line n s =
+      choose (accept leaves kinds.Eol s)
       (do
-        i ← on_line s
-        b ← ended (has_body i.0) i.1
-        Ok (i.0 ∷ b.0, b.1))
-      (λ newline. Ok (tree.Newline ∷ [], newline.1))
+        i ← on_line n s
+        b ← ended (has_body i.0.0) i.1
+        Ok ((i.0.0 ∷ b.0, i.0.1), b.1))
+      (λ newline. Ok ((tree.Newline ∷ [], n), newline.1))
 
-  -- nothing stands behind the end of the file
-  abbrev pub nothing_behind : Input → Tokens → Read Tree
-  nothing_behind s [] = Ok ([], s)
-  nothing_behind s (t ∷ ts) = Err (refused Unexpected s)
+  -- nothing stands after the end of the file
+  abbrev pub nothing_behind : Counters → State R T B → List T → Read R T B (List (Item A B ℕ) × Counters)
+  nothing_behind n s [] = Ok (([], n), s)
+  nothing_behind n s (t ∷ ts) = Err (refused Unexpected s)
 
-  unfoldable pub at_end : Input → Read Tree
-  at_end s = nothing_behind s s.tokens
+  unfoldable pub at_end : Counters → State R T B → Read R T B (List (Item A B ℕ) × Counters)
+  at_end n s = nothing_behind n s s.left
 
-  unfoldable pub items_rule : (Input → Read Tree) → Input → Read Tree
-  items_rule read s =
-      choose (accept kinds.Eof s)
+  -- where a line begins: the counters, and what is left
+  abbrev pub Start : Type 0
+  Start = Counters × State R T B
+
+  unfoldable pub items_rule : (Start → Read R T B (List (Item A B ℕ) × Counters)) → Start → Read R T B (List (Item A B ℕ) × Counters)
+  items_rule read x =
+      choose (accept leaves kinds.Eof x.1)
       (do
-        l ← line s
-        after l.0 (read l.1))
-      (λ end. at_end end.1)
+        l ← line x.0 x.1
+        after_numbered l.0.0 (read (l.0.1, l.1)))
+      (λ end. at_end x.0 end.1)
 
-  abbrev pub stop : Input → Read Tree
-  stop s = Err (Unexpected None)
+  abbrev pub stop : Start → Read R T B (List (Item A B ℕ) × Counters)
+  stop x = Err (Unexpected None)
 
   -- the items up to the end of the file
-  unfoldable pub items : Input → Read Tree
-  items = recursive (λ s. length s.tokens) stop items_rule
+  unfoldable pub items_from : Start → Read R T B (List (Item A B ℕ) × Counters)
+  items_from = recursive (λ x. length x.1.left) stop items_rule
 
-  -- nothing is noted yet
-  abbrev pub start : Tokens → Input
-  start tokens = record { tokens = tokens; noted = [] }
+  abbrev pub items : Counters → State R T B → Read R T B (List (Item A B ℕ) × Counters)
+  items n s = items_from (n, s)
 
-  -- a file, and its features
-  unfoldable pub file : Tokens → Result (Tree × List (Noted Tok)) Refusal
-  file tokens = do
-    x ← choose (accept kinds.ByteOrderMark (start tokens)) (items (start tokens)) (λ mark. items mark.1)
-    Ok (x.0, x.1.noted)
+  -- what is left after a byte order mark, if one comes first
+  abbrev pub after_mark : State R T B → State R T B
+  after_mark s = choose (accept leaves kinds.ByteOrderMark s) s (λ mark. mark.1)
+
+  unfoldable pub file : Counters → State R T B → Read R T B (List (Item A B ℕ) × Counters)
+  file n s = items n (after_mark s)

@@ -5,7 +5,8 @@ use Rattle.justfile_model.specs.SignificantTokens.{SignificantToken}
 use Rattle.justfile_model.specs.Tree.{Tree, lexeme}
 use Rattle.justfile_model.specs.Literals.{Literal, over_literal, token_of, LiteralFault, Answers, cooked_text, Cooks}
 use Rattle.justfile_model.specs.Files.{literals}
-use Rattle.justfile_model.specs.Reading.{Refusal, TooDeep, NotCooked}
+use Rattle.justfile_model.specs.Reading.{TooDeep, NotCooked}
+use Rattle.justfile_model.specs.TreeReader.{Refusal}
 
 -- the first of the literals that has no text is refused, for its fault, at its token
 pub record LacksText (expander : Answers) (all : List (Literal Tok)) (r : Refusal) : Type 0 where
@@ -17,9 +18,7 @@ pub record LacksText (expander : Answers) (all : List (Literal Tok)) (r : Refusa
   pub cooks : Cooks expander (map (over_literal lexeme) before) cooked
   pub fault : LiteralFault
   pub no_text : cooked_text expander (over_literal lexeme literal) ≡ Err fault
-  pub token : SignificantToken
-  pub token_is : token.tok ≡ token_of literal
-  pub refusal_is : r ≡ NotCooked fault token
+  pub refusal_is : r ≡ NotCooked fault (token_of literal)
 
 -- too many expressions are open, at one of these tokens
 pub record IsTooDeep (Hit : Option SignificantToken → Type 0) (r : Refusal) : Type 0 where

@@ -1,6 +1,5 @@
 //! Laws of the grammar, each the contract of a function that does nothing.
-ghost use Rattle.std.specs.Prelude.{◌≡◌, ◌<◌, ◌≤◌, ◌⊎◌, ℕ, ◌+◌, Bool, IsTrue, List, [], ◌∷◌, length, map, slice_index, Option, Ok, Err, Some, true, false};
-ghost use Rattle.justfile_base.specs.declared.token_kind.TokenKind.TheVariants.{ColonEquals, Identifier};
+ghost use Rattle.std.specs.Prelude.{◌≡◌, ◌<◌, ◌≤◌, ◌⊎◌, ℕ, ◌+◌, Bool, IsTrue, List, length, map, slice_index, Option, Ok, Err};
 ghost use Rattle.justfile_model.specs.Expressions.{Waived};
 ghost use Rattle.justfile_model.specs.Features.{Noted, over_noted};
 ghost use Rattle.justfile_model.specs.Files.{VersionNumbers, FileTree, FileDerives, NumbersFrom, ShapeDerives, literals, bindings, recipes};
@@ -8,12 +7,13 @@ ghost use Rattle.justfile_model.specs.Grammar.{File};
 ghost use Rattle.justfile_model.specs.Literals.{Literal, over_literal, Answers, Within, Cooks};
 ghost use Rattle.justfile_model.specs.NormalShape.{normal};
 ghost use Rattle.justfile_model.specs.Printing.{printable, text};
-ghost use Rattle.justfile_model.specs.Reader.{assignment, file, items, recipe};
-ghost use Rattle.justfile_model.specs.Reading.{Input, Refusal, TooDeep, accept, after, next_are};
+ghost use Rattle.justfile_model.specs.Reader.{items};
+ghost use Rattle.justfile_model.specs.Reading.{Counters, TooDeep};
 ghost use Rattle.justfile_model.specs.Refusals.{IsDue};
 ghost use Rattle.justfile_model.specs.SignificantTokens.{SignificantToken, identifiers};
 ghost use Rattle.justfile_model.specs.Tok.{Tok};
-ghost use Rattle.justfile_model.specs.Tree.{Item, Tree, Shape, itself, lexeme, line_of, nothing, shape_of};
+ghost use Rattle.justfile_model.specs.Tree.{Tree, Shape, itself, lexeme, line_of, nothing, shape_of};
+ghost use Rattle.justfile_model.specs.TreeReader.{Refusal, State, file, token_leaves};
 
 /// The reader and the grammar agree, and tokens derive at most one tree with its features.
 pub fn reads()
@@ -31,17 +31,12 @@ pub fn reads()
     ensures one { (E : Answers) (V : VersionNumbers) (ts : List SignificantToken) (tree other : Tree) (features others : List (Noted Tok)) → FileDerives E V ts tree features → FileDerives E V ts other others → (tree ≡ other) × (features ≡ others) }
 {}
 
-/// A tree has at most as many bindings and recipes as its tokens have identifiers, and those of what was read first are
-/// some of them.
+/// A tree has at most as many bindings and recipes as its tokens have identifiers, and counters grow by what the tree holds.
 pub fn counts()
     ensures whole { (E : Answers) (ts : List SignificantToken) (x : Tree × List (Noted Tok)) → file E ts ≡ Ok x → bindings x.0 + recipes x.0 ≤ identifiers ts }
-    ensures first { (E : Answers) (done : Tree) (s : Input) (all : Tree × Input) → after done (items E s) ≡ Ok all → bindings done ≤ bindings all.0 }
-    ensures first_recipes { (E : Answers) (done : Tree) (s : Input) (all : Tree × Input) → after done (items E s) ≡ Ok all → recipes done ≤ recipes all.0 }
-    // A name before `:=` is a binding's, and any other name that begins a line is a recipe's.
-    ensures next { (E : Answers) (done : Tree) (s : Input) (all : Tree × Input) → after done (items E s) ≡ Ok all → next_are (Identifier ∷ ColonEquals ∷ []) s ≡ true → bindings done + 1 ≤ bindings all.0 }
-    ensures next_recipe { (E : Answers) (done : Tree) (s : Input) (all : Tree × Input) → after done (items E s) ≡ Ok all → (x : SignificantToken × Input) → accept Identifier s ≡ Some x → next_are (Identifier ∷ ColonEquals ∷ []) s ≡ false → recipes done + 1 ≤ recipes all.0 }
-    ensures assigned { (E : Answers) (done : Tree) (s : Input) (all : Tree × Input) → after done (items E s) ≡ Ok all → (x : Item Tok Tok ℕ × Input) → assignment E s ≡ Ok x → bindings done + 1 ≤ bindings all.0 }
-    ensures headed { (E : Answers) (done : Tree) (s : Input) (all : Tree × Input) → after done (items E s) ≡ Ok all → (x : Item Tok Tok ℕ × Input) → recipe E s ≡ Ok x → recipes done + 1 ≤ recipes all.0 }
+    ensures bindings { (n : Counters) (s : State) (x : (Tree × Counters) × State) → items token_leaves n s ≡ Ok x → x.0.1.bindings ≡ n.bindings + bindings x.0.0 }
+    ensures recipes { (n : Counters) (s : State) (x : (Tree × Counters) × State) → items token_leaves n s ≡ Ok x → x.0.1.recipes ≡ n.recipes + recipes x.0.0 }
+    ensures constants { (n : Counters) (s : State) (x : (Tree × Counters) × State) → items token_leaves n s ≡ Ok x → x.0.1.constants ≡ n.constants }
 {}
 
 /// A tree derives where its shape does, with features at the same places but for what is kept of them; tokens derive at most

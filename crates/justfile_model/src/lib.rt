@@ -5,11 +5,15 @@ mod conditional_operator;
 pub mod examples;
 pub mod grammar_laws;
 pub mod laws;
+mod level;
 mod list_feature;
 mod open_delimiter;
+mod operator;
 mod raw_text;
 
 pub use crate::conditional_operator::ConditionalOperator;
+pub use crate::level::Level;
 pub use crate::list_feature::ListFeature;
 pub use crate::open_delimiter::OpenDelimiter;
+pub use crate::operator::Operator;
 pub use crate::raw_text::RawText;

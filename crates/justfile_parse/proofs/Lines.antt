@@ -1,80 +1,117 @@
 -- The reader of lines, as the parser goes over it.
-use Rattle.std.proofs.Common.{◌≡◌, Bool, true, false, [], ◌∷◌, ◌++◌, Some, None, Ok, Err, refl, ap, sym, ℕ}
+use Rattle.std.proofs.Common.{◌≡◌, ℕ, Bool, true, false, List, [], ◌∷◌, ◌++◌, map, Some, None, Ok, Err, refl, ap, sym, ◌∙◌}
 use Rattle.std.proofs.lemmas.List.{append-nil, append_assoc}
+use Rattle.justfile_base.specs.declared.token.Token.{Token}
 use Rattle.justfile_base.specs.declared.token_kind.TokenKind.TheVariants as kinds
-use Rattle.justfile_model.specs.Literals.{Answers}
-use Rattle.justfile_model.specs.Reader.{assignment, comment_item, ended, has_body, on_line, line_end, behind, line, recipe}
-use Rattle.justfile_model.specs.Reading.{Input, Refusal, ◌>>=◌, Read, accept, after, expect, next_are}
-use Rattle.justfile_model.specs.SignificantTokens.{SignificantToken}
-use Rattle.justfile_model.specs.Tok.{Tok}
+use Rattle.justfile_file.specs.Item.{item_of, line_of}
+use Rattle.justfile_file.specs.declared.item.Item as file
+use Rattle.justfile_file.specs.declared.item.Item.TheVariants as items
+use Rattle.justfile_file.specs.declared.line.Line as body
+use Rattle.justfile_model.specs.Tok.{tok_of}
 use Rattle.justfile_model.specs.Tree as tree
-use Rattle.justfile_model.specs.Tree.{Item, Tree}
+use Rattle.justfile_model.specs.Tree.{Item}
+use Rattle.justfile_model.specs.Reader as files
+use Rattle.justfile_model.specs.Reader.{after_numbered, comment_item, has_body}
+use Rattle.justfile_model.specs.Reading.{◌>>=◌, Counters, after}
+use Rattle.justfile_parse.specs.Reader.{Read, ReadItems, Refusal, State, accept, behind, ended, expect, leaves, line, line_end, on_line}
 use Rattle.justfile_parse.specs.Reading.{StopsAt, literal_refusal, refusal_at}
+use Rattle.justfile_parse.specs.Tree.{Headed, Leaf, item_tree, line_tree, recipe_name}
+use Rattle.justfile_parse.specs.declared.significant.TableEntry.{TableEntry}
 use Rattle.justfile_parse.specs.declared.stop.Stop.{Stop}
 use Rattle.justfile_parse.specs.declared.stop.Stop.TheVariants.{Refused, Literal, Memory, Numbers}
 
-module _ (expander : Answers) (s : Input) where
-  pub on_line_assignment : accept kinds.Comment s ≡ None → next_are (kinds.Identifier ∷ kinds.ColonEquals ∷ []) s ≡ true → on_line expander s ≡ assignment expander s
-  unfolding on_line
-  on_line_assignment h1 h2 = rw (h1, h2) refl
+abbrev Items : Type 0
+Items = List (Item Leaf Token ℕ)
 
-  pub on_line_recipe : accept kinds.Comment s ≡ None → next_are (kinds.Identifier ∷ kinds.ColonEquals ∷ []) s ≡ false → on_line expander s ≡ recipe expander s
-  unfolding on_line
-  on_line_recipe h1 h2 = rw (h1, h2) refl
+module _ (done : Items) (s : State) where
+  pub line_end_closes : (end : TableEntry × State) → accept kinds.Eof s ≡ Some end → after done (line_end s) ≡ Ok (done, s)
+  unfolding after files.line_end
+  line_end_closes end h = rw h (ap (λ (l : Items). Ok (l, s)) (append-nil done))
 
-module _ (expander : Answers) (done : Tree) (s : Input) where
-  pub line_end_closes : (end : SignificantToken × Input) → accept kinds.Eof s ≡ Some end → after done (line_end expander s) ≡ Ok (done, s)
-  unfolding after line_end
-  line_end_closes end h = rw h (ap (λ (l : Tree). Ok (l, s)) (append-nil done))
-
-  pub line_end_newline : (t : SignificantToken) (rest : Input) → accept kinds.Eof s ≡ None → expect kinds.Eol s ≡ Ok (t, rest) → after done (line_end expander s) ≡ Ok (done ++ tree.Newline ∷ [], rest)
-  unfolding after line_end
+  pub line_end_newline : (t : TableEntry) (rest : State) → accept kinds.Eof s ≡ None → expect kinds.Eol s ≡ Ok (t, rest) → after done (line_end s) ≡ Ok (done ++ tree.Newline ∷ [], rest)
+  unfolding after files.line_end
   line_end_newline t rest h1 h2 = rw (h1, h2) refl
 
-  pub line_end_fails : (e : Refusal) → accept kinds.Eof s ≡ None → expect kinds.Eol s ≡ Err e → after done (line_end expander s) ≡ Err e
-  unfolding after line_end
+  pub line_end_fails : (e : Refusal) → accept kinds.Eof s ≡ None → expect kinds.Eol s ≡ Err e → after done (line_end s) ≡ Err e
+  unfolding after files.line_end
   line_end_fails e h1 h2 = rw (h1, h2) refl
 
-  pub line_end_stops : (stop : Stop) (left : Input) → accept kinds.Eof s ≡ None → StopsAt stop left ⊥ (expect kinds.Eol s) → StopsAt stop left ⊥ (after done (line_end expander s))
+  pub line_end_stops : (stop : Stop) (left : State) → accept kinds.Eof s ≡ None → StopsAt stop left ⊥ (expect kinds.Eol s) → StopsAt stop left ⊥ (after done (line_end s))
   line_end_stops (Refused r) left none h = line_end_fails (refusal_at r left) none h
-  line_end_stops (Literal refused) left none h = line_end_fails (literal_refusal refused.value.error refused.value.glued) none h
+  line_end_stops (Literal refused) left none h = line_end_fails (literal_refusal refused.value.error) none h
   line_end_stops Memory left none h = tt
   line_end_stops Numbers left none h = h
 
-  pub behind_bare : accept kinds.Comment s ≡ None → after done (behind expander s) ≡ after done (line_end expander s)
-  unfolding behind
+  pub behind_bare : accept kinds.Comment s ≡ None → after done (behind s) ≡ after done (line_end s)
+  unfolding files.behind
   behind_bare h = rw h refl
 
-  then_end : (c : SignificantToken) (found : Read Tree) → after done (found >>= λ end. Ok (comment_item c ∷ end.0, end.1)) ≡ after (done ++ comment_item c ∷ []) found
+  then_end : (i : Item Leaf Token ℕ) (found : Read Items) → after done (found >>= λ end. Ok (i ∷ end.0, end.1)) ≡ after (done ++ i ∷ []) found
   unfolding after
-  then_end c (Ok x) = ap (λ (l : Tree). Ok (l, x.1)) (sym (append_assoc done (comment_item c ∷ []) x.0))
-  then_end c (Err e) = refl
+  then_end i (Ok x) = ap (λ (l : Items). Ok (l, x.1)) (sym (append_assoc done (i ∷ []) x.0))
+  then_end i (Err e) = refl
 
-  pub behind_comment : (c : SignificantToken) (rest : Input) → accept kinds.Comment s ≡ Some (c, rest) → after done (behind expander s) ≡ after (done ++ comment_item c ∷ []) (line_end expander rest)
-  unfolding behind
-  behind_comment c rest h = rw h (then_end c (line_end expander rest))
+  pub behind_comment : (c : TableEntry) (rest : State) → accept kinds.Comment s ≡ Some (c, rest) → after done (behind s) ≡ after (done ++ comment_item leaves c ∷ []) (line_end rest)
+  unfolding files.behind
+  behind_comment c rest h = rw h (then_end (comment_item leaves c) (line_end rest))
 
-  pub ended_body : (b : Bool) (new : Tree) → b ≡ true → new ≡ done ++ tree.Newline ∷ [] → after done (ended expander b s) ≡ Ok (new, s)
-  unfolding after ended
-  ended_body b new h is = rw h (ap (λ (l : Tree). Ok (l, s)) (sym is))
+  pub ended_body : (b : Bool) (new : Items) → b ≡ true → new ≡ done ++ tree.Newline ∷ [] → after done (ended b s) ≡ Ok (new, s)
+  unfolding after files.ended
+  ended_body b new h is = rw h (ap (λ (l : Items). Ok (l, s)) (sym is))
 
-  pub ended_behind : (b : Bool) → b ≡ false → after done (ended expander b s) ≡ after done (behind expander s)
-  unfolding ended
+  pub ended_behind : (b : Bool) → b ≡ false → after done (ended b s) ≡ after done (behind s)
+  unfolding files.ended
   ended_behind b h = rw h refl
 
-  pub line_blank : (t : SignificantToken) (rest : Input) → accept kinds.Eol s ≡ Some (t, rest) → after done (line expander s) ≡ Ok (done ++ tree.Newline ∷ [], rest)
-  unfolding after line
-  line_blank t rest h = rw h refl
+  module _ (n : Counters) where
+    pub line_blank : (t : TableEntry) (rest : State) → accept kinds.Eol s ≡ Some (t, rest) → after_numbered done (line n s) ≡ Ok ((done ++ tree.Newline ∷ [], n), rest)
+    unfolding after_numbered files.line
+    line_blank t rest h = rw h refl
 
-  pub line_fails : (e : Refusal) → accept kinds.Eol s ≡ None → on_line expander s ≡ Err e → after done (line expander s) ≡ Err e
-  unfolding after line
-  line_fails e h1 h2 = rw (h1, h2) refl
+    pub line_fails : (e : Refusal) → accept kinds.Eol s ≡ None → on_line n s ≡ Err e → after_numbered done (line n s) ≡ Err e
+    unfolding after_numbered files.line
+    line_fails e h1 h2 = rw (h1, h2) refl
 
-  then_ended : (i : Item Tok Tok ℕ) (found : Read Tree) → after done (found >>= λ b. Ok (i ∷ b.0, b.1)) ≡ after (done ++ i ∷ []) found
-  unfolding after
-  then_ended i (Ok x) = ap (λ (l : Tree). Ok (l, x.1)) (sym (append_assoc done (i ∷ []) x.0))
-  then_ended i (Err e) = refl
+    -- an item is refused, or its number is wanting
+    pub line_stops : (stop : Stop) (left : State) (wanting : Refusal) → accept kinds.Eol s ≡ None → StopsAt stop left (on_line n s ≡ Err wanting) (on_line n s) → StopsAt stop left (after_numbered done (line n s) ≡ Err wanting) (after_numbered done (line n s))
+    line_stops (Refused r) left wanting none h = line_fails (refusal_at r left) none h
+    line_stops (Literal refused) left wanting none h = line_fails (literal_refusal refused.value.error) none h
+    line_stops Memory left wanting none h = tt
+    line_stops Numbers left wanting none h = line_fails wanting none h
 
-  pub line_goes_on : (i : Item Tok Tok ℕ) (rest : Input) → accept kinds.Eol s ≡ None → on_line expander s ≡ Ok (i, rest) → after done (line expander s) ≡ after (done ++ i ∷ []) (ended expander (has_body i) rest)
-  unfolding line
-  line_goes_on i rest h1 h2 = rw (h1, h2) (then_ended i (ended expander (has_body i) rest))
+    -- after an item
+    module _ (i : Item Leaf Token ℕ) (m : Counters) (rest : State) (none : accept kinds.Eol s ≡ None) (item : on_line n s ≡ Ok ((i, m), rest)) where
+      abbrev numbered : Items × State → ReadItems
+      numbered x = Ok ((x.0, m), x.1)
+
+      then_ended : (found : Read Items) → after_numbered done (found >>= λ b. Ok ((i ∷ b.0, m), b.1)) ≡ (after (done ++ i ∷ []) found >>= numbered)
+      unfolding after after_numbered
+      then_ended (Ok x) = ap (λ (l : Items). Ok ((l, m), x.1)) (sym (append_assoc done (i ∷ []) x.0))
+      then_ended (Err e) = refl
+
+      line_is : after_numbered done (line n s) ≡ (after (done ++ i ∷ []) (ended (has_body i) rest) >>= numbered)
+      unfolding files.line
+      line_is = rw (none, item) (then_ended (ended (has_body i) rest))
+
+      pub line_goes_on : (new : Items) (last : State) → after (done ++ i ∷ []) (ended (has_body i) rest) ≡ Ok (new, last) → after_numbered done (line n s) ≡ Ok ((new, m), last)
+      line_goes_on new last h = line_is ∙ ap (λ (f : Read Items). f >>= numbered) h
+
+      pub end_fails : (e : Refusal) → after (done ++ i ∷ []) (ended (has_body i) rest) ≡ Err e → after_numbered done (line n s) ≡ Err e
+      end_fails e h = line_is ∙ ap (λ (f : Read Items). f >>= numbered) h
+
+      pub end_stops : (stop : Stop) (left : State) (IsShort : Type 0) → StopsAt stop left ⊥ (after (done ++ i ∷ []) (ended (has_body i) rest)) → StopsAt stop left IsShort (after_numbered done (line n s))
+      end_stops (Refused r) left IsShort h = end_fails (refusal_at r left) h
+      end_stops (Literal refused) left IsShort h = end_fails (literal_refusal refused.value.error) h
+      end_stops Memory left IsShort h = tt
+      end_stops Numbers left IsShort h = absurd h
+
+-- whether an item has a body
+pub has_body_is : (i : file.Item) → has_body (item_of i) ≡ has_body (item_tree i)
+has_body_is (items.Assignment a) = refl
+has_body_is (items.Comment text) = refl
+has_body_is items.Newline = refl
+has_body_is (items.Recipe r) = by_lines r.body.items
+  where
+    by_lines : (ls : List body.Line) → has_body (tree.Recipe (tok_of r.name.token) (map line_of ls)) ≡ has_body (tree.Recipe (Headed (recipe_name r)) (map line_tree ls))
+    by_lines [] = refl
+    by_lines (l ∷ ls) = refl

@@ -1,162 +1,143 @@
--- The loop over lines.
-use Rattle.std.proofs.Common.{◌≡◌, ℕ, ◌+◌, ◌≤◌, List, [], ◌∷◌, ◌++◌, map, Some, None, Result, Ok, Err, refl, sym, ap, ◌∙◌, subst, arith}
-use Rattle.std.specs.Borrow.{Bor}
+-- The loop over the lines of a file.
+use Rattle.std.proofs.Common.{◌≡◌, ℕ, ◌+◌, ◌<◌, ◌≤◌, List, [], ◌∷◌, ◌++◌, length, map, Some, None, Ok, Err, refl, sym, ap, ◌∙◌, subst, arith}
 use Rattle.justfile_base.specs.Numerator.{bindings_of, constants_of, recipes_of}
 use Rattle.justfile_base.specs.declared.numerator.Numerator.{Numerator}
+use Rattle.justfile_base.specs.declared.token.Token.{Token}
 use Rattle.justfile_base.specs.declared.token_kind.TokenKind.TheVariants as kinds
-use Rattle.justfile_file.specs.Item.{item_of}
-use Rattle.justfile_file.specs.declared.item.Item.{Item}
-use Rattle.justfile_model.specs.Files.{bindings, recipes}
-use Rattle.justfile_model.specs.Literals.{Answers}
-use Rattle.justfile_model.specs.Reader.{at_end, line, items, nothing_behind}
-use Rattle.justfile_model.specs.Reading.{Input, Refusal, Read, accept, after}
-use Rattle.justfile_model.specs.SignificantTokens.{SignificantToken, identifiers}
-use Rattle.justfile_model.specs.Tree.{Tree}
-use Rattle.justfile_model.proofs.Counting.{bindings_append, line_numbers, recipes_append}
-use Rattle.justfile_model.proofs.Reading.{after_nothing, after_refused, items_at_end, items_fail}
-use Rattle.justfile_parse.proofs.Adding.{adds_later}
-use Rattle.justfile_parse.proofs.Runs.{same_run}
-use Rattle.justfile_cook.specs.Literal.{answers_by}
+use Rattle.justfile_file.specs.declared.item.Item as file
+use Rattle.justfile_model.specs.Tree.{Item}
+use Rattle.justfile_model.specs.Reader as files
+use Rattle.justfile_model.specs.Reader.{after_numbered}
+use Rattle.justfile_model.specs.Reading.{◌>>=◌, Counters}
+use Rattle.justfile_parse.specs.Reader as reader
+use Rattle.justfile_parse.specs.WantsNumber.{counters_of}
+use Rattle.justfile_parse.specs.Reader.{ReadItems, Refusal, State, accept, after_mark, items, leaves, line, nothing, on_line}
 use Rattle.justfile_parse.specs.Reading.{IsMoved, StopsAt, literal_refusal, refusal_at}
-use Rattle.justfile_parse.proofs.Wanted.{lines_items}
-use Rattle.justfile_parse.specs.WantsNumber.{AreLines, LacksFirst, LacksNumber, LinesWantNumber, none, more}
-use Rattle.justfile_parse.specs.View.{Adds, IsGivenBy, IsSameRun, input_of}
-use Rattle.justfile_parse.specs.declared.parser.Parser.{Parser}
+use Rattle.justfile_parse.specs.Tree.{Leaf, item_tree}
+use Rattle.justfile_parse.specs.declared.significant.TableEntry.{TableEntry}
 use Rattle.justfile_parse.specs.declared.stop.Stop.{Stop}
 use Rattle.justfile_parse.specs.declared.stop.Stop.TheVariants.{Refused, Literal, Memory, Numbers}
+use Rattle.justfile_model.proofs.Reading as laws
+use Rattle.justfile_model.proofs.ReadingSteps.{known}
+use Rattle.justfile_parse.proofs.Moves.{line_moves, names, on_line_moves}
 
--- ---- what was read behind other items
+abbrev Items : Type 0
+Items = List (Item Leaf Token ℕ)
 
-pub taken : (done all : Tree) (rest : Input) (found : Read Tree) → after done found ≡ Ok (all, rest) → (more : Tree) × (found ≡ Ok (more, rest)) × (done ++ more ≡ all)
-unfolding after
-taken done all rest (Ok x) h =
-    let pair : ◌≡◌ {A = Tree × Input} (done ++ x.0, x.1) (all, rest) = inside _ _ h in
-    (x.0, ap (λ (r : Input). Ok (x.0, r)) (ap (λ (p : Tree × Input). p.1) pair), ap (λ (p : Tree × Input). p.0) pair)
+-- an item got its number
+pub moved_by : (old new : Numerator) (s : State) (i : Item Leaf Token ℕ) (rest : State) → s.depth ≡ 0 → on_line (counters_of old) s ≡ Ok ((i, counters_of new), rest) → IsMoved old new (names s)
+moved_by old new s i rest none h =
+    let moves = on_line_moves (counters_of old) s none i (counters_of new) rest h in
+    record { least = moves.least; recipes_least = moves.recipes_least; most_is = omega (arith, moves.most); constants = moves.constants }
+
+pub unmoved : (old new : Numerator) (most : ℕ) → new ≡ old → IsMoved old new most
+unmoved old new most e =
+    let P : Numerator → Type 0 = λ n. IsMoved old n most in
+    subst P (sym e) (record { least = omega arith; recipes_least = omega arith; most_is = omega arith; constants = refl })
+
+-- what is read after items
+taken : (done all : Items) (m : Counters) (rest : State) (found : ReadItems) → after_numbered done found ≡ Ok ((all, m), rest) → (more : Items) × (found ≡ Ok ((more, m), rest)) × (done ++ more ≡ all)
+unfolding after_numbered
+taken done all m rest (Ok x) h =
+    let pair : ◌≡◌ {A = (Items × Counters) × State} ((done ++ x.0.0, x.0.1), x.1) ((all, m), rest) = inside _ _ h in (
+      x.0.0,
+      ap (λ (p : Counters × State). Ok ((x.0.0, p.0), p.1)) (ap (λ (p : (Items × Counters) × State). (p.0.1, p.1)) pair),
+      ap (λ (p : (Items × Counters) × State). p.0.0) pair,
+    )
   where
-    inside : (a b : Tree × Input) → ◌≡◌ {A = Read Tree} (Ok a) (Ok b) → a ≡ b
+    inside : (a b : (Items × Counters) × State) → ◌≡◌ {A = ReadItems} (Ok a) (Ok b) → a ≡ b
     inside a b h = cc
-taken done all rest (Err e) h = cc
+taken done all m rest (Err e) h = cc
 
-pub refused_first : (done : Tree) (e : Refusal) (found : Read Tree) → after done found ≡ Err e → found ≡ Err e
-unfolding after
+refused_first : (done : Items) (e : Refusal) (found : ReadItems) → after_numbered done found ≡ Err e → found ≡ Err e
+unfolding after_numbered
 refused_first done e (Ok x) h = cc
 refused_first done e (Err f) h = ap (λ (g : Refusal). Err g) (inside f e h)
   where
-    inside : (a b : Refusal) → ◌≡◌ {A = Read Tree} (Err a) (Err b) → a ≡ b
+    inside : (a b : Refusal) → ◌≡◌ {A = ReadItems} (Err a) (Err b) → a ≡ b
     inside a b h = cc
 
--- ---- the state before a line
-
 -- from one place to another these items were read
-pub record IsReadTo {X : Type 0} (answer : X → List ℕ → Result (List ℕ) (List ℕ)) (p q : Parser X) (first next : Numerator) (done : List Item) : Type 0 where
-  pub same : IsSameRun p q
-  pub lines : AreLines (answers_by answer p.expander.now) (input_of p) (map item_of done) (input_of q)
-  pub given : IsGivenBy answer p first next done
+pub record IsReadTo (s q : State) (first next : Numerator) (done : List file.Item) : Type 0 where
+  pub read : after_numbered (map item_tree done) (items (counters_of next) q) ≡ items (counters_of first) s
+  pub depth : q.depth ≡ 0
   pub least : bindings_of first ≤ bindings_of next
   pub recipes_least : recipes_of first ≤ recipes_of next
-  pub most : bindings_of next + recipes_of next + identifiers (input_of q).tokens ≤ bindings_of first + recipes_of first + identifiers (input_of p).tokens
+  pub most : bindings_of next + recipes_of next + names q ≤ bindings_of first + recipes_of first + names s
   pub constants : constants_of next ≡ constants_of first
 
-module _ {X : Type 0} (answer : X → List ℕ → Result (List ℕ) (List ℕ)) where
-  pub begins : (p : Parser X) (first : Numerator) → IsReadTo answer p p first first []
-  begins p first =
-      record {
-        same = record { tokens = refl; expander = refl; file_depth = refl; import_offsets = refl; depth = refl; noted = λ h. h };
-        lines = none;
-        given = record { given = λ k d h. absurd (omega arith); numbered = tt; recipes_numbered = tt; counted = omega arith; recipes_counted = omega arith };
-        least = omega arith;
-        recipes_least = omega arith;
-        most = omega arith;
-        constants = refl;
-      }
+pub begins : (s : State) (first : Numerator) → s.depth ≡ 0 → IsReadTo s s first first []
+begins s first none = record { depth = none; read = laws.numbered_begin (items (counters_of first) s); least = omega arith; recipes_least = omega arith; most = omega arith; constants = refl }
 
-  module _ (p q a : Parser X) (first next : Numerator) (done : List Item) (so_far : IsReadTo answer p q first next done) (same : IsSameRun q a) (none : accept kinds.Eof (input_of q) ≡ None) (here : input_of a ≡ input_of q) where
-    -- what is read at `a` is what is read at `q`
-    line_there : line (answers_by answer a.expander.now) (input_of a) ≡ line (answers_by answer p.expander.now) (input_of q)
-    line_there = ap (λ (e : Bor X). line (answers_by answer e.now) (input_of a)) (same.expander ∙ so_far.same.expander) ∙ ap (line (answers_by answer p.expander.now)) here
+module _ (s q : State) (first next : Numerator) (done : List file.Item) (so_far : IsReadTo s q first next done) where
+  pub moved : IsMoved first next (names s)
+  moved = record { least = so_far.least; recipes_least = so_far.recipes_least; most_is = omega (arith, so_far.most); constants = so_far.constants }
 
-    pub goes_on : (b : Parser X) (then : Numerator) (new : List Item) → IsSameRun a b
-        → after (map item_of done) (line (answers_by answer a.expander.now) (input_of a)) ≡ Ok (map item_of new, input_of b)
-        → Adds answer a next then done new
-        → bindings_of next ≤ bindings_of then → recipes_of next ≤ recipes_of then → constants_of then ≡ constants_of next
-        → IsReadTo answer p b first then new
-    goes_on b then new same2 value adds least recipes_least constants =
-        let E = answers_by answer p.expander.now in
-        let t = taken (map item_of done) (map item_of new) (input_of b) _ value in
-        let read : line E (input_of q) ≡ Ok (t.0, input_of b) = sym line_there ∙ t.1 in
-        let given : IsGivenBy answer p first then new = (adds_later answer p a (same_run so_far.same same) done new next then adds).adds first so_far.given in
-        let counts = line_numbers E (input_of q) (t.0, input_of b) read in
+  module _ (none : accept kinds.Eof q ≡ None) where
+    pub goes_on : (then : Numerator) (new : List file.Item) (rest : State) → after_numbered (map item_tree done) (line (counters_of next) q) ≡ Ok ((map item_tree new, counters_of then), rest) → IsReadTo s rest first then new
+    goes_on then new rest value =
+        let t = taken (map item_tree done) (map item_tree new) (counters_of then) rest (line (counters_of next) q) value in
+        let moves = line_moves (counters_of next) q so_far.depth t.0 (counters_of then) rest t.1 in
+        let past = known {X = (Items × Counters) × State} ((t.0, counters_of then), rest) (λ x. length x.1.left < length q.left × (x.1.depth ≡ q.depth) × (x.1.run ≡ q.run)) t.1 (laws.line_goes leaves (counters_of next) q) in
         record {
-          same = same_run (same_run so_far.same same) same2;
-          lines = subst (λ (l : Tree). AreLines E (input_of p) l (input_of b)) t.2 (more so_far.lines read);
-          given = given;
-          least = omega (arith, so_far.least);
-          recipes_least = omega (arith, so_far.recipes_least, recipes_least);
-          most =
-              omega (
-                arith,
-                so_far.most,
-                given.counted,
-                so_far.given.counted,
-                given.recipes_counted,
-                so_far.given.recipes_counted,
-                ap bindings t.2,
-                ap recipes t.2,
-                bindings_append (map item_of done) t.0,
-                recipes_append (map item_of done) t.0,
-                counts,
-              );
-          constants = constants ∙ so_far.constants;
+          depth = past.1 ∙ so_far.depth;
+          read =
+              ap (λ (l : Items). after_numbered l (items (counters_of then) rest)) (sym t.2)
+              ∙ sym (laws.items_go_on leaves (map item_tree done) (counters_of next) q t.0 (counters_of then) rest none t.1)
+              ∙ so_far.read;
+          least = omega (arith, so_far.least, moves.least);
+          recipes_least = omega (arith, so_far.recipes_least, moves.recipes_least);
+          most = omega (arith, so_far.most, moves.most);
+          constants = moves.constants ∙ so_far.constants;
         }
+
+    fails : (e : Refusal) → after_numbered (map item_tree done) (line (counters_of next) q) ≡ Err e → items (counters_of first) s ≡ Err e
+    fails e h = sym so_far.read ∙ laws.items_fail leaves (map item_tree done) (counters_of next) q e none (refused_first (map item_tree done) e (line (counters_of next) q) h)
 
     -- a line is refused, or wants a number
-    pub stops : (stop : Stop) (left : Input) (then : Numerator)
-        → StopsAt stop left (LacksFirst (answers_by answer a.expander.now) (input_of a) next then) (after (map item_of done) (line (answers_by answer a.expander.now) (input_of a)))
-        → StopsAt stop left (LinesWantNumber (answers_by answer p.expander.now) (input_of p) first then) (items (answers_by answer p.expander.now) (input_of p))
-    stops (Refused r) left then h =
-        let E = answers_by answer p.expander.now in
-        sym (lines_items E (input_of p) so_far.lines) ∙ items_fail E (map item_of done) (input_of q) (refusal_at r left) none (sym line_there ∙ refused_first (map item_of done) (refusal_at r left) _ h)
-    stops (Literal refused) left then h =
-        let E = answers_by answer p.expander.now in
-        sym (lines_items E (input_of p) so_far.lines) ∙ items_fail E (map item_of done) (input_of q) (literal_refusal refused.value.error refused.value.glued) none (sym line_there ∙ refused_first (map item_of done) (literal_refusal refused.value.error refused.value.glued) _ h)
-    stops Memory left then h = tt
-    stops Numbers left then h =
-        let E = answers_by answer p.expander.now in
-        let P : Bor X → Type 0 = λ e. LacksNumber (answers_by answer e.now) (input_of a) then in
-        let Q : Input → Type 0 = λ s. LacksNumber E s then in
+    pub stops : (stop : Stop) (left : State) (wanting : Refusal)
+        → StopsAt stop left (after_numbered (map item_tree done) (line (counters_of next) q) ≡ Err wanting) (after_numbered (map item_tree done) (line (counters_of next) q))
+        → StopsAt stop left (items (counters_of first) s ≡ Err wanting) (items (counters_of first) s)
+    stops (Refused r) left wanting h = fails (refusal_at r left) h
+    stops (Literal refused) left wanting h = fails (literal_refusal refused.value.error) h
+    stops Memory left wanting h = tt
+    stops Numbers left wanting h = fails wanting h
+
+    -- where a line moved the numerator, so is the file's
+    pub moved_on : (then : Numerator) → IsMoved next then (names q) → IsMoved first then (names s)
+    moved_on then h =
         record {
-          done = map item_of done;
-          left = input_of q;
-          lines = so_far.lines;
-          bindings_counted = ap bindings_of h.unmoved ∙ so_far.given.counted;
-          recipes_counted = ap recipes_of h.unmoved ∙ so_far.given.recipes_counted;
-          lacks = subst Q here (subst P (same.expander ∙ so_far.same.expander) h.lacks);
+          least = omega (arith, so_far.least, h.least);
+          recipes_least = omega (arith, so_far.recipes_least, h.recipes_least);
+          most_is = omega (arith, so_far.most, h.most_is);
+          constants = h.constants ∙ so_far.constants;
         }
 
-  module _ (p q : Parser X) (first next : Numerator) (done : List Item) (so_far : IsReadTo answer p q first next done) where
-    -- nothing is asked of an expander behind the end
-    past : (E F : Answers) (s : Input) (ts : List SignificantToken) → nothing_behind E s ts ≡ nothing_behind F s ts
-    past E F s [] = refl
-    past E F s (t ∷ ts) = refl
+  module _ (end : TableEntry) (rest : State) (is : accept kinds.Eof q ≡ Some (end, rest)) where
+    abbrev behind_end : Unit {0} × State → ReadItems
+    behind_end x = Ok (([], counters_of next), x.1)
 
-    at_end_is : (expander : Answers) (end : SignificantToken) (rest : Input) → accept kinds.Eof (input_of q) ≡ Some (end, rest)
-        → items (answers_by answer p.expander.now) (input_of p) ≡ after (map item_of done) (at_end expander rest)
-    unfolding at_end
-    at_end_is expander end rest is =
-        sym (lines_items (answers_by answer p.expander.now) (input_of p) so_far.lines)
-        ∙ items_at_end (answers_by answer p.expander.now) (map item_of done) (input_of q) end rest is
-        ∙ ap (after (map item_of done)) (past (answers_by answer p.expander.now) expander rest rest.tokens)
+    end_by : (entries : List TableEntry) → files.nothing_behind leaves (counters_of next) rest entries ≡ (reader.nothing_by rest entries >>= behind_end)
+    end_by [] = refl
+    end_by (t ∷ ts) = refl
 
-    pub ends : (expander : Answers) (end : SignificantToken) (rest : Input) → accept kinds.Eof (input_of q) ≡ Some (end, rest) → at_end expander rest ≡ Ok ([], rest)
-        → items (answers_by answer p.expander.now) (input_of p) ≡ Ok (map item_of done, rest)
-    ends expander end rest is nothing = at_end_is expander end rest is ∙ ap (after (map item_of done)) nothing ∙ after_nothing (map item_of done) rest
+    at_end_is : items (counters_of first) s ≡ after_numbered (map item_tree done) (nothing rest >>= behind_end)
+    unfolding files.at_end nothing
+    at_end_is = sym so_far.read ∙ laws.items_at_end leaves (map item_tree done) (counters_of next) q end rest is ∙ ap (after_numbered (map item_tree done)) (end_by rest.left)
 
-    pub goes_past : (expander : Answers) (end : SignificantToken) (rest : Input) (IsShort : Type 0) (stop : Stop) → accept kinds.Eof (input_of q) ≡ Some (end, rest) → StopsAt stop rest ⊥ (at_end expander rest)
-        → StopsAt stop rest IsShort (items (answers_by answer p.expander.now) (input_of p))
-    goes_past expander end rest IsShort (Refused r) is h = at_end_is expander end rest is ∙ ap (after (map item_of done)) h ∙ after_refused (map item_of done) (refusal_at r rest)
-    goes_past expander end rest IsShort (Literal refused) is h = at_end_is expander end rest is ∙ ap (after (map item_of done)) h ∙ after_refused (map item_of done) (literal_refusal refused.value.error refused.value.glued)
-    goes_past expander end rest IsShort Memory is h = tt
-    goes_past expander end rest IsShort Numbers is h = absurd h
+    pub ends : nothing rest ≡ Ok (tt, rest) → items (counters_of first) s ≡ Ok ((map item_tree done, counters_of next), rest)
+    ends h = at_end_is ∙ ap (λ (f : reader.Read (Unit {0})). after_numbered (map item_tree done) (f >>= behind_end)) h ∙ laws.numbered_nothing (map item_tree done) (counters_of next) rest
 
-    pub moved : IsMoved first next (identifiers (input_of p).tokens)
-    moved = record { least = so_far.least; recipes_least = so_far.recipes_least; most_is = omega (arith, so_far.most); constants = so_far.constants }
+    past : (e : Refusal) → nothing rest ≡ Err e → items (counters_of first) s ≡ Err e
+    past e h = at_end_is ∙ ap (λ (f : reader.Read (Unit {0})). after_numbered (map item_tree done) (f >>= behind_end)) h ∙ laws.numbered_refused (map item_tree done) e
+
+    pub goes_past : (stop : Stop) (IsShort : Type 0) → StopsAt stop rest ⊥ (nothing rest) → StopsAt stop rest IsShort (items (counters_of first) s)
+    goes_past (Refused r) IsShort h = past (refusal_at r rest) h
+    goes_past (Literal refused) IsShort h = past (literal_refusal refused.value.error) h
+    goes_past Memory IsShort h = tt
+    goes_past Numbers IsShort h = absurd h
+
+-- a file is its items after a byte order mark
+pub file_is : (n : Counters) (s : State) → reader.file n s ≡ items n (after_mark s)
+unfolding files.file
+file_is n s = refl

@@ -23,6 +23,7 @@ use Rattle.justfile_base.specs.ByteClass.{class_of}
 use Rattle.justfile_model.specs.Lexed.{IsFault, IsSpan}
 use Rattle.justfile_model.specs.Literals as literals
 use Rattle.justfile_model.specs.Reading as reader
+use Rattle.justfile_model.specs.TreeReader as model
 use Rattle.justfile_model.specs.SignificantTokens.{SignificantToken}
 use Rattle.justfile_parse.specs.Errors.{IsErrorOf, IsUnexpected}
 use Rattle.justfile_model.specs.LexicalFault.{LexicalFault, NotLexical, Refusal, Here, Unclosed, lexical_fault_of}
@@ -185,7 +186,8 @@ literal_kind : (fault : literals.LiteralFault) (kind : CompileErrorKind) → IsK
 literal_kind fault (Internal message) h = cc
 literal_kind fault _ h = refl
 
-pub refusal_not_internal : (tokens : List SignificantToken) (r : reader.Refusal) (e : CompileError) → IsErrorOf tokens r e → internal_message e.kind ≡ None
+pub refusal_not_internal : (tokens : List SignificantToken) (r : model.Refusal) (e : CompileError) → IsErrorOf tokens r e → internal_message e.kind ≡ None
 refusal_not_internal tokens (reader.Unexpected at) e h = unexpected_kind e.kind e.token h.0
 refusal_not_internal tokens (reader.TooDeep at) e h = ap internal_message h.0
 refusal_not_internal tokens (reader.NotCooked fault t) e h = literal_kind fault e.kind h.0
+refusal_not_internal tokens (reader.NoNumber counters) e h = absurd h

@@ -1,5 +1,5 @@
 -- What is read of a table, and what that says of the tokens.
-use Rattle.std.proofs.Common.{◌≡◌, ℕ, ◌+◌, ◌<◌, ◌≤◌, Bool, true, false, ◌&&◌, cond, IsTrue, rules, List, [], ◌∷◌, ◌++◌, map, length, All, Contains, Some, None, Option, Result, Ok, Err, IfSome, IfNone, inl, inr, refl, sym, ap, ◌∙◌, subst, arith}
+use Rattle.std.proofs.Common.{◌≡◌, ℕ, ◌+◌, ◌<◌, ◌≤◌, Bool, true, false, ◌&&◌, cond, IsTrue, rules, List, [], ◌∷◌, ◌++◌, map, length, All, Contains, None, Result, Ok, Err, inl, inr, refl, sym, ap, ◌∙◌, subst, arith}
 use Rattle.std.specs.Prelude.{◌-◌, get_or, reverse, string_bytes}
 use Rattle.std.specs.List.{list_all, flat_map}
 use Rattle.std.proofs.lemmas.Bool.Decides.{nat_tests}
@@ -10,7 +10,6 @@ use Rattle.justfile_base.specs.StringLiteral.{begins_format_string}
 use Rattle.justfile_base.specs.declared.format_string_part.FormatStringPart.TheVariants as format_parts
 use Rattle.justfile_base.specs.declared.name.Name.{Name}
 use Rattle.justfile_base.specs.Token.{lexeme_of}
-use Rattle.justfile_base.specs.declared.compile_error.CompileError.{CompileError}
 use Rattle.justfile_base.specs.declared.fault.Fault.{Fault}
 use Rattle.justfile_base.specs.declared.fault.Fault.TheVariants as faults
 use Rattle.justfile_base.specs.declared.numerator.Numerator.{Numerator}
@@ -34,105 +33,32 @@ use Rattle.justfile_model.specs.Answers.{IsFrom, IsLexerFault}
 use Rattle.justfile_model.specs.Files.{VersionNumbers, FileDerives, body_literals, expr_literals, exprs_literals, fragments_literals, item_literals, literals, parts_literals}
 use Rattle.justfile_model.specs.Lexed.{Lexed, IsFault}
 use Rattle.justfile_model.specs.LexicalFault.{LexicalFault}
-use Rattle.justfile_model.specs.Expressions.{front}
 use Rattle.justfile_model.specs.Features.{Noted}
 use Rattle.justfile_model.specs.Literals as lits
 use Rattle.justfile_model.specs.Literals.{Answers, Expanded, Literal, Plain, over_literal, string_of, cooked_text, Cooks}
 use Rattle.justfile_model.specs.declared.list_feature.ListFeature.{ListFeature}
-use Rattle.justfile_model.specs.Reader as reader
-use Rattle.justfile_model.specs.Reading as reading
-use Rattle.justfile_model.specs.Reading.{Input, same_kind}
-use Rattle.justfile_model.specs.SignificantTokens.{SignificantToken, is_whitespace, identifiers, significant_from, significant_tokens}
+use Rattle.justfile_model.specs.TreeReader as model
+use Rattle.justfile_model.specs.SignificantTokens.{SignificantToken, is_whitespace, significant_from, significant_tokens}
 use Rattle.justfile_model.specs.Tok.{Tok, tok_of}
 use Rattle.justfile_model.specs.Tree as tree
 use Rattle.justfile_model.specs.Tree.{Tree, lexeme}
 use Rattle.justfile_model.proofs.LexedLaws.{one_list, never_both}
 use Rattle.justfile_model.proofs.Agreement.{sound, complete, due, refused}
-use Rattle.justfile_model.proofs.Counting.{accept_identifiers}
-use Rattle.justfile_parse.specs.Given.{AreGivenExpressions, AreGivenParts, AreNotedIn, IsGivenFragment, IsGivenHeld, IsGivenItem, IsGivenExpression, IsGivenLine, IsGivenPart, IsInTable, first_part, later_part}
+use Rattle.justfile_parse.specs.Given.{AreGivenExpressions, AreGivenParts, IsGivenFragment, IsGivenHeld, IsGivenItem, IsGivenExpression, IsGivenLine, IsGivenPart, IsInTable, first_part, later_part}
 use Rattle.justfile_cook.specs.Literal.{IsPartOf, is_framed, is_quoted}
-use Rattle.justfile_parse.specs.Errors.{IsAt, IsErrorOf}
+use Rattle.justfile_parse.specs.Errors.{IsErrorOf}
 use Rattle.justfile_parse.specs.Literal.{is_delimited, is_sound}
 use Rattle.justfile_parse.specs.Parsing.{HasNoTree, IsOneLex, IsParsed, IsParsedText, IsUnparsed}
-use Rattle.justfile_parse.specs.Reading.{IsFaultOf, IsKindAt, IsGivenStop, IsRead, IsUnread, StopsAt, literal_refusal, refusal_at}
-use Rattle.justfile_parse.specs.Significant.{TableEntry, significant_of}
-use Rattle.justfile_parse.specs.WantsNumber.{LinesWantNumber, WantsNumber, behind_mark}
-use Rattle.justfile_parse.specs.declared.stop.Refusal.{Refusal}
-use Rattle.justfile_parse.specs.declared.stop.Refusal.TheVariants.{Unexpected, TooDeep}
-use Rattle.justfile_parse.specs.declared.stop.LiteralRefusal.{LiteralRefusal}
-use Rattle.justfile_parse.specs.declared.stop.Stop.{Stop}
-use Rattle.justfile_parse.specs.declared.stop.Stop.TheVariants as stops
-use Rattle.justfile_parse.proofs.Cooked.{kind_is_due}
+use Rattle.justfile_parse.specs.Reading.{IsRead, IsUnread}
+use Rattle.justfile_parse.specs.Significant.{significant_of}
+use Rattle.justfile_parse.specs.declared.significant.TableEntry.{TableEntry}
+use Rattle.justfile_parse.specs.WantsNumber.{WantsNumber}
 use Rattle.justfile_parse.proofs.NotInternal.{not_internal, refusal_not_internal}
-use Rattle.justfile_parse.proofs.Wanted.{file_is, never_suffice, with_noted}
 use Rattle.justfile_tree.specs.Expression.{assert_of, conditional_of, expr_of, expr_cooked, exprs_cooked, exprs_of_row, format_of, held_cooked, join_of, literal_tok, part_tok, parts_cooked, parts_of_row}
 use Rattle.justfile_tree.specs.declared.expression.Expression.{Expression, And', Assert', Backtick, Call', Comparison', Concatenation', Conditional', FormatString', Group', Join', List', ListConcatenation', Not', Or', StringLiteral, Variable, Held-Expression-Assert-1, None', Some', Row_of-Expression, end_of-Expression, more_of-Expression, Row_of-Expression-FormatString-1-2, end_of-Expression-FormatString-1-2, more_of-Expression-FormatString-1-2}
 
--- ---- the byte order mark
-
-taken_fewer : (s : Input) (t : SignificantToken) (rest : Input) → reading.accept kinds.ByteOrderMark s ≡ Some (t, rest) → identifiers rest.tokens ≤ identifiers s.tokens
-taken_fewer s t rest = accept_identifiers kinds.ByteOrderMark s (t, rest)
-
-module _ (s rest : Input) where
-  pub mark_fewer : (o : Option TableEntry) → IfSome o (λ entry. reading.accept kinds.ByteOrderMark s ≡ Some (significant_of entry, rest)) → IfNone o (rest ≡ s) → identifiers rest.tokens ≤ identifiers s.tokens
-  mark_fewer None some none = omega (arith, ap (λ (x : Input). identifiers x.tokens) none)
-  mark_fewer (Some entry) some none = taken_fewer s (significant_of entry) rest some
-
--- ---- a whole file
-
-pub none_noted : (table : List TableEntry) → AreNotedIn table []
-none_noted table = record { all = λ k d h. absurd (omega arith) }
-
-module _ (expander : Answers) (ts : List SignificantToken) where
-  pub read_file : (tree : Tree) (rest : Input) → reader.items expander (behind_mark (reader.start expander ts)) ≡ Ok (tree, rest) → reader.file expander ts ≡ Ok (tree, rest.noted)
-  read_file tree rest h = file_is expander ts ∙ ap (with_noted expander) h
-
-  pub stopped_file : (stop : Stop) (left : Input) (old new : Numerator)
-      → StopsAt stop left (LinesWantNumber expander (behind_mark (reader.start expander ts)) old new) (reader.items expander (behind_mark (reader.start expander ts)))
-      → StopsAt stop left (WantsNumber expander ts old new) (reader.file expander ts)
-  stopped_file (stops.Refused r) left old new h = file_is expander ts ∙ ap (with_noted expander) h
-  stopped_file (stops.Literal refused) left old new h = file_is expander ts ∙ ap (with_noted expander) h
-  stopped_file stops.Memory left old new h = tt
-  stopped_file stops.Numbers left old new h = h
-
--- ---- faults
-
-abbrev FileRead : Type 0
-FileRead = Result (Tree × List (Noted Tok)) reading.Refusal
-
-ok_is_no_error : (e : reading.Refusal) (x : Tree × List (Noted Tok)) (found : FileRead) → found ≡ Err e → found ≡ Ok x → ⊥
-ok_is_no_error e x found h k = let both : ◌≡◌ {A = FileRead} (Err e) (Ok x) = sym h ∙ k in cc
-
--- the error at the next token is that of the refusal
-error_of : (r : Refusal) (left : Input) (tokens : List SignificantToken) (e : CompileError) → IsKindAt r e.kind e.token → IsAt tokens (front left.tokens) e.token → IsErrorOf tokens (refusal_at r left) e
-unfolding reading.refused
-error_of Unexpected left tokens e kind at = (kind, at)
-error_of TooDeep left tokens e kind at = (kind, at)
-
--- the error of a literal is that of its refusal
-literal_error : (tokens : List SignificantToken) (refused : LiteralRefusal) → IsErrorOf tokens (literal_refusal refused.error refused.glued) refused.error
-unfolding literal_refusal
-literal_error tokens refused = (kind_is_due refused.error.kind refused.is_literal, refl)
-
-pub unread : (expander : Answers) (tokens : List SignificantToken) (table : List TableEntry) (old new : Numerator) (left : Input) (stop : Stop) (fault : Fault)
-    → StopsAt stop left (WantsNumber expander tokens old new) (reader.file expander tokens) → IsGivenStop table stop → tokens ≡ map significant_of table → IsFaultOf table left stop fault → IsUnread expander tokens (IsInTable table) old new fault
-unread expander tokens table old new left (stops.Refused r) (faults.Compile e) h given all is =
-    let at : IsAt tokens (front left.tokens) e.token = subst (λ (ts : List SignificantToken). IsAt ts (front left.tokens) e.token) (sym all) is.2 in
-    record { refusal = refusal_at r left; read = h; error = error_of r left tokens e is.1 at; among = is.0 }
-unread expander tokens table old new left (stops.Refused r) faults.Memory h given all is = absurd is
-unread expander tokens table old new left (stops.Refused r) faults.Numbers h given all is = absurd is
-unread expander tokens table old new left (stops.Literal refused) (faults.Compile e) h given all is =
-    let P : CompileError → Type 0 = λ x. IsErrorOf tokens (literal_refusal refused.value.error refused.value.glued) x in
-    let Q : CompileError → Type 0 = λ x. IsInTable table x.token in
-    record { refusal = literal_refusal refused.value.error refused.value.glued; read = h; error = subst P (sym is) (literal_error tokens refused.value); among = subst Q (sym is) given }
-unread expander tokens table old new left (stops.Literal refused) faults.Memory h given all is = absurd is
-unread expander tokens table old new left (stops.Literal refused) faults.Numbers h given all is = absurd is
-unread expander tokens table old new left stops.Memory (faults.Compile e) h given all is = absurd is
-unread expander tokens table old new left stops.Memory faults.Memory h given all is = tt
-unread expander tokens table old new left stops.Memory faults.Numbers h given all is = absurd is
-unread expander tokens table old new left stops.Numbers (faults.Compile e) h given all is = absurd is
-unread expander tokens table old new left stops.Numbers faults.Memory h given all is = absurd is
-unread expander tokens table old new left stops.Numbers faults.Numbers h given all is = h
+ok_is_no_error : (e : model.Refusal) (x : Tree × List (Noted Tok)) (found : Result (Tree × List (Noted Tok)) model.Refusal) → found ≡ Err e → found ≡ Ok x → ⊥
+ok_is_no_error e x found h k = let both : ◌≡◌ {A = Result (Tree × List (Noted Tok)) model.Refusal} (Err e) (Ok x) = sym h ∙ k in cc
 
 -- ---- the tokens of one lex
 
@@ -181,7 +107,7 @@ both false b h k = cc
 sound_table : (table : List TableEntry) → AreQuoted (map significant_of table) → AreFramed (map significant_of table) → list_all is_sound table ≡ true
 sound_table [] h k = refl
 sound_table (entry ∷ table) h k =
-    both (is_sound entry) (list_all is_sound table) (delimited entry.0.now.kind (lexeme_of entry.0.now) h.0 h.1 k.0 k.1) (sound_table table h.2 k.3)
+    both (is_sound entry) (list_all is_sound table) (delimited entry.token.now.kind (lexeme_of entry.token.now) h.0 h.1 k.0 k.1) (sound_table table h.2 k.3)
 
 pub sound_lex : (tokens : List Token) (table : List TableEntry) → IsOneLex tokens → map significant_of table ≡ significant_tokens (map tok_of tokens) → IsTrue (list_all is_sound table)
 sound_lex tokens table l is =
@@ -192,8 +118,8 @@ sound_lex tokens table l is =
 
 -- ---- what was given
 
-in_tokens : (tokens : List Token) (table : List TableEntry) → All (λ entry. Contains tokens entry.0.now) table → (t : Token) → IsInTable table t → Contains tokens t
-in_tokens tokens table all t h = All-contains (λ (entry : TableEntry). Contains tokens entry.0.now) table (record { ref_ptr = h.ref_ptr; now = t }, h.glued) all h.among
+in_tokens : (tokens : List Token) (table : List TableEntry) → All (λ entry. Contains tokens entry.token.now) table → (t : Token) → IsInTable table t → Contains tokens t
+in_tokens tokens table all t h = All-contains (λ (entry : TableEntry). Contains tokens entry.token.now) table (record { token = record { ref_ptr = h.ref_ptr; now = t }; glued = h.glued }) all h.among
 
 module _ (expander : Answers) (P Q : Token → Type 0) (weaker : (t : Token) → P t → Q t) where
   mutual
@@ -385,28 +311,28 @@ cooks_of expander P file_depth import_offsets (i ∷ items) all =
 
 -- ---- what is read derives
 
-pub given_tokens : (expander : Answers) (tokens : List Token) (table : List TableEntry) (file_depth : ℕ) (import_offsets : List ℕ) (items : List Item) → All (λ entry. Contains tokens entry.0.now) table → All (IsGivenItem expander (IsInTable table) file_depth import_offsets) items
+pub given_tokens : (expander : Answers) (tokens : List Token) (table : List TableEntry) (file_depth : ℕ) (import_offsets : List ℕ) (items : List Item) → All (λ entry. Contains tokens entry.token.now) table → All (IsGivenItem expander (IsInTable table) file_depth import_offsets) items
     → All (IsGivenItem expander (Contains tokens) file_depth import_offsets) items
 given_tokens expander tokens table file_depth import_offsets items all =
     All-weaker (IsGivenItem expander (IsInTable table) file_depth import_offsets) (IsGivenItem expander (Contains tokens) file_depth import_offsets)
     (given_weaker expander (IsInTable table) (Contains tokens) (in_tokens tokens table all) file_depth import_offsets) items
 
 module _ (expander : Answers) (current : VersionNumbers) (tokens : List Token) (table : List TableEntry) (old new : Numerator) (is : map significant_of table ≡ significant_tokens (map tok_of tokens)) where
-  found : (tree : Tree) (features : List (Noted Tok)) → FileDerives expander current (significant_tokens (map tok_of tokens)) tree features → reader.file expander (map significant_of table) ≡ Ok (tree, features)
-  found tree features d = ap (reader.file expander) is ∙ complete expander current (significant_tokens (map tok_of tokens)) tree features d
+  found : (tree : Tree) (features : List (Noted Tok)) → FileDerives expander current (significant_tokens (map tok_of tokens)) tree features → model.file expander (map significant_of table) ≡ Ok (tree, features)
+  found tree features d = ap (model.file expander) is ∙ complete expander current (significant_tokens (map tok_of tokens)) tree features d
 
-  pub derives_of : (tree : Tree) (features : List (Noted Tok)) → reader.file expander (map significant_of table) ≡ Ok (tree, features) → FileDerives expander current (significant_tokens (map tok_of tokens)) tree features
-  derives_of tree features h = sound expander current (significant_tokens (map tok_of tokens)) tree features (sym (ap (reader.file expander) is) ∙ h)
+  pub derives_of : (tree : Tree) (features : List (Noted Tok)) → model.file expander (map significant_of table) ≡ Ok (tree, features) → FileDerives expander current (significant_tokens (map tok_of tokens)) tree features
+  derives_of tree features h = sound expander current (significant_tokens (map tok_of tokens)) tree features (sym (ap (model.file expander) is) ∙ h)
 
-  pub unparsed_of : All (λ entry. Contains tokens entry.0.now) table → (fault : Fault)
+  pub unparsed_of : All (λ entry. Contains tokens entry.token.now) table → (fault : Fault)
       → IsUnread expander (map significant_of table) (IsInTable table) old new fault
       → IsUnparsed expander current (map tok_of tokens) (Contains tokens) old new fault
   unparsed_of all (faults.Compile e) h =
       let ts = significant_tokens (map tok_of tokens) in
-      let read : reader.file expander ts ≡ Err h.refusal = sym (ap (reader.file expander) is) ∙ h.read in
+      let read : model.file expander ts ≡ Err h.refusal = sym (ap (model.file expander) is) ∙ h.read in
       let error : IsErrorOf ts h.refusal e = subst (λ (us : List SignificantToken). IsErrorOf us h.refusal e) is h.error in
       record {
-        derives_none = λ tree features d. ok_is_no_error h.refusal (tree, features) (reader.file expander (map significant_of table)) h.read (found tree features d);
+        derives_none = λ tree features d. ok_is_no_error h.refusal (tree, features) (model.file expander (map significant_of table)) h.read (found tree features d);
         among = in_tokens tokens table all e.token h.among;
         not_internal = refusal_not_internal ts h.refusal e error;
         refused = record {
@@ -420,11 +346,9 @@ module _ (expander : Answers) (current : VersionNumbers) (tokens : List Token) (
   unparsed_of all faults.Memory h = tt
   unparsed_of all faults.Numbers h =
       let P : List SignificantToken → Type 0 = λ ts. WantsNumber expander ts old new in
-      let wants = subst P is h in
-      let ts = significant_tokens (map tok_of tokens) in
-      (wants, λ tree features d s. never_suffice expander ts old new (tree, features) wants (complete expander current ts tree features d) s)
+      (subst P is h.0, λ tree features d s. h.1 tree features (found tree features d) s)
 
-  pub parsed_of : All (λ entry. Contains tokens entry.0.now) table → (file_depth : ℕ) (import_offsets : List ℕ) (ast : Ast)
+  pub parsed_of : All (λ entry. Contains tokens entry.token.now) table → (file_depth : ℕ) (import_offsets : List ℕ) (ast : Ast)
       → IsRead expander table file_depth import_offsets (map significant_of table) old new (ast.items.items, ast.list_features.items) → ast.unstable_features.keys ≡ []
       → IsParsed expander current (map tok_of tokens) (Contains tokens) file_depth import_offsets old new ast
   parsed_of all file_depth import_offsets ast h stable =

@@ -1,185 +1,141 @@
 -- Reading the parts of a format string, as a loop does.
-use Rattle.std.proofs.Common.{All, arith, suc, ◌≡◌, ℕ, Bool, true, false, cond, List, [], ◌∷◌, ◌++◌, Some, None, Result, Ok, Err, refl, sym, ap, ◌∙◌}
-use Rattle.justfile_base.specs.declared.format_string_part.FormatStringPart.TheVariants as part_kinds
-use Rattle.justfile_base.specs.declared.string_kind.StringKind.{StringKind}
-use Rattle.justfile_base.specs.declared.token.Token.{Token}
+use Rattle.std.proofs.Common.{◌≡◌, ℕ, Bool, true, false, List, [], ◌∷◌, ◌++◌, Ok, Err, refl, sym, ap, ◌∙◌}
 use Rattle.justfile_base.specs.declared.string_literal.StringLiteral.{StringLiteral}
-use Rattle.justfile_base.specs.declared.token_kind.TokenKind.TheVariants as kinds
-use Rattle.justfile_model.specs.ExpressionReader as r
-use Rattle.justfile_model.specs.ExpressionReader.{ReadExpr, parts_rule, read, with_text}
-use Rattle.justfile_model.specs.Literals as literal
-use Rattle.justfile_model.specs.Literals.{Answers, LiteralFault, cooked_text}
-use Rattle.justfile_model.specs.Reading.{◌>>=◌, Input, Read, Refusal, Taken, accept, choose, expect}
-use Rattle.justfile_model.specs.SignificantTokens.{SignificantToken}
-use Rattle.justfile_model.specs.Tok.{Tok}
+use Rattle.justfile_base.specs.declared.token.Token.{Token}
 use Rattle.justfile_model.specs.Tree as tree
 use Rattle.justfile_model.specs.Tree.{Expr, Parts}
-use Rattle.justfile_model.proofs.ExpressionReading.{parts_is}
-use Rattle.justfile_parse.specs.Given.{AreGivenBehind, IsGivenExpression, IsGivenPart}
-use Rattle.justfile_parse.specs.Reading.{format_rest, pair_rule, part_rule}
-use Rattle.justfile_tree.specs.Expression.{expr_of, part_tok, parts_of, format_tree}
 use Rattle.justfile_tree.specs.declared.expression.Expression.{Expression}
+use Rattle.justfile_model.specs.ExpressionReader as expressions
+use Rattle.justfile_model.specs.Reading.{◌>>=◌}
+use Rattle.justfile_parse.specs.Reader.{At, Read, ReadExpr, Refusal, State, format_parts, leaves, pair, part, read}
+use Rattle.justfile_parse.specs.Reading.{StopsAt, literal_refusal, refusal_at}
+use Rattle.justfile_parse.specs.Tree.{Leaf, Literal, format_tree, literal_of, parts_of, tree_of}
+use Rattle.justfile_model.specs.declared.level.Level.TheVariants as levels
+use Rattle.justfile_parse.specs.declared.stop.Stop.{Stop}
+use Rattle.justfile_parse.specs.declared.stop.Stop.TheVariants as stops
+use Rattle.justfile_model.proofs.ExpressionReading.{parts_is}
+use Rattle.justfile_parse.proofs.Rules.{then_made}
 
+-- an expression, and the parts after it
 abbrev Pair : Type 0
-Pair = Expr Tok Tok × Parts Tok Tok
+Pair = Expr Leaf Token × Parts Leaf Token
+
+abbrev leaf_of : StringLiteral → Leaf
+leaf_of l = Literal (literal_of l)
 
 abbrev joined : List (Expression × StringLiteral) → Pair → Pair
 joined [] x = x
-joined (p ∷ ps) x = (expr_of p.0, tree.Continue (part_tok p.1) (joined ps x).0 (joined ps x).1)
+joined (p ∷ ps) x = (tree_of p.0, tree.Continue (leaf_of p.1) (joined ps x).0 (joined ps x).1)
 
-abbrev paired : Expr Tok Tok → Parts Tok Tok × Input → Read Pair
-paired e ps = Ok ((e, ps.0), ps.1)
+abbrev begun : Pair → Leaf → Expr Leaf Token
+begun x leaf = tree.FormatString leaf x.0 x.1
 
-abbrev continued : Tok → Pair × Input → Read (Parts Tok Tok)
-continued token x = Ok (tree.Continue token x.0.0 x.0.1, x.1)
+abbrev paired : Expr Leaf Token → Parts Leaf Token → Pair
+paired e ps = (e, ps)
 
-abbrev started : Tok → Pair × Input → ReadExpr
-started start x = Ok (tree.FormatString start x.0.0 x.0.1, x.1)
+abbrev joining : Expr Leaf Token → Leaf → Pair → Pair
+joining e leaf x = (e, tree.Continue leaf x.0 x.1)
 
-abbrev joining : Expr Tok Tok → Tok → Pair × Input → Read Pair
-joining e token x = Ok ((e, tree.Continue token x.0.0 x.0.1), x.1)
+abbrev continued : Leaf → Pair → Parts Leaf Token
+continued leaf x = tree.Continue leaf x.0 x.1
 
-abbrev flagged : Expr Tok Tok → (Tok × Bool) × Input → Read (Expr Tok Tok × Tok × Bool)
-flagged e p = Ok ((e, p.0.0, p.0.1), p.1)
-
--- an expression and the parts behind it
-unfoldable pub pair : Answers → (start : List ℕ) → ℕ → Input → Read Pair
-pair expander start d s = do
-  e ← read expander (r.Expression false d s)
-  ps ← read expander (r.FormatParts start d e.1)
-  Ok ((e.0, ps.0), ps.1)
+unfoldable pub pairs : (start : List ℕ) → State → Read Pair
+pairs start s = read (At levels.Expression false s) >>= λ e. read (expressions.FormatParts start e.1) >>= then_made (paired e.0)
 
 -- what was read before, and what is still read
-abbrev pub with_front : (start : Tok) → List (Expression × StringLiteral) → Read Pair → ReadExpr
-with_front start ps found = found >>= λ x. Ok (tree.FormatString start (joined ps x.0).0 (joined ps x.0).1, x.1)
+abbrev pub with_front : List (Expression × StringLiteral) → Read Pair → Read (Leaf → Expr Leaf Token)
+with_front ps found = found >>= then_made (λ x. begun (joined ps x))
 
-step : (o : Taken) (end : Read SignificantToken) (last more : SignificantToken × Input → Result (List ℕ) LiteralFault) (K : Tok → Input → Read (Parts Tok Tok))
-    → choose {A = Read (Parts Tok Tok)} o (end >>= λ x. with_text (tree.Last x.0.tok) x (last x)) (λ x. with_text x.0 x (more x) >>= λ token. K token.0.tok token.1)
-    ≡ (choose {A = Read (Tok × Bool)} o (end >>= λ x. with_text (x.0.tok, true) x (last x)) (λ x. with_text (x.0.tok, false) x (more x)) >>= λ p. cond p.0.1 (Ok (tree.Last p.0.0, p.1)) (K p.0.0 p.1))
-step None (Err e) last more K = refl
-step None (Ok x) last more K = by_text (last x)
-  where
-    by_text : (found : Result (List ℕ) LiteralFault) → with_text {A = Parts Tok Tok} (tree.Last x.0.tok) x found ≡ (with_text {A = Tok × Bool} (x.0.tok, true) x found >>= λ p. cond p.0.1 (Ok (tree.Last p.0.0, p.1)) (K p.0.0 p.1))
-    by_text (Ok text) = refl
-    by_text (Err fault) = refl
-step (Some x) end last more K = by_text (more x)
-  where
-    by_text : (found : Result (List ℕ) LiteralFault)
-        → (with_text {A = SignificantToken} x.0 x found >>= λ token. K token.0.tok token.1) ≡ (with_text {A = Tok × Bool} (x.0.tok, false) x found >>= λ p. cond p.0.1 (Ok (tree.Last p.0.0, p.1)) (K p.0.0 p.1))
-    by_text (Ok text) = refl
-    by_text (Err fault) = refl
-
-module _ (expander : Answers) (start : Tok) (d : ℕ) where
-  -- the parts behind this one
-  abbrev behind : Tok → Input → Read (Parts Tok Tok)
-  behind token s = do
-    e ← read expander (r.Expression false d s)
-    ps ← read expander (r.FormatParts start.lexeme d e.1)
-    Ok (tree.Continue token e.0 ps.0, ps.1)
-
-  parts_by : (s : Input) → read expander (r.FormatParts start.lexeme d s) ≡ (part_rule expander start.lexeme s >>= λ p. cond p.0.1 (Ok (tree.Last p.0.0, p.1)) (behind p.0.0 p.1))
-  unfolding parts_rule part_rule
-  parts_by s =
-      parts_is expander start.lexeme d s
-      ∙ step (accept kinds.FormatStringContinue s) (expect kinds.FormatStringEnd s) (λ x. cooked_text expander (literal.End start.lexeme x.0.tok.lexeme)) (λ x. cooked_text expander (literal.Continue start.lexeme x.0.tok.lexeme)) behind
-
-  behind_pair : (token : Tok) (s : Input) → behind token s ≡ (pair expander start.lexeme d s >>= continued token)
-  unfolding pair
-  behind_pair token s = by_first (read expander (r.Expression false d s))
-    where
-      by_rest : (e : Expr Tok Tok) (found : Read (Parts Tok Tok)) → (found >>= λ ps. Ok (tree.Continue token e ps.0, ps.1)) ≡ ((found >>= paired e) >>= continued token)
-      by_rest e (Ok ps) = refl
-      by_rest e (Err f) = refl
-
-      by_first : (found : ReadExpr)
-          → (found >>= λ e. read expander (r.FormatParts start.lexeme d e.1) >>= λ ps. Ok (tree.Continue token e.0 ps.0, ps.1))
-          ≡ ((found >>= λ e. read expander (r.FormatParts start.lexeme d e.1) >>= paired e.0) >>= continued token)
-      by_first (Ok e) = by_rest e.0 (read expander (r.FormatParts start.lexeme d e.1))
-      by_first (Err f) = refl
-
+module _ (start : List ℕ) where
   -- nothing is read yet
-  pub begins : (s : Input) → with_front start [] (pair expander start.lexeme d s) ≡ format_rest expander start d s
-  unfolding pair format_rest
-  begins s = by_first (read expander (r.Expression false d s))
+  pub begins : (s : State) → with_front [] (pairs start s) ≡ format_parts start s
+  unfolding pairs format_parts
+  begins s = by_first (read (At levels.Expression false s))
     where
-      by_rest : (e : Expr Tok Tok) (found : Read (Parts Tok Tok)) → ((found >>= paired e) >>= started start) ≡ (found >>= λ ps. Ok (tree.FormatString start e ps.0, ps.1))
+      by_rest : (e : Expr Leaf Token) (found : Read (Parts Leaf Token)) → ((found >>= then_made (paired e)) >>= then_made begun) ≡ (found >>= then_made (λ ps leaf. tree.FormatString leaf e ps))
       by_rest e (Ok ps) = refl
       by_rest e (Err f) = refl
 
       by_first : (found : ReadExpr)
-          → ((found >>= λ e. read expander (r.FormatParts start.lexeme d e.1) >>= paired e.0) >>= started start)
-          ≡ (found >>= λ e. read expander (r.FormatParts start.lexeme d e.1) >>= λ ps. Ok (tree.FormatString start e.0 ps.0, ps.1))
-      by_first (Ok e) = by_rest e.0 (read expander (r.FormatParts start.lexeme d e.1))
+          → ((found >>= λ e. read (expressions.FormatParts start e.1) >>= then_made (paired e.0)) >>= then_made begun)
+          ≡ (found >>= λ e. read (expressions.FormatParts start e.1) >>= then_made (λ ps leaf. tree.FormatString leaf e.0 ps))
+      by_first (Ok e) = by_rest e.0 (read (expressions.FormatParts start e.1))
       by_first (Err f) = refl
 
-  joined_push : (ps : List (Expression × StringLiteral)) (e : Expression) (l : StringLiteral) (x : Pair) → joined (ps ++ (e, l) ∷ []) x ≡ joined ps (expr_of e, tree.Continue (part_tok l) x.0 x.1)
+  joined_push : (ps : List (Expression × StringLiteral)) (e : Expression) (l : StringLiteral) (x : Pair) → joined (ps ++ (e, l) ∷ []) x ≡ joined ps (tree_of e, tree.Continue (leaf_of l) x.0 x.1)
   joined_push [] e l x = refl
-  joined_push (p ∷ ps) e l x = ap (λ (y : Pair). (expr_of p.0, tree.Continue (part_tok p.1) y.0 y.1)) (joined_push ps e l x)
+  joined_push (p ∷ ps) e l x = ap (joining (tree_of p.0) (leaf_of p.1)) (joined_push ps e l x)
 
-  joined_parts : (ps : List (Expression × StringLiteral)) (e : Expression) (l : StringLiteral) (token : Tok)
-      → tree.Continue token (joined ps (expr_of e, tree.Last (part_tok l))).0 (joined ps (expr_of e, tree.Last (part_tok l))).1 ≡ parts_of token (ps ++ (e, l) ∷ [])
-  joined_parts [] e l token = refl
-  joined_parts (p ∷ ps) e l token = ap (tree.Continue token (expr_of p.0)) (joined_parts ps e l (part_tok p.1))
+  joined_parts : (ps : List (Expression × StringLiteral)) (e : Expression) (l : StringLiteral) (leaf : Leaf) → continued leaf (joined ps (tree_of e, tree.Last (leaf_of l))) ≡ parts_of leaf (ps ++ (e, l) ∷ [])
+  joined_parts [] e l leaf = refl
+  joined_parts (p ∷ ps) e l leaf = ap (tree.Continue leaf (tree_of p.0)) (joined_parts ps e l (leaf_of p.1))
 
-  joined_last : (ps : List (Expression × StringLiteral)) (e : Expression) (l : StringLiteral)
-      → tree.FormatString start (joined ps (expr_of e, tree.Last (part_tok l))).0 (joined ps (expr_of e, tree.Last (part_tok l))).1 ≡ format_tree start (ps ++ (e, l) ∷ [])
+  joined_last : (ps : List (Expression × StringLiteral)) (e : Expression) (l : StringLiteral) → ◌≡◌ {A = Leaf → Expr Leaf Token} (begun (joined ps (tree_of e, tree.Last (leaf_of l)))) (format_tree (ps ++ (e, l) ∷ []))
   joined_last [] e l = refl
-  joined_last (p ∷ ps) e l = ap (tree.FormatString start (expr_of p.0)) (joined_parts ps e l (part_tok p.1))
+  joined_last (p ∷ ps) e l = ap {B = Leaf → Expr Leaf Token} (λ (x : Parts Leaf Token) (leaf : Leaf). tree.FormatString leaf (tree_of p.0) x) (joined_parts ps e l (leaf_of p.1))
 
-  regroup : (ps : List (Expression × StringLiteral)) (e : Expression) (l : StringLiteral) (found : Read Pair)
-      → with_front start (ps ++ (e, l) ∷ []) found ≡ with_front start ps (found >>= joining (expr_of e) (part_tok l))
-  regroup ps e l (Ok x) = ap (λ (y : Pair). Ok (tree.FormatString start y.0 y.1, x.1)) (joined_push ps e l x.0)
+  regroup : (ps : List (Expression × StringLiteral)) (e : Expression) (l : StringLiteral) (found : Read Pair) → with_front (ps ++ (e, l) ∷ []) found ≡ with_front ps (found >>= then_made (joining (tree_of e) (leaf_of l)))
+  regroup ps e l (Ok x) = ap (λ (y : Pair). Ok (begun y, x.1)) (joined_push ps e l x.0)
   regroup ps e l (Err f) = refl
 
-  pair_behind : (e : Expr Tok Tok) (token : Tok) (found : Read Pair)
-      → ((found >>= continued token) >>= λ ps. Ok ((e, ps.0), ps.1)) ≡ (found >>= joining e token)
-  pair_behind e token (Ok x) = refl
-  pair_behind e token (Err f) = refl
+  -- after an expression and the part after it
+  abbrev by_last : Expr Leaf Token → Leaf → Bool → State → Read Pair
+  by_last e leaf true s = Ok ((e, tree.Last leaf), s)
+  by_last e leaf false s = pairs start s >>= then_made (joining e leaf)
 
-  abbrev by_pair : (Expr Tok Tok × Tok × Bool) × Input → Read Pair
-  by_pair x = cond x.0.2 (Ok ((x.0.0, tree.Last x.0.1), x.1)) (behind x.0.1 x.1 >>= paired x.0.0)
+  abbrev by_pair : (Expr Leaf Token × Leaf × Bool) × State → Read Pair
+  by_pair x = by_last x.0.0 x.0.1 x.0.2 x.1
 
-  pair_by : (s : Input) → pair expander start.lexeme d s ≡ (pair_rule expander start.lexeme d s >>= by_pair)
-  unfolding pair pair_rule
-  pair_by s = by_first (read expander (r.Expression false d s))
+  abbrev flagged : Expr Leaf Token → (Leaf × Bool) × State → Read (Expr Leaf Token × Leaf × Bool)
+  flagged e p = Ok ((e, p.0.0, p.0.1), p.1)
+
+  rest_by : (e : Expr Leaf Token) (leaf : Leaf) (is_last : Bool) (s : State) → (expressions.parts leaves read start leaf is_last s >>= then_made (paired e)) ≡ by_last e leaf is_last s
+  unfolding pairs
+  rest_by e leaf true s = refl
+  rest_by e leaf false s = by_first (read (At levels.Expression false s))
     where
-      by_part : (e : Expr Tok Tok) (found : Read (Tok × Bool))
-          → ((found >>= λ p. cond p.0.1 (Ok (tree.Last p.0.0, p.1)) (behind p.0.0 p.1)) >>= paired e) ≡ ((found >>= flagged e) >>= by_pair)
-      by_part e (Err f) = refl
-      by_part e (Ok p) = by_flag p.0.1
-        where
-          by_flag : (b : Bool) → (cond {A = Read (Parts Tok Tok)} b (Ok (tree.Last p.0.0, p.1)) (behind p.0.0 p.1) >>= paired e) ≡ cond b (Ok ((e, tree.Last p.0.0), p.1)) (behind p.0.0 p.1 >>= paired e)
-          by_flag true = refl
-          by_flag false = refl
+      by_rest : (x : Expr Leaf Token) (found : Read (Parts Leaf Token)) → ((found >>= then_made (tree.Continue leaf x)) >>= then_made (paired e)) ≡ ((found >>= then_made (paired x)) >>= then_made (joining e leaf))
+      by_rest x (Ok ps) = refl
+      by_rest x (Err f) = refl
 
       by_first : (found : ReadExpr)
-          → (found >>= λ e. read expander (r.FormatParts start.lexeme d e.1) >>= paired e.0) ≡ ((found >>= λ e. part_rule expander start.lexeme e.1 >>= flagged e.0) >>= by_pair)
-      by_first (Ok e) = ap (λ (f : Read (Parts Tok Tok)). f >>= paired e.0) (parts_by e.1) ∙ by_part e.0 (part_rule expander start.lexeme e.1)
+          → ((found >>= λ x. read (expressions.FormatParts start x.1) >>= then_made (tree.Continue leaf x.0)) >>= then_made (paired e))
+          ≡ ((found >>= λ x. read (expressions.FormatParts start x.1) >>= then_made (paired x.0)) >>= then_made (joining e leaf))
+      by_first (Ok x) = by_rest x.0 (read (expressions.FormatParts start x.1))
       by_first (Err f) = refl
 
-  module _ (s : Input) (ps : List (Expression × StringLiteral)) where
-    pub goes_on : (e : Expression) (l : StringLiteral) (rest : Input) → pair_rule expander start.lexeme d s ≡ Ok ((expr_of e, part_tok l, false), rest)
-        → with_front start (ps ++ (e, l) ∷ []) (pair expander start.lexeme d rest) ≡ with_front start ps (pair expander start.lexeme d s)
+  pair_by : (s : State) → pairs start s ≡ (pair start s >>= by_pair)
+  unfolding pairs pair expressions.parts_rule
+  pair_by s = by_first (read (At levels.Expression false s))
+    where
+      by_part : (e : Expr Leaf Token) (found : Read (Leaf × Bool)) → ((found >>= λ p. expressions.parts leaves read start p.0.0 p.0.1 p.1) >>= then_made (paired e)) ≡ ((found >>= flagged e) >>= by_pair)
+      by_part e (Err f) = refl
+      by_part e (Ok p) = rest_by e p.0.0 p.0.1 p.1
+
+      parts_by : (e : Expr Leaf Token) (t : State) → (read (expressions.FormatParts start t) >>= then_made (paired e)) ≡ ((part start t >>= λ p. expressions.parts leaves read start p.0.0 p.0.1 p.1) >>= then_made (paired e))
+      parts_by e t = ap (λ (f : Read (Parts Leaf Token)). f >>= then_made (paired e)) (parts_is leaves start t)
+
+      by_first : (found : ReadExpr)
+          → (found >>= λ e. read (expressions.FormatParts start e.1) >>= then_made (paired e.0)) ≡ ((found >>= λ e. part start e.1 >>= flagged e.0) >>= by_pair)
+      by_first (Ok e) = parts_by e.0 e.1 ∙ by_part e.0 (part start e.1)
+      by_first (Err f) = refl
+
+  module _ (s : State) (ps : List (Expression × StringLiteral)) where
+    pub goes_on : (e : Expression) (l : StringLiteral) (rest : State) → pair start s ≡ Ok ((tree_of e, leaf_of l, false), rest)
+        → with_front (ps ++ (e, l) ∷ []) (pairs start rest) ≡ with_front ps (pairs start s)
     goes_on e l rest h =
-        let two : pair expander start.lexeme d s ≡ (pair expander start.lexeme d rest >>= joining (expr_of e) (part_tok l)) =
-        pair_by s ∙ rw h (ap (λ (f : Read (Parts Tok Tok)). f >>= paired (expr_of e)) (behind_pair (part_tok l) rest) ∙ pair_behind (expr_of e) (part_tok l) (pair expander start.lexeme d rest)) in
-        regroup ps e l (pair expander start.lexeme d rest) ∙ sym (ap (with_front start ps) two)
+        let one : pairs start s ≡ (pairs start rest >>= then_made (joining (tree_of e) (leaf_of l))) = rw (pair_by s, h) refl in
+        regroup ps e l (pairs start rest) ∙ sym (ap (with_front ps) one)
 
-    pub ends : (e : Expression) (l : StringLiteral) (rest : Input) → pair_rule expander start.lexeme d s ≡ Ok ((expr_of e, part_tok l, true), rest)
-        → with_front start ps (pair expander start.lexeme d s) ≡ Ok (format_tree start (ps ++ (e, l) ∷ []), rest)
-    ends e l rest h = rw (pair_by s, h) (ap (λ (t : Expr Tok Tok). Ok (t, rest)) (joined_last ps e l))
+    pub ends : (e : Expression) (l : StringLiteral) (rest : State) → pair start s ≡ Ok ((tree_of e, leaf_of l, true), rest) → with_front ps (pairs start s) ≡ Ok (format_tree (ps ++ (e, l) ∷ []), rest)
+    ends e l rest h = rw (pair_by s, h) (ap (λ (t : Leaf → Expr Leaf Token). Ok (t, rest)) (joined_last ps e l))
 
-    pub fails : (f : Refusal) → pair_rule expander start.lexeme d s ≡ Err f → with_front start ps (pair expander start.lexeme d s) ≡ Err f
+    pub fails : (f : Refusal) → pair start s ≡ Err f → with_front ps (pairs start s) ≡ Err f
     fails f h = rw (pair_by s, h) refl
 
--- ---- given
-
--- an expression and the part behind it, which is not the last
-abbrev pub IsGivenPair : Answers → (Token → Type 0) → StringKind → Expression × StringLiteral → Type 0
-IsGivenPair expander IsToken kind x = IsGivenExpression expander IsToken x.0 × IsGivenPart IsToken kind part_kinds.Continue x.1
-
-pub given_last : (expander : Answers) (IsToken : Token → Type 0) (kind : StringKind) (xs : List (Expression × StringLiteral)) (e : Expression) (l : StringLiteral) → All (IsGivenPair expander IsToken kind) xs → IsGivenExpression expander IsToken e → IsGivenPart IsToken kind part_kinds.End l
-    → AreGivenBehind expander IsToken kind (xs ++ (e, l) ∷ [])
-given_last expander IsToken kind [] e l h one last = (one, last)
-given_last expander IsToken kind (x ∷ []) e l h one last = ((h 0 x (omega arith)).0, (h 0 x (omega arith)).1, (one, last))
-given_last expander IsToken kind (x ∷ y ∷ xs) e l h one last = ((h 0 x (omega arith)).0, (h 0 x (omega arith)).1, given_last expander IsToken kind (y ∷ xs) e l (λ k d lt. h (suc k) d (omega (arith, lt))) one last)
+    -- where a pair stops, the format string does
+    pub stops_at : (stop : Stop) (left : State) (found : Read (Leaf → Expr Leaf Token)) → with_front ps (pairs start s) ≡ found → StopsAt stop left ⊥ (pair start s) → StopsAt stop left ⊥ found
+    stops_at (stops.Refused refusal) left found is h = sym is ∙ fails (refusal_at refusal left) h
+    stops_at (stops.Literal refused) left found is h = sym is ∙ fails (literal_refusal refused.value.error) h
+    stops_at stops.Memory left found is h = tt
+    stops_at stops.Numbers left found is h = absurd h

@@ -1,16 +1,16 @@
 -- Lines without the empty ones at the end.
 use Rattle.std.proofs.Common.{◌≡◌, ℕ, ◌-◌, List, [], ◌∷◌, ◌++◌, ◌+◌, length, get_or, map, Option, Some, None, refl, sym, ap, ◌∙◌, subst, arith}
-use Rattle.std.proofs.lemmas.List.{append-nil, append_assoc, length-append, map-append}
+use Rattle.std.proofs.lemmas.List.{append-nil, length-append, map-append}
 use Rattle.std.proofs.Math.Seq.{get_or-append_seam}
 use Rattle.std.proofs.lemmas.Option.{slice_get-get_or}
 use Rattle.std.specs.List.{slice_get}
 use Rattle.std.specs.Option.{option_to_list}
 use Rattle.std.specs.Prelude.{IsSomeAnd}
 use Rattle.justfile_file.specs.Line.{IsEmpty}
-use Rattle.justfile_file.specs.Item.{fragment_of, line_of}
+use Rattle.justfile_base.specs.declared.token.Token.{Token}
+use Rattle.justfile_parse.specs.Tree.{Leaf, fragment_tree, line_tree}
 use Rattle.justfile_file.specs.declared.fragment.Fragment.{Fragment}
 use Rattle.justfile_file.specs.declared.line.Line as lines
-use Rattle.justfile_model.specs.Tok.{Tok}
 use Rattle.justfile_model.specs.Tree as tree
 use Rattle.justfile_model.specs.Tree.{BodyLine, Line, before, trimmed}
 
@@ -33,46 +33,41 @@ module _ {A B C : Type 0} where
 
 -- the lines so far, of which empty ones at the end are left out
 pub record IsTrimmedTo (old new : List lines.Line) : Type 0 where
-  pub alike : trimmed (map line_of new) ≡ trimmed (map line_of old)
-  pub front : (left_out : List lines.Line) × (old ≡ new ++ left_out)
+  pub alike : trimmed (map line_tree new) ≡ trimmed (map line_tree old)
 
 pub trim_begins : (all : List lines.Line) → IsTrimmedTo all all
-trim_begins all = record { alike = refl; front = ([], sym (append-nil all)) }
+trim_begins all = record { alike = refl }
 
-empty_line : (l : lines.Line) → l.fragments.items ≡ [] → line_of l ≡ Line l.number []
-empty_line l e = ap (λ (fs : List Fragment). Line l.number (map fragment_of fs)) e
+empty_line : (l : lines.Line) → l.fragments.items ≡ [] → line_tree l ≡ Line l.number []
+empty_line l e = ap (λ (fs : List Fragment). Line l.number (map fragment_tree fs)) e
 
 pub trim_goes_on : (old now new : List lines.Line) (l : lines.Line) → IsTrimmedTo old now → now ≡ new ++ l ∷ [] → l.fragments.items ≡ [] → IsTrimmedTo old new
 trim_goes_on old now new l so_far is empty =
     record {
       alike =
-          sym (trimmed_empty (map line_of new) l.number)
-          ∙ ap (λ (k : BodyLine Tok Tok ℕ). trimmed (map line_of new ++ k ∷ [])) (sym (empty_line l empty))
-          ∙ ap trimmed (sym (ap (map line_of) is ∙ map-append line_of new (l ∷ [])))
+          sym (trimmed_empty (map line_tree new) l.number)
+          ∙ ap (λ (k : BodyLine Leaf Token ℕ). trimmed (map line_tree new ++ k ∷ [])) (sym (empty_line l empty))
+          ∙ ap trimmed (sym (ap (map line_tree) is ∙ map-append line_tree new (l ∷ [])))
           ∙ so_far.alike;
-      front = (
-        (l ∷ []) ++ so_far.front.0,
-        so_far.front.1 ∙ ap (λ (k : List lines.Line). k ++ so_far.front.0) is ∙ append_assoc new (l ∷ []) so_far.front.0,
-      );
     }
 
 -- the last line is not empty
-pub trim_ends : (old now front : List lines.Line) (l : lines.Line) → IsTrimmedTo old now → now ≡ front ++ l ∷ [] → (l.fragments.items ≡ [] → ⊥) → map line_of now ≡ trimmed (map line_of old)
+pub trim_ends : (old now front : List lines.Line) (l : lines.Line) → IsTrimmedTo old now → now ≡ front ++ l ∷ [] → (l.fragments.items ≡ [] → ⊥) → map line_tree now ≡ trimmed (map line_tree old)
 trim_ends old now front l so_far is some = kept l.fragments.items refl ∙ so_far.alike
   where
-    split : map line_of now ≡ map line_of front ++ line_of l ∷ []
-    split = ap (map line_of) is ∙ map-append line_of front (l ∷ [])
+    split : map line_tree now ≡ map line_tree front ++ line_tree l ∷ []
+    split = ap (map line_tree) is ∙ map-append line_tree front (l ∷ [])
 
-    kept : (fs : List Fragment) → l.fragments.items ≡ fs → map line_of now ≡ trimmed (map line_of now)
+    kept : (fs : List Fragment) → l.fragments.items ≡ fs → map line_tree now ≡ trimmed (map line_tree now)
     kept [] e = absurd (some e)
     kept (f ∷ fs) e =
-        let whole : map line_of now ≡ map line_of front ++ Line l.number (fragment_of f ∷ map fragment_of fs) ∷ []
-        = split ∙ ap (λ (gs : List Fragment). map line_of front ++ Line l.number (map fragment_of gs) ∷ []) e in
-        whole ∙ sym (ap trimmed whole ∙ trimmed_some (map line_of front) l.number (fragment_of f) (map fragment_of fs))
+        let whole : map line_tree now ≡ map line_tree front ++ Line l.number (fragment_tree f ∷ map fragment_tree fs) ∷ []
+        = split ∙ ap (λ (gs : List Fragment). map line_tree front ++ Line l.number (map fragment_tree gs) ∷ []) e in
+        whole ∙ sym (ap trimmed whole ∙ trimmed_some (map line_tree front) l.number (fragment_tree f) (map fragment_tree fs))
 
 -- no line is left
-pub trim_ends_empty : (old now : List lines.Line) → IsTrimmedTo old now → now ≡ [] → map line_of now ≡ trimmed (map line_of old)
-trim_ends_empty old now so_far none = ap (map line_of) none ∙ sym (ap (λ (l : List lines.Line). trimmed (map line_of l)) none) ∙ so_far.alike
+pub trim_ends_empty : (old now : List lines.Line) → IsTrimmedTo old now → now ≡ [] → map line_tree now ≡ trimmed (map line_tree old)
+trim_ends_empty old now so_far none = ap (map line_tree) none ∙ sym (ap (λ (l : List lines.Line). trimmed (map line_tree l)) none) ∙ so_far.alike
 
 -- ---- as the loop sees the last line
 
@@ -103,6 +98,6 @@ last_of : {X : Type 0} (x : X) (xs : List X) → (front : List X) × (l : X) × 
 last_of x [] = ([], x, refl)
 last_of x (y ∷ ys) = let more = last_of y ys in (x ∷ more.0, more.1, ap (λ (l : List _). x ∷ l) more.2)
 
-pub trim_done : (old now : List lines.Line) → IsTrimmedTo old now → (EndsEmpty now → ⊥) → map line_of now ≡ trimmed (map line_of old)
+pub trim_done : (old now : List lines.Line) → IsTrimmedTo old now → (EndsEmpty now → ⊥) → map line_tree now ≡ trimmed (map line_tree old)
 trim_done old [] so_far h = trim_ends_empty old [] so_far refl
 trim_done old (l ∷ ls) so_far h = let v = last_of l ls in trim_ends old (l ∷ ls) v.0 v.1 so_far v.2 (λ e. h (empty_last (l ∷ ls) v.0 v.1 v.2 e))

@@ -1,5 +1,5 @@
 -- With which delimiter a format string ends.
-use Rattle.std.specs.Prelude.{◌≡◌, ℕ, false, IsTrue, List, ◌∷◌, ◌++◌}
+use Rattle.std.specs.Prelude.{◌≡◌, ℕ, false, IsTrue, List, ◌∷◌, ◌++◌, map}
 use Rattle.std.specs.Coded.{Coded-set, coded_bool}
 use Rattle.justfile_base.specs.StringKind.{kind_of}
 use Rattle.justfile_base.specs.declared.format_string_part.FormatStringPart.TheVariants.{End}
@@ -12,18 +12,28 @@ use Rattle.justfile_model.specs.Features.{Noted}
 use Rattle.justfile_model.specs.SignificantTokens.{SignificantToken}
 use Rattle.justfile_model.specs.Tok.{Tok}
 use Rattle.justfile_model.specs.Tree.{Expr, Parts, Last, Continue, itself}
+use Rattle.justfile_parse.specs.Significant.{significant_of}
+use Rattle.justfile_parse.specs.Reader.{State}
 
 abbrev pub last_of : Parts Tok Tok → Tok
 last_of (Last token) = token
 last_of (Continue token e ps) = last_of ps
 
--- Of the parts that these tokens derive behind an expression, the last ends with the delimiter of this kind.
+-- Of the parts that these tokens derive after an expression, the last ends with the delimiter of this kind.
 unfoldable pub IsEnded : StringKind → ℕ → Tokens → Type 0
 IsEnded kind depth tokens = (ps : Parts Tok Tok) (features : List (Noted Tok)) (rest : Tokens) → grammar.FormatParts itself itself Limited depth ps features tokens rest → IsTrue (is_part kind End (last_of ps).lexeme)
 
 -- the same where the tokens begin with the expression
 unfoldable pub IsEndedBehind : StringKind → ℕ → Tokens → Type 0
 IsEndedBehind kind depth tokens = (e : Expr Tok Tok) (features : List (Noted Tok)) (rest : Tokens) → grammar.Expression itself itself Limited false depth e features tokens rest → IsEnded kind depth rest
+
+-- the same of the entries that are left to a reader
+unfoldable pub IsEndedAt : StringKind → State → Type 0
+IsEndedAt kind s = IsEnded kind s.depth (map significant_of s.left)
+
+-- and where they begin with the expression
+unfoldable pub IsEndedFrom : StringKind → State → Type 0
+IsEndedFrom kind s = IsEndedBehind kind s.depth (map significant_of s.left)
 
 -- each format string ends with the delimiter of its start
 unfoldable pub AreEnded : Tokens → Type 0

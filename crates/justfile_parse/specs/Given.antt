@@ -24,13 +24,13 @@ use Rattle.justfile_model.specs.Files.{NumbersFrom, bindings, recipes}
 use Rattle.justfile_model.specs.Literals.{Answers, Command, cooked_text, string_of}
 use Rattle.justfile_model.specs.declared.list_feature.ListFeature.{ListFeature}
 use Rattle.justfile_tree.specs.declared.expression.Expression.{Expression, And', Assert', Backtick, Call', Comparison', Concatenation', Conditional', FormatString', Group', Join', List', ListConcatenation', Not', Or', StringLiteral, Variable, Held-Expression-Assert-1, None', Some', Row_of-Expression, end_of-Expression, more_of-Expression, Row_of-Expression-FormatString-1-2, end_of-Expression-FormatString-1-2, more_of-Expression-FormatString-1-2}
-use Rattle.justfile_parse.specs.Significant.{TableEntry}
+use Rattle.justfile_parse.specs.declared.significant.TableEntry.{TableEntry}
 
 -- the table has an entry for the token, by a reference to it
 pub record IsInTable (table : List TableEntry) (token : Token) : Type 0 where
   pub ref_ptr : ℕ × ℕ
   pub glued : Bool
-  pub among : Contains table (record { ref_ptr = ref_ptr; now = token }, glued)
+  pub among : Contains table (record { token = record { ref_ptr = ref_ptr; now = token }; glued = glued })
 
 -- each feature was noted at a token of the table
 pub record AreNotedIn (table : List TableEntry) (features : List (ListFeature × Token)) : Type 0 where
@@ -53,12 +53,12 @@ pub record IsGivenPart (IsToken : Token → Type 0) (kind : StringKind) (part : 
   pub among : IsToken literal.token
   pub is : IsPartOf kind part literal.token literal
 
--- the part that a format string begins with, by what is behind it
+-- the part that a format string begins with, by what is after it
 abbrev pub first_part : {n : _} → Row_of-Expression-FormatString-1-2 n → FormatStringPart
 first_part end_of-Expression-FormatString-1-2 = parts.Single
 first_part (more_of-Expression-FormatString-1-2 e literal others) = parts.Start
 
--- the part behind an expression of a format string, by what is behind it
+-- the part after an expression of a format string, by what is after it
 abbrev pub later_part : {n : _} → Row_of-Expression-FormatString-1-2 n → FormatStringPart
 later_part end_of-Expression-FormatString-1-2 = parts.End
 later_part (more_of-Expression-FormatString-1-2 e literal others) = parts.Continue
@@ -93,13 +93,13 @@ module _ (expander : Answers) (IsToken : Token → Type 0) where
     AreGivenExpressions end_of-Expression = Unit {0}
     AreGivenExpressions (more_of-Expression e others) = IsGivenExpression e × AreGivenExpressions others
 
-    -- what stands behind the start of a format string of a kind
+    -- what stands after the start of a format string of a kind
     pub AreGivenParts : (kind : StringKind) → {n : _} → Row_of-Expression-FormatString-1-2 n → Type 0
     AreGivenParts kind end_of-Expression-FormatString-1-2 = Unit {0}
     AreGivenParts kind (more_of-Expression-FormatString-1-2 e literal others) =
         IsGivenExpression e × IsGivenPart IsToken kind (later_part others) literal × AreGivenParts kind others
 
-  -- expressions of a format string of a kind, each with the part behind it
+  -- expressions of a format string of a kind, each with the part after it
   abbrev pub AreGivenBehind : (kind : StringKind) → List (Expression × literals.StringLiteral) → Type 0
   AreGivenBehind kind [] = ⊥
   AreGivenBehind kind (x ∷ []) = IsGivenExpression x.0 × IsGivenPart IsToken kind parts.End x.1
@@ -110,7 +110,7 @@ module _ (expander : Answers) (IsToken : Token → Type 0) where
   IsGivenFormat start [] = IsGivenPart IsToken (kind_of (lexeme_of start.token)) parts.Single start
   IsGivenFormat start (x ∷ xs) = IsGivenPart IsToken (kind_of (lexeme_of start.token)) parts.Start start × AreGivenBehind (kind_of (lexeme_of start.token)) (x ∷ xs)
 
--- a part behind an expression, by whether it is the last
+-- a part after an expression, by whether it is the last
 abbrev pub part_by : (is_last : Bool) → FormatStringPart
 part_by true = parts.End
 part_by false = parts.Continue

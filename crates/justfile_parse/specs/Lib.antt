@@ -4,7 +4,9 @@ pub mod Formats
 pub mod Given
 pub mod Literal
 pub mod Parsing
+pub mod Reader
 pub mod Reading
 pub mod Significant
+pub mod Tree
 pub mod View
 pub mod WantsNumber

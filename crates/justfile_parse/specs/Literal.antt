@@ -6,7 +6,7 @@ use Rattle.justfile_base.specs.declared.format_string_part.FormatStringPart.TheV
 use Rattle.justfile_base.specs.declared.token_kind.TokenKind.{TokenKind}
 use Rattle.justfile_base.specs.declared.token_kind.TokenKind.TheVariants as kinds
 use Rattle.justfile_cook.specs.Literal.{is_quoted, is_part}
-use Rattle.justfile_parse.specs.Significant.{TableEntry}
+use Rattle.justfile_parse.specs.declared.significant.TableEntry.{TableEntry}
 
 -- a literal is quoted, and a part of a format string framed
 abbrev pub is_delimited : TokenKind → List ℕ → Bool
@@ -17,4 +17,4 @@ is_delimited kinds.FormatStringContinue lexeme = is_part (kind_of lexeme) parts.
 is_delimited _ lexeme = true
 
 abbrev pub is_sound : TableEntry → Bool
-is_sound entry = is_delimited entry.0.now.kind (lexeme_of entry.0.now)
+is_sound entry = is_delimited entry.token.now.kind (lexeme_of entry.token.now)

@@ -1,233 +1,162 @@
-ghost use Rattle.std.specs.Prelude.{◌≡◌, ◌<◌, ◌≤◌, All, List, true, false, IsTrue, OnOk, OnSome, IfErr, IfOk, IfSome, IfNone, Some, None};
+//! How expressions are read.
+ghost use Rattle.std.specs.Prelude.{◌≡◌, ◌<◌, IsTrue, true, false, map, OnErr, OnOk, OnSome, IfErr, IfOk, IfSome, IfNone, Some, None};
 ghost use Rattle.justfile_base.specs.StringKind.{kind_of};
 ghost use Rattle.justfile_base.specs.Token.{lexeme_of};
 ghost use Rattle.justfile_base.specs.declared.token_kind.TokenKind.TheVariants as kinds;
-ghost use Rattle.justfile_cook.specs.Literal.{answers_by};
-ghost use Rattle.justfile_model.specs.ExpressionReader as reader;
-ghost use Rattle.justfile_model.specs.ExpressionReader.{closed, read};
 ghost use Rattle.justfile_model.specs.Expressions.{ends_open};
-ghost use Rattle.justfile_model.specs.Literals.{Answers};
-ghost use Rattle.justfile_model.specs.Tok.{tok_of};
 ghost use Rattle.justfile_model.specs.Tree as tree;
-ghost use Rattle.justfile_parse.specs.Formats.{IsEnded, IsEndedBehind};
-ghost use Rattle.justfile_parse.specs.Given.{AreGivenBehind, IsGivenExpression, IsGivenFormat, IsGivenPart, IsInTable, part_by};
+ghost use Rattle.justfile_parse.specs.Formats.{IsEndedAt, IsEndedFrom};
 ghost use Rattle.justfile_parse.specs.Literal.{is_sound};
-ghost use Rattle.justfile_parse.specs.Reading.{Gives, IsGivenStop, element_rule, format_rest, format_string_rule, otherwise_rule, pair_rule, part_rule};
-ghost use Rattle.justfile_parse.specs.Significant.{TableEntry, significant_of};
+ghost use Rattle.justfile_model.specs.ExpressionReader.{closed, is_within, opened};
+ghost use Rattle.justfile_model.specs.Operators.{is_binary};
+ghost use Rattle.justfile_parse.specs.Reader as reader;
+ghost use Rattle.justfile_parse.specs.Reading.{Reads};
+ghost use Rattle.justfile_parse.specs.Tree.{Literal, Named, format_tree, literal_of, tree_of, trees_of};
+ghost use Rattle.justfile_model.specs.declared.level.Level.TheVariants as levels;
+ghost use Rattle.justfile_parse.specs.declared.stop.Refusal.TheVariants as refusals;
 ghost use Rattle.justfile_parse.specs.declared.stop.Stop.TheVariants as stops;
-ghost use Rattle.justfile_tree.specs.Expression.{expr_of, exprs_of, format_tree, part_tok};
 
 use crate::feature::function_feature;
-use crate::parser::{Entry, Parser, is_word};
+use crate::literal::kind_of;
+use crate::operator::{binary, feature_of, is_at, operand_level, operator_of, right_level};
+use crate::parser::{Parser, is_word};
+use crate::significant::TableEntry;
 use crate::stop::{Refusal, Stop};
-use justfile_base::{Expander, Name, StringLiteral, Token, TokenKind};
-use justfile_tree::{ConditionalOperator, Expression, ListFeature};
+use justfile_base::{Expander, FormatStringPart, Keyword, Name, StringLiteral, Token, TokenKind};
+use justfile_model::{Level, Operator};
+use justfile_tree::{Expression, ListFeature};
 
 /// The number of expressions that may be open.
 const RECURSION_LIMIT: usize = 256;
 
 impl<'run, 'src, X: Expander> Parser<'run, 'src, X> {
-    ghost use Rattle.justfile_parse.specs.View.{IsSameRun, input_of};
+    ghost use Rattle.justfile_parse.specs.View.{left, state_of};
 
     /// An expression, in a box of its own.
     pub(crate) fn parse_expression(&mut self) -> Result<Box<Expression<'src>>, Stop<'src>>
-        ensures same { OnOk result (IsSameRun self.old self.new) }
-        ensures tokens { self.new.tokens ≡ self.old.tokens }
-        ensures progress { OnOk result (self.old.next < self.new.next) }
-        ensures given { IfOk result (λ e. IsGivenExpression (answers_by X.answer self.old.expander.now) (IsInTable self.old.tokens.now) e.value) }
-        ensures stop { IfErr result (IsGivenStop self.old.tokens.now) }
-        ensures value { Gives (λ e. (expr_of e.value, input_of self.new)) result (input_of self.new) (read (answers_by X.answer self.old.expander.now) (reader.Expression false self.old.depth (input_of self.old))) }
+        ensures reads { Reads (λ e. tree_of e.value) result (state_of X.answer self.new)
+            (reader.read (reader.At levels.Expression false (state_of X.answer self.old))) }
+        ensures progress { OnOk result (left self.new < left self.old) }
     {
-        self.parse_expression_with_condition(false)
+        self.parse_level(Level::Expression, false)
     }
 
-    /// An expression, which is a condition or not: `||`, to the right.
+    /// An expression of a level, which is a condition or not. `if` begins a conditional where `/` may
+    /// stand.
     #[cycle(expression)]
-    #[tactic(auto, using(justfile_model::proofs::ExpressionReading::expression_is), unfolding(justfile_model::specs::ExpressionReader::expression_rule))]
-    fn parse_expression_with_condition(
+    #[tactic(auto, using(crate::proofs::Rules::level_is), unfolding(justfile_model::specs::ExpressionReader::conjunct_rule, crate::specs::Reader::leaves))]
+    fn parse_level(
         &mut self,
+        level: Level,
         condition: bool,
     ) -> Result<Box<Expression<'src>>, Stop<'src>>
-        ensures same { OnOk result (IsSameRun self.old self.new) }
-        ensures tokens { self.new.tokens ≡ self.old.tokens }
-        ensures progress { OnOk result (self.old.next < self.new.next) }
-        ensures given { IfOk result (λ e. IsGivenExpression (answers_by X.answer self.old.expander.now) (IsInTable self.old.tokens.now) e.value) }
-        ensures stop { IfErr result (IsGivenStop self.old.tokens.now) }
-        ensures value { Gives (λ e. (expr_of e.value, input_of self.new)) result (input_of self.new) (read (answers_by X.answer self.old.expander.now) (reader.Expression condition self.old.depth (input_of self.old))) }
+        ensures reads { Reads (λ e. tree_of e.value) result (state_of X.answer self.new)
+            (reader.read (reader.At level condition (state_of X.answer self.old))) }
+        ensures progress { OnOk result (left self.new < left self.old) }
     {
-        if self.depth == RECURSION_LIMIT {
-            return Err(Stop::Refused(Refusal::TooDeep));
-        }
-        self.depth += 1;
-        let lhs = self.parse_disjunct(condition)?;
-        if let Some((&operator, _)) = self.accept(TokenKind::BarBar) {
-            self.note(ListFeature::LogicalOperator, operator)?;
-            let rhs = self.parse_expression_with_condition(false)?;
-            self.depth -= 1;
-            self.node(Expression::Or { lhs, rhs })
-        } else {
-            self.depth -= 1;
-            Ok(lhs)
+        match level {
+            Level::Value => self.parse_value(),
+            Level::Conjunct => {
+                if let Some(word) = self.accept_keyword(Keyword::If) {
+                    return self.parse_conditional(word);
+                }
+                let Some(operator) = self.accept(TokenKind::Slash) else {
+                    return self.parse_binary(Level::Conjunct, condition);
+                };
+                let rhs = self.parse_level(Level::Conjunct, false)?;
+                self.node(Expression::Join {
+                    lhs: None,
+                    operator: *operator.token,
+                    rhs,
+                })
+            }
+            Level::Expression | Level::Disjunct | Level::Compared => {
+                self.parse_binary(level, condition)
+            }
         }
     }
 
-    /// `&&`, to the right.
+    /// An operator of a level, and what stands on either side of it, or the left side alone.
     #[cycle(expression)]
-    #[tactic(auto, using(justfile_model::proofs::ExpressionReading::disjunct_is), unfolding(justfile_model::specs::ExpressionReader::disjunct_rule))]
-    fn parse_disjunct(&mut self, condition: bool) -> Result<Box<Expression<'src>>, Stop<'src>>
-        ensures same { OnOk result (IsSameRun self.old self.new) }
-        ensures tokens { self.new.tokens ≡ self.old.tokens }
-        ensures progress { OnOk result (self.old.next < self.new.next) }
-        ensures given { IfOk result (λ e. IsGivenExpression (answers_by X.answer self.old.expander.now) (IsInTable self.old.tokens.now) e.value) }
-        ensures stop { IfErr result (IsGivenStop self.old.tokens.now) }
-        ensures value { Gives (λ e. (expr_of e.value, input_of self.new)) result (input_of self.new) (read (answers_by X.answer self.old.expander.now) (reader.Disjunct condition self.old.depth (input_of self.old))) }
-    {
-        let lhs = self.parse_comparison(condition)?;
-        if let Some((&operator, _)) = self.accept(TokenKind::AmpersandAmpersand) {
-            self.note(ListFeature::LogicalOperator, operator)?;
-            let rhs = self.parse_disjunct(false)?;
-            self.node(Expression::And { lhs, rhs })
-        } else {
-            Ok(lhs)
-        }
-    }
-
-    /// One comparison at most.
-    #[cycle(expression)]
-    #[tactic(auto, using(justfile_model::proofs::ExpressionReading::compared_is), unfolding(justfile_model::specs::ExpressionReader::compared_rule))]
-    fn parse_comparison(&mut self, condition: bool) -> Result<Box<Expression<'src>>, Stop<'src>>
-        ensures same { OnOk result (IsSameRun self.old self.new) }
-        ensures tokens { self.new.tokens ≡ self.old.tokens }
-        ensures progress { OnOk result (self.old.next < self.new.next) }
-        ensures given { IfOk result (λ e. IsGivenExpression (answers_by X.answer self.old.expander.now) (IsInTable self.old.tokens.now) e.value) }
-        ensures stop { IfErr result (IsGivenStop self.old.tokens.now) }
-        ensures value { Gives (λ e. (expr_of e.value, input_of self.new)) result (input_of self.new) (read (answers_by X.answer self.old.expander.now) (reader.Compared condition self.old.depth (input_of self.old))) }
-    {
-        let lhs = self.parse_conjunct()?;
-        if let Some((operator, (&token, _))) = self.accept_operator() {
-            self.note_comparison(condition, token)?;
-            let rhs = self.parse_conjunct()?;
-            self.node(Expression::Comparison {
-                lhs,
-                operator,
-                rhs,
-                token,
-            })
-        } else {
-            Ok(lhs)
-        }
-    }
-
-    /// `/`, `++` and `+`, to the right. `if` begins a conditional here.
-    #[cycle(expression)]
-    #[tactic(auto, using(justfile_model::proofs::ExpressionReading::conjunct_is), unfolding(justfile_model::specs::ExpressionReader::conjunct_rule))]
-    fn parse_conjunct(&mut self) -> Result<Box<Expression<'src>>, Stop<'src>>
-        ensures same { OnOk result (IsSameRun self.old self.new) }
-        ensures tokens { self.new.tokens ≡ self.old.tokens }
-        ensures progress { OnOk result (self.old.next < self.new.next) }
-        ensures given { IfOk result (λ e. IsGivenExpression (answers_by X.answer self.old.expander.now) (IsInTable self.old.tokens.now) e.value) }
-        ensures stop { IfErr result (IsGivenStop self.old.tokens.now) }
-        ensures value { Gives (λ e. (expr_of e.value, input_of self.new)) result (input_of self.new) (read (answers_by X.answer self.old.expander.now) (reader.Conjunct self.old.depth (input_of self.old))) }
-    {
-        if let Some(word) = self.accept_word("if") {
-            return self.parse_conditional(word);
-        }
-        if let Some((&operator, _)) = self.accept(TokenKind::Slash) {
-            let rhs = self.parse_conjunct()?;
-            return self.node(Expression::Join {
-                lhs: None,
-                operator,
-                rhs,
-            });
-        }
-        let lhs = self.parse_value()?;
-        self.parse_joined(lhs)
-    }
-
-    /// `/`, `++` or `+` behind a value.
-    #[cycle(expression)]
-    fn parse_joined(
+    #[tactic(auto, unfolding(justfile_model::specs::ExpressionReader::binary_rule, crate::specs::Reader::leaves))]
+    fn parse_binary(
         &mut self,
-        lhs: Box<Expression<'src>>,
+        level: Level,
+        condition: bool,
     ) -> Result<Box<Expression<'src>>, Stop<'src>>
-        requires given { IsGivenExpression (answers_by X.answer self.old.expander.now) (IsInTable self.old.tokens.now) lhs.value }
-        ensures same { OnOk result (IsSameRun self.old self.new) }
-        ensures tokens { self.new.tokens ≡ self.old.tokens }
-        ensures progress { OnOk result (self.old.next ≤ self.new.next) }
-        ensures given { IfOk result (λ e. IsGivenExpression (answers_by X.answer self.old.expander.now) (IsInTable self.old.tokens.now) e.value) }
-        ensures stop { IfErr result (IsGivenStop self.old.tokens.now) }
-        ensures value { Gives (λ e. (expr_of e.value, input_of self.new)) result (input_of self.new) (reader.conjunct_tail (answers_by X.answer self.old.expander.now) (read (answers_by X.answer self.old.expander.now)) self.old.depth (expr_of lhs.entry.value, input_of self.old)) }
+        requires { IsTrue (is_binary level) }
+        ensures reads { Reads (λ e. tree_of e.value) result (state_of X.answer self.new)
+            (reader.binary_from level condition (state_of X.answer self.old)) }
+        ensures progress { OnOk result (left self.new < left self.old) }
     {
-        if let Some((&operator, _)) = self.accept(TokenKind::Slash) {
-            let lhs = Some(lhs);
-            let rhs = self.parse_conjunct()?;
-            return self.node(Expression::Join { lhs, operator, rhs });
-        }
-        if let Some((&operator, _)) = self.accept(TokenKind::PlusPlus) {
-            self.note(ListFeature::ListConcatenationOperator, operator)?;
-            let rhs = self.parse_conjunct()?;
-            return self.node(Expression::ListConcatenation { lhs, operator, rhs });
-        }
-        if let Some((&operator, _)) = self.accept(TokenKind::Plus) {
-            let rhs = self.parse_conjunct()?;
-            return self.node(Expression::Concatenation { lhs, operator, rhs });
-        }
-        Ok(lhs)
+        self.enter(level)?;
+        let lhs = self.parse_level(operand_level(level), condition)?;
+        let Some((operator, entry)) = self.accept_operator(level) else {
+            self.leave(level);
+            return Ok(lhs);
+        };
+        self.note_if(feature_of(operator, condition), *entry.token)?;
+        let rhs = self.parse_level(right_level(level), false)?;
+        self.leave(level);
+        self.node(binary(lhs, operator, *entry.token, rhs))
+    }
+
+    /// An expression, and the delimiter after it.
+    #[cycle(expression)]
+    #[tactic(auto, unfolding(crate::specs::Reader::enclosed))]
+    pub(crate) fn parse_enclosed(
+        &mut self,
+        closing: TokenKind,
+    ) -> Result<Box<Expression<'src>>, Stop<'src>>
+        ensures reads { Reads (λ e. tree_of e.value) result (state_of X.answer self.new)
+            (reader.enclosed closing (state_of X.answer self.old)) }
+        ensures progress { OnOk result (left self.new < left self.old) }
+    {
+        let expression = self.parse_level(Level::Expression, false)?;
+        self.expect(closing)?;
+        Ok(expression)
     }
 
     /// The condition of an `if` or `assert`.
     #[cycle(expression)]
-    #[tactic(auto, using(crate::proofs::Conditions::note_is), unfolding(justfile_model::specs::ExpressionReader::condition))]
+    #[tactic(auto, using(crate::proofs::Rules::note_is), unfolding(justfile_model::specs::ExpressionReader::condition_rule))]
     fn parse_condition(&mut self) -> Result<Box<Expression<'src>>, Stop<'src>>
-        ensures same { OnOk result (IsSameRun self.old self.new) }
-        ensures tokens { self.new.tokens ≡ self.old.tokens }
-        ensures progress { OnOk result (self.old.next < self.new.next) }
-        ensures given { IfOk result (λ e. IsGivenExpression (answers_by X.answer self.old.expander.now) (IsInTable self.old.tokens.now) e.value) }
-        ensures stop { IfErr result (IsGivenStop self.old.tokens.now) }
-        ensures value { Gives (λ e. (expr_of e.value, input_of self.new)) result (input_of self.new) (reader.condition (answers_by X.answer self.old.expander.now) (read (answers_by X.answer self.old.expander.now)) self.old.depth (input_of self.old)) }
+        ensures reads { Reads (λ e. tree_of e.value) result (state_of X.answer self.new) (reader.condition (state_of X.answer self.old)) }
+        ensures progress { OnOk result (left self.new < left self.old) }
     {
         let first = self.first();
-        let condition = self.parse_expression_with_condition(true)?;
+        let condition = self.parse_level(Level::Expression, true)?;
         self.note_condition(&condition, first)?;
         Ok(condition)
     }
 
     /// An expression between braces.
     #[cycle(expression)]
-    #[tactic(auto, unfolding(justfile_model::specs::ExpressionReader::braced))]
+    #[tactic(auto, using(crate::proofs::Rules::braced_is))]
     fn parse_braced(&mut self) -> Result<Box<Expression<'src>>, Stop<'src>>
-        ensures same { OnOk result (IsSameRun self.old self.new) }
-        ensures tokens { self.new.tokens ≡ self.old.tokens }
-        ensures progress { OnOk result (self.old.next < self.new.next) }
-        ensures given { IfOk result (λ e. IsGivenExpression (answers_by X.answer self.old.expander.now) (IsInTable self.old.tokens.now) e.value) }
-        ensures stop { IfErr result (IsGivenStop self.old.tokens.now) }
-        ensures value { Gives (λ e. (expr_of e.value, input_of self.new)) result (input_of self.new) (reader.braced (answers_by X.answer self.old.expander.now) (read (answers_by X.answer self.old.expander.now)) self.old.depth (input_of self.old)) }
+        ensures reads { Reads (λ e. tree_of e.value) result (state_of X.answer self.new) (reader.braced (state_of X.answer self.old)) }
+        ensures progress { OnOk result (left self.new < left self.old) }
     {
         self.expect(TokenKind::BraceL)?;
-        let expression = self.parse_expression_with_condition(false)?;
-        self.expect(TokenKind::BraceR)?;
-        Ok(expression)
+        self.parse_enclosed(TokenKind::BraceR)
     }
 
-    /// A conditional, from behind its `if`.
+    /// A conditional, after its `if`.
     #[cycle(expression)]
-    #[tactic(auto, using(crate::proofs::Conditions::conditional_is), unfolding(crate::specs::Reading::conditional_by))]
+    #[tactic(auto, using(crate::proofs::Rules::conditional_is), unfolding(justfile_model::specs::ExpressionReader::conditional_rule, crate::specs::Reader::leaves))]
+    #[inline(never)]
     fn parse_conditional(
         &mut self,
-        word: Entry<'run, 'src>,
+        word: TableEntry<'run, 'src>,
     ) -> Result<Box<Expression<'src>>, Stop<'src>>
-        requires among { IsInTable self.old.tokens.now word.0.now }
-        ensures same { OnOk result (IsSameRun self.old self.new) }
-        ensures tokens { self.new.tokens ≡ self.old.tokens }
-        ensures progress { OnOk result (self.old.next < self.new.next) }
-        ensures given { IfOk result (λ e. IsGivenExpression (answers_by X.answer self.old.expander.now) (IsInTable self.old.tokens.now) e.value) }
-        ensures stop { IfErr result (IsGivenStop self.old.tokens.now) }
-        ensures value { Gives (λ e. (expr_of e.value, input_of self.new)) result (input_of self.new) (read (answers_by X.answer self.old.expander.now) (reader.Conditional self.old.depth (significant_of word.entry) (input_of self.old))) }
+        ensures reads { Reads (λ e. tree_of e.value) result (state_of X.answer self.new)
+            (reader.read (reader.Conditional word.entry (state_of X.answer self.old))) }
+        ensures progress { OnOk result (left self.new < left self.old) }
     {
         let condition = self.parse_condition()?;
         let then = self.parse_braced()?;
-        let Some(_else) = self.accept_word("else") else {
-            self.note(ListFeature::IfWithoutElse, *word.0)?;
+        let Some(_else) = self.accept_keyword(Keyword::Else) else {
+            self.note(ListFeature::IfWithoutElse, *word.token)?;
             return self.node(Expression::Conditional {
                 condition,
                 then,
@@ -242,18 +171,14 @@ impl<'run, 'src, X: Expander> Parser<'run, 'src, X> {
         })
     }
 
-    /// The other branch of a conditional, from behind `else`.
+    /// The other branch of a conditional, after `else`.
     #[cycle(expression)]
-    #[tactic(auto, unfolding(crate::specs::Reading::otherwise_rule))]
+    #[tactic(auto, unfolding(justfile_model::specs::ExpressionReader::otherwise_rule))]
     fn parse_otherwise(&mut self) -> Result<Box<Expression<'src>>, Stop<'src>>
-        ensures same { OnOk result (IsSameRun self.old self.new) }
-        ensures tokens { self.new.tokens ≡ self.old.tokens }
-        ensures progress { OnOk result (self.old.next < self.new.next) }
-        ensures given { IfOk result (λ e. IsGivenExpression (answers_by X.answer self.old.expander.now) (IsInTable self.old.tokens.now) e.value) }
-        ensures stop { IfErr result (IsGivenStop self.old.tokens.now) }
-        ensures value { Gives (λ e. (expr_of e.value, input_of self.new)) result (input_of self.new) (otherwise_rule (answers_by X.answer self.old.expander.now) self.old.depth (input_of self.old)) }
+        ensures reads { Reads (λ e. tree_of e.value) result (state_of X.answer self.new) (reader.otherwise (state_of X.answer self.old)) }
+        ensures progress { OnOk result (left self.new < left self.old) }
     {
-        if let Some(word) = self.accept_word("if") {
+        if let Some(word) = self.accept_keyword(Keyword::If) {
             return self.parse_conditional(word);
         }
         let otherwise = self.parse_braced()?;
@@ -262,102 +187,70 @@ impl<'run, 'src, X: Expander> Parser<'run, 'src, X> {
     }
 
     /// What may stand on either side of an operator: `!`, or what takes no operator before it. Each of
-    /// the methods behind takes one form of it, and leaves the others to the next.
+    /// the methods after this one takes one form of it, and leaves the others to the next.
     #[cycle(expression)]
-    #[tactic(auto, using(justfile_model::proofs::ExpressionReading::value_is), unfolding(justfile_model::specs::ExpressionReader::value_rule))]
+    #[tactic(auto, unfolding(justfile_model::specs::ExpressionReader::value_rule, crate::specs::Reader::leaves))]
+    #[inline(never)]
     fn parse_value(&mut self) -> Result<Box<Expression<'src>>, Stop<'src>>
-        ensures same { OnOk result (IsSameRun self.old self.new) }
-        ensures tokens { self.new.tokens ≡ self.old.tokens }
-        ensures progress { OnOk result (self.old.next < self.new.next) }
-        ensures given { IfOk result (λ e. IsGivenExpression (answers_by X.answer self.old.expander.now) (IsInTable self.old.tokens.now) e.value) }
-        ensures stop { IfErr result (IsGivenStop self.old.tokens.now) }
-        ensures value { Gives (λ e. (expr_of e.value, input_of self.new)) result (input_of self.new) (read (answers_by X.answer self.old.expander.now) (reader.Value self.old.depth (input_of self.old))) }
+        ensures reads { Reads (λ e. tree_of e.value) result (state_of X.answer self.new) (reader.value (state_of X.answer self.old)) }
+        ensures progress { OnOk result (left self.new < left self.old) }
     {
-        if let Some((&bang, _)) = self.accept(TokenKind::Bang) {
-            self.note(ListFeature::NegationOperator, bang)?;
-            let operand = self.parse_value()?;
+        if let Some(bang) = self.accept(TokenKind::Bang) {
+            self.note(ListFeature::NegationOperator, *bang.token)?;
+            let operand = self.parse_level(Level::Value, false)?;
             return self.node(Expression::Not { operand });
         }
-        self.parse_literal()
+        match self.literal()? {
+            Some(literal) => Ok(literal),
+            None => self.parse_format(),
+        }
     }
 
-    /// A string, or another value.
+    /// A format string with something to fill in, or another value.
     #[cycle(expression)]
-    #[tactic(auto, unfolding(justfile_model::specs::ExpressionReader::literal_rule))]
-    fn parse_literal(&mut self) -> Result<Box<Expression<'src>>, Stop<'src>>
-        ensures same { OnOk result (IsSameRun self.old self.new) }
-        ensures tokens { self.new.tokens ≡ self.old.tokens }
-        ensures progress { OnOk result (self.old.next < self.new.next) }
-        ensures given { IfOk result (λ e. IsGivenExpression (answers_by X.answer self.old.expander.now) (IsInTable self.old.tokens.now) e.value) }
-        ensures stop { IfErr result (IsGivenStop self.old.tokens.now) }
-        ensures value { Gives (λ e. (expr_of e.value, input_of self.new)) result (input_of self.new) (reader.literal_rule (answers_by X.answer self.old.expander.now) (read (answers_by X.answer self.old.expander.now)) self.old.depth (input_of self.old)) }
-    {
-        if let Some(entry) = self.accept(TokenKind::StringToken) {
-            return self.string(entry, false);
-        }
-        if let Some(entry) = self.accept_marked("x", TokenKind::StringToken) {
-            return self.string(entry, true);
-        }
-        self.parse_format()
-    }
-
-    /// A format string, or another value.
-    #[cycle(expression)]
-    #[tactic(auto, using(crate::proofs::Conditions::format_is), unfolding(crate::specs::Reading::format_by))]
+    #[tactic(auto, unfolding(justfile_model::specs::ExpressionReader::format_rule))]
+    #[inline(never)]
     fn parse_format(&mut self) -> Result<Box<Expression<'src>>, Stop<'src>>
-        ensures same { OnOk result (IsSameRun self.old self.new) }
-        ensures tokens { self.new.tokens ≡ self.old.tokens }
-        ensures progress { OnOk result (self.old.next < self.new.next) }
-        ensures given { IfOk result (λ e. IsGivenExpression (answers_by X.answer self.old.expander.now) (IsInTable self.old.tokens.now) e.value) }
-        ensures stop { IfErr result (IsGivenStop self.old.tokens.now) }
-        ensures value { Gives (λ e. (expr_of e.value, input_of self.new)) result (input_of self.new) (reader.format_rule (answers_by X.answer self.old.expander.now) (read (answers_by X.answer self.old.expander.now)) self.old.depth (input_of self.old)) }
+        ensures reads { Reads (λ e. tree_of e.value) result (state_of X.answer self.new) (reader.format (state_of X.answer self.old)) }
+        ensures progress { OnOk result (left self.new < left self.old) }
     {
-        if let Some(entry) = self.accept_marked("f", TokenKind::StringToken) {
-            return self.single(entry);
+        match self.accept_marked(Keyword::F, TokenKind::FormatStringStart) {
+            Some(start) => self.parse_format_string(start),
+            None => self.parse_assert(),
         }
-        if let Some(entry) = self.accept_marked("f", TokenKind::FormatStringStart) {
-            return self.parse_format_string(entry);
-        }
-        self.parse_backtick()
     }
 
-    /// A format string, from behind its start.
+    /// A format string, after its start.
     #[cycle(expression)]
-    #[tactic(auto, unfolding(crate::specs::Reading::format_string_rule))]
+    #[tactic(auto, using(crate::proofs::Cooked::framed_start, crate::proofs::Rules::format_string_is))]
+    #[inline(never)]
     fn parse_format_string(
         &mut self,
-        start: Entry<'run, 'src>,
+        start: TableEntry<'run, 'src>,
     ) -> Result<Box<Expression<'src>>, Stop<'src>>
-        requires kind { start.0.now.kind ≡ kinds.FormatStringStart }
+        requires kind { start.token.now.kind ≡ kinds.FormatStringStart }
         requires sound { IsTrue (is_sound start) }
-        requires among { IsInTable self.old.tokens.now start.0.now }
-        requires ended { IsEndedBehind (kind_of (lexeme_of start.0.now)) self.old.depth (input_of self.old).tokens }
-        ensures same { OnOk result (IsSameRun self.old self.new) }
-        ensures tokens { self.new.tokens ≡ self.old.tokens }
-        ensures progress { OnOk result (self.old.next < self.new.next) }
-        ensures given { IfOk result (λ e. IsGivenExpression (answers_by X.answer self.old.expander.now) (IsInTable self.old.tokens.now) e.value) }
-        ensures stop { IfErr result (IsGivenStop self.old.tokens.now) }
-        ensures value { Gives (λ e. (expr_of e.value, input_of self.new)) result (input_of self.new) (format_string_rule (answers_by X.answer self.old.expander.now) self.old.depth (significant_of start.entry, input_of self.old)) }
+        requires ended { IsEndedFrom (kind_of (lexeme_of start.token.now)) (state_of X.answer self.old) }
+        ensures reads { Reads (λ e. tree_of e.value) result (state_of X.answer self.new)
+            (reader.format_string (start.entry, state_of X.answer self.old)) }
+        ensures progress { OnOk result (left self.new < left self.old) }
     {
-        let literal = self.format_start(start)?;
+        let literal = self.part(start, kind_of(start), FormatStringPart::Start)?;
         let expressions = self.parse_parts(start)?;
         self.node(format_string(literal, expressions))
     }
 
-    /// The expressions of a format string, each with the part behind it, from behind its start.
+    /// The expressions after the start of a format string, each with the part after it.
     #[cycle(expression)]
-    #[tactic(auto, using(crate::proofs::Parts::begins, crate::proofs::Parts::goes_on, crate::proofs::Parts::ends, crate::proofs::Parts::fails))]
+    #[tactic(auto, using(crate::proofs::Parts::begins, crate::proofs::Parts::goes_on, crate::proofs::Parts::ends, crate::proofs::Parts::stops_at))]
     fn parse_parts(
         &mut self,
-        start: Entry<'run, 'src>,
+        start: TableEntry<'run, 'src>,
     ) -> Result<Vec<(Expression<'src>, StringLiteral<'src>)>, Stop<'src>>
-        requires ended { IsEndedBehind (kind_of (lexeme_of start.0.now)) self.old.depth (input_of self.old).tokens }
-        ensures same { OnOk result (IsSameRun self.old self.new) }
-        ensures tokens { self.new.tokens ≡ self.old.tokens }
-        ensures progress { OnOk result (self.old.next < self.new.next) }
-        ensures given { IfOk result (λ parts. AreGivenBehind (answers_by X.answer self.old.expander.now) (IsInTable self.old.tokens.now) (kind_of (lexeme_of start.entry.0.now)) parts.items) }
-        ensures stop { IfErr result (IsGivenStop self.old.tokens.now) }
-        ensures value { Gives (λ parts. (format_tree (tok_of start.entry.0.now) parts.items, input_of self.new)) result (input_of self.new) (format_rest (answers_by X.answer self.old.expander.now) (tok_of start.entry.0.now) self.old.depth (input_of self.old)) }
+        requires ended { IsEndedFrom (kind_of (lexeme_of start.token.now)) (state_of X.answer self.old) }
+        ensures reads { Reads (λ parts. format_tree parts.items) result (state_of X.answer self.new)
+            (reader.format_parts (lexeme_of start.entry.token.now) (state_of X.answer self.old)) }
+        ensures progress { OnOk result (left self.new < left self.old) }
     {
         let mut parts = Vec::new(self.alloc);
         'parts: loop {
@@ -369,128 +262,108 @@ impl<'run, 'src, X: Expander> Parser<'run, 'src, X> {
         }
     }
 
-    /// A command between backticks, or another value.
+    /// An expression of a format string and the part after it, and whether that is the last.
     #[cycle(expression)]
-    #[tactic(auto, unfolding(justfile_model::specs::ExpressionReader::backtick_rule))]
-    fn parse_backtick(&mut self) -> Result<Box<Expression<'src>>, Stop<'src>>
-        ensures same { OnOk result (IsSameRun self.old self.new) }
-        ensures tokens { self.new.tokens ≡ self.old.tokens }
-        ensures progress { OnOk result (self.old.next < self.new.next) }
-        ensures given { IfOk result (λ e. IsGivenExpression (answers_by X.answer self.old.expander.now) (IsInTable self.old.tokens.now) e.value) }
-        ensures stop { IfErr result (IsGivenStop self.old.tokens.now) }
-        ensures value { Gives (λ e. (expr_of e.value, input_of self.new)) result (input_of self.new) (reader.backtick_rule (answers_by X.answer self.old.expander.now) (read (answers_by X.answer self.old.expander.now)) self.old.depth (input_of self.old)) }
+    #[tactic(auto, unfolding(crate::specs::Reader::pair))]
+    fn parse_pair(
+        &mut self,
+        start: TableEntry<'run, 'src>,
+    ) -> Result<(Expression<'src>, StringLiteral<'src>, bool), Stop<'src>>
+        requires ended { IsEndedFrom (kind_of (lexeme_of start.token.now)) (state_of X.answer self.old) }
+        ensures reads { Reads (λ x. (tree_of x.0, Literal (literal_of x.1), x.2)) result (state_of X.answer self.new)
+            (reader.pair (lexeme_of start.entry.token.now) (state_of X.answer self.old)) }
+        ensures progress { OnOk result (left self.new < left self.old) }
     {
-        if let Some(entry) = self.accept(TokenKind::Backtick) {
-            return self.backtick(entry);
-        }
-        self.parse_assert()
+        let expression = self.parse_level(Level::Expression, false)?;
+        let (literal, is_last) = self.parse_part(start)?;
+        Ok((Box::into_inner(expression), literal, is_last))
     }
 
     /// An assertion, or another value.
     #[cycle(expression)]
-    #[tactic(auto, unfolding(justfile_model::specs::ExpressionReader::assert_rule))]
+    #[tactic(auto, using(crate::proofs::Rules::assert_is))]
     fn parse_assert(&mut self) -> Result<Box<Expression<'src>>, Stop<'src>>
-        ensures same { OnOk result (IsSameRun self.old self.new) }
-        ensures tokens { self.new.tokens ≡ self.old.tokens }
-        ensures progress { OnOk result (self.old.next < self.new.next) }
-        ensures given { IfOk result (λ e. IsGivenExpression (answers_by X.answer self.old.expander.now) (IsInTable self.old.tokens.now) e.value) }
-        ensures stop { IfErr result (IsGivenStop self.old.tokens.now) }
-        ensures value { Gives (λ e. (expr_of e.value, input_of self.new)) result (input_of self.new) (reader.assert_rule (answers_by X.answer self.old.expander.now) (read (answers_by X.answer self.old.expander.now)) self.old.depth (input_of self.old)) }
+        ensures reads { Reads (λ e. tree_of e.value) result (state_of X.answer self.new) (reader.assert (state_of X.answer self.old)) }
+        ensures progress { OnOk result (left self.new < left self.old) }
     {
-        let Some((&word, _)) = self.accept_word("assert") else {
+        let Some(word) = self.accept_keyword(Keyword::Assert) else {
             return self.parse_name();
         };
-        let name = Name::from_identifier(word);
+        let name = Name::from_identifier(*word.token);
         self.expect(TokenKind::ParenL)?;
         let condition = self.parse_condition()?;
-        if let Some(_comma) = self.accept(TokenKind::Comma) {
-            let message = Some(self.parse_expression_with_condition(false)?);
+        let Some(_comma) = self.accept(TokenKind::Comma) else {
             self.expect(TokenKind::ParenR)?;
             return self.node(Expression::Assert {
                 condition,
-                message,
+                message: None,
                 name,
             });
-        }
-        self.expect(TokenKind::ParenR)?;
+        };
+        let message = Some(self.parse_enclosed(TokenKind::ParenR)?);
         self.node(Expression::Assert {
             condition,
-            message: None,
+            message,
             name,
         })
     }
 
     /// A call or a variable, or another value.
     #[cycle(expression)]
-    #[tactic(auto, unfolding(justfile_model::specs::ExpressionReader::name_rule))]
+    #[tactic(auto, unfolding(justfile_model::specs::ExpressionReader::name_rule, crate::specs::Reader::leaves))]
     fn parse_name(&mut self) -> Result<Box<Expression<'src>>, Stop<'src>>
-        ensures same { OnOk result (IsSameRun self.old self.new) }
-        ensures tokens { self.new.tokens ≡ self.old.tokens }
-        ensures progress { OnOk result (self.old.next < self.new.next) }
-        ensures given { IfOk result (λ e. IsGivenExpression (answers_by X.answer self.old.expander.now) (IsInTable self.old.tokens.now) e.value) }
-        ensures stop { IfErr result (IsGivenStop self.old.tokens.now) }
-        ensures value { Gives (λ e. (expr_of e.value, input_of self.new)) result (input_of self.new) (reader.name_rule (answers_by X.answer self.old.expander.now) (read (answers_by X.answer self.old.expander.now)) self.old.depth (input_of self.old)) }
+        ensures reads { Reads (λ e. tree_of e.value) result (state_of X.answer self.new) (reader.name (state_of X.answer self.old)) }
+        ensures progress { OnOk result (left self.new < left self.old) }
     {
-        let Some((&token, _)) = self.accept(TokenKind::Identifier) else {
+        let Some(entry) = self.accept(TokenKind::Identifier) else {
             return self.parse_group();
         };
-        let name = Name::from_identifier(token);
+        let name = Name::from_identifier(*entry.token);
         let Some(_opening) = self.accept(TokenKind::ParenL) else {
             return self.node(Expression::Variable { name, number: None });
         };
         let arguments = self.parse_sequence(TokenKind::ParenR)?;
-        self.note_if(function_feature(token.lexeme()), token)?;
+        self.note_if(function_feature(entry.token.lexeme()), *entry.token)?;
         self.node(call(name, arguments))
     }
 
     /// An expression in parentheses, or a list.
     #[cycle(expression)]
-    #[tactic(auto, unfolding(justfile_model::specs::ExpressionReader::group_rule))]
+    #[tactic(auto, using(crate::proofs::Rules::group_is))]
     fn parse_group(&mut self) -> Result<Box<Expression<'src>>, Stop<'src>>
-        ensures same { OnOk result (IsSameRun self.old self.new) }
-        ensures tokens { self.new.tokens ≡ self.old.tokens }
-        ensures progress { OnOk result (self.old.next < self.new.next) }
-        ensures given { IfOk result (λ e. IsGivenExpression (answers_by X.answer self.old.expander.now) (IsInTable self.old.tokens.now) e.value) }
-        ensures stop { IfErr result (IsGivenStop self.old.tokens.now) }
-        ensures value { Gives (λ e. (expr_of e.value, input_of self.new)) result (input_of self.new) (reader.group_rule (answers_by X.answer self.old.expander.now) (read (answers_by X.answer self.old.expander.now)) self.old.depth (input_of self.old)) }
+        ensures reads { Reads (λ e. tree_of e.value) result (state_of X.answer self.new) (reader.group (state_of X.answer self.old)) }
+        ensures progress { OnOk result (left self.new < left self.old) }
     {
         let Some(_opening) = self.accept(TokenKind::ParenL) else {
             return self.parse_list();
         };
-        let contents = self.parse_expression_with_condition(false)?;
-        self.expect(TokenKind::ParenR)?;
+        let contents = self.parse_enclosed(TokenKind::ParenR)?;
         self.node(Expression::Group { contents })
     }
 
     /// A list.
     #[cycle(expression)]
-    #[tactic(auto, unfolding(justfile_model::specs::ExpressionReader::list_rule))]
+    #[tactic(auto, unfolding(justfile_model::specs::ExpressionReader::list_rule, crate::specs::Reader::leaves))]
     fn parse_list(&mut self) -> Result<Box<Expression<'src>>, Stop<'src>>
-        ensures same { OnOk result (IsSameRun self.old self.new) }
-        ensures tokens { self.new.tokens ≡ self.old.tokens }
-        ensures progress { OnOk result (self.old.next < self.new.next) }
-        ensures given { IfOk result (λ e. IsGivenExpression (answers_by X.answer self.old.expander.now) (IsInTable self.old.tokens.now) e.value) }
-        ensures stop { IfErr result (IsGivenStop self.old.tokens.now) }
-        ensures value { Gives (λ e. (expr_of e.value, input_of self.new)) result (input_of self.new) (reader.list_rule (answers_by X.answer self.old.expander.now) (read (answers_by X.answer self.old.expander.now)) self.old.depth (input_of self.old)) }
+        ensures reads { Reads (λ e. tree_of e.value) result (state_of X.answer self.new) (reader.list (state_of X.answer self.old)) }
+        ensures progress { OnOk result (left self.new < left self.old) }
     {
-        let Some((&opener, _)) = self.accept(TokenKind::BracketL) else {
+        let Some(opener) = self.accept(TokenKind::BracketL) else {
             return Err(Stop::Refused(Refusal::Unexpected));
         };
-        self.note(ListFeature::ListLiteral, opener)?;
+        self.note(ListFeature::ListLiteral, *opener.token)?;
         let elements = self.parse_sequence(TokenKind::BracketR)?;
-        self.node(list(opener, elements))
+        self.node(list(*opener.token, elements))
     }
 
     /// Expressions with commas between, up to the closing delimiter and with it.
     #[cycle(expression)]
     #[tactic(auto, using(crate::proofs::Elements::begins, crate::proofs::Elements::goes_on, crate::proofs::Elements::closes, crate::proofs::Elements::closes_last, crate::proofs::Elements::fails, crate::proofs::Elements::stops))]
+    #[inline(never)]
     fn parse_sequence(&mut self, closing: TokenKind) -> Result<Vec<Expression<'src>>, Stop<'src>>
-        ensures same { OnOk result (IsSameRun self.old self.new) }
-        ensures tokens { self.new.tokens ≡ self.old.tokens }
-        ensures progress { OnOk result (self.old.next < self.new.next) }
-        ensures given { IfOk result (λ e. All (IsGivenExpression (answers_by X.answer self.old.expander.now) (IsInTable self.old.tokens.now)) e.items) }
-        ensures stop { IfErr result (IsGivenStop self.old.tokens.now) }
-        ensures value { Gives (λ e. (exprs_of e.items, input_of self.new)) result (input_of self.new) (read (answers_by X.answer self.old.expander.now) (reader.Sequence closing self.old.depth (input_of self.old))) }
+        ensures reads { Reads (λ es. trees_of es.items) result (state_of X.answer self.new)
+            (reader.read (reader.Sequence closing (state_of X.answer self.old))) }
+        ensures progress { OnOk result (left self.new < left self.old) }
     {
         // most lists and calls hold no more
         let mut elements = Vec::with_capacity(self.alloc, 2)?;
@@ -506,41 +379,18 @@ impl<'run, 'src, X: Expander> Parser<'run, 'src, X> {
         }
     }
 
-    /// An expression of a format string and the part behind it, and whether that is the last.
+    /// An element of a sequence, and whether the sequence is closed after it.
     #[cycle(expression)]
-    #[tactic(auto, unfolding(crate::specs::Reading::pair_rule))]
-    fn parse_pair(
-        &mut self,
-        start: Entry<'run, 'src>,
-    ) -> Result<(Expression<'src>, StringLiteral<'src>, bool), Stop<'src>>
-        requires ended { IsEndedBehind (kind_of (lexeme_of start.0.now)) self.old.depth (input_of self.old).tokens }
-        ensures same { OnOk result (IsSameRun self.old self.new) }
-        ensures tokens { self.new.tokens ≡ self.old.tokens }
-        ensures progress { OnOk result (self.old.next < self.new.next) }
-        ensures given { IfOk result (λ x. IsGivenExpression (answers_by X.answer self.old.expander.now) (IsInTable self.old.tokens.now) x.0 × IsGivenPart (IsInTable self.old.tokens.now) (kind_of (lexeme_of start.entry.0.now)) (part_by x.2) x.1) }
-        ensures stop { IfErr result (IsGivenStop self.old.tokens.now) }
-        ensures value { Gives (λ x. ((expr_of x.0, part_tok x.1, x.2), input_of self.new)) result (input_of self.new) (pair_rule (answers_by X.answer self.old.expander.now) (lexeme_of start.entry.0.now) self.old.depth (input_of self.old)) }
-    {
-        let expression = self.parse_expression_with_condition(false)?;
-        let (literal, is_last) = self.parse_part(start)?;
-        Ok((Box::into_inner(expression), literal, is_last))
-    }
-
-    /// An element of a sequence, and whether the sequence is closed behind it.
-    #[cycle(expression)]
-    #[tactic(auto, unfolding(crate::specs::Reading::element_rule))]
+    #[tactic(auto, unfolding(justfile_model::specs::ExpressionReader::element_rule))]
     fn parse_element(
         &mut self,
         closing: TokenKind,
     ) -> Result<(Box<Expression<'src>>, bool), Stop<'src>>
-        ensures same { OnOk result (IsSameRun self.old self.new) }
-        ensures tokens { self.new.tokens ≡ self.old.tokens }
-        ensures progress { OnOk result (self.old.next < self.new.next) }
-        ensures given { IfOk result (λ x. IsGivenExpression (answers_by X.answer self.old.expander.now) (IsInTable self.old.tokens.now) x.0.value) }
-        ensures stop { IfErr result (IsGivenStop self.old.tokens.now) }
-        ensures value { Gives (λ x. ((expr_of x.0.value, x.1), input_of self.new)) result (input_of self.new) (element_rule (answers_by X.answer self.old.expander.now) closing self.old.depth (input_of self.old)) }
+        ensures reads { Reads (λ x. (tree_of x.0.value, x.1)) result (state_of X.answer self.new)
+            (reader.element closing (state_of X.answer self.old)) }
+        ensures progress { OnOk result (left self.new < left self.old) }
     {
-        let element = self.parse_expression_with_condition(false)?;
+        let element = self.parse_level(Level::Expression, false)?;
         if let Some(_comma) = self.accept(TokenKind::Comma) {
             return Ok((element, false));
         }
@@ -548,7 +398,58 @@ impl<'run, 'src, X: Expander> Parser<'run, 'src, X> {
         Ok((element, true))
     }
 
+    /// The part of a format string after an expression, and whether it is the last.
+    #[tactic(auto, using(crate::proofs::Cooked::framed_continue, crate::proofs::Formats::last_ended, crate::proofs::Rules::part_is))]
+    fn parse_part(
+        &mut self,
+        start: TableEntry<'run, 'src>,
+    ) -> Result<(StringLiteral<'src>, bool), Stop<'src>>
+        requires ended { IsEndedAt (kind_of (lexeme_of start.token.now)) (state_of X.answer self.old) }
+        ensures reads { Reads (λ x. (Literal (literal_of x.0), x.1)) result (state_of X.answer self.new)
+            (reader.part (lexeme_of start.entry.token.now) (state_of X.answer self.old)) }
+        ensures progress { OnOk result (left self.new < left self.old) }
+    {
+        if let Some(entry) = self.accept(TokenKind::FormatStringContinue) {
+            let literal = self.part(entry, kind_of(start), FormatStringPart::Continue)?;
+            return Ok((literal, false));
+        }
+        let entry = self.expect(TokenKind::FormatStringEnd)?;
+        let literal = self.part(entry, kind_of(start), FormatStringPart::End)?;
+        Ok((literal, true))
+    }
+
+    /// Opens an expression.
+    #[tactic(auto, unfolding(crate::specs::View::state_at, crate::specs::View::state_of, crate::specs::View::left))]
+    fn enter(&mut self, level: Level) -> Result<(), Stop<'src>>
+        ensures within { OnOk result (is_within level (state_of X.answer self.old) ≡ true) }
+        ensures opened { OnOk result (state_of X.answer self.new ≡ opened level (state_of X.answer self.old)) }
+        ensures refused { IfErr result (λ stop. stop ≡ stops.Refused refusals.TooDeep) }
+        ensures at { OnErr result (is_within level (state_of X.answer self.old) ≡ false) }
+        ensures unmoved { OnErr result (self.new ≡ self.old) }
+        ensures stays { left self.new ≡ left self.old }
+    {
+        if matches!(level, Level::Expression) {
+            if self.depth == RECURSION_LIMIT {
+                return Err(Stop::Refused(Refusal::TooDeep));
+            }
+            self.depth += 1;
+        }
+        Ok(())
+    }
+
+    /// Closes an expression.
+    #[tactic(auto, unfolding(crate::specs::View::state_at, crate::specs::View::state_of, crate::specs::View::left))]
+    fn leave(&mut self, level: Level)
+        ensures closed { state_of X.answer self.new ≡ closed level (state_of X.answer self.old) }
+        ensures stays { left self.new ≡ left self.old }
+    {
+        if matches!(level, Level::Expression) {
+            self.depth = self.depth.saturating_sub(1);
+        }
+    }
+
     /// An expression in a box of its own.
+    #[inline(never)]
     pub(crate) fn node(
         &self,
         expression: Expression<'src>,
@@ -559,83 +460,40 @@ impl<'run, 'src, X: Expander> Parser<'run, 'src, X> {
         Ok(Box::new(self.alloc, expression)?)
     }
 
-    /// Takes the next token if it is a comparison operator.
-    #[tactic(auto, unfolding(justfile_model::specs::ExpressionReader::accept_operator))]
-    fn accept_operator(&mut self) -> Option<(ConditionalOperator, Entry<'run, 'src>)>
-        ensures same { IsSameRun self.old self.new }
-        ensures some { IfSome result (λ x. reader.accept_operator (input_of self.old) ≡ Some (x.0, significant_of x.1, input_of self.new)) }
-        ensures none { IfNone result (reader.accept_operator (input_of self.old) ≡ None) }
-        ensures same_input { IfNone result (input_of self.new ≡ input_of self.old) }
-        ensures stays { IfNone result (self.new.next ≡ self.old.next) }
-        ensures progress { OnSome result (self.old.next < self.new.next) }
-        ensures among { IfSome result (λ x. IsInTable self.old.tokens.now x.1.0.now) }
+    /// Takes the next token if it is an operator of the level.
+    #[tactic(auto, unfolding(justfile_model::specs::ExpressionReader::accept_operator, crate::specs::Reader::leaves, crate::specs::View::state_of, crate::specs::View::left))]
+    fn accept_operator(&mut self, level: Level) -> Option<(Operator, TableEntry<'run, 'src>)>
+        ensures some { IfSome result
+            (λ found. reader.accept_operator level (state_of X.answer self.old) ≡ Some (found.0, found.1, state_of X.answer self.new)) }
+        ensures none { IfNone result (reader.accept_operator level (state_of X.answer self.old) ≡ None) }
+        ensures unmoved { IfNone result (self.new ≡ self.old) }
+        ensures progress { OnSome result (left self.new < left self.old) }
     {
-        if let Some(entry) = self.accept(TokenKind::BangEquals) {
-            return Some((ConditionalOperator::Inequality, entry));
-        }
-        if let Some(entry) = self.accept(TokenKind::EqualsTilde) {
-            return Some((ConditionalOperator::RegexMatch, entry));
-        }
-        if let Some(entry) = self.accept(TokenKind::BangTilde) {
-            return Some((ConditionalOperator::RegexMismatch, entry));
-        }
-        if let Some(entry) = self.accept(TokenKind::EqualsEquals) {
-            return Some((ConditionalOperator::Equality, entry));
-        }
-        None
-    }
-
-    /// No `else` may stand behind a branch that ends in a conditional without one.
-    fn expect_closed(&self, branch: &Expression<'src>) -> Result<(), Stop<'src>>
-        ensures stop { IfErr result (IsGivenStop self.now.tokens.now) }
-        ensures value { Gives (λ _. (expr_of branch.now, input_of self.now)) result (input_of self.now) (closed (ends_open (expr_of branch.now)) (expr_of branch.now) (input_of self.now)) }
-    {
-        if ends_open(branch) {
-            self.expect_no_else(branch)
+        let entry = self.peek()?;
+        let operator = operator_of(entry.token.kind)?;
+        if is_at(level, operator) {
+            self.next += 1;
+            Some((operator, entry))
         } else {
-            Ok(())
+            None
         }
     }
 
-    /// The next token may not be `else`.
-    #[tactic(auto, unfolding(justfile_model::specs::Reading::accept_word, justfile_model::specs::Reading::refused))]
-    fn expect_no_else(&self, branch: &Expression<'src>) -> Result<(), Stop<'src>>
-        ensures stop { IfErr result (IsGivenStop self.now.tokens.now) }
-        ensures value { Gives (λ _. (expr_of branch.now, input_of self.now)) result (input_of self.now) (closed true (expr_of branch.now) (input_of self.now)) }
+    /// No `else` may stand after a branch that ends in a conditional without one.
+    #[tactic(auto, unfolding(justfile_model::specs::Reading::accept_word, justfile_model::specs::Reading::refused, crate::specs::Reader::leaves))]
+    fn expect_closed(&self, branch: &Expression<'src>) -> Result<(), Stop<'src>>
+        ensures reads { Reads (λ _. tree_of branch.now) result (state_of X.answer self.now)
+            (reader.ended_by (ends_open (tree_of branch.now)) (tree_of branch.now) (state_of X.answer self.now)) }
     {
+        if !ends_open(branch) {
+            return Ok(());
+        }
         match self.peek() {
-            Some(entry) => {
-                if is_word(entry, "else") {
-                    Err(Stop::Refused(Refusal::Unexpected))
-                } else {
-                    Ok(())
-                }
+            Some(entry) if is_word(entry, Keyword::Else.lexeme()) => {
+                Err(Stop::Refused(Refusal::Unexpected))
             }
-            None => Ok(()),
+            _ => Ok(()),
         }
-    }
-
-    /// The part of a format string behind an expression, and whether it is the last.
-    #[tactic(auto, unfolding(crate::specs::Reading::part_rule))]
-    fn parse_part(
-        &mut self,
-        start: Entry<'run, 'src>,
-    ) -> Result<(StringLiteral<'src>, bool), Stop<'src>>
-        requires ended { IsEnded (kind_of (lexeme_of start.0.now)) self.old.depth (input_of self.old).tokens }
-        ensures same { OnOk result (IsSameRun self.old self.new) }
-        ensures tokens { self.new.tokens ≡ self.old.tokens }
-        ensures progress { OnOk result (self.old.next < self.new.next) }
-        ensures given { IfOk result (λ x. IsGivenPart (IsInTable self.old.tokens.now) (kind_of (lexeme_of start.entry.0.now)) (part_by x.1) x.0) }
-        ensures stop { IfErr result (IsGivenStop self.old.tokens.now) }
-        ensures value { Gives (λ x. ((part_tok x.0, x.1), input_of self.new)) result (input_of self.new) (part_rule (answers_by X.answer self.old.expander.now) (lexeme_of start.entry.0.now) (input_of self.old)) }
-    {
-        if let Some(entry) = self.accept(TokenKind::FormatStringContinue) {
-            let literal = self.format_continue(start, entry)?;
-            return Ok((literal, false));
-        }
-        let entry = self.expect(TokenKind::FormatStringEnd)?;
-        let literal = self.format_end(start, entry)?;
-        Ok((literal, true))
     }
 }
 
@@ -643,7 +501,7 @@ impl<'run, 'src, X: Expander> Parser<'run, 'src, X> {
 /// `else`.
 #[tactic(auto, using(crate::proofs::Shapes::assert_ends, crate::proofs::Shapes::format_ends, crate::proofs::Shapes::join_ends))]
 fn ends_open(expression: &Expression<'_>) -> bool
-    ensures { result ≡ ends_open (expr_of expression.now) }
+    ensures { result ≡ ends_open (tree_of expression.now) }
 {
     match expression {
         Expression::Conditional { otherwise, .. } => match otherwise {
@@ -670,16 +528,14 @@ fn ends_open(expression: &Expression<'_>) -> bool
 
 #[tactic(auto, using(crate::proofs::Rows::call_is))]
 fn call<'src>(name: Name<'src>, arguments: Vec<Expression<'src>>) -> Expression<'src>
-    ensures is { expr_of result ≡ tree.Call (tok_of name.entry.token) (exprs_of arguments.entry.items) }
-    ensures given { (expander : Answers) (table : List TableEntry) → IsInTable table name.entry.token → All (IsGivenExpression expander (IsInTable table)) arguments.entry.items → IsGivenExpression expander (IsInTable table) result }
+    ensures { tree_of result ≡ tree.Call (Named name.entry.token None) (trees_of arguments.entry.items) }
 {
     Expression::Call { name, arguments }
 }
 
 #[tactic(auto, using(crate::proofs::Rows::list_is))]
 fn list<'src>(opener: Token<'src>, elements: Vec<Expression<'src>>) -> Expression<'src>
-    ensures is { expr_of result ≡ tree.ListOf (tok_of opener.entry) (exprs_of elements.entry.items) }
-    ensures given { (expander : Answers) (table : List TableEntry) → IsInTable table opener.entry → All (IsGivenExpression expander (IsInTable table)) elements.entry.items → IsGivenExpression expander (IsInTable table) result }
+    ensures { tree_of result ≡ tree.ListOf opener.entry (trees_of elements.entry.items) }
 {
     Expression::List { elements, opener }
 }
@@ -689,8 +545,7 @@ pub(crate) fn format_string<'src>(
     start: StringLiteral<'src>,
     expressions: Vec<(Expression<'src>, StringLiteral<'src>)>,
 ) -> Expression<'src>
-    ensures is { expr_of result ≡ format_tree (tok_of start.entry.token) expressions.entry.items }
-    ensures given { (expander : Answers) (table : List TableEntry) → IsGivenFormat expander (IsInTable table) start.entry expressions.entry.items → IsGivenExpression expander (IsInTable table) result }
+    ensures { tree_of result ≡ format_tree expressions.entry.items (Literal (literal_of start.entry)) }
 {
     Expression::FormatString { start, expressions }
 }

@@ -6,6 +6,7 @@ mod expression;
 mod feature;
 mod items;
 mod literal;
+mod operator;
 mod parse;
 mod parser;
 mod recipe;

@@ -1,5 +1,6 @@
-//! The public calls: files from tokens, and from texts.
-ghost use Rattle.std.specs.Prelude.{◌≡◌, List, map, Contains, IfOk, IfErr, string_bytes};
+//! Files from tokens, and from texts: the public calls, and how a file is begun.
+ghost use Rattle.std.specs.Prelude.{◌≡◌, ◌<◌, ◌≤◌, List, length, map, Contains, IfOk, IfErr, IsTrue, string_bytes};
+ghost use Rattle.std.specs.List.{list_all};
 ghost use Rattle.justfile_base.specs.Modulepath.{module_names, names_of};
 ghost use Rattle.justfile_base.specs.Numerator.{constants_of};
 ghost use Rattle.justfile_model.specs.Lexed.{Lexed};
@@ -7,19 +8,32 @@ ghost use Rattle.justfile_model.specs.SignificantTokens.{identifiers, significan
 ghost use Rattle.justfile_model.specs.Tok.{Tok, tok_of};
 ghost use Rattle.justfile_parse.specs.Parsing.{HasNoTree, IsOneLex, IsParsed, IsParsedText, IsUnparsed, version_numbers};
 ghost use Rattle.justfile_cook.specs.Literal.{answers_by};
-ghost use Rattle.justfile_parse.specs.Reading.{IsMoved};
+ghost use Rattle.justfile_parse.specs.Formats.{AreEnded};
+ghost use Rattle.justfile_parse.specs.Given.{IsInTable};
+ghost use Rattle.justfile_parse.specs.Literal.{is_sound};
+ghost use Rattle.justfile_parse.specs.Reader as reader;
+ghost use Rattle.justfile_parse.specs.Reader.{after_mark};
+ghost use Rattle.justfile_parse.specs.WantsNumber.{counters_of};
+ghost use Rattle.justfile_parse.specs.Reading.{IsFaultOf, IsKindAt, IsMoved, IsPlace, IsRead, IsUnread, ReadsNumbered};
+ghost use Rattle.justfile_parse.specs.Significant.{significant_of};
+ghost use Rattle.justfile_parse.specs.Tree.{item_tree};
 
 use crate::parser::Parser;
-use crate::significant::significant;
+use crate::significant::{TableEntry, significant};
+use crate::stop::{Refusal, Stop};
 use justfile_base::{
-    CompileResult, Expander, Modulepath, Namepath, Numerator, Source, Token, Version,
+    CompileError, CompileErrorKind, CompileResult, Expander, Fault, Modulepath, Namepath,
+    Numerator, Source, Token, TokenKind, Version,
 };
-use justfile_file::Ast;
+use justfile_file::{Ast, Item};
 use justfile_lex::Lexer;
+use justfile_tree::ListFeature;
 use std::alloc::Global;
 use std::collections::BTreeSet;
 
-impl<'src, X: Expander> Parser<'_, 'src, X> {
+impl<'run, 'src, X: Expander> Parser<'run, 'src, X> {
+    ghost use Rattle.justfile_parse.specs.View.{state_of};
+
     /// The file whose tokens these are.
     ///
     /// # Errors
@@ -39,10 +53,12 @@ impl<'src, X: Expander> Parser<'_, 'src, X> {
         current: Version,
     ) -> CompileResult<'src, Ast<'src>>
         requires { IsOneLex tokens.now }
-        ensures parsed { IfOk result (IsParsed (answers_by X.answer expander.now) (version_numbers current) (map tok_of tokens.now) (Contains tokens.now) file_depth import_offsets.now numerator.old numerator.new) }
+        ensures parsed { IfOk result (IsParsed (answers_by X.answer expander.now) (version_numbers current) (map tok_of tokens.now)
+            (Contains tokens.now) file_depth import_offsets.now numerator.old numerator.new) }
         ensures module_path { IfOk result (λ ast. names_of ast.module_path ≡ module_names module_namepath.entry) }
         ensures working_directory { IfOk result (λ ast. string_bytes ast.working_directory ≡ working_directory.now) }
-        ensures unparsed { IfErr result (IsUnparsed (answers_by X.answer expander.now) (version_numbers current) (map tok_of tokens.now) (Contains tokens.now) numerator.old numerator.new) }
+        ensures unparsed { IfErr result (IsUnparsed (answers_by X.answer expander.now) (version_numbers current) (map tok_of tokens.now)
+            (Contains tokens.now) numerator.old numerator.new) }
         ensures moved { IsMoved numerator.old numerator.new (identifiers (significant_tokens (map tok_of tokens.now))) }
     {
         // nothing that is parsed yet asks for the version
@@ -80,11 +96,14 @@ impl<'src, X: Expander> Parser<'_, 'src, X> {
         expander: &X,
         current: Version,
     ) -> CompileResult<'src, Ast<'src>>
-        ensures parsed { IfOk result (IsParsedText (answers_by X.answer expander.now) (version_numbers current) path.now src.now source.now.file_depth source.now.import_offsets.now numerator.old numerator.new) }
+        ensures parsed { IfOk result (IsParsedText (answers_by X.answer expander.now) (version_numbers current) path.now src.now
+            source.now.file_depth source.now.import_offsets.now numerator.old numerator.new) }
         ensures module_path { IfOk result (λ ast. names_of ast.module_path ≡ module_names source.now.namepath) }
         ensures working_directory { IfOk result (λ ast. string_bytes ast.working_directory ≡ source.now.working_directory.now) }
-        ensures no_tree { IfErr result (HasNoTree (answers_by X.answer expander.now) (version_numbers current) path.now src.now numerator.old numerator.new) }
-        ensures moved { (tokens : List Tok) → Lexed src.now tokens → IsMoved numerator.old numerator.new (identifiers (significant_tokens tokens)) }
+        ensures no_tree { IfErr result
+            (HasNoTree (answers_by X.answer expander.now) (version_numbers current) path.now src.now numerator.old numerator.new) }
+        ensures moved { (tokens : List Tok) → Lexed src.now tokens → IsMoved numerator.old numerator.new
+            (identifiers (significant_tokens tokens)) }
         ensures unmoved { ((tokens : List Tok) → Lexed src.now tokens → ⊥) → numerator.new ≡ numerator.old }
         ensures constants { constants_of numerator.new ≡ constants_of numerator.old }
     {
@@ -100,5 +119,102 @@ impl<'src, X: Expander> Parser<'_, 'src, X> {
             expander,
             current,
         )
+    }
+
+    /// The items of the file that a table of tokens is, and its features.
+    fn parse_table(
+        alloc: Global,
+        file_depth: u32,
+        import_offsets: &'run [usize],
+        numerator: &mut Numerator,
+        tokens: &'run [TableEntry<'run, 'src>],
+        expander: &'run X,
+    ) -> CompileResult<'src, (Vec<Item<'src>>, Vec<(ListFeature, Token<'src>)>)>
+        requires nonempty { 0 < length tokens.now }
+        requires sound { IsTrue (list_all is_sound tokens.now) }
+        requires ended { AreEnded (map significant_of tokens.now) }
+        ensures ok { IfOk result (λ x. IsRead (answers_by X.answer expander.now) tokens.now file_depth import_offsets.now
+            (map significant_of tokens.now) numerator.old numerator.new (x.0.items, x.1.items)) }
+        ensures err { IfErr result (IsUnread (answers_by X.answer expander.now) (map significant_of tokens.now) (IsInTable tokens.now)
+            numerator.old numerator.new) }
+        ensures moved { IsMoved numerator.old numerator.new (identifiers (map significant_of tokens.now)) }
+    {
+        let mut parser = Parser {
+            alloc,
+            depth: 0,
+            expander,
+            file_depth,
+            import_offsets,
+            list_features: Vec::new(alloc),
+            next: 0,
+            tokens,
+        };
+        match parser.parse_file(numerator) {
+            Ok(items) => Ok((items, parser.list_features)),
+            Err(stop) => Err(fault(alloc, tokens, parser.first(), stop)),
+        }
+    }
+
+    /// The items of a file, which may begin with a byte order mark, where no expression is open.
+    #[tactic(auto, using(crate::proofs::Loop::file_is))]
+    fn parse_file(&mut self, numerator: &mut Numerator) -> Result<Vec<Item<'src>>, Stop<'src>>
+        requires { (state_of X.answer self.old).depth ≡ 0 }
+        ensures reads { ReadsNumbered (λ items. map item_tree items.items) result numerator.new (state_of X.answer self.new)
+            (reader.file (counters_of numerator.old) (state_of X.answer self.old)) }
+        ensures moved { IsMoved numerator.old numerator.new (identifiers (map significant_of (state_of X.answer self.old).left)) }
+    {
+        self.accept_byte_order_mark();
+        self.parse_items(numerator)
+    }
+
+    /// Takes the byte order mark that a file may begin with.
+    fn accept_byte_order_mark(&mut self)
+        ensures { state_of X.answer self.new ≡ after_mark (state_of X.answer self.old) }
+    {
+        let _mark = self.accept(TokenKind::ByteOrderMark);
+    }
+}
+
+/// The fault for which reading stopped, where this token is next.
+fn fault<'src>(
+    alloc: Global,
+    tokens: &[TableEntry<'_, 'src>],
+    next: Option<TableEntry<'_, 'src>>,
+    stop: Stop<'src>,
+) -> Fault<'src>
+    requires { 0 < length tokens.now }
+    ensures { IsFaultOf tokens.now next.entry stop.entry result }
+{
+    match stop {
+        Stop::Refused(refusal) => Fault::Compile(error(alloc, place(tokens, next), refusal)),
+        Stop::Literal(refused) => Fault::Compile(Box::into_inner(refused).error),
+        Stop::Memory => Fault::Memory,
+        Stop::Numbers => Fault::Numbers,
+    }
+}
+
+/// The error of a refusal at a token.
+fn error<'src>(alloc: Global, token: Token<'src>, refusal: Refusal) -> CompileError<'src>
+    ensures kind { IsKindAt refusal result.kind result.token }
+    ensures token { result.token ≡ token.entry }
+{
+    token.error(match refusal {
+        Refusal::Unexpected => CompileErrorKind::UnexpectedToken {
+            expected: Vec::new(alloc),
+            found: token.kind,
+        },
+        Refusal::TooDeep => CompileErrorKind::ParsingRecursionDepthExceeded,
+    })
+}
+
+/// Where a refusal stands: at the next token, or at the last where none is left.
+#[tactic(auto, using(crate::proofs::Rest::in_table, crate::proofs::Rest::last_at))]
+fn place<'src>(tokens: &[TableEntry<'_, 'src>], next: Option<TableEntry<'_, 'src>>) -> Token<'src>
+    requires { 0 < length tokens.now }
+    ensures { IsPlace tokens.now next.entry result }
+{
+    match next {
+        Some(entry) => *entry.token,
+        None => *tokens[tokens.len() - 1].token,
     }
 }

@@ -6,14 +6,21 @@ ghost use Rattle.justfile_parse.specs.Significant.{significant_of, without_white
 use justfile_base::{Token, TokenKind};
 use std::alloc::{AllocError, Global};
 
-/// The tokens that the parser reads, all but whitespace, each with whether it is glued to the one
-/// before: whether no token stands between the two.
+/// A token that the parser reads.
+#[derive(Clone, Copy)]
+pub struct TableEntry<'run, 'src> {
+    pub token: &'run Token<'src>,
+    /// Whether no token stands between it and the one before.
+    pub glued: bool,
+}
+
+/// The tokens that the parser reads: all but whitespace.
 pub fn significant<'run, 'src>(
     alloc: Global,
     tokens: &'run [Token<'src>],
-) -> Result<Vec<(&'run Token<'src>, bool)>, AllocError>
+) -> Result<Vec<TableEntry<'run, 'src>>, AllocError>
     ensures table { IfOk result (λ table. map significant_of table.items ≡ significant_tokens (map tok_of tokens.now)) }
-    ensures tokens { IfOk result (λ table. map (λ entry. entry.0.now) table.items ≡ without_whitespace tokens.now) }
+    ensures tokens { IfOk result (λ table. map (λ entry. entry.token.now) table.items ≡ without_whitespace tokens.now) }
 {
     let mut table = Vec::new(alloc);
     let mut glued = false;
@@ -36,12 +43,12 @@ fn is_whitespace(kind: TokenKind) -> bool
 
 /// Adds an entry to the table.
 fn add<'run, 'src>(
-    table: &mut Vec<(&'run Token<'src>, bool)>,
+    table: &mut Vec<TableEntry<'run, 'src>>,
     token: &'run Token<'src>,
     glued: bool,
 ) -> Result<(), AllocError>
-    ensures { OnOk result (table.new.items ≡ table.old.items ++ (token.entry, glued) ∷ []) }
+    ensures { OnOk result (table.new.items ≡ table.old.items ++ record { token = token.entry; glued = glued } ∷ []) }
 {
-    table.push((token, glued))?;
+    table.push(TableEntry { token, glued })?;
     Ok(())
 }

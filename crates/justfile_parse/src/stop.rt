@@ -17,8 +17,6 @@ pub(crate) enum Refusal {
 #[derive(Drop)]
 pub(crate) struct LiteralRefusal<'src> {
     pub(crate) error: CompileError<'src>,
-    /// Whether its token is glued to the one before.
-    pub(crate) glued: bool,
     pub(crate) ghost is_literal: { IsTrue (is_literal_kind error.kind) },
 }
 

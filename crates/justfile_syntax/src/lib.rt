@@ -117,7 +117,7 @@ pub mod numerator {
 pub mod parser {
     pub use justfile_cook::cook_string;
     pub use justfile_parse::Parser;
-    pub use justfile_parse::significant::significant;
+    pub use justfile_parse::significant::{TableEntry, significant};
 }
 
 pub mod recipe {

@@ -99,8 +99,8 @@ fn significant_tokens(rt: HostRuntime) {
     let tokens = lexed(&rt, rt.alloc(), text);
     let table = significant(rt.alloc(), tokens.as_slice()).expect(&rt, text);
     same(&rt, text, &table.len(), &ROWS.len());
-    for ((token, glued), row) in table.iter().zip(ROWS) {
-        same(&rt, text, &(token.kind, *glued), row);
+    for (entry, row) in table.iter().zip(ROWS) {
+        same(&rt, text, &(entry.token.kind, entry.glued), row);
     }
 }
 

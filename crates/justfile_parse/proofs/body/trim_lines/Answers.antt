@@ -6,5 +6,5 @@ pub loop-lines-preserved-in-loop-lines : goal.loop-lines-preserved-in-loop-lines
 loop-lines-preserved-in-loop-lines c =
     trim_step _ _ _ _ c.loop-lines.invariant c.pop.ensures.items (subst EndsEmpty c.as_slice.ensures.value (c.loop-lines-test.ensures.0 (cc)))
 
-pub returns-clause-tree : goal.returns-clause-tree
-returns-clause-tree c = trim_done _ _ c.loop-lines.invariant (λ e. let no = c.loop-lines-test.ensures.1 (subst EndsEmpty (sym c.as_slice.ensures.value) e) in cc)
+pub returns : goal.returns
+returns c = trim_done _ _ c.loop-lines.invariant (λ e. let no = c.loop-lines-test.ensures.1 (subst EndsEmpty (sym c.as_slice.ensures.value) e) in cc)

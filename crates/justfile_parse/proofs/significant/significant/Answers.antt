@@ -1,6 +1,6 @@
 use Rattle.std.proofs.Common.{sym, ap, ◌∙◌, Vec}
 use Rattle.std.specs.declared.alloc.Global.{Global}
-use Rattle.justfile_parse.specs.Significant.{TableEntry}
+use Rattle.justfile_parse.specs.declared.significant.TableEntry.{TableEntry}
 use Rattle.justfile_parse.proofs.SignificantLemmas.{skips, takes, same_table}
 use Rattle.justfile_parse.proofs.significant.significant.Goals as goal
 use Rattle.justfile_parse.proofs.significant.significant.Goals.{then-is_whitespace, else-is_whitespace+in_ok-add}

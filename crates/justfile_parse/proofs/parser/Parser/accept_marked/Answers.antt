@@ -1,15 +1,23 @@
-use Rattle.std.proofs.Common.{rules, ◌≡◌, ◌∙◌, sym, arith, true, false}
+use Rattle.std.proofs.Common.{rules, ◌≡◌, ◌∙◌, sym, subst, arith, ◌+◌, ℕ, List, true, false, get_or, Some, None}
+use Rattle.justfile_parse.specs.Reader.{accept_marked}
+use Rattle.justfile_parse.specs.View.{run_of, state_from, state_of}
 use Rattle.justfile_parse.proofs.Rest.{marked_taken, marked_left}
 use Rattle.justfile_parse.proofs.parser.Parser.accept_marked.Goals as goal
 
 pub returns-then-is_marked-clause-some : goal.returns-then-is_marked-clause-some
+unfolding state_of
 returns-then-is_marked-clause-some g c =
     let s = c.args.self.now in
     let found : c.is_marked.result ≡ true = search rules in
-    marked_taken s.tokens.now s.next s.list_features.items c.args.word.now c.args.kind c.index-self-self.result c.index-self-self-2.result (omega arith) (sym c.is_marked.ensures.is ∙ found)
+    let P : List ℕ → Type 0 = λ word. accept_marked word c.args.kind (state_from g.X.Expander.answer s s.next) ≡ Some (get_or s.tokens.now (s.next + 1) c.index-self-self-2.result, state_from g.X.Expander.answer s (s.next + 2)) in
+    subst P c.lexeme.ensures
+    (marked_taken (run_of g.X.Expander.answer s) s.depth s.next s.list_features.items c.lexeme.result.now c.args.kind c.index-self-self.result c.index-self-self-2.result (omega arith) (sym c.is_marked.ensures.is ∙ found))
 
 pub returns-else-is_marked-clause-none : goal.returns-else-is_marked-clause-none
+unfolding state_of
 returns-else-is_marked-clause-none g c =
     let s = c.args.self.now in
     let found : c.is_marked.result ≡ false = search rules in
-    marked_left s.tokens.now s.next s.list_features.items c.args.word.now c.args.kind c.index-self-self.result c.index-self-self-2.result (omega arith) (sym c.is_marked.ensures.is ∙ found)
+    let P : List ℕ → Type 0 = λ word. accept_marked word c.args.kind (state_from g.X.Expander.answer s s.next) ≡ None in
+    subst P c.lexeme.ensures
+    (marked_left (run_of g.X.Expander.answer s) s.depth s.next s.list_features.items c.lexeme.result.now c.args.kind c.index-self-self.result c.index-self-self-2.result (omega arith) (sym c.is_marked.ensures.is ∙ found))

@@ -4,7 +4,8 @@ use Rattle.std.proofs.lemmas.Result.{err_from_is_err_and}
 use Rattle.justfile_model.specs.Tok.{tok_of}
 use Rattle.justfile_parse.specs.Formats.{AreEnded}
 use Rattle.justfile_parse.specs.Literal.{is_sound}
-use Rattle.justfile_parse.specs.Significant.{TableEntry, significant_of}
+use Rattle.justfile_parse.specs.Significant.{significant_of}
+use Rattle.justfile_parse.specs.declared.significant.TableEntry.{TableEntry}
 use Rattle.justfile_parse.specs.Parsing.{version_numbers}
 use Rattle.justfile_cook.specs.Literal.{answers_by}
 use Rattle.justfile_parse.proofs.Formats.{ended_lex}
@@ -30,14 +31,14 @@ parse_table-requires-clause-ended g c =
 pub returns-in_err-items-clause-unparsed : goal.returns-in_err-items-clause-unparsed
 returns-in_err-items-clause-unparsed g c =
     let p = err_from_is_err_and c.from_residual-in_err-items.result c.from_residual-in_err-items.ensures.1 in
-    let Q : List TableEntry → Type 0 = λ t. All (λ entry. Contains c.args.tokens.now entry.0.now) t in
+    let Q : List TableEntry → Type 0 = λ t. All (λ entry. Contains c.args.tokens.now entry.token.now) t in
     rw (p.1, p.2)
     (unparsed_of (answers_by g.X.Expander.answer c.args.expander.now) (version_numbers c.args.current) c.args.tokens.now c.as_slice.result.now c.args.numerator.now c.parse_table.new.numerator
     (ap (map significant_of) c.as_slice.ensures.value ∙ c.in_ok-table.ensures.table) (subst Q (sym c.as_slice.ensures.value) (entries_among c.args.tokens.now c.in_ok-table.table.items c.in_ok-table.ensures.tokens)) c.in_err-items.field-0.0 c.in_err-items.ensures.err)
 
 pub returns-clause-parsed : goal.returns-clause-parsed
 returns-clause-parsed g c =
-    let Q : List TableEntry → Type 0 = λ t. All (λ entry. Contains c.args.tokens.now entry.0.now) t in
+    let Q : List TableEntry → Type 0 = λ t. All (λ entry. Contains c.args.tokens.now entry.token.now) t in
     parsed_of (answers_by g.X.Expander.answer c.args.expander.now) (version_numbers c.args.current) c.args.tokens.now c.as_slice.result.now c.args.numerator.now c.parse_table.new.numerator
     (ap (map significant_of) c.as_slice.ensures.value ∙ c.in_ok-table.ensures.table) (subst Q (sym c.as_slice.ensures.value) (entries_among c.args.tokens.now c.in_ok-table.table.items c.in_ok-table.ensures.tokens)) c.args.file_depth c.args.import_offsets.now _
     c.in_ok-items.ensures.ok c.new.ensures.empty

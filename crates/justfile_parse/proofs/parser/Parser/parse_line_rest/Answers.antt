@@ -1,15 +1,27 @@
-use Rattle.std.proofs.Common.{sym}
-use Rattle.justfile_model.specs.Reader.{line_rest}
-use Rattle.justfile_file.specs.Item.{fragment_of}
-use Rattle.justfile_parse.specs.Given.{IsGivenFragment}
-use Rattle.justfile_parse.proofs.Bodies.{line_goes_on, part_begins}
+use Rattle.std.proofs.Common.{◌≡◌, sym, subst, map, None, arith}
+use Rattle.std.proofs.lemmas.Result.{err_from_is_err_and}
+use Rattle.justfile_base.specs.declared.token_kind.TokenKind.TheVariants as kinds
+use Rattle.justfile_model.specs.Reading.{after}
+use Rattle.justfile_parse.specs.Reader.{accept, line_rest}
+use Rattle.justfile_parse.specs.Tree.{fragment_tree}
+use Rattle.justfile_parse.specs.View.{state_of}
+use Rattle.justfile_parse.specs.declared.parser.Parser.{Parser}
+use Rattle.justfile_parse.proofs.Bodies.{begins, line_stops}
 use Rattle.justfile_parse.proofs.parser.Parser.parse_line_rest.Goals as goal
 
 pub fragments-init : goal.fragments-init
-fragments-init g c = rw c.new-fragments.ensures.items (part_begins g.X.Expander.answer fragment_of line_rest IsGivenFragment c.args.self.now)
+fragments-init g c =
+    let s = state_of g.X.Expander.answer c.args.self.now in
+    record { ahead = omega arith; value = rw c.new-fragments.ensures.items (begins (line_rest s)) }
 
-pub fragments-preserved : goal.fragments-preserved
-fragments-preserved g c =
-    line_goes_on g.X.Expander.answer c.args.self.now c.fragments.self c.accept.new.self c.fragments.fragments.items c.fragments.invariant c.in_default.ensures.none
-    c.in_default.ensures.same_input c.accept.ensures.same c.in_default.ensures.stays (sym c.if-next_are.ensures.is) c.parse_fragment.new.self c.in_ok-fragment.fragment c.push.new.self.items
-    c.in_ok-fragment.ensures.same c.in_ok-fragment.ensures.progress c.in_ok-fragment.ensures.value c.in_ok-fragment.ensures.given c.in_ok-push.ensures.items
+pub returns-in_err-fragment-clause-reads : goal.returns-in_err-fragment-clause-reads
+returns-in_err-fragment-clause-reads g c =
+    let A = g.X.Expander.answer in
+    let done = c.fragments.fragments.items in
+    let p = err_from_is_err_and c.from_residual.result c.from_residual.ensures.1 in
+    let P : Parser _ → Type 0 = λ q. after (map fragment_tree done) (line_rest (state_of A q)) ≡ line_rest (state_of A c.args.self.now) in
+    let Q : Parser _ → Type 0 = λ q. accept kinds.Eol (state_of A q) ≡ None in
+    let here = sym c.in_default.ensures.unmoved in
+    rw (p.1, p.2)
+    (line_stops (state_of A c.args.self.now) (state_of A c.accept.new.self) done (subst P here c.fragments.invariant.value) (subst Q here c.in_default.ensures.none) (sym c.if-next_are.ensures.is)
+    c.in_err-fragment.field-0.0 (state_of A c.parse_fragment.new.self) c.in_err-fragment.ensures.reads)

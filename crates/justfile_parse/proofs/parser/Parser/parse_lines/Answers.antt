@@ -1,14 +1,42 @@
-use Rattle.justfile_model.specs.Reader.{lines}
-use Rattle.justfile_file.specs.Item.{line_of}
-use Rattle.justfile_parse.specs.Given.{IsGivenLine}
-use Rattle.justfile_parse.proofs.Bodies.{body_goes_on, part_begins}
+use Rattle.std.proofs.Common.{◌≡◌, ap, sym, subst, map, None, arith}
+use Rattle.std.proofs.lemmas.Result.{err_from_is_err_and}
+use Rattle.justfile_base.specs.declared.token_kind.TokenKind.TheVariants as kinds
+use Rattle.justfile_model.specs.Reading.{after}
+use Rattle.justfile_parse.specs.Reader.{accept, lines}
+use Rattle.justfile_parse.specs.Tree.{line_tree}
+use Rattle.justfile_parse.specs.View.{left, state_of}
+use Rattle.justfile_parse.specs.declared.parser.Parser.{Parser}
+use Rattle.justfile_parse.proofs.Bodies.{begins, line_shrinks, lines_stop}
+use Rattle.justfile_parse.proofs.Rest.{left_is}
 use Rattle.justfile_parse.proofs.parser.Parser.parse_lines.Goals as goal
 
 pub lines-init : goal.lines-init
-lines-init g c = rw c.new-lines.ensures.items (part_begins g.X.Expander.answer line_of lines IsGivenLine c.args.self.now)
+lines-init g c =
+    let s = state_of g.X.Expander.answer c.args.self.now in
+    record { ahead = omega arith; value = rw c.new-lines.ensures.items (begins (lines s)) }
 
-pub lines-preserved : goal.lines-preserved
-lines-preserved g c =
-    body_goes_on g.X.Expander.answer c.args.self.now c.lines.self c.accept.new.self c.lines.lines.items c.lines.invariant c.in_default.ensures.none
-    c.in_default.ensures.same_input c.accept.ensures.same c.in_default.ensures.stays c.parse_body_line.new.self c.in_ok-line.line c.push.new.self.items
-    c.in_ok-line.ensures.same c.in_ok-line.ensures.progress c.in_ok-line.ensures.value c.in_ok-line.ensures.given c.in_ok-push.ensures.items
+pub lines-smaller : goal.lines-smaller
+lines-smaller g c =
+    let A = g.X.Expander.answer in
+    let q = c.accept.new.self in
+    let b = c.parse_body_line.new.self in
+    let Q : Parser _ → Type 0 = λ p. accept kinds.Dedent (state_of A p) ≡ None in
+    omega (
+      arith,
+      line_shrinks (state_of A q) c.in_ok-line.line (state_of A b) (subst Q (sym c.in_default.ensures.unmoved) c.in_default.ensures.none) c.in_ok-line.ensures.reads,
+      left_is A q,
+      left_is A b,
+      ap (λ (p : Parser _). left p) c.in_default.ensures.unmoved,
+    )
+
+pub returns-in_err-line-clause-reads : goal.returns-in_err-line-clause-reads
+returns-in_err-line-clause-reads g c =
+    let A = g.X.Expander.answer in
+    let done = c.lines.lines.items in
+    let p = err_from_is_err_and c.from_residual.result c.from_residual.ensures.1 in
+    let P : Parser _ → Type 0 = λ q. after (map line_tree done) (lines (state_of A q)) ≡ lines (state_of A c.args.self.now) in
+    let Q : Parser _ → Type 0 = λ q. accept kinds.Dedent (state_of A q) ≡ None in
+    let here = sym c.in_default.ensures.unmoved in
+    rw (p.1, p.2)
+    (lines_stop (state_of A c.args.self.now) (state_of A c.accept.new.self) done (subst P here c.lines.invariant.value) (subst Q here c.in_default.ensures.none)
+    c.in_err-line.field-0.0 (state_of A c.parse_body_line.new.self) c.in_err-line.ensures.reads)

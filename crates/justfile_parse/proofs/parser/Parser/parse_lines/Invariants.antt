@@ -1,10 +1,15 @@
-use Rattle.std.proofs.Common.{length}
-use Rattle.justfile_parse.specs.View.{input_of}
-use Rattle.justfile_parse.proofs.Bodies.{IsBodyTo}
+use Rattle.std.proofs.Common.{◌≡◌, ◌≤◌, map}
+use Rattle.justfile_model.specs.Reading.{after}
+use Rattle.justfile_parse.specs.Reader.{lines}
+use Rattle.justfile_parse.specs.Tree.{line_tree}
+use Rattle.justfile_parse.specs.View.{left, state_of}
 use Rattle.justfile_parse.proofs.parser.Parser.parse_lines.Given as goal
 
 abbrev pub invariant-lines : goal.invariant-lines
-invariant-lines g l = IsBodyTo g.X.Expander.answer l.fn.self l.self l.lines.items
+invariant-lines g l = record {
+  ahead : left l.self ≤ left l.fn.self;
+  value : after (map line_tree l.lines.items) (lines (state_of g.X.Expander.answer l.self)) ≡ lines (state_of g.X.Expander.answer l.fn.self);
+}
 
 abbrev pub decreases-lines : goal.decreases-lines
-decreases-lines g l = length (input_of l.self).tokens
+decreases-lines g l = left l.self

@@ -1,62 +1,58 @@
-use Rattle.std.proofs.Common.{◌≡◌, refl, ap, ◌∙◌, sym, subst, List, map, Ok}
-use Rattle.std.specs.Borrow.{Bor}
-use Rattle.justfile_model.specs.Reader as reader
-use Rattle.justfile_model.specs.Features.{Noted}
-use Rattle.justfile_model.specs.Reading.{Input}
-use Rattle.justfile_model.specs.Tok.{Tok}
+use Rattle.std.proofs.Common.{◌≡◌, refl, subst, map, Ok, Err, Option}
+use Rattle.justfile_model.specs.Reading.{NoNumber}
 use Rattle.justfile_model.specs.SignificantTokens.{identifiers}
-use Rattle.justfile_file.specs.Item.{item_of}
 use Rattle.justfile_cook.specs.Literal.{answers_by}
-use Rattle.justfile_parse.specs.Given.{AreNotedIn}
+use Rattle.justfile_parse.specs.Reader as reader
+use Rattle.justfile_parse.specs.Reader.{Run, State}
 use Rattle.justfile_parse.specs.Reading.{IsFaultOf, IsMoved, StopsAt}
-use Rattle.justfile_parse.specs.Significant.{TableEntry, significant_of}
-use Rattle.justfile_parse.specs.WantsNumber.{LinesWantNumber, behind_mark}
-use Rattle.justfile_parse.specs.View.{input_at, input_of}
-use Rattle.justfile_parse.proofs.Parsed.{none_noted, read_file, stopped_file, unread}
-use Rattle.justfile_parse.proofs.Rest.{input_noted_is, input_start}
+use Rattle.justfile_parse.specs.Significant.{significant_of}
+use Rattle.justfile_parse.specs.Tree.{item_tree}
+use Rattle.justfile_parse.specs.View.{state_at, state_of}
+use Rattle.justfile_parse.specs.WantsNumber.{counters_of}
+use Rattle.justfile_parse.specs.declared.significant.TableEntry.{TableEntry}
+use Rattle.justfile_parse.proofs.Rest.{begin_is, noted_is}
+use Rattle.justfile_parse.proofs.Whole.{read_of, unread_of}
 use Rattle.justfile_parse.proofs.parser.Parser.parse_table.Goals as goal
 
-pub returns-in-Ok-clause-ok : goal.returns-in-Ok-clause-ok
-returns-in-Ok-clause-ok g c =
-    let E = answers_by g.X.Expander.answer c.args.expander.now in
-    let p = c.parse_file.new.self in
-    let start : input_at c.args.tokens.now 0 c.new.result.items ≡ reader.start E (map significant_of c.args.tokens.now)
-    = ap (input_at c.args.tokens.now 0) c.new.ensures.items ∙ input_start E c.args.tokens.now in
-    record {
-      read =
-          read_file E (map significant_of c.args.tokens.now) (map item_of c.in-Ok.items.items) (input_of p) (ap (λ (s : Input). reader.items E (behind_mark s)) (sym start) ∙ c.in-Ok.ensures.value)
-          ∙ ap (λ (n : List (Noted Tok)). Ok (map item_of c.in-Ok.items.items, n)) (input_noted_is p.tokens.now p.next p.list_features.items);
-      given = c.in-Ok.ensures.given;
-      noted =
-          let P : Bor (List TableEntry) → Type 0 = λ t. AreNotedIn t.now p.list_features.items in
-          subst P c.parse_file.ensures.tokens (c.in-Ok.ensures.noted (subst (AreNotedIn c.args.tokens.now) (sym c.new.ensures.items) (none_noted c.args.tokens.now)));
-    }
+pub parse_file-requires : goal.parse_file-requires
+unfolding state_of state_at
+parse_file-requires g c = refl
 
-pub returns-in-Ok-clause-moved : goal.returns-in-Ok-clause-moved
-returns-in-Ok-clause-moved g c =
-    let E = answers_by g.X.Expander.answer c.args.expander.now in
-    let start : input_at c.args.tokens.now 0 c.new.result.items ≡ reader.start E (map significant_of c.args.tokens.now)
-    = ap (input_at c.args.tokens.now 0) c.new.ensures.items ∙ input_start E c.args.tokens.now in
-    let P : Input → Type 0 = λ s. IsMoved c.args.numerator.now c.parse_file.new.numerator (identifiers s.tokens) in
-    subst P start c.parse_file.ensures.moved
+pub returns-in-Ok-clause-ok : goal.returns-in-Ok-clause-ok
+unfolding state_of
+returns-in-Ok-clause-ok g c =
+    let A = g.X.Expander.answer in
+    let p = c.parse_file.new.self in
+    let run : Run = record { expander = answers_by A c.args.expander.now; table = c.args.tokens.now; file_depth = c.args.file_depth; import_offsets = c.args.import_offsets.now } in
+    let P : State → Type 0 = λ s. reader.file (counters_of c.args.numerator.now) s ≡ Ok ((map item_tree c.in-Ok.items.items, counters_of c.parse_file.new.numerator), state_of A p) in
+    read_of run.expander run.table run.file_depth run.import_offsets c.args.numerator.now c.parse_file.new.numerator c.in-Ok.items.items p.list_features.items (state_of A p)
+    (subst P (begin_is run c.new.result.items c.new.ensures.items) c.in-Ok.ensures.reads) (noted_is A p)
 
 pub returns-clause-err : goal.returns-clause-err
+unfolding state_of
 returns-clause-err g c =
-    let E = answers_by g.X.Expander.answer c.args.expander.now in
-    let ts = map significant_of c.args.tokens.now in
-    let left = input_of c.parse_file.new.self in
-    let start : input_at c.args.tokens.now 0 c.new.result.items ≡ reader.start E ts
-    = ap (input_at c.args.tokens.now 0) c.new.ensures.items ∙ input_start E c.args.tokens.now in
-    let P : Input → Type 0 = λ s. StopsAt c.in-Err.stop left (LinesWantNumber E (behind_mark s) c.args.numerator.now c.parse_file.new.numerator) (reader.items E (behind_mark s)) in
-    let Q : Bor (List TableEntry) → Type 0 = λ t. IsFaultOf t.now left c.in-Err.stop c.fault.result in
-    unread E ts c.args.tokens.now c.args.numerator.now c.parse_file.new.numerator left c.in-Err.stop c.fault.result
-    (stopped_file E ts c.in-Err.stop left c.args.numerator.now c.parse_file.new.numerator (subst P start c.in-Err.ensures.value)) c.in-Err.ensures.stop refl
-    (subst Q c.parse_file.ensures.tokens c.fault.ensures)
+    let A = g.X.Expander.answer in
+    let p = c.parse_file.new.self in
+    let n = counters_of c.args.numerator.now in
+    let m = counters_of c.parse_file.new.numerator in
+    let run : Run = record { expander = answers_by A c.args.expander.now; table = c.args.tokens.now; file_depth = c.args.file_depth; import_offsets = c.args.import_offsets.now } in
+    let P : State → Type 0 = λ s. StopsAt c.in-Err.stop (state_of A p) (reader.file n s ≡ Err (NoNumber m)) (reader.file n s) in
+    let Q : Option TableEntry → Type 0 = λ next. IsFaultOf c.args.tokens.now next c.in-Err.stop c.fault.result in
+    unread_of run.expander run.table run.file_depth run.import_offsets c.args.numerator.now c.parse_file.new.numerator (state_of A p) c.in-Err.stop c.fault.result
+    (subst P (begin_is run c.new.result.items c.new.ensures.items) c.in-Err.ensures.reads) (subst Q c.first.ensures c.fault.ensures)
+
+pub returns-in-Ok-clause-moved : goal.returns-in-Ok-clause-moved
+unfolding state_of
+returns-in-Ok-clause-moved g c =
+    let A = g.X.Expander.answer in
+    let run : Run = record { expander = answers_by A c.args.expander.now; table = c.args.tokens.now; file_depth = c.args.file_depth; import_offsets = c.args.import_offsets.now } in
+    let P : State → Type 0 = λ s. IsMoved c.args.numerator.now c.parse_file.new.numerator (identifiers (map significant_of s.left)) in
+    subst P (begin_is run c.new.result.items c.new.ensures.items) c.parse_file.ensures.moved
 
 pub returns-clause-moved : goal.returns-clause-moved
+unfolding state_of
 returns-clause-moved g c =
-    let E = answers_by g.X.Expander.answer c.args.expander.now in
-    let start : input_at c.args.tokens.now 0 c.new.result.items ≡ reader.start E (map significant_of c.args.tokens.now)
-    = ap (input_at c.args.tokens.now 0) c.new.ensures.items ∙ input_start E c.args.tokens.now in
-    let P : Input → Type 0 = λ s. IsMoved c.args.numerator.now c.parse_file.new.numerator (identifiers s.tokens) in
-    subst P start c.parse_file.ensures.moved
+    let A = g.X.Expander.answer in
+    let run : Run = record { expander = answers_by A c.args.expander.now; table = c.args.tokens.now; file_depth = c.args.file_depth; import_offsets = c.args.import_offsets.now } in
+    let P : State → Type 0 = λ s. IsMoved c.args.numerator.now c.parse_file.new.numerator (identifiers (map significant_of s.left)) in
+    subst P (begin_is run c.new.result.items c.new.ensures.items) c.parse_file.ensures.moved

@@ -1,0 +1,398 @@
+-- Two readers side by side: how what the one reads and leaves is related to what the other does. `Relations` says what is related of tokens
+-- and leaves, and the rest follows from it.
+use Rattle.std.proofs.Common.{◌≡◌, ℕ, suc, ◌+◌, Bool, true, false, ◌&&◌, cond, List, [], ◌∷◌, ◌++◌, length, Option, Some, None, Result, Ok, Err, refl, ap, subst, ◌-◌, nat_lt}
+use Rattle.justfile_base.specs.declared.token_kind.TokenKind.{TokenKind}
+use Rattle.justfile_model.specs.declared.conditional_operator.ConditionalOperator.{ConditionalOperator}
+use Rattle.justfile_model.specs.declared.level.Level.{Level}
+use Rattle.justfile_model.specs.declared.level.Level.TheVariants as levels
+use Rattle.justfile_model.specs.declared.list_feature.ListFeature.{ListFeature}
+use Rattle.justfile_model.specs.declared.operator.Operator.{Operator}
+use Rattle.justfile_model.specs.declared.operator.Operator.TheVariants as operators
+use Rattle.justfile_model.specs.ExpressionReader.{Met, accept_operator, by_text, closed, cooked, is_within, met_at, opened, operator_by}
+use Rattle.justfile_model.specs.Expressions.{ends_open, front}
+use Rattle.justfile_model.specs.Features.{Noted, noted_if, uncompared_feature}
+use Rattle.justfile_model.specs.Literals as literals
+use Rattle.justfile_model.specs.Literals.{Answers, Literal, LiteralFault, cooked_text, string_of, token_of}
+use Rattle.justfile_model.specs.Operators.{binary, is_at, operator_of}
+use Rattle.justfile_model.specs.Reader.{has_body}
+use Rattle.justfile_model.specs.Reading.{◌>>=◌, Counters, Leaves, NoNumber, NotCooked, Read, Refusal, State, Taken, TooDeep, Unexpected, accept, accept_by, accept_marked, accept_word, at, begin_with, choose, expect, is_word, marked_by, marks, next_are, refused, same_kind, with}
+use Rattle.justfile_model.specs.SignificantTokens.{SignificantToken}
+use Rattle.justfile_model.specs.Tree as tree
+use Rattle.justfile_model.specs.Tree.{BodyLine, Expr, Exprs, Fragment, Item, Line, Parts, before, trimmed}
+use Rattle.justfile_model.proofs.Counters.{count}
+
+-- what is related of two readers' runs, tokens, leaves and places
+pub record Relations (R T A B R' T' A' B' : Type 0) : Type 1 where
+  pub run : R → R' → Type 0
+  pub token : T → T' → Type 0
+  pub spot : B → B' → Type 0
+  -- variables, and names of what is called
+  pub name : A → A' → Type 0
+  -- a literal, by how it is asked for its text
+  pub literal : Literal (List ℕ) → A → A' → Type 0
+  -- texts of bodies
+  pub text : A → A' → Type 0
+  -- the names of assignments, and of recipes before their bodies, which got this number
+  pub assignment : (number : ℕ) → A → A' → Type 0
+  pub recipe : (number : ℕ) → A → List (BodyLine A B ℕ) → A' → List (BodyLine A' B' ℕ) → Type 0
+
+-- as many of each, one related to the other
+pub data Each {X Y : Type 0} (Rel : X → Y → Type 0) : List X → List Y → Type 0 where
+  nil : Each Rel [] []
+  cons : {x : X} {y : Y} {xs : List X} {ys : List Y} → Rel x y → Each Rel xs ys → Each Rel (x ∷ xs) (y ∷ ys)
+
+pub each_both : {X Y : Type 0} {Rel : X → Y → Type 0} {xs zs : List X} {ys us : List Y} → Each Rel xs ys → Each Rel zs us → Each Rel (xs ++ zs) (ys ++ us)
+each_both nil k = k
+each_both (cons h hs) k = cons h (each_both hs k)
+
+pub each_length : {X Y : Type 0} {Rel : X → Y → Type 0} {xs : List X} {ys : List Y} → Each Rel xs ys → length xs ≡ length ys
+each_length nil = refl
+each_length (cons h hs) = ap suc (each_length hs)
+
+module _ {R T A B R' T' A' B' : Type 0} (rel : Relations R T A B R' T' A' B') where
+  -- ---- trees
+
+  mutual
+    pub data Alike : Expr A B → Expr A' B' → Type 0 where
+      or : {l r : Expr A B} {l' r' : Expr A' B'} → Alike l l' → Alike r r' → Alike (tree.Or l r) (tree.Or l' r')
+      and : {l r : Expr A B} {l' r' : Expr A' B'} → Alike l l' → Alike r r' → Alike (tree.And l r) (tree.And l' r')
+      comparison : {l r : Expr A B} {l' r' : Expr A' B'} {by : ConditionalOperator} {b : B} {b' : B'} → Alike l l' → rel.spot b b' → Alike r r' → Alike (tree.Comparison l by b r) (tree.Comparison l' by b' r')
+      concatenation : {l r : Expr A B} {l' r' : Expr A' B'} {b : B} {b' : B'} → Alike l l' → rel.spot b b' → Alike r r' → Alike (tree.Concatenation l b r) (tree.Concatenation l' b' r')
+      list_concatenation : {l r : Expr A B} {l' r' : Expr A' B'} {b : B} {b' : B'} → Alike l l' → rel.spot b b' → Alike r r' → Alike (tree.ListConcatenation l b r) (tree.ListConcatenation l' b' r')
+      join : {l r : Expr A B} {l' r' : Expr A' B'} {b : B} {b' : B'} → Alike l l' → rel.spot b b' → Alike r r' → Alike (tree.Join l b r) (tree.Join l' b' r')
+      root : {r : Expr A B} {r' : Expr A' B'} {b : B} {b' : B'} → rel.spot b b' → Alike r r' → Alike (tree.Root b r) (tree.Root b' r')
+      if_only : {c e : Expr A B} {c' e' : Expr A' B'} → Alike c c' → Alike e e' → Alike (tree.If c e) (tree.If c' e')
+      if_else : {c e o : Expr A B} {c' e' o' : Expr A' B'} → Alike c c' → Alike e e' → Alike o o' → Alike (tree.IfElse c e o) (tree.IfElse c' e' o')
+      not : {e : Expr A B} {e' : Expr A' B'} → Alike e e' → Alike (tree.Not e) (tree.Not e')
+      string : {expanded : Bool} (lexeme : List ℕ) {a : A} {a' : A'} → rel.literal (string_of expanded lexeme) a a' → Alike (tree.StringLiteral expanded a) (tree.StringLiteral expanded a')
+      format_literal : (lexeme : List ℕ) {a : A} {a' : A'} → rel.literal (literals.Single lexeme) a a' → Alike (tree.FormatLiteral a) (tree.FormatLiteral a')
+      format_string : (lexeme : List ℕ) {a : A} {a' : A'} {e : Expr A B} {e' : Expr A' B'} {ps : Parts A B} {ps' : Parts A' B'} → rel.literal (literals.Start lexeme) a a' → Alike e e' → AlikeParts lexeme ps ps'
+          → Alike (tree.FormatString a e ps) (tree.FormatString a' e' ps')
+      backtick : (lexeme : List ℕ) {a : A} {a' : A'} → rel.literal (literals.Command lexeme) a a' → Alike (tree.Backtick a) (tree.Backtick a')
+      assert : {b : B} {b' : B'} {c : Expr A B} {c' : Expr A' B'} → rel.spot b b' → Alike c c' → Alike (tree.Assert b c) (tree.Assert b' c')
+      assert_message : {b : B} {b' : B'} {c m : Expr A B} {c' m' : Expr A' B'} → rel.spot b b' → Alike c c' → Alike m m' → Alike (tree.AssertMessage b c m) (tree.AssertMessage b' c' m')
+      variable : {a : A} {a' : A'} → rel.name a a' → Alike (tree.Variable a) (tree.Variable a')
+      call : {a : A} {a' : A'} {es : Exprs A B} {es' : Exprs A' B'} → rel.name a a' → AlikeAll es es' → Alike (tree.Call a es) (tree.Call a' es')
+      group : {e : Expr A B} {e' : Expr A' B'} → Alike e e' → Alike (tree.Group e) (tree.Group e')
+      list : {b : B} {b' : B'} {es : Exprs A B} {es' : Exprs A' B'} → rel.spot b b' → AlikeAll es es' → Alike (tree.ListOf b es) (tree.ListOf b' es')
+
+    pub data AlikeAll : Exprs A B → Exprs A' B' → Type 0 where
+      none : AlikeAll tree.none tree.none
+      more : {e : Expr A B} {e' : Expr A' B'} {es : Exprs A B} {es' : Exprs A' B'} → Alike e e' → AlikeAll es es' → AlikeAll (tree.more e es) (tree.more e' es')
+
+    -- parts of a format string that starts so
+    pub data AlikeParts : (start : List ℕ) → Parts A B → Parts A' B' → Type 0 where
+      last : {start : List ℕ} (lexeme : List ℕ) {a : A} {a' : A'} → rel.literal (literals.End start lexeme) a a' → AlikeParts start (tree.Last a) (tree.Last a')
+      continue : {start : List ℕ} (lexeme : List ℕ) {a : A} {a' : A'} {e : Expr A B} {e' : Expr A' B'} {ps : Parts A B} {ps' : Parts A' B'} → rel.literal (literals.Continue start lexeme) a a' → Alike e e'
+          → AlikeParts start ps ps' → AlikeParts start (tree.Continue a e ps) (tree.Continue a' e' ps')
+
+  pub data AlikeFragment : Fragment A B → Fragment A' B' → Type 0 where
+    a_text : {a : A} {a' : A'} → rel.text a a' → AlikeFragment (tree.Text a) (tree.Text a')
+    a_value : {e : Expr A B} {e' : Expr A' B'} → Alike e e' → AlikeFragment (tree.Interpolation e) (tree.Interpolation e')
+
+  pub data AlikeLine : BodyLine A B ℕ → BodyLine A' B' ℕ → Type 0 where
+    line : {number : ℕ} {fs : List (Fragment A B)} {fs' : List (Fragment A' B')} → Each AlikeFragment fs fs' → AlikeLine (Line number fs) (Line number fs')
+
+  -- an item, where the counters stand before it
+  pub data AlikeItem (n : Counters) : Item A B ℕ → Item A' B' ℕ → Type 0 where
+    assignment : {a : A} {a' : A'} {e : Expr A B} {e' : Expr A' B'} → rel.assignment n.bindings a a' → Alike e e' → AlikeItem n (tree.Assignment a e) (tree.Assignment a' e')
+    comment : {text : List ℕ} → AlikeItem n (tree.Comment text) (tree.Comment text)
+    newline : AlikeItem n tree.Newline tree.Newline
+    recipe : {a : A} {a' : A'} {body : List (BodyLine A B ℕ)} {body' : List (BodyLine A' B' ℕ)} → rel.recipe n.recipes a body a' body' → Each AlikeLine body body' → AlikeItem n (tree.Recipe a body) (tree.Recipe a' body')
+
+  -- items, where the counters stand before the first
+  pub data AlikeItems : Counters → List (Item A B ℕ) → List (Item A' B' ℕ) → Type 0 where
+    no_item : {n : Counters} → AlikeItems n [] []
+    an_item : {n : Counters} {i : Item A B ℕ} {i' : Item A' B' ℕ} {is : List (Item A B ℕ)} {is' : List (Item A' B' ℕ)} → AlikeItem n i i' → AlikeItems (count n i) is is' → AlikeItems n (i ∷ is) (i' ∷ is')
+
+  -- what a tree says of itself, both say
+
+  pub same_uncompared : {e : Expr A B} {e' : Expr A' B'} → Alike e e' → uncompared_feature e ≡ uncompared_feature e'
+  same_uncompared (comparison l b r) = refl
+  same_uncompared (or l r) = refl
+  same_uncompared (and l r) = refl
+  same_uncompared (concatenation l b r) = refl
+  same_uncompared (list_concatenation l b r) = refl
+  same_uncompared (join l b r) = refl
+  same_uncompared (root b r) = refl
+  same_uncompared (if_only c e) = refl
+  same_uncompared (if_else c e o) = refl
+  same_uncompared (not e) = refl
+  same_uncompared (string l a) = refl
+  same_uncompared (format_literal l a) = refl
+  same_uncompared (format_string l a e ps) = refl
+  same_uncompared (backtick l a) = refl
+  same_uncompared (assert b c) = refl
+  same_uncompared (assert_message b c m) = refl
+  same_uncompared (variable a) = refl
+  same_uncompared (call a es) = refl
+  same_uncompared (group e) = refl
+  same_uncompared (list b es) = refl
+
+  pub same_ends : {e : Expr A B} {e' : Expr A' B'} → Alike e e' → ends_open e ≡ ends_open e'
+  same_ends (if_only c e) = refl
+  same_ends (if_else c e o) = same_ends o
+  same_ends (comparison l b r) = refl
+  same_ends (or l r) = refl
+  same_ends (and l r) = refl
+  same_ends (concatenation l b r) = refl
+  same_ends (list_concatenation l b r) = refl
+  same_ends (join l b r) = refl
+  same_ends (root b r) = refl
+  same_ends (not e) = refl
+  same_ends (string l a) = refl
+  same_ends (format_literal l a) = refl
+  same_ends (format_string l a e ps) = refl
+  same_ends (backtick l a) = refl
+  same_ends (assert b c) = refl
+  same_ends (assert_message b c m) = refl
+  same_ends (variable a) = refl
+  same_ends (call a es) = refl
+  same_ends (group e) = refl
+  same_ends (list b es) = refl
+
+  pub same_body : {n : Counters} {i : Item A B ℕ} {i' : Item A' B' ℕ} → AlikeItem n i i' → has_body i ≡ has_body i'
+  same_body (assignment a e) = refl
+  same_body comment = refl
+  same_body newline = refl
+  same_body (recipe a nil) = refl
+  same_body (recipe a (cons l ls)) = refl
+
+  before_alike : {l : BodyLine A B ℕ} {l' : BodyLine A' B' ℕ} {ls : List (BodyLine A B ℕ)} {ls' : List (BodyLine A' B' ℕ)} → AlikeLine l l' → Each AlikeLine ls ls' → Each AlikeLine (before l ls) (before l' ls')
+  before_alike (line nil) nil = nil
+  before_alike (line nil) (cons k ks) = cons (line nil) (cons k ks)
+  before_alike (line (cons f fs)) ks = cons (line (cons f fs)) ks
+
+  pub trimmed_alike : {ls : List (BodyLine A B ℕ)} {ls' : List (BodyLine A' B' ℕ)} → Each AlikeLine ls ls' → Each AlikeLine (trimmed ls) (trimmed ls')
+  trimmed_alike nil = nil
+  trimmed_alike (cons l ls) = before_alike l (trimmed_alike ls)
+
+  pub binary_alike : (o : Operator) {l r : Expr A B} {l' r' : Expr A' B'} {b : B} {b' : B'} → Alike l l' → rel.spot b b' → Alike r r' → Alike (binary o l b r) (binary o l' b' r')
+  binary_alike operators.Or l b r = or l r
+  binary_alike operators.And l b r = and l r
+  binary_alike (operators.Compare by) l b r = comparison l b r
+  binary_alike operators.Join l b r = join l b r
+  binary_alike operators.ListConcatenation l b r = list_concatenation l b r
+  binary_alike operators.Concatenation l b r = concatenation l b r
+
+  -- ---- where reading stands
+
+  abbrev pub AlikeNoted : Noted B → Noted B' → Type 0
+  AlikeNoted x y = (x.0 ≡ y.0) × rel.spot x.1 y.1
+
+  pub record States (s : State R T B) (s' : State R' T' B') : Type 0 where
+    pub run : rel.run s.run s'.run
+    pub depth : s.depth ≡ s'.depth
+    pub left : Each rel.token s.left s'.left
+    pub noted : Each AlikeNoted s.noted s'.noted
+
+  pub at_alike : {s : State R T B} {s' : State R' T' B'} {ts : List T} {ts' : List T'} → States s s' → Each rel.token ts ts' → States (at s ts) (at s' ts')
+  at_alike h k = record { run = h.run; depth = h.depth; left = k; noted = h.noted }
+
+  pub with_alike : {s : State R T B} {s' : State R' T' B'} {fs : List (Noted B)} {fs' : List (Noted B')} → Each AlikeNoted fs fs' → States s s' → States (with fs s) (with fs' s')
+  with_alike k h = record { run = h.run; depth = h.depth; left = h.left; noted = each_both h.noted k }
+
+  pub one_noted : (feature : ListFeature) {b : B} {b' : B'} → rel.spot b b' → Each AlikeNoted ((feature, b) ∷ []) ((feature, b') ∷ [])
+  one_noted feature h = cons (refl, h) nil
+
+  same_feature : (f g : ListFeature) → ◌≡◌ {A = Option ListFeature} (Some f) (Some g) → f ≡ g
+  same_feature f g e = cc
+
+  pub noted_if_alike : (f g : Option ListFeature) {b : B} {b' : B'} → f ≡ g → rel.spot b b' → Each AlikeNoted (noted_if f b) (noted_if g b')
+  noted_if_alike None None e h = nil
+  noted_if_alike (Some f) (Some g) e h = cons (same_feature f g e, h) nil
+  noted_if_alike None (Some g) e h = cc
+  noted_if_alike (Some f) None e h = cc
+
+  pub opened_alike : (k : Level) {s : State R T B} {s' : State R' T' B'} → States s s' → States (opened k s) (opened k s')
+  opened_alike levels.Expression h = record { run = h.run; depth = ap (λ n. n + 1) h.depth; left = h.left; noted = h.noted }
+  opened_alike levels.Disjunct h = h
+  opened_alike levels.Compared h = h
+  opened_alike levels.Conjunct h = h
+  opened_alike levels.Value h = h
+
+  pub closed_alike : (k : Level) {s : State R T B} {s' : State R' T' B'} → States s s' → States (closed k s) (closed k s')
+  closed_alike levels.Expression h = record { run = h.run; depth = ap (λ n. n - 1) h.depth; left = h.left; noted = h.noted }
+  closed_alike levels.Disjunct h = h
+  closed_alike levels.Compared h = h
+  closed_alike levels.Conjunct h = h
+  closed_alike levels.Value h = h
+
+  pub same_within : (k : Level) {s : State R T B} {s' : State R' T' B'} → States s s' → is_within k s ≡ is_within k s'
+  same_within levels.Expression h = ap (λ n. nat_lt n 256) h.depth
+  same_within levels.Disjunct h = refl
+  same_within levels.Compared h = refl
+  same_within levels.Conjunct h = refl
+  same_within levels.Value h = refl
+
+  -- ---- answers
+
+  pub data AlikeNext : Option T → Option T' → Type 0 where
+    no_next : AlikeNext None None
+    a_next : {t : T} {t' : T'} → rel.token t t' → AlikeNext (Some t) (Some t')
+
+  pub front_alike : {ts : List T} {ts' : List T'} → Each rel.token ts ts' → AlikeNext (front ts) (front ts')
+  front_alike nil = no_next
+  front_alike (cons h hs) = a_next h
+
+  pub data Refusals : Refusal T B → Refusal T' B' → Type 0 where
+    unexpected : {o : Option T} {o' : Option T'} → AlikeNext o o' → Refusals (Unexpected o) (Unexpected o')
+    too_deep : {o : Option T} {o' : Option T'} → AlikeNext o o' → Refusals (TooDeep o) (TooDeep o')
+    not_cooked : {fault : LiteralFault} {b : B} {b' : B'} → rel.spot b b' → Refusals (NotCooked fault b) (NotCooked fault b')
+
+  -- Both are read and related, or refused for the same reason. Where a number is wanting in the one, `Short` is known of the other.
+  pub data Related {X Y : Type 0} (Q : X → Y → Type 0) (Short : Counters → Read R' T' B' Y → Type 0) : Read R T B X → Read R' T' B' Y → Type 0 where
+    both : {x : X × State R T B} {y : Y × State R' T' B'} → Q x.0 y.0 → States x.1 y.1 → Related Q Short (Ok x) (Ok y)
+    neither : {e : Refusal T B} {e' : Refusal T' B'} → Refusals e e' → Related Q Short (Err e) (Err e')
+    short : {n : Counters} {found : Read R' T' B' Y} → Short n found → Related Q Short (Err (NoNumber n)) found
+
+  -- no number is drawn
+  abbrev pub Never : {Y : Type 0} → Counters → Read R' T' B' Y → Type 0
+  Never n found = ⊥
+
+  -- a step, in which no number is drawn, and those after it
+  pub bind : {X X' Y Y' : Type 0} {Q : X → X' → Type 0} {P : Y → Y' → Type 0} {Short : Counters → Read R' T' B' Y' → Type 0} {found : Read R T B X} {found' : Read R' T' B' X'} (f : X × State R T B → Read R T B Y) (f' : X' × State R' T' B' → Read R' T' B' Y')
+      → Related Q Never found found' → ((x : X × State R T B) (y : X' × State R' T' B') → Q x.0 y.0 → States x.1 y.1 → Related P Short (f x) (f' y)) → Related P Short (found >>= f) (found' >>= f')
+  bind f f' (both {x = x} {y = y} q h) k = k x y q h
+  bind f f' (neither h) k = neither h
+  bind f f' (short h) k = absurd h
+
+  -- the same where numbers are drawn in it
+  pub bind_short : {X X' Y Y' : Type 0} {Q : X → X' → Type 0} {P : Y → Y' → Type 0} {First : Counters → Read R' T' B' X' → Type 0} {Short : Counters → Read R' T' B' Y' → Type 0} {found : Read R T B X} {found' : Read R' T' B' X'}
+      (f : X × State R T B → Read R T B Y) (f' : X' × State R' T' B' → Read R' T' B' Y')
+      → Related Q First found found' → ((n : Counters) → First n found' → Short n (found' >>= f')) → ((x : X × State R T B) (y : X' × State R' T' B') → found ≡ Ok x → found' ≡ Ok y → Q x.0 y.0 → States x.1 y.1 → Related P Short (f x) (f' y))
+      → Related P Short (found >>= f) (found' >>= f')
+  bind_short f f' (both {x = x} {y = y} q h) lacks k = k x y refl refl q h
+  bind_short f f' (neither h) lacks k = neither h
+  bind_short f f' (short {n = n} h) lacks k = short (lacks n h)
+
+  pub weaken : {X Y : Type 0} {Q P : X → Y → Type 0} {Short Other : Counters → Read R' T' B' Y → Type 0} {found : Read R T B X} {found' : Read R' T' B' Y} → ((x : X) (y : Y) → Q x y → P x y) → ((n : Counters) → Short n found' → Other n found')
+      → Related Q Short found found' → Related P Other found found'
+  weaken f g (both {x = x} {y = y} q h) = both (f x.0 y.0 q) h
+  weaken f g (neither h) = neither h
+  weaken f g (short {n = n} h) = short (g n h)
+
+  pub by_tests : {X Y : Type 0} {Q : X → Y → Type 0} {Short : Counters → Read R' T' B' Y → Type 0} (b b' : Bool) {x y : Read R T B X} {x' y' : Read R' T' B' Y} → b ≡ b' → Related Q Short x x' → Related Q Short y y' → Related Q Short (cond b x y) (cond b' x' y')
+  by_tests true true e h k = h
+  by_tests false false e h k = k
+  by_tests true false e h k = cc
+  by_tests false true e h k = cc
+
+  -- ---- tokens that are taken
+
+  pub data Takes : Taken R T B → Taken R' T' B' → Type 0 where
+    none_taken : Takes None None
+    taken : {t : T} {t' : T'} {s : State R T B} {s' : State R' T' B'} → rel.token t t' → States s s' → Takes (Some (t, s)) (Some (t', s'))
+
+  pub pick : {X Y : Type 0} {Q : X → Y → Type 0} {Short : Counters → Read R' T' B' Y → Type 0} {o : Taken R T B} {o' : Taken R' T' B'} {x : Read R T B X} {x' : Read R' T' B' Y} (f : T × State R T B → Read R T B X) (f' : T' × State R' T' B' → Read R' T' B' Y)
+      → Takes o o' → Related Q Short x x' → ((p : T × State R T B) (q : T' × State R' T' B') → rel.token p.0 q.0 → States p.1 q.1 → Related Q Short (f p) (f' q)) → Related Q Short (choose o x f) (choose o' x' f')
+  pick f f' none_taken h k = h
+  pick f f' (taken {t = t} {t' = t'} {s = s} {s' = s'} e h2) h k = k (t, s) (t', s') e h2
+
+  take_tested : (b b' : Bool) {t : T} {t' : T'} {s : State R T B} {s' : State R' T' B'} → b ≡ b' → rel.token t t' → States s s' → Takes (cond b (Some (t, s)) None) (cond b' (Some (t', s')) None)
+  take_tested true true e h k = taken h k
+  take_tested false false e h k = none_taken
+  take_tested true false e h k = cc
+  take_tested false true e h k = cc
+
+  pub data Meets : Met R T B → Met R' T' B' → Type 0 where
+    none_met : Meets None None
+    met : (o : Operator) {t : T} {t' : T'} {s : State R T B} {s' : State R' T' B'} → rel.token t t' → States s s' → Meets (Some (o, t, s)) (Some (o, t', s'))
+
+  meet_tested : (b : Bool) (o : Operator) {t : T} {t' : T'} {s : State R T B} {s' : State R' T' B'} → rel.token t t' → States s s' → Meets (cond b (Some (o, t, s)) None) (cond b (Some (o, t', s')) None)
+  meet_tested true o h k = met o h k
+  meet_tested false o h k = none_met
+
+  -- what the two make of tokens is related
+  pub record Respects (one : Leaves R T A B) (other : Leaves R' T' A' B') : Type 0 where
+    pub expander : (r : R) (r' : R') → rel.run r r' → one.expander r ≡ other.expander r'
+    pub see : (t : T) (t' : T') → rel.token t t' → one.see t ≡ other.see t'
+    pub spot : (t : T) (t' : T') → rel.token t t' → rel.spot (one.spot t) (other.spot t')
+    pub name : (t : T) (t' : T') → rel.token t t' → rel.name (one.name t) (other.name t')
+    pub literal : (r : R) (r' : R') (t : T) (t' : T') → rel.run r r' → rel.token t t' → (l : Literal (List ℕ)) (text : List ℕ) → token_of l ≡ (one.see t).tok.lexeme → cooked_text (one.expander r) l ≡ Ok text
+        → rel.literal l (one.literal t l text) (other.literal t' l text)
+    pub text : (t : T) (t' : T') → rel.token t t' → rel.text (one.text t) (other.text t')
+    pub assignment : (r : R) (r' : R') (t : T) (t' : T') → rel.run r r' → rel.token t t' → (number : ℕ) → rel.assignment number (one.assignment r t number) (other.assignment r' t' number)
+    pub recipe : (r : R) (r' : R') (t : T) (t' : T') → rel.run r r' → rel.token t t' → (number : ℕ) (body : List (BodyLine A B ℕ)) (body' : List (BodyLine A' B' ℕ)) → Each AlikeLine body body'
+        → rel.recipe number (one.recipe r t number body) body (other.recipe r' t' number body') body'
+    pub has_number : (n : ℕ) → one.has_number n ≡ true → other.has_number n ≡ true
+
+  module _ (one : Leaves R T A B) (other : Leaves R' T' A' B') (agree : Respects one other) where
+    accepted_by : (test : SignificantToken → Bool) {s : State R T B} {s' : State R' T' B'} {ts : List T} {ts' : List T'} → States s s' → Each rel.token ts ts' → Takes (accept_by one test s ts) (accept_by other test s' ts')
+    accepted_by test h nil = none_taken
+    accepted_by test h (cons {x = t} {y = t'} k ks) = take_tested (test (one.see t)) (test (other.see t')) (ap test (agree.see t t' k)) k (at_alike h ks)
+
+    pub accepted : (kind : TokenKind) {s : State R T B} {s' : State R' T' B'} → States s s' → Takes (accept one kind s) (accept other kind s')
+    unfolding accept
+    accepted kind h = accepted_by (λ t. same_kind t.tok.kind kind) h h.left
+
+    pub accepted_word : (word : List ℕ) {s : State R T B} {s' : State R' T' B'} → States s s' → Takes (accept_word one word s) (accept_word other word s')
+    unfolding accept_word
+    accepted_word word h = accepted_by (is_word word) h h.left
+
+    marked_alike : (word : List ℕ) (kind : TokenKind) {s : State R T B} {s' : State R' T' B'} {ts : List T} {ts' : List T'} → States s s' → Each rel.token ts ts' → Takes (marked_by one word kind s ts) (marked_by other word kind s' ts')
+    marked_alike word kind h nil = none_taken
+    marked_alike word kind h (cons m nil) = none_taken
+    marked_alike word kind h (cons {x = m} {y = m'} k (cons {x = t} {y = t'} j js)) =
+        take_tested (marks word kind (one.see m) (one.see t)) (marks word kind (other.see m') (other.see t')) (λ i. marks word kind (agree.see m m' k i) (agree.see t t' j i)) j (at_alike h js)
+
+    pub accepted_marked : (word : List ℕ) (kind : TokenKind) {s : State R T B} {s' : State R' T' B'} → States s s' → Takes (accept_marked one word kind s) (accept_marked other word kind s')
+    unfolding accept_marked
+    accepted_marked word kind h = marked_alike word kind h h.left
+
+    pub refused_alike : {X Y : Type 0} {Q : X → Y → Type 0} {Short : Counters → Read R' T' B' Y → Type 0} {s : State R T B} {s' : State R' T' B'} → States s s' → Related Q Short (Err (refused Unexpected s)) (Err (refused Unexpected s'))
+    unfolding refused
+    refused_alike h = neither (unexpected (front_alike h.left))
+
+    pub expected : (kind : TokenKind) {s : State R T B} {s' : State R' T' B'} → States s s' → Related rel.token Never (expect one kind s) (expect other kind s')
+    unfolding expect
+    expected kind h = pick (λ x. Ok x) (λ x. Ok x) (accepted kind h) (refused_alike h) (λ p q k j. both k j)
+
+    same_begin : (kinds : List TokenKind) {ts : List T} {ts' : List T'} → Each rel.token ts ts' → begin_with one kinds ts ≡ begin_with other kinds ts'
+    unfolding begin_with
+    same_begin [] h = refl
+    same_begin (kind ∷ kinds) nil = refl
+    same_begin (kind ∷ kinds) (cons {x = t} {y = t'} k ks) = λ i. same_kind (agree.see t t' k i).tok.kind kind && same_begin kinds ks i
+
+    pub same_next : (kinds : List TokenKind) {s : State R T B} {s' : State R' T' B'} → States s s' → next_are one kinds s ≡ next_are other kinds s'
+    same_next kinds h = same_begin kinds h.left
+
+    -- ---- operators
+
+    met_alike : (level : Level) (o o' : Option Operator) {t : T} {t' : T'} {s : State R T B} {s' : State R' T' B'} {ts : List T} {ts' : List T'} → o ≡ o' → rel.token t t' → States s s' → Each rel.token ts ts' → Meets (met_at one level s t ts o) (met_at other level s' t' ts' o')
+    met_alike level None None e h k j = none_met
+    met_alike level (Some o) (Some o') {t} {t'} {s} {s'} {ts} {ts'} e h k j =
+        let same : o ≡ o' = cc in
+        subst (λ p. Meets (met_at one level s t ts (Some o)) (met_at other level s' t' ts' (Some p))) same (meet_tested (is_at level o) o h (at_alike k j))
+    met_alike level None (Some o') e h k j = cc
+    met_alike level (Some o) None e h k j = cc
+
+    operator_alike : (level : Level) {s : State R T B} {s' : State R' T' B'} {ts : List T} {ts' : List T'} → States s s' → Each rel.token ts ts' → Meets (operator_by one level s ts) (operator_by other level s' ts')
+    operator_alike level h nil = none_met
+    operator_alike level h (cons {x = t} {y = t'} k ks) = met_alike level (operator_of (one.see t).tok.kind) (operator_of (other.see t').tok.kind) (ap (λ x. operator_of x.tok.kind) (agree.see t t' k)) k h ks
+
+    pub accepted_operator : (level : Level) {s : State R T B} {s' : State R' T' B'} → States s s' → Meets (accept_operator one level s) (accept_operator other level s')
+    unfolding accept_operator
+    accepted_operator level h = operator_alike level h h.left
+
+    -- ---- literals
+
+    text_alike : {X Y : Type 0} (Q : X → Y → Type 0) (make : List ℕ → X) (make' : List ℕ → Y) (x : T × State R T B) (x' : T' × State R' T' B') → rel.token x.0 x'.0 → States x.1 x'.1 → (found : Result (List ℕ) LiteralFault)
+        → ((text : List ℕ) → found ≡ Ok text → Q (make text) (make' text)) → Related Q Never (by_text one make x found) (by_text other make' x' found)
+    text_alike Q make make' x x' t h (Ok text) made = both (made text refl) h
+    text_alike Q make make' x x' t h (Err fault) made = neither (not_cooked (agree.spot x.0 x'.0 t))
+
+    -- a literal, asked by the token's lexeme
+    pub cooked_alike : {X Y : Type 0} (Q : X → Y → Type 0) (make : A → X) (make' : A' → Y) (ask : List ℕ → Literal (List ℕ)) → ((lexeme : List ℕ) → token_of (ask lexeme) ≡ lexeme) → (x : T × State R T B) (x' : T' × State R' T' B') → rel.token x.0 x'.0 → States x.1 x'.1
+        → ((l : A) (l' : A') → rel.literal (ask (one.see x.0).tok.lexeme) l l' → Q (make l) (make' l')) → Related Q Never (cooked one make ask x) (cooked other make' ask x')
+    unfolding cooked
+    cooked_alike Q make make' ask asks x x' t h made =
+        let lexeme = (one.see x.0).tok.lexeme in
+        let l = ask lexeme in
+        let go : (lexeme' : List ℕ) → lexeme ≡ lexeme' → (E : Answers) → one.expander x.1.run ≡ E
+        → Related Q Never (by_text one (λ text. make (one.literal x.0 l text)) x (cooked_text (one.expander x.1.run) l)) (by_text other (λ text. make' (other.literal x'.0 (ask lexeme') text)) x' (cooked_text E (ask lexeme'))) =
+        λ lexeme' e E f. subst (λ k. Related Q Never (by_text one (λ text. make (one.literal x.0 l text)) x (cooked_text (one.expander x.1.run) l)) (by_text other (λ text. make' (other.literal x'.0 (ask k) text)) x' (cooked_text E (ask k)))) e
+        (subst (λ F. Related Q Never (by_text one (λ text. make (one.literal x.0 l text)) x (cooked_text (one.expander x.1.run) l)) (by_text other (λ text. make' (other.literal x'.0 l text)) x' (cooked_text F l))) f
+        (text_alike Q (λ text. make (one.literal x.0 l text)) (λ text. make' (other.literal x'.0 l text)) x x' t h (cooked_text (one.expander x.1.run) l)
+        (λ text is. made (one.literal x.0 l text) (other.literal x'.0 l text) (agree.literal x.1.run x'.1.run x.0 x'.0 h.run t l text (asks lexeme) is)))) in
+        go (other.see x'.0).tok.lexeme (ap (λ y. y.tok.lexeme) (agree.see x.0 x'.0 t)) (other.expander x'.1.run) (agree.expander x.1.run x'.1.run h.run)

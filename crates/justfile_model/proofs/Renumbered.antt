@@ -1,0 +1,99 @@
+-- A tree of tokens keeps no numbers: wherever the counters stand, the same is read.
+use Rattle.std.proofs.Common.{◌≡◌, Bool, true, false, cond, List, [], ◌∷◌, length, Some, None, Result, Ok, Err, refl}
+use Rattle.justfile_base.specs.declared.token_kind.TokenKind.TheVariants as kinds
+use Rattle.justfile_model.specs.Reader as reader
+use Rattle.justfile_model.specs.Reader.{Start, after_mark, after_numbered, assignment, at_end, body_behind, draw_binding, draw_recipe, ended, expression, has_body, items, items_from, items_rule, line, nothing_behind, on_line, recipe, stop}
+use Rattle.justfile_model.specs.Features.{Noted}
+use Rattle.justfile_model.specs.Literals.{Answers}
+use Rattle.justfile_model.specs.Reading.{◌>>=◌, Counters, accept, choose, expect, next_are}
+use Rattle.justfile_model.specs.SignificantTokens.{SignificantToken}
+use Rattle.justfile_model.specs.Tok.{Tok}
+use Rattle.justfile_model.specs.Tree.{Tree}
+use Rattle.justfile_model.specs.TreeReader.{Read, Refusal, State, Taken, file, start, token_leaves, unnumbered}
+use Rattle.justfile_model.proofs.Turns.{both_recur}
+
+-- the same is read, but for the counters
+data Alike {X : Type 0} : Read (X × Counters) → Read (X × Counters) → Type 0 where
+  both : {x : X} {n m : Counters} {s : State} → Alike (Ok ((x, n), s)) (Ok ((x, m), s))
+  neither : {e : Refusal} → Alike (Err e) (Err e)
+
+bind : {X Y : Type 0} (found : Read X) (f g : X × State → Read (Y × Counters)) → ((x : X × State) → Alike (f x) (g x)) → Alike (found >>= f) (found >>= g)
+bind (Ok x) f g h = h x
+bind (Err e) f g h = neither
+
+then : {X Y : Type 0} {found found' : Read (X × Counters)} (f g : (X × Counters) × State → Read (Y × Counters)) → Alike found found' → ((x : X) (n m : Counters) (s : State) → Alike (f ((x, n), s)) (g ((x, m), s))) → Alike (found >>= f) (found' >>= g)
+then f g (both {x = x} {n = n} {m = m} {s = s}) h = h x n m s
+then f g neither h = neither
+
+pick : {Y : Type 0} (o : Taken) (x y : Read (Y × Counters)) (f g : SignificantToken × State → Read (Y × Counters)) → Alike x y → ((p : SignificantToken × State) → Alike (f p) (g p)) → Alike (choose o x f) (choose o y g)
+pick None x y f g h k = h
+pick (Some p) x y f g h k = k p
+
+by_test : {Y : Type 0} (b : Bool) (x y z w : Read (Y × Counters)) → Alike x y → Alike z w → Alike (cond b x z) (cond b y w)
+by_test true x y z w h k = h
+by_test false x y z w h k = k
+
+assignments : (n m : Counters) (s : State) → Alike (assignment token_leaves n s) (assignment token_leaves m s)
+unfolding assignment draw_binding
+assignments n m s =
+    bind (expect token_leaves kinds.Identifier s) _ _ (λ name. bind (expect token_leaves kinds.ColonEquals name.1) _ _ (λ operator. bind (expression token_leaves operator.1) _ _ (λ e. both)))
+
+recipes : (n m : Counters) (s : State) → Alike (recipe token_leaves n s) (recipe token_leaves m s)
+unfolding recipe draw_recipe
+recipes n m s =
+    bind (expect token_leaves kinds.Identifier s) _ _ (λ name. bind (expect token_leaves kinds.Colon name.1) _ _ (λ colon. bind (body_behind token_leaves colon.1) _ _ (λ b. both)))
+
+on_lines : (n m : Counters) (s : State) → Alike (on_line token_leaves n s) (on_line token_leaves m s)
+unfolding on_line
+on_lines n m s =
+    pick (accept token_leaves kinds.Comment s) _ _ _ _
+    (by_test (next_are token_leaves (kinds.Identifier ∷ kinds.ColonEquals ∷ []) s) _ _ _ _ (assignments n m s) (recipes n m s))
+    (λ c. both)
+
+lines : (n m : Counters) (s : State) → Alike (line token_leaves n s) (line token_leaves m s)
+unfolding line
+lines n m s =
+    pick (accept token_leaves kinds.Eol s) _ _ _ _
+    (then _ _ (on_lines n m s) (λ i k l t. bind (ended token_leaves (has_body i) t) _ _ (λ b. both)))
+    (λ newline. both)
+
+-- where a line begins, whatever the counters
+data Begins : Start token_leaves → Start token_leaves → Type 0 where
+  begins : (n m : Counters) (s : State) → Begins (n, s) (m, s)
+
+ends : (n m : Counters) (s : State) (ts : List SignificantToken) → Alike (nothing_behind token_leaves n s ts) (nothing_behind token_leaves m s ts)
+ends n m s [] = both
+ends n m s (t ∷ ts) = neither
+
+others : (done : Tree) {found found' : Read (Tree × Counters)} → Alike found found' → Alike (after_numbered done found) (after_numbered done found')
+unfolding after_numbered
+others done h = then _ _ h (λ x n m s. both)
+
+rules : (f g : Start token_leaves → Read (Tree × Counters)) → ((x y : Start token_leaves) → Begins x y → Alike (f x) (g y)) → (x y : Start token_leaves) → Begins x y → Alike (items_rule token_leaves f x) (items_rule token_leaves g y)
+unfolding items_rule at_end
+rules f g alike x y (begins n m s) =
+    pick (accept token_leaves kinds.Eof s) _ _ _ _
+    (then _ _ (lines n m s) (λ l k j t. others l (alike (k, t) (j, t) (begins k j t))))
+    (λ end. ends n m end.1 end.1.left)
+
+all_items : (n m : Counters) (s : State) → Alike (items token_leaves n s) (items token_leaves m s)
+unfolding items_from
+all_items n m s =
+    both_recur (λ x. length x.1.left) (stop token_leaves) (items_rule token_leaves) (λ x. length x.1.left) (stop token_leaves) (items_rule token_leaves)
+    Begins same_size (λ x y found found'. Alike found found') (λ x y h. neither) rules (n, s) (m, s) (begins n m s)
+  where
+    same_size : (x y : Start token_leaves) → Begins x y → length x.1.left ≡ length y.1.left
+    same_size x y (begins n m s) = refl
+
+-- the tree and its features, as a file is read
+abbrev pub whole : Read (Tree × Counters) → Result (Tree × List (Noted Tok)) Refusal
+whole found = found >>= λ x. Ok (x.0.0, x.1.noted)
+
+same_whole : {found found' : Read (Tree × Counters)} → Alike found found' → whole found ≡ whole found'
+same_whole both = refl
+same_whole neither = refl
+
+-- a file is read alike wherever the counters stand
+pub file_by : (n : Counters) (expander : Answers) (tokens : List SignificantToken) → whole (reader.file token_leaves n (start expander tokens)) ≡ file expander tokens
+unfolding reader.file file
+file_by n expander tokens = same_whole (all_items n unnumbered (after_mark token_leaves (start expander tokens)))

@@ -1,0 +1,18 @@
+use crate::conditional_operator::ConditionalOperator;
+
+/// What stands between two expressions.
+#[derive(Clone, Copy)]
+pub enum Operator {
+    /// `||`
+    Or,
+    /// `&&`
+    And,
+    /// A comparison.
+    Compare(ConditionalOperator),
+    /// `/`
+    Join,
+    /// `++`
+    ListConcatenation,
+    /// `+`
+    Concatenation,
+}

@@ -1,0 +1,182 @@
+-- The counters move up by no more than the identifiers that are read.
+use Rattle.std.proofs.Common.{◌≡◌, ℕ, ◌+◌, ◌≤◌, Bool, true, false, List, [], ◌∷◌, map, Some, None, Ok, Err, IfOk, refl, sym, ap, subst, arith}
+use Rattle.justfile_base.specs.declared.token.Token.{Token}
+use Rattle.justfile_base.specs.declared.token_kind.TokenKind.{TokenKind}
+use Rattle.justfile_base.specs.declared.token_kind.TokenKind.TheVariants as kinds
+use Rattle.justfile_model.specs.Expressions.{Limited, Tokens}
+use Rattle.justfile_model.specs.Features.{Noted}
+use Rattle.justfile_model.specs.Files.{item_bindings, item_recipes}
+use Rattle.justfile_model.specs.Reader as files
+use Rattle.justfile_model.specs.Reader.{has_body}
+use Rattle.justfile_model.specs.Reading as reading
+use Rattle.justfile_model.specs.Reading.{◌>>=◌, Counters, after, choose, refused}
+use Rattle.justfile_model.specs.SignificantTokens.{identifiers}
+use Rattle.justfile_model.specs.Tok.{Tok}
+use Rattle.justfile_model.specs.Tree as tree
+use Rattle.justfile_model.specs.Tree.{Item, itself, line_of}
+use Rattle.justfile_model.specs.TreeReader as model
+use Rattle.justfile_model.specs.TreeReader.{token_leaves}
+use Rattle.justfile_model.proofs.Counters.{count}
+use Rattle.justfile_model.proofs.Counting.{block_counts, on_line_counts}
+use Rattle.justfile_model.proofs.Natural as natural
+use Rattle.justfile_model.proofs.ReadingSteps.{known}
+use Rattle.justfile_model.proofs.Related as a
+use Rattle.justfile_model.proofs.Related.{AlikeItem, Related}
+use Rattle.justfile_model.proofs.Sound.{Starts, on_line_at}
+use Rattle.justfile_parse.specs.Reader.{after_mark, Read, ReadItem, ReadItems, Refusal, State, accept, behind, ended, expect, leaves, line, line_end, on_line}
+use Rattle.justfile_parse.specs.Significant.{significant_of}
+use Rattle.justfile_parse.specs.Tree.{Leaf}
+use Rattle.justfile_parse.specs.declared.significant.TableEntry.{TableEntry}
+use Rattle.justfile_parse.proofs.Anywhere.{agree, entries_are, rel, state_alike, state_seen}
+use Rattle.justfile_parse.proofs.Formats.{IsExpected, IsNext, Taken, accepted, expected}
+
+-- how many identifiers are left
+abbrev pub names : State → ℕ
+names s = identifiers (map significant_of s.left)
+
+-- counters that move up by no more than so many, and constants that stay
+pub record MovesBy (n m : Counters) (before behind : ℕ) : Type 0 where
+  pub least : n.bindings ≤ m.bindings
+  pub recipes_least : n.recipes ≤ m.recipes
+  pub most : m.bindings + m.recipes + behind ≤ n.bindings + n.recipes + before
+  pub constants : m.constants ≡ n.constants
+
+-- ---- an item
+
+counts_by : (n : Counters) (i : Item Leaf Token ℕ) (before behind : ℕ) → item_bindings i + item_recipes i + behind ≤ before → MovesBy n (count n i) before behind
+counts_by n (tree.Assignment name value) before behind h = record { least = omega arith; recipes_least = omega arith; most = omega (arith, h); constants = refl }
+counts_by n (tree.Comment text) before behind h = record { least = omega arith; recipes_least = omega arith; most = omega (arith, h); constants = refl }
+counts_by n tree.Newline before behind h = record { least = omega arith; recipes_least = omega arith; most = omega (arith, h); constants = refl }
+counts_by n (tree.Recipe name body) before behind h = record { least = omega arith; recipes_least = omega arith; most = omega (arith, h); constants = refl }
+
+starts_count : (b : Bool) (i : Item Tok Tok ℕ) (fs : List (Noted Tok)) (ts rest : Tokens) → Starts b i fs ts rest → item_bindings i + item_recipes i + identifiers rest ≤ identifiers ts
+starts_count true i fs ts rest h = block_counts itself itself line_of Limited h
+starts_count false i fs ts rest h = on_line_counts itself itself line_of Limited h
+
+module _ (n : Counters) (s : State) (open_none : s.depth ≡ 0) where
+  same_count : {i : Item Leaf Token ℕ} {i' : Item Tok Tok ℕ} → AlikeItem (rel s.run) n i i' → item_bindings i + item_recipes i ≡ item_bindings i' + item_recipes i'
+  same_count (a.assignment h e) = refl
+  same_count a.comment = refl
+  same_count a.newline = refl
+  same_count (a.recipe h body) = refl
+
+  -- what begins a line takes an identifier for its number
+  pub on_line_moves : (i : Item Leaf Token ℕ) (m : Counters) (rest : State) → on_line n s ≡ Ok ((i, m), rest) → MovesBy n m (names s) (names rest)
+  on_line_moves i m rest found = by_law (on_line n s) (files.on_line token_leaves n (state_seen s)) refl (natural.on_line_natural (rel s.run) leaves token_leaves (agree s.run) n (state_alike s)) found
+    where
+      inside : (x y : (Item Leaf Token ℕ × Counters) × State) → ◌≡◌ {A = ReadItem} (Ok x) (Ok y) → x ≡ y
+      inside x y h = cc
+
+      no_read : (f : Refusal) (y : (Item Leaf Token ℕ × Counters) × State) → ◌≡◌ {A = ReadItem} (Err f) (Ok y) → ⊥
+      no_read f y h = cc
+
+      by_law : {Short : Counters → model.Read (Item Tok Tok ℕ × Counters) → Type 0} (o : ReadItem) (o' : model.Read (Item Tok Tok ℕ × Counters)) → files.on_line token_leaves n (state_seen s) ≡ o'
+          → Related (rel s.run) (natural.AlikeNumbered (rel s.run) leaves token_leaves (agree s.run) n) Short o o' → o ≡ Ok ((i, m), rest) → MovesBy n m (names s) (names rest)
+      by_law o o' is (a.both {x = x} {y = y} q k) same =
+          let e = inside x ((i, m), rest) same in
+          let d = on_line_at s.run.expander n (state_seen s) y is (open_none, refl) in
+          let count_of = starts_count (has_body y.0.0) y.0.0 d.features (state_seen s).left y.1.left d.derives in
+          let moves : MovesBy n (count n x.0.0) (names s) (names x.1) = counts_by n x.0.0 (names s) (names x.1) (omega (arith, count_of, same_count q.0, ap (λ (ts : Tokens). identifiers ts) (entries_are s.run k.left))) in
+          let counted = subst (λ (c : Counters). MovesBy n c (names s) (names x.1)) (sym q.2) moves in
+          subst (λ (z : (Item Leaf Token ℕ × Counters) × State). MovesBy n z.0.1 (names s) (names z.1)) e counted
+      by_law o o' is (a.neither {e = f} h) same = absurd (no_read f ((i, m), rest) same)
+      by_law o o' is (a.short {n = k} h) same = absurd (no_read (reading.NoNumber k) ((i, m), rest) same)
+
+-- ---- what ends it
+
+fewer : (e : TableEntry) (s rest : State) → s.left ≡ e ∷ rest.left → names rest ≤ names s
+fewer e s rest split = omega (arith, ap (λ (es : List TableEntry). identifiers (map significant_of es)) split)
+
+abbrev Fewer : {A : Type 0} → State → Read A → Type 0
+Fewer s found = IfOk found (λ x. names x.1 ≤ names s)
+
+expect_fewer : (kind : TokenKind) (s : State) → IfOk (expect kind s) (λ x. names x.1 ≤ names s)
+expect_fewer kind s = go (expect kind s) (expected kind s)
+  where
+    go : (o : Read TableEntry) → IsExpected kind s.left o → IfOk o (λ x. names x.1 ≤ names s)
+    go (Ok x) h = fewer x.0 s x.1 h.0
+    go (Err f) h = tt
+
+then_fewer : {A B : Type 0} (s : State) (found : Read A) (f : A × State → Read B) → Fewer s found → ((x : A × State) → Fewer x.1 (f x)) → Fewer s (found >>= f)
+then_fewer {A} {B} s (Ok x) f h k = go (f x) (k x)
+  where
+    go : (o : Read B) → Fewer {A = B} x.1 o → Fewer {A = B} s o
+    go (Ok y) j = omega (arith, h, j)
+    go (Err e) j = tt
+then_fewer s (Err e) f h k = tt
+
+either_fewer : {A : Type 0} (kind : TokenKind) (s : State) (x : Read A) (f : TableEntry × State → Read A) → Fewer s x → ((p : TableEntry × State) → Fewer p.1 (f p)) → Fewer s (choose (accept kind s) x f)
+either_fewer {A} kind s x f h k = go (accept kind s) (accepted kind s)
+  where
+    last : (p : TableEntry × State) (o : Read A) → s.left ≡ p.0 ∷ p.1.left → Fewer p.1 o → Fewer s o
+    last p (Ok y) split j = omega (arith, fewer p.0 s p.1 split, j)
+    last p (Err e) split j = tt
+
+    go : (o : Taken) → IsNext kind s s.left o → Fewer s (choose o x f)
+    go None i = h
+    go (Some p) i = last p (f p) i.0 (k p)
+
+abbrev Items : Type 0
+Items = List (Item Leaf Token ℕ)
+
+line_end_fewer : (s : State) → Fewer {A = Items} s (line_end s)
+unfolding files.line_end
+line_end_fewer s = go (accept kinds.Eof s)
+  where
+    go : (o : Taken) → Fewer {A = Items} s (choose {X = Read Items} o (expect kinds.Eol s >>= λ newline. Ok (tree.Newline ∷ [], newline.1)) (λ x. Ok ([], s)))
+    go None = then_fewer {A = TableEntry} {B = Items} s (expect kinds.Eol s) (λ newline. Ok (tree.Newline ∷ [], newline.1)) (expect_fewer kinds.Eol s) (λ x. omega arith)
+    go (Some x) = omega arith
+
+behind_fewer : (s : State) → Fewer {A = Items} s (behind s)
+unfolding files.behind
+behind_fewer s =
+    either_fewer {A = Items} kinds.Comment s _ _ (line_end_fewer s)
+    (λ c. then_fewer {A = Items} {B = Items} c.1 (line_end c.1) (λ end. Ok (files.comment_item leaves c.0 ∷ end.0, end.1)) (line_end_fewer c.1) (λ x. omega arith))
+
+ended_fewer : (b : Bool) (s : State) → Fewer {A = Items} s (ended b s)
+unfolding files.ended
+ended_fewer true s = omega arith
+ended_fewer false s = behind_fewer s
+
+-- ---- a line
+
+module _ (n : Counters) (s : State) (open_none : s.depth ≡ 0) where
+  abbrev Moved : ReadItems → Type 0
+  Moved found = IfOk found (λ x. MovesBy n x.0.1 (names s) (names x.1))
+
+  line_moved : Moved (line n s)
+  unfolding files.line
+  line_moved = go (accept kinds.Eol s) (accepted kinds.Eol s)
+    where
+      behind_item : (i : (Item Leaf Token ℕ × Counters) × State) → MovesBy n i.0.1 (names s) (names i.1) → (o : Read Items) → Fewer {A = Items} i.1 o
+          → Moved (o >>= λ b. Ok ((i.0.0 ∷ b.0, i.0.1), b.1))
+      behind_item i h (Ok b) k = record { least = h.least; recipes_least = h.recipes_least; most = omega (arith, h.most, k); constants = h.constants }
+      behind_item i h (Err e) k = tt
+
+      by_item : (o : ReadItem) → on_line n s ≡ o → Moved (o >>= λ i. ended (has_body i.0.0) i.1 >>= λ b. Ok ((i.0.0 ∷ b.0, i.0.1), b.1))
+      by_item (Ok i) is = behind_item i (on_line_moves n s open_none i.0.0 i.0.1 i.1 is) (ended (has_body i.0.0) i.1) (ended_fewer (has_body i.0.0) i.1)
+      by_item (Err e) is = tt
+
+      go : (o : Taken) → IsNext kinds.Eol s s.left o
+          → Moved (choose {X = ReadItems} o (on_line n s >>= λ i. ended (has_body i.0.0) i.1 >>= λ b. Ok ((i.0.0 ∷ b.0, i.0.1), b.1)) (λ newline. Ok ((tree.Newline ∷ [], n), newline.1)))
+      go None h = by_item (on_line n s) refl
+      go (Some x) h = record { least = omega arith; recipes_least = omega arith; most = omega (arith, fewer x.0 s x.1 h.0); constants = refl }
+
+  pub line_moves : (is : Items) (m : Counters) (rest : State) → line n s ≡ Ok ((is, m), rest) → MovesBy n m (names s) (names rest)
+  line_moves is m rest found = known {X = (Items × Counters) × State} ((is, m), rest) (λ x. MovesBy n x.0.1 (names s) (names x.1)) found line_moved
+
+-- ---- a byte order mark
+
+pub mark_depth : (s : State) → (after_mark s).depth ≡ s.depth
+mark_depth s = go (accept kinds.ByteOrderMark s) (accepted kinds.ByteOrderMark s)
+  where
+    go : (o : Taken) → IsNext kinds.ByteOrderMark s s.left o → (choose {X = State} o s (λ mark. mark.1)).depth ≡ s.depth
+    go None h = refl
+    go (Some x) h = h.2
+
+pub mark_fewer : (s : State) → names (after_mark s) ≤ names s
+mark_fewer s = go (accept kinds.ByteOrderMark s) (accepted kinds.ByteOrderMark s)
+  where
+    go : (o : Taken) → IsNext kinds.ByteOrderMark s s.left o → names (choose {X = State} o s (λ mark. mark.1)) ≤ names s
+    go None h = omega arith
+    go (Some x) h = fewer x.0 s x.1 h.0

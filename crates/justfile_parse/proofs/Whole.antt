@@ -1,0 +1,293 @@
+-- A whole file: what is read of a table is what the definitions read of its tokens, or is refused as they refuse it.
+use Rattle.std.proofs.Common.{◌≡◌, ℕ, ◌+◌, false, List, [], ◌∷◌, map, All, Option, Result, Ok, Err, refl, sym, ap, ◌∙◌, subst, arith}
+use Rattle.std.specs.Prelude.{◌-◌, ◌^◌}
+use Rattle.std.proofs.lemmas.Bool.Decides.{nat_tests}
+use Rattle.std.proofs.lemmas.List.Elements.{All-head, All-tail}
+use Rattle.justfile_base.specs.Numerator.{bindings_of, recipes_of}
+use Rattle.justfile_base.specs.declared.compile_error.CompileError.{CompileError}
+use Rattle.justfile_base.specs.declared.fault.Fault.{Fault}
+use Rattle.justfile_base.specs.declared.fault.Fault.TheVariants as faults
+use Rattle.justfile_base.specs.declared.numerator.Numerator.{Numerator}
+use Rattle.justfile_base.specs.declared.token.Token.{Token}
+use Rattle.justfile_file.specs.Item.{item_of}
+use Rattle.justfile_file.specs.declared.item.Item.{Item}
+use Rattle.justfile_file.specs.declared.item.Item.TheVariants as items
+use Rattle.justfile_model.specs.Expressions.{front}
+use Rattle.justfile_model.specs.Features.{Noted}
+use Rattle.justfile_model.specs.Files.{NumbersSuffice, bindings, recipes}
+use Rattle.justfile_model.specs.Literals.{Answers}
+use Rattle.justfile_model.specs.Reader as files
+use Rattle.justfile_model.specs.Reading as reading
+use Rattle.justfile_model.specs.Reading.{Counters, NoNumber}
+use Rattle.justfile_model.specs.SignificantTokens.{SignificantToken}
+use Rattle.justfile_model.specs.Tok.{Tok, tok_of}
+use Rattle.justfile_model.specs.Tree as tree
+use Rattle.justfile_model.specs.Tree.{Tree}
+use Rattle.justfile_model.specs.TreeReader as model
+use Rattle.justfile_model.specs.TreeReader.{start, token_leaves}
+use Rattle.justfile_model.specs.declared.list_feature.ListFeature.{ListFeature}
+use Rattle.justfile_model.proofs.Counters.{counted, counted_bindings, counted_recipes, items_count}
+use Rattle.justfile_model.proofs.Natural as natural
+use Rattle.justfile_model.proofs.ReadingSteps.{known}
+use Rattle.justfile_model.proofs.Related as a
+use Rattle.justfile_model.proofs.Related.{AlikeItems, AlikeNext, Each, Refusals, Related, States}
+use Rattle.justfile_model.proofs.Renumbered.{file_by, whole}
+use Rattle.justfile_parse.specs.Errors.{IsAt, IsErrorOf}
+use Rattle.justfile_parse.specs.Given.{IsInTable}
+use Rattle.justfile_parse.specs.Reader as reader
+use Rattle.justfile_parse.specs.Reader.{ReadItems, Run, State, leaves}
+use Rattle.justfile_parse.specs.Reading.{IsFaultOf, IsKindAt, IsPlace, IsRead, IsUnread, StopsAt, literal_refusal, refusal_at}
+use Rattle.justfile_parse.specs.Significant.{significant_of}
+use Rattle.justfile_parse.specs.Tree.{Leaf, item_tree}
+use Rattle.justfile_parse.specs.WantsNumber.{AreLines, LacksNumber, WantsNumber, binding, counters_of, more, none, recipe_number}
+use Rattle.justfile_parse.specs.declared.significant.TableEntry.{TableEntry}
+use Rattle.justfile_parse.specs.declared.stop.LiteralRefusal.{LiteralRefusal}
+use Rattle.justfile_parse.specs.declared.stop.Refusal.{Refusal}
+use Rattle.justfile_parse.specs.declared.stop.Refusal.TheVariants.{Unexpected, TooDeep}
+use Rattle.justfile_parse.specs.declared.stop.Stop.{Stop}
+use Rattle.justfile_parse.specs.declared.stop.Stop.TheVariants as stops
+use Rattle.justfile_parse.proofs.Cooked.{kind_is_due}
+use Rattle.justfile_parse.proofs.Rest.{in_table}
+use Rattle.justfile_parse.proofs.Seen.{IsEntry, items_seen, noted_seen, respects, seen}
+
+-- a tree holds as many bindings and recipes whatever stands at its leaves
+same_bindings : (is : List Item) → bindings (map item_tree is) ≡ bindings (map item_of is)
+same_bindings [] = refl
+same_bindings (items.Assignment b ∷ is) = ap (λ (n : ℕ). 1 + n) (same_bindings is)
+same_bindings (items.Comment text ∷ is) = ap (λ (n : ℕ). 0 + n) (same_bindings is)
+same_bindings (items.Newline ∷ is) = ap (λ (n : ℕ). 0 + n) (same_bindings is)
+same_bindings (items.Recipe r ∷ is) = ap (λ (n : ℕ). 0 + n) (same_bindings is)
+
+same_recipes : (is : List Item) → recipes (map item_tree is) ≡ recipes (map item_of is)
+same_recipes [] = refl
+same_recipes (items.Assignment b ∷ is) = ap (λ (n : ℕ). 0 + n) (same_recipes is)
+same_recipes (items.Comment text ∷ is) = ap (λ (n : ℕ). 0 + n) (same_recipes is)
+same_recipes (items.Newline ∷ is) = ap (λ (n : ℕ). 0 + n) (same_recipes is)
+same_recipes (items.Recipe r ∷ is) = ap (λ (n : ℕ). 1 + n) (same_recipes is)
+
+module _ (expander : Answers) (table : List TableEntry) (file_depth : ℕ) (import_offsets : List ℕ) where
+  abbrev tokens : List SignificantToken
+  tokens = map significant_of table
+
+  abbrev rel : a.Relations Run TableEntry Leaf Token Answers SignificantToken Tok Tok
+  rel = seen expander (IsInTable table) file_depth import_offsets
+
+  abbrev pub begin : State
+  begin = record { run = record { expander = expander; table = table; file_depth = file_depth; import_offsets = import_offsets }; depth = 0; left = table; noted = [] }
+
+  each_entry : (es : List TableEntry) → All (λ (e : TableEntry). IsInTable table e.token.now) es → Each (IsEntry expander (IsInTable table) file_depth import_offsets) es (map significant_of es)
+  each_entry [] h = a.nil
+  each_entry (e ∷ es) h =
+      let P : TableEntry → Type 0 = λ (e : TableEntry). IsInTable table e.token.now in
+      a.cons (record { among = All-head P e es h; is = refl }) (each_entry es (All-tail P e es h))
+
+  begin_alike : States rel begin (start expander tokens)
+  begin_alike = record { run = record { expander_is = refl; same = refl; file_depth_is = refl; import_offsets_are = refl }; depth = refl; left = each_entry table (λ k d h. in_table table k d h); noted = a.nil }
+
+  module _ (n : Counters) where
+    abbrev Found : Type 0
+    Found = model.Read (Tree × Counters)
+
+    abbrev there : Found
+    there = files.file token_leaves n (start expander tokens)
+
+    abbrev Q : List (tree.Item Leaf Token ℕ) × Counters → Tree × Counters → Type 0
+    Q = natural.AllNumbered rel leaves token_leaves (respects expander (IsInTable table) file_depth import_offsets) n
+
+    abbrev Short : Counters → Found → Type 0
+    Short = natural.NoFile rel leaves token_leaves (respects expander (IsInTable table) file_depth import_offsets) n (files.after_mark token_leaves (start expander tokens))
+
+    related : Related rel Q Short (reader.file n begin) there
+    related = natural.file_natural rel leaves token_leaves (respects expander (IsInTable table) file_depth import_offsets) n begin (start expander tokens) begin_alike
+
+    abbrev Pair : Type 0
+    Pair = (List (tree.Item Leaf Token ℕ) × Counters) × State
+
+    -- both read
+    got : (found : ReadItems) (found' : Found) → Related rel Q Short found found' → (x : Pair) → found ≡ Ok x → (y : (Tree × Counters) × model.State) × (found' ≡ Ok y) × Q x.0 y.0 × States rel x.1 y.1
+    got found found' (a.both {x = z} {y = y} q k) x is =
+        let same : z ≡ x = inside z x is in
+        (y, refl, subst (λ (w : Pair). Q w.0 y.0) same q, subst (λ (w : Pair). States rel w.1 y.1) same k)
+      where
+        inside : (z x : Pair) → ◌≡◌ {A = ReadItems} (Ok z) (Ok x) → z ≡ x
+        inside z x e = cc
+    got found found' (a.neither {e = e} h) x is = absurd (never e x is)
+      where
+        never : (e : reader.Refusal) (x : Pair) → ◌≡◌ {A = ReadItems} (Err e) (Ok x) → ⊥
+        never e x is = cc
+    got found found' (a.short {n = m} h) x is = absurd (never (NoNumber m) x is)
+      where
+        never : (e : reader.Refusal) (x : Pair) → ◌≡◌ {A = ReadItems} (Err e) (Ok x) → ⊥
+        never e x is = cc
+
+    -- both are refused, or the one has no number left
+    pub data Lost (e : reader.Refusal) (found' : Found) : Type 0 where
+      refused : (e' : model.Refusal) → found' ≡ Err e' → Refusals rel e e' → Lost e found'
+      wanting : (m : Counters) → e ≡ NoNumber m → Short m found' → Lost e found'
+
+    lost : (found : ReadItems) (found' : Found) → Related rel Q Short found found' → (e : reader.Refusal) → found ≡ Err e → Lost e found'
+    lost found found' (a.both {x = z} q k) e is = absurd (never z e is)
+      where
+        never : (z : Pair) (e : reader.Refusal) → ◌≡◌ {A = ReadItems} (Ok z) (Err e) → ⊥
+        never z e is = cc
+    lost found found' (a.neither {e = f} {e' = f'} h) e is = subst (λ (g : reader.Refusal). Lost g (Err f')) (inside f e is) (refused f' refl h)
+      where
+        inside : (f e : reader.Refusal) → ◌≡◌ {A = ReadItems} (Err f) (Err e) → f ≡ e
+        inside f e is = cc
+    lost found found' (a.short {n = m} h) e is = wanting m (inside e is) h
+      where
+        inside : (e : reader.Refusal) → ◌≡◌ {A = ReadItems} (Err (NoNumber m)) (Err e) → e ≡ NoNumber m
+        inside e is = cc
+
+    pub file_lost : (e : reader.Refusal) → reader.file n begin ≡ Err e → Lost e there
+    file_lost e is = lost (reader.file n begin) there related e is
+
+  -- ---- a file that is read
+
+  pub read_of : (old new : Numerator) (is : List Item) (features : List (ListFeature × Token)) (s : State) → reader.file (counters_of old) begin ≡ Ok ((map item_tree is, counters_of new), s) → s.noted ≡ features
+      → IsRead expander table file_depth import_offsets tokens old new (is, features)
+  read_of old new is features s found noted =
+      let n = counters_of old in
+      let g = got n (reader.file n begin) (there n) (related n) ((map item_tree is, counters_of new), s) found in
+      let x = items_seen expander (IsInTable table) file_depth import_offsets n is g.2.0 in
+      let f = noted_seen expander (IsInTable table) file_depth import_offsets features (subst (λ (fs : List (ListFeature × Token)). Each (a.AlikeNoted rel) fs g.0.1.noted) noted g.3.noted) in
+      let counts : counters_of new ≡ counted n (map item_tree is) = g.2.2 in
+      record {
+        read = sym (file_by n expander tokens) ∙ ap (λ (r : Found n). whole r) g.1 ∙ (λ i. Ok (x.same i, f.0 i));
+        given = record {
+          given = x.given;
+          numbered = x.numbered;
+          recipes_numbered = x.recipes_numbered;
+          counted = ap (λ (c : Counters). c.bindings) counts ∙ counted_bindings n (map item_tree is) ∙ ap (λ (k : ℕ). bindings_of old + k) (same_bindings is);
+          recipes_counted = ap (λ (c : Counters). c.recipes) counts ∙ counted_recipes n (map item_tree is) ∙ ap (λ (k : ℕ). recipes_of old + k) (same_recipes is);
+        };
+        noted = record { all = f.1 };
+      }
+
+  -- ---- a file that is refused
+
+  place_at : {o : Option TableEntry} {o' : Option SignificantToken} → AlikeNext rel o o' → (token : Token) → IsPlace table o token → IsAt tokens o' token × IsInTable table token
+  place_at a.no_next token is = (is.1, is.0)
+  place_at (a.a_next {t = e} h) token is = (ap tok_of is ∙ ap (λ (t : SignificantToken). t.tok) h.is, subst (IsInTable table) (sym is) h.among)
+
+  error_at : (r : Refusal) (s : State) (e : CompileError) (e' : model.Refusal) → Refusals rel (refusal_at r s) e' → IsKindAt r e.kind e.token → IsPlace table (front s.left) e.token → IsErrorOf tokens e' e × IsInTable table e.token
+  unfolding reading.refused
+  error_at Unexpected s e e' (a.unexpected h) kind is = let x = place_at h e.token is in ((kind, x.0), x.1)
+  error_at TooDeep s e e' (a.too_deep h) kind is = let x = place_at h e.token is in ((kind, x.0), x.1)
+
+  literal_at : (l : LiteralRefusal) (e' : model.Refusal) → Refusals rel (literal_refusal l.error) e' → IsErrorOf tokens e' l.error × IsInTable table l.error.token
+  unfolding literal_refusal
+  literal_at l e' (a.not_cooked h) = ((kind_is_due l.error.kind l.is_literal, h.is), h.among)
+
+  no_number : (r : Refusal) (s : State) (m : Counters) → refusal_at r s ≡ NoNumber m → ⊥
+  unfolding reading.refused
+  no_number Unexpected s m e = cc
+  no_number TooDeep s m e = cc
+
+  no_literal : (l : LiteralRefusal) (m : Counters) → literal_refusal l.error ≡ NoNumber m → ⊥
+  unfolding literal_refusal
+  no_literal l m e = cc
+
+  -- ---- a number that is wanting
+
+  abbrev agree : a.Respects rel leaves token_leaves
+  agree = respects expander (IsInTable table) file_depth import_offsets
+
+  last : (b : ℕ) → leaves.has_number b ≡ false → b ≡ 2 ^ 32 - 1
+  unfolding leaves
+  last b is = grind (arith, nat_tests, is)
+
+  lacks_of : (new : Numerator) (left : model.State) → natural.Lacks rel leaves token_leaves agree (counters_of new) left → LacksNumber left new
+  lacks_of new left (natural.binding is has) = binding (record { assigns = has refl; at_end = last (bindings_of new) is })
+  lacks_of new left (natural.recipe_number is has) = recipe_number (record { is_recipe = has refl; at_end = last (recipes_of new) is })
+
+  lines_of : {n m : Counters} {s : model.State} → natural.Wants rel leaves token_leaves agree n s m → (left : model.State) × AreLines n s m left × natural.Lacks rel leaves token_leaves agree m left
+  lines_of (natural.here {s' = s} lacks) = (s, none, lacks)
+  lines_of (natural.later is wants) = let x = lines_of wants in (x.0, more is x.1, x.2)
+
+  module _ (old new : Numerator) where
+    wants_of : natural.Wants rel leaves token_leaves agree (counters_of old) (files.after_mark token_leaves (start expander tokens)) (counters_of new) → WantsNumber expander tokens old new
+    wants_of wants = let x = lines_of wants in record { left = x.0; lines = x.1; lacks = lacks_of new x.0 x.2 }
+
+    whole_of : (found : Found (counters_of old)) (t : Tree) (fs : List (Noted Tok)) → whole found ≡ Ok (t, fs) → (y : (Tree × Counters) × model.State) × (found ≡ Ok y) × (y.0.0 ≡ t)
+    whole_of (Ok y) t fs is = (y, refl, ap (λ (p : Tree × List (Noted Tok)). p.0) (inside (y.0.0, y.1.noted) (t, fs) is))
+      where
+        inside : (p q : Tree × List (Noted Tok)) → ◌≡◌ {A = Result (Tree × List (Noted Tok)) model.Refusal} (Ok p) (Ok q) → p ≡ q
+        inside p q e = cc
+    whole_of (Err e) t fs is = absurd (never e (t, fs) is)
+      where
+        never : (e : model.Refusal) (p : Tree × List (Noted Tok)) → ◌≡◌ {A = Result (Tree × List (Noted Tok)) model.Refusal} (Err e) (Ok p) → ⊥
+        never e p is = cc
+
+    exceeded : (y : (Tree × Counters) × model.State) (t : Tree) → y.0.0 ≡ t → y.0.1 ≡ counted (counters_of old) y.0.0 → natural.Exceeds rel leaves token_leaves agree (counters_of new) y.0.1 → NumbersSuffice (bindings_of old) (recipes_of old) t → ⊥
+    exceeded y t same counts (natural.bindings_end is less) enough =
+        omega (
+          arith,
+          last (bindings_of new) is,
+          less,
+          ap (λ (c : Counters). c.bindings) counts,
+          counted_bindings (counters_of old) y.0.0,
+          ap (λ (t : Tree). bindings t) same,
+          enough.bindings_suffice,
+        )
+    exceeded y t same counts (natural.recipes_end is less) enough =
+        omega (
+          arith,
+          last (recipes_of new) is,
+          less,
+          ap (λ (c : Counters). c.recipes) counts,
+          counted_recipes (counters_of old) y.0.0,
+          ap (λ (t : Tree). recipes t) same,
+          enough.recipes_suffice,
+        )
+
+    -- no tree has numbers enough
+    never_of : natural.AllExceed rel leaves token_leaves agree (counters_of new) (there (counters_of old)) → (t : Tree) (fs : List (Noted Tok)) → model.file expander tokens ≡ Ok (t, fs) → NumbersSuffice (bindings_of old) (recipes_of old) t → ⊥
+    unfolding files.file
+    never_of exceeds t fs is enough =
+        let n = counters_of old in
+        let x = whole_of (there n) t fs (file_by n expander tokens ∙ is) in
+        let counts = known x.0 (λ (y : (Tree × Counters) × model.State). y.0.1 ≡ counted n y.0.0) x.1 (items_count token_leaves n (files.after_mark token_leaves (start expander tokens))) in
+        let over = known x.0 (λ (y : (Tree × Counters) × model.State). natural.Exceeds rel leaves token_leaves agree (counters_of new) y.0.1) x.1 exceeds in
+        exceeded x.0 t x.2 counts over enough
+
+    same_counters : (m : Counters) → ◌≡◌ {A = reader.Refusal} (NoNumber (counters_of new)) (NoNumber m) → m ≡ counters_of new
+    same_counters m e = cc
+
+    no_refusal : (e' : model.Refusal) → Refusals rel (NoNumber (counters_of new)) e' → ⊥
+    no_refusal e' h = elim h [ ]
+
+    wanting_of : Lost (counters_of old) (NoNumber (counters_of new)) (there (counters_of old))
+        → WantsNumber expander tokens old new × ((t : Tree) (fs : List (Noted Tok)) → model.file expander tokens ≡ Ok (t, fs) → NumbersSuffice (bindings_of old) (recipes_of old) t → ⊥)
+    wanting_of (refused e' is h) = absurd (no_refusal e' h)
+    wanting_of (wanting m is short) =
+        let k = subst (λ (c : Counters). Short (counters_of old) c (there (counters_of old))) (same_counters m is) short in
+        (wants_of k.0, never_of k.1)
+
+    refused_of : (r : Refusal) (s : State) (e : CompileError) → Lost (counters_of old) (refusal_at r s) (there (counters_of old)) → IsKindAt r e.kind e.token → IsPlace table (front s.left) e.token → IsUnread expander tokens (IsInTable table) old new (faults.Compile e)
+    refused_of r s e (refused e' is h) kind at =
+        let x = error_at r s e e' h kind at in
+        record { refusal = e'; read = sym (file_by (counters_of old) expander tokens) ∙ ap (λ (r : Found (counters_of old)). whole r) is; error = x.0; among = x.1 }
+    refused_of r s e (wanting m is short) kind at = absurd (no_number r s m is)
+
+    literal_of : (l : LiteralRefusal) (e : CompileError) → Lost (counters_of old) (literal_refusal l.error) (there (counters_of old)) → e ≡ l.error → IsUnread expander tokens (IsInTable table) old new (faults.Compile e)
+    literal_of l e (refused e' is h) same =
+        let x = literal_at l e' h in
+        subst (λ (k : CompileError). IsUnread expander tokens (IsInTable table) old new (faults.Compile k)) (sym same)
+        (record { refusal = e'; read = sym (file_by (counters_of old) expander tokens) ∙ ap (λ (r : Found (counters_of old)). whole r) is; error = x.0; among = x.1 })
+    literal_of l e (wanting m is short) same = absurd (no_literal l m is)
+
+    pub unread_of : (s : State) (stop : Stop) (fault : Fault) → StopsAt stop s (reader.file (counters_of old) begin ≡ Err (NoNumber (counters_of new))) (reader.file (counters_of old) begin) → IsFaultOf table (front s.left) stop fault
+        → IsUnread expander tokens (IsInTable table) old new fault
+    unread_of s (stops.Refused r) (faults.Compile e) h is = refused_of r s e (file_lost (counters_of old) (refusal_at r s) h) is.0 is.1
+    unread_of s (stops.Refused r) faults.Memory h is = absurd is
+    unread_of s (stops.Refused r) faults.Numbers h is = absurd is
+    unread_of s (stops.Literal box) (faults.Compile e) h is = literal_of box.value e (file_lost (counters_of old) (literal_refusal box.value.error) h) is
+    unread_of s (stops.Literal box) faults.Memory h is = absurd is
+    unread_of s (stops.Literal box) faults.Numbers h is = absurd is
+    unread_of s stops.Memory (faults.Compile e) h is = absurd is
+    unread_of s stops.Memory faults.Memory h is = tt
+    unread_of s stops.Memory faults.Numbers h is = absurd is
+    unread_of s stops.Numbers (faults.Compile e) h is = absurd is
+    unread_of s stops.Numbers faults.Memory h is = absurd is
+    unread_of s stops.Numbers faults.Numbers h is = wanting_of (file_lost (counters_of old) (NoNumber (counters_of new)) h)

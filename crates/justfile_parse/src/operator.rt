@@ -1,0 +1,119 @@
+//! The operators between two expressions, and how tightly they bind.
+ghost use Rattle.std.specs.Prelude.{◌≡◌, ◌<◌, ◌≤◌, IsTrue};
+ghost use Rattle.justfile_model.specs.Operators as operators;
+ghost use Rattle.justfile_model.specs.Operators.{is_binary, rank};
+ghost use Rattle.justfile_parse.specs.Tree.{tree_of};
+
+use justfile_base::{Token, TokenKind};
+use justfile_model::{Level, Operator};
+use justfile_tree::{ConditionalOperator, Expression, ListFeature};
+
+/// What stands to the left of the operators of a level.
+pub(crate) fn operand_level(level: Level) -> Level
+    requires { IsTrue (is_binary level) }
+    ensures is { result ≡ operators.operand level }
+    ensures tighter { rank result < rank level }
+{
+    match level {
+        Level::Expression => Level::Disjunct,
+        Level::Disjunct => Level::Compared,
+        Level::Compared => Level::Conjunct,
+        Level::Conjunct | Level::Value => Level::Value,
+    }
+}
+
+/// What stands to the right of them.
+pub(crate) fn right_level(level: Level) -> Level
+    ensures is { result ≡ operators.right level }
+    ensures few { rank result ≤ 4 }
+{
+    match level {
+        Level::Compared => Level::Conjunct,
+        level => level,
+    }
+}
+
+/// The operator that a token of this kind is, if it is one.
+pub(crate) fn operator_of(kind: TokenKind) -> Option<Operator>
+    ensures { result ≡ operators.operator_of kind }
+{
+    match kind {
+        TokenKind::BarBar => Some(Operator::Or),
+        TokenKind::AmpersandAmpersand => Some(Operator::And),
+        TokenKind::BangEquals => Some(Operator::Compare(ConditionalOperator::Inequality)),
+        TokenKind::EqualsTilde => Some(Operator::Compare(ConditionalOperator::RegexMatch)),
+        TokenKind::BangTilde => Some(Operator::Compare(ConditionalOperator::RegexMismatch)),
+        TokenKind::EqualsEquals => Some(Operator::Compare(ConditionalOperator::Equality)),
+        TokenKind::Slash => Some(Operator::Join),
+        TokenKind::PlusPlus => Some(Operator::ListConcatenation),
+        TokenKind::Plus => Some(Operator::Concatenation),
+        _ => None,
+    }
+}
+
+pub(crate) fn is_at(level: Level, operator: Operator) -> bool
+    ensures { result ≡ operators.is_at level operator }
+{
+    match operator {
+        Operator::Or => matches!(level, Level::Expression),
+        Operator::And => matches!(level, Level::Disjunct),
+        Operator::Compare(_) => matches!(level, Level::Compared),
+        Operator::Join | Operator::ListConcatenation | Operator::Concatenation => {
+            matches!(level, Level::Conjunct)
+        }
+    }
+}
+
+/// The feature that an operator is. The comparison that a condition begins with is none.
+pub(crate) fn feature_of(operator: Operator, condition: bool) -> Option<ListFeature>
+    ensures { result ≡ operators.feature_of operator condition }
+{
+    match operator {
+        Operator::Or | Operator::And => Some(ListFeature::LogicalOperator),
+        Operator::Compare(_) => {
+            if condition {
+                None
+            } else {
+                Some(ListFeature::ComparisonOperator)
+            }
+        }
+        Operator::ListConcatenation => Some(ListFeature::ListConcatenationOperator),
+        Operator::Join | Operator::Concatenation => None,
+    }
+}
+
+/// An operator between two expressions.
+pub(crate) fn binary<'src>(
+    lhs: Box<Expression<'src>>,
+    operator: Operator,
+    token: Token<'src>,
+    rhs: Box<Expression<'src>>,
+) -> Expression<'src>
+    ensures { tree_of result ≡ operators.binary operator (tree_of lhs.entry.value) token.entry (tree_of rhs.entry.value) }
+{
+    match operator {
+        Operator::Or => Expression::Or { lhs, rhs },
+        Operator::And => Expression::And { lhs, rhs },
+        Operator::Compare(operator) => Expression::Comparison {
+            lhs,
+            operator,
+            rhs,
+            token,
+        },
+        Operator::Join => Expression::Join {
+            lhs: Some(lhs),
+            operator: token,
+            rhs,
+        },
+        Operator::ListConcatenation => Expression::ListConcatenation {
+            lhs,
+            operator: token,
+            rhs,
+        },
+        Operator::Concatenation => Expression::Concatenation {
+            lhs,
+            operator: token,
+            rhs,
+        },
+    }
+}
