@@ -1,33 +1,9 @@
-mod bodies;
-mod carriage_returns;
-mod commands;
-mod cooked;
-mod cooking;
-mod depth;
-mod escapes;
-mod expanded;
-mod expressions;
-mod features;
-mod files;
+//! Calls that no text reaches. What texts are lexed, parsed and printed to stands in the rows of
+//! `justfile_rows`.
+
 mod format_parts;
-mod format_strings;
-mod ill_formed;
-mod lexer;
-mod line;
-mod literals;
-mod marks;
 mod names;
-mod operators;
 mod order;
-mod parts;
-mod prefixes;
-mod printing;
-mod quoted;
-mod reading;
-mod recipes;
-mod refusals;
+mod small;
 mod support;
 mod texts;
-mod unindenting;
-mod values;
-mod whole_tokens;

@@ -1,14 +1,11 @@
 //! Formats the justfile on standard input.
 #![tactic(auto)]
 
-mod failure;
-mod formatting;
-mod run;
 #[cfg(test)]
 mod tests;
-mod unchanged;
 
-use crate::run::run;
+use justfile_format::failure::{self, Failure};
+use justfile_format::run::run;
 use std::env;
 use std::io::{self, ErrorKind};
 use std::process::ExitCode;
@@ -44,7 +41,7 @@ fn main(rt: HostRuntime) -> ExitCode {
             &mut writer,
             &mut errors,
         ),
-        Err(_) => failure::report(failure::Failure::Memory, &mut errors),
+        Err(_) => failure::report(Failure::Memory, &mut errors),
     };
     ExitCode::from(status)
 }

@@ -1,5 +1,6 @@
 //! Names, the paths that they make, and numbers.
 
+use crate::assignment::Assignment;
 use crate::ast::Ast;
 use crate::fault::CompileResult;
 use crate::item::Item;
@@ -9,7 +10,7 @@ use crate::name::Name;
 use crate::namepath::Namepath;
 use crate::numerator::{Number, Numerator};
 use crate::parser::Parser;
-use crate::tests::support::{CURRENT, Unchanged, first_item, holds, names, same, same_text};
+use crate::tests::support::{CURRENT, Unchanged, holds, names, same, same_text};
 use std::alloc::{AllocError, Global};
 use std::process::Abort;
 
@@ -127,19 +128,30 @@ fn parsed<'src>(
     )
 }
 
+/// Sees what the file of a module has of what was handed in.
+fn compare_file(rt: &impl Abort, alloc: Global, ast: &Ast<'_>) {
+    compare_written(rt, alloc, &ast.module_path, "m::n");
+    same_text(rt, "a file", ast.working_directory.as_str(), "/home/m");
+    assert!(rt; ast.items.len() == 2);
+    match ast.items.first() {
+        Some(Item::Assignment(assignment)) => compare_assignment(rt, assignment),
+        _ => panic!(rt; "no assignment"),
+    }
+}
+
+/// Sees what the assignment of this file has of it.
+fn compare_assignment(rt: &impl Abort, assignment: &Assignment<'_>) {
+    same(rt, "an assignment", &assignment.file_depth, &3);
+    same(rt, "an assignment", &assignment.number, &Number(5));
+}
+
 #[test]
 fn files_of_modules(rt: HostRuntime) {
-    let text = "a := 'x'\n";
     let alloc = rt.alloc();
     let namepath = path(&rt, alloc, names(&rt, alloc, "m n").as_slice());
     let mut numerator = Numerator::new(5);
-    let ast = parsed(alloc, &namepath, &mut numerator, text).expect(&rt, text);
-    compare_written(&rt, alloc, &ast.module_path, "m::n");
-    same_text(&rt, text, ast.working_directory.as_str(), "/home/m");
-    same(&rt, text, &ast.items.len(), &2);
-    let Item::Assignment(assignment) = first_item(&rt, &ast) else {
-        panic!(rt; "no assignment");
-    };
-    same(&rt, text, &assignment.file_depth, &3);
-    same(&rt, text, &assignment.number, &Number(5));
+    match parsed(alloc, &namepath, &mut numerator, "a := 'x'\n") {
+        Ok(ast) => compare_file(&rt, alloc, &ast),
+        Err(fault) => panic!(rt; "{fault:?}"),
+    }
 }

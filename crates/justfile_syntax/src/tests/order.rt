@@ -6,9 +6,8 @@ use crate::name::Name;
 use crate::numerator::Number;
 use crate::string_kind::{StringDelimiter, StringKind};
 use crate::string_literal::{FormatStringPart, StringLiteral};
-use crate::tests::support::{holds, names, same};
+use crate::tests::support::names;
 use std::alloc::Global;
-use std::cmp::Ordering;
 use std::process::Abort;
 
 /// The kind of a literal in double quotes.
@@ -59,15 +58,20 @@ impl<'src> Ascending<'src> {
         row
     }
 
-    /// A literal at the first name that stands for this text.
-    fn literal(&self, rt: &impl Abort, text: &str) -> StringLiteral<'src> {
+    /// A literal at a name that stands for this text.
+    fn literal_at(&self, rt: &impl Abort, text: &str, name: Name<'src>) -> StringLiteral<'src> {
         StringLiteral {
             cooked: text.to_string(self.alloc).expect(rt, "no memory"),
             expand: false,
             kind: QUOTED,
             part: None,
-            token: *self.less,
+            token: *name,
         }
+    }
+
+    /// A literal at the first name that stands for this text.
+    fn literal(&self, rt: &impl Abort, text: &str) -> StringLiteral<'src> {
+        self.literal_at(rt, text, self.less)
     }
 
     /// Puts an expression behind the others.
@@ -340,6 +344,14 @@ impl<'src> Ascending<'src> {
         }
     }
 
+    /// A literal of one text at each name.
+    fn equal_literals(&mut self, rt: &impl Abort) {
+        for name in self.names() {
+            let string_literal = self.literal_at(rt, "b", name);
+            self.push(rt, Expression::StringLiteral { string_literal });
+        }
+    }
+
     fn variables(&mut self, rt: &impl Abort) {
         let [b, c] = self.names();
         for (name, number) in [
@@ -353,15 +365,20 @@ impl<'src> Ascending<'src> {
     }
 }
 
-/// Expressions of each form of which each is less than the next.
-fn in_order(rt: &impl Abort, alloc: Global) -> Vec<Expression<'static>> {
-    let names = names(rt, alloc, "b c");
-    let mut ascending = Ascending {
+/// No expressions yet, and the two names of a text.
+fn none_yet(rt: &impl Abort, alloc: Global, text: &'static str) -> Ascending<'static> {
+    let names = names(rt, alloc, text);
+    Ascending {
         alloc,
         less: *names.first().expect(rt, "no name"),
         greater: *names.last().expect(rt, "no name"),
         values: Vec::new(alloc),
-    };
+    }
+}
+
+/// Expressions of each form of which each is less than the next.
+fn in_order(rt: &impl Abort, alloc: Global) -> Vec<Expression<'static>> {
+    let mut ascending = none_yet(rt, alloc, "b c");
     ascending.conjunctions(rt);
     ascending.assertions(rt);
     ascending.commands(rt);
@@ -418,37 +435,44 @@ fn compare_with_all<'src>(
     }
 }
 
+/// The same of each expression and its place.
+fn compare_all<'src>(rt: &impl Abort, values: &[Expression<'src>], others: &[Expression<'src>]) {
+    for (place, value) in values.iter().enumerate() {
+        compare_with_all(rt, place, value, others);
+    }
+}
+
 #[test]
 fn expressions_are_ordered_by_their_form_and_then_by_their_parts(rt: HostRuntime) {
     let values = in_order(&rt, rt.alloc());
-    same(&rt, "expressions", &values.len(), &77);
     let others = in_order(&rt, rt.alloc());
-    for (place, value) in values.iter().enumerate() {
-        compare_with_all(&rt, place, value, others.as_slice());
+    assert!(rt; values.len() == 77);
+    compare_all(&rt, values.as_slice(), others.as_slice());
+}
+
+#[test]
+fn equal_texts_at_other_places_are_other_expressions(rt: HostRuntime) {
+    let mut ascending = none_yet(&rt, rt.alloc(), "b b");
+    ascending.equal_literals(&rt);
+    ascending.variables(&rt);
+    compare_all(
+        &rt,
+        ascending.values.as_slice(),
+        ascending.values.as_slice(),
+    );
+}
+
+/// Sees that a copy of an expression is equal, by each way to compare them.
+fn compare_copy(rt: &impl Abort, alloc: Global, value: &Expression<'_>) {
+    match value.clone(alloc) {
+        Ok(copy) => compare(rt, 0, &copy, 0, value),
+        Err(_) => panic!(rt; "no memory"),
     }
 }
 
 #[test]
 fn copies_of_expressions_are_equal(rt: HostRuntime) {
     for value in &in_order(&rt, rt.alloc()) {
-        let copy = value.clone(rt.alloc()).expect(&rt, "no memory");
-        holds(&rt, "a copy", copy == *value);
-        same(&rt, "a copy", &copy.cmp(value), &Ordering::Equal);
-    }
-}
-
-#[test]
-fn equal_texts_at_other_places_are_other_expressions(rt: HostRuntime) {
-    let names = names(&rt, rt.alloc(), "b b");
-    let mut values = Vec::new(rt.alloc());
-    for name in &names {
-        let value = Expression::Variable {
-            name: *name,
-            number: None,
-        };
-        values.push(value).expect(&rt, "no memory");
-    }
-    for (place, value) in values.iter().enumerate() {
-        compare_with_all(&rt, place, value, values.as_slice());
+        compare_copy(&rt, rt.alloc(), value);
     }
 }

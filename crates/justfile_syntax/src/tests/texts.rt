@@ -18,65 +18,11 @@ fn compare_kind(rt: &impl Abort, alloc: Global, kind: ItemKind, (article, text):
     same_text(rt, text, written.as_str(), text);
 }
 
-/// Sees that a token's kind is written so.
-fn compare_token_kind(rt: &impl Abort, alloc: Global, kind: TokenKind, text: &str) {
-    let written = kind.to_string(alloc).expect(rt, text);
-    same_text(rt, text, written.as_str(), text);
-}
-
-#[test]
-fn kinds(rt: HostRuntime) {
-    static ROWS: &[(TokenKind, &str)] = &[
-        (TokenKind::AmpersandAmpersand, "'&&'"),
-        (TokenKind::Asterisk, "'*'"),
-        (TokenKind::At, "'@'"),
-        (TokenKind::Backtick, "backtick"),
-        (TokenKind::Bang, "'!'"),
-        (TokenKind::BangEquals, "'!='"),
-        (TokenKind::BangTilde, "'!~'"),
-        (TokenKind::BarBar, "'||'"),
-        (TokenKind::BraceL, "'{'"),
-        (TokenKind::BraceR, "'}'"),
-        (TokenKind::BracketL, "'['"),
-        (TokenKind::BracketR, "']'"),
-        (TokenKind::ByteOrderMark, "byte order mark"),
-        (TokenKind::Colon, "':'"),
-        (TokenKind::ColonColon, "'::'"),
-        (TokenKind::ColonEquals, "':='"),
-        (TokenKind::Comma, "','"),
-        (TokenKind::Comment, "comment"),
-        (TokenKind::Dedent, "dedent"),
-        (TokenKind::Dollar, "'$'"),
-        (TokenKind::Eof, "end of file"),
-        (TokenKind::Eol, "end of line"),
-        (TokenKind::Equals, "'='"),
-        (TokenKind::EqualsEquals, "'=='"),
-        (TokenKind::EqualsTilde, "'=~'"),
-        (TokenKind::FormatStringContinue, "format string continue"),
-        (TokenKind::FormatStringEnd, "format string end"),
-        (TokenKind::FormatStringStart, "format string"),
-        (TokenKind::Identifier, "identifier"),
-        (TokenKind::Indent, "indent"),
-        (TokenKind::InterpolationEnd, "'}}'"),
-        (TokenKind::InterpolationStart, "'{{'"),
-        (TokenKind::ParenL, "'('"),
-        (TokenKind::ParenR, "')'"),
-        (TokenKind::Plus, "'+'"),
-        (TokenKind::PlusPlus, "'++'"),
-        (TokenKind::QuestionMark, "?"),
-        (TokenKind::Slash, "'/'"),
-        (TokenKind::StringToken, "string"),
-        (TokenKind::Text, "command text"),
-        (TokenKind::Unspecified, "unspecified"),
-        (TokenKind::Whitespace, "whitespace"),
-    ];
-    for (kind, text) in ROWS {
-        compare_token_kind(&rt, rt.alloc(), *kind, text);
-    }
-}
-
 #[test]
 fn kinds_are_not_padded(rt: HostRuntime) {
+    let unspecified = TokenKind::Unspecified.to_string(rt.alloc());
+    let written = unspecified.expect(&rt, "no memory");
+    same_text(&rt, "no kind", written.as_str(), "unspecified");
     let comma = TokenKind::Comma;
     let written = format!(in rt.alloc(); "{comma:>9}").expect(&rt, "no memory");
     same_text(&rt, "a padded comma", written.as_str(), "','");

@@ -1,0 +1,75 @@
+ghost use Rattle.std.specs.Prelude.{◌≡◌};
+ghost use Rattle.justfile_format.specs.Failure.{status_of};
+
+use std::alloc::{AllocError, AllocFailed};
+use std::io::Write;
+
+/// Why nothing was formatted.
+#[derive(Clone, Copy, Debug, PartialEq, Eq)]
+pub enum Failure {
+    /// The arguments are not those that the program takes.
+    Usage,
+    Reading,
+    NotUtf8,
+    /// The text is no justfile.
+    Refused,
+    /// The printed text would not parse back.
+    NotPrintable,
+    Writing,
+    Memory,
+    Numbers,
+}
+
+impl From<AllocError> for Failure {
+    ghost use Rattle.justfile_format.specs.declared.failure.Failure.TheVariants.{Memory};
+
+    ghost from_gives = { λ _ e. e ≡ Memory };
+
+    fn from(_: AllocError) -> Self {
+        Failure::Memory
+    }
+}
+
+impl<T: Drop> From<AllocFailed<T>> for Failure {
+    ghost use Rattle.justfile_format.specs.declared.failure.Failure.TheVariants.{Memory};
+
+    ghost from_gives = { λ _ e. e ≡ Memory };
+
+    fn from(_: AllocFailed<T>) -> Self {
+        Failure::Memory
+    }
+}
+
+impl Failure {
+    /// The exit status: 2 for a text that can't be formatted, else 3.
+    pub fn status(self) -> u8
+        ensures { result ≡ status_of self }
+    {
+        match self {
+            Failure::Refused | Failure::NotPrintable => 2,
+            _ => 3,
+        }
+    }
+
+    /// The line for standard error.
+    fn message(self) -> &'static str {
+        match self {
+            Failure::Usage => "usage: justfmt [--check]\n",
+            Failure::Reading => "error: reading failed\n",
+            Failure::NotUtf8 => "error: input is not UTF-8\n",
+            Failure::Refused => "error: refused\n",
+            Failure::NotPrintable => "error: a body line ends in a carriage return\n",
+            Failure::Writing => "error: writing failed\n",
+            Failure::Memory => "error: out of memory\n",
+            Failure::Numbers => "error: out of numbers\n",
+        }
+    }
+}
+
+/// Writes the failure's line, and answers its status. A line that can't be written is let go.
+pub fn report<E: Write>(failure: Failure, errors: &mut E) -> u8
+    ensures { result ≡ status_of failure }
+{
+    let _ = errors.write_all(failure.message().as_bytes());
+    failure.status()
+}

@@ -1,0 +1,7 @@
+//! Formats a justfile: what the program `justfmt` does with its arguments and its bytes.
+#![tactic(auto)]
+
+pub mod failure;
+pub mod formatting;
+pub mod run;
+mod unchanged;

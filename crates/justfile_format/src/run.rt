@@ -1,0 +1,146 @@
+ghost use Rattle.std.specs.Prelude.{◌≡◌, ◌≤◌, true, false, Ok, Err, IfOk, IfErr, IfSome, OnOk};
+ghost use Rattle.std.specs.Io.KnownBytes.{Appends};
+ghost use Rattle.std.specs.Str.{IsUtf8};
+ghost use Rattle.justfile_format.specs.declared.failure.Failure.TheVariants as failures;
+ghost use Rattle.justfile_format.specs.Arguments.{AsksCheck, AsksFormat};
+ghost use Rattle.justfile_format.specs.Failure.{IsNoRefusal};
+ghost use Rattle.justfile_format.specs.Formatting.{IsFormatted, IsRefused, IsUnprintable, Formats, Differs, HasNone};
+
+use crate::failure::{Failure, report};
+use crate::formatting::formatted;
+use std::alloc::Global;
+use std::io::{ErrorKind, Read, Write};
+use std::str;
+
+/// What the program was asked for.
+#[derive(Clone, Copy, Debug, PartialEq, Eq)]
+enum Task {
+    /// To write the canonical text.
+    Format,
+    /// To say by the status whether the text is canonical.
+    Check,
+}
+
+impl Task {
+    ghost use Rattle.justfile_format.specs.declared.run.Task.TheVariants.{Check, Format};
+
+    /// What the arguments ask for.
+    fn of(arguments: &[String]) -> Result<Task, Failure>
+        ensures format { result ≡ Ok Format → AsksFormat arguments.now }
+        ensures check { result ≡ Ok Check → AsksCheck arguments.now }
+        ensures format_asked { AsksFormat arguments.now → result ≡ Ok Format }
+        ensures check_asked { AsksCheck arguments.now → result ≡ Ok Check }
+        ensures usage { IfErr result (λ e. e ≡ failures.Usage) }
+    {
+        match arguments {
+            [] => Ok(Task::Format),
+            [argument] => {
+                if argument.as_str() == "--check" {
+                    return Ok(Task::Check);
+                }
+                Err(Failure::Usage)
+            }
+            _ => Err(Failure::Usage),
+        }
+    }
+}
+
+/// All that the reader gives.
+fn read_all<R: Read>(alloc: Global, reader: &mut R) -> Result<Vec<u8>, Failure>
+    ensures ok { IfOk result (λ bytes. IfSome (R.remaining reader.old) (λ source. bytes.items ≡ source)) }
+    ensures err { IfErr result IsNoRefusal }
+{
+    let mut bytes = Vec::new(alloc);
+    match reader.read_to_end(&mut bytes) {
+        Ok(_) => Ok(bytes),
+        Err(error) if error.kind() == ErrorKind::OutOfMemory => Err(Failure::Memory),
+        Err(_) => Err(Failure::Reading),
+    }
+}
+
+/// The text that the bytes are.
+fn text_of(bytes: &[u8]) -> Result<&str, Failure>
+    ensures ok { IfOk result (λ text. text.now ≡ bytes.now) }
+    ensures err { IfErr result IsNoRefusal }
+    ensures not_utf8 { IfErr result (λ e. (e ≡ failures.NotUtf8) × (IsUtf8 bytes.now → ⊥)) }
+{
+    match str::from_utf8(bytes) {
+        Ok(text) => Ok(text),
+        Err(_) => Err(Failure::NotUtf8),
+    }
+}
+
+fn write_all<W: Write>(text: &str, writer: &mut W) -> Result<(), Failure>
+    ensures ok { OnOk result (Appends (W.contents writer.old) (W.contents writer.new) text.now) }
+    ensures err { IfErr result IsNoRefusal }
+{
+    if writer.write_all(text.as_bytes()).is_err() || writer.flush().is_err() {
+        return Err(Failure::Writing);
+    }
+    Ok(())
+}
+
+/// Writes the canonical text of what the reader gives.
+fn format<R: Read, W: Write>(alloc: Global, reader: &mut R, writer: &mut W) -> Result<(), Failure>
+    ensures ok { OnOk result (IfSome (R.remaining reader.old) (λ source. Formats source (W.contents writer.old) (W.contents writer.new))) }
+    ensures refused { result ≡ Err failures.Refused → IfSome (R.remaining reader.old) IsRefused }
+    ensures unprintable { result ≡ Err failures.NotPrintable → IfSome (R.remaining reader.old) IsUnprintable }
+    ensures writes_nothing { result ≡ Err failures.Refused → writer.new ≡ writer.old }
+    ensures prints_nothing { result ≡ Err failures.NotPrintable → writer.new ≡ writer.old }
+{
+    let bytes = read_all(alloc, reader)?;
+    let source = text_of(&bytes)?;
+    let canonical = formatted(alloc, source)?;
+    write_all(canonical.as_str(), writer)
+}
+
+/// Whether what the reader gives is its own canonical text.
+fn check<R: Read>(alloc: Global, reader: &mut R) -> Result<bool, Failure>
+    ensures same { result ≡ Ok true → IfSome (R.remaining reader.old) (λ source. IsFormatted source source) }
+    ensures differs { result ≡ Ok false → IfSome (R.remaining reader.old) Differs }
+    ensures refused { result ≡ Err failures.Refused → IfSome (R.remaining reader.old) IsRefused }
+    ensures unprintable { result ≡ Err failures.NotPrintable → IfSome (R.remaining reader.old) IsUnprintable }
+{
+    let bytes = read_all(alloc, reader)?;
+    let source = text_of(&bytes)?;
+    let canonical = formatted(alloc, source)?;
+    Ok(source == canonical.as_str())
+}
+
+/// Formats what the reader gives, or with the one argument `--check` says whether it is canonical.
+/// Answers the exit status: 0 for a text that was written or is canonical, 1 for one that isn't, 2
+/// for one that can't be formatted, 3 where the program was called wrongly, the input is no UTF-8,
+/// numbers run out or the machine failed it.
+pub fn run<R: Read, W: Write, E: Write>(
+    alloc: Global,
+    arguments: &[String],
+    reader: &mut R,
+    writer: &mut W,
+    errors: &mut E,
+) -> u8
+    ensures statuses { result ≤ 3 }
+    ensures usage { ¬ AsksFormat arguments.now → ¬ AsksCheck arguments.now → result ≡ 3 }
+    ensures usage_reads_nothing { ¬ AsksFormat arguments.now → ¬ AsksCheck arguments.now → reader.new ≡ reader.old }
+
+    ensures formatted { AsksFormat arguments.now → result ≡ 0 → IfSome (R.remaining reader.old) (λ source. Formats source (W.contents writer.old) (W.contents writer.new)) }
+    ensures canonical { AsksCheck arguments.now → result ≡ 0 → IfSome (R.remaining reader.old) (λ source. IsFormatted source source) }
+    ensures differs { result ≡ 1 → AsksCheck arguments.now × IfSome (R.remaining reader.old) Differs }
+    ensures refused { result ≡ 2 → IfSome (R.remaining reader.old) HasNone }
+
+    ensures written_asked { ¬ AsksFormat arguments.now → writer.new ≡ writer.old }
+    ensures refused_writes_nothing { result ≡ 2 → writer.new ≡ writer.old }
+    ensures silent { result ≤ 1 → errors.new ≡ errors.old }
+{
+    match Task::of(arguments) {
+        Ok(Task::Format) => match format(alloc, reader, writer) {
+            Ok(()) => 0,
+            Err(failure) => report(failure, errors),
+        },
+        Ok(Task::Check) => match check(alloc, reader) {
+            Ok(true) => 0,
+            Ok(false) => 1,
+            Err(failure) => report(failure, errors),
+        },
+        Err(failure) => report(failure, errors),
+    }
+}

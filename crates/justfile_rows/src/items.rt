@@ -1,0 +1,140 @@
+//! What is seen of the items of a file.
+
+use crate::answer::Answer;
+use crate::text::Text;
+use justfile_syntax::assignment::Assignment;
+use justfile_syntax::ast::Ast;
+use justfile_syntax::expression::Expression;
+use justfile_syntax::fragment::Fragment;
+use justfile_syntax::item::Item;
+use justfile_syntax::line::Line;
+use justfile_syntax::name::Name;
+use justfile_syntax::recipe::UnresolvedRecipe;
+
+/// What is handed in for each file.
+pub(crate) const FILE_DEPTH: u32 = 2;
+
+pub(crate) const IMPORT_OFFSETS: &[usize] = &[3, 14];
+
+pub(crate) const WORKING_DIRECTORY: &str = "/home";
+
+/// A word, and a text in ‹›.
+fn put_marked(shown: &mut Text, word: &str, text: &str) {
+    shown.put(word);
+    shown.put("‹");
+    shown.put(text);
+    shown.put("›");
+}
+
+fn put_name(shown: &mut Text, name: Name<'_>) {
+    shown.put_made(name.to_string(shown.alloc()));
+}
+
+/// The text of an expression.
+fn put_expression(shown: &mut Text, expression: &Expression<'_>) {
+    shown.put_made(expression.to_string(shown.alloc()));
+}
+
+/// A fragment of a line: a text in ‹›, an expression in ().
+fn put_fragment(shown: &mut Text, fragment: &Fragment<'_>) {
+    match fragment {
+        Fragment::Text { token } => put_marked(shown, " ", token.lexeme()),
+        Fragment::Interpolation { expression } => {
+            shown.put(" (");
+            put_expression(shown, expression);
+            shown.put(")");
+        }
+    }
+}
+
+/// A line of a body: a bar, the number of the line, and its fragments.
+fn put_line(shown: &mut Text, line: &Line<'_>) {
+    shown.put(" | ");
+    shown.put_number(line.number);
+    for fragment in &line.fragments {
+        put_fragment(shown, fragment);
+    }
+}
+
+/// A recipe: its name, its number, and each line of its body.
+fn put_recipe(shown: &mut Text, recipe: &UnresolvedRecipe<'_>) {
+    shown.put("recipe ");
+    put_name(shown, recipe.name);
+    shown.put(" ");
+    shown.put_number(recipe.number.0 as usize);
+    for line in &recipe.body {
+        put_line(shown, line);
+    }
+}
+
+/// The value of an assignment, after a word for its form.
+fn put_value(shown: &mut Text, value: &Expression<'_>) {
+    match value {
+        Expression::Backtick { contents, .. } => put_marked(shown, "command ", contents.as_str()),
+        Expression::StringLiteral { string_literal } => {
+            put_marked(shown, "text ", string_literal.cooked.as_str());
+        }
+        Expression::Variable { name, .. } => {
+            shown.put("name ");
+            put_name(shown, *name);
+        }
+        value => {
+            shown.put("expression ");
+            put_expression(shown, value);
+        }
+    }
+}
+
+/// An assignment: its name, its number, its depth, whether it is private, and its value.
+fn put_assignment(shown: &mut Text, assignment: &Assignment<'_>) {
+    put_name(shown, assignment.name);
+    shown.put(" ");
+    shown.put_number(assignment.number.0 as usize);
+    shown.put(" ");
+    shown.put_number(assignment.file_depth as usize);
+    shown.put(if assignment.private {
+        " true "
+    } else {
+        " false "
+    });
+    put_value(shown, &assignment.value);
+}
+
+/// What is seen of an item.
+fn push_item(answer: &mut Answer, item: &Item<'_>) {
+    let mut shown = Text::new(answer.alloc());
+    match item {
+        Item::Assignment(assignment) => put_assignment(&mut shown, assignment),
+        Item::Comment(text) => put_marked(&mut shown, "comment ", text),
+        Item::Newline => shown.put("newline"),
+        Item::Recipe(recipe) => put_recipe(&mut shown, recipe),
+    }
+    answer.push_text(shown);
+}
+
+/// What is seen of a file: a field for each item, and for each thing besides that is not as it was
+/// handed in.
+pub(crate) fn items(answer: &mut Answer, ast: &Ast<'_>) {
+    for item in &ast.items {
+        push_item(answer, item);
+    }
+    answer.push_if(
+        "directory",
+        ast.working_directory.as_str() != WORKING_DIRECTORY,
+    );
+    answer.push_if("unstable", !ast.unstable_features.is_empty());
+    answer.push_if("indentation", ast.indentation().is_some());
+}
+
+/// The features of a file that the setting for lists allows, each with the offset of its token and
+/// in ‹› its lexeme.
+pub(crate) fn features(answer: &mut Answer, ast: &Ast<'_>) {
+    for (feature, token) in &ast.list_features {
+        let mut shown = Text::new(answer.alloc());
+        shown.put_made(format!(in answer.alloc(); "{feature:?}"));
+        shown.put("@");
+        shown.put_number(token.offset);
+        put_marked(&mut shown, "", token.lexeme());
+        answer.push_text(shown);
+    }
+}

@@ -1,0 +1,92 @@
+//! Does what rows say, and compares.
+
+use crate::answer::Answer;
+use crate::fields::{are_readable, field};
+use crate::files::push_fields;
+use crate::lexing::lex;
+use crate::program::{formats, runs};
+use crate::texts::{class, cooks, indentation, keyword, opens, unindents, version};
+use crate::word::Word;
+use std::alloc::{AllocError, Global};
+
+/// What became of a row.
+#[derive(Drop)]
+pub(crate) enum Outcome {
+    /// What was found is what is expected.
+    Holds,
+    /// It is something else.
+    Fails { expected: String, found: String },
+    /// The row can't be read.
+    Unreadable,
+}
+
+/// What a row expects: the fields after those that it gives. `beginnings` expects its first field,
+/// and `canonical` what it gives.
+fn expected(alloc: Global, word: Word, least: usize, fields: &[String]) -> Answer {
+    let mut answer = Answer::new(alloc);
+    for (place, field) in fields.iter().enumerate() {
+        if is_expected(word, least, place) {
+            answer.push(field.as_str());
+        }
+    }
+    answer
+}
+
+/// Whether the field at a place is expected.
+fn is_expected(word: Word, least: usize, place: usize) -> bool {
+    match word {
+        Word::Beginnings => place == 0,
+        Word::Canonical => true,
+        _ => place >= least,
+    }
+}
+
+/// What is found for a row.
+fn found(alloc: Global, word: Word, fields: &[String]) -> Answer {
+    let mut answer = Answer::new(alloc);
+    let text = field(fields, 0);
+    match word {
+        Word::Class => class(&mut answer, text),
+        Word::Cooks => cooks(&mut answer, text),
+        Word::Formats => formats(&mut answer, text),
+        Word::Indentation => indentation(&mut answer, text),
+        Word::Keyword => keyword(&mut answer, text),
+        Word::KindOf | Word::Kinds | Word::Lexes | Word::Significant => {
+            lex(&mut answer, word, text);
+        }
+        Word::Opens => opens(&mut answer, text),
+        Word::Run => runs(&mut answer, text, field(fields, 1)),
+        Word::Unindents => unindents(&mut answer, text),
+        Word::Version => version(&mut answer, text),
+        _ => push_fields(&mut answer, word, fields),
+    }
+    answer
+}
+
+/// Compares what is found for a row with what it expects.
+fn compared(
+    alloc: Global,
+    word: Word,
+    least: usize,
+    fields: &[String],
+) -> Result<Outcome, AllocError> {
+    let expected = expected(alloc, word, least, fields).finish()?;
+    let found = found(alloc, word, fields).finish()?;
+    if found.as_str() == expected.as_str() {
+        return Ok(Outcome::Holds);
+    }
+    Ok(Outcome::Fails { expected, found })
+}
+
+/// What becomes of a row whose word and fields these are.
+pub(crate) fn outcome_of(alloc: Global, row: &[String]) -> Result<Outcome, AllocError> {
+    let Some((written, fields)) = row.split_first() else {
+        return Ok(Outcome::Unreadable);
+    };
+    match Word::of(written.as_str()) {
+        Some((word, least)) if least <= fields.len() && are_readable(word, fields) => {
+            compared(alloc, word, least, fields)
+        }
+        _ => Ok(Outcome::Unreadable),
+    }
+}

@@ -1,0 +1,169 @@
+//! What texts are lexed to.
+
+use crate::answer::Answer;
+use crate::refusal::{kind_of, place_after, push_fault};
+use crate::text::Text;
+use crate::word::Word;
+use justfile_syntax::compile_error::CompileError;
+use justfile_syntax::fault::Fault;
+use justfile_syntax::lexer::Lexer;
+use justfile_syntax::parser::{TableEntry, significant};
+use justfile_syntax::string_kind::StringKind;
+use justfile_syntax::token::Token;
+use justfile_syntax::token_kind::TokenKind;
+
+/// The lexemes that an answer leaves out.
+static USUAL_LEXEMES: &[(TokenKind, &str)] = &[
+    (TokenKind::AmpersandAmpersand, "&&"),
+    (TokenKind::Asterisk, "*"),
+    (TokenKind::At, "@"),
+    (TokenKind::Bang, "!"),
+    (TokenKind::BangEquals, "!="),
+    (TokenKind::BangTilde, "!~"),
+    (TokenKind::BarBar, "||"),
+    (TokenKind::BraceL, "{"),
+    (TokenKind::BraceR, "}"),
+    (TokenKind::BracketL, "["),
+    (TokenKind::BracketR, "]"),
+    (TokenKind::ByteOrderMark, "\u{FEFF}"),
+    (TokenKind::Colon, ":"),
+    (TokenKind::ColonColon, "::"),
+    (TokenKind::ColonEquals, ":="),
+    (TokenKind::Comma, ","),
+    (TokenKind::Dedent, ""),
+    (TokenKind::Eof, ""),
+    (TokenKind::Dollar, "$"),
+    (TokenKind::Eol, "\n"),
+    (TokenKind::Equals, "="),
+    (TokenKind::EqualsEquals, "=="),
+    (TokenKind::EqualsTilde, "=~"),
+    (TokenKind::Indent, "  "),
+    (TokenKind::InterpolationEnd, "}}"),
+    (TokenKind::InterpolationStart, "{{"),
+    (TokenKind::ParenL, "("),
+    (TokenKind::ParenR, ")"),
+    (TokenKind::Plus, "+"),
+    (TokenKind::PlusPlus, "++"),
+    (TokenKind::QuestionMark, "?"),
+    (TokenKind::Slash, "/"),
+    (TokenKind::Whitespace, " "),
+];
+
+/// Whether an answer leaves a lexeme out.
+fn is_usual(kind: TokenKind, lexeme: &str) -> bool {
+    for (usual_kind, usual) in USUAL_LEXEMES {
+        if *usual_kind == kind {
+            return *usual == lexeme;
+        }
+    }
+    false
+}
+
+/// A token: its kind, and in ‹› its lexeme if that is another than the usual one.
+fn push_token(answer: &mut Answer, token: &Token<'_>) {
+    let kind = token.kind;
+    let lexeme = token.lexeme();
+    let mut shown = Text::new(answer.alloc());
+    shown.put_made(format!(in answer.alloc(); "{kind:?}"));
+    if !is_usual(kind, lexeme) {
+        shown.put("‹");
+        shown.put(lexeme);
+        shown.put("›");
+    }
+    answer.push_text(shown);
+}
+
+/// Whether a token of a text follows this beginning of it.
+fn follows(text: &str, before: &str, token: &Token<'_>) -> bool {
+    let (line, column) = place_after(text, before);
+    token.offset == before.len()
+        && token.line == line
+        && token.column == column
+        && token.length == token.lexeme().len()
+        && token.path == "justfile"
+        && token.src == text
+}
+
+/// Each token, and `misplaced` after one that doesn't follow those before it. The lexemes are the
+/// text, or `joined` and what they are follows them.
+fn push_tokens(answer: &mut Answer, text: &str, tokens: &[Token<'_>]) {
+    let mut before = Text::new(answer.alloc());
+    for token in tokens {
+        push_token(answer, token);
+        answer.push_if("misplaced", !follows(text, before.as_str(), token));
+        before.put(token.lexeme());
+    }
+    if before.as_str() != text {
+        answer.push("joined");
+        answer.push_text(before);
+    }
+}
+
+/// A lexical refusal: its kind, and the kind, the offset, the line, the column and the length of its
+/// token.
+fn push_error(answer: &mut Answer, error: &CompileError<'_>) {
+    let token = error.token;
+    answer.push_made(kind_of(answer.alloc(), &error.kind));
+    answer.push_made(format!(in answer.alloc(); "{:?}", token.kind));
+    answer.push_number(token.offset);
+    answer.push_number(token.line);
+    answer.push_number(token.column);
+    answer.push_number(token.length);
+}
+
+/// What the kinds of tokens are written as in messages.
+fn push_kinds(answer: &mut Answer, tokens: &[Token<'_>]) {
+    for token in tokens {
+        answer.push_made(token.kind.to_string(answer.alloc()));
+    }
+}
+
+/// The kinds of the significant tokens, and `glued` after one that no blank stands before.
+fn push_significant(answer: &mut Answer, tokens: &[Token<'_>]) {
+    match significant(answer.alloc(), tokens) {
+        Ok(table) => push_table(answer, table.as_slice()),
+        Err(_) => answer.fail(),
+    }
+}
+
+fn push_table(answer: &mut Answer, table: &[TableEntry<'_, '_>]) {
+    for entry in table {
+        answer.push_made(format!(in answer.alloc(); "{:?}", entry.token.kind));
+        answer.push_if("glued", entry.glued);
+    }
+}
+
+/// The kind of the literal that the first token is, or why it is none.
+fn push_literal_kind(answer: &mut Answer, tokens: &[Token<'_>]) {
+    if let Some(token) = tokens.first() {
+        match StringKind::from_string_or_backtick(*token) {
+            Ok(kind) => push_string_kind(answer, kind),
+            Err(error) => push_error(answer, &error),
+        }
+    }
+}
+
+/// The delimiter of a literal, and whether it is tripled.
+pub(crate) fn push_string_kind(answer: &mut Answer, kind: StringKind) {
+    answer.push_made(format!(in answer.alloc(); "{:?}", kind.delimiter));
+    answer.push(if kind.indented { "tripled" } else { "single" });
+}
+
+/// What a row's word asks of the tokens of a text.
+fn push_lexed(answer: &mut Answer, word: Word, text: &str, tokens: &[Token<'_>]) {
+    match word {
+        Word::KindOf => push_literal_kind(answer, tokens),
+        Word::Kinds => push_kinds(answer, tokens),
+        Word::Significant => push_significant(answer, tokens),
+        _ => push_tokens(answer, text, tokens),
+    }
+}
+
+/// What a row's word asks of a text that is lexed, or why the text is refused.
+pub(crate) fn lex(answer: &mut Answer, word: Word, text: &str) {
+    match Lexer::lex(answer.alloc(), "justfile", text) {
+        Ok(tokens) => push_lexed(answer, word, text, tokens.as_slice()),
+        Err(Fault::Compile(error)) => push_error(answer, &error),
+        Err(fault) => push_fault(answer, text, &fault),
+    }
+}

@@ -1,0 +1,71 @@
+//! What is seen of the first recipe of a file and of the lines of its body.
+
+use crate::answer::Answer;
+use crate::fields::{field, number};
+use crate::items::{FILE_DEPTH, IMPORT_OFFSETS};
+use crate::word::Word;
+use justfile_syntax::ast::Ast;
+use justfile_syntax::item::Item;
+use justfile_syntax::line::Line;
+use justfile_syntax::recipe::UnresolvedRecipe;
+
+/// The first recipe of a file.
+fn first_recipe<'ast, 'src>(ast: &'ast Ast<'src>) -> Option<&'ast UnresolvedRecipe<'src>> {
+    for item in &ast.items {
+        if let Item::Recipe(recipe) = item {
+            return Some(recipe);
+        }
+    }
+    None
+}
+
+/// What a row's word asks of the first recipe of a file.
+pub(crate) fn push_of_recipe(answer: &mut Answer, word: Word, fields: &[String], ast: &Ast<'_>) {
+    match first_recipe(ast) {
+        Some(recipe) if word == Word::Recipe => push_recipe(answer, recipe),
+        Some(recipe) => push_of_body(answer, word, fields, recipe.body.as_slice()),
+        None => answer.push("none"),
+    }
+}
+
+/// Which marks a recipe has, and what of it is not as it was handed in.
+fn push_recipe(answer: &mut Answer, recipe: &UnresolvedRecipe<'_>) {
+    answer.push_if("private", recipe.private);
+    answer.push_if("shebang", recipe.shebang);
+    answer.push_if("depth", recipe.file_depth != FILE_DEPTH);
+    answer.push_if(
+        "imports",
+        recipe.import_offsets.as_slice() != IMPORT_OFFSETS,
+    );
+}
+
+/// What a row's word asks of a body: of the line that the row counts from 0, or the sigils of the
+/// first line.
+fn push_of_body(answer: &mut Answer, word: Word, fields: &[String], body: &[Line<'_>]) {
+    let is_line = word == Word::Line;
+    let at = if is_line { number(fields, 0) } else { 0 };
+    match body.get(at as usize) {
+        Some(line) if is_line => push_line(answer, line),
+        Some(line) => push_sigils(answer, line, field(fields, 0) == "guarded"),
+        None => answer.push("none"),
+    }
+}
+
+/// The sigils of a line, with guards or without.
+fn push_sigils(answer: &mut Answer, line: &Line<'_>, guards: bool) {
+    let Ok(sigils) = line.sigils(answer.alloc(), guards) else {
+        return answer.fail();
+    };
+    for sigil in &sigils {
+        answer.push_made(format!(in answer.alloc(); "{sigil:?}"));
+    }
+}
+
+/// The number of a line of a body, and what the line is.
+fn push_line(answer: &mut Answer, line: &Line<'_>) {
+    answer.push_number(line.number);
+    answer.push_if("comment", line.is_comment());
+    answer.push_if("shebang", line.is_shebang());
+    answer.push_if("continuation", line.is_continuation());
+    answer.push_if("empty", line.is_empty());
+}

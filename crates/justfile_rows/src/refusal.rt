@@ -1,0 +1,53 @@
+//! Why texts are refused, and where.
+
+use crate::answer::Answer;
+use justfile_syntax::compile_error::CompileError;
+use justfile_syntax::compile_error_kind::CompileErrorKind;
+use justfile_syntax::fault::Fault;
+use std::alloc::{AllocError, Global};
+
+/// The line and the column after the text's beginning `before`. The last newline of a text begins
+/// no line.
+pub(crate) fn place_after(text: &str, before: &str) -> (usize, usize) {
+    let counted = if before.len() == text.len() {
+        before.strip_suffix('\n').unwrap_or(before)
+    } else {
+        before
+    };
+    let line = counted.matches('\n').count();
+    let start = counted.rfind('\n').map_or(0, |at| at + 1);
+    (line, before.len() - start)
+}
+
+/// The name of a kind with what it holds, but of an unexpected token not what was expected.
+pub(crate) fn kind_of(alloc: Global, kind: &CompileErrorKind<'_>) -> Result<String, AllocError> {
+    match kind {
+        CompileErrorKind::UnexpectedToken { found, .. } => {
+            format!(in alloc; "UnexpectedToken {found:?}")
+        }
+        kind => format!(in alloc; "{kind:?}"),
+    }
+}
+
+/// A refusal: its kind, and the offset and the length of its token. Its line and its column stand
+/// after them, if they are others than those of the offset.
+pub(crate) fn push_refusal(answer: &mut Answer, text: &str, error: &CompileError<'_>) {
+    let token = error.token;
+    answer.push_made(kind_of(answer.alloc(), &error.kind));
+    answer.push_number(token.offset);
+    answer.push_number(token.length);
+    let before = text.get(..token.offset).unwrap_or("");
+    if (token.line, token.column) != place_after(text, before) {
+        answer.push_number(token.line);
+        answer.push_number(token.column);
+    }
+}
+
+/// Why there is no answer for a text.
+pub(crate) fn push_fault(answer: &mut Answer, text: &str, fault: &Fault<'_>) {
+    match fault {
+        Fault::Compile(error) => push_refusal(answer, text, error),
+        Fault::Memory => answer.push("memory"),
+        Fault::Numbers => answer.push("numbers"),
+    }
+}

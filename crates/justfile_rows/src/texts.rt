@@ -1,0 +1,97 @@
+//! Texts that are no justfiles: literals, versions, indentations, keywords, bytes.
+
+use crate::answer::Answer;
+use crate::lexing::push_string_kind;
+use crate::refusal::push_fault;
+use justfile_syntax::byte_class::byte_class;
+use justfile_syntax::indentation::Indentation;
+use justfile_syntax::keyword::Keyword;
+use justfile_syntax::parser::cook_string;
+use justfile_syntax::string_kind::StringKind;
+use justfile_syntax::token::Token;
+use justfile_syntax::token_kind::TokenKind;
+use justfile_syntax::unindent::unindent;
+use justfile_syntax::version::Version;
+
+/// The token at which texts with bad escapes are refused.
+const LITERAL: Token<'static> = Token {
+    column: 5,
+    kind: TokenKind::StringToken,
+    length: 2,
+    line: 0,
+    offset: 5,
+    path: "justfile",
+    src: "a := \"\"\n",
+};
+
+/// What a text with escapes stands for, or why it is refused.
+pub(crate) fn cooks(answer: &mut Answer, text: &str) {
+    match cook_string(answer.alloc(), LITERAL, text) {
+        Ok(cooked) => answer.push(cooked.as_str()),
+        Err(fault) => push_fault(answer, LITERAL.src, &fault),
+    }
+}
+
+/// What a text is without the indentation that its lines share.
+pub(crate) fn unindents(answer: &mut Answer, text: &str) {
+    answer.push_made(unindent(answer.alloc(), text));
+}
+
+/// The version that a text is, and its three numbers, or why it is none.
+pub(crate) fn version(answer: &mut Answer, text: &str) {
+    match text.parse::<Version>() {
+        Ok(version) => {
+            answer.push_made(version.to_string(answer.alloc()));
+            answer.push_made(version.major.to_string(answer.alloc()));
+            answer.push_made(version.minor.to_string(answer.alloc()));
+            answer.push_made(version.patch.to_string(answer.alloc()))
+        }
+        Err(message) => answer.push(message),
+    }
+}
+
+/// The indentation that a text is, or why it is none.
+pub(crate) fn indentation(answer: &mut Answer, text: &str) {
+    match text.parse::<Indentation>() {
+        Ok(indentation) => answer.push_made(indentation.to_string(answer.alloc())),
+        Err(message) => answer.push(message),
+    }
+}
+
+/// The keyword that a text is, or `none`. A keyword that is spelled or written otherwise has its
+/// texts after it.
+pub(crate) fn keyword(answer: &mut Answer, text: &str) {
+    let Some(keyword) = Keyword::from_lexeme(text) else {
+        return answer.push("none");
+    };
+    answer.push_made(format!(in answer.alloc(); "{:?}", keyword));
+    answer.push_made(keyword.to_string(answer.alloc()));
+    answer.push_if(
+        "unspelled",
+        keyword.lexeme() != text || !keyword.spells(text),
+    )
+}
+
+/// The class of a byte.
+pub(crate) fn class(answer: &mut Answer, text: &str) {
+    match text.parse::<u8>() {
+        Ok(byte) => answer.push_made(format!(in answer.alloc(); "{:?}", byte_class(byte))),
+        Err(_) => answer.push("none"),
+    }
+}
+
+/// The kind of the literal that a text begins with, or `none`: its kind, its delimiter, its token's
+/// kind, why it is refused where it does not end, and whether it has escapes.
+pub(crate) fn opens(answer: &mut Answer, text: &str) {
+    let Some(kind) = StringKind::from_token_start(text) else {
+        return answer.push("none");
+    };
+    push_string_kind(answer, kind);
+    answer.push(kind.delimiter());
+    answer.push_made(format!(in answer.alloc(); "{:?}", kind.token_kind()));
+    answer.push_made(format!(in answer.alloc(); "{:?}", kind.unterminated_error_kind()));
+    answer.push_if("escapes", kind.processes_escape_sequences());
+    answer.push_if("length", kind.delimiter_len() != kind.delimiter().len());
+    answer.push_if("opening", StringKind::of_opening(text.as_bytes()) != kind);
+    answer.push_if("indented", kind.indented() != kind.indented)
+}
