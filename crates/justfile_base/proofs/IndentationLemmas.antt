@@ -8,7 +8,7 @@ use Rattle.std.proofs.lemmas.List.{length-replicate}
 use Rattle.std.proofs.lemmas.List.Elements.{All-replicate}
 use Rattle.std.proofs.lemmas.List.Sums.{AllPass-from_list_all, list_all-from_AllPass}
 use Rattle.justfile_base.specs.declared.indentation.Indentation.{Indentation}
-use Rattle.justfile_base.specs.Indentation.{IsIndentation, indentation_refusal, indentation_text, is_blank}
+use Rattle.justfile_base.specs.Indentation.{IsIndentation, indentation_refusal, indentation_text, is_space_or_tab}
 
 pub replicate_all : (x : ℕ) (xs : List ℕ) → list_all (λ b. b == x) xs ≡ true → replicate (length xs) x ≡ xs
 replicate_all x [] h = refl
@@ -34,7 +34,7 @@ positive_test n h = elim (eqb_tells n 0) [ inl p ↦ absurd (omega arith) | inr 
 
 pub indentation_read : (text : List ℕ) → indentation_refusal text ≡ None → IsIndentation text
 indentation_read text e =
-    let p = no_refusal _ _ _ (length text == 0) (is_blank (slice_index text 0)) (list_all (λ b. b == slice_index text 0) text) e in
+    let p = no_refusal _ _ _ (length text == 0) (is_space_or_tab (slice_index text 0)) (list_all (λ b. b == slice_index text 0) text) e in
     record {
       nonempty = positive (length text) p.0;
       equal = λ k d h. eqb-true _ _ (AllPass-from_list_all _ text p.2 k d h);
@@ -44,7 +44,7 @@ indentation_read text e =
 pub indentation_taken : (text : List ℕ) → IsIndentation text → indentation_refusal text ≡ None
 indentation_taken text is = rw (positive_test (length text) is.nonempty, is.blank, all_equal text is) refl
 
-replicate_is : (n c : ℕ) → 0 < n → IsTrue (is_blank c) → IsIndentation (replicate n c)
+replicate_is : (n c : ℕ) → 0 < n → IsTrue (is_space_or_tab c) → IsIndentation (replicate n c)
 replicate_is zero c h b = absurd (omega arith)
 replicate_is (suc n) c h b = record {
   nonempty = simp length-replicate (omega arith);

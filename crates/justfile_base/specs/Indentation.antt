@@ -5,8 +5,8 @@ use Rattle.std.specs.List.{list_all}
 use Rattle.justfile_base.specs.declared.indentation.Indentation.{Indentation}
 
 -- a space or a tab
-abbrev pub is_blank : ℕ → Bool
-is_blank b = b == 32 || b == 9
+abbrev pub is_space_or_tab : ℕ → Bool
+is_space_or_tab b = b == 32 || b == 9
 
 abbrev pub indentation_text : Indentation → List ℕ
 indentation_text i = replicate i.count i.character
@@ -15,13 +15,13 @@ indentation_text i = replicate i.count i.character
 pub record IsIndentation (text : List ℕ) : Type 0 where
   pub nonempty : 0 < length text
   pub equal : All (λ b. b ≡ slice_index text 0) text
-  pub blank : IsTrue (is_blank (slice_index text 0))
+  pub blank : IsTrue (is_space_or_tab (slice_index text 0))
 
 -- why a text is no indentation
 abbrev pub indentation_refusal : List ℕ → Option (List ℕ)
 indentation_refusal text =
     if length text == 0 then Some (codes "indentation must not be empty")
-    else if is_blank (slice_index text 0)
+    else if is_space_or_tab (slice_index text 0)
     then (if list_all (λ b. b == slice_index text 0) text then None else Some (codes "indentation may not be mixed"))
     else Some (codes "indentation must be spaces or tabs")
 

@@ -6,6 +6,6 @@ use Rattle.std.specs.Str.{IsCharBoundary}
 abbrev pub slice_of : List ℕ → ℕ → ℕ → List ℕ
 slice_of text offset len = take len (drop offset text)
 
--- they lie in the text, on character bounds
+-- so many bytes from an offset on lie in the text, on character bounds
 abbrev pub IsWithin : List ℕ → ℕ → ℕ → Type 0
 IsWithin text offset len = (offset + len ≤ length text) × IsCharBoundary text offset × IsCharBoundary text (offset + len)

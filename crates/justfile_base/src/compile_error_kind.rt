@@ -2,11 +2,11 @@ use crate::delimiter::Delimiter;
 use crate::token_kind::TokenKind;
 
 /// Why a text is refused.
-#[derive(Debug, Drop)]
+#[derive(Debug, Drop, PartialEq)]
 pub enum CompileErrorKind<'src> {
     /// A command between backticks that begins with `#!`.
     BacktickShebang,
-    /// A text ends behind a backslash.
+    /// A text ends after a backslash.
     EscapeEndOfFile,
     /// A line of a body does not begin as the lines before it.
     InconsistentLeadingWhitespace {
@@ -17,7 +17,7 @@ pub enum CompileErrorKind<'src> {
     Internal {
         message: &'static str,
     },
-    /// No escape has this character behind its backslash.
+    /// No escape has this character after its backslash.
     InvalidEscapeSequence {
         character: char,
     },
@@ -38,7 +38,7 @@ pub enum CompileErrorKind<'src> {
     ShellExpansion {
         err: String,
     },
-    /// Another character than these stands behind the first one of a token.
+    /// Another character than these follows the first one of a token.
     UnexpectedCharacter {
         expected: Vec<char>,
     },
@@ -59,17 +59,17 @@ pub enum CompileErrorKind<'src> {
     UnicodeEscapeCharacter {
         character: char,
     },
-    /// The character behind `\u` is no `{`.
+    /// The character after `\u` is no `{`.
     UnicodeEscapeDelimiter {
         character: char,
     },
     /// No digit stands in the braces of `\u{..}`.
     UnicodeEscapeEmpty,
-    /// More than six digits stand there; the first seven are given.
+    /// More than six digits stand in the braces of `\u{..}`; the first seven are given.
     UnicodeEscapeLength {
         hex: String,
     },
-    /// The digits are the number of no character.
+    /// The digits in the braces of `\u{..}` are the number of no character.
     UnicodeEscapeRange {
         hex: String,
     },
@@ -79,7 +79,7 @@ pub enum CompileErrorKind<'src> {
     UnknownStartOfToken {
         start: char,
     },
-    /// No line feed stands behind a carriage return.
+    /// No line feed follows a carriage return.
     UnpairedCarriageReturn,
     /// A command has no closing backtick.
     UnterminatedBacktick,

@@ -1,6 +1,7 @@
 ghost use Rattle.std.specs.Prelude.{◌≡◌};
 ghost use Rattle.justfile_base.specs.Delimiter.{open_text, close_text};
 
+use crate::interpolation::{INTERPOLATION_END, INTERPOLATION_START};
 use crate::string_kind::StringKind;
 
 /// What may be open while a text is lexed.
@@ -21,7 +22,7 @@ impl Delimiter {
         match self {
             Delimiter::Brace => "{",
             Delimiter::Bracket => "[",
-            Delimiter::FormatString(_) => "{{",
+            Delimiter::FormatString(_) => INTERPOLATION_START,
             Delimiter::Paren => "(",
         }
     }
@@ -33,7 +34,7 @@ impl Delimiter {
         match self {
             Delimiter::Brace => "}",
             Delimiter::Bracket => "]",
-            Delimiter::FormatString(_) => "}}",
+            Delimiter::FormatString(_) => INTERPOLATION_END,
             Delimiter::Paren => ")",
         }
     }

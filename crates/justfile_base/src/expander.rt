@@ -8,7 +8,7 @@ use std::alloc::{AllocError, Global};
 pub enum ExpandFault {
     /// The text is refused, for the reason that is given.
     Refused(String),
-    /// Memory was wanting, which says nothing of the text.
+    /// The expander was out of memory, which says nothing of the text.
     Memory,
 }
 
@@ -22,8 +22,8 @@ impl From<AllocError> for ExpandFault {
     }
 }
 
-/// Expands the texts of literals that are marked so. Want of memory aside, the answer is a function
-/// of the text.
+/// Expands the texts of literals that are marked `x`. Unless memory runs out, the answer is a
+/// function of the text.
 pub trait Expander {
     /// The expanded text, or the reason why there is none.
     ghost answer: { Self → List ℕ → Result (List ℕ) (List ℕ) };
@@ -32,7 +32,7 @@ pub trait Expander {
     ///
     /// # Errors
     ///
-    /// `Refused` if the text has no expansion, with the reason; `Memory` if memory is wanting.
+    /// `Refused` if the text has no expansion, with the reason; `Memory` if memory runs out.
     fn expand(&self, alloc: Global, text: &str) -> Result<String, ExpandFault>
         ensures ok { IfOk result (λ expanded. answer self.now text.now ≡ Ok (string_bytes expanded)) }
         ensures err { IfErr result (Refuses (answer self.now text.now)) };

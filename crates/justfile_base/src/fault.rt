@@ -6,7 +6,7 @@ use std::alloc::{AllocError, AllocFailed};
 pub enum Fault<'src> {
     /// The text is refused.
     Compile(CompileError<'src>),
-    /// Memory was wanting, which says nothing of the text.
+    /// The program is out of memory, which says nothing of the text.
     Memory,
     /// A number was wanted, and the counter had come to its end.
     Numbers,

@@ -3,7 +3,7 @@
 pub enum FormatStringPart {
     /// Between two interpolations.
     Continue,
-    /// Behind the last interpolation.
+    /// After the last interpolation.
     End,
     /// The whole of a format string without interpolations.
     Single,

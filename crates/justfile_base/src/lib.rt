@@ -2,6 +2,7 @@
 #![tactic(auto)]
 
 pub mod byte_class;
+pub mod bytes;
 pub mod compile_error;
 pub mod compile_error_kind;
 pub mod delimiter;
@@ -9,6 +10,7 @@ pub mod expander;
 pub mod fault;
 pub mod format_string_part;
 pub mod indentation;
+pub mod interpolation;
 pub mod item_kind;
 pub mod keyed;
 pub mod keyword;
@@ -18,6 +20,7 @@ pub mod name;
 pub mod namepath;
 pub mod number;
 pub mod numerator;
+mod path;
 pub mod source;
 pub mod string_kind;
 pub mod string_literal;

@@ -1,9 +1,7 @@
 ghost use Rattle.std.specs.Prelude.{◌≡◌, [], ◌∷◌, ◌++◌, IfOk, OnOk, OnErr, Some, string_bytes};
-ghost use Rattle.std.specs.List.{flat_map};
-ghost use Rattle.std.specs.Fmt.{DisplaysOnOk};
-ghost use Rattle.justfile_base.specs.Path.{separated_name};
 
 use crate::namepath::Namepath;
+use crate::path::write_path;
 use std::alloc::{AllocError, Global};
 use std::fmt;
 
@@ -48,7 +46,11 @@ impl Modulepath {
         Ok(())
     }
 
-    /// The same path once more.
+    /// A copy of the path.
+    ///
+    /// # Errors
+    ///
+    /// `AllocError` if the program is out of memory.
     pub fn clone(&self, alloc: Global) -> Result<Self, AllocError>
         ensures { IfOk result (λ copy. names_of copy ≡ names_of self.now) }
     {
@@ -60,17 +62,6 @@ impl Modulepath {
     }
 }
 
-/// Writes names, each behind two colons.
-fn write_separated<W: fmt::Write>(names: &[String], f: &mut fmt::Formatter<W>) -> fmt::Result
-    ensures { DisplaysOnOk W.write_str_gives f.old result (Some (flat_map (λ name. separated_name (string_bytes name)) names.now)) f.new }
-{
-    for name in names {
-        f.write_str("::")?;
-        f.write_str(name.as_str())?;
-    }
-    Ok(())
-}
-
 impl fmt::Display for Modulepath {
     ghost use Rattle.justfile_base.specs.Modulepath.{names_of};
     ghost use Rattle.justfile_base.specs.Path.{path_text};
@@ -78,10 +69,6 @@ impl fmt::Display for Modulepath {
     ghost output = { λ path. Some (path_text (names_of path)) };
 
     fn fmt<W: fmt::Write>(&self, f: &mut fmt::Formatter<W>) -> fmt::Result {
-        let Some((first, rest)) = self.names.split_first() else {
-            return Ok(());
-        };
-        f.write_str(first.as_str())?;
-        write_separated(rest, f)
+        write_path(&self.names, f)
     }
 }

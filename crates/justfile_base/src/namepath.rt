@@ -1,11 +1,8 @@
 ghost use Rattle.std.specs.Prelude.{◌≡◌, ◌<◌, ◌-◌, [], ◌∷◌, ◌++◌, length, slice_get, IfOk, OnOk, OnErr, Some};
 ghost use Rattle.std.specs.Slice.Iter.{iter_rest};
-ghost use Rattle.std.specs.List.{flat_map};
-ghost use Rattle.std.specs.Fmt.{DisplaysOnOk};
-ghost use Rattle.justfile_base.specs.Name.{name_text};
-ghost use Rattle.justfile_base.specs.Path.{separated_name};
 
 use crate::name::Name;
+use crate::path::write_path;
 use std::alloc::{AllocError, Global};
 use std::{fmt, slice};
 
@@ -75,7 +72,11 @@ impl<'src> Namepath<'src> {
         self.names.len()
     }
 
-    /// The same path once more.
+    /// A copy of the path.
+    ///
+    /// # Errors
+    ///
+    /// `AllocError` if the program is out of memory.
     pub fn clone(&self, alloc: Global) -> Result<Self, AllocError>
         ensures { IfOk result (λ copy. names_in copy ≡ names_in self.now) }
     {
@@ -84,27 +85,12 @@ impl<'src> Namepath<'src> {
     }
 }
 
-/// Writes names, each behind two colons.
-fn write_separated<W: fmt::Write>(names: &[Name<'_>], f: &mut fmt::Formatter<W>) -> fmt::Result
-    ensures { DisplaysOnOk W.write_str_gives f.old result (Some (flat_map (λ name. separated_name (name_text name)) names.now)) f.new }
-{
-    for name in names {
-        f.write_str("::")?;
-        f.write_str(name.token.lexeme())?;
-    }
-    Ok(())
-}
-
 impl fmt::Display for Namepath<'_> {
     ghost use Rattle.justfile_base.specs.Namepath.{namepath_text};
 
     ghost output = { λ path. Some (namepath_text path) };
 
     fn fmt<W: fmt::Write>(&self, f: &mut fmt::Formatter<W>) -> fmt::Result {
-        let Some((first, rest)) = self.names.split_first() else {
-            return Ok(());
-        };
-        f.write_str(first.token.lexeme())?;
-        write_separated(rest, f)
+        write_path(&self.names, f)
     }
 }

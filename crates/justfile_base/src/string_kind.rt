@@ -4,6 +4,7 @@ ghost use Rattle.justfile_base.specs.CompileErrorKind.{internal_message};
 ghost use Rattle.justfile_base.specs.StringKind.{delimiter_at, delimiter_len, delimiter_text, escapes, is_quote, kind_at_start, kind_of, no_literal_message, token_kind_of, unterminated_kind_of};
 ghost use Rattle.justfile_base.specs.Token.{lexeme_of};
 
+use crate::bytes::byte_at;
 use crate::compile_error::CompileError;
 use crate::compile_error_kind::CompileErrorKind;
 use crate::token::Token;
@@ -121,13 +122,6 @@ impl StringKind {
             })),
         }
     }
-}
-
-/// The byte at a place, and 0 past the end.
-fn byte_at(bytes: &[u8], at: usize) -> u8
-    ensures { result ≡ slice_index bytes.now at }
-{
-    if at < bytes.len() { bytes[at] } else { 0 }
 }
 
 /// Whether the first byte stands three times. A byte past the end counts as 0.

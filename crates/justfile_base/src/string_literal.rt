@@ -23,7 +23,11 @@ pub struct StringLiteral<'src> {
 impl<'src> StringLiteral<'src> {
     ghost use Rattle.justfile_base.specs.StringLiteral.{IsSameLiteral, begins_format_string, format_mark, literal_marks};
 
-    /// The same literal once more.
+    /// A copy of the literal.
+    ///
+    /// # Errors
+    ///
+    /// `AllocError` if the program is out of memory.
     pub fn clone(&self, alloc: Global) -> Result<Self, AllocError>
         ensures { IfOk result (λ copy. IsSameLiteral copy self.now) }
     {
@@ -55,6 +59,7 @@ impl<'src> StringLiteral<'src> {
         if self.begins_format_string() { "f" } else { "" }
     }
 
+    /// Whether a format string begins with the literal.
     fn begins_format_string(&self) -> bool
         ensures { result ≡ begins_format_string self.now.part }
     {

@@ -6,7 +6,7 @@ use crate::compile_error_kind::CompileErrorKind;
 use crate::token_kind::TokenKind;
 
 /// A part of a source text, with its kind and its place. Lines and columns count from 0, columns
-/// in bytes. The last newline of a text begins no line, so that what stands behind it is on the
+/// in bytes. The last newline of a text begins no line, so that what follows it is on the
 /// line that it ends.
 #[derive(Clone, Copy, Debug, PartialEq, Eq, PartialOrd, Ord)]
 pub struct Token<'src> {

@@ -12,8 +12,8 @@ pub struct Version {
     pub patch: u64,
 }
 
-/// The number that a text of digits alone writes, if it fits.
-fn number(text: &str) -> Option<u64>
+/// Reads the number that a text of digits alone writes, if it fits.
+fn parse_number(text: &str) -> Option<u64>
     ensures some { IfSome result (IsNumberText text.now) }
     ensures none { IfNone result ((n : ℕ) → ¬ IsNumberText text.now n) }
 {
@@ -23,7 +23,7 @@ fn number(text: &str) -> Option<u64>
     text.parse().ok()
 }
 
-/// What stands before the first dot, and what stands behind it.
+/// What stands before the first dot, and what follows it.
 #[tactic(auto, using(crate::proofs::VersionLemmas::no_dot_all))]
 fn split_at_dot(text: &str) -> Option<(&str, &str)>
     ensures some { IfSome result (λ parts. text.now ≡ parts.0.now ++ 46 ∷ parts.1.now) }
@@ -42,9 +42,9 @@ impl Version {
         ensures none { IfNone result ((v : Version) → ¬ WritesVersion major.now minor.now patch.now v) }
     {
         Some(Version {
-            major: number(major)?,
-            minor: number(minor)?,
-            patch: number(patch)?,
+            major: parse_number(major)?,
+            minor: parse_number(minor)?,
+            patch: parse_number(patch)?,
         })
     }
 

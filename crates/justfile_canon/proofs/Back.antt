@@ -224,7 +224,7 @@ module _ (Open Open' : ℕ → Option SignificantToken → Type 0) (lower : (d d
   end_last true d e fs ts on next h = g.last next h refl
   end_last false d e fs ts on next h = g.last next h refl
 
-  -- an element and those behind it
+  -- an element and those after it
   joined : (p : Bool) (d : ℕ) (e : canon.Value) (es : Values) (fs gs : Shown) (on : List Mark) (b : Bool) → NotNext (closer p).kind (significant b (expr_marks e (others_marks es (closer p ∷ on))))
       → ((on' : List Mark) → EndsIn (tail e) (significant true on') → StopE (significant true on') → Expression lexeme nothing Open' false d e fs (significant b (expr_marks e on')) (significant true on'))
       → Sequence lexeme nothing Open' (closer p).kind d es gs (significant false (exprs_marks es (closer p ∷ on))) (significant true on)
@@ -306,7 +306,7 @@ module _ (Open Open' : ℕ → Option SignificantToken → Type 0) (lower : (d d
         → Braced lexeme nothing Open' d' e fs (significant false (brace_left ∷ space ∷ expr_marks e (space ∷ brace_right ∷ on))) (significant true on)
     braced_back (g.braces kind e kind2) d' le on = g.braces refl (expression_back e d' le false _ (ends_before _ _ _ refl) (stop_before _ _ refl)) refl
 
-    -- from behind the `if`
+    -- after the `if`
     conditional_back : {d : ℕ} {w : SignificantToken} {e : canon.Value} {fs : Shown} {ts rest : Tokens} → Conditional lexeme nothing Open d w e fs ts rest → (w' : SignificantToken) (d' : ℕ) → d' ≤ d → (on : List Mark) → EndsIn (tail e) (significant true on)
         → Conditional lexeme nothing Open' d' w' e fs (significant true (behind (expr_marks e on))) (significant true on)
     conditional_back (g.if_only c t next) w' d' le on ends =

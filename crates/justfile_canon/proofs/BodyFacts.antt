@@ -1,4 +1,4 @@
--- Along the tokens of any text each text of a body ends before what is printed behind it, and only the last body may end in white lines that hold levels open.
+-- Along the tokens of any text each text of a body ends before what is printed after it, and only the last body may end in white lines that hold levels open.
 use Rattle.std.proofs.Common.{◌≡◌, ℕ, zero, suc, ◌+◌, ◌-◌, ◌<◌, ◌≤◌, Bool, true, false, cond, eqb, ltb, List, [], ◌∷◌, ◌++◌, inl, inr, length, get_or, take, drop, Option, Some, None, Ok, Err, refl, sym, ap, ◌∙◌, subst, ⊎_elim, arith, take-append-drop}
 use Rattle.std.specs.Prelude.{◌&&◌, ◌||◌, not, is_some, reverse}
 use Rattle.std.specs.Char.{is_ascii_alphabetic, is_ascii_digit}
@@ -65,13 +65,13 @@ blanks_closes last n rest p l =
 
 -- ---- what a token leaves
 
--- the place behind a token that is not whitespace
+-- the place after a token that is not whitespace
 abbrev pub at_after : TokenKind → At
 at_after kinds.Indent = First
 at_after kinds.Eol = Start
 at_after _ = Amid
 
--- the same behind any token
+-- the place after any token
 abbrev pub place_after : TokenKind → At → At
 place_after k w = cond (is_whitespace k) w (at_after k)
 
@@ -148,7 +148,7 @@ held_step w m l behind kinds.Whitespace t held s f h = λ e b.
     ap (λ c. closes_levels c behind) line ∙ ap (closes_levels false) (sym (drop_front l behind)) ∙ sym (blanks_closes m.line_start (length l) (l ++ behind) ((f b).2) ((f b).1)) ∙ h e b
 held_step w m l behind _ t held s f h = λ e. cc
 
--- ---- behind text
+-- ---- after text
 
 -- a line that a text begins and ends is not of blanks alone
 abbrev pub OnLine : At → List ℕ → Type 0
@@ -164,7 +164,7 @@ Flush _ t = Unit {0}
 abbrev pub LastKnown : At → List ℕ → Type 0
 LastKnown w t = (ends_in_return t ≡ false → IsRaw t (10 ∷ [])) × OnLine w t × Flush w t
 
--- by the kind of the token behind it
+-- by the kind of the token after it
 abbrev pub TextKnown : At → List ℕ → TokenKind → Type 0
 TextKnown w t kinds.Eol = LastKnown w t
 TextKnown w t kinds.Dedent = LastKnown w t
@@ -189,7 +189,7 @@ all_blank (x ∷ xs) behind h = go (blank (class_of x)) h (all_blank xs behind)
     go true h ih = ap (λ n. drop n (x ∷ xs ++ behind)) (up (blank_len (xs ++ behind))) ∙ ih (sym (ap (λ n. is_empty (drop n (x ∷ xs))) (up (blank_len xs))) ∙ h)
     go false h ih = cc
 
--- behind the text the line ends
+-- after the text the line ends
 past_end : (behind : List ℕ) → is_blank_line behind ≡ true → is_blank_line (past behind) ≡ true
 past_end [] h = refl
 past_end (x ∷ xs) h = ap is_blank_line (past_line_end x xs (left (is_line_end (x ∷ xs)) h)) ∙ h
@@ -260,7 +260,7 @@ after_text w m t (x ∷ xs) s clear b e some seen =
 pub text_known : (w : At) (m : Mode) (t behind : List ℕ) (s : Tok) (k : TokenKind) (n : ℕ) → Clear m → TokenFact w m (t ++ behind) kinds.Text (length t) → next (after kinds.Text s m) behind ≡ Ok (k, n) → TextKnown w t k
 text_known w m t behind s k n clear f e = (subst (FollowsText w t) e (after_text w m t behind s clear f.0 f.1 f.2 f.3)).known
 
--- ---- behind a body whose last lines hold its level open
+-- ---- after a body whose last lines hold its level open
 
 record HasReturn (b : ℕ) (k : ByteClass) : Type 0 where
   fact : k ≡ classes.CarriageReturn → b ≡ 13
@@ -316,7 +316,7 @@ one_level [] h = absurd (omega (arith, h))
 one_level (l ∷ []) h = refl
 one_level (l ∷ k ∷ ls) h = absurd (omega (arith, h))
 
--- a run that does not close levels behind a line feed does not close them elsewhere
+-- a run that does not close levels after a line feed does not close them elsewhere
 closes_neither : (rest : List ℕ) → closes_levels true rest ≡ false → closes_levels false rest ≡ false
 unfolding closes_levels
 closes_neither [] h = refl
@@ -471,7 +471,7 @@ abbrev pub NextIs : (TokenKind → Type 0) → List SignificantToken → Type 0
 NextIs p [] = Unit {0}
 NextIs p (t ∷ ts) = p t.tok.kind
 
--- A text ends before what is printed behind it. The first line of a body is not empty. Nothing follows a body whose last lines hold its level open.
+-- A text ends before what is printed after it. The first line of a body is not empty. Nothing follows a body whose last lines hold its level open.
 abbrev pub BodyToken : Outline → TokenKind → List ℕ → List SignificantToken → Type 0
 BodyToken s kinds.Text l ts = NextIs (TextKnown s.at l) ts
 BodyToken s kinds.Eol l ts = s.body ≡ true → s.interpolation ≡ false → NotFirst s.at

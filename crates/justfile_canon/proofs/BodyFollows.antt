@@ -1,4 +1,4 @@
--- What is printed behind a body in normal form: nothing, or an item, with line ends before it or not.
+-- What is printed after a body in normal form: nothing, or an item, with line ends before it or not.
 use Rattle.std.proofs.Common.{◌≡◌, ℕ, Bool, true, false, List, [], ◌∷◌, refl, ap, arith}
 use Rattle.std.specs.Prelude.{not}
 use Rattle.justfile_base.specs.ByteClass.{class_of}
@@ -7,11 +7,12 @@ use Rattle.justfile_model.specs.Modes.{is_empty}
 use Rattle.justfile_model.specs.NormalShape.{behind_newline, normal_rest}
 use Rattle.justfile_model.specs.Tree as tree
 use Rattle.justfile_model.specs.Tree.{Shape}
-use Rattle.justfile_canon.proofs.Canon.{Entry, text_on}
+use Rattle.justfile_canon.proofs.Canon.{ShapeItem, text_on}
+use Rattle.justfile_canon.proofs.Good as good
 use Rattle.justfile_canon.proofs.Good.{AtStart, blank_only, follows_body}
 use Rattle.justfile_canon.proofs.BodyLines.{ends_body, ends_at_item, ends_at_blank_line}
 
--- what stands behind a line end of a normal shape, or at its front
+-- what follows a line end of a normal shape, or stands at its front
 record Rest (items : Shape) : Type 0 where
   alone : blank_only items ≡ true → items ≡ tree.Newline ∷ []
 
@@ -38,7 +39,7 @@ not_alone items h other = by (blank_only items) refl
     by true e = absurd (other (h.alone e))
     by false e = refl
 
--- behind a line end of a normal shape
+-- after a line end of a normal shape
 pub newline_follows : (items : Shape) → follows_body (behind (normal_rest (tree.Newline ∷ items))) ≡ true
 newline_follows items = by (normal_rest items) (rest_is items)
   where
@@ -56,27 +57,29 @@ hash_white x e = ap (λ y. white (class_of y)) e
 no_hash : ◌≡◌ {A = ℕ} 0 35 → ⊥
 no_hash e = omega (arith, e)
 
--- the text of an item is not empty
-some_text : (ind : List ℕ) (j : Entry) (items : Shape) → AtStart (j ∷ items) → is_empty (text_on ind (j ∷ items)) ≡ false
-some_text ind tree.Newline items good = refl
-some_text ind (tree.Assignment [] value) items good = absurd (good.0.is_name)
-some_text ind (tree.Assignment (x ∷ xs) value) items good = refl
-some_text ind (tree.Comment []) items good = absurd (no_hash good.0.comment.first)
-some_text ind (tree.Comment (x ∷ xs)) items good = refl
-some_text ind (tree.Recipe [] []) items good = absurd (good.0.is_name)
-some_text ind (tree.Recipe [] (l ∷ ls)) items good = absurd (good.0.named.is_name)
-some_text ind (tree.Recipe (x ∷ xs) body) items good = refl
+module _ (limit : ℕ) (ind : List ℕ) where
+  -- the text of an item is not empty
+  some_text : (j : ShapeItem) (items : Shape) → AtStart limit (j ∷ items) → is_empty (text_on ind (j ∷ items)) ≡ false
+  some_text _ items (good.newline h) = refl
+  some_text _ items (good.assignment {name = []} named value more) = absurd named.is_name
+  some_text _ items (good.assignment {name = x ∷ xs} named value more) = refl
+  some_text _ items (good.comment {t = []} h more) = absurd (no_hash h.comment.first)
+  some_text _ items (good.comment {t = x ∷ xs} h more) = refl
+  some_text _ items (good.header {name = []} named more) = absurd named.is_name
+  some_text _ items (good.header {name = x ∷ xs} named more) = refl
+  some_text _ items (good.recipe {name = []} h more) = absurd h.named.is_name
+  some_text _ items (good.recipe {name = x ∷ xs} h more) = refl
 
--- the printed text of these items may stand behind a body
-pub text_follows : (ind : List ℕ) (items : Shape) → AtStart items → follows_body items ≡ true → ends_body (text_on ind items) ≡ true
-text_follows ind [] good h = refl
-text_follows ind (tree.Newline ∷ []) good h = cc
-text_follows ind (tree.Newline ∷ j ∷ items) good h = ends_at_blank_line (text_on ind (j ∷ items)) (some_text ind j items good) (text_follows ind (j ∷ items) good h)
-text_follows ind (tree.Assignment [] value ∷ items) good h = absurd (good.0.is_name)
-text_follows ind (tree.Assignment (x ∷ xs) value ∷ items) good h = ends_at_item x _ (ap white (good.0.is_name.0))
-text_follows ind (tree.Comment [] ∷ items) good h = absurd (no_hash good.0.comment.first)
-text_follows ind (tree.Comment (x ∷ xs) ∷ items) good h = ends_at_item x _ (hash_white x good.0.comment.first)
-text_follows ind (tree.Recipe [] [] ∷ items) good h = absurd (good.0.is_name)
-text_follows ind (tree.Recipe [] (l ∷ ls) ∷ items) good h = absurd (good.0.named.is_name)
-text_follows ind (tree.Recipe (x ∷ xs) [] ∷ items) good h = ends_at_item x _ (ap white (good.0.is_name.0))
-text_follows ind (tree.Recipe (x ∷ xs) (l ∷ ls) ∷ items) good h = ends_at_item x _ (ap white (good.0.named.is_name.0))
+  -- the printed text of these items may stand after a body
+  pub text_follows : {items : Shape} → AtStart limit items → follows_body items ≡ true → ends_body (text_on ind items) ≡ true
+  text_follows good.end h = refl
+  text_follows (good.newline {items = []} more) h = cc
+  text_follows (good.newline {items = j ∷ items} more) h = ends_at_blank_line (text_on ind (j ∷ items)) (some_text j items more) (text_follows more h)
+  text_follows (good.assignment {name = []} named value more) h = absurd named.is_name
+  text_follows (good.assignment {name = x ∷ xs} named value more) h = ends_at_item x _ (ap white (named.is_name.0))
+  text_follows (good.comment {t = []} c more) h = absurd (no_hash c.comment.first)
+  text_follows (good.comment {t = x ∷ xs} c more) h = ends_at_item x _ (hash_white x c.comment.first)
+  text_follows (good.header {name = []} named more) h = absurd named.is_name
+  text_follows (good.header {name = x ∷ xs} named more) h = ends_at_item x _ (ap white (named.is_name.0))
+  text_follows (good.recipe {name = []} r more) h = absurd r.named.is_name
+  text_follows (good.recipe {name = x ∷ xs} r more) h = ends_at_item x _ (ap white (r.named.is_name.0))

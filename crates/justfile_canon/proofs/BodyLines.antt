@@ -10,7 +10,7 @@ use Rattle.justfile_base.specs.declared.byte_class.ByteClass.{ByteClass}
 use Rattle.justfile_base.specs.declared.byte_class.ByteClass.TheVariants as classes
 use Rattle.justfile_base.specs.declared.token_kind.TokenKind.TheVariants.{Colon, Dedent, Eol, Indent, InterpolationEnd, InterpolationStart, Text, Whitespace}
 use Rattle.justfile_base.specs.ByteClass.{class_of}
-use Rattle.justfile_base.specs.Indentation.{IsIndentation, is_blank}
+use Rattle.justfile_base.specs.Indentation.{IsIndentation, is_space_or_tab}
 use Rattle.justfile_base.proofs.IndentationLemmas.{all_equal}
 use Rattle.justfile_model.specs.declared.open_delimiter.OpenDelimiter.{OpenDelimiter}
 use Rattle.justfile_model.specs.declared.raw_text.RawText.TheVariants as raw_texts
@@ -61,7 +61,7 @@ not_mixed x xs e = go (eqb x 32) refl
     go true h = ap (λ b. list_any (λ y. eqb y 32) xs && b) (no_other x 9 xs (not_tab h) e) ∙ and_no (list_any (λ y. eqb y 32) xs)
     go false h = ap (λ b. b && list_any (λ y. eqb y 9) xs) (no_other x 32 xs h e)
 
-is_blank_class : (x : ℕ) → is_blank x ≡ true → blank (class_of x) ≡ true
+is_blank_class : (x : ℕ) → is_space_or_tab x ≡ true → blank (class_of x) ≡ true
 unfolding class_of
 is_blank_class x h = rw h refl
 
@@ -85,7 +85,7 @@ colon_step {os} {ls} {c} {i} {f} x {more} {ts} equals colon k =
 
 -- ---- inside a line of a body
 
--- text of a body in front of a stop that is printed behind it
+-- text of a body in front of a stop that is printed after it
 pub record IsRaw (t stop : List ℕ) : Type 0 where
   pub some : is_empty t ≡ false
   pub ends : (more : List ℕ) → raw_len raw_texts.Body (t ++ (stop ++ more)) ≡ length t
@@ -109,7 +109,7 @@ interpolation_end ind more t ts k = step (amid [] (ind ∷ []) true (Some t) fal
 
 -- ---- where a line of a body begins
 
--- an empty line: levels stay open where the run of white bytes behind it does not close them
+-- an empty line: levels stay open where the run of white bytes after it does not close them
 pub empty_step : (ind more : List ℕ) (ts : List Mark) → closes_levels true more ≡ false → Reading (at_line ind) more ts → Reading (at_line ind) (10 ∷ more) (mark Eol (10 ∷ []) ∷ ts)
 unfolding next layout inside body class_of closes_levels pieces_len
 empty_step ind more ts h k = step (at_line ind) Eol (10 ∷ []) more ts (rw h refl) (λ e. cc) (λ o n c. k)
@@ -118,7 +118,7 @@ indent_chosen : (x : ℕ) (xs line rest : List ℕ) → is_mixed (x ∷ xs) ≡ 
 unfolding layout
 indent_chosen x xs line rest equal seen = rw seen (rw equal refl)
 
--- the first line, which begins with no blank behind the indentation
+-- the first line, which begins with no blank after the indentation
 pub indent_step : (ind line : List ℕ) (ts : List Mark) → IsLevel ind → head_is blank line ≡ false → is_blank_line line ≡ false → Reading (in_line ind) line ts → Reading (at_item true) (ind ++ line) (mark Indent ind ∷ ts)
 unfolding next
 indent_step [] line ts i none seen k = let e = i.some in cc
@@ -221,9 +221,9 @@ pub closes_nothing : (last : Bool) → closes_levels last [] ≡ false
 unfolding closes_levels
 closes_nothing last = refl
 
--- ---- behind a body
+-- ---- after a body
 
--- What may stand behind the last line end of a body: the end of the text, or line ends, if any, and then a byte that is not white.
+-- What may stand after the last line end of a body: the end of the text, or line ends, if any, and then a byte that is not white.
 abbrev pub ends_body : List ℕ → Bool
 ends_body more = is_empty more || (closes_levels true more && not (head_is blank more))
 
@@ -264,7 +264,7 @@ closes_alike : (x : ℕ) (xs : List ℕ) → white (class_of x) ≡ true → clo
 unfolding closes_levels
 closes_alike x xs e h = rw e (let h' = rw e at h in h')
 
--- the level closes behind a body
+-- the level closes after a body
 pub dedent_found : (ind more : List ℕ) → IsLevel ind → ends_body more ≡ true → next (at_line ind) more ≡ Ok (Dedent, 0)
 unfolding next
 dedent_found ind [] i h = refl

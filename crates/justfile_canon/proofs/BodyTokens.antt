@@ -132,13 +132,13 @@ InBody m = region_by m.in_body m.interpolation ≡ InText
 abbrev pub Clear : Mode → Type 0
 Clear m = (InBody m → m.openers ≡ []) × (m.in_body ≡ true → is_empty m.levels ≡ false)
 
--- behind an Indent, at the start of a later line, or inside a line: by the last token that is not whitespace
+-- after an Indent, at the start of a later line, or inside a line: by the last token that is not whitespace
 pub data At : Type 0 where
   First : At
   Start : At
   Amid : At
 
--- the blanks at the front, and what is behind them
+-- the blanks at the front, and what follows them
 abbrev pub front : List ℕ → List ℕ
 front rest = take (blank_len rest) rest
 

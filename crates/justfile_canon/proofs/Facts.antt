@@ -39,7 +39,7 @@ pub record WasComment (l behind : List ℕ) : Type 0 where
   pub ends : raw_len raw_texts.Comment (l ++ behind) ≡ length l
   pub stop : is_blank_line behind ≡ true
 
--- what is known of a lexeme that was read in a mode, and of the text behind it
+-- what is known of a lexeme that was read in a mode, and of the text after it
 abbrev pub Fact : Mode → TokenKind → (l behind : List ℕ) → Type 0
 Fact m kinds.Identifier l behind = IsName l
 Fact m kinds.StringToken l behind = IsString l × (m.behind_f ≡ true → IsFormatLiteral l)
@@ -355,7 +355,7 @@ next_finds m (b ∷ bs) = next_by_finds m (b ∷ bs) m.line_start
 pub fact_of : (m : Mode) (k : TokenKind) (l behind : List ℕ) → next m (l ++ behind) ≡ Ok (k, length l) → Fact m k l behind
 fact_of m k l behind e = (subst (Finds m (l ++ behind)) e (next_finds m (l ++ behind))).fact l behind refl refl
 
--- a string is found again behind no `f`, before what begins with no quote
+-- a string is found again where no `f` comes before it and no quote after it
 pub string_again : (m n : Mode) (l behind more : List ℕ) → is_quote (get_or l 0 0) ≡ true → literal m (l ++ behind) ≡ Ok (kinds.StringToken, length l) → n.behind_f ≡ false → is_quote (get_or more 0 0) ≡ false → literal n (l ++ more) ≡ Ok (kinds.StringToken, length l)
 string_again m n [] behind more quoted found no_f stop = cc
 string_again m n (x ∷ xs) behind more quoted found no_f stop =

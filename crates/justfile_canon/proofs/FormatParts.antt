@@ -16,7 +16,7 @@ use Rattle.justfile_canon.proofs.Sound.{Around, around, is_comment, outside, Sou
 use Rattle.justfile_canon.proofs.WrittenValues.{fact_as, past, on, operator_around, operator_no_comment, within}
 use Rattle.justfile_canon.proofs.Quoted.{IsFramed, continue_framed, end_framed}
 
--- ---- behind an expression the same is open as before it
+-- ---- after an expression the same is open as before it
 
 module _ {A B : Type 0} (leaf : Tok → A) (spot : Tok → B) (Open : ℕ → Option SignificantToken → Type 0) where
   mutual
@@ -94,7 +94,7 @@ pub record InFormat (k : StringKind) (ts : Tokens) : Type 0 where
   pub comment : Bool
   pub sound : Sound (within open_around (Some k)) comment ts
 
--- behind each start of a format string
+-- after each start of a format string
 abbrev pub AreInFormat : List SignificantToken → Type 0
 AreInFormat [] = Unit {0}
 AreInFormat (t ∷ ts) = (IsKind kinds.FormatStringStart t → InFormat (kind_of t.tok.lexeme) ts) × AreInFormat ts
@@ -109,12 +109,12 @@ are_inside s c (t ∷ ts) h = (
 pub lexed_inside : (text : List ℕ) (tokens : List Tok) → IsUtf8 text → Lexed text tokens → AreInFormat (significant_tokens tokens)
 lexed_inside text tokens u l = are_inside outside false (significant_tokens tokens) (lexed_sound text tokens u l)
 
--- behind an expression it is still the innermost
+-- after an expression it is still the innermost
 pub expression_inside : {A B : Type 0} (leaf : Tok → A) (spot : Tok → B) (Open : ℕ → Option SignificantToken → Type 0) {condition : Bool} {d : ℕ} {e : Expr A B} {fs : List (Noted B)} {k : StringKind} {ts rest : Tokens}
     → Expression leaf spot Open condition d e fs ts rest → InFormat k ts → InFormat k rest
 expression_inside leaf spot Open {k = k} x h = record { open_around = h.open_around; comment = false; sound = behind leaf spot Open x (within h.open_around (Some k)) h.comment h.sound }
 
--- and behind a part between two expressions
+-- and after a part between two expressions
 pub continue_inside : {k : StringKind} (t : SignificantToken) (ts : Tokens) → IsKind kinds.FormatStringContinue t → InFormat k (t ∷ ts) → IsFramed 2 2 t.tok.lexeme × InFormat k ts
 continue_inside {k} t ts kind h = (
   continue_framed k t.tok.lexeme (fact_as t kinds.FormatStringContinue kind h.sound.0),

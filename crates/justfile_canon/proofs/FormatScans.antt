@@ -1,4 +1,4 @@
--- In format mode a literal, or a part of one, that was lexed ends at its end before whatever is printed behind it.
+-- In format mode a literal, or a part of one, that was lexed ends at its end before whatever is printed after it.
 use Rattle.std.proofs.Common.{◌≡◌, ℕ, zero, suc, ◌+◌, Bool, true, false, cond, eqb, ltb, List, [], ◌∷◌, ◌++◌, length, get_or, take, drop, refl, sym, ap, ◌∙◌, subst, arith, length-take, take-append-drop}
 use Rattle.std.specs.Prelude.{◌&&◌, ◌||◌}
 use Rattle.std.proofs.lemmas.Bool.{and_parts}
@@ -88,7 +88,7 @@ braces_end delimiters.QuoteDouble false more = refl
 braces_end delimiters.QuoteSingle true more = refl
 braces_end delimiters.QuoteSingle false more = refl
 
--- behind one byte: it hides no brace, and is none
+-- after one byte: it hides no brace, and is none
 braces_one : (k : StringKind) (x : ℕ) (a b : List ℕ) → scan k true 0 (x ∷ 123 ∷ 123 ∷ a) ≡ 1 → scan k true 0 (x ∷ 123 ∷ 123 ∷ 32 ∷ b) ≡ 1
 unfolding pieces_len
 braces_one k x a b e = go (escapes k.delimiter && eqb x 92) (eqb x 123) (is_interpolation_start a) (eqb (get_or a 0 0) 123) (is_delimiter k (x ∷ 123 ∷ 123 ∷ [])) e
@@ -167,7 +167,7 @@ pub stable_closing : (k : StringKind) (fin : Bool) (inner a b : List ℕ) → sc
 stable_closing k true inner a b e = whole_stable k 0 inner a b e
 stable_closing k false inner a b e = part_stable k 0 inner a b e
 
--- a part behind its front, which ends there
+-- a part after its front, which ends there
 pub part_cut : (k : StringKind) (fin : Bool) (pre after tail : List ℕ) → drop (raw_len (raw_texts.Literal k true) after) after ≡ closing_of k fin ++ tail
     → (l behind : List ℕ) → pre ++ after ≡ l ++ behind → length pre + raw_len (raw_texts.Literal k true) after + length (closing_of k fin) ≡ length l → IsPart k pre fin l
 part_cut k fin pre after tail stop l behind split len =

@@ -16,12 +16,12 @@ use Rattle.justfile_model.specs.Tok.{Tok}
 use Rattle.justfile_model.specs.SignificantTokens.{SignificantToken, significant_from}
 use Rattle.justfile_model.specs.Tree as tree
 use Rattle.justfile_model.specs.Tree.{Or, And, Comparison, Concatenation, ListConcatenation, Join, Root, If, IfElse, Not, StringLiteral, FormatLiteral, FormatString, Backtick, Assert, AssertMessage, Variable, Call, Group, ListOf, Last, Continue, Text, Interpolation, Line, Shape, lexeme, nothing, trimmed}
-use Rattle.justfile_model.specs.Expressions.{Limited, Expression}
+use Rattle.justfile_model.specs.Expressions.{Under, Expression}
 use Rattle.justfile_canon.proofs.Reading.{Mark, mark, placed}
 use Rattle.justfile_canon.proofs.Inline.{head_is, IsName, IsLiteral, IsPart, delimiter_of}
 use Rattle.justfile_canon.proofs.Lines.{IsComment}
 use Rattle.justfile_canon.proofs.BodyLines.{IsRaw}
-use Rattle.justfile_canon.proofs.Canon.{Shown, Value, Values, Pieces, Fragment, Row, expr_on, expr_marks}
+use Rattle.justfile_canon.proofs.Canon.{Shown, Value, Values, Pieces, Fragment, Row, assignment_item, recipe_item, expr_on, expr_marks}
 
 -- the printer's tokens without places, and what the parser reads of them
 abbrev pub unplaced : List Mark → List Tok
@@ -33,7 +33,7 @@ significant glued ts = significant_from glued (unplaced ts)
 
 -- ---- values
 
--- a literal of a token of this kind, which ends before what is printed behind it
+-- a literal of a token of this kind, which ends before what is printed after it
 pub record IsDelimited (k : TokenKind) (l : List ℕ) : Type 0 where
   pub kind : StringKind
   pub literal : IsLiteral kind l
@@ -45,18 +45,18 @@ IsString = IsDelimited kinds.StringToken
 abbrev pub IsCommand : List ℕ → Type 0
 IsCommand = IsDelimited kinds.Backtick
 
--- a string behind an `f` with nothing to fill in: format mode ends where plain mode does
+-- a string after an `f` with nothing to fill in: format mode ends where plain mode does
 pub record IsFormatLiteral (l : List ℕ) : Type 0 where
   pub string : IsString l
   pub ends : (more : List ℕ) → raw_len (raw_texts.Literal string.kind true) (string.literal.inner ++ (delimiter_of string.kind ++ more)) ≡ length string.literal.inner
 
--- the start of a format string, up to `{{` and a space behind it
+-- the start of a format string, up to `{{` and a space after it
 pub record IsFormatStart (l : List ℕ) : Type 0 where
   pub part : IsPart (kind_of l) (delimiter_of (kind_of l)) false l
   pub quoted : is_backtick (kind_of l).delimiter ≡ false
   pub opens : (more : List ℕ) → kind_of (l ++ more) ≡ kind_of l
 
--- a later part of a format string: up to `{{` and a space behind it, or to the string's end
+-- a later part of a format string: up to `{{` and a space after it, or to the string's end
 abbrev pub IsPartOf : StringKind → Bool → List ℕ → Type 0
 IsPartOf k fin = IsPart k (125 ∷ 125 ∷ []) fin
 
@@ -111,31 +111,12 @@ closes kinds.Eol = true
 closes kinds.Eof = true
 closes _ = false
 
--- such a token is next, so an expression ends here
+-- a token that closes is next, so an expression ends here
 abbrev pub ends_value : List SignificantToken → Bool
 ends_value [] = false
 ends_value (t ∷ ts) = closes t.tok.kind
 
--- the value's tokens derive it, before any others that a value ends at
-pub record DerivesBack (e : Value) (features : Shown) : Type 0 where
-  pub derives : (glued : Bool) (on : List Mark) → ends_value (significant true on) ≡ true → Expression lexeme nothing Limited false 0 e features (significant glued (expr_marks e on)) (significant true on)
-
--- a value that no other is open around
-pub record GoodExpression (e : Value) : Type 0 where
-  pub lexes : GoodValue e
-  pub features : Shown
-  pub derives : DerivesBack e features
-  pub utf8 : (more : List ℕ) → IsUtf8 more → IsUtf8 (expr_on e more)
-
 -- ---- bodies
-
--- each text ends before what is printed behind it, and no two stand side by side
-abbrev pub GoodFragments : List Fragment → Type 0
-GoodFragments [] = Unit {0}
-GoodFragments (Text t ∷ []) = IsRaw t (10 ∷ []) × IsUtf8 t
-GoodFragments (Text t ∷ Text u ∷ fs) = ⊥
-GoodFragments (Text t ∷ Interpolation e ∷ fs) = IsRaw t (123 ∷ 123 ∷ 32 ∷ []) × IsUtf8 t × GoodFragments (Interpolation e ∷ fs)
-GoodFragments (Interpolation e ∷ fs) = GoodExpression e × GoodFragments fs
 
 -- no line is of blanks alone
 abbrev pub IsShown : List Fragment → Type 0
@@ -147,14 +128,6 @@ abbrev pub IsFirst : List Fragment → Type 0
 IsFirst [] = ⊥
 IsFirst (Text t ∷ fs) = head_is blank t ≡ false
 IsFirst (Interpolation e ∷ fs) = Unit {0}
-
-abbrev pub GoodLines : List Row → Type 0
-GoodLines [] = Unit {0}
-GoodLines (Line number fs ∷ ls) = GoodFragments fs × IsShown fs × GoodLines ls
-
-abbrev pub GoodBody : List Row → Type 0
-GoodBody [] = ⊥
-GoodBody (Line number fs ∷ ls) = IsFirst fs × GoodFragments fs × GoodLines ls
 
 -- a line of space, tab and CR alone
 abbrev pub pale : List ℕ → Bool
@@ -170,7 +143,7 @@ abbrev pub all_pale : List Row → Bool
 all_pale [] = true
 all_pale (Line number fs ∷ ls) = pale_line fs && all_pale ls
 
--- All lines behind some empty one are pale. Levels close before that one if anything but line ends follows the body.
+-- All lines after some empty one are pale. Levels close before that one if anything but line ends follows the body.
 abbrev pub pale_behind : List Row → Bool
 pale_behind [] = false
 pale_behind (Line number [] ∷ ls) = all_pale ls || pale_behind ls
@@ -187,12 +160,6 @@ pub record GoodComment (t : List ℕ) : Type 0 where
   pub trimmed : trim_end t ≡ t
   pub utf8 : IsUtf8 t
 
--- a recipe with a body, which has no empty line at its end
-pub record GoodRecipe (name : List ℕ) (body : List Row) : Type 0 where
-  pub named : GoodName name
-  pub good : GoodBody body
-  pub ended : trimmed body ≡ body
-
 -- line ends alone
 abbrev pub blank_only : Shape → Bool
 blank_only [] = true
@@ -203,39 +170,72 @@ blank_only (i ∷ items) = false
 abbrev pub follows_body : Shape → Bool
 follows_body items = is_empty items || not (blank_only items)
 
-abbrev mutual
-  -- items from the start of a line on
-  pub AtStart : Shape → Type 0
-  AtStart [] = Unit {0}
-  AtStart (tree.Newline ∷ items) = AtStart items
-  AtStart (tree.Assignment name value ∷ items) = GoodName name × GoodExpression value × Behind items
-  AtStart (tree.Comment t ∷ items) = GoodComment t × AtEnd items
-  AtStart (tree.Recipe name [] ∷ items) = GoodName name × Behind items
-  AtStart (tree.Recipe name (l ∷ ls) ∷ items) = GoodRecipe name (l ∷ ls) × BehindBody (l ∷ ls) items
+-- ---- what derives back, where so many expressions may be open
 
-  -- behind an item a comment may trail it
-  pub Behind : Shape → Type 0
-  Behind (tree.Newline ∷ items) = AtStart items
-  Behind (tree.Comment t ∷ items) = GoodComment t × AtEnd items
-  Behind _ = ⊥
+module _ (limit : ℕ) where
+  -- the value's tokens derive it, before any others that a value ends at
+  pub record DerivesBack (e : Value) (features : Shown) : Type 0 where
+    pub derives : (glued : Bool) (on : List Mark) → ends_value (significant true on) ≡ true → Expression lexeme nothing (Under limit) false 0 e features (significant glued (expr_marks e on)) (significant true on)
 
-  -- then the line ends, and behind the last line too
-  pub AtEnd : Shape → Type 0
-  AtEnd (tree.Newline ∷ items) = AtStart items
-  AtEnd _ = ⊥
+  -- a value that no other is open around
+  pub record GoodExpression (e : Value) : Type 0 where
+    pub lexes : GoodValue e
+    pub features : Shown
+    pub derives : DerivesBack e features
+    pub utf8 : (more : List ℕ) → IsUtf8 more → IsUtf8 (expr_on e more)
 
-  -- behind a body its last line ends; then levels close, and if they would close before that, nothing follows
-  pub BehindBody : List Row → Shape → Type 0
-  BehindBody body (tree.Newline ∷ items) = (follows_body items ≡ true) × (pale_behind body ≡ true → items ≡ []) × AtStart items
-  BehindBody body _ = ⊥
+  -- each text ends before what is printed after it, and no two stand side by side
+  abbrev pub GoodFragments : List Fragment → Type 0
+  GoodFragments [] = Unit {0}
+  GoodFragments (Text t ∷ []) = IsRaw t (10 ∷ []) × IsUtf8 t
+  GoodFragments (Text t ∷ Text u ∷ fs) = ⊥
+  GoodFragments (Text t ∷ Interpolation e ∷ fs) = IsRaw t (123 ∷ 123 ∷ 32 ∷ []) × IsUtf8 t × GoodFragments (Interpolation e ∷ fs)
+  GoodFragments (Interpolation e ∷ fs) = GoodExpression e × GoodFragments fs
 
--- behind a comment, or behind another item
-abbrev pub After : Bool → Shape → Type 0
-After true items = AtEnd items
-After false items = Behind items
+  abbrev pub GoodLines : List Row → Type 0
+  GoodLines [] = Unit {0}
+  GoodLines (Line number fs ∷ ls) = GoodFragments fs × IsShown fs × GoodLines ls
 
-pub end_behind : (items : Shape) → AtEnd items → Behind items
-end_behind [] h = h
-end_behind (tree.Newline ∷ items) h = h
-end_behind (tree.Comment t ∷ items) h = absurd h
-end_behind (_ ∷ items) h = h
+  abbrev pub GoodBody : List Row → Type 0
+  GoodBody [] = ⊥
+  GoodBody (Line number fs ∷ ls) = IsFirst fs × GoodFragments fs × GoodLines ls
+
+  -- a recipe with a body, which has no empty line at its end
+  pub record GoodRecipe (name : List ℕ) (body : List Row) : Type 0 where
+    pub named : GoodName name
+    pub good : GoodBody body
+    pub ended : trimmed body ≡ body
+
+  mutual
+    -- items from the start of a line on; so far all constructs are plain
+    pub data AtStart : Shape → Type 0 where
+      end : AtStart []
+      newline : {items : Shape} → AtStart items → AtStart (tree.Newline ∷ items)
+      comment : {t : List ℕ} {items : Shape} → GoodComment t → AtEnd items → AtStart (tree.Comment t ∷ items)
+      assignment : {name : List ℕ} {value : Value} {items : Shape} → GoodName name → GoodExpression value → Behind items
+          → AtStart (assignment_item name value ∷ items)
+      header : {name : List ℕ} {items : Shape} → GoodName name → Behind items → AtStart (recipe_item name [] ∷ items)
+      recipe : {name : List ℕ} {l : Row} {ls : List Row} {items : Shape} → GoodRecipe name (l ∷ ls) → BehindBody (l ∷ ls) items
+          → AtStart (recipe_item name (l ∷ ls) ∷ items)
+
+    -- after an item a comment may trail it
+    pub data Behind : Shape → Type 0 where
+      trailing : {t : List ℕ} {items : Shape} → GoodComment t → AtEnd items → Behind (tree.Comment t ∷ items)
+      bare : {items : Shape} → AtEnd items → Behind items
+
+    -- then the line ends, and after the last line too
+    pub data AtEnd : Shape → Type 0 where
+      line_end : {items : Shape} → AtStart items → AtEnd (tree.Newline ∷ items)
+
+    -- after a body its last line ends; then levels close, and if they would close before that, nothing follows
+    pub data BehindBody : List Row → Shape → Type 0 where
+      body_end : {body : List Row} {items : Shape} → follows_body items ≡ true → (pale_behind body ≡ true → items ≡ []) → AtStart items
+          → BehindBody body (tree.Newline ∷ items)
+
+  -- after a comment, or after another item
+  abbrev pub After : Bool → Shape → Type 0
+  After true items = AtEnd items
+  After false items = Behind items
+
+  pub past_newline : {items : Shape} → AtStart (tree.Newline ∷ items) → AtStart items
+  past_newline (newline h) = h

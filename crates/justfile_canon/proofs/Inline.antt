@@ -132,7 +132,7 @@ not_all : (xs ys : List ℕ) → is_empty ys ≡ false → eqb (length xs) (leng
 not_all xs [] h = cc
 not_all xs (y ∷ ys) h = let e = length-append xs (y ∷ ys) in grind (arith, nat_tests, e)
 
--- a part of a literal, behind its known front
+-- a part of a literal, after its known front
 pub part_is : (k : StringKind) (format : Bool) (pre inner tail : List ℕ) (more whole : TokenKind) → raw_len (raw_texts.Literal k format) (inner ++ tail) ≡ length inner → is_empty tail ≡ false
     → literal_part k format (length pre) more whole (pre ++ (inner ++ tail)) ≡ cond (format && is_interpolation_start tail) (Ok (more, length pre + length inner + 2)) (Ok (whole, length pre + length inner + delimiter_len k))
 unfolding literal_part
@@ -234,7 +234,7 @@ module _ {os : List OpenDelimiter} {ls : List (List ℕ)} {c : Bool} {i : Option
       (kind_not_eof k.delimiter)
       (λ o n col. subst (λ m. Reading m more ts) (sym (after_literal os ls c i k.delimiter false _)) r)
 
-  -- behind f: whole, with nothing to fill in
+  -- after f: whole, with nothing to fill in
   pub whole_step : (k : StringKind) (l more : List ℕ) {ts : List Mark} → (h : IsLiteral k l) → ((more : List ℕ) → raw_len (raw_texts.Literal k true) (h.inner ++ (delimiter_of k ++ more)) ≡ length h.inner) → is_backtick k.delimiter ≡ false
       → head_is joins more ≡ false → Reading (amid os ls c i false) more ts → Reading (amid os ls c i true) (l ++ more) (mark (token_kind_of k.delimiter) l ∷ ts)
   whole_step k l more {ts} h ends quote stop r =
@@ -253,7 +253,7 @@ module _ {os : List OpenDelimiter} {ls : List (List ℕ)} {c : Bool} {i : Option
       (kind_not_eof k.delimiter)
       (λ o n col. subst (λ m. Reading m more ts) (sym (after_literal os ls c i k.delimiter true _)) r)
 
-  -- behind f: up to two braces
+  -- after f: up to two braces
   pub start_step : (k : StringKind) (l more : List ℕ) {ts : List Mark} → IsPart k (delimiter_of k) false l → is_backtick k.delimiter ≡ false → ((more : List ℕ) → kind_of (l ++ more) ≡ k)
       → ((line : ℕ) → Reading (amid (opener (FormatString k) line ∷ os) ls c i false) (32 ∷ more) ts) → Reading (amid os ls c i true) (l ++ (32 ∷ more)) (mark FormatStringStart l ∷ ts)
   start_step k l more {ts} h quote opens r =

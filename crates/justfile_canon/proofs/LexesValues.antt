@@ -162,7 +162,7 @@ module _ (ls : List (List ℕ)) (c : Bool) (i : Option Tok) where
       subst (λ q. Reading (amid os ls c i true) (l ++ more) (mark q l ∷ ts)) h.string.is_token
       (whole_step h.string.kind l more h.string.literal h.ends (string_no_backtick h.string.kind.delimiter h.string.is_token) stop k)
 
-  -- an operator of a comparison, and the space behind it
+  -- an operator of a comparison, and the space after it
   compared_step : (os : List OpenDelimiter) (by : ConditionalOperator) {more : List ℕ} {ts : List Mark} → Reading (amid os ls c i false) (32 ∷ more) ts → Reading (amid os ls c i false) (operator_codes by ++ (32 ∷ more)) (mark (operator_kind by) (operator_codes by) ∷ ts)
   compared_step os Equality k = equals_equals_step k
   compared_step os Inequality k = bang_equals_step k
@@ -179,7 +179,7 @@ module _ (ls : List (List ℕ)) (c : Bool) (i : Option Tok) where
   mutual
     unfolding class_of
 
-    -- behind a value the mode is known but for whether an `f` came last
+    -- after a value the mode is known but for whether an `f` came last
     pub lex_value : (os : List OpenDelimiter) (e : Value) {more : List ℕ} {ts : List Mark} → GoodValue e → head_is joins more ≡ false → ((f : Bool) → Reading (amid os ls c i f) more ts) → Reading (amid os ls c i false) (expr_on e more) (expr_marks e ts)
     lex_value os (Or l r) h stop k = lex_value os l h.0 refl (λ f. space_step refl (or_step (space_step (value_no_blank r _ h.1) (lex_value os r h.1 stop k))))
     lex_value os (And l r) h stop k = lex_value os l h.0 refl (λ f. space_step refl (and_step (space_step (value_no_blank r _ h.1) (lex_value os r h.1 stop k))))

@@ -1,4 +1,4 @@
--- A literal that was lexed ends at its end before whatever is printed behind it.
+-- A literal that was lexed ends at its end before whatever is printed after it.
 use Rattle.std.proofs.Common.{◌≡◌, ℕ, zero, suc, ◌<◌, Bool, true, false, cond, eqb, ltb, List, [], ◌∷◌, ◌++◌, length, get_or, drop, refl, sym, ap, ◌∙◌, subst, arith}
 use Rattle.std.specs.Prelude.{◌&&◌, ◌||◌}
 use Rattle.std.proofs.lemmas.Bool.{and_parts}
@@ -138,7 +138,7 @@ delimiter_ends delimiters.QuoteDouble false more = refl
 delimiter_ends delimiters.QuoteSingle true more = refl
 delimiter_ends delimiters.QuoteSingle false more = refl
 
--- whether a delimiter begins inside or at the end of the text is tested_blanks in the text and the delimiter behind it
+-- whether a delimiter begins inside or at the end of the text is seen from the text and the delimiter after it
 pub same_delimiter : (d : StringDelimiter) (i : Bool) (x : ℕ) (xs a b : List ℕ) → is_delimiter (record { delimiter = d; indented = i }) (x ∷ xs ++ (delimiter_of (record { delimiter = d; indented = i }) ++ a)) ≡ is_delimiter (record { delimiter = d; indented = i }) (x ∷ xs ++ (delimiter_of (record { delimiter = d; indented = i }) ++ b))
 same_delimiter d false x xs a b = refl
 same_delimiter d true x [] a b = refl

@@ -16,12 +16,12 @@ use Rattle.justfile_canon.proofs.Inline.{delimiter_of, delimiter_length, IsPart}
 use Rattle.justfile_canon.proofs.Good.{IsDelimited, IsPartOf, IsPartOfOpen}
 use Rattle.justfile_canon.proofs.Sound.{Around, innermost, around, is_comment, outside, LexemeFact, Sound, lexed_sound}
 
--- The delimiter of this kind is at the front, and once more at the end.
+-- The delimiter of this kind is at the front, and again at the end.
 pub record IsQuotedBy (k : StringKind) (l : List ℕ) : Type 0 where
   pub long : delimiter_len k + delimiter_len k ≤ length l
   pub opens : take (delimiter_len k) l ≡ delimiter_text k
   pub closes : drop (length l - delimiter_len k) l ≡ delimiter_text k
-  -- the byte before what stands between the delimiters, and the byte behind it, are ASCII
+  -- the byte before what stands between the delimiters, and the byte after it, are ASCII
   pub before : get_or l (delimiter_len k - 1) 0 < 128
   pub behind : get_or l (length l - delimiter_len k) 0 < 128
 
@@ -85,7 +85,7 @@ lexed_quoted text tokens u l = sound_quoted outside false (significant_tokens to
 
 -- ---- parts of format strings
 
--- So many bytes at both ends leave a text, and the byte before it and the one behind it are ASCII.
+-- So many bytes at both ends leave a text, and the byte before it and the one after it are ASCII.
 pub record IsFramed (front end : ℕ) (l : List ℕ) : Type 0 where
   pub long : front + end ≤ length l
   pub before : get_or l (front - 1) 0 < 128
@@ -103,7 +103,7 @@ framed a inner b n width first last =
       behind = subst (λ b. b < 128) (ap (λ x. get_or x 0 0) (sym end) ∙ get_or-drop (length l - length b) l 0 0 ∙ ap (λ i. get_or l i 0) (add-zero (length l - length b))) last;
     }
 
--- a part by its kind: how many bytes are before its text, and how many behind it
+-- a part by its kind: how many bytes are before its text, and how many after it
 start_framed : (k : StringKind) (l : List ℕ) → IsPart k (delimiter_of k) false l → IsFramed (delimiter_len k) 2 l
 start_framed k l h = subst (IsFramed (delimiter_len k) 2) (sym h.is) (framed (delimiter_of k) h.inner (123 ∷ 123 ∷ []) (delimiter_len k) (sym (delimiter_length k)) (ascii_front k.delimiter k.indented (h.inner ++ (123 ∷ 123 ∷ []))) (omega arith))
 

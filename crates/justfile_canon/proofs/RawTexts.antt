@@ -103,7 +103,7 @@ text_no_feed t behind e = no_feed_from 0 t behind tt e
 pub raw_no_feed : (t stop : List ℕ) → IsRaw t stop → NoFeed t
 raw_no_feed t stop h = no_feed_from 0 t (stop ++ []) tt (h.ends [])
 
--- ---- behind text nothing is text
+-- ---- after text nothing is text
 
 rest_from : (n : ℕ) (t behind : List ℕ) → Braces n (t ++ behind) → scan n (t ++ behind) ≡ length t → scan 0 behind ≡ 0
 rest_from zero [] behind h e = e
@@ -127,7 +127,7 @@ no_brace_hides b bs h = rw h refl
 line_no_brace : (b : ℕ) (bs : List ℕ) → is_line_end (b ∷ bs) ≡ true → eqb b 123 ≡ false
 line_no_brace b bs h = grind (arith, nat_tests)
 
--- behind a byte that is no brace
+-- after a byte that is no brace
 behind_byte : (b : ℕ) (bs : List ℕ) (n : ℕ) → eqb b 123 ≡ false → scan 0 (b ∷ bs) ≡ suc n → (ends raw_texts.Body (b ∷ bs) ≡ false) × (scan 0 bs ≡ n)
 behind_byte b bs n h e =
     let s : Scanned b bs n false = subst (Scanned b bs n) (no_brace_hides b bs h) (scanned b bs n e) in
@@ -162,7 +162,7 @@ not_blank_line (x ∷ xs) a e h = go (blank (class_of x)) refl (not_blank_line x
         (ih on.1 (λ f. h (ap (λ n. is_empty (drop n (x ∷ xs))) (one_more x xs b) ∙ f)))
     go false b ih = subst (λ n. is_blank_line (drop n (x ∷ xs ++ a)) ≡ false) (sym (none_more x (xs ++ a) b)) (text_no_end x (xs ++ a) (length xs) e)
 
--- ---- text that ends before some text ends before what is printed behind it
+-- ---- text that ends before some text ends before what is printed after it
 
 -- the last byte does not end text before the one text, so not before the other
 module _ (a b : List ℕ) where

@@ -188,7 +188,7 @@ pub record Known (s : Around) (comment : Bool) (t : Tok) : Type 0 where
   pub utf8 : IsUtf8 t.lexeme
   pub apart : comment ≡ true → calm s ≡ true → t.kind ≢ kinds.Comment
 
--- a string right behind an `f` was read in format mode
+-- a string right after an `f` was read in format mode
 abbrev pub FormatBehind : Tok → List SignificantToken → Type 0
 FormatBehind t [] = Unit {0}
 FormatBehind t (u ∷ us) = t.kind ≡ kinds.Identifier → t.lexeme ≡ codes "f" → u.glued ≡ true → u.tok.kind ≡ kinds.StringToken → IsFormatLiteral u.tok.lexeme

@@ -1,19 +1,22 @@
 -- The normal shape of what any text derives is good.
-use Rattle.std.proofs.Common.{◌≡◌, ℕ, Bool, true, false, List, [], ◌∷◌, refl, sym, ap, ◌∙◌, subst}
+use Rattle.std.proofs.Common.{◌≡◌, ℕ, Bool, true, false, List, [], ◌∷◌, Option, refl, sym, ap, ◌∙◌, subst}
 use Rattle.std.specs.Str.{trim_end}
 use Rattle.std.proofs.lemmas.Bool.{and_parts}
 use Rattle.justfile_base.specs.declared.token_kind.TokenKind.{TokenKind}
 use Rattle.justfile_base.specs.declared.token_kind.TokenKind.TheVariants as kinds
 use Rattle.justfile_model.specs.SignificantTokens.{SignificantToken}
 use Rattle.justfile_model.specs.Tree as tree
-use Rattle.justfile_model.specs.Tree.{Shape, lexeme, nothing, trimmed}
+use Rattle.justfile_model.specs.Tree.{Shape, WrittenShape, trimmed}
 use Rattle.justfile_model.specs.Grammar as g
-use Rattle.justfile_model.specs.Expressions.{IsKind, Limited}
+use Rattle.justfile_model.specs.Expressions.{IsKind, Under}
 use Rattle.justfile_model.specs.Grammar.{BeforeBody, NotEmpty, Items, Behind, LineEnd, File}
+use Rattle.justfile_model.specs.Files.{keeps_lexemes}
 use Rattle.justfile_model.specs.NormalShape.{behind_newline, normal_rest, normal}
 use Rattle.justfile_model.specs.Printing.{printable_body, printable}
-use Rattle.justfile_canon.proofs.Canon.{Shown, Fragment, Row}
-use Rattle.justfile_canon.proofs.Good.{GoodName, GoodComment, GoodRecipe, pale_behind, follows_body, AtStart, AtEnd, After, BehindBody, end_behind}
+use Rattle.justfile_model.proofs.Ordered.{plainly}
+use Rattle.justfile_canon.proofs.Canon.{Shown, Fragment, Row, recipe_item}
+use Rattle.justfile_canon.proofs.Good as good
+use Rattle.justfile_canon.proofs.Good.{GoodName, GoodComment, GoodRecipe, pale_behind, follows_body, AtStart, AtEnd, After, BehindBody, past_newline}
 use Rattle.justfile_canon.proofs.Sound.{Around, around, outside, Known, is_comment, Sound}
 use Rattle.justfile_canon.proofs.Comments.{good_comment}
 use Rattle.justfile_canon.proofs.BodyTokens.{First}
@@ -29,12 +32,12 @@ past_walked : (P : Outline → Type 0) → ((k : TokenKind) (l : List ℕ) (s : 
     → Walked P (t ∷ ts) → Walked P ts
 past_walked P keep t ts k e stays w = record { outline = outline_after t.tok.kind t.tok.lexeme w.outline; is = keep t.tok.kind t.tok.lexeme w.outline (ap shifts e ∙ stays) w.is; sound = w.sound.1 }
 
--- Of the tokens outside bodies: nothing is open there, and what is known of each of them and of the bodies behind them. A comment is the token before them, or not.
+-- Of the tokens outside bodies: nothing is open there, and what is known of each of them and of the bodies after them. A comment is the token before them, or not.
 record Ahead (c : Bool) (ts : List SignificantToken) : Type 0 where
   facts : Sound outside c ts
   bodies : Walked IsOutside ts
 
--- behind a token that opens nothing
+-- after a token that opens nothing
 past_token : {c : Bool} (t : SignificantToken) (ts : List SignificantToken) (k : TokenKind) → IsKind k t → around k t.tok.lexeme outside ≡ outside → shifts k ≡ false → Ahead c (t ∷ ts) → Ahead (is_comment k) ts
 past_token t ts k e same stays h = record {
   facts = subst (λ s. Sound s (is_comment k) ts) same (past outside t ts k e h.facts.2);
@@ -49,37 +52,7 @@ lexed_name t kind h = record { is_name = fact_as t kinds.Identifier kind h; utf8
 
 -- ---- bodies
 
-record PartsAt (fs : List Fragment) (rest : List SignificantToken) : Type 0 where
-  parts : PartsGood fs
-  behind : Sound outside false rest
-
-parts_good : {ns : Shown} {fs : List Fragment} {ts rest : List SignificantToken} → LineOf fs ns ts rest → Sound outside false ts → PartsAt fs rest
-parts_good (g.line_ends {token = t} {rest = rest} kind) h = record { parts = tt; behind = past outside t rest kinds.Eol kind h.2 }
-parts_good (g.body_ends kind) h = record { parts = tt; behind = h }
-parts_good (g.text {token = t} {tokens = tokens} kind r) h =
-    let m = parts_good r (past outside t tokens kinds.Text kind h.2) in
-    record { parts = (h.0.utf8, m.parts); behind = m.behind }
-parts_good (g.interpolation {start = start} {end = stop} {tokens = tokens} {behind = on} kind x kind2 r) h =
-    let inside : Around = around kinds.InterpolationStart [] outside in
-    let v = value_at Limited x inside false (past outside start tokens kinds.InterpolationStart kind h.2) in
-    let m = parts_good r (past inside stop on kinds.InterpolationEnd kind2 v.behind.2) in
-    record { parts = (good_expression x v, m.parts); behind = m.behind }
-
-record LinesAt (ls : List Row) (rest : List SignificantToken) : Type 0 where
-  parts : AllPartsGood ls
-  behind : Sound outside false rest
-
-all_parts_good : {ns : Shown} {ls : List Row} {ts rest : List SignificantToken} → LinesOf ls ns ts rest → Sound outside false ts → LinesAt ls rest
-all_parts_good (g.no_line {token = t} {rest = rest} kind) h = record { parts = tt; behind = past outside t rest kinds.Dedent kind h.2 }
-all_parts_good (g.empty_line {token = t} {tokens = tokens} kind r) h =
-    let m = all_parts_good r (past outside t tokens kinds.Eol kind h.2) in
-    record { parts = (tt, m.parts); behind = m.behind }
-all_parts_good (g.some_line l r) h =
-    let first = parts_good l h in
-    let m = all_parts_good r first.behind in
-    record { parts = (first.parts, m.parts); behind = m.behind }
-
--- behind the colon of a recipe
+-- after the colon of a recipe
 record IsHeader (s : Outline) : Type 0 where
   is_outside : IsOutside s
   colon : s.colon ≡ true
@@ -109,7 +82,7 @@ record InBody (ts : List SignificantToken) : Type 0 where
   facts : Sound outside false ts
   body : BodySound (inner First false true) ts
 
-before_body : {ts rest : List SignificantToken} → BeforeBody ts rest → Sound outside false ts → Walked IsHeader ts → InBody rest
+before_body : {text : Option (List ℕ)} {ts rest : List SignificantToken} → BeforeBody text ts rest → Sound outside false ts → Walked IsHeader ts → InBody rest
 before_body (g.at_once {newline} {indent} {rest} kind kind2) h w = record {
   facts = past outside indent rest kinds.Indent kind2 (past outside newline (indent ∷ rest) kinds.Eol kind h.2).2;
   body = past_indent indent rest kind2 (past_walked IsHeader header_after newline (indent ∷ rest) kinds.Eol kind refl w);
@@ -120,111 +93,146 @@ before_body (g.commented {comment} {newline} {indent} {rest} kind kind2 kind3) h
       (past_walked IsHeader header_after newline (indent ∷ rest) kinds.Eol kind2 refl (past_walked IsHeader header_after comment (newline ∷ indent ∷ rest) kinds.Comment kind refl w));
 }
 
--- a recipe with a body; where levels would close within it, the file ends behind it
-record BlockGood (name : List ℕ) (body : List Row) (rest : List SignificantToken) : Type 0 where
-  good : GoodRecipe name body
-  some : NotEmpty body
-  last : pale_behind body ≡ true → NextIs (λ k. k ≡ kinds.Eof) rest
-  behind : Ahead false rest
+module _ (limit : ℕ) where
+  record PartsAt (fs : List Fragment) (rest : List SignificantToken) : Type 0 where
+    parts : PartsGood limit fs
+    behind : Sound outside false rest
 
-block_good : {ns : Shown} (name colon : SignificantToken) {lines : List Row} {tokens body rest : List SignificantToken} → IsKind kinds.Identifier name → IsKind kinds.Colon colon → BeforeBody tokens body → LinesOf lines ns body rest → NotEmpty (trimmed lines)
-    → (c : Bool) → Ahead c (name ∷ colon ∷ tokens) → printable_body (trimmed lines) ≡ true → BlockGood name.tok.lexeme (trimmed lines) rest
-block_good name colon {lines} {tokens} kind kind2 before read some c h p =
-    let on = past_token name (colon ∷ tokens) kinds.Identifier kind refl refl h in
-    let start = before_body before (past outside colon tokens kinds.Colon kind2 on.facts.2) (past_colon colon tokens kind2 on.bodies) in
-    let parts = all_parts_good read start.facts in
-    let body = body_read true read start.body parts.parts (sym (trimmed_printable lines) ∙ p) in
-    record {
-      good = record { named = lexed_name name kind h.facts.0; good = body.good; ended = trimmed_twice lines };
-      some = some;
-      last = body.last;
-      behind = record { facts = parts.behind; bodies = record { outline = no_body; is = outside_first; sound = body.sound } };
-    }
+  parts_good : {ns : Shown} {fs : List Fragment} {ts rest : List SignificantToken} → LineOf limit fs ns ts rest → Sound outside false ts → PartsAt fs rest
+  parts_good (g.line_ends {token = t} {rest = rest} kind) h = record { parts = tt; behind = past outside t rest kinds.Eol kind h.2 }
+  parts_good (g.body_ends kind) h = record { parts = tt; behind = h }
+  parts_good (g.text {token = t} {tokens = tokens} kind r) h =
+      let m = parts_good r (past outside t tokens kinds.Text kind h.2) in
+      record { parts = (h.0.utf8, m.parts); behind = m.behind }
+  parts_good (g.interpolation {start = start} {end = stop} {tokens = tokens} {others = on} kind x kind2 r) h =
+      let inside : Around = around kinds.InterpolationStart [] outside in
+      let v = value_at (Under limit) x inside false (past outside start tokens kinds.InterpolationStart kind h.2) in
+      let m = parts_good r (past inside stop on kinds.InterpolationEnd kind2 v.behind.2) in
+      record { parts = (good_expression limit x v, m.parts); behind = m.behind }
 
--- ---- line ends of the normal shape
+  record LinesAt (ls : List Row) (rest : List SignificantToken) : Type 0 where
+    parts : AllPartsGood limit ls
+    behind : Sound outside false rest
 
-start_behind_newline : (r : Shape) → AtStart r → AtStart (behind_newline r)
-start_behind_newline [] h = h
-start_behind_newline (tree.Newline ∷ []) h = h
-start_behind_newline (tree.Newline ∷ tree.Newline ∷ r) h = h
-start_behind_newline (tree.Newline ∷ _ ∷ r) h = h
-start_behind_newline (_ ∷ r) h = h
+  all_parts_good : {ns : Shown} {ls : List Row} {ts rest : List SignificantToken} → LinesOf limit ls ns ts rest → Sound outside false ts → LinesAt ls rest
+  all_parts_good (g.no_line {token = t} {rest = rest} kind) h = record { parts = tt; behind = past outside t rest kinds.Dedent kind h.2 }
+  all_parts_good (g.empty_line {token = t} {tokens = tokens} kind r) h =
+      let m = all_parts_good r (past outside t tokens kinds.Eol kind h.2) in
+      record { parts = (tt, m.parts); behind = m.behind }
+  all_parts_good (g.some_line l r) h =
+      let first = parts_good l h in
+      let m = all_parts_good r first.behind in
+      record { parts = (first.parts, m.parts); behind = m.behind }
 
-end_behind_newline : (r : Shape) → AtStart r → AtEnd (behind_newline r)
-end_behind_newline [] h = h
-end_behind_newline (tree.Newline ∷ []) h = h
-end_behind_newline (tree.Newline ∷ tree.Newline ∷ r) h = h
-end_behind_newline (tree.Newline ∷ _ ∷ r) h = h
-end_behind_newline (_ ∷ r) h = h
+  -- a recipe with a body; where levels would close within it, the file ends after it
+  record BlockGood (name : List ℕ) (body : List Row) (rest : List SignificantToken) : Type 0 where
+    good : GoodRecipe limit name body
+    some : NotEmpty body
+    last : pale_behind body ≡ true → NextIs (λ k. k ≡ kinds.Eof) rest
+    behind : Ahead false rest
 
-after_end : (c : Bool) (r : Shape) → AtEnd r → After c r
-after_end true r h = h
-after_end false r h = end_behind r h
+  block_good : {ns : Shown} (name colon : SignificantToken) {lines : List Row} {comment : Option (List ℕ)} {tokens body rest : List SignificantToken} → IsKind kinds.Identifier name → IsKind kinds.Colon colon → BeforeBody comment tokens body → LinesOf limit lines ns body rest → NotEmpty (trimmed lines)
+      → (c : Bool) → Ahead c (name ∷ colon ∷ tokens) → printable_body (trimmed lines) ≡ true → BlockGood name.tok.lexeme (trimmed lines) rest
+  block_good name colon {lines} {tokens} kind kind2 before read some c h p =
+      let on = past_token name (colon ∷ tokens) kinds.Identifier kind refl refl h in
+      let start = before_body before (past outside colon tokens kinds.Colon kind2 on.facts.2) (past_colon colon tokens kind2 on.bodies) in
+      let parts = all_parts_good read start.facts in
+      let body = body_read limit true read start.body parts.parts (sym (trimmed_printable lines) ∙ p) in
+      record {
+        good = record { named = lexed_name name kind h.facts.0; good = body.good; ended = trimmed_twice lines };
+        some = some;
+        last = body.last;
+        behind = record { facts = parts.behind; bodies = record { outline = no_body; is = outside_first; sound = body.sound } };
+      }
 
--- the line end that is made behind a body
-body_behind_newline : (body : List Row) (items : Shape) → (pale_behind body ≡ true → items ≡ []) → AtStart (normal_rest items) → BehindBody body (behind_newline (normal_rest items))
-body_behind_newline body items last h = by (normal_rest items) (newline_follows items) (λ p. ap (λ i. behind (behind_newline (normal_rest i))) (last p)) h
-  where
-    by : (r : Shape) → follows_body (behind (behind_newline r)) ≡ true → (pale_behind body ≡ true → behind (behind_newline r) ≡ []) → AtStart r → BehindBody body (behind_newline r)
-    by [] f l h = (f, l, h)
-    by (tree.Newline ∷ []) f l h = (f, l, h)
-    by (tree.Newline ∷ tree.Newline ∷ r) f l h = (f, l, h)
-    by (tree.Newline ∷ _ ∷ r) f l h = (f, l, h)
-    by (_ ∷ r) f l h = (f, l, h)
+  -- ---- line ends of the normal shape
 
-start_block : (name : List ℕ) (body : List Row) (items : Shape) → NotEmpty body → GoodRecipe name body → BehindBody body items → AtStart (tree.Recipe name body ∷ items)
-start_block name [] items some good more = absurd some
-start_block name (l ∷ ls) items some good more = (good, more)
+  start_behind_newline : (r : Shape) → AtStart limit r → AtStart limit (behind_newline r)
+  start_behind_newline [] h = good.newline h
+  start_behind_newline (tree.Newline ∷ []) h = h
+  start_behind_newline (tree.Newline ∷ tree.Newline ∷ r) h = h
+  start_behind_newline (tree.Newline ∷ _ ∷ r) h = good.newline h
+  start_behind_newline (_ ∷ r) h = good.newline h
 
--- no item is before the end of the file
-file_ended : {items : Shape} {ns : Shown} {ts : List SignificantToken} → Items lexeme nothing nothing Limited items ns ts → NextIs (λ k. k ≡ kinds.Eof) ts → items ≡ []
-file_ended (g.end kind) e = refl
-file_ended (g.blank kind more) e = let bad : kinds.Eol ≡ kinds.Eof = sym kind ∙ e in cc
-file_ended (g.item (g.comment kind) more) e = let bad : kinds.Comment ≡ kinds.Eof = sym kind ∙ e in cc
-file_ended (g.item (g.assignment kind kind2 x) more) e = let bad : kinds.Identifier ≡ kinds.Eof = sym kind ∙ e in cc
-file_ended (g.item (g.header kind kind2) more) e = let bad : kinds.Identifier ≡ kinds.Eof = sym kind ∙ e in cc
-file_ended (g.block (g.recipe kind kind2 before read some) more) e = let bad : kinds.Identifier ≡ kinds.Eof = sym kind ∙ e in cc
+  end_behind_newline : (r : Shape) → AtStart limit r → AtEnd limit (behind_newline r)
+  end_behind_newline [] h = good.line_end h
+  end_behind_newline (tree.Newline ∷ []) h = good.line_end (past_newline limit h)
+  end_behind_newline (tree.Newline ∷ tree.Newline ∷ r) h = good.line_end (past_newline limit h)
+  end_behind_newline (tree.Newline ∷ _ ∷ r) h = good.line_end h
+  end_behind_newline (_ ∷ r) h = good.line_end h
 
--- ---- items
+  after_end : (c : Bool) (r : Shape) → AtEnd limit r → After limit c r
+  after_end true r h = h
+  after_end false r h = good.bare h
 
--- a comment trails an item that is none
-trailing_good : (t : SignificantToken) (items : Shape) (c : Bool) → IsKind kinds.Comment t → Known outside c t.tok → AtEnd (normal_rest items) → After c (normal_rest (tree.Comment (trim_end t.tok.lexeme) ∷ items))
-trailing_good t items true kind h e = absurd (h.apart refl refl kind)
-trailing_good t items false kind h e = (lexed_comment t kind h, e)
+  -- the line end that is made after a body
+  body_behind_newline : (body : List Row) (items : Shape) → (pale_behind body ≡ true → items ≡ []) → AtStart limit (normal_rest items) → BehindBody limit body (behind_newline (normal_rest items))
+  body_behind_newline body items last h = by (normal_rest items) (newline_follows items) (λ p. ap (λ i. behind (behind_newline (normal_rest i))) (last p)) h
+    where
+      by : (r : Shape) → follows_body (behind (behind_newline r)) ≡ true → (pale_behind body ≡ true → behind (behind_newline r) ≡ []) → AtStart limit r → BehindBody limit body (behind_newline r)
+      by [] f l h = good.body_end f l h
+      by (tree.Newline ∷ []) f l h = good.body_end f l (past_newline limit h)
+      by (tree.Newline ∷ tree.Newline ∷ r) f l h = good.body_end f l (past_newline limit h)
+      by (tree.Newline ∷ _ ∷ r) f l h = good.body_end f l h
+      by (_ ∷ r) f l h = good.body_end f l h
 
-mutual
-  items_good : {items : Shape} {ns : Shown} {ts : List SignificantToken} → Items lexeme nothing nothing Limited items ns ts → (c : Bool) → Ahead c ts → printable items ≡ true → AtStart (normal_rest items)
-  items_good (g.end kind) c h p = tt
-  items_good (g.blank {items = items} {token = t} {rest = rest} kind more) c h p = start_behind_newline (normal_rest items) (items_good more false (past_token t rest kinds.Eol kind refl refl h) p)
-  items_good (g.item (g.comment {token = t} {rest = rest} kind) more) c h p = (lexed_comment t kind h.facts.0, behind_good more true (past_token t rest kinds.Comment kind refl refl h) p)
-  items_good (g.item (g.assignment {name = name} {operator = operator} {tokens = tokens} kind kind2 x) more) c h p =
-      let on = past_token operator tokens kinds.ColonEquals kind2 refl refl (past_token name (operator ∷ tokens) kinds.Identifier kind refl refl h) in
-      let v = value_at Limited x outside false on.facts in
-      (lexed_name name kind h.facts.0, good_expression x v, behind_good more false (record { facts = v.behind; bodies = walk_outside x on.bodies }) p)
-  items_good (g.item (g.header {name = name} {colon = colon} {rest = rest} kind kind2) more) c h p =
-      (lexed_name name kind h.facts.0, behind_good more false (past_token colon rest kinds.Colon kind2 refl refl (past_token name (colon ∷ rest) kinds.Identifier kind refl refl h)) p)
-  items_good (g.block {items = items} {rest = rest} (g.recipe {lines = lines} {name = name} {colon = colon} kind kind2 before read some) more) c h p =
-      let parts = and_parts (printable_body (trimmed lines)) (printable items) p in
-      let b = block_good name colon kind kind2 before read some c h parts.0 in
-      start_block name.tok.lexeme (trimmed lines) (behind_newline (normal_rest items)) b.some b.good
-      (body_behind_newline (trimmed lines) items (λ pale. file_ended more (b.last pale)) (items_good more false b.behind parts.1))
+  start_block : (name : List ℕ) (body : List Row) (items : Shape) → NotEmpty body → GoodRecipe limit name body → BehindBody limit body items → AtStart limit (recipe_item name body ∷ items)
+  start_block name [] items some h more = absurd some
+  start_block name (l ∷ ls) items some h more = good.recipe h more
 
-  behind_good : {items : Shape} {ns : Shown} {ts : List SignificantToken} → Behind lexeme nothing nothing Limited items ns ts → (c : Bool) → Ahead c ts → printable items ≡ true → After c (normal_rest items)
-  behind_good (g.trailing {items = items} {token = t} {rest = rest} kind e) c h p = trailing_good t items c kind h.facts.0 (line_end_good e true (past_token t rest kinds.Comment kind refl refl h) p)
-  behind_good (g.bare {items = items} e) c h p = after_end c (normal_rest items) (line_end_good e c h p)
+  -- no item is before the end of the file
+  file_ended : {items : WrittenShape} {ns : Shown} {ts : List SignificantToken} → Items keeps_lexemes (Under limit) items ns ts → NextIs (λ k. k ≡ kinds.Eof) ts → items ≡ []
+  file_ended (g.end kind) e = refl
+  file_ended (g.blank kind more) e = let bad : kinds.Eol ≡ kinds.Eof = sym kind ∙ e in cc
+  file_ended (g.comment kind more) e = let bad : kinds.Comment ≡ kinds.Eof = sym kind ∙ e in cc
+  file_ended (g.on_line (g.assignment kind kind2 x) more) e = let bad : kinds.Identifier ≡ kinds.Eof = sym kind ∙ e in cc
+  file_ended (g.on_line (g.header kind kind2) more) e = let bad : kinds.Identifier ≡ kinds.Eof = sym kind ∙ e in cc
+  file_ended (g.block (g.recipe kind kind2 before read some) more) e = let bad : kinds.Identifier ≡ kinds.Eof = sym kind ∙ e in cc
 
-  line_end_good : {items : Shape} {ns : Shown} {ts : List SignificantToken} → LineEnd lexeme nothing nothing Limited items ns ts → (c : Bool) → Ahead c ts → printable items ≡ true → AtEnd (normal_rest items)
-  line_end_good (g.line_end {items = items} {token = t} {rest = rest} kind more) c h p = end_behind_newline (normal_rest items) (items_good more false (past_token t rest kinds.Eol kind refl refl h) p)
-  line_end_good (g.file_end kind) c h p = tt
+  -- ---- items
 
-normal_good : (shape : Shape) → AtStart (normal_rest shape) → AtStart (normal shape)
-normal_good [] h = tt
-normal_good (i ∷ shape) h = h
+  -- what is printed of written items
+  abbrev rest_of : WrittenShape → Shape
+  rest_of items = normal_rest (plainly items)
 
--- the normal shape of a file
-pub file_good : {shape : Shape} {ns : Shown} {ts : List SignificantToken} → File lexeme nothing nothing Limited shape ns ts → Sound outside false ts → BodySound no_body ts → printable shape ≡ true → AtStart (normal shape)
-file_good {shape} {ts = ts} file s b p = normal_good shape (by file (record { facts = s; bodies = record { outline = no_body; is = outside_first; sound = b } }) p)
-  where
-    by : {shape : Shape} {ns : Shown} {ts : List SignificantToken} → File lexeme nothing nothing Limited shape ns ts → Ahead false ts → printable shape ≡ true → AtStart (normal_rest shape)
-    by (g.marked {token = t} {rest = rest} kind more) h p = items_good more false (past_token t rest kinds.ByteOrderMark kind refl refl h) p
-    by (g.unmarked more) h p = items_good more false h p
+  -- a comment trails an item that is none
+  trailing_good : (t : SignificantToken) (items : WrittenShape) (c : Bool) → IsKind kinds.Comment t → Known outside c t.tok → AtEnd limit (rest_of items) → After limit c (rest_of (tree.Comment (trim_end t.tok.lexeme) ∷ items))
+  trailing_good t items true kind h e = absurd (h.apart refl refl kind)
+  trailing_good t items false kind h e = good.trailing (lexed_comment t kind h) e
+
+  mutual
+    items_good : {items : WrittenShape} {ns : Shown} {ts : List SignificantToken} → Items keeps_lexemes (Under limit) items ns ts → (c : Bool) → Ahead c ts → printable (plainly items) ≡ true → AtStart limit (rest_of items)
+    items_good (g.end kind) c h p = good.newline good.end
+    items_good (g.blank {items = items} {token = t} {rest = rest} kind more) c h p = start_behind_newline (rest_of items) (items_good more false (past_token t rest kinds.Eol kind refl refl h) p)
+    items_good (g.comment {token = t} {rest = rest} kind more) c h p = good.comment (lexed_comment t kind h.facts.0) (behind_good more true (past_token t rest kinds.Comment kind refl refl h) p)
+    items_good (g.on_line (g.assignment {name = name} {operator = operator} {tokens = tokens} kind kind2 x) more) c h p =
+        let on = past_token operator tokens kinds.ColonEquals kind2 refl refl (past_token name (operator ∷ tokens) kinds.Identifier kind refl refl h) in
+        let v = value_at (Under limit) x outside false on.facts in
+        good.assignment (lexed_name name kind h.facts.0) (good_expression limit x v) (behind_good more false (record { facts = v.behind; bodies = walk_outside limit x on.bodies }) p)
+    items_good (g.on_line (g.header {name = name} {colon = colon} {rest = rest} kind kind2) more) c h p =
+        good.header (lexed_name name kind h.facts.0) (behind_good more false (past_token colon rest kinds.Colon kind2 refl refl (past_token name (colon ∷ rest) kinds.Identifier kind refl refl h)) p)
+    items_good (g.block {items = items} {rest = rest} (g.recipe {lines = lines} {name = name} {colon = colon} kind kind2 before read some) more) c h p =
+        let parts = and_parts (printable_body (trimmed lines)) (printable (plainly items)) p in
+        let b = block_good name colon kind kind2 before read some c h parts.0 in
+        start_block name.tok.lexeme (trimmed lines) (behind_newline (rest_of items)) b.some b.good
+        (body_behind_newline (trimmed lines) (plainly items) (λ pale. ap plainly (file_ended more (b.last pale))) (items_good more false b.behind parts.1))
+
+    behind_good : {items : WrittenShape} {ns : Shown} {ts : List SignificantToken} → Behind keeps_lexemes (Under limit) items ns ts → (c : Bool) → Ahead c ts → printable (plainly items) ≡ true → After limit c (rest_of items)
+    behind_good (g.trailing {items = items} {token = t} {rest = rest} kind e) c h p = trailing_good t items c kind h.facts.0 (line_end_good e true (past_token t rest kinds.Comment kind refl refl h) p)
+    behind_good (g.bare {items = items} e) c h p = after_end c (rest_of items) (line_end_good e c h p)
+
+    line_end_good : {items : WrittenShape} {ns : Shown} {ts : List SignificantToken} → LineEnd keeps_lexemes (Under limit) items ns ts → (c : Bool) → Ahead c ts → printable (plainly items) ≡ true → AtEnd limit (rest_of items)
+    line_end_good (g.line_end {items = items} {token = t} {rest = rest} kind more) c h p = end_behind_newline (rest_of items) (items_good more false (past_token t rest kinds.Eol kind refl refl h) p)
+    line_end_good (g.file_end kind) c h p = good.line_end good.end
+
+  normal_good : (shape : Shape) → AtStart limit (normal_rest shape) → AtStart limit (normal shape)
+  normal_good [] h = good.end
+  normal_good (i ∷ shape) h = h
+
+  -- the normal shape of a file
+  pub file_good : {items : WrittenShape} {ns : Shown} {ts : List SignificantToken} → File keeps_lexemes (Under limit) items ns ts → Sound outside false ts → BodySound no_body ts → printable (plainly items) ≡ true → AtStart limit (normal (plainly items))
+  file_good {items} {ts = ts} file s b p = normal_good (plainly items) (by file (record { facts = s; bodies = record { outline = no_body; is = outside_first; sound = b } }) p)
+    where
+      by : {items : WrittenShape} {ns : Shown} {ts : List SignificantToken} → File keeps_lexemes (Under limit) items ns ts → Ahead false ts → printable (plainly items) ≡ true → AtStart limit (rest_of items)
+      by (g.marked {token = t} {rest = rest} kind more) h p = items_good more false (past_token t rest kinds.ByteOrderMark kind refl refl h) p
+      by (g.unmarked more) h p = items_good more false h p

@@ -14,7 +14,7 @@ use Rattle.justfile_model.specs.SignificantTokens.{SignificantToken}
 use Rattle.justfile_model.specs.Tree as tree
 use Rattle.justfile_model.specs.Tree.{lexeme, nothing}
 use Rattle.justfile_model.specs.Expressions as g
-use Rattle.justfile_model.specs.Expressions.{Tokens, IsKind, operator_kind, Limited, Expression, Disjunct, Compared, Conjunct, Condition, Braced, Conditional, Value, Sequence, FormatParts}
+use Rattle.justfile_model.specs.Expressions.{Tokens, IsKind, operator_kind, Under, Expression, Disjunct, Compared, Conjunct, Condition, Braced, Conditional, Value, Sequence, FormatParts}
 use Rattle.justfile_model.specs.Printing.{is_conditional}
 use Rattle.justfile_canon.proofs.Canon as canon
 use Rattle.justfile_canon.proofs.Canon.{Shown, Values, Pieces, operator_codes, expr_on, exprs_on, others_on, parts_on}
@@ -145,7 +145,7 @@ module _ (Open : ℕ → Option SignificantToken → Type 0) where
         let y = value_at x (within s None) false (past s t ts kinds.BraceL kind h.2) in
         record { lexes = y.lexes; utf8 = y.utf8; behind = past (within s None) u rest kinds.BraceR kind2 y.behind.2 }
 
-    -- behind the `if`
+    -- after the `if`
     conditional_at : {d : ℕ} {word : SignificantToken} {e : canon.Value} {fs : Shown} {ts rest : Tokens} → Conditional lexeme nothing Open d word e fs ts rest → (s : Around) (c : Bool) → Sound s c ts → ValueAt s e rest
     conditional_at (g.if_only c b next) s c' h =
         let x = condition_at c s c' h in
@@ -252,10 +252,10 @@ stops : (x : End) (us : Tokens) → ends_value us ≡ true → EndsIn x us × St
 stops x [] h = cc
 stops x (t ∷ ts) h = (ends_before x t ts (here_too t.tok.kind h), stop_before t ts h)
 
-pub good_expression : {s : Around} {e : canon.Value} {fs : Shown} {ts rest : Tokens} → Expression lexeme nothing Limited false 0 e fs ts rest → ValueAt s e rest → GoodExpression e
-good_expression {e = e} {fs} x v = record {
+pub good_expression : (limit : ℕ) {s : Around} {e : canon.Value} {fs : Shown} {ts rest : Tokens} → Expression lexeme nothing (Under limit) false 0 e fs ts rest → ValueAt s e rest → GoodExpression limit e
+good_expression limit {e = e} {fs} x v = record {
   lexes = v.lexes;
   features = fs;
-  derives = record { derives = λ glued on stop. let q = stops (tail e) (significant true on) stop in expression_back Limited Limited (λ d d' a b le o. omega arith) x 0 (omega arith) glued on q.0 q.1 };
+  derives = record { derives = λ glued on stop. let q = stops (tail e) (significant true on) stop in expression_back (Under limit) (Under limit) (λ d d' a b le o. omega arith) x 0 (omega arith) glued on q.0 q.1 };
   utf8 = v.utf8;
 }

@@ -6,7 +6,7 @@ use Rattle.justfile_model.specs.Bytes.{is_interpolation_start}
 use Rattle.justfile_model.specs.LiteralText.{pieces_len, hides}
 
 -- How many bytes are before the first `{{` that nothing hides; all where there is none. A `{{{{` hides the braces in it, and a backslash
--- in double quotes the brace behind it, or all four.
+-- in double quotes the brace after it, or all four.
 abbrev pub before_start : StringKind → List ℕ → ℕ
 before_start k = pieces_len (hides (Literal k true)) is_interpolation_start 0
 

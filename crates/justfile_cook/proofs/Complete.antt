@@ -15,7 +15,7 @@ abbrev pub front : List ℕ → Found
 front [] = Err UnicodeEscapeUnterminated
 front (c ∷ cs) = piece c cs
 
--- the piece is read, and this is behind it
+-- the piece is read, and this follows it
 pub record Gives (p : Piece) (rest : List ℕ) (found : Found) : Type 0 where
   pub value : Option ℕ
   pub found_is : found ≡ Ok (value, rest)
@@ -75,15 +75,15 @@ unknown c rest h = elim (cases_eq c 13) [
   | inr r ↦ plain_escape c rest None h.2 r h.1 h.0
 ]
 
-pub bad_front : (bad : BadPiece) (behind : List ℕ) → IsBad bad behind → front (bad_text bad ++ behind) ≡ Err (fault_of bad)
-bad_front (Unknown c) behind h = unknown c behind h
-bad_front (Unopened c) behind h = cond-false _ _ _ (ne_eqb c 123 h)
-bad_front Empty behind h = refl
-bad_front (NoDigit hex c) behind h =
-    ap digits (append_assoc hex (c ∷ []) behind) ∙ few_digits hex (c ∷ behind) h.0 h.1 h.2 ∙ cond-false _ _ _ (ne_eqb c 125 h.3)
-bad_front (TooLong hex) behind h = many_digits hex behind h.0 h.1
-bad_front (OutOfRange hex) behind h =
-    ap digits (append_assoc hex (codes "}") behind) ∙ few_digits hex (125 ∷ behind) h.0 h.2 refl ∙ no_number hex behind h.1 h.3
-bad_front EndsAtBackslash behind h = rw h refl
-bad_front EndsAtU behind h = rw h refl
-bad_front (EndsInBraces hex) behind h = rw h.2 (few_digits hex [] h.0 h.1 refl)
+pub bad_front : (bad : BadPiece) (later : List ℕ) → IsBad bad later → front (bad_text bad ++ later) ≡ Err (fault_of bad)
+bad_front (Unknown c) later h = unknown c later h
+bad_front (Unopened c) later h = cond-false _ _ _ (ne_eqb c 123 h)
+bad_front Empty later h = refl
+bad_front (NoDigit hex c) later h =
+    ap digits (append_assoc hex (c ∷ []) later) ∙ few_digits hex (c ∷ later) h.0 h.1 h.2 ∙ cond-false _ _ _ (ne_eqb c 125 h.3)
+bad_front (TooLong hex) later h = many_digits hex later h.0 h.1
+bad_front (OutOfRange hex) later h =
+    ap digits (append_assoc hex (codes "}") later) ∙ few_digits hex (125 ∷ later) h.0 h.2 refl ∙ no_number hex later h.1 h.3
+bad_front EndsAtBackslash later h = rw h refl
+bad_front EndsAtU later h = rw h refl
+bad_front (EndsInBraces hex) later h = rw h.2 (few_digits hex [] h.0 h.1 refl)

@@ -33,7 +33,7 @@ hex_stops cs n le most h stop =
     let len = length-take-le n cs le in
     sym (ap (hex_upto 7) (sym (take-append-drop n cs)) ∙ hex_is 7 (take n cs) (drop n cs) h (omega arith) (λ l. stop (omega arith)) ∙ len)
 
--- the same where the characters so far have been yielded
+-- a run of digits ends where the characters so far have been yielded and the next is no digit
 pub stop_here : (cs ys : List ℕ) (n c : ℕ) → n ≡ length ys → (length ys < length cs) × (c ≡ get_or cs (length ys) c) → n ≤ 7 → AreHex (take n cs) → (n < 7 → is_ascii_hexdigit c ≡ false) → n ≡ hex_upto 7 cs
 stop_here cs ys n c e t most h stop =
     let is : c ≡ get_or cs n c = rw e t.1 in
@@ -67,7 +67,7 @@ length-take-within zero l = omega arith
 length-take-within (suc n) [] = omega arith
 length-take-within (suc n) (x ∷ l) = omega (arith, length-take-within n l)
 
--- a text may be cut behind the digits at its front
+-- a text may be cut after the digits at its front
 pub record Cut (text : List ℕ) (n : ℕ) : Type 0 where
   pub front : take n text ≡ take n (chars text)
   pub back : chars (drop n text) ≡ drop n (chars text)
@@ -107,8 +107,8 @@ pub many : (text : List ℕ) (n : ℕ) (hex : List ℕ) → n ≡ hex_len (chars
 many text n hex e cut is lt =
     ap (λ (l : List ℕ). Err (UnicodeEscapeLength l)) (is ∙ cut.front) ∙ sym (cond-true _ _ _ (lt-ltb 6 n lt)) ∙ sym (digits_at (chars text) n e)
 
-pub few : (text : List ℕ) (n : ℕ) (hex behind : List ℕ) → n ≡ hex_len (chars text) → Cut text n → hex ≡ take n text → behind ≡ drop n text → n ≤ 6 → close hex (chars behind) ≡ digits (chars text)
-few text n hex behind e cut is rest le =
+pub few : (text : List ℕ) (n : ℕ) (hex later : List ℕ) → n ≡ hex_len (chars text) → Cut text n → hex ≡ take n text → later ≡ drop n text → n ≤ 6 → close hex (chars later) ≡ digits (chars text)
+few text n hex later e cut is rest le =
     ap₂ close (is ∙ cut.front) (ap chars rest ∙ cut.back) ∙ sym (cond-false _ _ _ (le-ltb 6 n le)) ∙ sym (digits_at (chars text) n e)
 
 -- ---- numbers

@@ -34,9 +34,9 @@ hex_front (suc most) [] = record { bound = omega arith; front = tt; front_len = 
 hex_front (suc most) (c ∷ cs) = by_head most c cs (hex_front most cs) (is_ascii_hexdigit c) refl
 
 -- digits, and then no other one unless there are as many as may be
-pub hex_is : (most : ℕ) (hex behind : List ℕ) → AreHex hex → length hex ≤ most → (length hex < most → is_hex_head behind ≡ false) → hex_upto most (hex ++ behind) ≡ length hex
-hex_is zero [] behind h le stop = refl
+pub hex_is : (most : ℕ) (hex later : List ℕ) → AreHex hex → length hex ≤ most → (length hex < most → is_hex_head later ≡ false) → hex_upto most (hex ++ later) ≡ length hex
+hex_is zero [] later h le stop = refl
 hex_is (suc most) [] [] h le stop = refl
 hex_is (suc most) [] (c ∷ cs) h le stop = rw (stop (omega arith)) refl
-hex_is zero (x ∷ hex) behind h le stop = absurd (omega arith)
-hex_is (suc most) (x ∷ hex) behind h le stop = rw h.0 (omega (arith, hex_is most hex behind h.1 (omega arith) (λ l. stop (omega arith))))
+hex_is zero (x ∷ hex) later h le stop = absurd (omega arith)
+hex_is (suc most) (x ∷ hex) later h le stop = rw h.0 (omega (arith, hex_is most hex later h.1 (omega arith) (λ l. stop (omega arith))))

@@ -17,26 +17,26 @@ pub record Leads (text done rest : List ℕ) : Type 0 where
 pub leads_first : (text done : List ℕ) → done ≡ [] → Leads text done text
 leads_first text done e = record { cooked = λ out h. rw e h; refused = λ fault h. h }
 
-begun : (rest behind cs : List ℕ) (c : ℕ) (value : Option ℕ) → chars rest ≡ c ∷ cs → piece c cs ≡ Ok (value, chars behind) → Begins (chars rest) value (chars behind)
-begun rest behind cs c value e p = subst (λ (l : List ℕ). Begins l value (chars behind)) (sym e) (subst (Means (c ∷ cs)) p (piece_means c cs))
+begun : (rest later cs : List ℕ) (c : ℕ) (value : Option ℕ) → chars rest ≡ c ∷ cs → piece c cs ≡ Ok (value, chars later) → Begins (chars rest) value (chars later)
+begun rest later cs c value e p = subst (λ (l : List ℕ). Begins l value (chars later)) (sym e) (subst (Means (c ∷ cs)) p (piece_means c cs))
 
-pub shorter : (rest behind cs : List ℕ) (c : ℕ) (value : Option ℕ) → chars rest ≡ c ∷ cs → piece c cs ≡ Ok (value, chars behind) → length (chars behind) < length (chars rest)
-shorter rest behind cs c value e p = begins_shorter (chars rest) (chars behind) value (begun rest behind cs c value e p)
+pub shorter : (rest later cs : List ℕ) (c : ℕ) (value : Option ℕ) → chars rest ≡ c ∷ cs → piece c cs ≡ Ok (value, chars later) → length (chars later) < length (chars rest)
+shorter rest later cs c value e p = begins_shorter (chars rest) (chars later) value (begun rest later cs c value e p)
 
-cooks_more : (rest behind : List ℕ) (value : Option ℕ) → IsUtf8 rest → IsUtf8 behind → Begins (chars rest) value (chars behind) → (out : List ℕ) → Cooks behind out → Cooks rest (encode_utf8_all (option_to_list value) ++ out)
-cooks_more rest behind value u v b out h =
-    let m = made behind out (chars behind) (encodes-chars behind v) h in
+cooks_more : (rest later : List ℕ) (value : Option ℕ) → IsUtf8 rest → IsUtf8 later → Begins (chars rest) value (chars later) → (out : List ℕ) → Cooks later out → Cooks rest (encode_utf8_all (option_to_list value) ++ out)
+cooks_more rest later value u v b out h =
+    let m = made later out (chars later) (encodes-chars later v) h in
     subst (Cooks rest) (encodes-append (option_to_list value) (flat_map value_of h.pieces) ∙ ap (λ (l : List ℕ). encode_utf8_all (option_to_list value) ++ l) h.cooked_is)
-    (cooks rest (chars rest) (option_to_list value ++ flat_map value_of h.pieces) (encodes-chars rest u) (whole_more (chars rest) (chars behind) value (Ok (flat_map value_of h.pieces)) b m))
+    (cooks rest (chars rest) (option_to_list value ++ flat_map value_of h.pieces) (encodes-chars rest u) (whole_more (chars rest) (chars later) value (Ok (flat_map value_of h.pieces)) b m))
 
 pub leads_more : (text done rest : List ℕ) → Leads text done rest → IsUtf8 rest
-    → (behind cs more : List ℕ) (c : ℕ) (value : Option ℕ) → IsUtf8 behind → chars rest ≡ c ∷ cs → piece c cs ≡ Ok (value, chars behind) → more ≡ done ++ encode_utf8_all (option_to_list value) → Leads text more behind
-leads_more text done rest l u behind cs more c value v e p d =
-    let b = begun rest behind cs c value e p in
+    → (later cs more : List ℕ) (c : ℕ) (value : Option ℕ) → IsUtf8 later → chars rest ≡ c ∷ cs → piece c cs ≡ Ok (value, chars later) → more ≡ done ++ encode_utf8_all (option_to_list value) → Leads text more later
+leads_more text done rest l u later cs more c value v e p d =
+    let b = begun rest later cs c value e p in
     record {
-      cooked = λ out h. rw (d, append_assoc) (l.cooked _ (cooks_more rest behind value u v b out h));
+      cooked = λ out h. rw (d, append_assoc) (l.cooked _ (cooks_more rest later value u v b out h));
       refused = λ fault h. l.refused fault (refused rest (chars rest) fault (encodes-chars rest u)
-          (whole_more (chars rest) (chars behind) value (Err fault) b (broken behind (chars behind) fault (encodes-chars behind v) h)));
+          (whole_more (chars rest) (chars later) value (Err fault) b (broken later (chars later) fault (encodes-chars later v) h)));
     }
 
 pub leads_refused : (text done rest : List ℕ) → Leads text done rest → IsUtf8 rest → (cs : List ℕ) (c : ℕ) (fault : EscapeFault) → chars rest ≡ c ∷ cs → piece c cs ≡ Err fault → Refused text fault

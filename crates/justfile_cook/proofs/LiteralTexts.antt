@@ -21,12 +21,12 @@ use Rattle.justfile_cook.proofs.Texts.{cooked_complete, fault_complete}
 pub record IsFramed (front end : ℕ) (lexeme : List ℕ) : Type 0 where
   pub long : front + end ≤ length lexeme
   pub before : slice_index lexeme (front - 1) < 128
-  pub behind : slice_index lexeme (length lexeme - end) < 128
+  pub later : slice_index lexeme (length lexeme - end) < 128
 
 pub framed_is : (front end : ℕ) (lexeme : List ℕ) → IsTrue (is_framed front end lexeme) → IsFramed front end lexeme
-framed_is front end lexeme h = record { long = grind (arith, nat_tests); before = grind (arith, nat_tests); behind = grind (arith, nat_tests) }
+framed_is front end lexeme h = record { long = grind (arith, nat_tests); before = grind (arith, nat_tests); later = grind (arith, nat_tests) }
 
--- a character begins behind the opening delimiter
+-- a character begins after the opening delimiter
 pub begins : (front end : ℕ) (lexeme : List ℕ) → IsUtf8 lexeme → 0 < front → IsTrue (is_framed front end lexeme) → IsCharBoundary lexeme front
 begins front end lexeme u some h =
     let f = framed_is front end lexeme h in

@@ -17,21 +17,21 @@ same_rest a b v w x y e p q = sym (ap rest_of p) ∙ ap rest_of e ∙ ap rest_of
 not_both : (a b : Found) (v : Option ℕ) (x : List ℕ) (fault : EscapeFault) → a ≡ b → a ≡ Ok (v, x) → b ≡ Err fault → ⊥
 not_both a b v x fault e p q = cc
 
-longest : (ps qs : List Piece) (bad : BadPiece) (behind rest : List ℕ) → ArePieces ps → ArePieces qs → IsBad bad behind
-    → flat_map raw_of ps ++ rest ≡ flat_map raw_of qs ++ (bad_text bad ++ behind) → length (flat_map raw_of ps) ≤ length (flat_map raw_of qs)
-longest [] qs bad behind rest g h b e = omega arith
-longest (p ∷ ps) [] bad behind rest g h b e =
+longest : (ps qs : List Piece) (bad : BadPiece) (later rest : List ℕ) → ArePieces ps → ArePieces qs → IsBad bad later
+    → flat_map raw_of ps ++ rest ≡ flat_map raw_of qs ++ (bad_text bad ++ later) → length (flat_map raw_of ps) ≤ length (flat_map raw_of qs)
+longest [] qs bad later rest g h b e = omega arith
+longest (p ∷ ps) [] bad later rest g h b e =
     let more = flat_map raw_of ps ++ rest in
     let gives = good_front p more g.0 in
-    absurd (not_both _ _ gives.value more (fault_of bad) (ap front (sym (append_assoc (raw_of p) (flat_map raw_of ps) rest) ∙ e)) gives.found_is (bad_front bad behind b))
-longest (p ∷ ps) (q ∷ qs) bad behind rest g h b e =
+    absurd (not_both _ _ gives.value more (fault_of bad) (ap front (sym (append_assoc (raw_of p) (flat_map raw_of ps) rest) ∙ e)) gives.found_is (bad_front bad later b))
+longest (p ∷ ps) (q ∷ qs) bad later rest g h b e =
     let more = flat_map raw_of ps ++ rest in
-    let other = flat_map raw_of qs ++ (bad_text bad ++ behind) in
+    let other = flat_map raw_of qs ++ (bad_text bad ++ later) in
     let gives = good_front p more g.0 in
     let takes = good_front q other h.0 in
-    let whole : raw_of p ++ more ≡ raw_of q ++ other = sym (append_assoc (raw_of p) (flat_map raw_of ps) rest) ∙ e ∙ append_assoc (raw_of q) (flat_map raw_of qs) (bad_text bad ++ behind) in
+    let whole : raw_of p ++ more ≡ raw_of q ++ other = sym (append_assoc (raw_of p) (flat_map raw_of ps) rest) ∙ e ∙ append_assoc (raw_of q) (flat_map raw_of qs) (bad_text bad ++ later) in
     let same : more ≡ other = same_rest _ _ gives.value takes.value more other (ap front whole) gives.found_is takes.found_is in
-    omega (arith, longest ps qs bad behind rest g.1 h.1 b same, ap length whole, ap length same, length-append (raw_of p) more, length-append (raw_of q) other, length-append (raw_of p) (flat_map raw_of ps), length-append (raw_of q) (flat_map raw_of qs))
+    omega (arith, longest ps qs bad later rest g.1 h.1 b same, ap length whole, ap length same, length-append (raw_of p) more, length-append (raw_of q) other, length-append (raw_of p) (flat_map raw_of ps), length-append (raw_of q) (flat_map raw_of qs))
 
 pub longest_front : (text : List ℕ) (fault : EscapeFault) (refused : Refused text fault) (pieces : List Piece) (rest : List ℕ) → ArePieces pieces
     → encode_utf8_all (flat_map raw_of pieces ++ rest) ≡ text → length (flat_map raw_of pieces) ≤ length (flat_map raw_of refused.pieces)

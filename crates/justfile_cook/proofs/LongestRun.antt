@@ -4,7 +4,7 @@ use Rattle.std.specs.Prelude.{◌==◌}
 use Rattle.std.specs.List.{AllByRecursion, list_all, list_any}
 use Rattle.std.proofs.lemmas.Bool.{and_from, and_parts, cases_Bool, or_parts}
 use Rattle.std.proofs.lemmas.List.Elements.{recursion_from_All}
-use Rattle.justfile_base.specs.Indentation.{is_blank}
+use Rattle.justfile_base.specs.Indentation.{is_space_or_tab}
 use Rattle.justfile_model.specs.Unindent.{IsFront, IsIndented, IsLongestRun, is_first, common_front, indentation, is_blank_line, joined, leading_blanks, lines, shared_front, unindented}
 use Rattle.justfile_cook.proofs.JoinedLines.{joined_same}
 use Rattle.justfile_cook.proofs.SharedFronts.{each_indented, kept_blanks, leading_blank, shared_blank}
@@ -38,12 +38,12 @@ common_longest : (front : List ℕ) (texts : List (List ℕ)) → 0 < length tex
 common_longest front [] l h = absurd (omega arith)
 common_longest front (run ∷ others) l h = shared_longest front run others h.0 h.1
 
-common_blank : (texts : List (List ℕ)) → AllByRecursion (λ text. list_all is_blank text ≡ true) texts → list_all is_blank (common_front texts) ≡ true
+common_blank : (texts : List (List ℕ)) → AllByRecursion (λ text. list_all is_space_or_tab text ≡ true) texts → list_all is_space_or_tab (common_front texts) ≡ true
 common_blank [] h = refl
 common_blank (run ∷ others) h = shared_blank run others h.0
 
 -- ---- the leading blanks of the lines that are not blank
-kept_blank : (ls : List (List ℕ)) → AllByRecursion (λ text. list_all is_blank text ≡ true) (kept_blanks ls)
+kept_blank : (ls : List (List ℕ)) → AllByRecursion (λ text. list_all is_space_or_tab text ≡ true) (kept_blanks ls)
 kept_blank [] = tt
 kept_blank (line ∷ ls) = elim (cases_Bool (is_blank_line line)) [
   | inl h ↦ rw h (kept_blank ls)
@@ -62,16 +62,16 @@ kept_some (line ∷ ls) h = elim (cases_Bool (is_blank_line line)) [
 ]
 
 -- a run of blanks at the front of a line is at the front of its leading blanks
-blanks_begin : (front line : List ℕ) → list_all is_blank front ≡ true → IsFront front line → IsFront front (leading_blanks line)
+blanks_begin : (front line : List ℕ) → list_all is_space_or_tab front ≡ true → IsFront front line → IsFront front (leading_blanks line)
 blanks_begin [] line h k = refl
 blanks_begin (b ∷ front) [] h k = absurd (cc)
 blanks_begin (b ∷ front) (c ∷ line) h k =
-    let p = and_parts (is_blank b) (list_all is_blank front) h in
+    let p = and_parts (is_space_or_tab b) (list_all is_space_or_tab front) h in
     let first = begins_split b c front line k in
-    let blank = ap is_blank first.0 ∙ p.0 in
+    let blank = ap is_space_or_tab first.0 ∙ p.0 in
     rw (blank, one-add) (λ i. first.0 i ∷ blanks_begin front line p.1 first.1 i)
 
-kept_begin : (front : List ℕ) (ls : List (List ℕ)) → list_all is_blank front ≡ true → AllByRecursion (IsIndented front) ls → AllByRecursion (IsFront front) (kept_blanks ls)
+kept_begin : (front : List ℕ) (ls : List (List ℕ)) → list_all is_space_or_tab front ≡ true → AllByRecursion (IsIndented front) ls → AllByRecursion (IsFront front) (kept_blanks ls)
 kept_begin front [] h k = tt
 kept_begin front (line ∷ ls) h k = elim (cases_Bool (is_blank_line line)) [
   | inl e ↦ rw e (kept_begin front ls h k.1)
@@ -92,15 +92,15 @@ text_lines front [] h k = tt
 text_lines front (line ∷ ls) h k = let p = or_parts (is_blank_line line) (list_any is_blank_line ls) h in (k.0 p.0, text_lines front ls p.1 k.1)
 
 -- an indentation begins with a blank that all lines begin with
-nothing_shared : (ls : List (List ℕ)) (run : List ℕ) → IsLongestRun run ls → list_any is_blank_line ls ≡ false → ((b : ℕ) → is_blank b ≡ true → list_all (is_first b) ls ≡ false) → run ≡ []
+nothing_shared : (ls : List (List ℕ)) (run : List ℕ) → IsLongestRun run ls → list_any is_blank_line ls ≡ false → ((b : ℕ) → is_space_or_tab b ≡ true → list_all (is_first b) ls ≡ false) → run ≡ []
 nothing_shared ls [] is h k = refl
 nothing_shared ls (b ∷ run) is h k =
-    let p = and_parts (is_blank b) (list_all is_blank run) is.blank in
+    let p = and_parts (is_space_or_tab b) (list_all is_space_or_tab run) is.blank in
     let each = heads b run ls (text_lines (b ∷ run) ls h (recursion_from_All (IsIndented (b ∷ run)) ls is.shared)) in
     let none = k b p.0 in
     absurd (cc)
 
-pub already : (text : List ℕ) → list_any is_blank_line (lines text) ≡ false → ((b : ℕ) → is_blank b ≡ true → list_all (is_first b) (lines text) ≡ false) → unindented text ≡ text
+pub already : (text : List ℕ) → list_any is_blank_line (lines text) ≡ false → ((b : ℕ) → is_space_or_tab b ≡ true → list_all (is_first b) (lines text) ≡ false) → unindented text ≡ text
 unfolding unindented
 already text h k =
     let ls : List (List ℕ) = lines text in

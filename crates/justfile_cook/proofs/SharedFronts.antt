@@ -12,36 +12,36 @@ use Rattle.std.proofs.lemmas.List.Sums.{AllPass-from_list_all, prefix_len-le-len
 use Rattle.std.proofs.lemmas.List.Elements.{All-from_recursion}
 use Rattle.std.proofs.lemmas.List.Prefix.{front_rest}
 use Rattle.std.proofs.lemmas.Str.{IsCharBoundary-start, IsCharBoundary-after_ascii, IsCharBoundary-from_ascii}
-use Rattle.justfile_base.specs.Indentation.{is_blank}
+use Rattle.justfile_base.specs.Indentation.{is_space_or_tab}
 use Rattle.justfile_model.specs.Unindent.{IsFront, IsIndented, is_first, common_front, indentation, is_blank_line, leading_blanks, lines, shared_front}
 
 -- ---- runs of blanks
-blank_ascii : (b : ℕ) → is_blank b ≡ true → b < 128
+blank_ascii : (b : ℕ) → is_space_or_tab b ≡ true → b < 128
 blank_ascii b h = grind (arith, nat_tests)
 
 one_more : (n : ℕ) → n + 1 ≡ suc n
 one_more n = omega arith
 
--- a text may be cut behind the blanks at its front
-pub blanks_cut : (bs : List ℕ) → IsUtf8 bs → IsCharBoundary bs (prefix_len is_blank bs)
-blanks_cut bs u = go (prefix_len is_blank bs) refl
+-- a text may be cut after the blanks at its front
+pub blanks_cut : (bs : List ℕ) → IsUtf8 bs → IsCharBoundary bs (prefix_len is_space_or_tab bs)
+blanks_cut bs u = go (prefix_len is_space_or_tab bs) refl
   where
-    go : (n : ℕ) → prefix_len is_blank bs ≡ n → IsCharBoundary bs n
+    go : (n : ℕ) → prefix_len is_space_or_tab bs ≡ n → IsCharBoundary bs n
     go zero e = IsCharBoundary-start bs u
     go (suc n) e =
-        let fits : suc n ≤ length bs = omega (arith, e, prefix_len-le-length is_blank bs) in
-        rw (← one_more n) (IsCharBoundary-after_ascii bs n u (omega arith) (blank_ascii _ (prefix_len_passes is_blank bs n 0 (omega (arith, e)))))
+        let fits : suc n ≤ length bs = omega (arith, e, prefix_len-le-length is_space_or_tab bs) in
+        rw (← one_more n) (IsCharBoundary-after_ascii bs n u (omega arith) (blank_ascii _ (prefix_len_passes is_space_or_tab bs n 0 (omega (arith, e)))))
 
 -- and a run of blanks anywhere
-pub run_cut : (run : List ℕ) (n : ℕ) → list_all is_blank run ≡ true → n ≤ length run → IsCharBoundary run n
+pub run_cut : (run : List ℕ) (n : ℕ) → list_all is_space_or_tab run ≡ true → n ≤ length run → IsCharBoundary run n
 run_cut run n h l = IsCharBoundary-from_ascii run n ascii l
   where
     ascii : (i : ℕ) → get_or run i 0 < 128
-    ascii i = elim (cases_lt i (length run)) [ inl k ↦ blank_ascii _ (AllPass-from_list_all is_blank run h i 0 k) | inr k ↦ rw (get_or_past run i 0 k) (omega arith) ]
+    ascii i = elim (cases_lt i (length run)) [ inl k ↦ blank_ascii _ (AllPass-from_list_all is_space_or_tab run h i 0 k) | inr k ↦ rw (get_or_past run i 0 k) (omega arith) ]
 
-pub leading_blank : (line : List ℕ) → list_all is_blank (leading_blanks line) ≡ true
+pub leading_blank : (line : List ℕ) → list_all is_space_or_tab (leading_blanks line) ≡ true
 leading_blank [] = refl
-leading_blank (b ∷ bs) = elim (cases_Bool (is_blank b)) [
+leading_blank (b ∷ bs) = elim (cases_Bool (is_space_or_tab b)) [
   | inl h ↦ rw (h, one-add) (rw h (leading_blank bs))
   | inr h ↦ rw h refl
 ]
@@ -55,10 +55,10 @@ shared_two (b ∷ bs) (c ∷ cs) = elim (cases_Bool (b == c)) [
   | inr h ↦ rw h refl
 ]
 
-pub shared_blank : (run : List ℕ) (others : List (List ℕ)) → list_all is_blank run ≡ true → list_all is_blank (shared_front run others) ≡ true
+pub shared_blank : (run : List ℕ) (others : List (List ℕ)) → list_all is_space_or_tab run ≡ true → list_all is_space_or_tab (shared_front run others) ≡ true
 shared_blank [] others h = refl
 shared_blank (b ∷ bs) others h =
-    let p = and_parts (is_blank b) (list_all is_blank bs) h in
+    let p = and_parts (is_space_or_tab b) (list_all is_space_or_tab bs) h in
     elim (cases_Bool (list_all (is_first b) others)) [
       | inl e ↦ rw (e, p.0) (shared_blank bs (map (drop 1) others) p.1)
       | inr e ↦ rw e refl
@@ -139,17 +139,17 @@ kept_push (l ∷ ls) line = elim (cases_Bool (is_blank_line l)) [
 
 -- the front that the lines so far share, if one of them is not blank
 abbrev pub IsShared : Option (Bor (List ℕ)) → List (List ℕ) → Type 0
-IsShared shared ls = MatchOption shared (kept_blanks ls ≡ []) (λ run. (0 < length (kept_blanks ls)) × (run.now ≡ common_front (kept_blanks ls)) × (list_all is_blank run.now ≡ true))
+IsShared shared ls = MatchOption shared (kept_blanks ls ≡ []) (λ run. (0 < length (kept_blanks ls)) × (run.now ≡ common_front (kept_blanks ls)) × (list_all is_space_or_tab run.now ≡ true))
 
 pub shared_skip : (shared : Option (Bor (List ℕ))) (ls : List (List ℕ)) (line : List ℕ) → is_blank_line line ≡ true → IsShared shared ls → IsShared shared (ls ++ line ∷ [])
 shared_skip shared ls line blank h = rw (kept_push ls line, blank, append-nil) h
 
 pub shared_first : (run : Bor (List ℕ)) (ls : List (List ℕ)) (line : List ℕ) → is_blank_line line ≡ false → run.now ≡ leading_blanks line → IsShared None ls → IsShared (Some run) (ls ++ line ∷ [])
 shared_first run ls line text is h =
-    let blank = ap (list_all is_blank) is ∙ leading_blank line in
+    let blank = ap (list_all is_space_or_tab) is ∙ leading_blank line in
     rw (kept_push ls line, text, h) (omega arith, is ∙ sym (shared_alone (leading_blanks line)), blank)
 
-pub shared_next : (old run : Bor (List ℕ)) (ls : List (List ℕ)) (line : List ℕ) → is_blank_line line ≡ false → run.now ≡ shared_front old.now (leading_blanks line ∷ []) → list_all is_blank run.now ≡ true → IsShared (Some old) ls
+pub shared_next : (old run : Bor (List ℕ)) (ls : List (List ℕ)) (line : List ℕ) → is_blank_line line ≡ false → run.now ≡ shared_front old.now (leading_blanks line ∷ []) → list_all is_space_or_tab run.now ≡ true → IsShared (Some old) ls
     → IsShared (Some run) (ls ++ line ∷ [])
 shared_next old run ls line text is blank h =
     let front = ap (λ v. shared_front v (leading_blanks line ∷ [])) h.1 ∙ sym (common_push (kept_blanks ls) (leading_blanks line) h.0) in
@@ -157,7 +157,7 @@ shared_next old run ls line text is blank h =
 
 line_begins : (front line : List ℕ) → IsFront front (leading_blanks line) → IsFront front line
 line_begins front line h =
-    let n : ℕ = prefix_len is_blank line in
+    let n : ℕ = prefix_len is_space_or_tab line in
     let rest : List ℕ = drop (length front) (leading_blanks line) in
     begins_from front line (rest ++ drop n line) (sym (take-append-drop n line) ∙ ap (λ v. v ++ drop n line) h ∙ append_assoc front rest (drop n line))
 

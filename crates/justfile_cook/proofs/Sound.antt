@@ -20,17 +20,17 @@ pub record Begins (cs : List ℕ) (value : Option ℕ) (rest : List ℕ) : Type 
 -- a bad piece with this fault is at the front
 pub record Breaks (cs : List ℕ) (fault : EscapeFault) : Type 0 where
   pub bad : BadPiece
-  pub behind : List ℕ
-  pub is_bad : IsBad bad behind
-  pub text_is : bad_text bad ++ behind ≡ cs
+  pub later : List ℕ
+  pub is_bad : IsBad bad later
+  pub text_is : bad_text bad ++ later ≡ cs
   pub fault_is : fault_of bad ≡ fault
 
 abbrev pub Means : List ℕ → Found → Type 0
 Means cs (Ok x) = Begins cs x.0 x.1
 Means cs (Err fault) = Breaks cs fault
 
-broken : (bad : BadPiece) (behind cs : List ℕ) → IsBad bad behind → bad_text bad ++ behind ≡ cs → Breaks cs (fault_of bad)
-broken bad behind cs h e = record { bad = bad; behind = behind; is_bad = h; text_is = e; fault_is = refl }
+broken : (bad : BadPiece) (later cs : List ℕ) → IsBad bad later → bad_text bad ++ later ≡ cs → Breaks cs (fault_of bad)
+broken bad later cs h e = record { bad = bad; later = later; is_bad = h; text_is = e; fault_is = refl }
 
 number_means : (hex rest : List ℕ) → AreHex hex → length hex ≤ 6 → Means (codes "\\u{" ++ hex ++ 125 ∷ rest) (number hex rest)
 number_means [] rest h le = broken Empty rest _ tt refl

@@ -40,14 +40,14 @@ line_cut w x rest None f g e =
     lines_last w g.1 (lacks_feed w f) ∙ (λ i. sym g.0 i ∷ lines (sym none i))
 line_cut w x rest (Some q) f g e =
     let front : List ℕ = take q.0 w in
-    let behind : List ℕ = drop q.1 w in
-    let after : drop q.0 w ≡ 10 ∷ behind = f.1.split ∙ ap (λ v. v ++ behind) (encode_ascii 10 (omega arith)) in
+    let later : List ℕ = drop q.1 w in
+    let after : drop q.0 w ≡ 10 ∷ later = f.1.split ∙ ap (λ v. v ++ later) (encode_ascii 10 (omega arith)) in
     let inside : q.0 < length w = omega (arith, ap length after, length-drop q.0 w) in
     let end : q.1 ≡ suc q.0 = omega (arith, f.1.ends) in
-    let whole : w ≡ front ++ 10 ∷ behind = sym (take-append-drop q.0 w) ∙ ap (λ v. front ++ v) after in
+    let whole : w ≡ front ++ 10 ∷ later = sym (take-append-drop q.0 w) ∙ ap (λ v. front ++ v) after in
     let cut : x ≡ front ++ 10 ∷ [] = g (omega arith) ∙ ap (λ n. take n w) end ∙ take-suc w q.0 0 inside ∙ ap (λ b. front ++ (b ∷ [])) (f.1.byte (omega arith)) in
-    let left : rest ≡ behind = append_cancel_left x rest behind (sym e ∙ whole ∙ sym (append_assoc front (10 ∷ []) behind) ∙ ap (λ v. v ++ behind) (sym cut)) in
-    ap lines whole ∙ lines_first front behind (lacks_feed front f.0) ∙ (λ i. sym cut i ∷ lines (sym left i))
+    let left : rest ≡ later = append_cancel_left x rest later (sym e ∙ whole ∙ sym (append_assoc front (10 ∷ []) later) ∙ ap (λ v. v ++ later) (sym cut)) in
+    ap lines whole ∙ lines_first front later (lacks_feed front f.0) ∙ (λ i. sym cut i ∷ lines (sym left i))
 
 pub lines_yielded : {s : _} (bs : List ℕ) → split_inclusive_text {P = ℕ} s ≡ bs → split_inclusive_pattern s ≡ 10 → YieldsList (split_inclusive_steps FindsChar (λ a b. b ≡ a)) (λ x. x.now) s (lines bs)
 lines_yielded {s} bs text pattern =

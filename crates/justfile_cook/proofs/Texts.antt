@@ -16,10 +16,10 @@ pub cooks : (text cs out : List ℕ) → encode_utf8_all cs ≡ text → Made cs
 cooks text cs out e m = record { pieces = m.pieces; good = m.good; text_is = ap encode_utf8_all m.text_is ∙ e; cooked_is = ap encode_utf8_all m.value_is }
 
 pub broken : (text cs : List ℕ) (fault : EscapeFault) → encode_utf8_all cs ≡ text → Refused text fault → Broken cs fault
-broken text cs fault e r = record { pieces = r.pieces; bad = r.bad; behind = r.behind; good = r.good; is_bad = r.is_bad; text_is = encodes_same _ _ (r.text_is ∙ sym e); fault_is = r.fault_is }
+broken text cs fault e r = record { pieces = r.pieces; bad = r.bad; later = r.behind; good = r.good; is_bad = r.is_bad; text_is = encodes_same _ _ (r.text_is ∙ sym e); fault_is = r.fault_is }
 
 pub refused : (text cs : List ℕ) (fault : EscapeFault) → encode_utf8_all cs ≡ text → Broken cs fault → Refused text fault
-refused text cs fault e b = record { pieces = b.pieces; bad = b.bad; behind = b.behind; good = b.good; is_bad = b.is_bad; text_is = ap encode_utf8_all b.text_is ∙ e; fault_is = b.fault_is }
+refused text cs fault e b = record { pieces = b.pieces; bad = b.bad; behind = b.later; good = b.good; is_bad = b.is_bad; text_is = ap encode_utf8_all b.text_is ∙ e; fault_is = b.fault_is }
 
 cooks_read : (text cooked cs : List ℕ) → encode_utf8_all cs ≡ text → Cooks text cooked → as_text (cook cs) ≡ Ok cooked
 cooks_read text cooked cs e c = ap as_text (made_read cs _ (made text cooked cs e c)) ∙ ap (λ (l : List ℕ). Ok l) c.cooked_is

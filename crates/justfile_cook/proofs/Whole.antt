@@ -14,14 +14,14 @@ pub record Made (cs out : List ℕ) : Type 0 where
   pub text_is : flat_map raw_of pieces ≡ cs
   pub value_is : flat_map value_of pieces ≡ out
 
--- behind some pieces the characters are bad
+-- after some pieces the characters are bad
 pub record Broken (cs : List ℕ) (fault : EscapeFault) : Type 0 where
   pub pieces : List Piece
   pub bad : BadPiece
-  pub behind : List ℕ
+  pub later : List ℕ
   pub good : ArePieces pieces
-  pub is_bad : IsBad bad behind
-  pub text_is : flat_map raw_of pieces ++ (bad_text bad ++ behind) ≡ cs
+  pub is_bad : IsBad bad later
+  pub text_is : flat_map raw_of pieces ++ (bad_text bad ++ later) ≡ cs
   pub fault_is : fault_of bad ≡ fault
 
 abbrev pub Whole : List ℕ → Cooked → Type 0
@@ -32,7 +32,7 @@ pub made_empty : Made [] []
 made_empty = record { pieces = []; good = tt; text_is = refl; value_is = refl }
 
 pub broken_first : (cs : List ℕ) (fault : EscapeFault) → Breaks cs fault → Broken cs fault
-broken_first cs fault b = record { pieces = []; bad = b.bad; behind = b.behind; good = tt; is_bad = b.is_bad; text_is = b.text_is; fault_is = b.fault_is }
+broken_first cs fault b = record { pieces = []; bad = b.bad; later = b.later; good = tt; is_bad = b.is_bad; text_is = b.text_is; fault_is = b.fault_is }
 
 -- with a piece before them
 pub whole_more : (cs rest : List ℕ) (value : Option ℕ) (r : Cooked) → Begins cs value rest → Whole rest r → Whole cs (with_value value r)
@@ -45,7 +45,7 @@ whole_more cs rest value (Ok out) b w = record {
 whole_more cs rest value (Err fault) b w = record {
   pieces = b.piece ∷ w.pieces;
   bad = w.bad;
-  behind = w.behind;
+  later = w.later;
   good = (b.good, w.good);
   is_bad = w.is_bad;
   text_is = append_assoc (raw_of b.piece) (flat_map raw_of w.pieces) _ ∙ ap (λ (l : List ℕ). raw_of b.piece ++ l) w.text_is ∙ b.text_is;
@@ -80,7 +80,7 @@ unfolding cook_within
 from_front most [] h = absurd (omega arith)
 from_front most (c ∷ cs) h = refl
 
--- behind these values
+-- after these values
 abbrev with_values : List ℕ → Cooked → Cooked
 with_values values (Ok out) = Ok (values ++ out)
 with_values values (Err fault) = Err fault
@@ -97,18 +97,18 @@ no_values (Err fault) = refl
 abbrev Reads : List ℕ → Cooked → Type 0
 Reads cs r = (most : ℕ) → length cs ≤ most → cook_within most cs ≡ r
 
-reads_pieces : (ps : List Piece) (behind : List ℕ) (r : Cooked) → ArePieces ps → Reads behind r → Reads (flat_map raw_of ps ++ behind) (with_values (flat_map value_of ps) r)
-reads_pieces [] behind r good h most le = h most le ∙ sym (no_values r)
-reads_pieces (p ∷ ps) behind r good h zero le = absurd (omega (arith, piece_len p, length-append (raw_of p) (flat_map raw_of ps), length-append (raw_of p ++ flat_map raw_of ps) behind))
-reads_pieces (p ∷ ps) behind r good h (suc most) le =
-    let rest = flat_map raw_of ps ++ behind in
-    let whole = append_assoc (raw_of p) (flat_map raw_of ps) behind in
+reads_pieces : (ps : List Piece) (later : List ℕ) (r : Cooked) → ArePieces ps → Reads later r → Reads (flat_map raw_of ps ++ later) (with_values (flat_map value_of ps) r)
+reads_pieces [] later r good h most le = h most le ∙ sym (no_values r)
+reads_pieces (p ∷ ps) later r good h zero le = absurd (omega (arith, piece_len p, length-append (raw_of p) (flat_map raw_of ps), length-append (raw_of p ++ flat_map raw_of ps) later))
+reads_pieces (p ∷ ps) later r good h (suc most) le =
+    let rest = flat_map raw_of ps ++ later in
+    let whole = append_assoc (raw_of p) (flat_map raw_of ps) later in
     let gives = good_front p rest good.0 in
     let lengths : length (raw_of p) + length rest ≤ suc most = omega (arith, length-append (raw_of p) rest, ap length whole) in
     ap (cook_within (suc most)) whole
     ∙ from_front most (raw_of p ++ rest) (omega (arith, piece_len p, length-append (raw_of p) rest))
     ∙ ap (go_on (cook_within most)) gives.found_is
-    ∙ ap (with_value gives.value) (reads_pieces ps behind r good.1 h most (omega (arith, piece_len p)))
+    ∙ ap (with_value gives.value) (reads_pieces ps later r good.1 h most (omega (arith, piece_len p)))
     ∙ one_value gives.value (value_of p) (flat_map value_of ps) r gives.value_is
 
 reads_empty : Reads [] (Ok [])
@@ -127,11 +127,11 @@ bad_len EndsAtBackslash = omega arith
 bad_len EndsAtU = omega arith
 bad_len (EndsInBraces hex) = omega arith
 
-reads_bad : (bad : BadPiece) (behind : List ℕ) → IsBad bad behind → Reads (bad_text bad ++ behind) (Err (fault_of bad))
-reads_bad bad behind h zero le = absurd (omega (arith, bad_len bad, length-append (bad_text bad) behind))
-reads_bad bad behind h (suc most) le =
-    from_front most (bad_text bad ++ behind) (omega (arith, bad_len bad, length-append (bad_text bad) behind))
-    ∙ ap (go_on (cook_within most)) (bad_front bad behind h)
+reads_bad : (bad : BadPiece) (later : List ℕ) → IsBad bad later → Reads (bad_text bad ++ later) (Err (fault_of bad))
+reads_bad bad later h zero le = absurd (omega (arith, bad_len bad, length-append (bad_text bad) later))
+reads_bad bad later h (suc most) le =
+    from_front most (bad_text bad ++ later) (omega (arith, bad_len bad, length-append (bad_text bad) later))
+    ∙ ap (go_on (cook_within most)) (bad_front bad later h)
 
 pub made_read : (cs out : List ℕ) → Made cs out → cook cs ≡ Ok out
 made_read cs out m =
@@ -142,5 +142,5 @@ made_read cs out m =
 pub broken_read : (cs : List ℕ) (fault : EscapeFault) → Broken cs fault → cook cs ≡ Err fault
 broken_read cs fault b =
     subst (λ (l : List ℕ). cook l ≡ Err (fault_of b.bad)) b.text_is
-    (reads_pieces b.pieces (bad_text b.bad ++ b.behind) (Err (fault_of b.bad)) b.good (reads_bad b.bad b.behind b.is_bad) _ (omega arith))
+    (reads_pieces b.pieces (bad_text b.bad ++ b.later) (Err (fault_of b.bad)) b.good (reads_bad b.bad b.later b.is_bad) _ (omega arith))
     ∙ ap (λ (f : EscapeFault). Err f) b.fault_is

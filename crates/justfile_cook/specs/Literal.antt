@@ -18,7 +18,7 @@ use Rattle.justfile_model.specs.Literals.{Answers, LiteralFault, Escape, Refused
 abbrev pub is_framed : (front end : ℕ) → List ℕ → Bool
 is_framed front end lexeme = nat_le (front + end) (length lexeme) && nat_lt (slice_index lexeme (front - 1)) 128 && nat_lt (slice_index lexeme (length lexeme - end)) 128
 
--- the delimiters do
+-- the delimiters leave a text between them
 abbrev pub is_quoted : List ℕ → Bool
 is_quoted lexeme = is_framed (delimiter_len (kind_of lexeme)) (delimiter_len (kind_of lexeme)) lexeme
 
@@ -42,7 +42,7 @@ pub record IsTextError (text : Result (List ℕ) LiteralFault) (token : Token) (
   pub kind_is : IsKindOf fault error.kind
   pub token_is : error.token ≡ token
 
--- want of memory says nothing of the text
+-- being out of memory says nothing of the text
 abbrev pub IsTextFault : Result (List ℕ) LiteralFault → Token → Fault → Type 0
 IsTextFault text token (Compile error) = IsTextError text token error
 IsTextFault text token Memory = Unit {0}

@@ -3,18 +3,18 @@ ghost use Rattle.std.specs.Char.{IsScalar};
 ghost use Rattle.std.specs.Str.Parse.{digits_value};
 ghost use Rattle.justfile_model.specs.Cook.{AreHex, named};
 ghost use Rattle.justfile_model.specs.FirstPiece.{close, digits, escape, hex_len, line_feed, number, piece, unicode};
-ghost use Rattle.justfile_cook.specs.Found.{found_of};
+ghost use Rattle.justfile_cook.specs.Pieces.{piece_answer};
 
 use crate::escape_fault::EscapeFault;
 
-/// The character that a piece stands for, if it stands for one, and the text behind it.
-pub(crate) type Found<'a> = Result<(Option<char>, &'a str), EscapeFault<'a>>;
+/// The character that a piece stands for, if it stands for one, and the text after the piece.
+pub(crate) type PieceRead<'a> = Result<(Option<char>, &'a str), EscapeFault<'a>>;
 
 /// The most hexadecimal digits that an escape may have.
 const MOST_DIGITS: usize = 6;
 
-/// The first character, and the text behind it.
-pub(crate) fn first(text: &str) -> Option<(char, &str)>
+/// The first character, and the text after it.
+pub(crate) fn split_first(text: &str) -> Option<(char, &str)>
     ensures value { MatchOption result (chars text.now ≡ []) (λ x. chars text.now ≡ x.0 ∷ chars x.1.now) }
     ensures utf8 { IfSome result (λ x. IsUtf8 x.1.now) }
 {
@@ -24,7 +24,7 @@ pub(crate) fn first(text: &str) -> Option<(char, &str)>
 }
 
 /// The character that a backslash and this one name.
-fn named(character: char) -> Option<char>
+fn named_character(character: char) -> Option<char>
     ensures { result ≡ named character }
 {
     match character {
@@ -37,55 +37,55 @@ fn named(character: char) -> Option<char>
     }
 }
 
-/// The piece that begins with the character.
-pub(crate) fn piece(character: char, behind: &str) -> Found<'_>
-    ensures found { found_of result ≡ piece character (chars behind.now) }
+/// Reads the piece that begins with the character.
+pub(crate) fn read_piece(character: char, rest: &str) -> PieceRead<'_>
+    ensures found { piece_answer result ≡ piece character (chars rest.now) }
     ensures utf8 { IfOk result (λ x. IsUtf8 x.1.now) }
 {
     match character {
-        '\\' => escape(behind),
-        _ => Ok((Some(character), behind)),
+        '\\' => read_escape(rest),
+        _ => Ok((Some(character), rest)),
     }
 }
 
-/// The escape behind whose backslash the text begins.
-fn escape(text: &str) -> Found<'_>
-    ensures found { found_of result ≡ escape (chars text.now) }
+/// Reads the rest of an escape after its backslash.
+fn read_escape(text: &str) -> PieceRead<'_>
+    ensures found { piece_answer result ≡ escape (chars text.now) }
     ensures utf8 { IfOk result (λ x. IsUtf8 x.1.now) }
 {
-    let Some((character, behind)) = first(text) else {
+    let Some((character, rest)) = split_first(text) else {
         return Err(EscapeFault::UnicodeEscapeUnterminated);
     };
     match character {
-        'u' => unicode(behind),
-        '\r' => line_feed(behind),
-        '\n' => Ok((None, behind)),
-        _ => match named(character) {
-            Some(value) => Ok((Some(value), behind)),
+        'u' => read_unicode_escape(rest),
+        '\r' => read_line_feed(rest),
+        '\n' => Ok((None, rest)),
+        _ => match named_character(character) {
+            Some(value) => Ok((Some(value), rest)),
             None => Err(EscapeFault::InvalidEscapeSequence { character }),
         },
     }
 }
 
-/// The rest of a line end whose carriage return stands behind a backslash.
-fn line_feed(text: &str) -> Found<'_>
-    ensures found { found_of result ≡ line_feed (chars text.now) }
+/// Reads the rest of a line end whose carriage return follows a backslash.
+fn read_line_feed(text: &str) -> PieceRead<'_>
+    ensures found { piece_answer result ≡ line_feed (chars text.now) }
     ensures utf8 { IfOk result (λ x. IsUtf8 x.1.now) }
 {
-    match first(text) {
-        Some(('\n', behind)) => Ok((None, behind)),
+    match split_first(text) {
+        Some(('\n', rest)) => Ok((None, rest)),
         _ => Err(EscapeFault::InvalidEscapeSequence { character: '\r' }),
     }
 }
 
-/// The rest of an escape, behind its `u`.
-fn unicode(text: &str) -> Found<'_>
-    ensures found { found_of result ≡ unicode (chars text.now) }
+/// Reads the rest of an escape after its `u`.
+fn read_unicode_escape(text: &str) -> PieceRead<'_>
+    ensures found { piece_answer result ≡ unicode (chars text.now) }
     ensures utf8 { IfOk result (λ x. IsUtf8 x.1.now) }
 {
-    match first(text) {
+    match split_first(text) {
         None => Err(EscapeFault::UnicodeEscapeUnterminated),
-        Some(('{', behind)) => digits(behind),
+        Some(('{', rest)) => read_digits(rest),
         Some((character, _)) => Err(EscapeFault::UnicodeEscapeDelimiter { character }),
     }
 }
@@ -104,49 +104,49 @@ fn hex_len(text: &str) -> usize
     count
 }
 
-/// The rest of an escape, behind its opening brace.
-fn digits(text: &str) -> Found<'_>
-    ensures found { found_of result ≡ digits (chars text.now) }
+/// Reads the rest of an escape after its opening brace.
+fn read_digits(text: &str) -> PieceRead<'_>
+    ensures found { piece_answer result ≡ digits (chars text.now) }
     ensures utf8 { IfOk result (λ x. IsUtf8 x.1.now) }
 {
     let count = hex_len(text);
-    let (hex, behind) = text.split_at(count);
+    let (hex, rest) = text.split_at(count);
     if count > MOST_DIGITS {
         return Err(EscapeFault::UnicodeEscapeLength { hex });
     }
-    close(hex, behind)
+    read_closing_brace(hex, rest)
 }
 
-/// The rest of an escape, behind its digits.
-fn close<'a>(hex: &'a str, text: &'a str) -> Found<'a>
+/// Reads the rest of an escape after its digits.
+fn read_closing_brace<'a>(hex: &'a str, text: &'a str) -> PieceRead<'a>
     requires { AreHex hex.now }
-    ensures found { found_of result ≡ close hex.now (chars text.now) }
+    ensures found { piece_answer result ≡ close hex.now (chars text.now) }
     ensures utf8 { IfOk result (λ x. IsUtf8 x.1.now) }
 {
-    match first(text) {
+    match split_first(text) {
         None => Err(EscapeFault::UnicodeEscapeUnterminated),
-        Some(('}', behind)) => number(hex, behind),
+        Some(('}', rest)) => read_number(hex, rest),
         Some((character, _)) => Err(EscapeFault::UnicodeEscapeCharacter { character }),
     }
 }
 
 /// The character of the number that stands before the closing brace.
-fn number<'a>(hex: &'a str, behind: &'a str) -> Found<'a>
+fn read_number<'a>(hex: &'a str, rest: &'a str) -> PieceRead<'a>
     requires { AreHex hex.now }
-    ensures found { found_of result ≡ number hex.now (chars behind.now) }
+    ensures found { piece_answer result ≡ number hex.now (chars rest.now) }
     ensures utf8 { IfOk result (λ x. IsUtf8 x.1.now) }
 {
     if hex.is_empty() {
         return Err(EscapeFault::UnicodeEscapeEmpty);
     }
-    match character(hex) {
-        Some(character) => Ok((Some(character), behind)),
+    match parse_character(hex) {
+        Some(character) => Ok((Some(character), rest)),
         None => Err(EscapeFault::UnicodeEscapeRange { hex }),
     }
 }
 
 /// The character that has this number, if there is one.
-fn character(hex: &str) -> Option<char>
+fn parse_character(hex: &str) -> Option<char>
     requires hex { AreHex hex.now }
     requires some { 0 < length hex.now }
     ensures { SomeIff result (IsScalar (digits_value 16 hex.now)) (digits_value 16 hex.now) }

@@ -1,6 +1,6 @@
 ghost use Rattle.std.specs.Prelude.{◌≡◌, IfOk, Some};
 ghost use Rattle.justfile_model.specs.EscapeFault.{escape_fault_of};
-ghost use Rattle.justfile_cook.specs.Found.{fault_of};
+ghost use Rattle.justfile_cook.specs.Pieces.{piece_fault};
 
 use justfile_base::CompileErrorKind;
 use std::alloc::{AllocError, Global};
@@ -10,23 +10,24 @@ use std::alloc::{AllocError, Global};
 pub(crate) enum EscapeFault<'a> {
     /// No escape is written with this character.
     InvalidEscapeSequence { character: char },
-    /// It is neither a hexadecimal digit nor the closing brace.
+    /// The character after the digits is no closing brace.
     UnicodeEscapeCharacter { character: char },
-    /// It stands where the opening brace has to be.
+    /// The character stands where the opening brace has to be.
     UnicodeEscapeDelimiter { character: char },
+    /// No digit stands between the braces.
     UnicodeEscapeEmpty,
-    /// The first seven digits.
+    /// More than six digits, of which the first seven are given.
     UnicodeEscapeLength { hex: &'a str },
-    /// The number of no character.
+    /// The digits are the number of no character.
     UnicodeEscapeRange { hex: &'a str },
     /// The text ends in an escape.
     UnicodeEscapeUnterminated,
 }
 
 impl<'a> EscapeFault<'a> {
-    /// The same as an error's kind. Memory is wanted for digits alone.
+    /// The kind of the error that says so. Memory is needed for digits alone.
     pub(crate) fn into_kind<'src>(self, alloc: Global) -> Result<CompileErrorKind<'src>, AllocError>
-        ensures { IfOk result (λ kind. escape_fault_of kind ≡ Some (fault_of self.entry)) }
+        ensures { IfOk result (λ kind. escape_fault_of kind ≡ Some (piece_fault self.entry)) }
     {
         Ok(match self {
             EscapeFault::InvalidEscapeSequence { character } => {

@@ -30,7 +30,7 @@ pub fn refused()
     ensures no_brace { Refused (codes "\\u41") (UnicodeEscapeDelimiter 52) }
     ensures empty { Refused (codes "\\u{}") UnicodeEscapeEmpty }
     ensures no_digit { Refused (codes "\\u{g}") (UnicodeEscapeCharacter 103) }
-    ensures behind_digits { Refused (codes "\\u{123456 }") (UnicodeEscapeCharacter 32) }
+    ensures after_digits { Refused (codes "\\u{123456 }") (UnicodeEscapeCharacter 32) }
     ensures seven_digits { Refused (codes "\\u{1234567}") (UnicodeEscapeLength (codes "1234567")) }
     ensures eight_digits { Refused (codes "\\u{12345678") (UnicodeEscapeLength (codes "1234567")) }
     ensures surrogate { Refused (codes "\\u{D800}") (UnicodeEscapeRange (codes "D800")) }

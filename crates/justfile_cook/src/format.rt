@@ -3,7 +3,8 @@ ghost use Rattle.justfile_base.specs.Token.{lexeme_of};
 ghost use Rattle.justfile_model.specs.Literals.{between, end_len, format_text, front_len, unescaped_braces};
 ghost use Rattle.justfile_cook.specs.Literal.{IsPartOf, IsTextFault, is_part};
 
-use crate::cook::cook_string;
+use crate::cook::replace_escapes;
+use justfile_base::interpolation::{INTERPOLATION_END, INTERPOLATION_ESCAPE, INTERPOLATION_START};
 use justfile_base::{CompileResult, FormatStringPart, StringKind, StringLiteral, Token};
 use std::alloc::{AllocError, Global};
 
@@ -11,7 +12,7 @@ use std::alloc::{AllocError, Global};
 ///
 /// # Errors
 ///
-/// `Compile` at the token, for the first bad escape; `Memory` if memory is wanting.
+/// `Compile` at the token, for the first bad escape; `Memory` if memory runs out.
 pub fn format_part<'src>(
     alloc: Global,
     token: Token<'src>,
@@ -23,7 +24,7 @@ pub fn format_part<'src>(
     ensures err { IfErr result (IsTextFault (format_text kind part (lexeme_of token.entry)) token.entry) }
 {
     Ok(StringLiteral {
-        cooked: format_text(alloc, token, kind, part)?,
+        cooked: read_part_text(alloc, token, kind, part)?,
         expand: false,
         kind,
         part: Some(part),
@@ -36,23 +37,23 @@ fn front_len(kind: StringKind, part: FormatStringPart) -> usize
     ensures { result ≡ front_len kind part }
 {
     match part {
-        FormatStringPart::Continue | FormatStringPart::End => "}}".len(),
+        FormatStringPart::Continue | FormatStringPart::End => INTERPOLATION_END.len(),
         FormatStringPart::Single | FormatStringPart::Start => kind.delimiter_len(),
     }
 }
 
-/// How many bytes stand behind the text of the part.
+/// How many bytes stand after the text of the part.
 fn end_len(kind: StringKind, part: FormatStringPart) -> usize
     ensures { result ≡ end_len kind part }
 {
     match part {
-        FormatStringPart::Continue | FormatStringPart::Start => "{{".len(),
+        FormatStringPart::Continue | FormatStringPart::Start => INTERPOLATION_START.len(),
         FormatStringPart::End | FormatStringPart::Single => kind.delimiter_len(),
     }
 }
 
 /// What stands between the delimiters or the braces of interpolations.
-fn raw_text(lexeme: &str, kind: StringKind, part: FormatStringPart) -> &str
+fn strip_delimiters(lexeme: &str, kind: StringKind, part: FormatStringPart) -> &str
     requires { IsTrue (is_part kind part lexeme.now) }
     ensures { result.now ≡ between (front_len kind part) (end_len kind part) lexeme.now }
 {
@@ -62,14 +63,14 @@ fn raw_text(lexeme: &str, kind: StringKind, part: FormatStringPart) -> &str
 }
 
 /// The text with two braces for each four, from the left.
-fn unescaped_braces(alloc: Global, text: &str) -> Result<String, AllocError>
+fn unescape_braces(alloc: Global, text: &str) -> Result<String, AllocError>
     ensures { IfOk result (λ unescaped. string_bytes unescaped ≡ unescaped_braces text.now) }
 {
-    text.replace(alloc, "{{{{", "{{")
+    text.replace(alloc, INTERPOLATION_ESCAPE, INTERPOLATION_START)
 }
 
 /// The text of the part: its braces, then in double quotes its escapes replaced.
-fn format_text<'src>(
+fn read_part_text<'src>(
     alloc: Global,
     token: Token<'src>,
     kind: StringKind,
@@ -79,10 +80,6 @@ fn format_text<'src>(
     ensures ok { IfOk result (λ text. format_text kind part (lexeme_of token.entry) ≡ Ok (string_bytes text)) }
     ensures err { IfErr result (IsTextFault (format_text kind part (lexeme_of token.entry)) token.entry) }
 {
-    let text = unescaped_braces(alloc, raw_text(token.lexeme(), kind, part))?;
-    if kind.processes_escape_sequences() {
-        cook_string(alloc, token, text.as_str())
-    } else {
-        Ok(text)
-    }
+    let text = unescape_braces(alloc, strip_delimiters(token.lexeme(), kind, part))?;
+    replace_escapes(alloc, token, kind, text)
 }

@@ -2,7 +2,7 @@
 ghost use Rattle.std.specs.Prelude.{◌≡◌, ◌≤◌, ◌++◌, ◌⊎◌, [], false, true, ℕ, List, Err, Ok, encode_utf8_all, flat_map, length};
 ghost use Rattle.std.specs.List.{concat, list_all, list_any};
 ghost use Rattle.std.specs.Str.{IsUtf8};
-ghost use Rattle.justfile_base.specs.Indentation.{is_blank};
+ghost use Rattle.justfile_base.specs.Indentation.{is_space_or_tab};
 ghost use Rattle.justfile_model.specs.Cook.{ArePieces, Cooks, Piece, Refused, raw_of};
 ghost use Rattle.justfile_model.specs.EscapeFault.{EscapeFault};
 ghost use Rattle.justfile_model.specs.FirstPiece.{cooked_text};
@@ -17,7 +17,9 @@ pub fn one_answer()
 
 /// The pieces before the bad one are the longest front of the text that is made of pieces.
 pub fn longest_front()
-    ensures { (text : List ℕ) (fault : EscapeFault) (refused : Refused text fault) (pieces : List Piece) (rest : List ℕ) → ArePieces pieces → encode_utf8_all (flat_map raw_of pieces ++ rest) ≡ text → length (flat_map raw_of pieces) ≤ length (flat_map raw_of refused.pieces) }
+    ensures { (text : List ℕ) (fault : EscapeFault) (refused : Refused text fault) (pieces : List Piece) (rest : List ℕ) →
+        ArePieces pieces → encode_utf8_all (flat_map raw_of pieces ++ rest) ≡ text →
+        length (flat_map raw_of pieces) ≤ length (flat_map raw_of refused.pieces) }
 {}
 
 /// Each text has a cooked text or a refusal, which reading it from left to right gives.
@@ -49,5 +51,6 @@ pub fn indentation_is_longest()
 #[tactic(auto, unfolding(justfile_model::specs::Unindent::unindented))]
 pub fn unindented_already()
     ensures empty { unindented [] ≡ [] }
-    ensures nothing_shared { (text : List ℕ) → list_any is_blank_line (lines text) ≡ false → ((b : ℕ) → is_blank b ≡ true → list_all (is_first b) (lines text) ≡ false) → unindented text ≡ text }
+    ensures nothing_shared { (text : List ℕ) → list_any is_blank_line (lines text) ≡ false →
+        ((b : ℕ) → is_space_or_tab b ≡ true → list_all (is_first b) (lines text) ≡ false) → unindented text ≡ text }
 {}

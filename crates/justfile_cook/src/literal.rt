@@ -4,7 +4,7 @@ ghost use Rattle.justfile_base.specs.Token.{lexeme_of};
 ghost use Rattle.justfile_model.specs.Literals.{Answers, Command, between_quotes, by_answer, cooked_text, flush_text, string_of, string_text};
 ghost use Rattle.justfile_cook.specs.Literal.{IsStringOf, IsTextFault, answers_by, is_quoted};
 
-use crate::cook::cook_string;
+use crate::cook::replace_escapes;
 use crate::unindent::unindent;
 use justfile_base::{
     CompileErrorKind, CompileResult, ExpandFault, Expander, Fault, StringKind, StringLiteral, Token,
@@ -16,7 +16,7 @@ use std::alloc::{AllocError, Global};
 /// # Errors
 ///
 /// `Compile` at the token, for the first bad escape, or if the expander refuses the text;
-/// `Memory` if memory is wanting.
+/// `Memory` if memory runs out.
 pub fn string_literal<'src, X: Expander>(
     alloc: Global,
     token: Token<'src>,
@@ -27,16 +27,16 @@ pub fn string_literal<'src, X: Expander>(
     ensures ok { IfOk result (IsStringOf (answers_by X.answer expander.now) token.entry expand) }
     ensures err { IfErr result (IsTextFault (cooked_text (answers_by X.answer expander.now) (string_of expand (lexeme_of token.entry))) token.entry) }
 {
-    let text = string_text(alloc, token)?;
+    let text = read_string_text(alloc, token)?;
     let cooked = if expand {
-        expanded(alloc, token, text.as_str(), expander)?
+        expand_text(alloc, token, text.as_str(), expander)?
     } else {
         text
     };
     Ok(StringLiteral {
         cooked,
         expand,
-        kind: kind_of(token.lexeme()),
+        kind: literal_kind(token.lexeme()),
         part: None,
         token,
     })
@@ -46,13 +46,13 @@ pub fn string_literal<'src, X: Expander>(
 ///
 /// # Errors
 ///
-/// `Compile` at the token, if the command begins with `#!`; `Memory` if memory is wanting.
+/// `Compile` at the token, if the command begins with `#!`; `Memory` if memory runs out.
 pub fn command<'src>(alloc: Global, token: Token<'src>) -> CompileResult<'src, String>
     requires { IsTrue (is_quoted (lexeme_of token)) }
     ensures ok { IfOk result (λ contents. (expander : Answers) → cooked_text expander (Command (lexeme_of token.entry)) ≡ Ok (string_bytes contents)) }
     ensures err { IfErr result (λ fault. (expander : Answers) → IsTextFault (cooked_text expander (Command (lexeme_of token.entry))) token.entry fault) }
 {
-    let text = flush_text(alloc, token.lexeme())?;
+    let text = read_flush_text(alloc, token.lexeme())?;
     if text.as_str().starts_with("#!") {
         return Err(Fault::Compile(token.error(CompileErrorKind::BacktickShebang)));
     }
@@ -60,7 +60,7 @@ pub fn command<'src>(alloc: Global, token: Token<'src>) -> CompileResult<'src, S
 }
 
 /// How the literal is delimited.
-fn kind_of(lexeme: &str) -> StringKind
+fn literal_kind(lexeme: &str) -> StringKind
     ensures { result ≡ kind_of lexeme.now }
 {
     StringKind::of_opening(lexeme.as_bytes())
@@ -71,17 +71,17 @@ fn between_quotes(lexeme: &str) -> &str
     requires { IsTrue (is_quoted lexeme.now) }
     ensures { result.now ≡ between_quotes lexeme.now }
 {
-    let quotes = kind_of(lexeme).delimiter_len();
+    let quotes = literal_kind(lexeme).delimiter_len();
     &lexeme[quotes..lexeme.len() - quotes]
 }
 
 /// What stands between the quotes, unindented where they are tripled.
-fn flush_text(alloc: Global, lexeme: &str) -> Result<String, AllocError>
+fn read_flush_text(alloc: Global, lexeme: &str) -> Result<String, AllocError>
     requires { IsTrue (is_quoted lexeme.now) }
     ensures { IfOk result (λ text. string_bytes text ≡ flush_text lexeme.now) }
 {
     let text = between_quotes(lexeme);
-    if kind_of(lexeme).indented() {
+    if literal_kind(lexeme).indented() {
         unindent(alloc, text)
     } else {
         text.to_string(alloc)
@@ -89,21 +89,17 @@ fn flush_text(alloc: Global, lexeme: &str) -> Result<String, AllocError>
 }
 
 /// The text of a string, its escapes replaced in double quotes.
-fn string_text<'src>(alloc: Global, token: Token<'src>) -> CompileResult<'src, String>
+fn read_string_text<'src>(alloc: Global, token: Token<'src>) -> CompileResult<'src, String>
     requires { IsTrue (is_quoted (lexeme_of token)) }
     ensures ok { IfOk result (λ text. string_text (lexeme_of token.entry) ≡ Ok (string_bytes text)) }
     ensures err { IfErr result (IsTextFault (string_text (lexeme_of token.entry)) token.entry) }
 {
-    let text = flush_text(alloc, token.lexeme())?;
-    if kind_of(token.lexeme()).processes_escape_sequences() {
-        cook_string(alloc, token, text.as_str())
-    } else {
-        Ok(text)
-    }
+    let text = read_flush_text(alloc, token.lexeme())?;
+    replace_escapes(alloc, token, literal_kind(token.lexeme()), text)
 }
 
-/// The expanded text. A refusal stands at the token.
-fn expanded<'src, X: Expander>(
+/// Expands the text. A refusal stands at the token.
+fn expand_text<'src, X: Expander>(
     alloc: Global,
     token: Token<'src>,
     text: &str,

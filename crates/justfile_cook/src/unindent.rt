@@ -1,22 +1,22 @@
 ghost use Rattle.std.specs.Prelude.{◌≡◌, [], ◌∷◌, ◌++◌, false, true, IfOk, OnOk, drop, length, map, nat_eq, string_bytes};
 ghost use Rattle.std.specs.List.{All, common_prefix_len, list_all, prefix_len};
-ghost use Rattle.justfile_base.specs.Indentation.{is_blank};
+ghost use Rattle.justfile_base.specs.Indentation.{is_space_or_tab};
 ghost use Rattle.justfile_model.specs.Unindent.{IsFront, IsIndented, indentation, is_blank_line, is_white, joined, leading_blanks, line_end, lines, lines_behind, middle_line, outer_line, shared_front, unindented};
 
 use std::alloc::{AllocError, Global};
 
-/// Whether it is a space or a tab.
-fn is_blank(byte: u8) -> bool
-    ensures { result ≡ is_blank byte }
+/// Whether the byte is a space or a tab.
+fn is_space_or_tab(byte: u8) -> bool
+    ensures { result ≡ is_space_or_tab byte }
 {
     matches!(byte, b' ' | b'\t')
 }
 
-/// Whether it is a space, a tab, a carriage return or a line feed.
+/// Whether the byte is a space, a tab, a carriage return or a line feed.
 fn is_white(byte: u8) -> bool
     ensures { result ≡ is_white byte }
 {
-    is_blank(byte) || matches!(byte, b'\r' | b'\n')
+    is_space_or_tab(byte) || matches!(byte, b'\r' | b'\n')
 }
 
 /// Whether the line is all white space.
@@ -28,15 +28,17 @@ fn is_blank_line(line: &str) -> bool
 
 /// How many spaces and tabs are at the front of the line.
 fn blank_len(line: &str) -> usize
-    ensures { result ≡ prefix_len is_blank line.now }
+    ensures { result ≡ prefix_len is_space_or_tab line.now }
 {
-    line.bytes().take_while(|byte| is_blank(*byte)).count()
+    line.bytes()
+        .take_while(|byte| is_space_or_tab(*byte))
+        .count()
 }
 
 /// The spaces and tabs at the front of the line.
 fn leading_blanks(line: &str) -> &str
     ensures front { result.now ≡ leading_blanks line.now }
-    ensures blank { list_all is_blank result.now ≡ true }
+    ensures blank { list_all is_space_or_tab result.now ≡ true }
 {
     line.split_at(blank_len(line)).0
 }
@@ -51,24 +53,24 @@ fn shared_len(text: &str, other: &str) -> usize
         .count()
 }
 
-/// The longest front of the run of blanks that the other one has too.
-fn shared_front<'text>(run: &'text str, other: &str) -> &'text str
-    requires { list_all is_blank run.now ≡ true }
+/// The longest front of the run of blanks that the other text begins with too.
+fn take_shared_front<'text>(run: &'text str, other: &str) -> &'text str
+    requires { list_all is_space_or_tab run.now ≡ true }
     ensures front { result.now ≡ shared_front run.now (other.now ∷ []) }
-    ensures blank { list_all is_blank result.now ≡ true }
+    ensures blank { list_all is_space_or_tab result.now ≡ true }
 {
     run.split_at(shared_len(run, other)).0
 }
 
 /// The lines of the text, each with its line feed.
-fn lines(alloc: Global, text: &str) -> Result<Vec<&str>, AllocError>
+fn split_lines(alloc: Global, text: &str) -> Result<Vec<&str>, AllocError>
     ensures { IfOk result (λ found. map (λ line. line.now) found.items ≡ lines text.now) }
 {
     text.split_inclusive('\n').collect(alloc)
 }
 
 /// The longest run of blanks that all lines but the blank ones begin with.
-fn indentation<'text>(lines: &[&'text str]) -> &'text str
+fn find_indentation<'text>(lines: &[&'text str]) -> &'text str
     ensures { result.now ≡ indentation (map (λ line. line.now) lines.now) }
 {
     let mut shared = None;
@@ -77,7 +79,7 @@ fn indentation<'text>(lines: &[&'text str]) -> &'text str
             let blanks = leading_blanks(line);
             shared = Some(match shared {
                 None => blanks,
-                Some(run) => shared_front(run, blanks),
+                Some(run) => take_shared_front(run, blanks),
             });
         }
     }
@@ -85,7 +87,7 @@ fn indentation<'text>(lines: &[&'text str]) -> &'text str
 }
 
 /// The line without the run of blanks that it begins with.
-fn without_run<'text>(line: &'text str, run: &str) -> &'text str
+fn strip_run<'text>(line: &'text str, run: &str) -> &'text str
     requires { IsFront run.now line.now }
     ensures { result.now ≡ drop (length run.now) line.now }
 {
@@ -93,14 +95,14 @@ fn without_run<'text>(line: &'text str, run: &str) -> &'text str
 }
 
 /// What stays of the first or the last line.
-fn outer_line<'text>(line: &'text str, run: &str) -> &'text str
+fn strip_outer_line<'text>(line: &'text str, run: &str) -> &'text str
     requires { IsIndented run.now line.now }
     ensures { result.now ≡ outer_line run.now line.now }
 {
     if is_blank_line(line) {
         ""
     } else {
-        without_run(line, run)
+        strip_run(line, run)
     }
 }
 
@@ -113,19 +115,19 @@ fn line_end(line: &str) -> &'static str
 }
 
 /// What stays of a line in the middle of the text.
-fn middle_line<'text>(line: &'text str, run: &str) -> &'text str
+fn strip_middle_line<'text>(line: &'text str, run: &str) -> &'text str
     requires { IsIndented run.now line.now }
     ensures { result.now ≡ middle_line run.now line.now }
 {
     if is_blank_line(line) {
         line_end(line)
     } else {
-        without_run(line, run)
+        strip_run(line, run)
     }
 }
 
-/// Puts what stays of the lines behind the first at the end.
-fn push_behind(text: &mut String, lines: &[&str], run: &str) -> Result<(), AllocError>
+/// Pushes what stays of the lines after the first.
+fn push_later_lines(text: &mut String, lines: &[&str], run: &str) -> Result<(), AllocError>
     requires { All (λ line. IsIndented run.now line.now) lines.now }
     ensures { OnOk result (string_bytes text.new ≡ string_bytes text.old ++ lines_behind run.now (map (λ line. line.now) lines.now)) }
 {
@@ -133,20 +135,20 @@ fn push_behind(text: &mut String, lines: &[&str], run: &str) -> Result<(), Alloc
         return Ok(());
     };
     for line in middle {
-        text.push_str(middle_line(line, run))?;
+        text.push_str(strip_middle_line(line, run))?;
     }
-    text.push_str(outer_line(last, run))
+    text.push_str(strip_outer_line(last, run))
 }
 
 /// What stays of the lines, joined.
-fn joined(alloc: Global, lines: &[&str], run: &str) -> Result<String, AllocError>
+fn join_lines(alloc: Global, lines: &[&str], run: &str) -> Result<String, AllocError>
     requires { All (λ line. IsIndented run.now line.now) lines.now }
     ensures { IfOk result (λ text. string_bytes text ≡ joined run.now (map (λ line. line.now) lines.now)) }
 {
     let mut text = String::new(alloc);
-    if let Some((first, behind)) = lines.split_first() {
-        text.push_str(outer_line(first, run))?;
-        push_behind(&mut text, behind, run)?;
+    if let Some((first, rest)) = lines.split_first() {
+        text.push_str(strip_outer_line(first, run))?;
+        push_later_lines(&mut text, rest, run)?;
     }
     Ok(text)
 }
@@ -159,6 +161,6 @@ fn joined(alloc: Global, lines: &[&str], run: &str) -> Result<String, AllocError
 pub fn unindent(alloc: Global, text: &str) -> Result<String, AllocError>
     ensures { IfOk result (λ answer. string_bytes answer ≡ unindented text.now) }
 {
-    let lines = lines(alloc, text)?;
-    joined(alloc, lines.as_slice(), indentation(lines.as_slice()))
+    let lines = split_lines(alloc, text)?;
+    join_lines(alloc, lines.as_slice(), find_indentation(lines.as_slice()))
 }

@@ -4,8 +4,7 @@ use Rattle.std.proofs.Common.{slice_index, ◌==◌, ◌≡◌, ℕ, ◌-◌, Bo
 use Rattle.std.specs.List.{flat_map, list_all, slice_get}
 use Rattle.std.specs.Option.{option_and_then}
 use Rattle.std.proofs.lemmas.List.Folds.{flat_map-map}
-use Rattle.justfile_model.specs.Tree as tree
-use Rattle.justfile_model.specs.Tree.{over_fragment, over_line, lexeme, nothing}
+use Rattle.justfile_model.specs.Tree.{item_shape_of, over_fragment, over_line, lexeme, nothing}
 use Rattle.justfile_model.specs.Printing.{piece, fragment_text, line_text, body_text, ends_in_return, printable_fragments, printable_body, printable_item, printable}
 use Rattle.justfile_file.specs.declared.fragment.Fragment.{Fragment}
 use Rattle.justfile_file.specs.declared.fragment.Fragment.TheVariants.{Interpolation, Text}
@@ -52,6 +51,6 @@ pub printable_lines : (lines : List Line) → printable_body (line_shapes lines)
 printable_lines [] = refl
 printable_lines (l ∷ lines) = ap (λ b. printable_fragments (fragment_shapes l.fragments.items) && b) (printable_lines lines)
 
-pub printable_items : (items : List Item) → printable (map (tree.over_item lexeme nothing nothing) (map item_of items)) ≡ list_all (λ i. printable_item (item_shape i)) items
+pub printable_items : (items : List Item) → printable (map item_shape_of (map item_of items)) ≡ list_all (λ i. printable_item (item_shape i)) items
 printable_items [] = refl
 printable_items (i ∷ items) = ap (λ b. printable_item (item_shape i) && b) (printable_items items)

@@ -13,50 +13,40 @@ thrice : (s : Shape) → behind_newline (behind_newline (behind_newline s)) ≡ 
 thrice [] = refl
 thrice (tree.Newline ∷ []) = refl
 thrice (tree.Newline ∷ tree.Newline ∷ s) = refl
-thrice (tree.Newline ∷ tree.Assignment n e ∷ s) = refl
 thrice (tree.Newline ∷ tree.Comment t ∷ s) = refl
-thrice (tree.Newline ∷ tree.Recipe n b ∷ s) = refl
-thrice (tree.Assignment n e ∷ s) = refl
+thrice (tree.Newline ∷ tree.Construct d c ∷ s) = refl
 thrice (tree.Comment t ∷ s) = refl
-thrice (tree.Recipe n b ∷ s) = refl
+thrice (tree.Construct d c ∷ s) = refl
 
 -- an item other than a line end
 abbrev Standing : ItemShape → Type 0
 Standing tree.Newline = ⊥
 Standing _ = Unit {0}
 
--- a line end behind another item
+-- nothing is printed between another item and a line end
 behind_standing : (i : ItemShape) → Standing i → (s : Shape) → item_end i (tree.Newline ∷ s) ≡ []
-behind_standing (tree.Assignment n e) h s = refl
 behind_standing (tree.Comment t) h s = refl
-behind_standing (tree.Recipe n b) h s = refl
+behind_standing (tree.Construct d c) h s = refl
 behind_standing tree.Newline h s = absurd h
 
 newline_first : (s : Shape) → (r : Shape) × (behind_newline s ≡ tree.Newline ∷ r)
 newline_first [] = ([], refl)
 newline_first (tree.Newline ∷ []) = ([], refl)
 newline_first (tree.Newline ∷ tree.Newline ∷ s) = (tree.Newline ∷ s, refl)
-newline_first (tree.Newline ∷ tree.Assignment n e ∷ s) = (tree.Newline ∷ tree.Assignment n e ∷ s, refl)
 newline_first (tree.Newline ∷ tree.Comment t ∷ s) = (tree.Newline ∷ tree.Comment t ∷ s, refl)
-newline_first (tree.Newline ∷ tree.Recipe n b ∷ s) = (tree.Newline ∷ tree.Recipe n b ∷ s, refl)
-newline_first (tree.Assignment n e ∷ s) = (tree.Assignment n e ∷ s, refl)
+newline_first (tree.Newline ∷ tree.Construct d c ∷ s) = (tree.Newline ∷ tree.Construct d c ∷ s, refl)
 newline_first (tree.Comment t ∷ s) = (tree.Comment t ∷ s, refl)
-newline_first (tree.Recipe n b ∷ s) = (tree.Recipe n b ∷ s, refl)
+newline_first (tree.Construct d c ∷ s) = (tree.Construct d c ∷ s, refl)
 
 nothing_before : (i : ItemShape) → Standing i → (s : Shape) → item_end i (behind_newline s) ≡ []
 nothing_before i h s = let first = newline_first s in ap (item_end i) first.1 ∙ behind_standing i h first.0
 
 before_standing : (j i : ItemShape) (s : Shape) → Standing j → Standing i → item_end j (i ∷ s) ≡ codes " "
 unfolding piece
-before_standing (tree.Assignment n e) (tree.Assignment m d) s h g = refl
-before_standing (tree.Assignment n e) (tree.Comment c) s h g = refl
-before_standing (tree.Assignment n e) (tree.Recipe m b) s h g = refl
-before_standing (tree.Comment t) (tree.Assignment m d) s h g = refl
-before_standing (tree.Comment t) (tree.Comment c) s h g = refl
-before_standing (tree.Comment t) (tree.Recipe m b) s h g = refl
-before_standing (tree.Recipe n b) (tree.Assignment m d) s h g = refl
-before_standing (tree.Recipe n b) (tree.Comment c) s h g = refl
-before_standing (tree.Recipe n b) (tree.Recipe m a) s h g = refl
+before_standing (tree.Comment t) (tree.Comment u) s h g = refl
+before_standing (tree.Comment t) (tree.Construct d c) s h g = refl
+before_standing (tree.Construct d c) (tree.Comment t) s h g = refl
+before_standing (tree.Construct d c) (tree.Construct e b) s h g = refl
 before_standing tree.Newline i s h g = absurd h
 before_standing j tree.Newline s h g = absurd g
 
@@ -68,7 +58,7 @@ module _ (indentation : List ℕ) where
   abbrev tail_text : Gap → Shape → List ℕ
   tail_text gap items = front_text indentation gap items ++ codes "\n"
 
-  -- behind the items that stand before: the normal rest, with no line end, one or two before it
+  -- after the items that stand before: the normal rest, with no line end, one or two before it
   record Tails (s : Shape) : Type 0 where
     start : text (normal_rest s) indentation ≡ tail_text Start s
     behind : (i : ItemShape) → Standing i → item_end i (normal_rest s) ++ text (normal_rest s) indentation ≡ tail_text Item s
@@ -110,9 +100,8 @@ module _ (indentation : List ℕ) where
     line = t.blank;
     blank = ap (λ l. text l indentation) (thrice (normal_rest s)) ∙ t.blank;
   }
-  tails (tree.Assignment n e ∷ s) = let t = stands (tree.Assignment n e) s tt (tails s) in record { start = t.start; behind = t.behind; line = t.line; blank = t.blank }
   tails (tree.Comment c ∷ s) = let t = stands (tree.Comment c) s tt (tails s) in record { start = t.start; behind = t.behind; line = t.line; blank = t.blank }
-  tails (tree.Recipe n b ∷ s) = let t = stands (tree.Recipe n b) s tt (tails s) in record { start = t.start; behind = t.behind; line = t.line; blank = t.blank }
+  tails (tree.Construct d c ∷ s) = let t = stands (tree.Construct d c) s tt (tails s) in record { start = t.start; behind = t.behind; line = t.line; blank = t.blank }
 
   -- the text of the normal shape, from left to right
   pub normal_text : (s : Shape) → front_text indentation Start s ++ end_text s ≡ text (normal s) indentation
@@ -149,13 +138,13 @@ module _ (indentation : List ℕ) {X : Type 0} (v : X → ItemShape) (xs : List 
   next_text_is : front i ++ step_text indentation (gap_at i) (v x) ≡ front (i + 1)
   next_text_is = sym (ap (front_text indentation Start) more_items ∙ front-snoc indentation Start (map v (take i xs)) (v x))
 
-  -- and what is behind it
+  -- and what follows it
   whole_text_is : front (i + 1) ++ front_text indentation (gap_at (i + 1)) (map v (drop (i + 1) xs)) ≡ front_text indentation Start (map v xs)
   whole_text_is =
       sym (front-append indentation Start (map v (take (i + 1) xs)) (map v (drop (i + 1) xs)))
       ∙ ap (front_text indentation Start) (sym (map-append v (take (i + 1) xs) (drop (i + 1) xs)) ∙ ap (map v) (take-append-drop (i + 1) xs))
 
-  -- the same of what a sink took, or failed to take
+  -- what a sink took, or failed to take, of the next item
   module _ {S : Type 0} (took failed : S → List ℕ → S → Type 0)
       (more : (a b c : S) (xs ys : List ℕ) → took a xs b → took b ys c → took a (xs ++ ys) c)
       (later : (a b c : S) (xs ys : List ℕ) → took a xs b → failed b ys c → failed a (xs ++ ys) c)

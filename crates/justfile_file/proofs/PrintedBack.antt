@@ -10,12 +10,12 @@ use Rattle.justfile_file.specs.PrintsBack.{PrintsBack}
 
 pub prints_back : (shape : Shape) (indentation bytes : List ℕ) → IsIndentation indentation → bytes ≡ printed shape indentation → PrintsBack shape indentation bytes
 prints_back shape indentation bytes is e = record {
-  reads_back = λ expander current source tree features derives same fine.
-      subst (λ (s : Shape). ReadsBack expander current s features indentation bytes) same
-      (subst (λ (b : List ℕ). ReadsBack expander current (shape_of tree) features indentation b)
+  reads_back = λ conditions source tree features derives same fine.
+      subst (λ (s : Shape). ReadsBack conditions s features indentation bytes) same
+      (subst (λ (b : List ℕ). ReadsBack conditions (shape_of tree) features indentation b)
       (ap (λ s. printed s indentation) same ∙ sym e)
-      (back expander current source tree features indentation is derives (ap printable same ∙ fine)));
-  apart = λ expander current source other tree twin features others derives same fine twins fine_too alike.
-      sym (apart expander current source other tree twin features others indentation is derives twins (ap printable same ∙ fine) fine_too
+      (back conditions source tree features indentation is derives (ap printable same ∙ fine)));
+  apart = λ conditions source other tree twin features others derives same fine twins fine_too alike.
+      sym (apart conditions source other tree twin features others indentation is derives twins (ap printable same ∙ fine) fine_too
       (ap (λ s. printed s indentation) same ∙ sym e ∙ sym alike)) ∙ ap normal same;
 }

@@ -132,7 +132,7 @@ gathered_more guards text i before after s h is new update g =
 abbrev pub IsStopped : Bool → List ℕ → List Sigil → Type 0
 IsStopped guards rest keys = (x : Sigil) (v : List ℕ) → rest ≡ byte_of x ∷ v → sigil_of guards (byte_of x) ≡ Some x → Contains keys x
 
--- two lists of sigils at the front of one text: the second ends within the first, or goes on behind it
+-- two lists of sigils at the front of one text: the second ends within the first, or goes on after it
 common_front : (a b : List Sigil) (r t : List ℕ) → map byte_of a ++ r ≡ map byte_of b ++ t
     → ((u : List Sigil) × (a ≡ b ++ u)) ⊎ ((x : Sigil) × (u : List Sigil) × (v : List ℕ) × (b ≡ a ++ x ∷ u) × (r ≡ byte_of x ∷ v))
 common_front a [] r t e = inl (a, refl)
@@ -176,12 +176,12 @@ all_of guards text i keys g stopped s =
           (common_front g.sigils w.0 (drop i text) w.1.rest (sym split ∙ w.1.begins))),
     )
 
--- the same of the keys in the end
+-- what is known of the keys in the end
 pub gathered_all : (guards : Bool) (text : List ℕ) (i : ℕ) (keys : List Sigil) → IsGathered guards text i keys → IsStopped guards (drop i text) keys
     → (result : List Sigil) → result ≡ keys → (s : Sigil) → Contains result s ↔ IsSigilOf guards text s
 gathered_all guards text i keys g stopped result e s = rw e (all_of guards text i keys g stopped s)
 
--- nothing stands behind the end
+-- nothing stands after the end
 pub stopped_at_end : (guards : Bool) (text : List ℕ) (i : ℕ) (keys : List Sigil) → length text ≤ i → IsStopped guards (drop i text) keys
 stopped_at_end guards text i keys h x v next is =
     let long = length-drop i text in

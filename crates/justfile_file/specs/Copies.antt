@@ -13,7 +13,7 @@ use Rattle.justfile_file.specs.declared.item.Item.TheVariants.{Assignment, Comme
 use Rattle.justfile_file.specs.declared.line.Line.{Line}
 use Rattle.justfile_file.specs.declared.recipe.UnresolvedRecipe.{UnresolvedRecipe}
 
--- the same fields
+-- the copy of an assignment has its fields
 pub record IsSameAssignment (copy original : Binding Expression) : Type 0 where
   pub file_depth : copy.file_depth ≡ original.file_depth
   pub name : copy.name ≡ original.name
@@ -22,18 +22,18 @@ pub record IsSameAssignment (copy original : Binding Expression) : Type 0 where
   pub «private» : copy.private ≡ original.private
   pub value : IsSameExpression copy.value original.value
 
--- the same case with the same fields
+-- the copy of a fragment is of its case and has its fields
 abbrev pub IsSameFragment : (copy original : Fragment) → Type 0
 IsSameFragment (Interpolation copy) (Interpolation original) = IsSameExpression copy original
 IsSameFragment (Text copy) (Text original) = copy ≡ original
 IsSameFragment _ _ = ⊥
 
--- the same fragments and the same number
+-- the copy of a line has its fragments and its number
 pub record IsSameLine (copy original : Line) : Type 0 where
   pub fragments : AllZip IsSameFragment copy.fragments.items original.fragments.items
   pub number : copy.number ≡ original.number
 
--- the same fields, and each line the same
+-- the copy of a recipe has its fields and its lines
 pub record IsSameRecipe (copy original : UnresolvedRecipe) : Type 0 where
   pub body : AllZip IsSameLine copy.body.items original.body.items
   pub file_depth : copy.file_depth ≡ original.file_depth
@@ -43,7 +43,7 @@ pub record IsSameRecipe (copy original : UnresolvedRecipe) : Type 0 where
   pub «private» : copy.private ≡ original.private
   pub shebang : copy.shebang ≡ original.shebang
 
--- the same case with the same fields
+-- the copy of an item is of its case and has its fields
 abbrev pub IsSameItem : (copy original : Item) → Type 0
 IsSameItem (Assignment copy) (Assignment original) = IsSameAssignment copy original
 IsSameItem (Comment copy) (Comment original) = copy ≡ original
@@ -51,7 +51,7 @@ IsSameItem Newline Newline = Unit {0}
 IsSameItem (Recipe copy) (Recipe original) = IsSameRecipe copy original
 IsSameItem _ _ = ⊥
 
--- the same file, in memory of its own
+-- the copy of a file has its items and its fields
 pub record IsSameAst (copy original : Ast) : Type 0 where
   pub items : AllZip IsSameItem copy.items.items original.items.items
   pub list_features : copy.list_features.items ≡ original.list_features.items

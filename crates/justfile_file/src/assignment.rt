@@ -12,7 +12,7 @@ use std::fmt;
 pub type Assignment<'src> = Binding<'src, Expression<'src>>;
 
 impl<'src> Binding<'src, Expression<'src>> {
-    /// The same assignment once more.
+    /// A copy of the assignment.
     pub fn clone(&self, alloc: Global) -> Result<Self, AllocError>
         ensures { IfOk result (λ copy. IsSameAssignment copy self.now) }
     {

@@ -49,7 +49,7 @@ impl<'src> Ast<'src> {
         are_printable(&self.items)
     }
 
-    /// The same file once more.
+    /// A copy of the file.
     pub fn clone(&self, alloc: Global) -> Result<Self, AllocError>
         ensures { IfOk result (λ copy. IsSameAst copy self.now) }
     {

@@ -1,7 +1,7 @@
 use justfile_base::{Keyed, Name, Number};
 
 /// What a name stands for.
-#[derive(Debug, Drop)]
+#[derive(Debug, Drop, PartialEq)]
 pub struct Binding<'src, V> {
     /// How many imports and modules lie between its file and the root.
     pub file_depth: u32,

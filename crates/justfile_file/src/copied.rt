@@ -3,17 +3,17 @@ ghost use Rattle.std.specs.List.{AllZip};
 
 use std::alloc::{AllocError, Global};
 
-/// What can be made once more.
+/// What can be copied.
 pub(crate) trait Copied: Drop {
     /// Whether the first value is a copy of the second.
     ghost is_copy: { Self → Self → Type 0 };
 
-    /// The same value once more.
+    /// A copy of the value.
     fn copied(&self, alloc: Global) -> Result<Self, AllocError>
         ensures { IfOk result (λ copy. is_copy copy self.now) };
 }
 
-/// The same values once more.
+/// Copies of the values.
 pub(crate) fn all_copied<T: Copied>(alloc: Global, originals: &[T]) -> Result<Vec<T>, AllocError>
     ensures { IfOk result (λ copies. AllZip T.is_copy copies.items originals.now) }
 {

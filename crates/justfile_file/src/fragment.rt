@@ -1,14 +1,15 @@
-ghost use Rattle.std.specs.Prelude.{OnOk, OnErr};
+ghost use Rattle.std.specs.Prelude.{OnOk, OnErr, ◌++◌, codes};
 ghost use Rattle.justfile_model.specs.Printing.{piece, fragment_text};
 ghost use Rattle.justfile_file.specs.Item.{fragment_shape};
 
 use crate::copied::Copied;
 use justfile_base::Token;
-use justfile_tree::{Expression, Sink, put_piece, write_expression};
+use justfile_base::interpolation::{INTERPOLATION_END, INTERPOLATION_START};
+use justfile_tree::{Expression, Sink, write_expression};
 use std::alloc::{AllocError, Global};
 
 /// A part of a body line.
-#[derive(Debug, Drop)]
+#[derive(Debug, Drop, PartialEq)]
 pub enum Fragment<'src> {
     /// An expression between `{{` and `}}`.
     Interpolation { expression: Expression<'src> },
@@ -22,7 +23,7 @@ impl<'src> Fragment<'src> {
     ghost use Rattle.justfile_file.specs.Copies.{IsSameFragment};
     ghost use Rattle.justfile_file.specs.Line.{text_of};
 
-    /// The same fragment once more.
+    /// A copy of the fragment.
     pub fn clone(&self, alloc: Global) -> Result<Self, AllocError>
         ensures { IfOk result (λ copy. IsSameFragment copy self.now) }
     {
@@ -57,6 +58,33 @@ impl Copied for Fragment<'_> {
     }
 }
 
+/// Puts two pieces of text, one after the other.
+fn put_pair<S: Sink>(first: &str, second: &str, sink: &mut S) -> Result<(), S::Fault>
+    ensures ok { OnOk result (S.took sink.old (first.now ++ second.now) sink.new) }
+    ensures err { OnErr result (S.failed sink.old (first.now ++ second.now) sink.new) }
+{
+    sink.put(first)?;
+    sink.put(second)
+}
+
+/// Puts the braces before an expression, and a space.
+#[tactic(auto, unfolding(justfile_model::specs::Printing::piece))]
+fn write_interpolation_start<S: Sink>(sink: &mut S) -> Result<(), S::Fault>
+    ensures ok { OnOk result (S.took sink.old (piece (codes "{{ ")) sink.new) }
+    ensures err { OnErr result (S.failed sink.old (piece (codes "{{ ")) sink.new) }
+{
+    put_pair(INTERPOLATION_START, " ", sink)
+}
+
+/// Puts a space, and the braces after an expression.
+#[tactic(auto, unfolding(justfile_model::specs::Printing::piece))]
+fn write_interpolation_end<S: Sink>(sink: &mut S) -> Result<(), S::Fault>
+    ensures ok { OnOk result (S.took sink.old (piece (codes " }}")) sink.new) }
+    ensures err { OnErr result (S.failed sink.old (piece (codes " }}")) sink.new) }
+{
+    put_pair(" ", INTERPOLATION_END, sink)
+}
+
 /// Puts the text of a fragment.
 pub(crate) fn write_fragment<S: Sink>(fragment: &Fragment<'_>, sink: &mut S) -> Result<(), S::Fault>
     ensures ok { OnOk result (S.took sink.old (fragment_text (fragment_shape fragment.now)) sink.new) }
@@ -64,10 +92,9 @@ pub(crate) fn write_fragment<S: Sink>(fragment: &Fragment<'_>, sink: &mut S) -> 
 {
     match fragment {
         Fragment::Interpolation { expression } => {
-            put_piece("{{ ", sink)?;
+            write_interpolation_start(sink)?;
             write_expression(expression, sink)?;
-            put_piece(" }}", sink)?;
-            Ok(())
+            write_interpolation_end(sink)
         }
         Fragment::Text { token } => sink.put(token.lexeme()),
     }

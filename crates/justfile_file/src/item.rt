@@ -28,7 +28,7 @@ impl<'src> Item<'src> {
     ghost use Rattle.justfile_file.specs.Copies.{IsSameItem};
     ghost use Rattle.justfile_file.specs.Item.{item_of};
 
-    /// The same item once more.
+    /// A copy of the item.
     pub fn clone(&self, alloc: Global) -> Result<Self, AllocError>
         ensures { IfOk result (λ copy. IsSameItem copy self.now) }
     {
@@ -97,8 +97,8 @@ pub(crate) fn write_item<S: Sink>(
     }
 }
 
-/// Puts what is printed of an item behind a gap: a line end waits for the item that follows it.
-/// Answers the gap behind the item.
+/// Puts what is printed of an item after a gap: a line end waits for the item that follows it.
+/// Answers the gap after the item.
 pub(crate) fn write_step<S: Sink>(
     item: &Item<'_>,
     indentation: Indentation,

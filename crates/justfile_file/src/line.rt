@@ -17,7 +17,7 @@ use std::alloc::{AllocError, Global};
 use std::collections::BTreeSet;
 
 /// A line of a recipe's body.
-#[derive(Debug, Drop)]
+#[derive(Debug, Drop, PartialEq)]
 pub struct Line<'src> {
     pub fragments: Vec<Fragment<'src>>,
     /// The line of the source that it stands on, from 0.
@@ -25,7 +25,7 @@ pub struct Line<'src> {
 }
 
 impl<'src> Line<'src> {
-    /// The same line once more.
+    /// A copy of the line.
     pub fn clone(&self, alloc: Global) -> Result<Self, AllocError>
         ensures { IfOk result (λ copy. IsSameLine copy self.now) }
     {

@@ -32,7 +32,7 @@ pub struct UnresolvedRecipe<'src> {
 }
 
 impl<'src> UnresolvedRecipe<'src> {
-    /// The same recipe once more.
+    /// A copy of the recipe.
     pub fn clone(&self, alloc: Global) -> Result<Self, AllocError>
         ensures { IfOk result (λ copy. IsSameRecipe copy self.now) }
     {

@@ -2,8 +2,8 @@
 use Rattle.std.specs.Prelude.{◌≡◌, ◌≢◌, ℕ, true, false, List, Option, Some, Ok, codes}
 use Rattle.std.specs.Str.{IsUtf8}
 use Rattle.std.specs.Io.KnownBytes.{Appends}
+use Rattle.justfile_model.specs.Conditions.{Conditions}
 use Rattle.justfile_model.specs.Features.{Noted}
-use Rattle.justfile_model.specs.Files.{VersionNumbers}
 use Rattle.justfile_model.specs.Literals.{Answers}
 use Rattle.justfile_model.specs.Printing.{printable}
 use Rattle.justfile_model.specs.Tok.{Tok}
@@ -11,33 +11,34 @@ use Rattle.justfile_model.specs.Tree.{Tree, shape_of}
 use Rattle.justfile_file.specs.Ast.{features_of, tree_of}
 use Rattle.justfile_file.specs.declared.ast.Ast.{Ast}
 use Rattle.justfile_canon.specs.RoundTrip.{TextDerives, printed}
+use Rattle.justfile_parse.specs.Conditions.{depth_limit}
 
 -- the expander that leaves each text as it is
 abbrev pub unchanged : Answers
 unchanged text = Some (Ok text)
 
--- the version of the language
-abbrev pub current : VersionNumbers
-current = record { major = 1; minor = 58; patch = 0 }
+-- the limit of depth, that expander, and the version of the language
+abbrev pub conditions : Conditions
+conditions = record { limit = depth_limit; expander = unchanged; current = record { major = 1; minor = 58; patch = 0 } }
 
 -- the text is a justfile that can be printed, and this is its canonical text, with four spaces before the lines of bodies
 pub record IsFormatted (source canonical : List ℕ) : Type 0 where
   pub tree : Tree
   pub features : List (Noted Tok)
-  pub derives : TextDerives unchanged current source tree features
+  pub derives : TextDerives conditions source tree features
   pub can_be_printed : printable (shape_of tree) ≡ true
   pub is : canonical ≡ printed (shape_of tree) (codes "    ")
 
 -- the bytes are a text that is no justfile
 pub record IsRefused (source : List ℕ) : Type 0 where
   pub utf8 : IsUtf8 source
-  pub derives_none : (tree : Tree) (features : List (Noted Tok)) → TextDerives unchanged current source tree features → ⊥
+  pub derives_none : (tree : Tree) (features : List (Noted Tok)) → TextDerives conditions source tree features → ⊥
 
 -- the text is a justfile, and a line of a body ends in a carriage return
 pub record IsUnprintable (source : List ℕ) : Type 0 where
   pub tree : Tree
   pub features : List (Noted Tok)
-  pub derives : TextDerives unchanged current source tree features
+  pub derives : TextDerives conditions source tree features
   pub cannot_be_printed : printable (shape_of tree) ≡ false
 
 -- why bytes that are a text have no canonical text
@@ -45,7 +46,7 @@ pub data HasNone (source : List ℕ) : Type 0 where
   refused : IsRefused source → HasNone source
   unprintable : IsUnprintable source → HasNone source
 
--- the canonical text was written behind what was written before
+-- the canonical text was written after what was written before
 pub record Formats (source : List ℕ) (old new : Option (List ℕ)) : Type 0 where
   pub canonical : List ℕ
   pub formatted : IsFormatted source canonical
@@ -59,4 +60,4 @@ pub record Differs (source : List ℕ) : Type 0 where
 
 -- the file is that of the text
 pub record IsFileOf (source : List ℕ) (ast : Ast) : Type 0 where
-  pub derives : TextDerives unchanged current source (tree_of ast) (features_of ast)
+  pub derives : TextDerives conditions source (tree_of ast) (features_of ast)

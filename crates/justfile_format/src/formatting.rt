@@ -1,5 +1,6 @@
-ghost use Rattle.std.specs.Prelude.{◌≡◌, Err, IfOk, string_bytes};
+ghost use Rattle.std.specs.Prelude.{◌≡◌, Err, IfErr, IfOk, string_bytes};
 ghost use Rattle.justfile_format.specs.declared.failure.Failure.TheVariants as failures;
+ghost use Rattle.justfile_format.specs.Failure.{IsOfText};
 ghost use Rattle.justfile_format.specs.Formatting.{IsFileOf, IsFormatted, IsRefused, IsUnprintable};
 
 use crate::failure::Failure;
@@ -20,11 +21,12 @@ const CURRENT: Version = Version {
     patch: 0,
 };
 
-/// The file that a text is, read as the root file `justfile`.
-fn parsed(alloc: Global, source: &str) -> Result<Ast<'_>, Failure>
+/// Parses a text as the root file `justfile`.
+fn parse(alloc: Global, source: &str) -> Result<Ast<'_>, Failure>
     ensures ok { IfOk result (IsFileOf source.now) }
     ensures refused { result ≡ Err failures.Refused → IsRefused source.now }
     ensures printable { result ≡ Err failures.NotPrintable → ⊥ }
+    ensures err { IfErr result IsOfText }
 {
     let mut numerator = Numerator::new(0);
     let place = Source {
@@ -49,14 +51,16 @@ fn parsed(alloc: Global, source: &str) -> Result<Ast<'_>, Failure>
     }
 }
 
-/// The canonical text of a justfile. The tree is left as it is, since the program ends soon: the
-/// system takes its memory back as a whole, and node by node that takes an eighth of the time.
-pub fn formatted(alloc: Global, source: &str) -> Result<String, Failure>
+/// Formats a justfile, and answers its canonical text. The tree is left as it is, since the program
+/// ends soon: the system takes its memory back as a whole, and node by node that takes an eighth of
+/// the time.
+pub fn format_text(alloc: Global, source: &str) -> Result<String, Failure>
     ensures ok { IfOk result (λ text. IsFormatted source.now (string_bytes text)) }
     ensures refused { result ≡ Err failures.Refused → IsRefused source.now }
     ensures unprintable { result ≡ Err failures.NotPrintable → IsUnprintable source.now }
+    ensures err { IfErr result IsOfText }
 {
-    let ast = parsed(alloc, source)?;
+    let ast = parse(alloc, source)?;
     if !ast.printable() {
         return Err(Failure::NotPrintable);
     }

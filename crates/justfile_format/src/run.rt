@@ -1,13 +1,13 @@
-ghost use Rattle.std.specs.Prelude.{◌≡◌, ◌≤◌, true, false, Ok, Err, IfOk, IfErr, IfSome, OnOk};
-ghost use Rattle.std.specs.Io.KnownBytes.{Appends};
+ghost use Rattle.std.specs.Prelude.{◌≡◌, ◌≢◌, ◌≤◌, true, false, Ok, Err, IfOk, IfErr, IfSome, OnOk};
+ghost use Rattle.std.specs.Io.KnownBytes.{Appends, IsAtEnd};
 ghost use Rattle.std.specs.Str.{IsUtf8};
 ghost use Rattle.justfile_format.specs.declared.failure.Failure.TheVariants as failures;
 ghost use Rattle.justfile_format.specs.Arguments.{AsksCheck, AsksFormat};
-ghost use Rattle.justfile_format.specs.Failure.{IsNoRefusal};
+ghost use Rattle.justfile_format.specs.Failure.{IsOfReading};
 ghost use Rattle.justfile_format.specs.Formatting.{IsFormatted, IsRefused, IsUnprintable, Formats, Differs, HasNone};
 
 use crate::failure::{Failure, report};
-use crate::formatting::formatted;
+use crate::formatting::format_text;
 use std::alloc::Global;
 use std::io::{ErrorKind, Read, Write};
 use std::str;
@@ -45,10 +45,11 @@ impl Task {
     }
 }
 
-/// All that the reader gives.
+/// Reads all that the reader gives.
 fn read_all<R: Read>(alloc: Global, reader: &mut R) -> Result<Vec<u8>, Failure>
     ensures ok { IfOk result (λ bytes. IfSome (R.remaining reader.old) (λ source. bytes.items ≡ source)) }
-    ensures err { IfErr result IsNoRefusal }
+    ensures end { OnOk result (IsAtEnd (R.remaining reader.new)) }
+    ensures err { IfErr result IsOfReading }
 {
     let mut bytes = Vec::new(alloc);
     match reader.read_to_end(&mut bytes) {
@@ -58,10 +59,9 @@ fn read_all<R: Read>(alloc: Global, reader: &mut R) -> Result<Vec<u8>, Failure>
     }
 }
 
-/// The text that the bytes are.
-fn text_of(bytes: &[u8]) -> Result<&str, Failure>
+/// Decodes bytes as UTF-8.
+fn decode(bytes: &[u8]) -> Result<&str, Failure>
     ensures ok { IfOk result (λ text. text.now ≡ bytes.now) }
-    ensures err { IfErr result IsNoRefusal }
     ensures not_utf8 { IfErr result (λ e. (e ≡ failures.NotUtf8) × (IsUtf8 bytes.now → ⊥)) }
 {
     match str::from_utf8(bytes) {
@@ -70,9 +70,10 @@ fn text_of(bytes: &[u8]) -> Result<&str, Failure>
     }
 }
 
+/// Writes the text and flushes it.
 fn write_all<W: Write>(text: &str, writer: &mut W) -> Result<(), Failure>
     ensures ok { OnOk result (Appends (W.contents writer.old) (W.contents writer.new) text.now) }
-    ensures err { IfErr result IsNoRefusal }
+    ensures err { IfErr result (λ e. e ≡ failures.Writing) }
 {
     if writer.write_all(text.as_bytes()).is_err() || writer.flush().is_err() {
         return Err(Failure::Writing);
@@ -82,15 +83,20 @@ fn write_all<W: Write>(text: &str, writer: &mut W) -> Result<(), Failure>
 
 /// Writes the canonical text of what the reader gives.
 fn format<R: Read, W: Write>(alloc: Global, reader: &mut R, writer: &mut W) -> Result<(), Failure>
-    ensures ok { OnOk result (IfSome (R.remaining reader.old) (λ source. Formats source (W.contents writer.old) (W.contents writer.new))) }
+    ensures ok { OnOk result (IfSome (R.remaining reader.old)
+        (λ source. Formats source (W.contents writer.old) (W.contents writer.new))) }
     ensures refused { result ≡ Err failures.Refused → IfSome (R.remaining reader.old) IsRefused }
     ensures unprintable { result ≡ Err failures.NotPrintable → IfSome (R.remaining reader.old) IsUnprintable }
+    ensures not_utf8 { result ≡ Err failures.NotUtf8 → IfSome (R.remaining reader.old) (λ source. ¬ IsUtf8 source) }
+    ensures unread_writes_nothing { ¬ IsAtEnd (R.remaining reader.new) → writer.new ≡ writer.old }
+    ensures not_utf8_writes_nothing { IfSome (R.remaining reader.old) (λ source. ¬ IsUtf8 source → writer.new ≡ writer.old) }
     ensures writes_nothing { result ≡ Err failures.Refused → writer.new ≡ writer.old }
     ensures prints_nothing { result ≡ Err failures.NotPrintable → writer.new ≡ writer.old }
+    ensures err { IfErr result (λ e. e ≢ failures.Usage) }
 {
     let bytes = read_all(alloc, reader)?;
-    let source = text_of(&bytes)?;
-    let canonical = formatted(alloc, source)?;
+    let source = decode(&bytes)?;
+    let canonical = format_text(alloc, source)?;
     write_all(canonical.as_str(), writer)
 }
 
@@ -100,10 +106,12 @@ fn check<R: Read>(alloc: Global, reader: &mut R) -> Result<bool, Failure>
     ensures differs { result ≡ Ok false → IfSome (R.remaining reader.old) Differs }
     ensures refused { result ≡ Err failures.Refused → IfSome (R.remaining reader.old) IsRefused }
     ensures unprintable { result ≡ Err failures.NotPrintable → IfSome (R.remaining reader.old) IsUnprintable }
+    ensures not_utf8 { result ≡ Err failures.NotUtf8 → IfSome (R.remaining reader.old) (λ source. ¬ IsUtf8 source) }
+    ensures err { IfErr result (λ e. (e ≢ failures.Usage) × (e ≢ failures.Writing)) }
 {
     let bytes = read_all(alloc, reader)?;
-    let source = text_of(&bytes)?;
-    let canonical = formatted(alloc, source)?;
+    let source = decode(&bytes)?;
+    let canonical = format_text(alloc, source)?;
     Ok(source == canonical.as_str())
 }
 
@@ -122,12 +130,15 @@ pub fn run<R: Read, W: Write, E: Write>(
     ensures usage { ¬ AsksFormat arguments.now → ¬ AsksCheck arguments.now → result ≡ 3 }
     ensures usage_reads_nothing { ¬ AsksFormat arguments.now → ¬ AsksCheck arguments.now → reader.new ≡ reader.old }
 
-    ensures formatted { AsksFormat arguments.now → result ≡ 0 → IfSome (R.remaining reader.old) (λ source. Formats source (W.contents writer.old) (W.contents writer.new)) }
+    ensures formatted { AsksFormat arguments.now → result ≡ 0 → IfSome (R.remaining reader.old)
+        (λ source. Formats source (W.contents writer.old) (W.contents writer.new)) }
     ensures canonical { AsksCheck arguments.now → result ≡ 0 → IfSome (R.remaining reader.old) (λ source. IsFormatted source source) }
     ensures differs { result ≡ 1 → AsksCheck arguments.now × IfSome (R.remaining reader.old) Differs }
     ensures refused { result ≡ 2 → IfSome (R.remaining reader.old) HasNone }
 
     ensures written_asked { ¬ AsksFormat arguments.now → writer.new ≡ writer.old }
+    ensures unread_writes_nothing { ¬ IsAtEnd (R.remaining reader.new) → writer.new ≡ writer.old }
+    ensures not_utf8_writes_nothing { IfSome (R.remaining reader.old) (λ source. ¬ IsUtf8 source → writer.new ≡ writer.old) }
     ensures refused_writes_nothing { result ≡ 2 → writer.new ≡ writer.old }
     ensures silent { result ≤ 1 → errors.new ≡ errors.old }
 {

@@ -12,16 +12,16 @@ use Rattle.justfile_model.specs.Places.{line_at, column_at}
 use Rattle.justfile_model.specs.Tok.{Tok, tok_of}
 use Rattle.justfile_model.specs.Modes.{Mode, mode, after, tail_of}
 use Rattle.justfile_model.specs.Answers.{IsFrom}
-use Rattle.justfile_lex.specs.Modes.{mode_of, interpolation_by}
+use Rattle.justfile_lex.specs.Modes.{mode_of, interpolation_start_by}
 use Rattle.justfile_model.specs.LexicalFault.{Unclosed, UnterminatedInterpolation}
 use Rattle.justfile_model.specs.Next.{next, at_end_by}
 use Rattle.justfile_model.specs.Lexed.{next_of, Stands, Begins, IsFault}
-use Rattle.justfile_lex.specs.Lexing.{earlier, IsAtEnd, IsAt, IsLexing, Pushes}
+use Rattle.justfile_lex.specs.Lexing.{earlier, IsAtEnd, IsLexerToken, IsLexing, Pushes}
 
 pub earlier_push : (ts : List Token) (t : Token) → reverse (map tok_of (ts ++ t ∷ [])) ≡ tok_of t ∷ reverse (map tok_of ts)
 earlier_push ts t = ap reverse (map-append tok_of ts (t ∷ [])) ∙ reverse-append (map tok_of ts) (tok_of t ∷ [])
 
-module _ (l : Lexer) (kind : TokenKind) (len : ℕ) (t : Tok) (at : IsAt l kind len t) (fits : len ≤ length (drop l.offset l.src.now)) where
+module _ (l : Lexer) (kind : TokenKind) (len : ℕ) (t : Tok) (at : IsLexerToken l kind len t) (fits : len ≤ length (drop l.offset l.src.now)) where
   pub lexeme_len : length t.lexeme ≡ len
   lexeme_len = ap length at.lexeme_is ∙ length-take-le len (drop l.offset l.src.now) fits
 
@@ -83,7 +83,7 @@ goes_down old new kind len p end moves ne =
     moves
 
 -- the start of an open interpolation is one of the tokens
-pub interpolation_from : (path src : List ℕ) (k : TokenKind) (t : Token) (before : Option Token) → IsFrom path src t → IfSome before (IsFrom path src) → IfSome (interpolation_by k t before) (IsFrom path src)
+pub interpolation_from : (path src : List ℕ) (k : TokenKind) (t : Token) (before : Option Token) → IsFrom path src t → IfSome before (IsFrom path src) → IfSome (interpolation_start_by k t before) (IsFrom path src)
 interpolation_from path src InterpolationStart t before from h = from
 interpolation_from path src InterpolationEnd t before from h = search rules
 interpolation_from path src _ t before from h = h

@@ -1,3 +1,4 @@
+mod BraceLemmas
 pub mod LexerLemmas
 pub mod Pieces
 pub mod PlaceLemmas

@@ -3,7 +3,8 @@ use Rattle.std.proofs.Common.{◌≡◌, ℕ, zero, suc, ◌+◌, ◌-◌, ◌<�
 use Rattle.std.proofs.lemmas.Bool.Decides.{nat_tests}
 use Rattle.justfile_model.specs.LiteralText.{pieces_len}
 
-cell : (bs : List ℕ) (i : ℕ) → i < length bs → drop i bs ≡ get_or bs i 0 ∷ drop (i + 1) bs
+-- what is left from a place on is the byte there and the rest
+pub cell : (bs : List ℕ) (i : ℕ) → i < length bs → drop i bs ≡ get_or bs i 0 ∷ drop (i + 1) bs
 cell bs i l = rw (add-one, drop-cons bs i 0) refl
 
 lt_true : (n : ℕ) → 0 < n → ltb 0 n ≡ true

@@ -1,15 +1,13 @@
 -- The loop over a run of white bytes, and what a run says further on.
-use Rattle.std.proofs.Common.{◌≡◌, ℕ, ◌+◌, ◌-◌, ◌<◌, ◌≤◌, Bool, true, false, List, [], ◌∷◌, length, get_or, drop, refl, ap, subst, ◌∙◌, ⊎_elim, sym, arith, add-one, drop-cons, drop-drop, length-drop}
+use Rattle.std.proofs.Common.{◌≡◌, ℕ, ◌+◌, ◌-◌, ◌<◌, ◌≤◌, Bool, true, false, List, [], ◌∷◌, length, get_or, drop, refl, ap, subst, ◌∙◌, ⊎_elim, sym, arith, drop-drop, length-drop}
 use Rattle.std.proofs.lemmas.Bool.{cases_lt}
 use Rattle.justfile_base.specs.ByteClass.{class_of}
 use Rattle.justfile_model.specs.Bytes.{white, line_feed, closes_levels}
 use Rattle.justfile_lex.specs.declared.white_run.WhiteRun.{WhiteRun}
 use Rattle.justfile_lex.specs.WhiteRun.{IsRunOf}
+use Rattle.justfile_lex.proofs.Pieces.{cell}
 
-cell : (bs : List ℕ) (i : ℕ) → i < length bs → drop i bs ≡ get_or bs i 0 ∷ drop (i + 1) bs
-cell bs i l = rw (add-one, drop-cons bs i 0) refl
-
--- the run so far: from the front, and from each place in it, the answer is that of the rest behind it
+-- the run so far: from the front, and from each place in it, the answer is that of the rest after it
 pub record AfterWhite (bs : List ℕ) (at : ℕ) (last : Bool) : Type 0 where
   pub so_far : closes_levels false bs ≡ closes_levels last (drop at bs)
   pub inside : (i : ℕ) → i < at → closes_levels false (drop i bs) ≡ closes_levels last (drop at bs)
@@ -64,6 +62,6 @@ run_all bs at last t l i more = t.inside i (omega (arith, more, l, length-drop i
 
 -- a run that reaches past some bytes is a run of what follows them
 pub run_on : (text : List ℕ) (run : WhiteRun) (n : ℕ) → IsRunOf text run → IsRunOf (drop n text) run
-run_on text run n h i more = ap (closes_levels false) (drop-drop i n text) ∙ h (n + i) (subst (λ bs. run.behind < length bs) (drop-drop i n text) more)
+run_on text run n h i more = ap (closes_levels false) (drop-drop i n text) ∙ h (n + i) (subst (λ bs. run.rest_len < length bs) (drop-drop i n text) more)
 
 pub ruleset white_loop = (white_start, white_more, white_end, white_all)

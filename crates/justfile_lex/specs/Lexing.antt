@@ -30,7 +30,7 @@ pub record IsLexing (l : Lexer) : Type 0 where
   pub interpolation_is : IfSome l.mode.interpolation (IsFrom l.path.now l.src.now)
 
 -- the token of this kind and length at the lexer's place
-pub record IsAt (l : Lexer) (kind : TokenKind) (len : ℕ) (t : Tok) : Type 0 where
+pub record IsLexerToken (l : Lexer) (kind : TokenKind) (len : ℕ) (t : Tok) : Type 0 where
   pub kind_is : t.kind ≡ kind
   pub offset_is : t.offset ≡ l.offset
   pub lexeme_is : t.lexeme ≡ slice_of l.src.now l.offset len

@@ -1,5 +1,5 @@
-pub mod Found
 pub mod Layouts
 pub mod Lexing
 pub mod Modes
+pub mod Scanned
 pub mod WhiteRun

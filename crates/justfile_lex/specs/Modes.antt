@@ -15,14 +15,14 @@ mode_of m = record {
   in_body = m.in_body;
   interpolation = option_map tok_of m.interpolation;
   line_start = m.line_start;
-  behind_f = m.behind_f;
+  behind_f = m.after_f;
 }
 
--- the start of the open interpolation, after one more token
-abbrev pub interpolation_by : TokenKind → Token → Option Token → Option Token
-interpolation_by InterpolationStart t before = Some t
-interpolation_by InterpolationEnd t before = None
-interpolation_by _ t before = before
+-- the start of the open interpolation after the next token
+abbrev pub interpolation_start_by : TokenKind → Token → Option Token → Option Token
+interpolation_start_by InterpolationStart t before = Some t
+interpolation_start_by InterpolationEnd t before = None
+interpolation_start_by _ t before = before
 
 abbrev pub interpolation_after : Token → Option Token → Option Token
-interpolation_after t before = interpolation_by t.kind t before
+interpolation_after t before = interpolation_start_by t.kind t before

@@ -1,34 +1,29 @@
-ghost use Rattle.std.specs.Prelude.{◌≡◌, ◌+◌, ◌<◌, ◌≤◌, ◌||◌, ◌&&◌, ◌==◌, nat_eq, false, length, take, drop, slice_index, MatchOption};
+ghost use Rattle.std.specs.Prelude.{◌≡◌, ◌+◌, ◌<◌, ◌≤◌, ◌||◌, ◌&&◌, ◌==◌, nat_eq, false, length, take, drop, MatchOption};
 ghost use Rattle.std.specs.List.{prefix_len, list_any, starts_with};
 ghost use Rattle.std.specs.Str.{IsCharBoundary};
-ghost use Rattle.justfile_model.specs.Bytes.{blank, in_word, white, line_feed, is_blank, is_word, blank_len, word_len, is_line_end, is_interpolation_start, is_interpolation_end, is_interpolation_escape, is_mixed, first_char};
+ghost use Rattle.justfile_model.specs.Bytes.{blank, in_word, white, line_feed, blank_len, word_len, is_line_end, is_interpolation_start, is_interpolation_end, is_interpolation_escape, is_mixed, first_char};
 
 use justfile_base::ByteClass;
 use justfile_base::byte_class::byte_class;
-
-/// The byte at a place, and 0 past the end.
-pub(crate) fn byte_at(bytes: &[u8], at: usize) -> u8
-    ensures { result ≡ slice_index bytes.now at }
-{
-    if at < bytes.len() { bytes[at] } else { 0 }
-}
+use justfile_base::bytes::byte_at;
+use justfile_base::interpolation::{INTERPOLATION_END, INTERPOLATION_ESCAPE, INTERPOLATION_START};
 
 /// What follows the first bytes.
-pub(crate) fn after(bytes: &[u8], count: usize) -> &[u8]
+pub(crate) fn skip(bytes: &[u8], count: usize) -> &[u8]
     ensures { result.now ≡ drop count bytes.now }
 {
     &bytes[count.min(bytes.len())..]
 }
 
-/// Whether it is a space or a tab.
-fn blank(class: ByteClass) -> bool
+/// Whether a byte of the class is a space or a tab.
+fn is_blank(class: ByteClass) -> bool
     ensures { result ≡ blank class }
 {
     matches!(class, ByteClass::Blank)
 }
 
-/// Whether it may stand in an identifier, behind its first byte.
-fn in_word(class: ByteClass) -> bool
+/// Whether a byte of the class may stand in an identifier after its first byte.
+fn is_word(class: ByteClass) -> bool
     ensures { result ≡ in_word class }
 {
     matches!(
@@ -37,8 +32,8 @@ fn in_word(class: ByteClass) -> bool
     )
 }
 
-/// Whether it is a space, a tab, a carriage return or a line feed.
-pub(crate) fn white(class: ByteClass) -> bool
+/// Whether a byte of the class is a space, a tab, a carriage return or a line feed.
+pub(crate) fn is_white(class: ByteClass) -> bool
     ensures { result ≡ white class }
 {
     matches!(
@@ -47,37 +42,31 @@ pub(crate) fn white(class: ByteClass) -> bool
     )
 }
 
-/// Whether it is a line feed.
-pub(crate) fn line_feed(class: ByteClass) -> bool
+/// Whether a byte of the class is a line feed.
+pub(crate) fn is_line_feed(class: ByteClass) -> bool
     ensures { result ≡ line_feed class }
 {
     matches!(class, ByteClass::LineFeed)
-}
-
-fn is_blank(byte: u8) -> bool
-    ensures { result ≡ is_blank byte }
-{
-    blank(byte_class(byte))
-}
-
-fn is_word(byte: u8) -> bool
-    ensures { result ≡ is_word byte }
-{
-    in_word(byte_class(byte))
 }
 
 /// How many blanks are at the front.
 pub(crate) fn blank_len(bytes: &[u8]) -> usize
     ensures { result ≡ blank_len bytes.now }
 {
-    bytes.iter().take_while(|b| is_blank(**b)).count()
+    bytes
+        .iter()
+        .take_while(|byte| is_blank(byte_class(**byte)))
+        .count()
 }
 
 /// How many bytes at the front may stand in an identifier.
 pub(crate) fn word_len(bytes: &[u8]) -> usize
     ensures { result ≡ word_len bytes.now }
 {
-    bytes.iter().take_while(|b| is_word(**b)).count()
+    bytes
+        .iter()
+        .take_while(|byte| is_word(byte_class(**byte)))
+        .count()
 }
 
 /// Whether a line end is at the front.
@@ -88,41 +77,45 @@ pub(crate) fn is_line_end(bytes: &[u8]) -> bool
 }
 
 /// Whether two opening braces are at the front.
+#[tactic(auto, using(crate::proofs::BraceLemmas::opening_braces))]
 pub(crate) fn is_interpolation_start(bytes: &[u8]) -> bool
     ensures { result ≡ is_interpolation_start bytes.now }
 {
-    byte_at(bytes, 0) == b'{' && byte_at(bytes, 1) == b'{'
+    begins_with(bytes, INTERPOLATION_START.as_bytes())
 }
 
 /// Whether two closing braces are at the front.
+#[tactic(auto, using(crate::proofs::BraceLemmas::closing_braces))]
 pub(crate) fn is_interpolation_end(bytes: &[u8]) -> bool
     ensures { result ≡ is_interpolation_end bytes.now }
 {
-    byte_at(bytes, 0) == b'}' && byte_at(bytes, 1) == b'}'
+    begins_with(bytes, INTERPOLATION_END.as_bytes())
 }
 
 /// Whether four opening braces are at the front, which are text.
+#[tactic(auto, using(crate::proofs::BraceLemmas::escaped_braces))]
 pub(crate) fn is_interpolation_escape(bytes: &[u8]) -> bool
     ensures { result ≡ is_interpolation_escape bytes.now }
 {
-    is_interpolation_start(bytes) && is_interpolation_start(after(bytes, 2))
+    begins_with(bytes, INTERPOLATION_ESCAPE.as_bytes())
 }
 
-fn has(bytes: &[u8], byte: u8) -> bool
+/// Whether the byte is among the bytes.
+fn contains_byte(bytes: &[u8], byte: u8) -> bool
     ensures { result ≡ list_any (λ b. b == byte) bytes.now }
 {
-    bytes.iter().any(|b| *b == byte)
+    bytes.iter().any(|other| *other == byte)
 }
 
-/// Whether spaces and tabs are mixed.
+/// Whether both a space and a tab are among the bytes.
 pub(crate) fn is_mixed(bytes: &[u8]) -> bool
     ensures { result ≡ is_mixed bytes.now }
 {
-    has(bytes, b' ') && has(bytes, b'\t')
+    contains_byte(bytes, b' ') && contains_byte(bytes, b'\t')
 }
 
 /// Whether the text begins with these bytes.
-pub(crate) fn begins(text: &[u8], front: &[u8]) -> bool
+pub(crate) fn begins_with(text: &[u8], front: &[u8]) -> bool
     ensures { result ≡ starts_with nat_eq text.now front.now }
 {
     text.starts_with(front)
@@ -136,7 +129,7 @@ pub(crate) fn first_char(text: &str) -> Option<char>
 }
 
 /// What follows the first byte.
-pub(crate) fn behind_first(text: &str) -> &str
+pub(crate) fn skip_first(text: &str) -> &str
     requires { IsCharBoundary text.now 1 }
     ensures { result.now ≡ drop 1 text.now }
 {
@@ -144,7 +137,7 @@ pub(crate) fn behind_first(text: &str) -> &str
 }
 
 /// The first blanks of the text.
-pub(crate) fn blanks(text: &str, count: usize) -> &str
+pub(crate) fn take_blanks(text: &str, count: usize) -> &str
     requires { count ≤ blank_len text.now }
     ensures { result.now ≡ take count text.now }
 {

@@ -8,14 +8,16 @@ ghost use Rattle.justfile_model.specs.Tok.{tok_of};
 ghost use Rattle.justfile_model.specs.Lexed.{Lexed, StandsAt, end_of};
 ghost use Rattle.justfile_model.specs.Answers.{IsFrom, IsLexicalError, IsLexerFault};
 ghost use Rattle.justfile_lex.specs.Modes.{mode_of};
-ghost use Rattle.justfile_lex.specs.Found.{refused_of};
+ghost use Rattle.justfile_lex.specs.Scanned.{scan_refusal};
 
 use crate::layout;
 use crate::mode::Mode;
 use crate::place::{Place, place_after};
 use crate::refusal::Refusal;
 use crate::white_run::WhiteRun;
-use justfile_base::{CompileError, CompileErrorKind, CompileResult, Fault, Token, TokenKind};
+use justfile_base::{
+    CompileError, CompileErrorKind, CompileResult, Fault, Token, TokenKind, interpolation,
+};
 use std::alloc::{AllocError, Global};
 
 /// Cuts a text into tokens.
@@ -33,14 +35,14 @@ pub struct Lexer<'src> {
 }
 
 impl<'src> Lexer<'src> {
-    ghost use Rattle.justfile_lex.specs.Lexing.{earlier, IsLexing, Pushes, IsAt};
+    ghost use Rattle.justfile_lex.specs.Lexing.{earlier, IsLexing, Pushes, IsLexerToken};
 
     /// What begins an interpolation.
-    pub const INTERPOLATION_START: &'static str = "{{";
+    pub const INTERPOLATION_START: &'static str = interpolation::INTERPOLATION_START;
     /// What ends an interpolation.
-    pub const INTERPOLATION_END: &'static str = "}}";
+    pub const INTERPOLATION_END: &'static str = interpolation::INTERPOLATION_END;
     /// What stands in text for two opening braces.
-    pub const INTERPOLATION_ESCAPE: &'static str = "{{{{";
+    pub const INTERPOLATION_ESCAPE: &'static str = interpolation::INTERPOLATION_ESCAPE;
 
     /// The tokens of a text, in order and joined to the whole text, the empty `Eof` last. Each has
     /// this path and this source.
@@ -48,7 +50,7 @@ impl<'src> Lexer<'src> {
     /// # Errors
     ///
     /// `Compile` if the text has a lexical fault, with the first one's kind and place; `Memory` if
-    /// memory is wanting.
+    /// memory runs out.
     pub fn lex(
         alloc: Global,
         path: &'src str,
@@ -61,18 +63,18 @@ impl<'src> Lexer<'src> {
         let mut lexer = Lexer::new(alloc, path, src);
         let mut run = WhiteRun::before(src);
         'tokens: loop {
-            if let Some(start) = lexer.unclosed() {
+            if let Some(start) = lexer.unclosed_interpolation() {
                 let kind = CompileErrorKind::UnterminatedInterpolation;
                 return Err(Fault::Compile(CompileError::new(start, kind)));
             }
-            match layout::next(&lexer.mode, &mut run, lexer.rest()) {
+            match layout::scan_token(&lexer.mode, &mut run, lexer.rest()) {
                 Ok((kind, length)) => {
                     lexer.push(kind, length)?;
                     if kind == TokenKind::Eof {
                         return Ok(lexer.tokens);
                     }
                 }
-                Err(refusal) => return Err(Fault::Compile(lexer.error(alloc, refusal)?)),
+                Err(refusal) => return Err(Fault::Compile(lexer.make_error(alloc, refusal)?)),
             }
         }
     }
@@ -91,6 +93,7 @@ impl<'src> Lexer<'src> {
         Self::is_identifier_start(c) || c.is_ascii_digit() || c == '-'
     }
 
+    /// The lexer at the start of a text.
     fn new(alloc: Global, path: &'src str, src: &'src str) -> Self
         ensures lexing { IsLexing result }
         ensures offset { result.offset ≡ 0 }
@@ -107,7 +110,7 @@ impl<'src> Lexer<'src> {
         }
     }
 
-    /// The text behind the tokens so far.
+    /// The text after the tokens so far.
     fn rest(&self) -> &'src str
         requires { IsCharBoundary self.now.src.now self.now.offset }
         ensures { result.now ≡ drop self.now.offset self.now.src.now }
@@ -116,7 +119,7 @@ impl<'src> Lexer<'src> {
     }
 
     /// The start of the interpolation that is open at the end of the text.
-    fn unclosed(&self) -> Option<Token<'src>>
+    fn unclosed_interpolation(&self) -> Option<Token<'src>>
         requires { IsCharBoundary self.now.src.now self.now.offset }
         ensures { MatchOption result (length (drop self.now.offset self.now.src.now) ≡ 0 → self.now.mode.interpolation ≡ None) (λ t. (length (drop self.now.offset self.now.src.now) ≡ 0) × (self.now.mode.interpolation ≡ Some t)) }
     {
@@ -128,9 +131,9 @@ impl<'src> Lexer<'src> {
     }
 
     /// A token of this kind and length at the place.
-    fn token(&self, kind: TokenKind, length: usize) -> Token<'src>
+    fn make_token(&self, kind: TokenKind, length: usize) -> Token<'src>
         requires { IsWithin self.now.src.now self.now.offset length }
-        ensures at { IsAt self.now kind length (tok_of result) }
+        ensures at { IsLexerToken self.now kind length (tok_of result) }
         ensures source { IsFrom self.now.path.now self.now.src.now result }
     {
         Token {
@@ -144,8 +147,8 @@ impl<'src> Lexer<'src> {
         }
     }
 
-    /// The bytes at which an error points, behind some others.
-    fn span(&self, skip: usize, length: usize) -> Token<'src>
+    /// The bytes at which an error points, after the bytes to skip.
+    fn make_error_token(&self, skip: usize, length: usize) -> Token<'src>
         requires lexing { IsLexing self.now }
         requires within { IsWithin self.now.src.now (self.now.offset + skip) length }
         ensures at { StandsAt self.now.src.now (end_of (earlier self.now) + skip) (tok_of result) }
@@ -167,13 +170,17 @@ impl<'src> Lexer<'src> {
     }
 
     /// The error that a refusal is here.
-    fn error(&self, alloc: Global, refusal: Refusal<'src>) -> Result<CompileError<'src>, AllocError>
+    fn make_error(
+        &self,
+        alloc: Global,
+        refusal: Refusal<'src>,
+    ) -> Result<CompileError<'src>, AllocError>
         requires lexing { IsLexing self.now }
         requires utf8 { IsUtf8 self.now.src.now }
-        requires refused { next (mode_of self.now.mode) (drop self.now.offset self.now.src.now) ≡ Err (refused_of refusal) }
+        requires refused { next (mode_of self.now.mode) (drop self.now.offset self.now.src.now) ≡ Err (scan_refusal refusal) }
         ensures { IfOk result (IsLexicalError self.now.path.now self.now.src.now) }
     {
-        let token = self.span(refusal.skip, refusal.length);
+        let token = self.make_error_token(refusal.skip, refusal.length);
         let kind = refusal.fault.into_kind(alloc)?;
         Ok(CompileError::new(token, kind))
     }
@@ -185,7 +192,7 @@ impl<'src> Lexer<'src> {
         requires found { next (mode_of self.old.mode) (drop self.old.offset self.old.src.now) ≡ Ok (kind, length) }
         ensures { OnOk result (Pushes self.old self.new kind length) }
     {
-        let token = self.token(kind, length);
+        let token = self.make_token(kind, length);
         self.mode.note(token)?;
         self.tokens.push(token)?;
         let end = self.offset + length;

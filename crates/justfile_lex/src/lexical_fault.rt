@@ -1,6 +1,6 @@
 ghost use Rattle.std.specs.Prelude.{◌≡◌, IfOk};
 ghost use Rattle.justfile_model.specs.LexicalFault.{lexical_fault_of};
-ghost use Rattle.justfile_lex.specs.Found.{fault_of};
+ghost use Rattle.justfile_lex.specs.Scanned.{scan_fault};
 
 use justfile_base::{CompileErrorKind, Delimiter};
 use std::alloc::{AllocError, Global};
@@ -42,9 +42,9 @@ pub(crate) enum LexicalFault<'src> {
 }
 
 impl<'src> LexicalFault<'src> {
-    /// The same as an error's kind. Memory is wanted for the expected characters alone.
+    /// The kind of the error that says so. Memory is needed for the expected characters alone.
     pub(crate) fn into_kind(self, alloc: Global) -> Result<CompileErrorKind<'src>, AllocError>
-        ensures { IfOk result (λ kind. lexical_fault_of kind ≡ fault_of self.entry) }
+        ensures { IfOk result (λ kind. lexical_fault_of kind ≡ scan_fault self.entry) }
     {
         Ok(match self {
             LexicalFault::EscapeEndOfFile => CompileErrorKind::EscapeEndOfFile,

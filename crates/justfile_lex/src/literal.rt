@@ -2,18 +2,20 @@ ghost use Rattle.std.specs.Prelude.{◌≡◌, ◌≤◌, ◌<◌, length};
 ghost use Rattle.justfile_base.specs.StringKind.{delimiter_len, kind_of};
 ghost use Rattle.justfile_model.specs.Next.{unterminated, is_backtick, literal_part, literal, is_same, close, format_of, format_kind, brace_by, closing};
 ghost use Rattle.justfile_lex.specs.Modes.{mode_of};
-ghost use Rattle.justfile_lex.specs.Found.{fault_of, found_of};
+ghost use Rattle.justfile_lex.specs.Scanned.{scan_fault, scan_answer};
 
-use crate::bytes::{after, is_interpolation_end, is_interpolation_start};
+use crate::bytes::{is_interpolation_end, is_interpolation_start, skip};
 use crate::lexical_fault::LexicalFault;
 use crate::mode::Mode;
 use crate::raw_text::raw_len;
-use crate::refusal::{Found, refused};
+use crate::refusal::{Scanned, refuse};
+use justfile_base::interpolation::{INTERPOLATION_END, INTERPOLATION_START};
 use justfile_base::{Delimiter, StringDelimiter, StringKind, TokenKind};
 use justfile_model::{OpenDelimiter, RawText};
 
-fn unterminated<'src>(delimiter: StringDelimiter) -> LexicalFault<'src>
-    ensures { fault_of result ≡ unterminated delimiter }
+/// The fault of a literal without an end.
+fn unterminated_fault<'src>(delimiter: StringDelimiter) -> LexicalFault<'src>
+    ensures { scan_fault result ≡ unterminated delimiter }
 {
     match delimiter {
         StringDelimiter::Backtick => LexicalFault::UnterminatedBacktick,
@@ -21,6 +23,7 @@ fn unterminated<'src>(delimiter: StringDelimiter) -> LexicalFault<'src>
     }
 }
 
+/// Whether the delimiter is made of backticks.
 fn is_backtick(delimiter: StringDelimiter) -> bool
     ensures { result ≡ is_backtick delimiter }
 {
@@ -30,36 +33,42 @@ fn is_backtick(delimiter: StringDelimiter) -> bool
 /// A literal or a part of a format string, of which the first bytes are known: the kind is `more`
 /// where an interpolation follows, else `whole`.
 #[tactic(auto, unfolding(justfile_model::specs::Next::literal_part))]
-fn literal_part<'src>(
+fn scan_literal_part<'src>(
     kind: StringKind,
     format: bool,
     opener: usize,
     more: TokenKind,
     whole: TokenKind,
     rest: &[u8],
-) -> Found<'src>
+) -> Scanned<'src>
     requires { opener ≤ length rest.now }
-    ensures { found_of result ≡ literal_part kind format opener more whole rest.now }
+    ensures { scan_answer result ≡ literal_part kind format opener more whole rest.now }
 {
-    let behind = after(rest, opener);
-    let inside = raw_len(RawText::Literal(kind, format), behind);
-    if inside == behind.len() {
-        refused(unterminated(kind.delimiter), 0, opener)
-    } else if format && is_interpolation_start(after(behind, inside)) {
-        Ok((more, opener + inside + 2))
+    let body = skip(rest, opener);
+    let inside = raw_len(
+        RawText::Literal {
+            kind,
+            is_format_string: format,
+        },
+        body,
+    );
+    if inside == body.len() {
+        refuse(unterminated_fault(kind.delimiter), 0, opener)
+    } else if format && is_interpolation_start(skip(body, inside)) {
+        Ok((more, opener + inside + INTERPOLATION_START.len()))
     } else {
         Ok((whole, opener + inside + kind.delimiter_len()))
     }
 }
 
 /// A string, a backtick, or the start of a format string.
-pub(crate) fn literal<'src>(mode: &Mode<'src>, rest: &[u8]) -> Found<'src>
+pub(crate) fn scan_literal<'src>(mode: &Mode<'src>, rest: &[u8]) -> Scanned<'src>
     requires { delimiter_len (kind_of rest.now) ≤ length rest.now }
-    ensures { found_of result ≡ literal (mode_of mode.now) rest.now }
+    ensures { scan_answer result ≡ literal (mode_of mode.now) rest.now }
 {
     let kind = StringKind::of_opening(rest);
-    let format = mode.behind_f && !is_backtick(kind.delimiter);
-    literal_part(
+    let format = mode.after_f && !is_backtick(kind.delimiter);
+    scan_literal_part(
         kind,
         format,
         kind.delimiter_len(),
@@ -69,6 +78,7 @@ pub(crate) fn literal<'src>(mode: &Mode<'src>, rest: &[u8]) -> Found<'src>
     )
 }
 
+/// Whether the two delimiters belong together. A format string has no closing one.
 fn is_same(opener: Delimiter, close: Delimiter) -> bool
     ensures { result ≡ is_same opener close }
 {
@@ -81,11 +91,15 @@ fn is_same(opener: Delimiter, close: Delimiter) -> bool
 }
 
 /// A closing delimiter, which has to match the innermost open one.
-fn close<'src>(last: Option<OpenDelimiter>, delimiter: Delimiter, kind: TokenKind) -> Found<'src>
-    ensures { found_of result ≡ close last delimiter kind }
+fn close_delimiter<'src>(
+    last: Option<OpenDelimiter>,
+    delimiter: Delimiter,
+    kind: TokenKind,
+) -> Scanned<'src>
+    ensures { scan_answer result ≡ close last delimiter kind }
 {
     match last {
-        None => refused(
+        None => refuse(
             LexicalFault::UnexpectedClosingDelimiter { close: delimiter },
             0,
             0,
@@ -94,7 +108,7 @@ fn close<'src>(last: Option<OpenDelimiter>, delimiter: Delimiter, kind: TokenKin
             if is_same(opener.delimiter, delimiter) {
                 Ok((kind, 1))
             } else {
-                refused(
+                refuse(
                     LexicalFault::MismatchedClosingDelimiter {
                         close: delimiter,
                         open_line: opener.line,
@@ -108,6 +122,7 @@ fn close<'src>(last: Option<OpenDelimiter>, delimiter: Delimiter, kind: TokenKin
     }
 }
 
+/// The kind of the literal that a format string is.
 fn format_of(delimiter: Delimiter) -> Option<StringKind>
     ensures { result ≡ format_of delimiter }
 {
@@ -128,37 +143,31 @@ fn format_kind(last: Option<OpenDelimiter>) -> Option<StringKind>
 }
 
 /// A closing brace, or two that go on with a format string.
-fn closing_brace<'src>(last: Option<OpenDelimiter>, rest: &[u8]) -> Found<'src>
+fn scan_closing_brace<'src>(last: Option<OpenDelimiter>, rest: &[u8]) -> Scanned<'src>
     requires { 0 < length rest.now }
-    ensures { found_of result ≡ brace_by (format_kind last) last rest.now }
+    ensures { scan_answer result ≡ brace_by (format_kind last) last rest.now }
 {
     match format_kind(last) {
-        None => close(last, Delimiter::Brace, TokenKind::BraceR),
-        Some(kind) => {
-            if is_interpolation_end(rest) {
-                literal_part(
-                    kind,
-                    true,
-                    2,
-                    TokenKind::FormatStringContinue,
-                    TokenKind::FormatStringEnd,
-                    rest,
-                )
-            } else {
-                close(last, Delimiter::Brace, TokenKind::BraceR)
-            }
-        }
+        Some(kind) if is_interpolation_end(rest) => scan_literal_part(
+            kind,
+            true,
+            INTERPOLATION_END.len(),
+            TokenKind::FormatStringContinue,
+            TokenKind::FormatStringEnd,
+            rest,
+        ),
+        _ => close_delimiter(last, Delimiter::Brace, TokenKind::BraceR),
     }
 }
 
 /// The token that begins with a closing delimiter, where this one is the innermost open.
-pub(crate) fn closing<'src>(last: Option<OpenDelimiter>, byte: u8, rest: &[u8]) -> Found<'src>
+pub(crate) fn scan_closer<'src>(last: Option<OpenDelimiter>, byte: u8, rest: &[u8]) -> Scanned<'src>
     requires { 0 < length rest.now }
-    ensures { found_of result ≡ closing last byte rest.now }
+    ensures { scan_answer result ≡ closing last byte rest.now }
 {
     match byte {
-        b')' => close(last, Delimiter::Paren, TokenKind::ParenR),
-        b']' => close(last, Delimiter::Bracket, TokenKind::BracketR),
-        _ => closing_brace(last, rest),
+        b')' => close_delimiter(last, Delimiter::Paren, TokenKind::ParenR),
+        b']' => close_delimiter(last, Delimiter::Bracket, TokenKind::BracketR),
+        _ => scan_closing_brace(last, rest),
     }
 }

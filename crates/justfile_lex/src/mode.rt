@@ -12,7 +12,7 @@ use std::alloc::{AllocError, Global};
 #[derive(Drop)]
 pub(crate) struct Mode<'src> {
     /// Whether the last token is the identifier `f`.
-    pub(crate) behind_f: bool,
+    pub(crate) after_f: bool,
     /// Whether a colon came since the last dedent.
     pub(crate) colon: bool,
     /// Whether the lines are those of a body.
@@ -35,7 +35,7 @@ fn contains(texts: &[&str], text: &str) -> bool
 }
 
 /// How many newlines there are.
-fn newlines(bytes: &[u8]) -> usize
+fn count_newlines(bytes: &[u8]) -> usize
     ensures { result ≡ count_by is_newline bytes.now }
 {
     bytes.iter().filter(|b| **b == b'\n').count()
@@ -58,12 +58,13 @@ impl<'src> Mode<'src> {
     ghost use Rattle.justfile_lex.specs.Modes.{mode_of, interpolation_after};
     ghost use Rattle.std.specs.Prelude.{[]};
 
+    /// The mode at the start of a text.
     pub(crate) fn new(alloc: Global) -> Self
         ensures mode { mode_of result ≡ start }
         ensures interpolation { result.interpolation ≡ None }
     {
         Mode {
-            behind_f: false,
+            after_f: false,
             colon: false,
             in_body: false,
             interpolation: None,
@@ -121,6 +122,7 @@ impl<'src> Mode<'src> {
         text.is_empty() || contains(&self.levels, text)
     }
 
+    /// Opens a delimiter that stands on the line.
     fn open(&mut self, delimiter: Delimiter, line: usize) -> Result<(), AllocError>
         ensures mode { OnOk result (mode_of self.new ≡ record (mode_of self.old) { openers = opener delimiter line ∷ (mode_of self.old).openers }) }
         ensures interpolation { self.new.interpolation ≡ self.old.interpolation }
@@ -129,6 +131,7 @@ impl<'src> Mode<'src> {
         Ok(())
     }
 
+    /// Closes the innermost delimiter.
     fn close(&mut self)
         ensures mode { mode_of self.new ≡ record (mode_of self.old) { openers = tail_of (mode_of self.old).openers } }
         ensures interpolation { self.new.interpolation ≡ self.old.interpolation }
@@ -136,6 +139,7 @@ impl<'src> Mode<'src> {
         let _ = self.openers.pop();
     }
 
+    /// Opens a level, which is a body after a colon.
     fn indent(&mut self, level: &'src str) -> Result<(), AllocError>
         ensures mode { OnOk result (mode_of self.new ≡ record (mode_of self.old) { levels = level.now ∷ (mode_of self.old).levels; in_body = (mode_of self.old).in_body || (mode_of self.old).colon }) }
         ensures interpolation { self.new.interpolation ≡ self.old.interpolation }
@@ -145,6 +149,7 @@ impl<'src> Mode<'src> {
         Ok(())
     }
 
+    /// Closes the innermost level.
     fn dedent(&mut self)
         ensures mode { mode_of self.new ≡ record (mode_of self.old) { levels = tail_of (mode_of self.old).levels; colon = false; in_body = false } }
         ensures interpolation { self.new.interpolation ≡ self.old.interpolation }
@@ -154,7 +159,7 @@ impl<'src> Mode<'src> {
         self.in_body = false;
     }
 
-    /// Takes note of one more token.
+    /// Takes note of the next token.
     pub(crate) fn note(&mut self, token: Token<'src>) -> Result<(), AllocError>
         requires { token.line ≤ token.offset }
         ensures mode { OnOk result (mode_of self.new ≡ after token.entry.kind (tok_of token.entry) (mode_of self.old)) }
@@ -162,14 +167,14 @@ impl<'src> Mode<'src> {
     {
         let line_start = self.line_start;
         self.line_start = false;
-        self.behind_f = false;
+        self.after_f = false;
         match token.kind {
             TokenKind::BraceL => self.open(Delimiter::Brace, token.line)?,
             TokenKind::BracketL => self.open(Delimiter::Bracket, token.line)?,
             TokenKind::ParenL => self.open(Delimiter::Paren, token.line)?,
             TokenKind::FormatStringStart => {
                 let bytes = token.lexeme().as_bytes();
-                let line = token.line + newlines(bytes);
+                let line = token.line + count_newlines(bytes);
                 self.open(Delimiter::FormatString(StringKind::of_opening(bytes)), line)?
             }
             TokenKind::BraceR
@@ -186,7 +191,7 @@ impl<'src> Mode<'src> {
             TokenKind::InterpolationEnd => self.interpolation = None,
             TokenKind::Eol => self.line_start = true,
             TokenKind::Whitespace => self.line_start = ends_in_newline(token.lexeme().as_bytes()),
-            TokenKind::Identifier => self.behind_f = token.lexeme() == "f",
+            TokenKind::Identifier => self.after_f = token.lexeme() == "f",
             _ => {}
         }
         Ok(())

@@ -3,10 +3,12 @@ ghost use Rattle.justfile_model.specs.declared.raw_text.RawText.TheVariants.{Lit
 ghost use Rattle.justfile_base.specs.StringKind.{quote_of};
 ghost use Rattle.justfile_model.specs.LiteralText.{is_delimiter, hides, ends, raw_len, pieces_len};
 
-use crate::bytes::{after, byte_at, is_interpolation_escape, is_interpolation_start, is_line_end};
+use crate::bytes::{is_interpolation_escape, is_interpolation_start, is_line_end, skip};
+use justfile_base::bytes::byte_at;
 use justfile_base::{StringDelimiter, StringKind};
 use justfile_model::RawText;
 
+/// The byte that the delimiter is made of.
 fn quote_of(delimiter: StringDelimiter) -> u8
     ensures { result ≡ quote_of delimiter }
 {
@@ -29,11 +31,12 @@ fn is_delimiter(kind: StringKind, rest: &[u8]) -> bool
     }
 }
 
-fn literal_hides(kind: StringKind, format: bool, rest: &[u8]) -> usize
+/// How many bytes after the first one are hidden in a literal.
+fn hidden_in_literal(kind: StringKind, format: bool, rest: &[u8]) -> usize
     ensures { result ≡ hides (Literal kind format) rest.now }
 {
     if kind.processes_escape_sequences() && byte_at(rest, 0) == b'\\' {
-        if format && is_interpolation_escape(after(rest, 1)) {
+        if format && is_interpolation_escape(skip(rest, 1)) {
             4
         } else {
             1
@@ -45,26 +48,31 @@ fn literal_hides(kind: StringKind, format: bool, rest: &[u8]) -> usize
     }
 }
 
-/// How many bytes behind the first one are hidden from the search for the end.
-fn hides(text: RawText, rest: &[u8]) -> usize
+/// How many bytes after the first one are hidden from the search for the end.
+fn hidden_len(text: RawText, rest: &[u8]) -> usize
     ensures { result ≡ hides text rest.now }
 {
     match text {
         RawText::Comment => 0,
         RawText::Body => { if is_interpolation_escape(rest) { 3 } else { 0 } }
-        RawText::Literal(kind, format) => literal_hides(kind, format, rest),
+        RawText::Literal {
+            kind,
+            is_format_string,
+        } => hidden_in_literal(kind, is_format_string, rest),
     }
 }
 
-/// Whether the end is at the front.
-fn ends(text: RawText, rest: &[u8]) -> bool
+/// Whether the end of the text is at the front.
+fn is_at_end(text: RawText, rest: &[u8]) -> bool
     ensures { result ≡ ends text rest.now }
 {
     match text {
         RawText::Comment => is_line_end(rest),
         RawText::Body => is_line_end(rest) || is_interpolation_start(rest),
-        RawText::Literal(kind, format) => is_delimiter(kind, rest)
-            || format && is_interpolation_start(rest),
+        RawText::Literal {
+            kind,
+            is_format_string,
+        } => is_delimiter(kind, rest) || is_format_string && is_interpolation_start(rest),
     }
 }
 
@@ -78,11 +86,11 @@ pub(crate) fn raw_len(text: RawText, bytes: &[u8]) -> usize
         if hidden > 0 {
             hidden -= 1;
         } else {
-            let rest = after(bytes, at);
-            let more = hides(text, rest);
+            let rest = skip(bytes, at);
+            let more = hidden_len(text, rest);
             if more > 0 {
                 hidden = more;
-            } else if ends(text, rest) {
+            } else if is_at_end(text, rest) {
                 return at;
             }
         }

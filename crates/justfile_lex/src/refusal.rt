@@ -1,6 +1,6 @@
 ghost use Rattle.std.specs.Prelude.{◌≡◌, Err};
 ghost use Rattle.justfile_model.specs.LexicalFault.{Here};
-ghost use Rattle.justfile_lex.specs.Found.{fault_of, found_of};
+ghost use Rattle.justfile_lex.specs.Scanned.{scan_fault, scan_answer};
 
 use crate::lexical_fault::LexicalFault;
 use justfile_base::TokenKind;
@@ -16,11 +16,11 @@ pub(crate) struct Refusal<'src> {
 }
 
 /// The kind and the length of the next token, in bytes.
-pub(crate) type Found<'src> = Result<(TokenKind, usize), Refusal<'src>>;
+pub(crate) type Scanned<'src> = Result<(TokenKind, usize), Refusal<'src>>;
 
-/// A fault at so many bytes of the rest, behind some others.
-pub(crate) fn refused<'src>(fault: LexicalFault<'src>, skip: usize, length: usize) -> Found<'src>
-    ensures { found_of result ≡ Err (Here (fault_of fault.entry) skip length) }
+/// A fault at so many bytes of the rest, after the bytes to skip.
+pub(crate) fn refuse<'src>(fault: LexicalFault<'src>, skip: usize, length: usize) -> Scanned<'src>
+    ensures { scan_answer result ≡ Err (Here (scan_fault fault.entry) skip length) }
 {
     Err(Refusal {
         fault,

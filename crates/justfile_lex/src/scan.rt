@@ -3,32 +3,35 @@ ghost use Rattle.std.specs.Str.{IsCharBoundary};
 ghost use Rattle.justfile_base.specs.ByteClass.{class_of};
 ghost use Rattle.justfile_model.specs.Next.{twice, fixed, opening, line_end, unknown, escape, lead, other, inline, normal, body, interpolated, inside};
 ghost use Rattle.justfile_lex.specs.Modes.{mode_of};
-ghost use Rattle.justfile_lex.specs.Found.{found_of};
+ghost use Rattle.justfile_lex.specs.Scanned.{scan_answer};
 
-use crate::bytes::{
-    after, behind_first, blank_len, byte_at, first_char, is_interpolation_end, word_len,
-};
+use crate::bytes::{blank_len, first_char, is_interpolation_end, skip, skip_first, word_len};
 use crate::lexical_fault::LexicalFault;
-use crate::literal::{closing, literal};
+use crate::literal::{scan_closer, scan_literal};
 use crate::mode::Mode;
 use crate::raw_text::raw_len;
-use crate::refusal::{Found, refused};
+use crate::refusal::{Scanned, refuse};
 use justfile_base::byte_class::byte_class;
+use justfile_base::bytes::byte_at;
+use justfile_base::interpolation::{INTERPOLATION_END, INTERPOLATION_START};
 use justfile_base::{ByteClass, TokenKind};
 use justfile_model::RawText;
 
-/// A byte that has to come twice.
-fn twice<'src>(byte: u8, kind: TokenKind, rest: &'src str) -> Found<'src>
+/// The character that may begin a file, as a token of its own.
+const BYTE_ORDER_MARK: char = '\u{feff}';
+
+/// A token of two equal bytes, of which the first is known.
+fn scan_doubled<'src>(byte: u8, kind: TokenKind, rest: &'src str) -> Scanned<'src>
     requires { IsCharBoundary rest.now 1 }
-    ensures { found_of result ≡ twice byte kind rest.now }
+    ensures { scan_answer result ≡ twice byte kind rest.now }
 {
     if byte_at(rest.as_bytes(), 1) == byte {
         return Ok((kind, 2));
     }
     let expected = char::from(byte);
-    match first_char(behind_first(rest)) {
-        None => refused(LexicalFault::UnexpectedEndOfToken { expected }, 1, 0),
-        Some(c) => refused(
+    match first_char(skip_first(rest)) {
+        None => refuse(LexicalFault::UnexpectedEndOfToken { expected }, 1, 0),
+        Some(c) => refuse(
             LexicalFault::UnexpectedCharacter { expected },
             1,
             c.len_utf8(),
@@ -38,9 +41,9 @@ fn twice<'src>(byte: u8, kind: TokenKind, rest: &'src str) -> Found<'src>
 
 /// A fixed token, but for delimiters.
 #[tactic(auto, unfolding(justfile_model::specs::Next::fixed))]
-fn fixed<'src>(byte: u8, rest: &'src str) -> Found<'src>
+fn scan_fixed<'src>(byte: u8, rest: &'src str) -> Scanned<'src>
     requires { IsCharBoundary rest.now 1 }
-    ensures { found_of result ≡ fixed byte rest.now }
+    ensures { scan_answer result ≡ fixed byte rest.now }
 {
     let second = byte_at(rest.as_bytes(), 1);
     match byte {
@@ -49,8 +52,8 @@ fn fixed<'src>(byte: u8, rest: &'src str) -> Found<'src>
             b'~' => Ok((TokenKind::BangTilde, 2)),
             _ => Ok((TokenKind::Bang, 1)),
         },
-        b'&' => twice(b'&', TokenKind::AmpersandAmpersand, rest),
-        b'|' => twice(b'|', TokenKind::BarBar, rest),
+        b'&' => scan_doubled(b'&', TokenKind::AmpersandAmpersand, rest),
+        b'|' => scan_doubled(b'|', TokenKind::BarBar, rest),
         b'+' => match second {
             b'+' => Ok((TokenKind::PlusPlus, 2)),
             _ => Ok((TokenKind::Plus, 1)),
@@ -74,8 +77,9 @@ fn fixed<'src>(byte: u8, rest: &'src str) -> Found<'src>
     }
 }
 
-fn opening<'src>(byte: u8) -> Found<'src>
-    ensures { found_of result ≡ opening byte }
+/// An opening delimiter.
+fn scan_opener<'src>(byte: u8) -> Scanned<'src>
+    ensures { scan_answer result ≡ opening byte }
 {
     match byte {
         b'(' => Ok((TokenKind::ParenL, 1)),
@@ -85,8 +89,8 @@ fn opening<'src>(byte: u8) -> Found<'src>
 }
 
 /// A line end, which is whitespace while a delimiter or an interpolation is open.
-fn line_end<'src>(mode: &Mode<'src>, length: usize) -> Found<'src>
-    ensures { found_of result ≡ line_end (mode_of mode.now) length }
+fn scan_line_end<'src>(mode: &Mode<'src>, length: usize) -> Scanned<'src>
+    ensures { scan_answer result ≡ line_end (mode_of mode.now) length }
 {
     if mode.is_nested() {
         Ok((TokenKind::Whitespace, length))
@@ -96,12 +100,12 @@ fn line_end<'src>(mode: &Mode<'src>, length: usize) -> Found<'src>
 }
 
 /// A character with which no token begins.
-fn unknown<'src>(rest: &str) -> Found<'src>
+fn refuse_character<'src>(rest: &str) -> Scanned<'src>
     requires { 0 < length rest.now }
-    ensures { found_of result ≡ unknown rest.now }
+    ensures { scan_answer result ≡ unknown rest.now }
 {
     match first_char(rest) {
-        Some(start) => refused(
+        Some(start) => refuse(
             LexicalFault::UnknownStartOfToken { start },
             0,
             start.len_utf8(),
@@ -111,93 +115,93 @@ fn unknown<'src>(rest: &str) -> Found<'src>
 }
 
 /// A backslash, which only a line end may follow.
-fn escape<'src>(rest: &str) -> Found<'src>
+fn scan_escaped_line_end<'src>(rest: &str) -> Scanned<'src>
     requires { IsCharBoundary rest.now 1 }
-    ensures { found_of result ≡ escape rest.now }
+    ensures { scan_answer result ≡ escape rest.now }
 {
     let bytes = rest.as_bytes();
     match byte_at(bytes, 1) {
-        b'\n' => Ok((TokenKind::Whitespace, 2 + blank_len(after(bytes, 2)))),
+        b'\n' => Ok((TokenKind::Whitespace, 2 + blank_len(skip(bytes, 2)))),
         b'\r' => {
             if byte_at(bytes, 2) == b'\n' {
-                Ok((TokenKind::Whitespace, 3 + blank_len(after(bytes, 3))))
+                Ok((TokenKind::Whitespace, 3 + blank_len(skip(bytes, 3))))
             } else {
-                refused(LexicalFault::UnpairedCarriageReturn, 0, 2)
+                refuse(LexicalFault::UnpairedCarriageReturn, 0, 2)
             }
         }
-        _ => match first_char(behind_first(rest)) {
-            None => refused(LexicalFault::EscapeEndOfFile, 0, 1),
-            Some(character) => refused(LexicalFault::InvalidEscapeSequence { character }, 0, 1),
+        _ => match first_char(skip_first(rest)) {
+            None => refuse(LexicalFault::EscapeEndOfFile, 0, 1),
+            Some(character) => refuse(LexicalFault::InvalidEscapeSequence { character }, 0, 1),
         },
     }
 }
 
 /// A byte order mark, or no token.
-fn lead<'src>(rest: &str) -> Found<'src>
+fn scan_multibyte<'src>(rest: &str) -> Scanned<'src>
     requires { 0 < length rest.now }
-    ensures { found_of result ≡ lead rest.now }
+    ensures { scan_answer result ≡ lead rest.now }
 {
     match first_char(rest) {
-        Some('\u{feff}') => Ok((TokenKind::ByteOrderMark, 3)),
-        _ => unknown(rest),
+        Some(BYTE_ORDER_MARK) => Ok((TokenKind::ByteOrderMark, BYTE_ORDER_MARK.len_utf8())),
+        _ => refuse_character(rest),
     }
 }
 
 /// A comment, a backslash, or no token.
-fn other<'src>(rest: &'src str) -> Found<'src>
+fn scan_other<'src>(rest: &'src str) -> Scanned<'src>
     requires { 0 < length rest.now }
-    ensures { found_of result ≡ other rest.now }
+    ensures { scan_answer result ≡ other rest.now }
 {
     let bytes = rest.as_bytes();
     match byte_at(bytes, 0) {
         b'#' => Ok((TokenKind::Comment, raw_len(RawText::Comment, bytes))),
-        b'\\' => escape(rest),
-        _ => unknown(rest),
+        b'\\' => scan_escaped_line_end(rest),
+        _ => refuse_character(rest),
     }
 }
 
 /// The next token outside body text, by the class of its first byte.
 #[tactic(auto, unfolding(justfile_model::specs::Next::inline))]
-fn inline<'src>(mode: &Mode<'src>, class: ByteClass, rest: &'src str) -> Found<'src>
+fn scan_by_class<'src>(mode: &Mode<'src>, class: ByteClass, rest: &'src str) -> Scanned<'src>
     requires some { 0 < length rest.now }
     requires class { class ≡ class_of (slice_index rest.now 0) }
-    ensures { found_of result ≡ inline (mode_of mode.now) class rest.now }
+    ensures { scan_answer result ≡ inline (mode_of mode.now) class rest.now }
 {
     let bytes = rest.as_bytes();
     let first = byte_at(bytes, 0);
     match class {
         ByteClass::Blank => Ok((TokenKind::Whitespace, blank_len(bytes))),
-        ByteClass::LineFeed => line_end(mode, 1),
+        ByteClass::LineFeed => scan_line_end(mode, 1),
         ByteClass::CarriageReturn => {
             if byte_at(bytes, 1) == b'\n' {
-                line_end(mode, 2)
+                scan_line_end(mode, 2)
             } else {
-                refused(LexicalFault::UnpairedCarriageReturn, 0, 1)
+                refuse(LexicalFault::UnpairedCarriageReturn, 0, 1)
             }
         }
         ByteClass::IdentifierStart => Ok((TokenKind::Identifier, word_len(bytes))),
-        ByteClass::IdentifierContinue => unknown(rest),
-        ByteClass::Quote => literal(mode, bytes),
-        ByteClass::Opener => opening(first),
-        ByteClass::Closer => closing(mode.opener(), first, bytes),
-        ByteClass::Fixed => fixed(first, rest),
-        ByteClass::Lead => lead(rest),
-        ByteClass::Other => other(rest),
+        ByteClass::IdentifierContinue => refuse_character(rest),
+        ByteClass::Quote => scan_literal(mode, bytes),
+        ByteClass::Opener => scan_opener(first),
+        ByteClass::Closer => scan_closer(mode.opener(), first, bytes),
+        ByteClass::Fixed => scan_fixed(first, rest),
+        ByteClass::Lead => scan_multibyte(rest),
+        ByteClass::Other => scan_other(rest),
     }
 }
 
 /// The next token outside body text.
-fn normal<'src>(mode: &Mode<'src>, rest: &'src str) -> Found<'src>
+fn scan_outside_text<'src>(mode: &Mode<'src>, rest: &'src str) -> Scanned<'src>
     requires { 0 < length rest.now }
-    ensures { found_of result ≡ normal (mode_of mode.now) rest.now }
+    ensures { scan_answer result ≡ normal (mode_of mode.now) rest.now }
 {
-    inline(mode, byte_class(byte_at(rest.as_bytes(), 0)), rest)
+    scan_by_class(mode, byte_class(byte_at(rest.as_bytes(), 0)), rest)
 }
 
 /// The next token of a body, outside interpolations.
 #[tactic(auto, unfolding(justfile_model::specs::Next::body))]
-fn body<'src>(bytes: &[u8]) -> Found<'src>
-    ensures { found_of result ≡ body bytes.now }
+fn scan_body<'src>(bytes: &[u8]) -> Scanned<'src>
+    ensures { scan_answer result ≡ body bytes.now }
 {
     let length = raw_len(RawText::Body, bytes);
     if length > 0 {
@@ -207,35 +211,35 @@ fn body<'src>(bytes: &[u8]) -> Found<'src>
     } else if byte_at(bytes, 0) == b'\r' {
         Ok((TokenKind::Eol, 2))
     } else {
-        Ok((TokenKind::InterpolationStart, 2))
+        Ok((TokenKind::InterpolationStart, INTERPOLATION_START.len()))
     }
 }
 
 /// The next token of an interpolation.
-fn interpolated<'src>(mode: &Mode<'src>, rest: &'src str) -> Found<'src>
+fn scan_interpolation<'src>(mode: &Mode<'src>, rest: &'src str) -> Scanned<'src>
     requires { 0 < length rest.now }
-    ensures { found_of result ≡ interpolated (mode_of mode.now) rest.now }
+    ensures { scan_answer result ≡ interpolated (mode_of mode.now) rest.now }
 {
     if mode.nothing_open() && is_interpolation_end(rest.as_bytes()) {
-        Ok((TokenKind::InterpolationEnd, 2))
+        Ok((TokenKind::InterpolationEnd, INTERPOLATION_END.len()))
     } else {
-        normal(mode, rest)
+        scan_outside_text(mode, rest)
     }
 }
 
 /// The next token, layout aside.
 #[tactic(auto, unfolding(justfile_model::specs::Next::inside))]
-pub(crate) fn inside<'src>(mode: &Mode<'src>, rest: &'src str) -> Found<'src>
+pub(crate) fn scan_within_line<'src>(mode: &Mode<'src>, rest: &'src str) -> Scanned<'src>
     requires { 0 < length rest.now }
-    ensures { found_of result ≡ inside (mode_of mode.now) rest.now }
+    ensures { scan_answer result ≡ inside (mode_of mode.now) rest.now }
 {
     match mode.interpolation {
-        Some(_) => interpolated(mode, rest),
+        Some(_) => scan_interpolation(mode, rest),
         None => {
             if mode.in_body {
-                body(rest.as_bytes())
+                scan_body(rest.as_bytes())
             } else {
-                normal(mode, rest)
+                scan_outside_text(mode, rest)
             }
         }
     }

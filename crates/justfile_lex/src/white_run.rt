@@ -1,15 +1,16 @@
 ghost use Rattle.std.specs.Prelude.{◌≡◌, false};
 ghost use Rattle.justfile_model.specs.Bytes.{white, line_feed, closes_levels};
 
-use crate::bytes::{byte_at, line_feed, white};
+use crate::bytes::{is_line_feed, is_white};
 use justfile_base::byte_class::byte_class;
+use justfile_base::bytes::byte_at;
 
 /// The run of white bytes that was looked at last. Levels close before each of its blank lines or
 /// before none, so one look serves them all, and lexing stays linear in the text.
 #[derive(Clone, Copy, Debug)]
 pub(crate) struct WhiteRun {
-    /// How many bytes of the text are behind it.
-    behind: usize,
+    /// How many bytes of the text come after it.
+    rest_len: usize,
     /// Whether levels close before its blank lines.
     closes: bool,
 }
@@ -22,30 +23,30 @@ impl WhiteRun {
         ensures { IsRunOf text.now result }
     {
         WhiteRun {
-            behind: text.len(),
+            rest_len: text.len(),
             closes: false,
         }
     }
 
-    /// The run at the front.
+    /// Reads the run at the front.
     #[tactic(auto, using(crate::proofs::WhiteRunLemmas::white_loop))]
-    fn at_front(bytes: &[u8]) -> Self
+    fn read_front(bytes: &[u8]) -> Self
         ensures run { IsRunOf bytes.now result }
         ensures closes { result.closes ≡ closes_levels false bytes.now }
     {
         let mut closes = false;
         for at in 0..bytes.len() {
             let class = byte_class(byte_at(bytes, at));
-            if !white(class) {
+            if !is_white(class) {
                 return WhiteRun {
-                    behind: bytes.len() - at,
+                    rest_len: bytes.len() - at,
                     closes,
                 };
             }
-            closes = line_feed(class);
+            closes = is_line_feed(class);
         }
         WhiteRun {
-            behind: 0,
+            rest_len: 0,
             closes: false,
         }
     }
@@ -57,8 +58,8 @@ impl WhiteRun {
         ensures answer { result ≡ closes_levels false rest.now }
         ensures run { IsRunOf rest.now self.new }
     {
-        if rest.len() <= self.behind {
-            *self = WhiteRun::at_front(rest);
+        if rest.len() <= self.rest_len {
+            *self = WhiteRun::read_front(rest);
         }
         self.closes
     }

@@ -1,72 +1,99 @@
 -- The reader and the grammar agree.
-use Rattle.std.proofs.Common.{◌≡◌, ◌⊎◌, ℕ, Bool, IsTrue, List, map, Option, Result, Ok, Err, sym, ap, ◌∙◌, inl, inr}
+use Rattle.std.proofs.Common.{◌≡◌, ◌⊎◌, ℕ, Bool, IsTrue, List, [], Option, Some, Result, Ok, Err, refl, sym, ap, ◌∙◌, inl, inr}
+use Rattle.justfile_model.specs.Conditions.{Conditions}
 use Rattle.justfile_model.specs.SignificantTokens.{SignificantToken}
 use Rattle.justfile_model.specs.Tok.{Tok}
-use Rattle.justfile_model.specs.Tree.{Tree, lexeme, itself, line_of}
+use Rattle.justfile_model.specs.Tree.{Tree, WrittenTree}
 use Rattle.justfile_model.specs.Features.{Noted}
-use Rattle.justfile_model.specs.Expressions.{Tokens, Limited, Free, Waived}
+use Rattle.justfile_model.specs.Expressions.{Tokens, Under, Free, Waived}
 use Rattle.justfile_model.specs.Grammar.{File}
-use Rattle.justfile_model.specs.Literals.{Literal, over_literal, Answers, Cooks}
-use Rattle.justfile_model.specs.Files.{VersionNumbers, literals, FileTree, FileDerives}
+use Rattle.justfile_model.specs.Literals.{Literal}
+use Rattle.justfile_model.specs.Files.{FileDerives, FileTree, Obeys, all_literals, keeps_tokens, ordered}
 use Rattle.justfile_model.specs.Reading.{TooDeep}
 use Rattle.justfile_model.specs.TreeReader.{Refusal, file}
 use Rattle.justfile_model.specs.Refusals.{IsDue}
 use Rattle.justfile_model.proofs.CookedTexts.{AllCook, all_cook, texts_of}
 use Rattle.justfile_model.proofs.Complete.{file_reached}
 use Rattle.justfile_model.proofs.Depth.{file_loosened}
-use Rattle.justfile_model.proofs.Reaching.{Reaches, is_read, is_refused, lacks_none, only_read, only_due, kept, dropped}
+use Rattle.justfile_model.proofs.Ordered.{file_ordered, plainly}
+use Rattle.justfile_model.proofs.Reaching.{DueOf, Reaches, is_read, is_refused, lacks_none, only_read, only_due, kept, dropped}
 use Rattle.justfile_model.proofs.Sound.{file_at}
 
-ok_inside : (a b : Tree × List (Noted Tok)) → ◌≡◌ {A = Result (Tree × List (Noted Tok)) Refusal} (Ok a) (Ok b) → a ≡ b
+-- a written tree with its features, as the reader gives it
+abbrev Found : Type 0
+Found = WrittenTree × List (Noted Tok)
+
+ok_inside : (a b : Found) → ◌≡◌ {A = Result Found Refusal} (Ok a) (Ok b) → a ≡ b
 ok_inside a b h = cc
 
-module _ (expander : Answers) where
-  module _ (current : VersionNumbers) (tokens : Tokens) where
-    pub sound : (tree : Tree) (features : List (Noted Tok)) → file expander tokens ≡ Ok (tree, features) → FileDerives expander current tokens tree features
-    sound tree features is =
-        let found = file_at expander tokens (tree, features) is in
-        let texts = texts_of expander (literals tree) found.cooks in
-        record { derives = found.derives; cooked = texts.0; cooks = texts.1 }
+same_meaning : {written other : WrittenTree} {tree twin : Tree} → written ≡ other → ordered written ≡ Some tree → ordered other ≡ Some twin → tree ≡ twin
+same_meaning {written} {other} same h k = let e = ap ordered same in cc
 
-    pub complete : (tree : Tree) (features : List (Noted Tok)) → FileDerives expander current tokens tree features → file expander tokens ≡ Ok (tree, features)
-    complete tree features h =
-        only_read expander (all_cook expander (literals tree) h.cooked h.cooks)
-        (file_reached expander (λ at. ⊥) (file_loosened Limited (Waived (λ at. ⊥)) kept itself itself line_of h.derives))
-
-    pub one_tree : (tree other : Tree) (features others : List (Noted Tok)) → FileDerives expander current tokens tree features → FileDerives expander current tokens other others → (tree ≡ other) × (features ≡ others)
-    one_tree tree other features others h q =
-        let same = ok_inside (tree, features) (other, others) (sym (complete tree features h) ∙ complete other others q) in
-        (ap (λ p. p.0) same, ap (λ p. p.1) same)
-
+module _ (conditions : Conditions) where
   -- it is read where each literal has a text, or too deep at a token where the limit is waived
-  read_or_deep : (Hit : Option SignificantToken → Type 0) (found : Result (Tree × List (Noted Tok)) Refusal) (x : Tree × List (Noted Tok)) (ls : List (Literal Tok)) → AllCook expander ls → Reaches expander Hit found x ls
+  read_or_deep : (Hit : Option SignificantToken → Type 0) (found : Result Found Refusal) (x : Found) (ls : List (Literal Tok)) → AllCook conditions.expander ls → Reaches conditions Hit found x ls
       → (found ≡ Ok x) ⊎ ((at : Option SignificantToken) × Hit at × (found ≡ Err (TooDeep at)))
   read_or_deep Hit found x ls a (is_read b is) = inl is
-  read_or_deep Hit found x ls a (is_refused (inl h) is) = absurd (lacks_none expander ls _ a h)
+  read_or_deep Hit found x ls a (is_refused (inl h) is) = absurd (lacks_none conditions ls _ a h)
   read_or_deep Hit found x ls a (is_refused (inr h) is) = inr (h.token, h.hit, is ∙ ap (λ r. Err r) h.refusal_is)
 
-  module _ (tokens : Tokens) (tree : Tree) (features : List (Noted Tok)) where
-    -- where the limit is waived at some tokens
-    module _ (Hit : Option SignificantToken → Bool) (h : File itself itself line_of (Waived (λ at. IsTrue (Hit at))) tree features tokens) where
-      pub deep : (cooked : List (List ℕ)) → Cooks expander (map (over_literal lexeme) (literals tree)) cooked
-          → (file expander tokens ≡ Ok (tree, features)) ⊎ ((at : Option SignificantToken) × IsTrue (Hit at) × (file expander tokens ≡ Err (TooDeep at)))
-      deep cooked cooks = read_or_deep (λ at. IsTrue (Hit at)) (file expander tokens) (tree, features) (literals tree) (all_cook expander (literals tree) cooked cooks) (file_reached expander (λ at. IsTrue (Hit at)) h)
+  -- as no rule is broken
+  is_due : (Hit : Option SignificantToken → Type 0) (written : WrittenTree) (r : Refusal) → DueOf conditions.expander Hit (all_literals written) r → IsDue conditions Hit written r
+  is_due Hit written r (inl h) = inl h
+  is_due Hit written r (inr h) = inr (inl h)
 
-      pub due : (r : Refusal) → file expander tokens ≡ Err r → IsDue expander (λ at. IsTrue (Hit at)) (literals tree) r
-      due r is = only_due expander (λ at. IsTrue (Hit at)) is (file_reached expander (λ at. IsTrue (Hit at)) h)
+  module _ (tokens : Tokens) where
+    pub sound : (written : WrittenTree) (features : List (Noted Tok)) → file conditions tokens ≡ Ok (written, features) → (tree : Tree) × (ordered written ≡ Some tree) × FileDerives conditions tokens tree features
+    sound written features is =
+        let found = file_at conditions tokens (written, features) is in
+        let texts = texts_of conditions.expander (all_literals written) found.cooks in
+        let meaning = file_ordered keeps_tokens (Under conditions.limit) found.derives in (
+          plainly written,
+          meaning,
+          record {
+            written = written;
+            derives = found.derives;
+            obeys = record { cooked = texts.0; cooks = texts.1; unbroken = refl };
+            ordered_is = meaning;
+          },
+        )
+
+    reached : (written : WrittenTree) (features : List (Noted Tok)) → File keeps_tokens (Under conditions.limit) written features tokens → Obeys conditions written → file conditions tokens ≡ Ok (written, features)
+    reached written features h obeys =
+        only_read conditions (all_cook conditions.expander (all_literals written) obeys.cooked obeys.cooks)
+        (file_reached conditions (λ at. ⊥) (file_loosened (Under conditions.limit) (Waived conditions.limit (λ at. ⊥)) (kept conditions.limit) keeps_tokens h))
+
+    pub complete : (tree : Tree) (features : List (Noted Tok)) → FileDerives conditions tokens tree features → (written : WrittenTree) × (ordered written ≡ Some tree) × (file conditions tokens ≡ Ok (written, features))
+    complete tree features h = (h.written, h.ordered_is, reached h.written features h.derives h.obeys)
+
+    pub one_tree : (tree other : Tree) (features others : List (Noted Tok)) → FileDerives conditions tokens tree features → FileDerives conditions tokens other others → (tree ≡ other) × (features ≡ others)
+    one_tree tree other features others h q =
+        let same = ok_inside (h.written, features) (q.written, others) (sym (reached h.written features h.derives h.obeys) ∙ reached q.written others q.derives q.obeys) in
+        (same_meaning (ap (λ p. p.0) same) h.ordered_is q.ordered_is, ap (λ p. p.1) same)
+
+  module _ (tokens : Tokens) (written : WrittenTree) (features : List (Noted Tok)) where
+    -- where the limit is waived at some tokens
+    module _ (Hit : Option SignificantToken → Bool) (h : File keeps_tokens (Waived conditions.limit (λ at. IsTrue (Hit at))) written features tokens) where
+      pub deep : Obeys conditions written → (file conditions tokens ≡ Ok (written, features)) ⊎ ((at : Option SignificantToken) × IsTrue (Hit at) × (file conditions tokens ≡ Err (TooDeep at)))
+      deep obeys =
+          read_or_deep (λ at. IsTrue (Hit at)) (file conditions tokens) (written, features) (all_literals written) (all_cook conditions.expander (all_literals written) obeys.cooked obeys.cooks)
+          (file_reached conditions (λ at. IsTrue (Hit at)) h)
+
+      pub due : (r : Refusal) → file conditions tokens ≡ Err r → IsDue conditions (λ at. IsTrue (Hit at)) written r
+      due r is = is_due (λ at. IsTrue (Hit at)) written r (only_due conditions (λ at. IsTrue (Hit at)) is (file_reached conditions (λ at. IsTrue (Hit at)) h))
 
     -- without a limit
-    free_found : FileTree tokens tree features → Reaches expander (λ at. Unit {0}) (file expander tokens) (tree, features) (literals tree)
-    free_found h = file_reached expander (λ at. Unit {0}) (file_loosened Free (Waived (λ at. Unit {0})) dropped itself itself line_of h)
+    free_found : FileTree tokens written features → Reaches conditions (λ at. Unit {0}) (file conditions tokens) (written, features) (all_literals written)
+    free_found h = file_reached conditions (λ at. Unit {0}) (file_loosened Free (Waived conditions.limit (λ at. Unit {0})) (dropped conditions.limit) keeps_tokens h)
 
-    pub free : (cooked : List (List ℕ)) → FileTree tokens tree features → Cooks expander (map (over_literal lexeme) (literals tree)) cooked
-        → (file expander tokens ≡ Ok (tree, features)) ⊎ ((at : Option SignificantToken) × (file expander tokens ≡ Err (TooDeep at)))
-    free cooked h cooks = without (read_or_deep (λ at. Unit {0}) (file expander tokens) (tree, features) (literals tree) (all_cook expander (literals tree) cooked cooks) (free_found h))
+    pub free : FileTree tokens written features → Obeys conditions written → (file conditions tokens ≡ Ok (written, features)) ⊎ ((at : Option SignificantToken) × (file conditions tokens ≡ Err (TooDeep at)))
+    free h obeys =
+        without (read_or_deep (λ at. Unit {0}) (file conditions tokens) (written, features) (all_literals written) (all_cook conditions.expander (all_literals written) obeys.cooked obeys.cooks) (free_found h))
       where
-        without : (file expander tokens ≡ Ok (tree, features)) ⊎ ((at : Option SignificantToken) × Unit {0} × (file expander tokens ≡ Err (TooDeep at)))
-            → (file expander tokens ≡ Ok (tree, features)) ⊎ ((at : Option SignificantToken) × (file expander tokens ≡ Err (TooDeep at)))
+        without : (file conditions tokens ≡ Ok (written, features)) ⊎ ((at : Option SignificantToken) × Unit {0} × (file conditions tokens ≡ Err (TooDeep at)))
+            → (file conditions tokens ≡ Ok (written, features)) ⊎ ((at : Option SignificantToken) × (file conditions tokens ≡ Err (TooDeep at)))
         without (inl is) = inl is
         without (inr x) = inr (x.0, x.2)
 
-    pub refused : FileTree tokens tree features → (r : Refusal) → file expander tokens ≡ Err r → IsDue expander (λ at. Unit {0}) (literals tree) r
-    refused h r is = only_due expander (λ at. Unit {0}) is (free_found h)
+    pub refused : FileTree tokens written features → (r : Refusal) → file conditions tokens ≡ Err r → IsDue conditions (λ at. Unit {0}) written r
+    refused h r is = is_due (λ at. Unit {0}) written r (only_due conditions (λ at. Unit {0}) is (free_found h))

@@ -1,17 +1,36 @@
 -- A derivation of a file carried over to tokens that differ in their places alone, to other leaves and to another limit.
-use Rattle.std.proofs.Common.{◌≡◌, ℕ, false, List, [], ◌∷◌, ◌++◌, map, Option, refl, sym, subst, ap, ◌∙◌}
+use Rattle.std.proofs.Common.{◌≡◌, ℕ, false, List, [], ◌∷◌, ◌++◌, map, Option, Some, refl, sym, subst, ap, ◌∙◌}
 use Rattle.std.specs.Str.{trim_end}
 use Rattle.justfile_base.specs.declared.token_kind.TokenKind.{TokenKind}
 use Rattle.justfile_model.specs.Tok.{Tok}
 use Rattle.justfile_model.specs.SignificantTokens.{SignificantToken}
 use Rattle.justfile_model.specs.Tree as tree
-use Rattle.justfile_model.specs.Tree.{Expr, Fragment, BodyLine, Line, Item, before, trimmed, over_expr, over_fragment, over_line, over_item}
+use Rattle.justfile_model.specs.Tree.{Expr, Fragment, BodyLine, Line, Content, Construct, WrittenItem, before, plain_assignment, plain_recipe, trimmed, over_expr, over_fragment, over_line, over_written, over_content, over_item}
 use Rattle.justfile_model.specs.Features.{Noted, over_noted}
 use Rattle.justfile_model.specs.Expressions.{Tokens, front, IsKind, Expression}
 use Rattle.justfile_model.specs.Grammar as g
-use Rattle.justfile_model.specs.Grammar.{LineRest, BeforeBody, NotEmpty, BodyLines, OnLine, Block, Items, Behind, LineEnd, File}
+use Rattle.justfile_model.specs.Grammar.{Kept, LineRest, BeforeBody, NotEmpty, BodyLines, OnLine, Block, Items, Behind, LineEnd, File}
 use Rattle.justfile_model.proofs.CarryExpressions as expressions
 use Rattle.justfile_model.proofs.CarryExpressions.{Same, Pairs, nil, cons, first, same_kind_of, both_alike, Carried}
+
+-- what becomes of what is kept of tokens
+pub record Maps (A B C S D E F G : Type 0) : Type 0 where
+  pub leaf : A → D
+  pub spot : B → E
+  pub number : C → F
+  pub star : S → G
+
+-- written items with what they keep replaced
+abbrev pub over_items : {A B C S D E F G : Type 0} → Maps A B C S D E F G → List (WrittenItem A B C S) → List (WrittenItem D E F G)
+over_items m = map (over_item m.leaf m.spot m.number m.star (map (over_written m.leaf m.spot)))
+
+-- what is kept of related tokens becomes the same
+pub record Alike {A B C S A' B' C' S' D E F G : Type 0} (kept : Kept A B C S) (m : Maps A B C S D E F G) (kept' : Kept A' B' C' S') (m' : Maps A' B' C' S' D E F G)
+    (Rel : SignificantToken → SignificantToken → Type 0) : Type 0 where
+  pub leaves : (t u : SignificantToken) → Rel t u → m'.leaf (kept'.leaf u.tok) ≡ m.leaf (kept.leaf t.tok)
+  pub spots : (t u : SignificantToken) → Rel t u → m'.spot (kept'.spot u.tok) ≡ m.spot (kept.spot t.tok)
+  pub numbers : (t u : SignificantToken) → Rel t u → m'.number (kept'.number u.tok) ≡ m.number (kept.number t.tok)
+  pub stars : (t u : SignificantToken) → Rel t u → m'.star (kept'.star u.tok) ≡ m.star (kept.star t.tok)
 
 -- ---- lists that are mapped to the same one
 
@@ -60,12 +79,9 @@ record Passed (Rel : SignificantToken → SignificantToken → Type 0) (R : Toke
   derives : R after
   same : Pairs Rel rest after
 
-module _ {A B C A' B' C' D E F : Type 0} (leaf : Tok → A) (spot : Tok → B) (number : Tok → C) (Open : ℕ → Option SignificantToken → Type 0)
+module _ {A B C S A' B' C' S' D E F G : Type 0} (kept : Kept A B C S) (Open : ℕ → Option SignificantToken → Type 0) (m : Maps A B C S D E F G)
     (Rel : SignificantToken → SignificantToken → Type 0) (weak : (t u : SignificantToken) → Rel t u → Same t u)
-    (leaf' : Tok → A') (spot' : Tok → B') (number' : Tok → C') (Open' : ℕ → Option SignificantToken → Type 0)
-    (f : A → D) (h : B → E) (k : C → F) (f' : A' → D) (h' : B' → E) (k' : C' → F)
-    (leaves : (t u : SignificantToken) → Rel t u → f' (leaf' u.tok) ≡ f (leaf t.tok)) (spots : (t u : SignificantToken) → Rel t u → h' (spot' u.tok) ≡ h (spot t.tok))
-    (numbers : (t u : SignificantToken) → Rel t u → k' (number' u.tok) ≡ k (number t.tok))
+    (kept' : Kept A' B' C' S') (Open' : ℕ → Option SignificantToken → Type 0) (m' : Maps A' B' C' S' D E F G) (kept_alike : Alike kept m kept' m' Rel)
     (opens : (d : ℕ) (ts us : Tokens) → Pairs Rel ts us → Open d (front ts) → Open' d (front us)) where
   kind_of : {kind : TokenKind} {t u : SignificantToken} → Rel t u → IsKind kind t → IsKind kind u
   kind_of s = same_kind_of (weak _ _ s)
@@ -74,37 +90,37 @@ module _ {A B C A' B' C' D E F : Type 0} (leaf : Tok → A) (spot : Tok → B) (
   comment_of t u s = let w = weak t u s in ap trim_end (sym w.lexeme)
 
   -- the features of two rows
-  both : (fs gs : List (Noted B)) (fs' gs' : List (Noted B')) → map (over_noted h') fs' ≡ map (over_noted h) fs → map (over_noted h') gs' ≡ map (over_noted h) gs
-      → map (over_noted h') (fs' ++ gs') ≡ map (over_noted h) (fs ++ gs)
-  both = both_alike (over_noted h) (over_noted h')
+  both : (fs gs : List (Noted B)) (fs' gs' : List (Noted B')) → map (over_noted m'.spot) fs' ≡ map (over_noted m.spot) fs → map (over_noted m'.spot) gs' ≡ map (over_noted m.spot) gs
+      → map (over_noted m'.spot) (fs' ++ gs') ≡ map (over_noted m.spot) (fs ++ gs)
+  both = both_alike (over_noted m.spot) (over_noted m'.spot)
 
   abbrev FragmentsOf : (List (Fragment A' B') → List (Noted B') → Tokens → Type 0) → List (Fragment A B) → List (Noted B) → Tokens → Type 0
-  FragmentsOf R fragments fs rest = Carried Rel (map (over_fragment f h)) (map (over_fragment f' h')) h h' R fragments fs rest
+  FragmentsOf R fragments fs rest = Carried Rel (map (over_fragment m.leaf m.spot)) (map (over_fragment m'.leaf m'.spot)) m.spot m'.spot R fragments fs rest
 
   abbrev LinesOf : (List (BodyLine A' B' C') → List (Noted B') → Tokens → Type 0) → List (BodyLine A B C) → List (Noted B) → Tokens → Type 0
-  LinesOf R lines fs rest = Carried Rel (map (over_line f h k)) (map (over_line f' h' k')) h h' R lines fs rest
+  LinesOf R lines fs rest = Carried Rel (map (over_line m.leaf m.spot m.number)) (map (over_line m'.leaf m'.spot m'.number)) m.spot m'.spot R lines fs rest
 
-  abbrev ItemOf : (Item A' B' C' → List (Noted B') → Tokens → Type 0) → Item A B C → List (Noted B) → Tokens → Type 0
-  ItemOf R i fs rest = Carried Rel (over_item f h k) (over_item f' h' k') h h' R i fs rest
+  abbrev ContentOf : (Content A' B' C' S' → List (Noted B') → Tokens → Type 0) → Content A B C S → List (Noted B) → Tokens → Type 0
+  ContentOf R c fs rest = Carried Rel (over_content m.leaf m.spot m.number m.star) (over_content m'.leaf m'.spot m'.number m'.star) m.spot m'.spot R c fs rest
 
-  abbrev ItemsOf : (List (Item A' B' C') → List (Noted B') → Type 0) → List (Item A B C) → List (Noted B) → Type 0
-  ItemsOf R items fs = Whole (map (over_item f h k)) (map (over_item f' h' k')) h h' R items fs
+  abbrev ItemsOf : (List (WrittenItem A' B' C' S') → List (Noted B') → Type 0) → List (WrittenItem A B C S) → List (Noted B) → Type 0
+  ItemsOf R items fs = Whole (over_items m) (over_items m') m.spot m'.spot R items fs
 
-  expression : {e : Expr A B} {fs : List (Noted B)} {ts rest : Tokens} → Expression leaf spot Open false 0 e fs ts rest → (us : Tokens) → Pairs Rel ts us
-      → Carried Rel (over_expr f h) (over_expr f' h') h h' (λ x n r. Expression leaf' spot' Open' false 0 x n us r) e fs rest
-  expression e us s = expressions.expression leaf spot Open Rel weak leaf' spot' Open' f h f' h' leaves spots opens e us s
+  expression : {e : Expr A B} {fs : List (Noted B)} {ts rest : Tokens} → Expression kept.leaf kept.spot Open false 0 e fs ts rest → (us : Tokens) → Pairs Rel ts us
+      → Carried Rel (over_expr m.leaf m.spot) (over_expr m'.leaf m'.spot) m.spot m'.spot (λ x n r. Expression kept'.leaf kept'.spot Open' false 0 x n us r) e fs rest
+  expression e us s = expressions.expression kept.leaf kept.spot Open Rel weak kept'.leaf kept'.spot Open' m.leaf m.spot m'.leaf m'.spot kept_alike.leaves kept_alike.spots opens e us s
 
-  pub line_rest : {fragments : List (Fragment A B)} {fs : List (Noted B)} {ts rest : Tokens} → LineRest leaf spot Open fragments fs ts rest → (us : Tokens) → Pairs Rel ts us → FragmentsOf (λ x n r. LineRest leaf' spot' Open' x n us r) fragments fs rest
+  pub line_rest : {fragments : List (Fragment A B)} {fs : List (Noted B)} {ts rest : Tokens} → LineRest kept.leaf kept.spot Open fragments fs ts rest → (us : Tokens) → Pairs Rel ts us → FragmentsOf (λ x n r. LineRest kept'.leaf kept'.spot Open' x n us r) fragments fs rest
   line_rest (g.line_ends kind) us (cons s ss) = record { tree = []; features = []; after = _; derives = g.line_ends (kind_of s kind); alike = refl; noted_alike = refl; same = ss }
   line_rest (g.body_ends kind) us (cons s ss) = record { tree = []; features = []; after = _; derives = g.body_ends (kind_of s kind); alike = refl; noted_alike = refl; same = cons s ss }
   line_rest (g.text {token = t} kind more) us (cons {u = u} s ss) =
       let x = line_rest more _ ss in
       record {
-        tree = tree.Text (leaf' u.tok) ∷ x.tree;
+        tree = tree.Text (kept'.leaf u.tok) ∷ x.tree;
         features = x.features;
         after = x.after;
         derives = g.text (kind_of s kind) x.derives;
-        alike = λ i. tree.Text (leaves t u s i) ∷ x.alike i;
+        alike = λ i. tree.Text (kept_alike.leaves t u s i) ∷ x.alike i;
         noted_alike = x.noted_alike;
         same = x.same;
       }
@@ -116,107 +132,126 @@ module _ {A B C A' B' C' D E F : Type 0} (leaf : Tok → A) (spot : Tok → B) (
         tree = tree.Interpolation x.tree ∷ y.tree;
         features = x.features ++ y.features;
         after = y.after;
-        derives = g.interpolation (kind_of s kind) (subst (λ r. Expression leaf' spot' Open' false 0 x.tree x.features us2 r) end.is x.derives) (kind_of end.related kind2) y.derives;
+        derives = g.interpolation (kind_of s kind) (subst (λ r. Expression kept'.leaf kept'.spot Open' false 0 x.tree x.features us2 r) end.is x.derives) (kind_of end.related kind2) y.derives;
         alike = λ i. tree.Interpolation (x.alike i) ∷ y.alike i;
         noted_alike = both es fs x.features y.features x.noted_alike y.noted_alike;
         same = y.same;
       }
 
-  before_body : {ts rest : Tokens} → BeforeBody ts rest → (us : Tokens) → Pairs Rel ts us → Passed Rel (BeforeBody us) rest
+  before_body : {comment : Option (List ℕ)} {ts rest : Tokens} → BeforeBody comment ts rest → (us : Tokens) → Pairs Rel ts us → Passed Rel (BeforeBody comment us) rest
   before_body (g.at_once kind kind2) us (cons s (cons s2 ss)) = record { after = _; derives = g.at_once (kind_of s kind) (kind_of s2 kind2); same = ss }
-  before_body (g.commented kind kind2 kind3) us (cons s (cons s2 (cons s3 ss))) =
-      record { after = _; derives = g.commented (kind_of s kind) (kind_of s2 kind2) (kind_of s3 kind3); same = ss }
+  before_body (g.commented {comment = t} kind kind2 kind3) us (cons {u = u} s (cons {u = newline} s2 (cons {u = indent} {us = after} s3 ss))) =
+      record {
+        after = after;
+        derives = subst (λ text. BeforeBody (Some text) (u ∷ newline ∷ indent ∷ after) after) (comment_of t u s) (g.commented (kind_of s kind) (kind_of s2 kind2) (kind_of s3 kind3));
+        same = ss;
+      }
 
-  pub body_lines : {lines : List (BodyLine A B C)} {fs : List (Noted B)} {ts rest : Tokens} → BodyLines leaf spot number Open lines fs ts rest → (us : Tokens) → Pairs Rel ts us → LinesOf (λ x n r. BodyLines leaf' spot' number' Open' x n us r) lines fs rest
+  pub body_lines : {lines : List (BodyLine A B C)} {fs : List (Noted B)} {ts rest : Tokens} → BodyLines kept Open lines fs ts rest → (us : Tokens) → Pairs Rel ts us → LinesOf (λ x n r. BodyLines kept' Open' x n us r) lines fs rest
   body_lines (g.no_line kind) us (cons s ss) = record { tree = []; features = []; after = _; derives = g.no_line (kind_of s kind); alike = refl; noted_alike = refl; same = ss }
   body_lines (g.empty_line {token = t} kind more) us (cons {u = u} s ss) =
       let x = body_lines more _ ss in
       record {
-        tree = Line (number' u.tok) [] ∷ x.tree;
+        tree = Line (kept'.number u.tok) [] ∷ x.tree;
         features = x.features;
         after = x.after;
         derives = g.empty_line (kind_of s kind) x.derives;
-        alike = λ i. Line (numbers t u s i) [] ∷ x.alike i;
+        alike = λ i. Line (kept_alike.numbers t u s i) [] ∷ x.alike i;
         noted_alike = x.noted_alike;
         same = x.same;
       }
   body_lines (g.some_line {f = x} {fragments = xs} {fs = fs} {gs = gs} {first = t} l more) us (cons {u = u} {us = us2} s ss) =
       let y = line_rest l (u ∷ us2) (cons s ss) in
-      let full = filled (over_fragment f h) (over_fragment f' h') y.tree x xs y.alike in
+      let full = filled (over_fragment m.leaf m.spot) (over_fragment m'.leaf m'.spot) y.tree x xs y.alike in
       let z = body_lines more y.after y.same in
       record {
-        tree = Line (number' u.tok) (full.one ∷ full.more) ∷ z.tree;
+        tree = Line (kept'.number u.tok) (full.one ∷ full.more) ∷ z.tree;
         features = y.features ++ z.features;
         after = z.after;
-        derives = g.some_line (subst (λ a. LineRest leaf' spot' Open' a y.features (u ∷ us2) y.after) full.is y.derives) z.derives;
-        alike = λ i. Line (numbers t u s i) ((ap (map (over_fragment f' h')) (sym full.is) ∙ y.alike) i) ∷ z.alike i;
+        derives = g.some_line (subst (λ a. LineRest kept'.leaf kept'.spot Open' a y.features (u ∷ us2) y.after) full.is y.derives) z.derives;
+        alike = λ i. Line (kept_alike.numbers t u s i) ((ap (map (over_fragment m'.leaf m'.spot)) (sym full.is) ∙ y.alike) i) ∷ z.alike i;
         noted_alike = both fs gs y.features z.features y.noted_alike z.noted_alike;
         same = z.same;
       }
 
   -- lines that are alike are alike without the empty ones at the end
-  trimmed_alike : (lines : List (BodyLine A B C)) (others : List (BodyLine A' B' C')) → map (over_line f' h' k') others ≡ map (over_line f h k) lines
-      → map (over_line f' h' k') (trimmed others) ≡ map (over_line f h k) (trimmed lines)
-  trimmed_alike lines others e = sym (trimmed_over f' h' k' others) ∙ ap trimmed e ∙ trimmed_over f h k lines
+  trimmed_alike : (lines : List (BodyLine A B C)) (others : List (BodyLine A' B' C')) → map (over_line m'.leaf m'.spot m'.number) others ≡ map (over_line m.leaf m.spot m.number) lines
+      → map (over_line m'.leaf m'.spot m'.number) (trimmed others) ≡ map (over_line m.leaf m.spot m.number) (trimmed lines)
+  trimmed_alike lines others e = sym (trimmed_over m'.leaf m'.spot m'.number others) ∙ ap trimmed e ∙ trimmed_over m.leaf m.spot m.number lines
 
-  some_left : (lines : List (BodyLine A B C)) (others : List (BodyLine A' B' C')) → map (over_line f' h' k') others ≡ map (over_line f h k) lines
+  some_left : (lines : List (BodyLine A B C)) (others : List (BodyLine A' B' C')) → map (over_line m'.leaf m'.spot m'.number) others ≡ map (over_line m.leaf m.spot m.number) lines
       → NotEmpty (trimmed lines) → NotEmpty (trimmed others)
   some_left lines others e n =
-      not_empty_before (over_line f' h' k') (trimmed others) (subst NotEmpty (sym (trimmed_alike lines others e)) (not_empty_mapped (over_line f h k) (trimmed lines) n))
+      not_empty_before (over_line m'.leaf m'.spot m'.number) (trimmed others) (subst NotEmpty (sym (trimmed_alike lines others e)) (not_empty_mapped (over_line m.leaf m.spot m.number) (trimmed lines) n))
 
-  pub on_line : {i : Item A B C} {fs : List (Noted B)} {ts rest : Tokens} → OnLine leaf spot number Open i fs ts rest → (us : Tokens) → Pairs Rel ts us → ItemOf (λ x n r. OnLine leaf' spot' number' Open' x n us r) i fs rest
-  on_line (g.comment {token = t} kind) us (cons {u = u} s ss) =
-      record { tree = tree.Comment (trim_end u.tok.lexeme); features = []; after = _; derives = g.comment (kind_of s kind); alike = λ i. tree.Comment (comment_of t u s i); noted_alike = refl; same = ss }
+  pub on_line : {c : Content A B C S} {fs : List (Noted B)} {ts rest : Tokens} → OnLine kept Open c fs ts rest → (us : Tokens) → Pairs Rel ts us → ContentOf (λ x n r. OnLine kept' Open' x n us r) c fs rest
   on_line (g.assignment {name = t} kind kind2 e) us (cons {u = u} s (cons s2 ss)) =
       let x = expression e _ ss in
       record {
-        tree = tree.Assignment (leaf' u.tok) x.tree;
+        tree = tree.Assignment (plain_assignment (kept'.leaf u.tok) x.tree);
         features = x.features;
         after = x.after;
         derives = g.assignment (kind_of s kind) (kind_of s2 kind2) x.derives;
-        alike = λ i. tree.Assignment (leaves t u s i) (x.alike i);
+        alike = λ i. tree.Assignment (plain_assignment (kept_alike.leaves t u s i) (x.alike i));
         noted_alike = x.noted_alike;
         same = x.same;
       }
   on_line (g.header {name = t} kind kind2) us (cons {u = u} s (cons s2 ss)) =
-      record { tree = tree.Recipe (leaf' u.tok) []; features = []; after = _; derives = g.header (kind_of s kind) (kind_of s2 kind2); alike = λ i. tree.Recipe (leaves t u s i) []; noted_alike = refl; same = ss }
+      record {
+        tree = tree.Recipe (plain_recipe (kept'.leaf u.tok) []);
+        features = [];
+        after = _;
+        derives = g.header (kind_of s kind) (kind_of s2 kind2);
+        alike = λ i. tree.Recipe (plain_recipe (kept_alike.leaves t u s i) []);
+        noted_alike = refl;
+        same = ss;
+      }
 
-  pub block : {i : Item A B C} {fs : List (Noted B)} {ts rest : Tokens} → Block leaf spot number Open i fs ts rest → (us : Tokens) → Pairs Rel ts us → ItemOf (λ x n r. Block leaf' spot' number' Open' x n us r) i fs rest
+  pub block : {c : Content A B C S} {fs : List (Noted B)} {ts rest : Tokens} → Block kept Open c fs ts rest → (us : Tokens) → Pairs Rel ts us → ContentOf (λ x n r. Block kept' Open' x n us r) c fs rest
   block (g.recipe {lines = lines} {name = t} kind kind2 b ls some) us (cons {u = u} s (cons s2 ss)) =
       let x = before_body b _ ss in
       let y = body_lines ls x.after x.same in
       record {
-        tree = tree.Recipe (leaf' u.tok) (trimmed y.tree);
+        tree = tree.Recipe (plain_recipe (kept'.leaf u.tok) (trimmed y.tree));
         features = y.features;
         after = y.after;
         derives = g.recipe (kind_of s kind) (kind_of s2 kind2) x.derives y.derives (some_left lines y.tree y.alike some);
-        alike = λ i. tree.Recipe (leaves t u s i) (trimmed_alike lines y.tree y.alike i);
+        alike = λ i. tree.Recipe (plain_recipe (kept_alike.leaves t u s i) (trimmed_alike lines y.tree y.alike i));
         noted_alike = y.noted_alike;
         same = y.same;
       }
 
   mutual
-    pub items : {all : List (Item A B C)} {fs : List (Noted B)} {ts : Tokens} → Items leaf spot number Open all fs ts → (us : Tokens) → Pairs Rel ts us → ItemsOf (λ x n. Items leaf' spot' number' Open' x n us) all fs
+    pub items : {all : List (WrittenItem A B C S)} {fs : List (Noted B)} {ts : Tokens} → Items kept Open all fs ts → (us : Tokens) → Pairs Rel ts us → ItemsOf (λ x n. Items kept' Open' x n us) all fs
     items (g.end kind) us (cons s nil) = record { tree = []; features = []; derives = g.end (kind_of s kind); alike = refl; noted_alike = refl }
     items (g.blank kind more) us (cons s ss) =
         let x = items more _ ss in
         record { tree = tree.Newline ∷ x.tree; features = x.features; derives = g.blank (kind_of s kind) x.derives; alike = λ i. tree.Newline ∷ x.alike i; noted_alike = x.noted_alike }
-    items (g.item {is = is} {fs = fs} o b) us s =
+    items (g.comment {token = t} kind b) us (cons {u = u} s ss) =
+        let x = behind b _ ss in
+        record { tree = tree.Comment (trim_end u.tok.lexeme) ∷ x.tree; features = x.features; derives = g.comment (kind_of s kind) x.derives; alike = λ i. tree.Comment (comment_of t u s i) ∷ x.alike i; noted_alike = x.noted_alike }
+    items (g.on_line {cs = cs} {fs = fs} o b) us s =
         let x = on_line o us s in
         let y = behind b x.after x.same in
-        record { tree = x.tree ∷ y.tree; features = x.features ++ y.features; derives = g.item x.derives y.derives; alike = λ i. x.alike i ∷ y.alike i; noted_alike = both is fs x.features y.features x.noted_alike y.noted_alike }
-    items (g.block {is = is} {fs = fs} b more) us s =
+        record {
+          tree = Construct [] x.tree ∷ y.tree;
+          features = x.features ++ y.features;
+          derives = g.on_line x.derives y.derives;
+          alike = λ i. Construct [] (x.alike i) ∷ y.alike i;
+          noted_alike = both cs fs x.features y.features x.noted_alike y.noted_alike;
+        }
+    items (g.block {cs = cs} {fs = fs} b more) us s =
         let x = block b us s in
         let y = items more x.after x.same in
         record {
-          tree = x.tree ∷ tree.Newline ∷ y.tree;
+          tree = Construct [] x.tree ∷ tree.Newline ∷ y.tree;
           features = x.features ++ y.features;
           derives = g.block x.derives y.derives;
-          alike = λ i. x.alike i ∷ tree.Newline ∷ y.alike i;
-          noted_alike = both is fs x.features y.features x.noted_alike y.noted_alike;
+          alike = λ i. Construct [] (x.alike i) ∷ tree.Newline ∷ y.alike i;
+          noted_alike = both cs fs x.features y.features x.noted_alike y.noted_alike;
         }
 
-    pub behind : {all : List (Item A B C)} {fs : List (Noted B)} {ts : Tokens} → Behind leaf spot number Open all fs ts → (us : Tokens) → Pairs Rel ts us → ItemsOf (λ x n. Behind leaf' spot' number' Open' x n us) all fs
+    pub behind : {all : List (WrittenItem A B C S)} {fs : List (Noted B)} {ts : Tokens} → Behind kept Open all fs ts → (us : Tokens) → Pairs Rel ts us → ItemsOf (λ x n. Behind kept' Open' x n us) all fs
     behind (g.trailing {token = t} kind e) us (cons {u = u} s ss) =
         let x = line_end e _ ss in
         record { tree = tree.Comment (trim_end u.tok.lexeme) ∷ x.tree; features = x.features; derives = g.trailing (kind_of s kind) x.derives; alike = λ i. tree.Comment (comment_of t u s i) ∷ x.alike i; noted_alike = x.noted_alike }
@@ -224,13 +259,13 @@ module _ {A B C A' B' C' D E F : Type 0} (leaf : Tok → A) (spot : Tok → B) (
         let x = line_end e us s in
         record { tree = x.tree; features = x.features; derives = g.bare x.derives; alike = x.alike; noted_alike = x.noted_alike }
 
-    pub line_end : {all : List (Item A B C)} {fs : List (Noted B)} {ts : Tokens} → LineEnd leaf spot number Open all fs ts → (us : Tokens) → Pairs Rel ts us → ItemsOf (λ x n. LineEnd leaf' spot' number' Open' x n us) all fs
+    pub line_end : {all : List (WrittenItem A B C S)} {fs : List (Noted B)} {ts : Tokens} → LineEnd kept Open all fs ts → (us : Tokens) → Pairs Rel ts us → ItemsOf (λ x n. LineEnd kept' Open' x n us) all fs
     line_end (g.line_end kind more) us (cons s ss) =
         let x = items more _ ss in
         record { tree = tree.Newline ∷ x.tree; features = x.features; derives = g.line_end (kind_of s kind) x.derives; alike = λ i. tree.Newline ∷ x.alike i; noted_alike = x.noted_alike }
     line_end (g.file_end kind) us (cons s nil) = record { tree = []; features = []; derives = g.file_end (kind_of s kind); alike = refl; noted_alike = refl }
 
-  pub file : {all : List (Item A B C)} {fs : List (Noted B)} {ts : Tokens} → File leaf spot number Open all fs ts → (us : Tokens) → Pairs Rel ts us → ItemsOf (λ x n. File leaf' spot' number' Open' x n us) all fs
+  pub file : {all : List (WrittenItem A B C S)} {fs : List (Noted B)} {ts : Tokens} → File kept Open all fs ts → (us : Tokens) → Pairs Rel ts us → ItemsOf (λ x n. File kept' Open' x n us) all fs
   file (g.marked kind more) us (cons s ss) =
       let x = items more _ ss in
       record { tree = x.tree; features = x.features; derives = g.marked (kind_of s kind) x.derives; alike = x.alike; noted_alike = x.noted_alike }

@@ -73,7 +73,7 @@ open_over f h (tree.If c b) = refl
 open_over f h (tree.IfElse c b o) = open_over f h o
 open_over f h _ = refl
 
--- features that are alike, one row behind the other
+-- features that are alike, one row after the other
 pub both_alike : {X X' Y : Type 0} (m : X → Y) (m' : X' → Y) (xs ys : List X) (xs' ys' : List X') → map m' xs' ≡ map m xs → map m' ys' ≡ map m ys
     → map m' (xs' ++ ys') ≡ map m (xs ++ ys)
 both_alike m m' xs ys xs' ys' e k = map-append m' xs' ys' ∙ (λ i. e i ++ k i) ∙ sym (map-append m xs ys)
@@ -169,7 +169,7 @@ module _ {A B A' B' C D : Type 0} (leaf : Tok → A) (spot : Tok → B) (Open : 
       → map (over_noted h') (fs' ++ gs') ≡ map (over_noted h) (fs ++ gs)
   both = both_alike (over_noted h) (over_noted h')
 
-  -- a feature, and those behind it
+  -- a feature, and those after it
   noted_then : (feature : ListFeature) (t u : SignificantToken) → Rel t u → (fs : List (Noted B)) (fs' : List (Noted B')) → map (over_noted h') fs' ≡ map (over_noted h) fs
       → map (over_noted h') (noted feature (spot' u.tok) ++ fs') ≡ map (over_noted h) (noted feature (spot t.tok) ++ fs)
   noted_then feature t u s fs fs' e = λ i. (feature, spots t u s i) ∷ e i

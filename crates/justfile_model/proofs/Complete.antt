@@ -3,19 +3,20 @@
 use Rattle.std.proofs.Common.{◌≡◌, ℕ, false, List, [], ◌∷◌, ◌++◌, Option, Ok, Err, refl, sym, ◌∙◌, append_assoc, append-nil, arith}
 use Rattle.justfile_base.specs.declared.token_kind.TokenKind.{TokenKind}
 use Rattle.justfile_base.specs.declared.token_kind.TokenKind.TheVariants as kinds
+use Rattle.justfile_model.specs.Conditions.{Conditions}
 use Rattle.justfile_model.specs.Tok.{Tok}
 use Rattle.justfile_model.specs.SignificantTokens.{SignificantToken}
 use Rattle.justfile_model.specs.Tree as tree
-use Rattle.justfile_model.specs.Tree.{Expr, Fragment, BodyLine, Item, Tree, trimmed, itself, line_of}
+use Rattle.justfile_model.specs.Tree.{BodyLine, Construct, Content, Fragment, WrittenItem, WrittenTree, itself, plain_recipe, trimmed}
 use Rattle.justfile_model.specs.Features.{Noted}
 use Rattle.justfile_model.specs.Expressions.{Tokens, IsKind, NotNext, Waived}
 use Rattle.justfile_model.specs.Grammar as g
 use Rattle.justfile_model.specs.Grammar.{LineRest, BeforeBody, BodyLines, OnLine, Block, Items, Behind, LineEnd, File, NotEmpty}
-use Rattle.justfile_model.specs.Literals.{Literal, Answers}
-use Rattle.justfile_model.specs.Files.{fragments_literals, body_literals, item_literals, literals}
+use Rattle.justfile_model.specs.Literals.{Literal}
+use Rattle.justfile_model.specs.Files.{all_literals, body_literals, fragments_literals, item_literals, keeps_tokens, written_literals}
 use Rattle.justfile_model.specs.Reading.{Counters, ◌>>=◌, after}
 use Rattle.justfile_model.specs.Reader as reader
-use Rattle.justfile_model.specs.Reader.{after_numbered, assignment, at_end, behind, body, body_behind, body_line, draw_binding, draw_recipe, ended, fragment, has_body, items, items_rule, line, line_end, line_rest, line_rest_rule, lines, lines_rule, on_line, recipe, some_lines}
+use Rattle.justfile_model.specs.Reader.{after_numbered, assignment, at_end, behind, body, body_behind, body_line, comment_item, draw_binding, draw_recipe, ended, fragment, has_body, items, items_rule, line, line_end, line_rest, line_rest_rule, lines, lines_rule, on_line, recipe, some_lines}
 use Rattle.justfile_model.specs.TreeReader.{Read, State, file, start, token_leaves, unnumbered}
 use Rattle.justfile_model.proofs.CookedTexts.{trimmed_literals}
 use Rattle.justfile_model.proofs.Counters.{count, counted}
@@ -26,40 +27,46 @@ use Rattle.justfile_model.proofs.Steps.{input, AreNext, accept_taken, accept_lef
 
 -- ---- what comes first
 
+module _ (Open : ℕ → Option SignificantToken → Type 0) where
+  -- an item without a body
+  data Stands : WrittenItem Tok Tok ℕ Tok → List (Noted Tok) → Tokens → Tokens → Type 0 where
+    of_comment : {t : SignificantToken} {rest : Tokens} → IsKind kinds.Comment t → Stands (comment_item token_leaves t) [] (t ∷ rest) rest
+    of_line : {c : Content Tok Tok ℕ Tok} {fs : List (Noted Tok)} {ts rest : Tokens} → OnLine keeps_tokens Open c fs ts rest → Stands (Construct [] c) fs ts rest
+
 module _ {Open : ℕ → Option SignificantToken → Type 0} where
-  no_end_of_file : {i : Item Tok Tok ℕ} {fs : List (Noted Tok)} {ts rest : Tokens} → OnLine itself itself line_of Open i fs ts rest → NotNext kinds.Eof ts
-  no_end_of_file (g.comment kind) = λ e. cc
-  no_end_of_file (g.assignment kind kind2 e) = λ e. cc
-  no_end_of_file (g.header kind kind2) = λ e. cc
+  no_end_of_file : {i : WrittenItem Tok Tok ℕ Tok} {fs : List (Noted Tok)} {ts rest : Tokens} → Stands Open i fs ts rest → NotNext kinds.Eof ts
+  no_end_of_file (of_comment kind) = λ e. cc
+  no_end_of_file (of_line (g.assignment kind kind2 e)) = λ e. cc
+  no_end_of_file (of_line (g.header kind kind2)) = λ e. cc
 
-  no_end_of_line : {i : Item Tok Tok ℕ} {fs : List (Noted Tok)} {ts rest : Tokens} → OnLine itself itself line_of Open i fs ts rest → NotNext kinds.Eol ts
-  no_end_of_line (g.comment kind) = λ e. cc
-  no_end_of_line (g.assignment kind kind2 e) = λ e. cc
-  no_end_of_line (g.header kind kind2) = λ e. cc
+  no_end_of_line : {i : WrittenItem Tok Tok ℕ Tok} {fs : List (Noted Tok)} {ts rest : Tokens} → Stands Open i fs ts rest → NotNext kinds.Eol ts
+  no_end_of_line (of_comment kind) = λ e. cc
+  no_end_of_line (of_line (g.assignment kind kind2 e)) = λ e. cc
+  no_end_of_line (of_line (g.header kind kind2)) = λ e. cc
 
-  has_none : {i : Item Tok Tok ℕ} {fs : List (Noted Tok)} {ts rest : Tokens} → OnLine itself itself line_of Open i fs ts rest → has_body i ≡ false
-  has_none (g.comment kind) = refl
-  has_none (g.assignment kind kind2 e) = refl
-  has_none (g.header kind kind2) = refl
+  has_none : {i : WrittenItem Tok Tok ℕ Tok} {fs : List (Noted Tok)} {ts rest : Tokens} → Stands Open i fs ts rest → has_body i ≡ false
+  has_none (of_comment kind) = refl
+  has_none (of_line (g.assignment kind kind2 e)) = refl
+  has_none (of_line (g.header kind kind2)) = refl
 
-  no_comment : {items : Tree} {fs : List (Noted Tok)} {ts : Tokens} → LineEnd itself itself line_of Open items fs ts → NotNext kinds.Comment ts
+  no_comment : {items : WrittenTree} {fs : List (Noted Tok)} {ts : Tokens} → LineEnd keeps_tokens Open items fs ts → NotNext kinds.Comment ts
   no_comment (g.line_end kind more) = λ e. cc
   no_comment (g.file_end kind) = λ e. cc
 
-  no_mark : {items : Tree} {fs : List (Noted Tok)} {ts : Tokens} → Items itself itself line_of Open items fs ts → NotNext kinds.ByteOrderMark ts
+  no_mark : {items : WrittenTree} {fs : List (Noted Tok)} {ts : Tokens} → Items keeps_tokens Open items fs ts → NotNext kinds.ByteOrderMark ts
   no_mark (g.end kind) = λ e. cc
   no_mark (g.blank kind more) = λ e. cc
-  no_mark (g.item (g.comment kind) more) = λ e. cc
-  no_mark (g.item (g.assignment kind kind2 e) more) = λ e. cc
-  no_mark (g.item (g.header kind kind2) more) = λ e. cc
+  no_mark (g.comment kind more) = λ e. cc
+  no_mark (g.on_line (g.assignment kind kind2 e) more) = λ e. cc
+  no_mark (g.on_line (g.header kind kind2) more) = λ e. cc
   no_mark (g.block (g.recipe kind kind2 b lines some) more) = λ e. cc
 
-  no_indent : {items : Tree} {fs : List (Noted Tok)} {ts : Tokens} → Items itself itself line_of Open items fs ts → NotNext kinds.Indent ts
+  no_indent : {items : WrittenTree} {fs : List (Noted Tok)} {ts : Tokens} → Items keeps_tokens Open items fs ts → NotNext kinds.Indent ts
   no_indent (g.end kind) = λ e. cc
   no_indent (g.blank kind more) = λ e. cc
-  no_indent (g.item (g.comment kind) more) = λ e. cc
-  no_indent (g.item (g.assignment kind kind2 e) more) = λ e. cc
-  no_indent (g.item (g.header kind kind2) more) = λ e. cc
+  no_indent (g.comment kind more) = λ e. cc
+  no_indent (g.on_line (g.assignment kind kind2 e) more) = λ e. cc
+  no_indent (g.on_line (g.header kind kind2) more) = λ e. cc
   no_indent (g.block (g.recipe kind kind2 b lines some) more) = λ e. cc
 
   no_dedent : {f : Fragment Tok Tok} {fragments : List (Fragment Tok Tok)} {fs : List (Noted Tok)} {ts rest : Tokens} → LineRest itself itself Open (f ∷ fragments) fs ts rest → NotNext kinds.Dedent ts
@@ -76,74 +83,74 @@ not_there kind [] not h = h
 not_there kind (t ∷ ts) not h = not h.0
 
 module _ {Open : ℕ → Option SignificantToken → Type 0} where
-  no_body_ends : {items : Tree} {fs : List (Noted Tok)} {ts : Tokens} → LineEnd itself itself line_of Open items fs ts → NoBody ts
+  no_body_ends : {items : WrittenTree} {fs : List (Noted Tok)} {ts : Tokens} → LineEnd keeps_tokens Open items fs ts → NoBody ts
   no_body_ends (g.line_end {rest = rest} kind more) = record { at_once = λ h. not_there kinds.Indent rest (no_indent more) h.1; commented = λ h. cc }
   no_body_ends (g.file_end kind) = record { at_once = λ h. cc; commented = λ h. cc }
 
-  no_body_behind : {items : Tree} {fs : List (Noted Tok)} {ts : Tokens} → Behind itself itself line_of Open items fs ts → NoBody ts
+  no_body_behind : {items : WrittenTree} {fs : List (Noted Tok)} {ts : Tokens} → Behind keeps_tokens Open items fs ts → NoBody ts
   no_body_behind (g.trailing {rest = rest} kind e) = record { at_once = λ h. cc; commented = λ h. (no_body_ends e).at_once h.1 }
   no_body_behind (g.bare e) = no_body_ends e
 
-module _ (expander : Answers) (Hit : Option SignificantToken → Type 0) where
+module _ (conditions : Conditions) (Hit : Option SignificantToken → Type 0) where
   -- ---- the reader goes on as the derivation does
 
-  fragments_reached : (ns : List (Noted Tok)) {fragments : List (Fragment Tok Tok)} {fs : List (Noted Tok)} {ts rest : Tokens} → LineRest itself itself (Waived Hit) fragments fs ts rest
-      → Reaches expander Hit (line_rest token_leaves (input expander 0 ts ns)) (fragments, input expander 0 rest (ns ++ fs)) (fragments_literals fragments)
+  fragments_reached : (ns : List (Noted Tok)) {fragments : List (Fragment Tok Tok)} {fs : List (Noted Tok)} {ts rest : Tokens} → LineRest itself itself (Waived conditions.limit Hit) fragments fs ts rest
+      → Reaches conditions Hit (line_rest token_leaves (input conditions 0 ts ns)) (fragments, input conditions 0 rest (ns ++ fs)) (fragments_literals fragments)
   unfolding line_rest_rule fragment after
   fragments_reached ns (g.line_ends {token = t} {rest = rest} kind) =
-      renoted expander Hit (sym (append-nil ns)) (is_read tt (line_rest_is token_leaves (input expander 0 (t ∷ rest) ns) ∙ rw (accept_taken kinds.Eol t rest expander 0 ns kind) refl))
+      renoted conditions Hit (sym (append-nil ns)) (is_read tt (line_rest_is token_leaves (input conditions 0 (t ∷ rest) ns) ∙ rw (accept_taken kinds.Eol t rest conditions 0 ns kind) refl))
   fragments_reached ns (g.body_ends {token = t} {rest = rest} kind) =
-      renoted expander Hit (sym (append-nil ns)) (is_read tt
-      (line_rest_is token_leaves (input expander 0 (t ∷ rest) ns) ∙ rw (accept_left kinds.Eol (t ∷ rest) expander 0 ns (λ e. cc), next_taken (kinds.Dedent ∷ []) (input expander 0 (t ∷ rest) ns) (kind, tt)) refl))
+      renoted conditions Hit (sym (append-nil ns)) (is_read tt
+      (line_rest_is token_leaves (input conditions 0 (t ∷ rest) ns) ∙ rw (accept_left kinds.Eol (t ∷ rest) conditions 0 ns (λ e. cc), next_taken (kinds.Dedent ∷ []) (input conditions 0 (t ∷ rest) ns) (kind, tt)) refl))
   fragments_reached ns (g.text {token = t} {tokens = ts} kind l) =
-      by expander Hit (line_rest_is token_leaves (input expander 0 (t ∷ ts) ns))
-      (rw (accept_left kinds.Eol (t ∷ ts) expander 0 ns (λ e. cc), next_left (kinds.Dedent ∷ []) (input expander 0 (t ∷ ts) ns) (λ h. cc), accept_taken kinds.Text t ts expander 0 ns kind)
-      (pass expander Hit _ (fragments_reached ns l) refl))
-  fragments_reached ns (g.interpolation {es = es} {fs = fs} {start = start} {end = end} {tokens = ts} {behind = left} kind v kind2 l) =
-      renoted expander Hit (append_assoc ns es fs) (by expander Hit (line_rest_is token_leaves (input expander 0 (start ∷ ts) ns))
+      by conditions Hit (line_rest_is token_leaves (input conditions 0 (t ∷ ts) ns))
+      (rw (accept_left kinds.Eol (t ∷ ts) conditions 0 ns (λ e. cc), next_left (kinds.Dedent ∷ []) (input conditions 0 (t ∷ ts) ns) (λ h. cc), accept_taken kinds.Text t ts conditions 0 ns kind)
+      (pass conditions Hit _ (fragments_reached ns l) refl))
+  fragments_reached ns (g.interpolation {es = es} {fs = fs} {start = start} {end = end} {tokens = ts} {others = left} kind v kind2 l) =
+      renoted conditions Hit (append_assoc ns es fs) (by conditions Hit (line_rest_is token_leaves (input conditions 0 (start ∷ ts) ns))
       (rw (
-        accept_left kinds.Eol (start ∷ ts) expander 0 ns (λ e. cc),
-        next_left (kinds.Dedent ∷ []) (input expander 0 (start ∷ ts) ns) (λ h. cc),
-        accept_left kinds.Text (start ∷ ts) expander 0 ns (λ e. cc),
-        expect_taken kinds.InterpolationStart start ts expander 0 ns kind,
+        accept_left kinds.Eol (start ∷ ts) conditions 0 ns (λ e. cc),
+        next_left (kinds.Dedent ∷ []) (input conditions 0 (start ∷ ts) ns) (λ h. cc),
+        accept_left kinds.Text (start ∷ ts) conditions 0 ns (λ e. cc),
+        expect_taken kinds.InterpolationStart start ts conditions 0 ns kind,
       )
-      (then expander Hit _ (pass expander Hit _ (expression_deep expander Hit ns false (omega arith) v) (rw (expect_taken kinds.InterpolationEnd end left expander 0 (ns ++ es) kind2) refl)) (pass expander Hit _ (fragments_reached (ns ++ es) l) refl))))
+      (then conditions Hit _ (pass conditions Hit _ (expression_deep conditions Hit ns false (omega arith) v) (rw (expect_taken kinds.InterpolationEnd end left conditions 0 (ns ++ es) kind2) refl)) (pass conditions Hit _ (fragments_reached (ns ++ es) l) refl))))
 
-  lines_reached : (ns : List (Noted Tok)) {ls : List (BodyLine Tok Tok ℕ)} {fs : List (Noted Tok)} {ts rest : Tokens} → BodyLines itself itself line_of (Waived Hit) ls fs ts rest
-      → Reaches expander Hit (lines token_leaves (input expander 0 ts ns)) (ls, input expander 0 rest (ns ++ fs)) (body_literals ls)
+  lines_reached : (ns : List (Noted Tok)) {ls : List (BodyLine Tok Tok ℕ)} {fs : List (Noted Tok)} {ts rest : Tokens} → BodyLines keeps_tokens (Waived conditions.limit Hit) ls fs ts rest
+      → Reaches conditions Hit (lines token_leaves (input conditions 0 ts ns)) (ls, input conditions 0 rest (ns ++ fs)) (body_literals ls)
   unfolding lines_rule body_line after
   lines_reached ns (g.no_line {token = t} {rest = rest} kind) =
-      renoted expander Hit (sym (append-nil ns)) (is_read tt (lines_is token_leaves (input expander 0 (t ∷ rest) ns) ∙ rw (accept_taken kinds.Dedent t rest expander 0 ns kind) refl))
+      renoted conditions Hit (sym (append-nil ns)) (is_read tt (lines_is token_leaves (input conditions 0 (t ∷ rest) ns) ∙ rw (accept_taken kinds.Dedent t rest conditions 0 ns kind) refl))
   lines_reached ns (g.empty_line {token = t} {tokens = ts} kind h) =
-      by expander Hit (lines_is token_leaves (input expander 0 (t ∷ ts) ns))
-      (rw (accept_left kinds.Dedent (t ∷ ts) expander 0 ns (λ e. cc))
-      (then expander Hit _ (pass expander Hit _ (renoted expander Hit (append-nil ns) (fragments_reached ns (g.line_ends kind))) refl) (pass expander Hit _ (lines_reached ns h) refl)))
+      by conditions Hit (lines_is token_leaves (input conditions 0 (t ∷ ts) ns))
+      (rw (accept_left kinds.Dedent (t ∷ ts) conditions 0 ns (λ e. cc))
+      (then conditions Hit _ (pass conditions Hit _ (renoted conditions Hit (append-nil ns) (fragments_reached ns (g.line_ends kind))) refl) (pass conditions Hit _ (lines_reached ns h) refl)))
   lines_reached ns (g.some_line {fs = fs} {gs = gs} {first = t} {tokens = ts} l h) =
-      renoted expander Hit (append_assoc ns fs gs) (by expander Hit (lines_is token_leaves (input expander 0 (t ∷ ts) ns))
-      (rw (accept_left kinds.Dedent (t ∷ ts) expander 0 ns (no_dedent l))
-      (then expander Hit _ (pass expander Hit _ (fragments_reached ns l) refl) (pass expander Hit _ (lines_reached (ns ++ fs) h) refl))))
+      renoted conditions Hit (append_assoc ns fs gs) (by conditions Hit (lines_is token_leaves (input conditions 0 (t ∷ ts) ns))
+      (rw (accept_left kinds.Dedent (t ∷ ts) conditions 0 ns (no_dedent l))
+      (then conditions Hit _ (pass conditions Hit _ (fragments_reached ns l) refl) (pass conditions Hit _ (lines_reached (ns ++ fs) h) refl))))
 
   some_read : (ls : List (BodyLine Tok Tok ℕ)) (rest : State) → NotEmpty ls → some_lines token_leaves ls rest ≡ Ok (ls, rest)
   some_read [] rest some = absurd some
   some_read (l ∷ ls) rest some = refl
 
   abbrev BodyReached : (State → Read (List (BodyLine Tok Tok ℕ))) → List (BodyLine Tok Tok ℕ) → State → State → Type 0
-  BodyReached rule ls s rest = Reaches expander Hit (rule s) (ls, rest) (body_literals ls)
+  BodyReached rule ls s rest = Reaches conditions Hit (rule s) (ls, rest) (body_literals ls)
 
-  body_reached : (ns : List (Noted Tok)) {ls : List (BodyLine Tok Tok ℕ)} {fs : List (Noted Tok)} {ts rest : Tokens} → BodyLines itself itself line_of (Waived Hit) ls fs ts rest → NotEmpty (trimmed ls)
-      → BodyReached (body token_leaves) (trimmed ls) (input expander 0 ts ns) (input expander 0 rest (ns ++ fs))
+  body_reached : (ns : List (Noted Tok)) {ls : List (BodyLine Tok Tok ℕ)} {fs : List (Noted Tok)} {ts rest : Tokens} → BodyLines keeps_tokens (Waived conditions.limit Hit) ls fs ts rest → NotEmpty (trimmed ls)
+      → BodyReached (body token_leaves) (trimmed ls) (input conditions 0 ts ns) (input conditions 0 rest (ns ++ fs))
   unfolding body
-  body_reached ns {ls = ls} {fs = fs} {rest = rest} h some = rw (trimmed_literals ls) (pass expander Hit _ (lines_reached ns h) (some_read (trimmed ls) (input expander 0 rest (ns ++ fs)) some))
+  body_reached ns {ls = ls} {fs = fs} {rest = rest} h some = rw (trimmed_literals ls) (pass conditions Hit _ (lines_reached ns h) (some_read (trimmed ls) (input conditions 0 rest (ns ++ fs)) some))
 
-  body_behind_reached : (ns : List (Noted Tok)) {ls : List (BodyLine Tok Tok ℕ)} {fs : List (Noted Tok)} {ts between rest : Tokens} → BeforeBody ts between → BodyLines itself itself line_of (Waived Hit) ls fs between rest
-      → NotEmpty (trimmed ls) → BodyReached (body_behind token_leaves) (trimmed ls) (input expander 0 ts ns) (input expander 0 rest (ns ++ fs))
+  body_behind_reached : (ns : List (Noted Tok)) {ls : List (BodyLine Tok Tok ℕ)} {fs : List (Noted Tok)} {comment : Option (List ℕ)} {ts between rest : Tokens} → BeforeBody comment ts between → BodyLines keeps_tokens (Waived conditions.limit Hit) ls fs between rest
+      → NotEmpty (trimmed ls) → BodyReached (body_behind token_leaves) (trimmed ls) (input conditions 0 ts ns) (input conditions 0 rest (ns ++ fs))
   unfolding body_behind
   body_behind_reached ns (g.at_once {newline = t} {indent = u} {rest = between} kind kind2) h some =
-      rw (next_taken (kinds.Eol ∷ kinds.Indent ∷ []) (input expander 0 (t ∷ u ∷ between) ns) (kind, (kind2, tt))) (body_reached ns h some)
+      rw (next_taken (kinds.Eol ∷ kinds.Indent ∷ []) (input conditions 0 (t ∷ u ∷ between) ns) (kind, (kind2, tt))) (body_reached ns h some)
   body_behind_reached ns (g.commented {comment = c} {newline = t} {indent = u} {rest = between} kind kind2 kind3) h some =
       rw (
-        next_left (kinds.Eol ∷ kinds.Indent ∷ []) (input expander 0 (c ∷ t ∷ u ∷ between) ns) (λ h. cc),
-        next_taken (kinds.Comment ∷ kinds.Eol ∷ kinds.Indent ∷ []) (input expander 0 (c ∷ t ∷ u ∷ between) ns) (kind, (kind2, (kind3, tt))),
+        next_left (kinds.Eol ∷ kinds.Indent ∷ []) (input conditions 0 (c ∷ t ∷ u ∷ between) ns) (λ h. cc),
+        next_taken (kinds.Comment ∷ kinds.Eol ∷ kinds.Indent ∷ []) (input conditions 0 (c ∷ t ∷ u ∷ between) ns) (kind, (kind2, (kind3, tt))),
       ) (body_reached ns h some)
 
   no_body_read : (s : State) → NoBody s.left → body_behind token_leaves s ≡ Ok ([], s)
@@ -152,131 +159,136 @@ module _ (expander : Answers) (Hit : Option SignificantToken → Type 0) where
 
   -- ---- items, where what follows begins no body
 
+  abbrev recipe_item : Tok → List (BodyLine Tok Tok ℕ) → WrittenItem Tok Tok ℕ Tok
+  recipe_item name ls = Construct [] (tree.Recipe (plain_recipe name ls))
+
   headed : (n : Counters) (name colon : SignificantToken) (ts : Tokens) (ns : List (Noted Tok)) → IsKind kinds.Identifier name → IsKind kinds.Colon colon
-      → on_line token_leaves n (input expander 0 (name ∷ colon ∷ ts) ns) ≡ recipe token_leaves n (input expander 0 (name ∷ colon ∷ ts) ns)
+      → on_line token_leaves n (input conditions 0 (name ∷ colon ∷ ts) ns) ≡ recipe token_leaves n (input conditions 0 (name ∷ colon ∷ ts) ns)
   unfolding on_line
   headed n name colon ts ns kind kind2 =
-      rw (accept_left kinds.Comment (name ∷ colon ∷ ts) expander 0 ns (λ e. cc), next_left (kinds.Identifier ∷ kinds.ColonEquals ∷ []) (input expander 0 (name ∷ colon ∷ ts) ns) (λ h. cc)) refl
+      rw (accept_left kinds.Comment (name ∷ colon ∷ ts) conditions 0 ns (λ e. cc), next_left (kinds.Identifier ∷ kinds.ColonEquals ∷ []) (input conditions 0 (name ∷ colon ∷ ts) ns) (λ h. cc)) refl
 
-  abbrev ItemReached : Item Tok Tok ℕ → State → State → Type 0
-  ItemReached i s rest = (n : Counters) → Reaches expander Hit (on_line token_leaves n s) ((i, count n i), rest) (item_literals i)
+  abbrev ItemReached : WrittenItem Tok Tok ℕ Tok → State → State → Type 0
+  ItemReached i s rest = (n : Counters) → Reaches conditions Hit (on_line token_leaves n s) ((i, count n i), rest) (item_literals written_literals i)
 
   recipe_reached : (name colon : SignificantToken) (ts : Tokens) (ns : List (Noted Tok)) (rest : State) (ls : List (BodyLine Tok Tok ℕ)) → IsKind kinds.Identifier name → IsKind kinds.Colon colon
-      → BodyReached (body_behind token_leaves) ls (input expander 0 ts ns) rest → ItemReached (tree.Recipe name.tok ls) (input expander 0 (name ∷ colon ∷ ts) ns) rest
+      → BodyReached (body_behind token_leaves) ls (input conditions 0 ts ns) rest → ItemReached (recipe_item name.tok ls) (input conditions 0 (name ∷ colon ∷ ts) ns) rest
   unfolding recipe draw_recipe
   recipe_reached name colon ts ns rest ls kind kind2 h n =
-      by expander Hit (headed n name colon ts ns kind kind2) (rw (expect_taken kinds.Identifier name (colon ∷ ts) expander 0 ns kind, expect_taken kinds.Colon colon ts expander 0 ns kind2) (pass expander Hit _ h refl))
+      by conditions Hit (headed n name colon ts ns kind kind2) (rw (expect_taken kinds.Identifier name (colon ∷ ts) conditions 0 ns kind, expect_taken kinds.Colon colon ts conditions 0 ns kind2) (pass conditions Hit _ h refl))
 
-  on_line_reached : (ns : List (Noted Tok)) {i : Item Tok Tok ℕ} {fs : List (Noted Tok)} {ts rest : Tokens} → OnLine itself itself line_of (Waived Hit) i fs ts rest → NoBody rest
-      → ItemReached i (input expander 0 ts ns) (input expander 0 rest (ns ++ fs))
+  on_line_reached : (ns : List (Noted Tok)) {i : WrittenItem Tok Tok ℕ Tok} {fs : List (Noted Tok)} {ts rest : Tokens} → Stands (Waived conditions.limit Hit) i fs ts rest → NoBody rest
+      → ItemReached i (input conditions 0 ts ns) (input conditions 0 rest (ns ++ fs))
   unfolding on_line assignment draw_binding
-  on_line_reached ns {rest = rest} (g.comment {token = token} kind) none n =
-      renoted expander Hit (sym (append-nil ns)) (is_read tt (rw (accept_taken kinds.Comment token rest expander 0 ns kind) refl))
-  on_line_reached ns (g.assignment {name = name} {operator = operator} {tokens = ts} kind kind2 e) none n =
+  on_line_reached ns {rest = rest} (of_comment {t = token} kind) none n =
+      renoted conditions Hit (sym (append-nil ns)) (is_read tt (rw (accept_taken kinds.Comment token rest conditions 0 ns kind) refl))
+  on_line_reached ns (of_line (g.assignment {name = name} {operator = operator} {tokens = ts} kind kind2 e)) none n =
       rw (
-        accept_left kinds.Comment (name ∷ operator ∷ ts) expander 0 ns (λ e. cc),
-        next_taken (kinds.Identifier ∷ kinds.ColonEquals ∷ []) (input expander 0 (name ∷ operator ∷ ts) ns) (kind, (kind2, tt)),
-        expect_taken kinds.Identifier name (operator ∷ ts) expander 0 ns kind,
-        expect_taken kinds.ColonEquals operator ts expander 0 ns kind2,
-      ) (pass expander Hit _ (expression_deep expander Hit ns false (omega arith) e) refl)
-  on_line_reached ns {rest = rest} (g.header {name = name} {colon = colon} kind kind2) none n =
-      renoted expander Hit (sym (append-nil ns)) (recipe_reached name colon rest ns (input expander 0 rest ns) [] kind kind2 (is_read tt (no_body_read (input expander 0 rest ns) none)) n)
+        accept_left kinds.Comment (name ∷ operator ∷ ts) conditions 0 ns (λ e. cc),
+        next_taken (kinds.Identifier ∷ kinds.ColonEquals ∷ []) (input conditions 0 (name ∷ operator ∷ ts) ns) (kind, (kind2, tt)),
+        expect_taken kinds.Identifier name (operator ∷ ts) conditions 0 ns kind,
+        expect_taken kinds.ColonEquals operator ts conditions 0 ns kind2,
+      ) (pass conditions Hit _ (expression_deep conditions Hit ns false (omega arith) e) refl)
+  on_line_reached ns {rest = rest} (of_line (g.header {name = name} {colon = colon} kind kind2)) none n =
+      renoted conditions Hit (sym (append-nil ns)) (recipe_reached name colon rest ns (input conditions 0 rest ns) [] kind kind2 (is_read tt (no_body_read (input conditions 0 rest ns) none)) n)
 
   -- all items are reached, with what is drawn for them, and their features
-  abbrev AllReached : (n : Counters) → Read (Tree × Counters) → Tree → List (Noted Tok) → Type 0
-  AllReached n found all noted = Reaches expander Hit found ((all, counted n all), input expander 0 [] noted) (literals all)
+  abbrev AllReached : (n : Counters) → Read (WrittenTree × Counters) → WrittenTree → List (Noted Tok) → Type 0
+  AllReached n found all noted = Reaches conditions Hit found ((all, counted n all), input conditions 0 [] noted) (all_literals all)
 
   -- a part of the line is read, and the items behind it are reached
-  record Continued (rule : State → Read Tree) (all : Tree) (fs : List (Noted Tok)) (ts : Tokens) (ns : List (Noted Tok)) : Type 0 where
-    first : Tree
+  record Continued (rule : State → Read WrittenTree) (all : WrittenTree) (fs : List (Noted Tok)) (ts : Tokens) (ns : List (Noted Tok)) : Type 0 where
+    first : WrittenTree
     rest : Tokens
-    first_read : rule (input expander 0 ts ns) ≡ Ok (first, input expander 0 rest ns)
-    goes_on : (n : Counters) → AllReached n (after_numbered first (items token_leaves n (input expander 0 rest ns))) all (ns ++ fs)
+    first_read : rule (input conditions 0 ts ns) ≡ Ok (first, input conditions 0 rest ns)
+    goes_on : (n : Counters) → AllReached n (after_numbered first (items token_leaves n (input conditions 0 rest ns))) all (ns ++ fs)
 
-  ended_behind : (i : Item Tok Tok ℕ) (s : State) → has_body i ≡ false → ended token_leaves (has_body i) s ≡ behind token_leaves s
+  ended_behind : (i : WrittenItem Tok Tok ℕ Tok) (s : State) → has_body i ≡ false → ended token_leaves (has_body i) s ≡ behind token_leaves s
   unfolding ended
   ended_behind i s none = rw none refl
 
-  front_is : (i : Item Tok Tok ℕ) (l : Tree) (found : Read (Tree × Counters)) → after_numbered (i ∷ l) found ≡ (after_numbered l found >>= (λ q. Ok ((i ∷ q.0.0, q.0.1), q.1)))
+  front_is : (i : WrittenItem Tok Tok ℕ Tok) (l : WrittenTree) (found : Read (WrittenTree × Counters)) → after_numbered (i ∷ l) found ≡ (after_numbered l found >>= (λ q. Ok ((i ∷ q.0.0, q.0.1), q.1)))
   unfolding after_numbered
   front_is i l (Ok x) = refl
   front_is i l (Err e) = refl
 
-  front_more : (i : Item Tok Tok ℕ) (l m : Tree) (n : Counters) (noted : List (Noted Tok)) (found : Read (Tree × Counters)) {ls : List (Literal Tok)} → Reaches expander Hit (after_numbered l found) ((m, n), input expander 0 [] noted) ls
-      → Reaches expander Hit (after_numbered (i ∷ l) found) ((i ∷ m, n), input expander 0 [] noted) ls
-  front_more i l m n noted found h = by expander Hit (front_is i l found) (pass expander Hit _ h refl)
+  front_more : (i : WrittenItem Tok Tok ℕ Tok) (l m : WrittenTree) (n : Counters) (noted : List (Noted Tok)) (found : Read (WrittenTree × Counters)) {ls : List (Literal Tok)} → Reaches conditions Hit (after_numbered l found) ((m, n), input conditions 0 [] noted) ls
+      → Reaches conditions Hit (after_numbered (i ∷ l) found) ((i ∷ m, n), input conditions 0 [] noted) ls
+  front_more i l m n noted found h = by conditions Hit (front_is i l found) (pass conditions Hit _ h refl)
 
-  line_reached : (n : Counters) (ns : List (Noted Tok)) (i : Item Tok Tok ℕ) (all : Tree) (is fs : List (Noted Tok)) (ts rest : Tokens) → OnLine itself itself line_of (Waived Hit) i is ts rest
-      → ItemReached i (input expander 0 ts ns) (input expander 0 rest (ns ++ is))
-      → Continued (behind token_leaves) all fs rest (ns ++ is) → AllReached n (items token_leaves n (input expander 0 ts ns)) (i ∷ all) (ns ++ (is ++ fs))
+  line_reached : (n : Counters) (ns : List (Noted Tok)) (i : WrittenItem Tok Tok ℕ Tok) (all : WrittenTree) (is fs : List (Noted Tok)) (ts rest : Tokens) → Stands (Waived conditions.limit Hit) i is ts rest
+      → ItemReached i (input conditions 0 ts ns) (input conditions 0 rest (ns ++ is))
+      → Continued (behind token_leaves) all fs rest (ns ++ is) → AllReached n (items token_leaves n (input conditions 0 ts ns)) (i ∷ all) (ns ++ (is ++ fs))
   unfolding items_rule line
   line_reached n ns i all is fs ts rest o h c =
-      renoted expander Hit (append_assoc ns is fs) (by expander Hit (items_is token_leaves n (input expander 0 ts ns))
-      (rw (accept_left kinds.Eof ts expander 0 ns (no_end_of_file o), accept_left kinds.Eol ts expander 0 ns (no_end_of_line o))
-      (then expander Hit _ (pass expander Hit _ (h n) (rw (ended_behind i (input expander 0 rest (ns ++ is)) (has_none o), c.first_read) refl))
-      (front_more i c.first all (counted (count n i) all) ((ns ++ is) ++ fs) (items token_leaves (count n i) (input expander 0 c.rest (ns ++ is))) (c.goes_on (count n i))))))
+      renoted conditions Hit (append_assoc ns is fs) (by conditions Hit (items_is token_leaves n (input conditions 0 ts ns))
+      (rw (accept_left kinds.Eof ts conditions 0 ns (no_end_of_file o), accept_left kinds.Eol ts conditions 0 ns (no_end_of_line o))
+      (then conditions Hit _ (pass conditions Hit _ (h n) (rw (ended_behind i (input conditions 0 rest (ns ++ is)) (has_none o), c.first_read) refl))
+      (front_more i c.first all (counted (count n i) all) ((ns ++ is) ++ fs) (items token_leaves (count n i) (input conditions 0 c.rest (ns ++ is))) (c.goes_on (count n i))))))
 
-  some_body : (name : SignificantToken) (ls : List (BodyLine Tok Tok ℕ)) (s : State) → NotEmpty ls → ended token_leaves (has_body (tree.Recipe name.tok ls)) s ≡ Ok (tree.Newline ∷ [], s)
+  some_body : (name : SignificantToken) (ls : List (BodyLine Tok Tok ℕ)) (s : State) → NotEmpty ls → ended token_leaves (has_body (recipe_item name.tok ls)) s ≡ Ok (tree.Newline ∷ [], s)
   unfolding ended
   some_body name [] s some = absurd some
   some_body name (l ∷ ls) s some = refl
 
-  block_reached : (n : Counters) (ns : List (Noted Tok)) {i : Item Tok Tok ℕ} {is : List (Noted Tok)} {ts rest : Tokens} (all : Tree) (fs : List (Noted Tok)) → Block itself itself line_of (Waived Hit) i is ts rest
-      → ((m : Counters) → AllReached m (items token_leaves m (input expander 0 rest (ns ++ is))) all ((ns ++ is) ++ fs)) → AllReached n (items token_leaves n (input expander 0 ts ns)) (i ∷ tree.Newline ∷ all) (ns ++ (is ++ fs))
+  block_reached : (n : Counters) (ns : List (Noted Tok)) {c : Content Tok Tok ℕ Tok} {is : List (Noted Tok)} {ts rest : Tokens} (all : WrittenTree) (fs : List (Noted Tok)) → Block keeps_tokens (Waived conditions.limit Hit) c is ts rest
+      → ((m : Counters) → AllReached m (items token_leaves m (input conditions 0 rest (ns ++ is))) all ((ns ++ is) ++ fs)) → AllReached n (items token_leaves n (input conditions 0 ts ns)) (Construct [] c ∷ tree.Newline ∷ all) (ns ++ (is ++ fs))
   unfolding items_rule line after_numbered
   block_reached n ns {is = is} {rest = rest} all fs (g.recipe {lines = ls} {name = name} {colon = colon} {tokens = ts} kind kind2 b h some) more =
       let start : Tokens = name ∷ colon ∷ ts in
-      let end : State = input expander 0 rest (ns ++ is) in
-      let i : Item Tok Tok ℕ = tree.Recipe name.tok (trimmed ls) in
-      renoted expander Hit (append_assoc ns is fs) (by expander Hit (items_is token_leaves n (input expander 0 start ns))
-      (rw (accept_left kinds.Eof start expander 0 ns (λ e. cc), accept_left kinds.Eol start expander 0 ns (λ e. cc))
-      (then expander Hit {x = ((i ∷ tree.Newline ∷ [], count n i), end)} _
-      (pass expander Hit _ (recipe_reached name colon ts ns end (trimmed ls) kind kind2 (body_behind_reached ns b h some) n) (rw (some_body name (trimmed ls) end some) refl))
-      (pass expander Hit _ (more (count n i)) refl))))
+      let end : State = input conditions 0 rest (ns ++ is) in
+      let i : WrittenItem Tok Tok ℕ Tok = recipe_item name.tok (trimmed ls) in
+      renoted conditions Hit (append_assoc ns is fs) (by conditions Hit (items_is token_leaves n (input conditions 0 start ns))
+      (rw (accept_left kinds.Eof start conditions 0 ns (λ e. cc), accept_left kinds.Eol start conditions 0 ns (λ e. cc))
+      (then conditions Hit {x = ((i ∷ tree.Newline ∷ [], count n i), end)} _
+      (pass conditions Hit _ (recipe_reached name colon ts ns end (trimmed ls) kind kind2 (body_behind_reached ns b h some) n) (rw (some_body name (trimmed ls) end some) refl))
+      (pass conditions Hit _ (more (count n i)) refl))))
 
   mutual
     unfolding items_rule line behind line_end after_numbered at_end
 
-    pub items_reached : (n : Counters) (ns : List (Noted Tok)) {all : Tree} {fs : List (Noted Tok)} {ts : Tokens} → Items itself itself line_of (Waived Hit) all fs ts → AllReached n (items token_leaves n (input expander 0 ts ns)) all (ns ++ fs)
+    pub items_reached : (n : Counters) (ns : List (Noted Tok)) {all : WrittenTree} {fs : List (Noted Tok)} {ts : Tokens} → Items keeps_tokens (Waived conditions.limit Hit) all fs ts → AllReached n (items token_leaves n (input conditions 0 ts ns)) all (ns ++ fs)
     items_reached n ns (g.end {token = t} kind) =
-        renoted expander Hit (sym (append-nil ns)) (is_read tt (items_is token_leaves n (input expander 0 (t ∷ []) ns) ∙ rw (accept_taken kinds.Eof t [] expander 0 ns kind) refl))
+        renoted conditions Hit (sym (append-nil ns)) (is_read tt (items_is token_leaves n (input conditions 0 (t ∷ []) ns) ∙ rw (accept_taken kinds.Eof t [] conditions 0 ns kind) refl))
     items_reached n ns (g.blank {token = t} {rest = rest} kind h) =
-        by expander Hit (items_is token_leaves n (input expander 0 (t ∷ rest) ns))
-        (rw (accept_left kinds.Eof (t ∷ rest) expander 0 ns (λ e. cc), accept_taken kinds.Eol t rest expander 0 ns kind) (pass expander Hit _ (items_reached n ns h) refl))
-    items_reached n ns (g.item {i = i} {items = more} {is = is} {fs = fs} {tokens = ts} {rest = rest} o b) =
-        line_reached n ns i more is fs ts rest o (on_line_reached ns o (no_body_behind b)) (behind_reached (ns ++ is) b)
-    items_reached n ns (g.block {items = more} {is = is} {fs = fs} o h) = block_reached n ns more fs o (λ m. items_reached m (ns ++ is) h)
+        by conditions Hit (items_is token_leaves n (input conditions 0 (t ∷ rest) ns))
+        (rw (accept_left kinds.Eof (t ∷ rest) conditions 0 ns (λ e. cc), accept_taken kinds.Eol t rest conditions 0 ns kind) (pass conditions Hit _ (items_reached n ns h) refl))
+    items_reached n ns (g.comment {items = more} {fs = fs} {token = t} {rest = rest} kind b) =
+        line_reached n ns (comment_item token_leaves t) more [] fs (t ∷ rest) rest (of_comment kind) (on_line_reached ns (of_comment kind) (no_body_behind b)) (behind_reached (ns ++ []) b)
+    items_reached n ns (g.on_line {c = c} {items = more} {cs = is} {fs = fs} {tokens = ts} {rest = rest} o b) =
+        line_reached n ns (Construct [] c) more is fs ts rest (of_line o) (on_line_reached ns (of_line o) (no_body_behind b)) (behind_reached (ns ++ is) b)
+    items_reached n ns (g.block {items = more} {cs = is} {fs = fs} o h) = block_reached n ns more fs o (λ m. items_reached m (ns ++ is) h)
 
-    behind_reached : (ns : List (Noted Tok)) {all : Tree} {fs : List (Noted Tok)} {ts : Tokens} → Behind itself itself line_of (Waived Hit) all fs ts → Continued (behind token_leaves) all fs ts ns
+    behind_reached : (ns : List (Noted Tok)) {all : WrittenTree} {fs : List (Noted Tok)} {ts : Tokens} → Behind keeps_tokens (Waived conditions.limit Hit) all fs ts → Continued (behind token_leaves) all fs ts ns
     behind_reached ns (g.trailing {items = more} {fs = fs} {token = t} {rest = rest} kind e) =
         let c = line_end_reached ns e in
         record {
           first = _ ∷ c.first;
           rest = c.rest;
-          first_read = rw (accept_taken kinds.Comment t rest expander 0 ns kind, c.first_read) refl;
-          goes_on = λ n. front_more _ c.first more (counted n more) (ns ++ fs) (items token_leaves n (input expander 0 c.rest ns)) (c.goes_on n);
+          first_read = rw (accept_taken kinds.Comment t rest conditions 0 ns kind, c.first_read) refl;
+          goes_on = λ n. front_more _ c.first more (counted n more) (ns ++ fs) (items token_leaves n (input conditions 0 c.rest ns)) (c.goes_on n);
         }
     behind_reached ns (g.bare {tokens = ts} e) =
         let c = line_end_reached ns e in
-        record { first = c.first; rest = c.rest; first_read = rw (accept_left kinds.Comment ts expander 0 ns (no_comment e)) c.first_read; goes_on = c.goes_on }
+        record { first = c.first; rest = c.rest; first_read = rw (accept_left kinds.Comment ts conditions 0 ns (no_comment e)) c.first_read; goes_on = c.goes_on }
 
-    line_end_reached : (ns : List (Noted Tok)) {all : Tree} {fs : List (Noted Tok)} {ts : Tokens} → LineEnd itself itself line_of (Waived Hit) all fs ts → Continued (line_end token_leaves) all fs ts ns
+    line_end_reached : (ns : List (Noted Tok)) {all : WrittenTree} {fs : List (Noted Tok)} {ts : Tokens} → LineEnd keeps_tokens (Waived conditions.limit Hit) all fs ts → Continued (line_end token_leaves) all fs ts ns
     line_end_reached ns (g.line_end {token = t} {rest = rest} kind h) =
         record {
           first = tree.Newline ∷ [];
           rest = rest;
-          first_read = rw (accept_left kinds.Eof (t ∷ rest) expander 0 ns (λ e. cc), expect_taken kinds.Eol t rest expander 0 ns kind) refl;
-          goes_on = λ n. pass expander Hit _ (items_reached n ns h) refl;
+          first_read = rw (accept_left kinds.Eof (t ∷ rest) conditions 0 ns (λ e. cc), expect_taken kinds.Eol t rest conditions 0 ns kind) refl;
+          goes_on = λ n. pass conditions Hit _ (items_reached n ns h) refl;
         }
     line_end_reached ns (g.file_end {token = t} kind) =
         record {
           first = [];
           rest = t ∷ [];
-          first_read = rw (accept_taken kinds.Eof t [] expander 0 ns kind) refl;
-          goes_on = λ n. renoted expander Hit (sym (append-nil ns)) (is_read tt (rw (items_is token_leaves n (input expander 0 (t ∷ []) ns), accept_taken kinds.Eof t [] expander 0 ns kind) refl));
+          first_read = rw (accept_taken kinds.Eof t [] conditions 0 ns kind) refl;
+          goes_on = λ n. renoted conditions Hit (sym (append-nil ns)) (is_read tt (rw (items_is token_leaves n (input conditions 0 (t ∷ []) ns), accept_taken kinds.Eof t [] conditions 0 ns kind) refl));
         }
 
-  pub file_reached : {all : Tree} {fs : List (Noted Tok)} {ts : Tokens} → File itself itself line_of (Waived Hit) all fs ts → Reaches expander Hit (file expander ts) (all, fs) (literals all)
+  pub file_reached : {all : WrittenTree} {fs : List (Noted Tok)} {ts : Tokens} → File keeps_tokens (Waived conditions.limit Hit) all fs ts → Reaches conditions Hit (file conditions ts) (all, fs) (all_literals all)
   unfolding file reader.file
-  file_reached (g.marked {token = t} {rest = rest} kind h) = rw (accept_taken kinds.ByteOrderMark t rest expander 0 [] kind) (pass expander Hit _ (items_reached unnumbered [] h) refl)
-  file_reached (g.unmarked {tokens = ts} h) = rw (accept_left kinds.ByteOrderMark ts expander 0 [] (no_mark h)) (pass expander Hit _ (items_reached unnumbered [] h) refl)
+  file_reached (g.marked {token = t} {rest = rest} kind h) = rw (accept_taken kinds.ByteOrderMark t rest conditions 0 [] kind) (pass conditions Hit _ (items_reached unnumbered [] h) refl)
+  file_reached (g.unmarked {tokens = ts} h) = rw (accept_left kinds.ByteOrderMark ts conditions 0 [] (no_mark h)) (pass conditions Hit _ (items_reached unnumbered [] h) refl)

@@ -2,9 +2,9 @@
 use Rattle.std.proofs.Common.{◌≡◌, ℕ, List, [], ◌∷◌, ◌++◌, map, Result, Ok, refl, sym, subst, ap, ◌∙◌}
 use Rattle.std.proofs.lemmas.List.{append_assoc}
 use Rattle.justfile_model.specs.Tok.{Tok}
-use Rattle.justfile_model.specs.Tree.{Fragment, Text, Interpolation, BodyLine, Line, Item, before, trimmed, lexeme}
+use Rattle.justfile_model.specs.Tree.{Fragment, Text, Interpolation, BodyLine, Line, WrittenItem, before, trimmed, lexeme}
 use Rattle.justfile_model.specs.Literals.{Literal, over_literal, LiteralFault, Answers, cooked_text, Cooks}
-use Rattle.justfile_model.specs.Files.{expr_literals, fragments_literals, body_literals, item_literals, literals}
+use Rattle.justfile_model.specs.Files.{expr_literals, fragments_literals, body_literals, written_literals, item_literals, all_literals}
 
 -- the literal has a text
 pub record HasText (expander : Answers) (l : Literal Tok) : Type 0 where
@@ -16,9 +16,10 @@ abbrev pub AllCook : Answers → List (Literal Tok) → Type 0
 AllCook expander [] = Unit {0}
 AllCook expander (l ∷ ls) = HasText expander l × AllCook expander ls
 
-pub literals_append : {A B C : Type 0} (is js : List (Item A B C)) → literals (is ++ js) ≡ literals is ++ literals js
+pub literals_append : {A B C S : Type 0} (is js : List (WrittenItem A B C S)) → all_literals (is ++ js) ≡ all_literals is ++ all_literals js
 literals_append [] js = refl
-literals_append (i ∷ is) js = ap (λ l. item_literals i ++ l) (literals_append is js) ∙ sym (append_assoc (item_literals i) (literals is) (literals js))
+literals_append (i ∷ is) js =
+    ap (λ l. item_literals written_literals i ++ l) (literals_append is js) ∙ sym (append_assoc (item_literals written_literals i) (all_literals is) (all_literals js))
 
 before_literals : {A B C : Type 0} (l : BodyLine A B C) (ls : List (BodyLine A B C)) → body_literals (before l ls) ≡ body_literals (l ∷ ls)
 before_literals (Line number []) [] = refl
@@ -43,17 +44,18 @@ module _ (expander : Answers) where
   then_cook [] ms a = a
   then_cook (l ∷ ls) ms a = then_cook ls ms a.1
 
-  -- a fragment, and those behind it
+  -- a fragment, and those after it
   pub fragments_cook : {B : Type 0} (f : Fragment Tok B) (more : List (Fragment Tok B)) → AllCook expander (fragments_literals (f ∷ [])) → AllCook expander (fragments_literals more) → AllCook expander (fragments_literals (f ∷ more))
   fragments_cook (Text token) more a b = b
   fragments_cook (Interpolation value) more a b = both_cook (expr_literals value) (fragments_literals more) (first_cook (expr_literals value) [] a) b
 
-  -- a line, and those behind it
+  -- a line, and those after it
   pub lines_cook : {B C : Type 0} (l : BodyLine Tok B C) (more : List (BodyLine Tok B C)) → AllCook expander (body_literals (l ∷ [])) → AllCook expander (body_literals more) → AllCook expander (body_literals (l ∷ more))
   lines_cook (Line number fragments) more a b = both_cook (fragments_literals fragments) (body_literals more) (first_cook (fragments_literals fragments) [] a) b
 
-  pub items_cook : {B C : Type 0} (is js : List (Item Tok B C)) → AllCook expander (literals is) → AllCook expander (literals js) → AllCook expander (literals (is ++ js))
-  items_cook is js a b = subst (AllCook expander) (sym (literals_append is js)) (both_cook (literals is) (literals js) a b)
+  pub items_cook : {B C S : Type 0} (is js : List (WrittenItem Tok B C S)) → AllCook expander (all_literals is) → AllCook expander (all_literals js)
+      → AllCook expander (all_literals (is ++ js))
+  items_cook is js a b = subst (AllCook expander) (sym (literals_append is js)) (both_cook (all_literals is) (all_literals js) a b)
 
   -- literals that all have texts have these
   pub texts_of : (ls : List (Literal Tok)) → AllCook expander ls → (texts : List (List ℕ)) × Cooks expander (map (over_literal lexeme) ls) texts

@@ -5,67 +5,87 @@ use Rattle.justfile_model.specs.Files.{bindings, item_bindings, item_recipes, re
 use Rattle.justfile_model.specs.Reader.{Start, after_numbered, assigned, assignment, at_end, behind, body_behind, draw_binding, draw_recipe, ended, expression, has_body, headed, items, items_from, items_rule, line, line_end, nothing_behind, on_line, recipe, stop, with_bindings, with_recipes}
 use Rattle.justfile_model.specs.Reading.{Counters, ◌>>=◌, Leaves, NoNumber, Read, State, Taken, accept, choose, expect, next_are}
 use Rattle.justfile_model.specs.Tree as tree
-use Rattle.justfile_model.specs.Tree.{Expr, BodyLine, Item}
+use Rattle.justfile_model.specs.Tree.{BodyLine, Construct, Content, Expr, Item, Parameter}
 use Rattle.justfile_model.proofs.ReadingSteps.{after_test, known}
 use Rattle.justfile_model.proofs.Turns.{recursive_keeps}
 
 -- ---- the counters after items
 
-abbrev pub count : {A B C : Type 0} → Counters → Item A B C → Counters
-count n (tree.Assignment name value) = with_bindings (n.bindings + 1) n
-count n (tree.Comment text) = n
-count n tree.Newline = n
-count n (tree.Recipe name body) = with_recipes (n.recipes + 1) n
+-- after the numbers of parameters
+abbrev after_parameters : {A B : Type 0} → Counters → List (Parameter A B) → Counters
+after_parameters n [] = n
+after_parameters n (p ∷ ps) = after_parameters (with_bindings (n.bindings + 1) n) ps
 
-abbrev pub counted : {A B C : Type 0} → Counters → List (Item A B C) → Counters
+abbrev pub count_content : {A B C S : Type 0} → Counters → Content A B C S → Counters
+count_content n (tree.Assignment parts) = with_bindings (n.bindings + 1) n
+count_content n (tree.Recipe parts) = with_recipes (n.recipes + 1) (after_parameters n parts.header.parameters)
+
+abbrev pub count : {A B C S D : Type 0} → Counters → Item A B C S D → Counters
+count n tree.Newline = n
+count n (tree.Comment text) = n
+count n (Construct attributes content) = count_content n content
+
+abbrev pub counted : {A B C S D : Type 0} → Counters → List (Item A B C S D) → Counters
 counted n [] = n
 counted n (i ∷ is) = counted (count n i) is
 
-pub counted_both : {A B C : Type 0} (n : Counters) (is js : List (Item A B C)) → counted n (is ++ js) ≡ counted (counted n is) js
+pub counted_both : {A B C S D : Type 0} (n : Counters) (is js : List (Item A B C S D)) → counted n (is ++ js) ≡ counted (counted n is) js
 counted_both n [] js = refl
 counted_both n (i ∷ is) js = counted_both (count n i) is js
 
-count_bindings : {A B C : Type 0} (n : Counters) (i : Item A B C) → (count n i).bindings ≡ n.bindings + item_bindings i
-count_bindings n (tree.Assignment name value) = refl
-count_bindings n (tree.Comment text) = omega arith
+parameters_bindings : {A B : Type 0} (n : Counters) (ps : List (Parameter A B)) → (after_parameters n ps).bindings ≡ n.bindings + length ps
+parameters_bindings n [] = omega arith
+parameters_bindings n (p ∷ ps) = omega (arith, parameters_bindings (with_bindings (n.bindings + 1) n) ps)
+
+parameters_recipes : {A B : Type 0} (n : Counters) (ps : List (Parameter A B)) → (after_parameters n ps).recipes ≡ n.recipes
+parameters_recipes n [] = refl
+parameters_recipes n (p ∷ ps) = parameters_recipes (with_bindings (n.bindings + 1) n) ps
+
+parameters_constants : {A B : Type 0} (n : Counters) (ps : List (Parameter A B)) → (after_parameters n ps).constants ≡ n.constants
+parameters_constants n [] = refl
+parameters_constants n (p ∷ ps) = parameters_constants (with_bindings (n.bindings + 1) n) ps
+
+count_bindings : {A B C S D : Type 0} (n : Counters) (i : Item A B C S D) → (count n i).bindings ≡ n.bindings + item_bindings i
 count_bindings n tree.Newline = omega arith
-count_bindings n (tree.Recipe name body) = omega arith
+count_bindings n (tree.Comment text) = omega arith
+count_bindings n (Construct attributes (tree.Assignment parts)) = refl
+count_bindings n (Construct attributes (tree.Recipe parts)) = parameters_bindings n parts.header.parameters
 
-count_recipes : {A B C : Type 0} (n : Counters) (i : Item A B C) → (count n i).recipes ≡ n.recipes + item_recipes i
-count_recipes n (tree.Assignment name value) = omega arith
-count_recipes n (tree.Comment text) = omega arith
+count_recipes : {A B C S D : Type 0} (n : Counters) (i : Item A B C S D) → (count n i).recipes ≡ n.recipes + item_recipes i
 count_recipes n tree.Newline = omega arith
-count_recipes n (tree.Recipe name body) = refl
+count_recipes n (tree.Comment text) = omega arith
+count_recipes n (Construct attributes (tree.Assignment parts)) = omega arith
+count_recipes n (Construct attributes (tree.Recipe parts)) = refl
 
-count_constants : {A B C : Type 0} (n : Counters) (i : Item A B C) → (count n i).constants ≡ n.constants
-count_constants n (tree.Assignment name value) = refl
-count_constants n (tree.Comment text) = refl
+count_constants : {A B C S D : Type 0} (n : Counters) (i : Item A B C S D) → (count n i).constants ≡ n.constants
 count_constants n tree.Newline = refl
-count_constants n (tree.Recipe name body) = refl
+count_constants n (tree.Comment text) = refl
+count_constants n (Construct attributes (tree.Assignment parts)) = refl
+count_constants n (Construct attributes (tree.Recipe parts)) = parameters_constants n parts.header.parameters
 
-pub counted_bindings : {A B C : Type 0} (n : Counters) (is : List (Item A B C)) → (counted n is).bindings ≡ n.bindings + bindings is
+pub counted_bindings : {A B C S D : Type 0} (n : Counters) (is : List (Item A B C S D)) → (counted n is).bindings ≡ n.bindings + bindings is
 counted_bindings n [] = omega arith
 counted_bindings n (i ∷ is) = omega (arith, counted_bindings (count n i) is, count_bindings n i)
 
-pub counted_recipes : {A B C : Type 0} (n : Counters) (is : List (Item A B C)) → (counted n is).recipes ≡ n.recipes + recipes is
+pub counted_recipes : {A B C S D : Type 0} (n : Counters) (is : List (Item A B C S D)) → (counted n is).recipes ≡ n.recipes + recipes is
 counted_recipes n [] = omega arith
 counted_recipes n (i ∷ is) = omega (arith, counted_recipes (count n i) is, count_recipes n i)
 
-pub counted_constants : {A B C : Type 0} (n : Counters) (is : List (Item A B C)) → (counted n is).constants ≡ n.constants
+pub counted_constants : {A B C S D : Type 0} (n : Counters) (is : List (Item A B C S D)) → (counted n is).constants ≡ n.constants
 counted_constants n [] = refl
 counted_constants n (i ∷ is) = counted_constants (count n i) is ∙ count_constants n i
 
 -- ---- what is read
 
-module _ {R T A B : Type 0} (leaves : Leaves R T A B) where
-  abbrev pub ItemCounted : Counters → Read R T B (Item A B ℕ × Counters) → Type 0
+module _ {R T A B S D : Type 0} (leaves : Leaves R T A B S D) where
+  abbrev pub ItemCounted : Counters → Read R T B (Item A B ℕ S D × Counters) → Type 0
   ItemCounted n found = IfOk found (λ x. x.0.1 ≡ count n x.0.0)
 
-  abbrev pub Counted : Counters → Read R T B (List (Item A B ℕ) × Counters) → Type 0
+  abbrev pub Counted : Counters → Read R T B (List (Item A B ℕ S D) × Counters) → Type 0
   Counted n found = IfOk found (λ x. x.0.1 ≡ counted n x.0.0)
 
   -- items that draw no number
-  abbrev pub Uncounted : Read R T B (List (Item A B ℕ)) → Type 0
+  abbrev pub Uncounted : Read R T B (List (Item A B ℕ S D)) → Type 0
   Uncounted found = IfOk found (λ x. (n : Counters) → counted n x.0 ≡ n)
 
   after_all : {X Y : Type 0} (found : Read R T B X) (f : X × State R T B → Read R T B Y) (Q : Y → Type 0) → ((x : X × State R T B) → found ≡ Ok x → IfOk (f x) (λ y. Q y.0)) → IfOk (found >>= f) (λ y. Q y.0)
@@ -95,19 +115,19 @@ module _ {R T A B : Type 0} (leaves : Leaves R T A B) where
   pub assignment_counts : (n : Counters) (s : State R T B) → ItemCounted n (assignment leaves n s)
   unfolding assignment
   assignment_counts n s =
-      let Q : Item A B ℕ × Counters → Type 0 = λ x. x.1 ≡ count n x.0 in
+      let Q : Item A B ℕ S D × Counters → Type 0 = λ x. x.1 ≡ count n x.0 in
       after_all (expect leaves kinds.Identifier s) _ Q (λ name _. after_all (expect leaves kinds.ColonEquals name.1) _ Q (λ operator _. after_all (expression leaves operator.1) _ Q (λ e _. binding_counted n e.1 name.0 e.0)))
 
   pub recipe_counts : (n : Counters) (s : State R T B) → ItemCounted n (recipe leaves n s)
   unfolding recipe
   recipe_counts n s =
-      let Q : Item A B ℕ × Counters → Type 0 = λ x. x.1 ≡ count n x.0 in
+      let Q : Item A B ℕ S D × Counters → Type 0 = λ x. x.1 ≡ count n x.0 in
       after_all (expect leaves kinds.Identifier s) _ Q (λ name _. after_all (expect leaves kinds.Colon name.1) _ Q (λ colon _. after_all (body_behind leaves colon.1) _ Q (λ b _. recipe_counted n b.1 name.0 b.0)))
 
   pub on_line_counts : (n : Counters) (s : State R T B) → ItemCounted n (on_line leaves n s)
   unfolding on_line
   on_line_counts n s =
-      let Q : Item A B ℕ × Counters → Type 0 = λ x. x.1 ≡ count n x.0 in
+      let Q : Item A B ℕ S D × Counters → Type 0 = λ x. x.1 ≡ count n x.0 in
       after_choice (accept leaves kinds.Comment s) _ _ Q
       (after_test (next_are leaves (kinds.Identifier ∷ kinds.ColonEquals ∷ []) s) _ _ (ItemCounted n) (λ _. assignment_counts n s) (λ _. recipe_counts n s))
       (λ c. refl)
@@ -115,13 +135,13 @@ module _ {R T A B : Type 0} (leaves : Leaves R T A B) where
   pub line_end_counts : (s : State R T B) → Uncounted (line_end leaves s)
   unfolding line_end
   line_end_counts s =
-      let Q : List (Item A B ℕ) → Type 0 = λ x. (n : Counters) → counted n x ≡ n in
+      let Q : List (Item A B ℕ S D) → Type 0 = λ x. (n : Counters) → counted n x ≡ n in
       after_choice (accept leaves kinds.Eof s) _ _ Q (after_all (expect leaves kinds.Eol s) _ Q (λ newline _ n. refl)) (λ x n. refl)
 
   pub behind_counts : (s : State R T B) → Uncounted (behind leaves s)
   unfolding behind
   behind_counts s =
-      let Q : List (Item A B ℕ) → Type 0 = λ x. (n : Counters) → counted n x ≡ n in
+      let Q : List (Item A B ℕ S D) → Type 0 = λ x. (n : Counters) → counted n x ≡ n in
       after_choice (accept leaves kinds.Comment s) _ _ Q (line_end_counts s)
       (λ c. after_all (line_end leaves c.1) _ Q (λ end is. known end (λ x. Q x.0) is (line_end_counts c.1)))
 
@@ -132,7 +152,7 @@ module _ {R T A B : Type 0} (leaves : Leaves R T A B) where
   pub line_counts : (n : Counters) (s : State R T B) → Counted n (line leaves n s)
   unfolding line
   line_counts n s =
-      let Q : List (Item A B ℕ) × Counters → Type 0 = λ x. x.1 ≡ counted n x.0 in
+      let Q : List (Item A B ℕ S D) × Counters → Type 0 = λ x. x.1 ≡ counted n x.0 in
       after_choice (accept leaves kinds.Eol s) _ _ Q
       (after_all (on_line leaves n s) _ Q (λ i is. after_all (ended leaves (has_body i.0.0) i.1) _ Q (λ b is2.
       known i (λ x. x.0.1 ≡ count n x.0.0) is (on_line_counts n s) ∙ sym (known b (λ x. (n : Counters) → counted n x.0 ≡ n) is2 (ended_counts (has_body i.0.0) i.1) (count n i.0.0)))))
@@ -142,10 +162,10 @@ module _ {R T A B : Type 0} (leaves : Leaves R T A B) where
   end_counts n s [] = refl
   end_counts n s (t ∷ ts) = tt
 
-  rule_counts : (f : Start leaves → Read R T B (List (Item A B ℕ) × Counters)) → ((x : Start leaves) → Counted x.0 (f x)) → (x : Start leaves) → Counted x.0 (items_rule leaves f x)
+  rule_counts : (f : Start leaves → Read R T B (List (Item A B ℕ S D) × Counters)) → ((x : Start leaves) → Counted x.0 (f x)) → (x : Start leaves) → Counted x.0 (items_rule leaves f x)
   unfolding items_rule after_numbered at_end
   rule_counts f h x =
-      let Q : List (Item A B ℕ) × Counters → Type 0 = λ y. y.1 ≡ counted x.0 y.0 in
+      let Q : List (Item A B ℕ S D) × Counters → Type 0 = λ y. y.1 ≡ counted x.0 y.0 in
       after_choice (accept leaves kinds.Eof x.1) _ _ Q
       (after_all (line leaves x.0 x.1) _ Q (λ l is. after_all (f (l.0.1, l.1)) _ Q (λ more is2.
       known more (λ y. y.0.1 ≡ counted l.0.1 y.0.0) is2 (h (l.0.1, l.1))

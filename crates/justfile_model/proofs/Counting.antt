@@ -4,13 +4,13 @@ use Rattle.justfile_base.specs.declared.token_kind.TokenKind.{TokenKind}
 use Rattle.justfile_base.specs.declared.token_kind.TokenKind.TheVariants as kinds
 use Rattle.justfile_model.specs.Tok.{Tok}
 use Rattle.justfile_model.specs.SignificantTokens.{SignificantToken, is_identifier, identifiers}
-use Rattle.justfile_model.specs.Tree.{Fragment, BodyLine, Item, Tree, itself, line_of}
+use Rattle.justfile_model.specs.Tree.{Fragment, BodyLine, Content, Item, WrittenItem, WrittenTree}
 use Rattle.justfile_model.specs.Features.{Noted}
-use Rattle.justfile_model.specs.Expressions.{Tokens, Limited}
+use Rattle.justfile_model.specs.Expressions.{Tokens, Under}
 use Rattle.justfile_model.specs.Grammar as g
-use Rattle.justfile_model.specs.Grammar.{LineRest, BeforeBody, BodyLines, OnLine, Block, Items, Behind, LineEnd, File}
-use Rattle.justfile_model.specs.Literals.{Answers}
-use Rattle.justfile_model.specs.Files.{item_bindings, bindings, item_recipes, recipes}
+use Rattle.justfile_model.specs.Grammar.{Kept, LineRest, BeforeBody, BodyLines, OnLine, Block, Items, Behind, LineEnd, File}
+use Rattle.justfile_model.specs.Conditions.{Conditions}
+use Rattle.justfile_model.specs.Files.{content_bindings, bindings, content_recipes, recipes, keeps_tokens}
 use Rattle.justfile_model.specs.Reading.{Counters}
 use Rattle.justfile_model.specs.Reader.{items}
 use Rattle.justfile_model.specs.TreeReader.{State, file, token_leaves}
@@ -19,11 +19,11 @@ use Rattle.justfile_model.proofs.ExpressionProgress.{expression_counts}
 use Rattle.justfile_model.proofs.ReadingSteps.{known}
 use Rattle.justfile_model.proofs.Sound.{file_at}
 
-pub bindings_append : {A B C : Type 0} (is js : List (Item A B C)) → bindings (is ++ js) ≡ bindings is + bindings js
+pub bindings_append : {A B C S D : Type 0} (is js : List (Item A B C S D)) → bindings (is ++ js) ≡ bindings is + bindings js
 bindings_append [] js = omega arith
 bindings_append (i ∷ is) js = omega (arith, bindings_append is js)
 
-pub recipes_append : {A B C : Type 0} (is js : List (Item A B C)) → recipes (is ++ js) ≡ recipes is + recipes js
+pub recipes_append : {A B C S D : Type 0} (is js : List (Item A B C S D)) → recipes (is ++ js) ≡ recipes is + recipes js
 recipes_append [] js = omega arith
 recipes_append (i ∷ is) js = omega (arith, recipes_append is js)
 
@@ -40,56 +40,56 @@ module _ {A B : Type 0} (leaf : Tok → A) (spot : Tok → B) (Open : ℕ → Op
   line_rest_counts (g.text kind l) = omega (arith, line_rest_counts l)
   line_rest_counts (g.interpolation kind e kind2 l) = omega (arith, expression_counts leaf spot Open e, line_rest_counts l)
 
-before_counts : {ts rest : Tokens} → BeforeBody ts rest → identifiers rest ≤ identifiers ts
+before_counts : {comment : Option (List ℕ)} {ts rest : Tokens} → BeforeBody comment ts rest → identifiers rest ≤ identifiers ts
 before_counts (g.at_once kind kind2) = omega arith
 before_counts (g.commented kind kind2 kind3) = omega arith
 
-module _ {A B C : Type 0} (leaf : Tok → A) (spot : Tok → B) (number : Tok → C) (Open : ℕ → Option SignificantToken → Type 0) where
-  body_lines_count : {lines : List (BodyLine A B C)} {fs : List (Noted B)} {ts rest : Tokens} → BodyLines leaf spot number Open lines fs ts rest → identifiers rest ≤ identifiers ts
+module _ {A B C S : Type 0} (kept : Kept A B C S) (Open : ℕ → Option SignificantToken → Type 0) where
+  body_lines_count : {lines : List (BodyLine A B C)} {fs : List (Noted B)} {ts rest : Tokens} → BodyLines kept Open lines fs ts rest → identifiers rest ≤ identifiers ts
   body_lines_count (g.no_line kind) = omega arith
   body_lines_count (g.empty_line kind h) = omega (arith, body_lines_count h)
-  body_lines_count (g.some_line l h) = omega (arith, line_rest_counts leaf spot Open l, body_lines_count h)
+  body_lines_count (g.some_line l h) = omega (arith, line_rest_counts kept.leaf kept.spot Open l, body_lines_count h)
 
-  pub on_line_counts : {i : Item A B C} {fs : List (Noted B)} {ts rest : Tokens} → OnLine leaf spot number Open i fs ts rest → item_bindings i + item_recipes i + identifiers rest ≤ identifiers ts
-  on_line_counts (g.comment kind) = omega arith
-  on_line_counts (g.assignment {name = name} kind kind2 e) = omega (arith, counts_one name.tok.kind kind, expression_counts leaf spot Open e)
+  pub on_line_counts : {c : Content A B C S} {fs : List (Noted B)} {ts rest : Tokens} → OnLine kept Open c fs ts rest → content_bindings c + content_recipes c + identifiers rest ≤ identifiers ts
+  on_line_counts (g.assignment {name = name} kind kind2 e) = omega (arith, counts_one name.tok.kind kind, expression_counts kept.leaf kept.spot Open e)
   on_line_counts (g.header {name = name} kind kind2) = omega (arith, counts_one name.tok.kind kind)
 
-  pub block_counts : {i : Item A B C} {fs : List (Noted B)} {ts rest : Tokens} → Block leaf spot number Open i fs ts rest → item_bindings i + item_recipes i + identifiers rest ≤ identifiers ts
+  pub block_counts : {c : Content A B C S} {fs : List (Noted B)} {ts rest : Tokens} → Block kept Open c fs ts rest → content_bindings c + content_recipes c + identifiers rest ≤ identifiers ts
   block_counts (g.recipe {name = name} kind kind2 b lines some) = omega (arith, counts_one name.tok.kind kind, before_counts b, body_lines_count lines)
 
   mutual
-    pub all_count : {all : List (Item A B C)} {fs : List (Noted B)} {ts : Tokens} → Items leaf spot number Open all fs ts → bindings all + recipes all ≤ identifiers ts
+    pub all_count : {all : List (WrittenItem A B C S)} {fs : List (Noted B)} {ts : Tokens} → Items kept Open all fs ts → bindings all + recipes all ≤ identifiers ts
     all_count (g.end kind) = omega arith
     all_count (g.blank kind h) = omega (arith, all_count h)
-    all_count (g.item o b) = omega (arith, on_line_counts o, behind_counts b)
+    all_count (g.comment kind h) = omega (arith, behind_counts h)
+    all_count (g.on_line o b) = omega (arith, on_line_counts o, behind_counts b)
     all_count (g.block o h) = omega (arith, block_counts o, all_count h)
 
-    behind_counts : {all : List (Item A B C)} {fs : List (Noted B)} {ts : Tokens} → Behind leaf spot number Open all fs ts → bindings all + recipes all ≤ identifiers ts
+    behind_counts : {all : List (WrittenItem A B C S)} {fs : List (Noted B)} {ts : Tokens} → Behind kept Open all fs ts → bindings all + recipes all ≤ identifiers ts
     behind_counts (g.trailing kind e) = omega (arith, line_end_counts e)
     behind_counts (g.bare e) = line_end_counts e
 
-    line_end_counts : {all : List (Item A B C)} {fs : List (Noted B)} {ts : Tokens} → LineEnd leaf spot number Open all fs ts → bindings all + recipes all ≤ identifiers ts
+    line_end_counts : {all : List (WrittenItem A B C S)} {fs : List (Noted B)} {ts : Tokens} → LineEnd kept Open all fs ts → bindings all + recipes all ≤ identifiers ts
     line_end_counts (g.line_end kind h) = omega (arith, all_count h)
     line_end_counts (g.file_end kind) = omega arith
 
-  pub file_counts : {all : List (Item A B C)} {fs : List (Noted B)} {ts : Tokens} → File leaf spot number Open all fs ts → bindings all + recipes all ≤ identifiers ts
+  pub file_counts : {all : List (WrittenItem A B C S)} {fs : List (Noted B)} {ts : Tokens} → File kept Open all fs ts → bindings all + recipes all ≤ identifiers ts
   file_counts (g.marked kind h) = omega (arith, all_count h)
   file_counts (g.unmarked h) = all_count h
 
 -- ---- what is read
 
 -- a tree has at most as many bindings and recipes as its tokens have identifiers
-pub file_numbers : (expander : Answers) (ts : Tokens) (x : Tree × List (Noted Tok)) → file expander ts ≡ Ok x → bindings x.0 + recipes x.0 ≤ identifiers ts
-file_numbers expander ts x is = file_counts itself itself line_of Limited (file_at expander ts x is).derives
+pub file_numbers : (conditions : Conditions) (ts : Tokens) (x : WrittenTree × List (Noted Tok)) → file conditions ts ≡ Ok x → bindings x.0 + recipes x.0 ≤ identifiers ts
+file_numbers conditions ts x is = file_counts keeps_tokens (Under conditions.limit) (file_at conditions ts x is).derives
 
 -- counters grow by what the tree holds
 
-pub items_bindings : (n : Counters) (s : State) (x : (Tree × Counters) × State) → items token_leaves n s ≡ Ok x → x.0.1.bindings ≡ n.bindings + bindings x.0.0
+pub items_bindings : (n : Counters) (s : State) (x : (WrittenTree × Counters) × State) → items token_leaves n s ≡ Ok x → x.0.1.bindings ≡ n.bindings + bindings x.0.0
 items_bindings n s x is = ap (λ (m : Counters). m.bindings) (known x (λ x. x.0.1 ≡ counted n x.0.0) is (items_count token_leaves n s)) ∙ counted_bindings n x.0.0
 
-pub items_recipes : (n : Counters) (s : State) (x : (Tree × Counters) × State) → items token_leaves n s ≡ Ok x → x.0.1.recipes ≡ n.recipes + recipes x.0.0
+pub items_recipes : (n : Counters) (s : State) (x : (WrittenTree × Counters) × State) → items token_leaves n s ≡ Ok x → x.0.1.recipes ≡ n.recipes + recipes x.0.0
 items_recipes n s x is = ap (λ (m : Counters). m.recipes) (known x (λ x. x.0.1 ≡ counted n x.0.0) is (items_count token_leaves n s)) ∙ counted_recipes n x.0.0
 
-pub items_constants : (n : Counters) (s : State) (x : (Tree × Counters) × State) → items token_leaves n s ≡ Ok x → x.0.1.constants ≡ n.constants
+pub items_constants : (n : Counters) (s : State) (x : (WrittenTree × Counters) × State) → items token_leaves n s ≡ Ok x → x.0.1.constants ≡ n.constants
 items_constants n s x is = ap (λ (m : Counters). m.constants) (known x (λ x. x.0.1 ≡ counted n x.0.0) is (items_count token_leaves n s)) ∙ counted_constants n x.0.0

@@ -1,11 +1,12 @@
 -- A file keeps its tree where an expander answers more.
-use Rattle.std.proofs.Common.{◌≡◌, ℕ, List, [], ◌∷◌, None, Result, Ok, Err, sym, ap, ◌∙◌, ⊎_elim}
+use Rattle.std.proofs.Common.{◌≡◌, ℕ, List, [], ◌∷◌, None, Result, Ok, Err, refl, sym, ap, ◌∙◌, ⊎_elim}
 use Rattle.justfile_model.specs.SignificantTokens.{SignificantToken}
 use Rattle.justfile_model.specs.Tok.{Tok}
 use Rattle.justfile_model.specs.Tree.{Tree, Shape}
 use Rattle.justfile_model.specs.Features.{Noted}
 use Rattle.justfile_model.specs.Literals.{Literal, Expanded, LiteralFault, Unasked, Answers, Within, by_answer, string_text, expanded_text, cooked_text, Cooks}
-use Rattle.justfile_model.specs.Files.{VersionNumbers, FileDerives, ShapeDerives}
+use Rattle.justfile_model.specs.Conditions.{Conditions, with_expander}
+use Rattle.justfile_model.specs.Files.{Obeys, FileDerives, ShapeDerives}
 
 module _ (some all : Answers) (within : Within some all) where
   answer_kept : (asked text : List ℕ) → by_answer (some asked) ≡ Ok text → by_answer (all asked) ≡ Ok text
@@ -28,9 +29,18 @@ module _ (some all : Answers) (within : Within some all) where
   texts_kept (l ∷ literals) [] c = absurd c
   texts_kept (l ∷ literals) (text ∷ texts) c = (text_kept l text c.0, texts_kept literals texts c.1)
 
-  module _ (current : VersionNumbers) (tokens : List SignificantToken) where
-    pub tree_kept : (tree : Tree) (features : List (Noted Tok)) → FileDerives some current tokens tree features → FileDerives all current tokens tree features
-    tree_kept tree features h = record { derives = h.derives; cooked = h.cooked; cooks = texts_kept _ h.cooked h.cooks }
+module _ (conditions : Conditions) (all : Answers) (within : Within conditions.expander all) (tokens : List SignificantToken) where
+  pub tree_kept : (tree : Tree) (features : List (Noted Tok)) → FileDerives conditions tokens tree features → FileDerives (with_expander all conditions) tokens tree features
+  tree_kept tree features h =
+      let obeys : Obeys (with_expander all conditions) h.written = record { cooked = h.obeys.cooked; cooks = texts_kept conditions.expander all within _ h.obeys.cooked h.obeys.cooks; unbroken = refl } in
+      record { written = h.written; derives = h.derives; obeys = obeys; ordered_is = h.ordered_is }
 
-    pub shape_kept : (shape : Shape) (features : List (Noted (Unit {0}))) → ShapeDerives some current tokens shape features → ShapeDerives all current tokens shape features
-    shape_kept shape features h = record { derives = h.derives; cooked = h.cooked; cooks = texts_kept _ h.cooked h.cooks }
+  pub shape_kept : (shape : Shape) (features : List (Noted (Unit {0}))) → ShapeDerives conditions tokens shape features → ShapeDerives (with_expander all conditions) tokens shape features
+  shape_kept shape features h = record {
+    written = h.written;
+    derives = h.derives;
+    cooked = h.cooked;
+    cooks = texts_kept conditions.expander all within _ h.cooked h.cooks;
+    unbroken = refl;
+    ordered_is = h.ordered_is;
+  }

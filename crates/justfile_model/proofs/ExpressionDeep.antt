@@ -6,6 +6,7 @@ use Rattle.justfile_base.specs.declared.token_kind.TokenKind.TheVariants as kind
 use Rattle.justfile_model.specs.declared.level.Level.TheVariants as levels
 use Rattle.justfile_model.specs.declared.list_feature.ListFeature.TheVariants as features
 use Rattle.justfile_model.specs.declared.operator.Operator.TheVariants as operators
+use Rattle.justfile_model.specs.Conditions.{Conditions}
 use Rattle.justfile_model.specs.Tok.{Tok}
 use Rattle.justfile_model.specs.SignificantTokens.{SignificantToken}
 use Rattle.justfile_model.specs.Tree as tree
@@ -14,7 +15,7 @@ use Rattle.justfile_model.specs.Features.{Noted, noted, compared, uncompared, ca
 use Rattle.justfile_model.specs.Expressions as g
 use Rattle.justfile_model.specs.Expressions.{Tokens, IsKind, IsWord, NotWord, NotNext, IsMarked, NotMarked, Waived, ends_open, Expression, Disjunct, Compared, Conjunct, Condition, Braced, Conditional, Value, Sequence, FormatParts}
 use Rattle.justfile_model.specs.Literals as literal
-use Rattle.justfile_model.specs.Literals.{Literal, Answers}
+use Rattle.justfile_model.specs.Literals.{Literal}
 use Rattle.justfile_model.specs.Files.{expr_literals, exprs_literals, parts_literals}
 use Rattle.justfile_model.specs.Reading.{shallower}
 use Rattle.justfile_model.specs.ExpressionReader as r
@@ -80,7 +81,7 @@ unnamed t ts h = record {
   backtick = h.backtick;
 }
 
-closes : (b : Bool) (ts : Tokens) (E : Answers) (d : ℕ) (ns : List (Noted Tok)) (e : Expr Tok Tok) → (b ≡ true → NotWord (codes "else") ts) → ended_by token_leaves b e (input E d ts ns) ≡ Ok (e, input E d ts ns)
+closes : (b : Bool) (ts : Tokens) (C : Conditions) (d : ℕ) (ns : List (Noted Tok)) (e : Expr Tok Tok) → (b ≡ true → NotWord (codes "else") ts) → ended_by token_leaves b e (input C d ts ns) ≡ Ok (e, input C d ts ns)
 closes false ts E d ns e h = refl
 closes true ts E d ns e h = rw (word_left (codes "else") ts E d ns (h refl)) refl
 
@@ -104,254 +105,254 @@ module _ (Open : ℕ → Option SignificantToken → Type 0) where
   braced_no_word : {d : ℕ} {e : Expr Tok Tok} {fs : List (Noted Tok)} {ts rest : Tokens} → Braced itself itself Open d e fs ts rest → NotWord (codes "if") ts
   braced_no_word (g.braces kind e kind2) = λ i. let n = i.is_name in cc
 
-one_more : {d : ℕ} → d < 256 → d + 1 ≤ 256
+one_more : {limit d : ℕ} → d < limit → d + 1 ≤ limit
 one_more lt = omega (arith, lt)
 
-module _ (expander : Answers) (Hit : Option SignificantToken → Type 0) where
+module _ (conditions : Conditions) (Hit : Option SignificantToken → Type 0) where
   -- the rule for what is neither literal nor `!`
-  past_literals : (d : ℕ) (ts : Tokens) (ns : List (Noted Tok)) → NoLiteral ts → value_rule token_leaves (read token_leaves) (input expander d ts ns) ≡ assert_rule token_leaves (read token_leaves) (input expander d ts ns)
+  past_literals : (d : ℕ) (ts : Tokens) (ns : List (Noted Tok)) → NoLiteral ts → value_rule token_leaves (read token_leaves) (input conditions d ts ns) ≡ assert_rule token_leaves (read token_leaves) (input conditions d ts ns)
   unfolding value_rule r.literal format_rule
   past_literals d ts ns h =
       rw (
-        accept_left kinds.Bang ts expander d ns h.bang,
-        accept_left kinds.StringToken ts expander d ns h.string,
-        marked_left (codes "x") kinds.StringToken ts expander d ns h.expanded,
-        marked_left (codes "f") kinds.StringToken ts expander d ns h.single,
-        accept_left kinds.Backtick ts expander d ns h.backtick,
-        marked_left (codes "f") kinds.FormatStringStart ts expander d ns h.format,
+        accept_left kinds.Bang ts conditions d ns h.bang,
+        accept_left kinds.StringToken ts conditions d ns h.string,
+        marked_left (codes "x") kinds.StringToken ts conditions d ns h.expanded,
+        marked_left (codes "f") kinds.StringToken ts conditions d ns h.single,
+        accept_left kinds.Backtick ts conditions d ns h.backtick,
+        marked_left (codes "f") kinds.FormatStringStart ts conditions d ns h.format,
       ) refl
 
-  value_past : (c : Bool) (d : ℕ) (ts : Tokens) (ns : List (Noted Tok)) → NoLiteral ts → read token_leaves (r.At levels.Value c (input expander d ts ns)) ≡ assert_rule token_leaves (read token_leaves) (input expander d ts ns)
-  value_past c d ts ns h = level_is token_leaves levels.Value c (input expander d ts ns) ∙ past_literals d ts ns h
+  value_past : (c : Bool) (d : ℕ) (ts : Tokens) (ns : List (Noted Tok)) → NoLiteral ts → read token_leaves (r.At levels.Value c (input conditions d ts ns)) ≡ assert_rule token_leaves (read token_leaves) (input conditions d ts ns)
+  value_past c d ts ns h = level_is token_leaves levels.Value c (input conditions d ts ns) ∙ past_literals d ts ns h
 
   -- the rule for what is no name either
-  past_names : (c : Bool) (d : ℕ) (t : SignificantToken) (ts : Tokens) (ns : List (Noted Tok)) → IsOther t → read token_leaves (r.At levels.Value c (input expander d (t ∷ ts) ns)) ≡ group_rule token_leaves (read token_leaves) (input expander d (t ∷ ts) ns)
+  past_names : (c : Bool) (d : ℕ) (t : SignificantToken) (ts : Tokens) (ns : List (Noted Tok)) → IsOther t → read token_leaves (r.At levels.Value c (input conditions d (t ∷ ts) ns)) ≡ group_rule token_leaves (read token_leaves) (input conditions d (t ∷ ts) ns)
   unfolding assert_rule name_rule
   past_names c d t ts ns h =
       value_past c d (t ∷ ts) ns (unnamed t ts h)
-      ∙ rw (word_left (codes "assert") (t ∷ ts) expander d ns (λ w. h.name w.is_name), accept_left kinds.Identifier (t ∷ ts) expander d ns h.name) refl
+      ∙ rw (word_left (codes "assert") (t ∷ ts) conditions d ns (λ w. h.name w.is_name), accept_left kinds.Identifier (t ∷ ts) conditions d ns h.name) refl
 
-  closed_is : (e : Expr Tok Tok) (d : ℕ) (ts : Tokens) (ns : List (Noted Tok)) → ◌≡◌ {A = ReadExpr} (Ok (e, shallower (input expander (d + 1) ts ns))) (Ok (e, input expander d ts ns))
+  closed_is : (e : Expr Tok Tok) (d : ℕ) (ts : Tokens) (ns : List (Noted Tok)) → ◌≡◌ {A = ReadExpr} (Ok (e, shallower (input conditions (d + 1) ts ns))) (Ok (e, input conditions d ts ns))
   closed_is e d ts ns =
       let back : (d + 1) - 1 ≡ d = omega arith in
-      ap (λ (n : ℕ). Ok (e, input expander n ts ns)) back
+      ap (λ (n : ℕ). Ok (e, input conditions n ts ns)) back
 
   -- ---- a step, where its expression is reached
 
   -- the element of a sequence that is the last
   last_reached : (k : TokenKind) (d : ℕ) (s : State) (e : Expr Tok Tok) (closer : SignificantToken) (rest : Tokens) (ns : List (Noted Tok)) → k ≢ kinds.Comma → IsKind k closer
-      → Reaches expander Hit (read token_leaves (r.At levels.Expression false s)) (e, input expander d (closer ∷ rest) ns) (expr_literals e) → Reaches expander Hit (element_rule token_leaves (read token_leaves) k s) ((e, true), input expander d rest ns) (expr_literals e)
+      → Reaches conditions Hit (read token_leaves (r.At levels.Expression false s)) (e, input conditions d (closer ∷ rest) ns) (expr_literals e) → Reaches conditions Hit (element_rule token_leaves (read token_leaves) k s) ((e, true), input conditions d rest ns) (expr_literals e)
   unfolding element_rule
   last_reached k d s e closer rest ns nc kind h =
-      pass expander Hit _ h (rw (accept_left kinds.Comma (closer ∷ rest) expander d ns (λ e. nc (sym kind ∙ e)), expect_taken k closer rest expander d ns kind) refl)
+      pass conditions Hit _ h (rw (accept_left kinds.Comma (closer ∷ rest) conditions d ns (λ e. nc (sym kind ∙ e)), expect_taken k closer rest conditions d ns kind) refl)
 
   -- and one before others
   element_reached : (k : TokenKind) (d : ℕ) (s : State) (e : Expr Tok Tok) (comma : SignificantToken) (rest : Tokens) (ns : List (Noted Tok)) → IsKind kinds.Comma comma
-      → Reaches expander Hit (read token_leaves (r.At levels.Expression false s)) (e, input expander d (comma ∷ rest) ns) (expr_literals e) → Reaches expander Hit (element_rule token_leaves (read token_leaves) k s) ((e, false), input expander d rest ns) (expr_literals e)
+      → Reaches conditions Hit (read token_leaves (r.At levels.Expression false s)) (e, input conditions d (comma ∷ rest) ns) (expr_literals e) → Reaches conditions Hit (element_rule token_leaves (read token_leaves) k s) ((e, false), input conditions d rest ns) (expr_literals e)
   unfolding element_rule
-  element_reached k d s e comma rest ns kind h = pass expander Hit _ h (rw (accept_taken kinds.Comma comma rest expander d ns kind) refl)
+  element_reached k d s e comma rest ns kind h = pass conditions Hit _ h (rw (accept_taken kinds.Comma comma rest conditions d ns kind) refl)
 
   -- the other branch of a conditional
   branch_reached : (d : ℕ) (ts rest : Tokens) (ns os : List (Noted Tok)) (e : Expr Tok Tok) → NotWord (codes "if") ts → (ends_open e ≡ true → NotWord (codes "else") rest)
-      → Reaches expander Hit (braced_rule token_leaves (read token_leaves) (input expander d ts ns)) (e, input expander d rest os) (expr_literals e)
-      → Reaches expander Hit (otherwise_rule token_leaves (read token_leaves) (input expander d ts ns)) (e, input expander d rest os) (expr_literals e)
+      → Reaches conditions Hit (braced_rule token_leaves (read token_leaves) (input conditions d ts ns)) (e, input conditions d rest os) (expr_literals e)
+      → Reaches conditions Hit (otherwise_rule token_leaves (read token_leaves) (input conditions d ts ns)) (e, input conditions d rest os) (expr_literals e)
   unfolding otherwise_rule
-  branch_reached d ts rest ns os e no_if closed h = rw (word_left (codes "if") ts expander d ns no_if) (pass expander Hit _ h (closes (ends_open e) rest expander d os e closed))
+  branch_reached d ts rest ns os e no_if closed h = rw (word_left (codes "if") ts conditions d ns no_if) (pass conditions Hit _ h (closes (ends_open e) rest conditions d os e closed))
 
   again_reached : (d : ℕ) (word : SignificantToken) (ts rest : Tokens) (ns os : List (Noted Tok)) (e : Expr Tok Tok) → IsWord (codes "if") word
-      → Reaches expander Hit (read token_leaves (r.Conditional word (input expander d ts ns))) (e, input expander d rest os) (expr_literals e)
-      → Reaches expander Hit (otherwise_rule token_leaves (read token_leaves) (input expander d (word ∷ ts) ns)) (e, input expander d rest os) (expr_literals e)
+      → Reaches conditions Hit (read token_leaves (r.Conditional word (input conditions d ts ns))) (e, input conditions d rest os) (expr_literals e)
+      → Reaches conditions Hit (otherwise_rule token_leaves (read token_leaves) (input conditions d (word ∷ ts) ns)) (e, input conditions d rest os) (expr_literals e)
   unfolding otherwise_rule
-  again_reached d word ts rest ns os e is h = rw (word_taken (codes "if") word ts expander d ns is) h
+  again_reached d word ts rest ns os e is h = rw (word_taken (codes "if") word ts conditions d ns is) h
 
   -- the parts of a format string
   end_reached : (start : Tok) (d : ℕ) (token : SignificantToken) (rest : Tokens) (ns : List (Noted Tok)) → IsKind kinds.FormatStringEnd token
-      → Reaches expander Hit (part token_leaves start.lexeme (input expander d (token ∷ rest) ns)) ((token.tok, true), input expander d rest ns) (literal.End start token.tok ∷ [])
+      → Reaches conditions Hit (part token_leaves start.lexeme (input conditions d (token ∷ rest) ns)) ((token.tok, true), input conditions d rest ns) (literal.End start token.tok ∷ [])
   unfolding part
   end_reached start d token rest ns kind =
-      rw (accept_left kinds.FormatStringContinue (token ∷ rest) expander d ns (λ e. cc), expect_taken kinds.FormatStringEnd token rest expander d ns kind)
-      (cooked expander Hit (λ l. (l, true)) (literal.End start.lexeme) (literal.End start token.tok) token refl refl)
+      rw (accept_left kinds.FormatStringContinue (token ∷ rest) conditions d ns (λ e. cc), expect_taken kinds.FormatStringEnd token rest conditions d ns kind)
+      (cooked conditions Hit (λ l. (l, true)) (literal.End start.lexeme) (literal.End start token.tok) token refl refl)
 
   part_reached : (start : Tok) (d : ℕ) (token : SignificantToken) (rest : Tokens) (ns : List (Noted Tok)) → IsKind kinds.FormatStringContinue token
-      → Reaches expander Hit (part token_leaves start.lexeme (input expander d (token ∷ rest) ns)) ((token.tok, false), input expander d rest ns) (literal.Continue start token.tok ∷ [])
+      → Reaches conditions Hit (part token_leaves start.lexeme (input conditions d (token ∷ rest) ns)) ((token.tok, false), input conditions d rest ns) (literal.Continue start token.tok ∷ [])
   unfolding part
   part_reached start d token rest ns kind =
-      rw (accept_taken kinds.FormatStringContinue token rest expander d ns kind) (cooked expander Hit (λ l. (l, false)) (literal.Continue start.lexeme) (literal.Continue start token.tok) token refl refl)
+      rw (accept_taken kinds.FormatStringContinue token rest conditions d ns kind) (cooked conditions Hit (λ l. (l, false)) (literal.Continue start.lexeme) (literal.Continue start token.tok) token refl refl)
 
   mutual
     unfolding binary_rule conjunct_rule condition_rule braced_rule conditional_rule value_rule r.literal string single backtick format_rule format_string_rule format_rest_rule assert_rule name_rule group_rule list_rule sequence_rule parts_rule
 
-    pub expression_deep : (ns : List (Noted Tok)) (c : Bool) {d : ℕ} (within : d ≤ 256) {e : Expr Tok Tok} {fs : List (Noted Tok)} {ts rest : Tokens} → Expression itself itself (Waived Hit) c d e fs ts rest
-        → Reaches expander Hit (read token_leaves (r.At levels.Expression c (input expander d ts ns))) (e, input expander d rest (ns ++ fs)) (expr_literals e)
+    pub expression_deep : (ns : List (Noted Tok)) (c : Bool) {d : ℕ} (within : d ≤ conditions.limit) {e : Expr Tok Tok} {fs : List (Noted Tok)} {ts rest : Tokens} → Expression itself itself (Waived conditions.limit Hit) c d e fs ts rest
+        → Reaches conditions Hit (read token_leaves (r.At levels.Expression c (input conditions d ts ns))) (e, input conditions d rest (ns ++ fs)) (expr_literals e)
     expression_deep ns c {d} within {ts = ts} {rest = rest} (g.or {l = l'} {r = r'} {ls = ls} {rs = rs} {operator = op} {behind = behind} o l kind q) =
-        renoted expander Hit (three ns ls (noted features.LogicalOperator op.tok) rs) (by expander Hit (level_is token_leaves levels.Expression c (input expander d ts ns))
-        (entered expander Hit d (input expander d ts ns) within o (λ lt. then expander Hit _ (disjunct_deep ns c (one_more lt) l) (rw (operator_taken levels.Expression operators.Or op behind expander (d + 1) (ns ++ ls) refl kind)
-        (pass expander Hit _ (expression_deep ((ns ++ ls) ++ noted features.LogicalOperator op.tok) false (one_more lt) q) (closed_is (tree.Or l' r') d rest (((ns ++ ls) ++ noted features.LogicalOperator op.tok) ++ rs)))))))
+        renoted conditions Hit (three ns ls (noted features.LogicalOperator op.tok) rs) (by conditions Hit (level_is token_leaves levels.Expression c (input conditions d ts ns))
+        (entered conditions Hit d (input conditions d ts ns) within o (λ lt. then conditions Hit _ (disjunct_deep ns c (one_more lt) l) (rw (operator_taken levels.Expression operators.Or op behind conditions (d + 1) (ns ++ ls) refl kind)
+        (pass conditions Hit _ (expression_deep ((ns ++ ls) ++ noted features.LogicalOperator op.tok) false (one_more lt) q) (closed_is (tree.Or l' r') d rest (((ns ++ ls) ++ noted features.LogicalOperator op.tok) ++ rs)))))))
     expression_deep ns c {d} within {e = e'} {fs = fs} {ts = ts} {rest = rest} (g.disjunct o l nx) =
-        by expander Hit (level_is token_leaves levels.Expression c (input expander d ts ns))
-        (entered expander Hit d (input expander d ts ns) within o (λ lt. pass expander Hit _ (disjunct_deep ns c (one_more lt) l)
-        (rw (operator_left levels.Expression rest expander (d + 1) (ns ++ fs) (no_or rest nx)) (closed_is e' d rest (ns ++ fs)))))
+        by conditions Hit (level_is token_leaves levels.Expression c (input conditions d ts ns))
+        (entered conditions Hit d (input conditions d ts ns) within o (λ lt. pass conditions Hit _ (disjunct_deep ns c (one_more lt) l)
+        (rw (operator_left levels.Expression rest conditions (d + 1) (ns ++ fs) (no_or rest nx)) (closed_is e' d rest (ns ++ fs)))))
 
-    pub disjunct_deep : (ns : List (Noted Tok)) (c : Bool) {d : ℕ} (within : d ≤ 256) {e : Expr Tok Tok} {fs : List (Noted Tok)} {ts rest : Tokens} → Disjunct itself itself (Waived Hit) c d e fs ts rest
-        → Reaches expander Hit (read token_leaves (r.At levels.Disjunct c (input expander d ts ns))) (e, input expander d rest (ns ++ fs)) (expr_literals e)
+    pub disjunct_deep : (ns : List (Noted Tok)) (c : Bool) {d : ℕ} (within : d ≤ conditions.limit) {e : Expr Tok Tok} {fs : List (Noted Tok)} {ts rest : Tokens} → Disjunct itself itself (Waived conditions.limit Hit) c d e fs ts rest
+        → Reaches conditions Hit (read token_leaves (r.At levels.Disjunct c (input conditions d ts ns))) (e, input conditions d rest (ns ++ fs)) (expr_literals e)
     disjunct_deep ns c {d} within {ts = ts} (g.and {ls = ls} {rs = rs} {operator = op} {behind = behind} l kind q) =
-        renoted expander Hit (three ns ls (noted features.LogicalOperator op.tok) rs) (by expander Hit (level_is token_leaves levels.Disjunct c (input expander d ts ns))
-        (then expander Hit _ (compared_deep ns c within l) (rw (operator_taken levels.Disjunct operators.And op behind expander d (ns ++ ls) refl kind)
-        (pass expander Hit _ (disjunct_deep ((ns ++ ls) ++ noted features.LogicalOperator op.tok) false within q) refl))))
+        renoted conditions Hit (three ns ls (noted features.LogicalOperator op.tok) rs) (by conditions Hit (level_is token_leaves levels.Disjunct c (input conditions d ts ns))
+        (then conditions Hit _ (compared_deep ns c within l) (rw (operator_taken levels.Disjunct operators.And op behind conditions d (ns ++ ls) refl kind)
+        (pass conditions Hit _ (disjunct_deep ((ns ++ ls) ++ noted features.LogicalOperator op.tok) false within q) refl))))
     disjunct_deep ns c {d} within {fs = fs} {ts = ts} {rest = rest} (g.comparison l nx) =
-        by expander Hit (level_is token_leaves levels.Disjunct c (input expander d ts ns)) (pass expander Hit _ (compared_deep ns c within l) (rw (operator_left levels.Disjunct rest expander d (ns ++ fs) (no_and rest nx)) refl))
+        by conditions Hit (level_is token_leaves levels.Disjunct c (input conditions d ts ns)) (pass conditions Hit _ (compared_deep ns c within l) (rw (operator_left levels.Disjunct rest conditions d (ns ++ fs) (no_and rest nx)) refl))
 
-    pub compared_deep : (ns : List (Noted Tok)) (c : Bool) {d : ℕ} (within : d ≤ 256) {e : Expr Tok Tok} {fs : List (Noted Tok)} {ts rest : Tokens} → Compared itself itself (Waived Hit) c d e fs ts rest
-        → Reaches expander Hit (read token_leaves (r.At levels.Compared c (input expander d ts ns))) (e, input expander d rest (ns ++ fs)) (expr_literals e)
+    pub compared_deep : (ns : List (Noted Tok)) (c : Bool) {d : ℕ} (within : d ≤ conditions.limit) {e : Expr Tok Tok} {fs : List (Noted Tok)} {ts rest : Tokens} → Compared itself itself (Waived conditions.limit Hit) c d e fs ts rest
+        → Reaches conditions Hit (read token_leaves (r.At levels.Compared c (input conditions d ts ns))) (e, input conditions d rest (ns ++ fs)) (expr_literals e)
     compared_deep ns c {d} within {ts = ts} (g.compare {ls = ls} {rs = rs} {operator = op} {behind = behind} by_operator l kind q) =
-        renoted expander Hit (three ns ls (compared c op.tok) rs) (by expander Hit (level_is token_leaves levels.Compared c (input expander d ts ns))
-        (then expander Hit _ (conjunct_deep ns c within l) (rw (operator_taken levels.Compared (operators.Compare by_operator) op behind expander d (ns ++ ls) refl kind, compared_is by_operator c op.tok)
-        (pass expander Hit _ (conjunct_deep ((ns ++ ls) ++ compared c op.tok) false within q) refl))))
+        renoted conditions Hit (three ns ls (compared c op.tok) rs) (by conditions Hit (level_is token_leaves levels.Compared c (input conditions d ts ns))
+        (then conditions Hit _ (conjunct_deep ns c within l) (rw (operator_taken levels.Compared (operators.Compare by_operator) op behind conditions d (ns ++ ls) refl kind, compared_is conditions by_operator c op.tok)
+        (pass conditions Hit _ (conjunct_deep ((ns ++ ls) ++ compared c op.tok) false within q) refl))))
     compared_deep ns c {d} within {fs = fs} {ts = ts} {rest = rest} (g.conjunct l nx) =
-        by expander Hit (level_is token_leaves levels.Compared c (input expander d ts ns)) (pass expander Hit _ (conjunct_deep ns c within l) (rw (operator_left levels.Compared rest expander d (ns ++ fs) (no_comparison rest nx)) refl))
+        by conditions Hit (level_is token_leaves levels.Compared c (input conditions d ts ns)) (pass conditions Hit _ (conjunct_deep ns c within l) (rw (operator_left levels.Compared rest conditions d (ns ++ fs) (no_comparison rest nx)) refl))
 
-    pub conjunct_deep : (ns : List (Noted Tok)) (c : Bool) {d : ℕ} (within : d ≤ 256) {e : Expr Tok Tok} {fs : List (Noted Tok)} {ts rest : Tokens} → Conjunct itself itself (Waived Hit) d e fs ts rest
-        → Reaches expander Hit (read token_leaves (r.At levels.Conjunct c (input expander d ts ns))) (e, input expander d rest (ns ++ fs)) (expr_literals e)
+    pub conjunct_deep : (ns : List (Noted Tok)) (c : Bool) {d : ℕ} (within : d ≤ conditions.limit) {e : Expr Tok Tok} {fs : List (Noted Tok)} {ts rest : Tokens} → Conjunct itself itself (Waived conditions.limit Hit) d e fs ts rest
+        → Reaches conditions Hit (read token_leaves (r.At levels.Conjunct c (input conditions d ts ns))) (e, input conditions d rest (ns ++ fs)) (expr_literals e)
     conjunct_deep ns c {d} within {ts = ts} (g.conditional {word = w} {tokens = tokens} is k) =
-        by expander Hit (level_is token_leaves levels.Conjunct c (input expander d ts ns)) (rw (word_taken (codes "if") w tokens expander d ns is) (conditional_deep ns within k))
+        by conditions Hit (level_is token_leaves levels.Conjunct c (input conditions d ts ns)) (rw (word_taken (codes "if") w tokens conditions d ns is) (conditional_deep ns within k))
     conjunct_deep ns c {d} within {ts = ts} (g.root {operator = op} {tokens = tokens} kind q) =
-        by expander Hit (level_is token_leaves levels.Conjunct c (input expander d ts ns))
-        (rw (word_left (codes "if") ts expander d ns (no_word (codes "if") op kind (λ e. cc)), accept_taken kinds.Slash op tokens expander d ns kind) (pass expander Hit _ (conjunct_deep ns false within q) refl))
+        by conditions Hit (level_is token_leaves levels.Conjunct c (input conditions d ts ns))
+        (rw (word_left (codes "if") ts conditions d ns (no_word (codes "if") op kind (λ e. cc)), accept_taken kinds.Slash op tokens conditions d ns kind) (pass conditions Hit _ (conjunct_deep ns false within q) refl))
     conjunct_deep ns c {d} within {ts = ts} (g.join {ls = ls} {rs = rs} {operator = op} {behind = behind} nx l kind q) =
-        renoted expander Hit (append_assoc ns ls rs) (by expander Hit (level_is token_leaves levels.Conjunct c (input expander d ts ns))
-        (rw (word_left (codes "if") ts expander d ns nx, accept_left kinds.Slash ts expander d ns (no_slash (Waived Hit) l))
-        (then expander Hit _ (value_deep ns c within l) (rw (operator_taken levels.Conjunct operators.Join op behind expander d (ns ++ ls) refl kind, append-nil (ns ++ ls))
-        (pass expander Hit _ (conjunct_deep (ns ++ ls) false within q) refl)))))
+        renoted conditions Hit (append_assoc ns ls rs) (by conditions Hit (level_is token_leaves levels.Conjunct c (input conditions d ts ns))
+        (rw (word_left (codes "if") ts conditions d ns nx, accept_left kinds.Slash ts conditions d ns (no_slash (Waived conditions.limit Hit) l))
+        (then conditions Hit _ (value_deep ns c within l) (rw (operator_taken levels.Conjunct operators.Join op behind conditions d (ns ++ ls) refl kind, append-nil (ns ++ ls))
+        (pass conditions Hit _ (conjunct_deep (ns ++ ls) false within q) refl)))))
     conjunct_deep ns c {d} within {ts = ts} (g.list_concatenation {ls = ls} {rs = rs} {operator = op} {behind = behind} nx l kind q) =
-        renoted expander Hit (three ns ls (noted features.ListConcatenationOperator op.tok) rs) (by expander Hit (level_is token_leaves levels.Conjunct c (input expander d ts ns))
-        (rw (word_left (codes "if") ts expander d ns nx, accept_left kinds.Slash ts expander d ns (no_slash (Waived Hit) l))
-        (then expander Hit _ (value_deep ns c within l) (rw (operator_taken levels.Conjunct operators.ListConcatenation op behind expander d (ns ++ ls) refl kind)
-        (pass expander Hit _ (conjunct_deep ((ns ++ ls) ++ noted features.ListConcatenationOperator op.tok) false within q) refl)))))
+        renoted conditions Hit (three ns ls (noted features.ListConcatenationOperator op.tok) rs) (by conditions Hit (level_is token_leaves levels.Conjunct c (input conditions d ts ns))
+        (rw (word_left (codes "if") ts conditions d ns nx, accept_left kinds.Slash ts conditions d ns (no_slash (Waived conditions.limit Hit) l))
+        (then conditions Hit _ (value_deep ns c within l) (rw (operator_taken levels.Conjunct operators.ListConcatenation op behind conditions d (ns ++ ls) refl kind)
+        (pass conditions Hit _ (conjunct_deep ((ns ++ ls) ++ noted features.ListConcatenationOperator op.tok) false within q) refl)))))
     conjunct_deep ns c {d} within {ts = ts} (g.concatenation {ls = ls} {rs = rs} {operator = op} {behind = behind} nx l kind q) =
-        renoted expander Hit (append_assoc ns ls rs) (by expander Hit (level_is token_leaves levels.Conjunct c (input expander d ts ns))
-        (rw (word_left (codes "if") ts expander d ns nx, accept_left kinds.Slash ts expander d ns (no_slash (Waived Hit) l))
-        (then expander Hit _ (value_deep ns c within l) (rw (operator_taken levels.Conjunct operators.Concatenation op behind expander d (ns ++ ls) refl kind, append-nil (ns ++ ls))
-        (pass expander Hit _ (conjunct_deep (ns ++ ls) false within q) refl)))))
+        renoted conditions Hit (append_assoc ns ls rs) (by conditions Hit (level_is token_leaves levels.Conjunct c (input conditions d ts ns))
+        (rw (word_left (codes "if") ts conditions d ns nx, accept_left kinds.Slash ts conditions d ns (no_slash (Waived conditions.limit Hit) l))
+        (then conditions Hit _ (value_deep ns c within l) (rw (operator_taken levels.Conjunct operators.Concatenation op behind conditions d (ns ++ ls) refl kind, append-nil (ns ++ ls))
+        (pass conditions Hit _ (conjunct_deep (ns ++ ls) false within q) refl)))))
     conjunct_deep ns c {d} within {fs = fs} {ts = ts} {rest = rest} (g.value nx l nj) =
-        by expander Hit (level_is token_leaves levels.Conjunct c (input expander d ts ns))
-        (rw (word_left (codes "if") ts expander d ns nx, accept_left kinds.Slash ts expander d ns (no_slash (Waived Hit) l))
-        (pass expander Hit _ (value_deep ns c within l) (rw (operator_left levels.Conjunct rest expander d (ns ++ fs) (no_joined rest nj)) refl)))
+        by conditions Hit (level_is token_leaves levels.Conjunct c (input conditions d ts ns))
+        (rw (word_left (codes "if") ts conditions d ns nx, accept_left kinds.Slash ts conditions d ns (no_slash (Waived conditions.limit Hit) l))
+        (pass conditions Hit _ (value_deep ns c within l) (rw (operator_left levels.Conjunct rest conditions d (ns ++ fs) (no_joined rest nj)) refl)))
 
-    pub condition_deep : (ns : List (Noted Tok)) {d : ℕ} (within : d ≤ 256) {e : Expr Tok Tok} {fs : List (Noted Tok)} {ts rest : Tokens} → Condition itself itself (Waived Hit) d e fs ts rest
-        → Reaches expander Hit (condition_rule token_leaves (read token_leaves) (input expander d ts ns)) (e, input expander d rest (ns ++ fs)) (expr_literals e)
+    pub condition_deep : (ns : List (Noted Tok)) {d : ℕ} (within : d ≤ conditions.limit) {e : Expr Tok Tok} {fs : List (Noted Tok)} {ts rest : Tokens} → Condition itself itself (Waived conditions.limit Hit) d e fs ts rest
+        → Reaches conditions Hit (condition_rule token_leaves (read token_leaves) (input conditions d ts ns)) (e, input conditions d rest (ns ++ fs)) (expr_literals e)
     condition_deep ns {d} within {e = e} (g.condition {fs = fs} {first = first} q) =
-        renoted expander Hit (append_assoc ns fs (uncompared e first.tok)) (pass expander Hit _ (expression_deep ns true within q) refl)
+        renoted conditions Hit (append_assoc ns fs (uncompared e first.tok)) (pass conditions Hit _ (expression_deep ns true within q) refl)
 
-    pub braced_deep : (ns : List (Noted Tok)) {d : ℕ} (within : d ≤ 256) {e : Expr Tok Tok} {fs : List (Noted Tok)} {ts rest : Tokens} → Braced itself itself (Waived Hit) d e fs ts rest
-        → Reaches expander Hit (braced_rule token_leaves (read token_leaves) (input expander d ts ns)) (e, input expander d rest (ns ++ fs)) (expr_literals e)
+    pub braced_deep : (ns : List (Noted Tok)) {d : ℕ} (within : d ≤ conditions.limit) {e : Expr Tok Tok} {fs : List (Noted Tok)} {ts rest : Tokens} → Braced itself itself (Waived conditions.limit Hit) d e fs ts rest
+        → Reaches conditions Hit (braced_rule token_leaves (read token_leaves) (input conditions d ts ns)) (e, input conditions d rest (ns ++ fs)) (expr_literals e)
     braced_deep ns {d} within {fs = fs} {rest = rest} (g.braces {opener = opener} {closer = closer} {behind = behind} kind q kind2) =
-        rw (expect_taken kinds.BraceL opener behind expander d ns kind) (pass expander Hit _ (expression_deep ns false within q) (rw (expect_taken kinds.BraceR closer rest expander d (ns ++ fs) kind2) refl))
+        rw (expect_taken kinds.BraceL opener behind conditions d ns kind) (pass conditions Hit _ (expression_deep ns false within q) (rw (expect_taken kinds.BraceR closer rest conditions d (ns ++ fs) kind2) refl))
 
-    pub conditional_deep : (ns : List (Noted Tok)) {d : ℕ} (within : d ≤ 256) {w : SignificantToken} {e : Expr Tok Tok} {fs : List (Noted Tok)} {ts rest : Tokens} → Conditional itself itself (Waived Hit) d w e fs ts rest
-        → Reaches expander Hit (read token_leaves (r.Conditional w (input expander d ts ns))) (e, input expander d rest (ns ++ fs)) (expr_literals e)
+    pub conditional_deep : (ns : List (Noted Tok)) {d : ℕ} (within : d ≤ conditions.limit) {w : SignificantToken} {e : Expr Tok Tok} {fs : List (Noted Tok)} {ts rest : Tokens} → Conditional itself itself (Waived conditions.limit Hit) d w e fs ts rest
+        → Reaches conditions Hit (read token_leaves (r.Conditional w (input conditions d ts ns))) (e, input conditions d rest (ns ++ fs)) (expr_literals e)
     conditional_deep ns {d} within {w} {ts = ts} {rest = rest} (g.if_only {cs = cs} {bs = bs} c b nx) =
-        renoted expander Hit (three ns cs bs (noted features.IfWithoutElse w.tok)) (by expander Hit (conditional_is token_leaves w (input expander d ts ns))
-        (then expander Hit _ (condition_deep ns within c) (pass expander Hit _ (braced_deep (ns ++ cs) within b) (rw (word_left (codes "else") rest expander d ((ns ++ cs) ++ bs) nx) refl))))
+        renoted conditions Hit (three ns cs bs (noted features.IfWithoutElse w.tok)) (by conditions Hit (conditional_is token_leaves w (input conditions d ts ns))
+        (then conditions Hit _ (condition_deep ns within c) (pass conditions Hit _ (braced_deep (ns ++ cs) within b) (rw (word_left (codes "else") rest conditions d ((ns ++ cs) ++ bs) nx) refl))))
     conditional_deep ns {d} within {w} {ts = ts} {rest = rest} (g.if_else {c = c'} {b = b'} {o = o'} {cs = cs} {bs = bs} {os = os} {otherwise = w'} {other = other} c b is o nx) =
-        renoted expander Hit (three ns cs bs os) (regrouped expander Hit (sym (append_assoc (expr_literals c') (expr_literals b') (expr_literals o'))) (by expander Hit (conditional_is token_leaves w (input expander d ts ns))
-        (then expander Hit _ (condition_deep ns within c) (then expander Hit _ (braced_deep (ns ++ cs) within b)
-        (rw (word_taken (codes "else") w' other expander d ((ns ++ cs) ++ bs) is)
-        (pass expander Hit _ (branch_reached d other rest ((ns ++ cs) ++ bs) (((ns ++ cs) ++ bs) ++ os) o' (braced_no_word (Waived Hit) o) nx (braced_deep ((ns ++ cs) ++ bs) within o)) refl))))))
+        renoted conditions Hit (three ns cs bs os) (regrouped conditions Hit (sym (append_assoc (expr_literals c') (expr_literals b') (expr_literals o'))) (by conditions Hit (conditional_is token_leaves w (input conditions d ts ns))
+        (then conditions Hit _ (condition_deep ns within c) (then conditions Hit _ (braced_deep (ns ++ cs) within b)
+        (rw (word_taken (codes "else") w' other conditions d ((ns ++ cs) ++ bs) is)
+        (pass conditions Hit _ (branch_reached d other rest ((ns ++ cs) ++ bs) (((ns ++ cs) ++ bs) ++ os) o' (braced_no_word (Waived conditions.limit Hit) o) nx (braced_deep ((ns ++ cs) ++ bs) within o)) refl))))))
     conditional_deep ns {d} within {w} {ts = ts} {rest = rest} (g.else_if {c = c'} {b = b'} {o = o'} {cs = cs} {bs = bs} {os = os} {otherwise = w'} {again = again} {other = other} c b is is2 o) =
-        renoted expander Hit (three ns cs bs os) (regrouped expander Hit (sym (append_assoc (expr_literals c') (expr_literals b') (expr_literals o'))) (by expander Hit (conditional_is token_leaves w (input expander d ts ns))
-        (then expander Hit _ (condition_deep ns within c) (then expander Hit _ (braced_deep (ns ++ cs) within b)
-        (rw (word_taken (codes "else") w' (again ∷ other) expander d ((ns ++ cs) ++ bs) is)
-        (pass expander Hit _ (again_reached d again other rest ((ns ++ cs) ++ bs) (((ns ++ cs) ++ bs) ++ os) o' is2 (conditional_deep ((ns ++ cs) ++ bs) within o)) refl))))))
+        renoted conditions Hit (three ns cs bs os) (regrouped conditions Hit (sym (append_assoc (expr_literals c') (expr_literals b') (expr_literals o'))) (by conditions Hit (conditional_is token_leaves w (input conditions d ts ns))
+        (then conditions Hit _ (condition_deep ns within c) (then conditions Hit _ (braced_deep (ns ++ cs) within b)
+        (rw (word_taken (codes "else") w' (again ∷ other) conditions d ((ns ++ cs) ++ bs) is)
+        (pass conditions Hit _ (again_reached d again other rest ((ns ++ cs) ++ bs) (((ns ++ cs) ++ bs) ++ os) o' is2 (conditional_deep ((ns ++ cs) ++ bs) within o)) refl))))))
 
-    pub value_deep : (ns : List (Noted Tok)) (condition : Bool) {d : ℕ} (within : d ≤ 256) {e : Expr Tok Tok} {fs : List (Noted Tok)} {ts rest : Tokens} → Value itself itself (Waived Hit) d e fs ts rest
-        → Reaches expander Hit (read token_leaves (r.At levels.Value condition (input expander d ts ns))) (e, input expander d rest (ns ++ fs)) (expr_literals e)
+    pub value_deep : (ns : List (Noted Tok)) (condition : Bool) {d : ℕ} (within : d ≤ conditions.limit) {e : Expr Tok Tok} {fs : List (Noted Tok)} {ts rest : Tokens} → Value itself itself (Waived conditions.limit Hit) d e fs ts rest
+        → Reaches conditions Hit (read token_leaves (r.At levels.Value condition (input conditions d ts ns))) (e, input conditions d rest (ns ++ fs)) (expr_literals e)
     value_deep ns condition {d} within {ts = ts} (g.not {fs = fs} {bang = bang} {tokens = tokens} kind v) =
-        renoted expander Hit (append_assoc ns (noted features.NegationOperator bang.tok) fs) (by expander Hit (level_is token_leaves levels.Value condition (input expander d ts ns))
-        (rw (accept_taken kinds.Bang bang tokens expander d ns kind) (pass expander Hit _ (value_deep (ns ++ noted features.NegationOperator bang.tok) false within v) refl)))
+        renoted conditions Hit (append_assoc ns (noted features.NegationOperator bang.tok) fs) (by conditions Hit (level_is token_leaves levels.Value condition (input conditions d ts ns))
+        (rw (accept_taken kinds.Bang bang tokens conditions d ns kind) (pass conditions Hit _ (value_deep (ns ++ noted features.NegationOperator bang.tok) false within v) refl)))
     value_deep ns condition {d} within {ts = ts} {rest = rest} (g.literal {token = token} kind) =
-        renoted expander Hit (sym (append-nil ns)) (by expander Hit (level_is token_leaves levels.Value condition (input expander d ts ns))
-        (rw (accept_left kinds.Bang ts expander d ns (λ e. cc), accept_taken kinds.StringToken token rest expander d ns kind) (pass expander Hit _ (pass expander Hit _ (cooked expander Hit (tree.StringLiteral false) (literal.string_of false) (literal.Plain token.tok) token refl refl) refl) refl)))
+        renoted conditions Hit (sym (append-nil ns)) (by conditions Hit (level_is token_leaves levels.Value condition (input conditions d ts ns))
+        (rw (accept_left kinds.Bang ts conditions d ns (λ e. cc), accept_taken kinds.StringToken token rest conditions d ns kind) (pass conditions Hit _ (pass conditions Hit _ (cooked conditions Hit (tree.StringLiteral false) (literal.string_of false) (literal.Plain token.tok) token refl refl) refl) refl)))
     value_deep ns condition {d} within {ts = ts} {rest = rest} (g.expanded {mark = mark} {token = token} m) =
         let n = m.marks.is_name in
-        renoted expander Hit (sym (append-nil ns)) (by expander Hit (level_is token_leaves levels.Value condition (input expander d ts ns))
+        renoted conditions Hit (sym (append-nil ns)) (by conditions Hit (level_is token_leaves levels.Value condition (input conditions d ts ns))
         (rw (
-          accept_left kinds.Bang ts expander d ns (λ e. cc),
-          accept_left kinds.StringToken ts expander d ns (λ e. cc),
-          marked_taken (codes "x") kinds.StringToken mark token rest expander d ns m,
-        ) (pass expander Hit _ (pass expander Hit _ (cooked expander Hit (tree.StringLiteral true) (literal.string_of true) (literal.Expanded token.tok) token refl refl) refl) refl)))
+          accept_left kinds.Bang ts conditions d ns (λ e. cc),
+          accept_left kinds.StringToken ts conditions d ns (λ e. cc),
+          marked_taken (codes "x") kinds.StringToken mark token rest conditions d ns m,
+        ) (pass conditions Hit _ (pass conditions Hit _ (cooked conditions Hit (tree.StringLiteral true) (literal.string_of true) (literal.Expanded token.tok) token refl refl) refl) refl)))
     value_deep ns condition {d} within {ts = ts} {rest = rest} (g.format_literal {mark = mark} {token = token} m) =
         let n = m.marks.is_name in
-        renoted expander Hit (sym (append-nil ns)) (by expander Hit (level_is token_leaves levels.Value condition (input expander d ts ns))
+        renoted conditions Hit (sym (append-nil ns)) (by conditions Hit (level_is token_leaves levels.Value condition (input conditions d ts ns))
         (rw (
-          accept_left kinds.Bang ts expander d ns (λ e. cc),
-          accept_left kinds.StringToken ts expander d ns (λ e. cc),
-          marked_left (codes "x") kinds.StringToken ts expander d ns (no_x kinds.StringToken kinds.StringToken mark token rest m),
-          marked_taken (codes "f") kinds.StringToken mark token rest expander d ns m,
-        ) (pass expander Hit _ (pass expander Hit _ (cooked expander Hit tree.FormatLiteral literal.Single (literal.Single token.tok) token refl refl) refl) refl)))
+          accept_left kinds.Bang ts conditions d ns (λ e. cc),
+          accept_left kinds.StringToken ts conditions d ns (λ e. cc),
+          marked_left (codes "x") kinds.StringToken ts conditions d ns (no_x kinds.StringToken kinds.StringToken mark token rest m),
+          marked_taken (codes "f") kinds.StringToken mark token rest conditions d ns m,
+        ) (pass conditions Hit _ (pass conditions Hit _ (cooked conditions Hit tree.FormatLiteral literal.Single (literal.Single token.tok) token refl refl) refl) refl)))
     value_deep ns condition {d} within {ts = ts} (g.format_string {fs = fs} {gs = gs} {mark = mark} {start = start} {tokens = tokens} m q ps) =
         let n = m.marks.is_name in
         let s = m.is_string in
-        renoted expander Hit (append_assoc ns fs gs) (by expander Hit (level_is token_leaves levels.Value condition (input expander d ts ns))
+        renoted conditions Hit (append_assoc ns fs gs) (by conditions Hit (level_is token_leaves levels.Value condition (input conditions d ts ns))
         (rw (
-          accept_left kinds.Bang ts expander d ns (λ e. cc),
-          accept_left kinds.StringToken ts expander d ns (λ e. cc),
-          marked_left (codes "x") kinds.StringToken ts expander d ns (no_x kinds.FormatStringStart kinds.StringToken mark start tokens m),
-          marked_left (codes "f") kinds.StringToken ts expander d ns (λ x. let k = x.is_string in cc),
-          accept_left kinds.Backtick ts expander d ns (λ e. cc),
-          marked_taken (codes "f") kinds.FormatStringStart mark start tokens expander d ns m,
+          accept_left kinds.Bang ts conditions d ns (λ e. cc),
+          accept_left kinds.StringToken ts conditions d ns (λ e. cc),
+          marked_left (codes "x") kinds.StringToken ts conditions d ns (no_x kinds.FormatStringStart kinds.StringToken mark start tokens m),
+          marked_left (codes "f") kinds.StringToken ts conditions d ns (λ x. let k = x.is_string in cc),
+          accept_left kinds.Backtick ts conditions d ns (λ e. cc),
+          marked_taken (codes "f") kinds.FormatStringStart mark start tokens conditions d ns m,
         )
-        (then expander Hit _ (cooked expander Hit (λ l. l) literal.Start (literal.Start start.tok) start refl refl) (then expander Hit _ (expression_deep ns false within q) (pass expander Hit _ (parts_deep (ns ++ fs) start.tok within ps) refl)))))
+        (then conditions Hit _ (cooked conditions Hit (λ l. l) literal.Start (literal.Start start.tok) start refl refl) (then conditions Hit _ (expression_deep ns false within q) (pass conditions Hit _ (parts_deep (ns ++ fs) start.tok within ps) refl)))))
     value_deep ns condition {d} within {ts = ts} {rest = rest} (g.backtick {token = token} kind) =
-        renoted expander Hit (sym (append-nil ns)) (by expander Hit (level_is token_leaves levels.Value condition (input expander d ts ns))
+        renoted conditions Hit (sym (append-nil ns)) (by conditions Hit (level_is token_leaves levels.Value condition (input conditions d ts ns))
         (rw (
-          accept_left kinds.Bang ts expander d ns (λ e. cc),
-          accept_left kinds.StringToken ts expander d ns (λ e. cc),
-          marked_left (codes "x") kinds.StringToken ts expander d ns (no_mark (codes "x") kinds.StringToken token rest (no_word (codes "x") token kind (λ e. cc))),
-          marked_left (codes "f") kinds.StringToken ts expander d ns (no_mark (codes "f") kinds.StringToken token rest (no_word (codes "f") token kind (λ e. cc))),
-          accept_taken kinds.Backtick token rest expander d ns kind,
-        ) (pass expander Hit _ (pass expander Hit _ (cooked expander Hit tree.Backtick literal.Command (literal.Command token.tok) token refl refl) refl) refl)))
+          accept_left kinds.Bang ts conditions d ns (λ e. cc),
+          accept_left kinds.StringToken ts conditions d ns (λ e. cc),
+          marked_left (codes "x") kinds.StringToken ts conditions d ns (no_mark (codes "x") kinds.StringToken token rest (no_word (codes "x") token kind (λ e. cc))),
+          marked_left (codes "f") kinds.StringToken ts conditions d ns (no_mark (codes "f") kinds.StringToken token rest (no_word (codes "f") token kind (λ e. cc))),
+          accept_taken kinds.Backtick token rest conditions d ns kind,
+        ) (pass conditions Hit _ (pass conditions Hit _ (cooked conditions Hit tree.Backtick literal.Command (literal.Command token.tok) token refl refl) refl) refl)))
     value_deep ns condition {d} within {fs = fs} {ts = ts} {rest = rest} (g.assert {word = w} {opener = opener} {closer = closer} {tokens = tokens} is kind c kind2) =
-        by expander Hit (value_past condition d ts ns (named w opener tokens is.is_name (λ e. cc) (λ e. cc)))
-        (rw (word_taken (codes "assert") w (opener ∷ tokens) expander d ns is, expect_taken kinds.ParenL opener tokens expander d ns kind)
-        (pass expander Hit _ (condition_deep ns within c) (rw (accept_left kinds.Comma (closer ∷ rest) expander d (ns ++ fs) (λ e. cc), expect_taken kinds.ParenR closer rest expander d (ns ++ fs) kind2) refl)))
+        by conditions Hit (value_past condition d ts ns (named w opener tokens is.is_name (λ e. cc) (λ e. cc)))
+        (rw (word_taken (codes "assert") w (opener ∷ tokens) conditions d ns is, expect_taken kinds.ParenL opener tokens conditions d ns kind)
+        (pass conditions Hit _ (condition_deep ns within c) (rw (accept_left kinds.Comma (closer ∷ rest) conditions d (ns ++ fs) (λ e. cc), expect_taken kinds.ParenR closer rest conditions d (ns ++ fs) kind2) refl)))
     value_deep ns condition {d} within {ts = ts} {rest = rest} (g.assert_message {fs = fs} {gs = gs} {word = w} {opener = opener} {comma = comma} {closer = closer} {tokens = tokens} {behind = behind} is kind c kind2 m kind3) =
-        renoted expander Hit (append_assoc ns fs gs) (by expander Hit (value_past condition d ts ns (named w opener tokens is.is_name (λ e. cc) (λ e. cc)))
-        (rw (word_taken (codes "assert") w (opener ∷ tokens) expander d ns is, expect_taken kinds.ParenL opener tokens expander d ns kind)
-        (then expander Hit _ (condition_deep ns within c) (rw (accept_taken kinds.Comma comma behind expander d (ns ++ fs) kind2)
-        (pass expander Hit _ (expression_deep (ns ++ fs) false within m) (rw (expect_taken kinds.ParenR closer rest expander d ((ns ++ fs) ++ gs) kind3) refl))))))
+        renoted conditions Hit (append_assoc ns fs gs) (by conditions Hit (value_past condition d ts ns (named w opener tokens is.is_name (λ e. cc) (λ e. cc)))
+        (rw (word_taken (codes "assert") w (opener ∷ tokens) conditions d ns is, expect_taken kinds.ParenL opener tokens conditions d ns kind)
+        (then conditions Hit _ (condition_deep ns within c) (rw (accept_taken kinds.Comma comma behind conditions d (ns ++ fs) kind2)
+        (pass conditions Hit _ (expression_deep (ns ++ fs) false within m) (rw (expect_taken kinds.ParenR closer rest conditions d ((ns ++ fs) ++ gs) kind3) refl))))))
     value_deep ns condition {d} within {ts = ts} {rest = rest} (g.variable {name = name} kind na un nx) =
-        renoted expander Hit (sym (append-nil ns)) (by expander Hit (value_past condition d ts ns (record { bang = λ e. cc; string = λ e. cc; expanded = un.expanded; single = un.literal; format = un.format; backtick = λ e. cc }))
-        (rw (word_left (codes "assert") ts expander d ns na, accept_taken kinds.Identifier name rest expander d ns kind, accept_left kinds.ParenL rest expander d ns nx) (is_read tt refl)))
+        renoted conditions Hit (sym (append-nil ns)) (by conditions Hit (value_past condition d ts ns (record { bang = λ e. cc; string = λ e. cc; expanded = un.expanded; single = un.literal; format = un.format; backtick = λ e. cc }))
+        (rw (word_left (codes "assert") ts conditions d ns na, accept_taken kinds.Identifier name rest conditions d ns kind, accept_left kinds.ParenL rest conditions d ns nx) (is_read tt refl)))
     value_deep ns condition {d} within {ts = ts} (g.call {fs = fs} {name = name} {opener = opener} {tokens = tokens} kind na kind2 s) =
-        renoted expander Hit (append_assoc ns fs (called name.tok.lexeme name.tok)) (by expander Hit (value_past condition d ts ns (named name opener tokens kind (λ e. cc) (λ e. cc)))
-        (rw (word_left (codes "assert") ts expander d ns na, accept_taken kinds.Identifier name (opener ∷ tokens) expander d ns kind, accept_taken kinds.ParenL opener tokens expander d ns kind2)
-        (pass expander Hit _ (sequence_deep ns within (λ e. cc) s) refl)))
+        renoted conditions Hit (append_assoc ns fs (called name.tok.lexeme name.tok)) (by conditions Hit (value_past condition d ts ns (named name opener tokens kind (λ e. cc) (λ e. cc)))
+        (rw (word_left (codes "assert") ts conditions d ns na, accept_taken kinds.Identifier name (opener ∷ tokens) conditions d ns kind, accept_taken kinds.ParenL opener tokens conditions d ns kind2)
+        (pass conditions Hit _ (sequence_deep ns within (λ e. cc) s) refl)))
     value_deep ns condition {d} within {fs = fs} {rest = rest} (g.group {opener = opener} {closer = closer} {behind = behind} kind q kind2) =
-        by expander Hit (past_names condition d opener behind ns (record { bang = λ e. cc; string = λ e. cc; backtick = λ e. cc; name = λ e. cc }))
-        (rw (accept_taken kinds.ParenL opener behind expander d ns kind) (pass expander Hit _ (expression_deep ns false within q) (rw (expect_taken kinds.ParenR closer rest expander d (ns ++ fs) kind2) refl)))
+        by conditions Hit (past_names condition d opener behind ns (record { bang = λ e. cc; string = λ e. cc; backtick = λ e. cc; name = λ e. cc }))
+        (rw (accept_taken kinds.ParenL opener behind conditions d ns kind) (pass conditions Hit _ (expression_deep ns false within q) (rw (expect_taken kinds.ParenR closer rest conditions d (ns ++ fs) kind2) refl)))
     value_deep ns condition {d} within {ts = ts} (g.list {fs = fs} {opener = opener} {tokens = tokens} kind s) =
-        renoted expander Hit (append_assoc ns (noted features.ListLiteral opener.tok) fs)
-        (by expander Hit (past_names condition d opener tokens ns (record { bang = λ e. cc; string = λ e. cc; backtick = λ e. cc; name = λ e. cc }))
-        (rw (accept_left kinds.ParenL ts expander d ns (λ e. cc), accept_taken kinds.BracketL opener tokens expander d ns kind)
-        (pass expander Hit _ (sequence_deep (ns ++ noted features.ListLiteral opener.tok) within (λ e. cc) s) refl)))
+        renoted conditions Hit (append_assoc ns (noted features.ListLiteral opener.tok) fs)
+        (by conditions Hit (past_names condition d opener tokens ns (record { bang = λ e. cc; string = λ e. cc; backtick = λ e. cc; name = λ e. cc }))
+        (rw (accept_left kinds.ParenL ts conditions d ns (λ e. cc), accept_taken kinds.BracketL opener tokens conditions d ns kind)
+        (pass conditions Hit _ (sequence_deep (ns ++ noted features.ListLiteral opener.tok) within (λ e. cc) s) refl)))
 
     -- the closing delimiter is no comma
-    pub sequence_deep : (ns : List (Noted Tok)) {k : TokenKind} {d : ℕ} (within : d ≤ 256) {e : Exprs Tok Tok} {fs : List (Noted Tok)} {ts rest : Tokens} → k ≢ kinds.Comma → Sequence itself itself (Waived Hit) k d e fs ts rest
-        → Reaches expander Hit (read token_leaves (r.Sequence k (input expander d ts ns))) (e, input expander d rest (ns ++ fs)) (exprs_literals e)
+    pub sequence_deep : (ns : List (Noted Tok)) {k : TokenKind} {d : ℕ} (within : d ≤ conditions.limit) {e : Exprs Tok Tok} {fs : List (Noted Tok)} {ts rest : Tokens} → k ≢ kinds.Comma → Sequence itself itself (Waived conditions.limit Hit) k d e fs ts rest
+        → Reaches conditions Hit (read token_leaves (r.Sequence k (input conditions d ts ns))) (e, input conditions d rest (ns ++ fs)) (exprs_literals e)
     sequence_deep ns {k} {d} within {ts = ts} {rest = rest} nc (g.none {closer = closer} kind) =
-        renoted expander Hit (sym (append-nil ns)) (by expander Hit (sequence_is token_leaves k (input expander d ts ns)) (rw (accept_taken k closer rest expander d ns kind) (is_read tt refl)))
+        renoted conditions Hit (sym (append-nil ns)) (by conditions Hit (sequence_is token_leaves k (input conditions d ts ns)) (rw (accept_taken k closer rest conditions d ns kind) (is_read tt refl)))
     sequence_deep ns {k} {d} within {fs = fs} {ts = ts} {rest = rest} nc (g.last {e = e} {closer = closer} nx q kind) =
-        by expander Hit (sequence_is token_leaves k (input expander d ts ns)) (rw (accept_left k ts expander d ns nx)
-        (then expander Hit _ (last_reached k d (input expander d ts ns) e closer rest (ns ++ fs) nc kind (expression_deep ns false within q)) (is_read tt refl)))
+        by conditions Hit (sequence_is token_leaves k (input conditions d ts ns)) (rw (accept_left k ts conditions d ns nx)
+        (then conditions Hit _ (last_reached k d (input conditions d ts ns) e closer rest (ns ++ fs) nc kind (expression_deep ns false within q)) (is_read tt refl)))
     sequence_deep ns {k} {d} within {ts = ts} {rest = rest} nc (g.more {e = e} {fs = fs} {gs = gs} {comma = comma} {behind = behind} nx q kind s) =
-        renoted expander Hit (append_assoc ns fs gs) (by expander Hit (sequence_is token_leaves k (input expander d ts ns)) (rw (accept_left k ts expander d ns nx)
-        (then expander Hit _ (element_reached k d (input expander d ts ns) e comma behind (ns ++ fs) kind (expression_deep ns false within q)) (pass expander Hit _ (sequence_deep (ns ++ fs) within nc s) refl))))
+        renoted conditions Hit (append_assoc ns fs gs) (by conditions Hit (sequence_is token_leaves k (input conditions d ts ns)) (rw (accept_left k ts conditions d ns nx)
+        (then conditions Hit _ (element_reached k d (input conditions d ts ns) e comma behind (ns ++ fs) kind (expression_deep ns false within q)) (pass conditions Hit _ (sequence_deep (ns ++ fs) within nc s) refl))))
 
-    pub parts_deep : (ns : List (Noted Tok)) (start : Tok) {d : ℕ} (within : d ≤ 256) {e : Parts Tok Tok} {fs : List (Noted Tok)} {ts rest : Tokens} → FormatParts itself itself (Waived Hit) d e fs ts rest
-        → Reaches expander Hit (read token_leaves (r.FormatParts start.lexeme (input expander d ts ns))) (e, input expander d rest (ns ++ fs)) (parts_literals start e)
+    pub parts_deep : (ns : List (Noted Tok)) (start : Tok) {d : ℕ} (within : d ≤ conditions.limit) {e : Parts Tok Tok} {fs : List (Noted Tok)} {ts rest : Tokens} → FormatParts itself itself (Waived conditions.limit Hit) d e fs ts rest
+        → Reaches conditions Hit (read token_leaves (r.FormatParts start.lexeme (input conditions d ts ns))) (e, input conditions d rest (ns ++ fs)) (parts_literals start e)
     parts_deep ns start {d} within {ts = ts} {rest = rest} (g.end {token = token} kind) =
-        renoted expander Hit (sym (append-nil ns)) (by expander Hit (parts_is token_leaves start.lexeme (input expander d ts ns))
-        (pass expander Hit _ (end_reached start d token rest ns kind) refl))
+        renoted conditions Hit (sym (append-nil ns)) (by conditions Hit (parts_is token_leaves start.lexeme (input conditions d ts ns))
+        (pass conditions Hit _ (end_reached start d token rest ns kind) refl))
     parts_deep ns start {d} within {ts = ts} (g.next {fs = fs} {gs = gs} {token = token} {tokens = tokens} kind q ps) =
-        renoted expander Hit (append_assoc ns fs gs) (by expander Hit (parts_is token_leaves start.lexeme (input expander d ts ns))
-        (then expander Hit _ (part_reached start d token tokens ns kind) (then expander Hit _ (expression_deep ns false within q) (pass expander Hit _ (parts_deep (ns ++ fs) start within ps) refl))))
+        renoted conditions Hit (append_assoc ns fs gs) (by conditions Hit (parts_is token_leaves start.lexeme (input conditions d ts ns))
+        (then conditions Hit _ (part_reached start d token tokens ns kind) (then conditions Hit _ (expression_deep ns false within q) (pass conditions Hit _ (parts_deep (ns ++ fs) start within ps) refl))))

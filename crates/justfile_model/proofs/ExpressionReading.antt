@@ -41,7 +41,7 @@ few levels.Compared = omega arith
 few levels.Conjunct = omega arith
 few levels.Value = omega arith
 
-module _ {R T A B : Type 0} (leaves : Leaves R T A B) where
+module _ {R T A B S D : Type 0} (leaves : Leaves R T A B S D) where
   -- ---- what is left
 
   abbrev pub Advances : (x : Place R T B) → Out leaves x → Type 0
@@ -62,7 +62,7 @@ module _ {R T A B : Type 0} (leaves : Leaves R T A B) where
   module _ (f : (x : Place R T B) → Out leaves x) (h : (x : Place R T B) → Advances x (f x)) where
     binary_goes : (k : Level) (c : Bool) (s : State R T B) → Goes s (binary_rule leaves f k c s)
     unfolding binary_rule
-    binary_goes k c s = after_test (is_within k s) _ _ (Goes s) (λ _. inner (f (r.At (operand k) c (opened k s))) (h (r.At (operand k) c (opened k s)))) (λ _. tt)
+    binary_goes k c s = after_test (is_within (leaves.conditions s.run).limit k s) _ _ (Goes s) (λ _. inner (f (r.At (operand k) c (opened k s))) (h (r.At (operand k) c (opened k s)))) (λ _. tt)
       where
         last : (l : Expr A B × State R T B) (g : Expr A B → Expr A B) (found : ReadExpr leaves) → Past (opened k s) l.1 → Keeps l.1 found → Goes s (found >>= λ x. Ok (g x.0, closed k x.1))
         last l g (Ok x) p q = closes k s x.1 (past_then (opened k s) l.1 x.1 p q)
@@ -247,7 +247,7 @@ module _ {R T A B : Type 0} (leaves : Leaves R T A B) where
     binary_alike =
         let x = r.At k c s in
         let first = r.At (operand k) c (opened k s) in
-        test_alike (is_within k s) _ _ _ _ (λ _. first_alike _ _ _ (inside_is x first (omega (arith, tighter, opened_length k s))) ∙ bind_alike (read leaves first) _ _ (λ l is.
+        test_alike (is_within (leaves.conditions s.run).limit k s) _ _ _ _ (λ _. first_alike _ _ _ (inside_is x first (omega (arith, tighter, opened_length k s))) ∙ bind_alike (read leaves first) _ _ (λ l is.
         tail_alike x k c l (accept_operator leaves k l.1) (λ op e. omega (arith, (operators leaves k l.1 op e).0, (past (opened k s) _ l (advances first) is).0, opened_length k s)))) (λ _. refl)
 
   conjunct_alike : (c : Bool) (s : State R T B) → conjunct_rule leaves (inside (r.At levels.Conjunct c s)) c s ≡ conjunct_rule leaves (read leaves) c s

@@ -8,15 +8,16 @@ use Rattle.justfile_model.specs.declared.level.Level.{Level}
 use Rattle.justfile_model.specs.declared.level.Level.TheVariants as levels
 use Rattle.justfile_model.specs.declared.list_feature.ListFeature.TheVariants as features
 use Rattle.justfile_model.specs.declared.operator.Operator.TheVariants as operators
+use Rattle.justfile_model.specs.Conditions.{Conditions}
 use Rattle.justfile_model.specs.Tok.{Tok}
 use Rattle.justfile_model.specs.SignificantTokens.{SignificantToken}
 use Rattle.justfile_model.specs.Tree as tree
 use Rattle.justfile_model.specs.Tree.{Expr, Exprs, Parts, itself, lexeme}
 use Rattle.justfile_model.specs.Features.{Noted, noted, noted_if, compared, uncompared, called}
 use Rattle.justfile_model.specs.Expressions as g
-use Rattle.justfile_model.specs.Expressions.{Tokens, IsKind, IsWord, NotWord, NotNext, NotMarked, Unmarked, ends_open, Limited}
+use Rattle.justfile_model.specs.Expressions.{Tokens, IsKind, IsWord, NotWord, NotNext, NotMarked, Unmarked, Under, ends_open}
 use Rattle.justfile_model.specs.Literals as literal
-use Rattle.justfile_model.specs.Literals.{Literal, LiteralFault, over_literal, Answers, cooked_text}
+use Rattle.justfile_model.specs.Literals.{Literal, LiteralFault, over_literal, cooked_text}
 use Rattle.justfile_model.specs.Files.{expr_literals, exprs_literals, parts_literals}
 use Rattle.justfile_model.specs.Operators.{feature_of}
 use Rattle.justfile_model.specs.Reading.{◌>>=◌, NotCooked, at, deeper, note, shallower, with}
@@ -32,78 +33,78 @@ use Rattle.justfile_model.proofs.Steps.{NoMark, weaken, after_bind, after_choose
 abbrev pub ReadExpr : Type 0
 ReadExpr = Read (Expr Tok Tok)
 
--- trees with their tokens, under the limit
-abbrev pub Expression : Bool → ℕ → Expr Tok Tok → List (Noted Tok) → Tokens → Tokens → Type 0
-Expression = g.Expression itself itself Limited
+module _ (conditions : Conditions) where
+  -- trees with their tokens, under the limit
+  abbrev pub Expression : Bool → ℕ → Expr Tok Tok → List (Noted Tok) → Tokens → Tokens → Type 0
+  Expression = g.Expression itself itself (Under conditions.limit)
 
-abbrev pub Disjunct : Bool → ℕ → Expr Tok Tok → List (Noted Tok) → Tokens → Tokens → Type 0
-Disjunct = g.Disjunct itself itself Limited
+  abbrev pub Disjunct : Bool → ℕ → Expr Tok Tok → List (Noted Tok) → Tokens → Tokens → Type 0
+  Disjunct = g.Disjunct itself itself (Under conditions.limit)
 
-abbrev pub Compared : Bool → ℕ → Expr Tok Tok → List (Noted Tok) → Tokens → Tokens → Type 0
-Compared = g.Compared itself itself Limited
+  abbrev pub Compared : Bool → ℕ → Expr Tok Tok → List (Noted Tok) → Tokens → Tokens → Type 0
+  Compared = g.Compared itself itself (Under conditions.limit)
 
-abbrev pub Conjunct : ℕ → Expr Tok Tok → List (Noted Tok) → Tokens → Tokens → Type 0
-Conjunct = g.Conjunct itself itself Limited
+  abbrev pub Conjunct : ℕ → Expr Tok Tok → List (Noted Tok) → Tokens → Tokens → Type 0
+  Conjunct = g.Conjunct itself itself (Under conditions.limit)
 
-abbrev pub Condition : ℕ → Expr Tok Tok → List (Noted Tok) → Tokens → Tokens → Type 0
-Condition = g.Condition itself itself Limited
+  abbrev pub Condition : ℕ → Expr Tok Tok → List (Noted Tok) → Tokens → Tokens → Type 0
+  Condition = g.Condition itself itself (Under conditions.limit)
 
-abbrev pub Braced : ℕ → Expr Tok Tok → List (Noted Tok) → Tokens → Tokens → Type 0
-Braced = g.Braced itself itself Limited
+  abbrev pub Braced : ℕ → Expr Tok Tok → List (Noted Tok) → Tokens → Tokens → Type 0
+  Braced = g.Braced itself itself (Under conditions.limit)
 
-abbrev pub Conditional : ℕ → SignificantToken → Expr Tok Tok → List (Noted Tok) → Tokens → Tokens → Type 0
-Conditional = g.Conditional itself itself Limited
+  abbrev pub Conditional : ℕ → SignificantToken → Expr Tok Tok → List (Noted Tok) → Tokens → Tokens → Type 0
+  Conditional = g.Conditional itself itself (Under conditions.limit)
 
-abbrev pub Value : ℕ → Expr Tok Tok → List (Noted Tok) → Tokens → Tokens → Type 0
-Value = g.Value itself itself Limited
+  abbrev pub Value : ℕ → Expr Tok Tok → List (Noted Tok) → Tokens → Tokens → Type 0
+  Value = g.Value itself itself (Under conditions.limit)
 
-abbrev pub Sequence : TokenKind → ℕ → Exprs Tok Tok → List (Noted Tok) → Tokens → Tokens → Type 0
-Sequence = g.Sequence itself itself Limited
+  abbrev pub Sequence : TokenKind → ℕ → Exprs Tok Tok → List (Noted Tok) → Tokens → Tokens → Type 0
+  Sequence = g.Sequence itself itself (Under conditions.limit)
 
-abbrev pub FormatParts : ℕ → Parts Tok Tok → List (Noted Tok) → Tokens → Tokens → Type 0
-FormatParts = g.FormatParts itself itself Limited
+  abbrev pub FormatParts : ℕ → Parts Tok Tok → List (Noted Tok) → Tokens → Tokens → Type 0
+  FormatParts = g.FormatParts itself itself (Under conditions.limit)
 
--- an expression of a level
-abbrev pub At : Level → Bool → ℕ → Expr Tok Tok → List (Noted Tok) → Tokens → Tokens → Type 0
-At levels.Expression c d = Expression c d
-At levels.Disjunct c d = Disjunct c d
-At levels.Compared c d = Compared c d
-At levels.Conjunct c d = Conjunct d
-At levels.Value c d = Value d
+  -- an expression of a level
+  abbrev pub At : Level → Bool → ℕ → Expr Tok Tok → List (Noted Tok) → Tokens → Tokens → Type 0
+  At levels.Expression c d = Expression c d
+  At levels.Disjunct c d = Disjunct c d
+  At levels.Compared c d = Compared c d
+  At levels.Conjunct c d = Conjunct d
+  At levels.Value c d = Value d
 
--- the other branch of a conditional, from after `else`
-pub data Otherwise (d : ℕ) : Expr Tok Tok → List (Noted Tok) → Tokens → Tokens → Type 0 where
-  branch : {e : Expr Tok Tok} {fs : List (Noted Tok)} {ts rest : Tokens} → Braced d e fs ts rest → (ends_open e ≡ true → NotWord (codes "else") rest) → Otherwise d e fs ts rest
-  again : {e : Expr Tok Tok} {fs : List (Noted Tok)} {word : SignificantToken} {ts rest : Tokens} → IsWord (codes "if") word → Conditional d word e fs ts rest → Otherwise d e fs (word ∷ ts) rest
+  -- the other branch of a conditional, from after `else`
+  pub data Otherwise (d : ℕ) : Expr Tok Tok → List (Noted Tok) → Tokens → Tokens → Type 0 where
+    branch : {e : Expr Tok Tok} {fs : List (Noted Tok)} {ts rest : Tokens} → Braced d e fs ts rest → (ends_open e ≡ true → NotWord (codes "else") rest) → Otherwise d e fs ts rest
+    again : {e : Expr Tok Tok} {fs : List (Noted Tok)} {word : SignificantToken} {ts rest : Tokens} → IsWord (codes "if") word → Conditional d word e fs ts rest → Otherwise d e fs (word ∷ ts) rest
 
-with_otherwise : {d : ℕ} {w : SignificantToken} {c b o : Expr Tok Tok} {cs bs os : List (Noted Tok)} {word : SignificantToken} {ts behind other rest : Tokens}
-    → Condition d c cs ts behind → Braced d b bs behind (word ∷ other) → IsWord (codes "else") word → Otherwise d o os other rest → Conditional d w (tree.IfElse c b o) (cs ++ bs ++ os) ts rest
-with_otherwise c b is (branch o closed) = g.if_else c b is o closed
-with_otherwise c b is (again is_if o) = g.else_if c b is is_if o
+  with_otherwise : {d : ℕ} {w : SignificantToken} {c b o : Expr Tok Tok} {cs bs os : List (Noted Tok)} {word : SignificantToken} {ts behind other rest : Tokens}
+      → Condition d c cs ts behind → Braced d b bs behind (word ∷ other) → IsWord (codes "else") word → Otherwise d o os other rest → Conditional d w (tree.IfElse c b o) (cs ++ bs ++ os) ts rest
+  with_otherwise c b is (branch o closed) = g.if_else c b is o closed
+  with_otherwise c b is (again is_if o) = g.else_if c b is is_if o
 
--- an element of a sequence, and the token after it: the sequence is closed there, or goes on
-pub record Element (k : TokenKind) (d : ℕ) (e : Expr Tok Tok) (is_closed : Bool) (fs : List (Noted Tok)) (ts rest : Tokens) : Type 0 where
-  pub behind : SignificantToken
-  pub kind : IsKind (cond is_closed k kinds.Comma) behind
-  pub derives : Expression false d e fs ts (behind ∷ rest)
+  -- an element of a sequence, and the token after it: the sequence is closed there, or goes on
+  pub record Element (k : TokenKind) (d : ℕ) (e : Expr Tok Tok) (is_closed : Bool) (fs : List (Noted Tok)) (ts rest : Tokens) : Type 0 where
+    pub behind : SignificantToken
+    pub kind : IsKind (cond is_closed k kinds.Comma) behind
+    pub derives : Expression false d e fs ts (behind ∷ rest)
 
-pub compared_is : (by : ConditionalOperator) (c : Bool) (token : Tok) → noted_if (feature_of (operators.Compare by) c) token ≡ compared c token
-compared_is by true token = refl
-compared_is by false token = refl
+  pub compared_is : (by : ConditionalOperator) (c : Bool) (token : Tok) → noted_if (feature_of (operators.Compare by) c) token ≡ compared c token
+  compared_is by true token = refl
+  compared_is by false token = refl
 
--- after the other branch
-ended_keeps : (b : Bool) (s : State) (e : Expr Tok Tok) (P : ReadExpr → Type 0) → ((x : Refusal) → P (Err x)) → ((b ≡ true → NotWord (codes "else") s.left) → P (Ok (e, s))) → P (ended_by token_leaves b e s)
-ended_keeps false s e P fails goes = goes (λ h. cc)
-ended_keeps true s e P fails goes = after_choose_word (codes "else") s _ _ P (λ nx. goes (λ h. nx)) (λ t rest split is. fails _)
+  -- after the other branch
+  ended_keeps : (b : Bool) (s : State) (e : Expr Tok Tok) (P : ReadExpr → Type 0) → ((x : Refusal) → P (Err x)) → ((b ≡ true → NotWord (codes "else") s.left) → P (Ok (e, s))) → P (ended_by token_leaves b e s)
+  ended_keeps false s e P fails goes = goes (λ h. cc)
+  ended_keeps true s e P fails goes = after_choose_word (codes "else") s _ _ P (λ nx. goes (λ h. nx)) (λ t rest split is. fails _)
 
-after_text : {X : Type 0} (e : X) (x : SignificantToken × State) (text : Result (List ℕ) LiteralFault) (P : Read X → Type 0) → ((fault : LiteralFault) → P (Err (NotCooked fault x.0.tok))) → ((text' : List ℕ) → text ≡ Ok text' → P (Ok (e, x.1))) → P (by_text token_leaves (λ text. e) x text)
-after_text e x (Ok text) P fails goes = goes text refl
-after_text e x (Err fault) P fails goes = fails fault
+  after_text : {X : Type 0} (e : X) (x : SignificantToken × State) (text : Result (List ℕ) LiteralFault) (P : Read X → Type 0) → ((fault : LiteralFault) → P (Err (NotCooked fault x.0.tok))) → ((text' : List ℕ) → text ≡ Ok text' → P (Ok (e, x.1))) → P (by_text token_leaves (λ text. e) x text)
+  after_text e x (Ok text) P fails goes = goes text refl
+  after_text e x (Err fault) P fails goes = fails fault
 
-module _ (expander : Answers) where
-  -- so many expressions are open, under this expander
+  -- so many expressions are open, under these conditions
   abbrev pub Here : ℕ → State → Type 0
-  Here d s = (s.depth ≡ d) × (s.run ≡ expander)
+  Here d s = (s.depth ≡ d) × (s.run ≡ conditions)
 
   opens : (d : ℕ) (s : State) → Here d s → Here (d + 1) (deeper s)
   opens d s h = (ap (λ n. n + 1) h.0, h.1)
@@ -111,22 +112,22 @@ module _ (expander : Answers) where
   closes : (d : ℕ) (s : State) → Here (d + 1) s → Here d (shallower s)
   closes d s h = (omega (arith, h.0), h.1)
 
-  under : (d n : ℕ) → n ≡ d → nat_lt n 256 ≡ true → d < 256
-  under d n e lt = let below : n < 256 = grind (arith, nat_tests) in omega (arith, e, below)
+  under : (d n limit : ℕ) → n ≡ d → limit ≡ conditions.limit → nat_lt n limit ≡ true → d < conditions.limit
+  under d n limit e f lt = let below : n < limit = grind (arith, nat_tests) in omega (arith, e, f, below)
 
   -- a literal at a token
-  pub after_cooked : {X : Type 0} (make : Tok → X) (literal : List ℕ → Literal (List ℕ)) (t : SignificantToken) (s : State) (P : Read X → Type 0) → s.run ≡ expander
-      → ((fault : LiteralFault) → P (Err (NotCooked fault t.tok))) → ((text : List ℕ) → cooked_text expander (literal t.tok.lexeme) ≡ Ok text → P (Ok (make t.tok, s))) → P (cooked token_leaves make literal (t, s))
+  pub after_cooked : {X : Type 0} (make : Tok → X) (literal : List ℕ → Literal (List ℕ)) (t : SignificantToken) (s : State) (P : Read X → Type 0) → s.run ≡ conditions
+      → ((fault : LiteralFault) → P (Err (NotCooked fault t.tok))) → ((text : List ℕ) → cooked_text conditions.expander (literal t.tok.lexeme) ≡ Ok text → P (Ok (make t.tok, s))) → P (cooked token_leaves make literal (t, s))
   unfolding cooked
   after_cooked make literal t s P run fails goes =
       let l = literal t.tok.lexeme in
-      after_text (make t.tok) (t, s) (cooked_text s.run l) P fails (λ text is. goes text (ap (λ (E : Answers). cooked_text E l) (sym run) ∙ is))
+      after_text (make t.tok) (t, s) (cooked_text s.run.expander l) P fails (λ text is. goes text (ap (λ (c : Conditions). cooked_text c.expander l) (sym run) ∙ is))
 
   -- what is read from one place up to another derives by the rule, and the literals have texts
   pub record Derived (rule : List (Noted Tok) → Tokens → Tokens → Type 0) (literals : List (Literal Tok)) (d : ℕ) (s rest : State) : Type 0 where
     pub features : List (Noted Tok)
     pub derives : rule features s.left rest.left
-    pub met : Met expander features literals s.noted rest.noted
+    pub met : Met conditions.expander features literals s.noted rest.noted
     pub stays : Here d rest
 
   -- an expression by a rule
@@ -144,13 +145,13 @@ module _ (expander : Answers) where
   DerivesParts start d s x = (token : Tok) → token.lexeme ≡ start → Derived (FormatParts d x.0) (parts_literals token x.0) d s x.1
 
   -- if a tree is read at the place, it derives there
-  abbrev pub IsSound : (x : Place Answers SignificantToken Tok) → Out token_leaves x → Type 0
+  abbrev pub IsSound : (x : Place Conditions SignificantToken Tok) → Out token_leaves x → Type 0
   IsSound (r.At k c s) found = (d : ℕ) → Here d s → IfOk found (Derives (At k c d) d s)
   IsSound (r.Conditional w s) found = (d : ℕ) → Here d s → IfOk found (Derives (Conditional d w) d s)
   IsSound (r.Sequence k s) found = (d : ℕ) → Here d s → IfOk found (DerivesAll k d s)
   IsSound (r.FormatParts start s) found = (d : ℕ) → Here d s → IfOk found (DerivesParts start d s)
 
-  module _ (f : (x : Place Answers SignificantToken Tok) → Out token_leaves x) (h : (x : Place Answers SignificantToken Tok) → IsSound x (f x)) where
+  module _ (f : (x : Place Conditions SignificantToken Tok) → Out token_leaves x) (h : (x : Place Conditions SignificantToken Tok) → IsSound x (f x)) where
     pub level_at : (k : Level) (c : Bool) (d : ℕ) (s : State) (x : Expr Tok Tok × State) → f (r.At k c s) ≡ Ok x → Here d s → Derives (At k c d) d s x
     level_at k c d s x is here = known x (Derives (At k c d) d s) is (h (r.At k c s) d here)
 
@@ -171,8 +172,8 @@ module _ (expander : Answers) where
     unfolding binary_rule
     expression_keeps c d s here =
         let P : ReadExpr → Type 0 = λ o. IfOk o (Derives (Expression c d) d s) in
-        after_test (nat_lt s.depth 256) _ _ P
-        (λ lt. let below : d < 256 = under d s.depth here.0 lt in
+        after_test (nat_lt s.depth s.run.limit) _ _ P
+        (λ lt. let below : d < conditions.limit = under d s.depth s.run.limit here.0 (ap (λ (c : Conditions). c.limit) here.1) lt in
         after_bind (f (r.At levels.Disjunct c (deeper s))) _ P (λ e. tt) (λ l is.
         let L = level_at levels.Disjunct c (d + 1) (deeper s) l is (opens d s here) in
         after_or l.1 (λ o. P (r.binary_tail token_leaves f levels.Expression c l o))
@@ -281,7 +282,7 @@ module _ (expander : Answers) where
 
     -- a condition that is no comparison
     uncompared_keeps : (d : ℕ) (s : State) (x : Expr Tok Tok × State) (from : Tokens) → s.left ≡ from → Derives (Expression true d) d s x → Derives (Condition d) d s (x.0, note_uncompared token_leaves x.0 from x.1)
-    uncompared_keeps d s x [] split E = absurd (none_left (subst (λ (ts : Tokens). LeftOf x.1.left ts) split (expression_left itself itself Limited E.derives)))
+    uncompared_keeps d s x [] split E = absurd (none_left (subst (λ (ts : Tokens). LeftOf x.1.left ts) split (expression_left itself itself (Under conditions.limit) E.derives)))
     uncompared_keeps d s x (t ∷ ts) split E = record {
       features = E.features ++ uncompared x.0 t.tok;
       derives = subst (λ (us : Tokens). Condition d x.0 (E.features ++ uncompared x.0 t.tok) us x.1.left) (sym split) (g.condition (subst (λ (us : Tokens). Expression true d x.0 E.features us x.1.left) split E.derives));
@@ -565,8 +566,8 @@ module _ (expander : Answers) where
         (λ open_still. after_bind (element_rule token_leaves f k s) _ P (λ e. tt) (λ x is. elements_keep k d s x.0.0 x.0.1 x.1 open_still (element_at k d s x is here)))
         (λ closer rest split kind. record { features = []; derives = subst (λ (ts : Tokens). Sequence k d tree.none [] ts rest) (sym split) (g.none kind); met = nothing_met; stays = here })
 
-    of_start : (token : Tok) (start : List ℕ) (l : List ℕ → Literal (List ℕ)) (text : List ℕ) → token.lexeme ≡ start → cooked_text expander (l start) ≡ Ok text → cooked_text expander (l token.lexeme) ≡ Ok text
-    of_start token start l text same is = ap (λ (s : List ℕ). cooked_text expander (l s)) same ∙ is
+    of_start : (token : Tok) (start : List ℕ) (l : List ℕ → Literal (List ℕ)) (text : List ℕ) → token.lexeme ≡ start → cooked_text conditions.expander (l start) ≡ Ok text → cooked_text conditions.expander (l token.lexeme) ≡ Ok text
+    of_start token start l text same is = ap (λ (s : List ℕ). cooked_text conditions.expander (l s)) same ∙ is
 
     parts_keeps : (start : List ℕ) (d : ℕ) (s : State) → Here d s → IfOk (parts_rule token_leaves f start s) (DerivesParts start d s)
     unfolding parts_rule part
@@ -601,19 +602,19 @@ module _ (expander : Answers) where
     at_keeps levels.Conjunct c d s here = conjunct_keeps c d s here
     at_keeps levels.Value c d s here = value_keeps d s here
 
-  rule_keeps : (f : (x : Place Answers SignificantToken Tok) → Out token_leaves x) → ((x : Place Answers SignificantToken Tok) → IsSound x (f x)) → (x : Place Answers SignificantToken Tok) → IsSound x (rule token_leaves f x)
+  rule_keeps : (f : (x : Place Conditions SignificantToken Tok) → Out token_leaves x) → ((x : Place Conditions SignificantToken Tok) → IsSound x (f x)) → (x : Place Conditions SignificantToken Tok) → IsSound x (rule token_leaves f x)
   rule_keeps f h (r.At k c s) = λ d. at_keeps f h k c d s
   rule_keeps f h (r.Conditional w s) = λ d. conditional_keeps f h d w s
   rule_keeps f h (r.Sequence k s) = λ d. sequence_keeps f h k d s
   rule_keeps f h (r.FormatParts start s) = λ d. parts_keeps f h start d s
 
-  stops_sound : (x : Place Answers SignificantToken Tok) → IsSound x (stop token_leaves x)
+  stops_sound : (x : Place Conditions SignificantToken Tok) → IsSound x (stop token_leaves x)
   stops_sound (r.At k c s) = λ d here. tt
   stops_sound (r.Conditional w s) = λ d here. tt
   stops_sound (r.Sequence k s) = λ d here. tt
   stops_sound (r.FormatParts start s) = λ d here. tt
 
-  pub sound : (x : Place Answers SignificantToken Tok) → IsSound x (read token_leaves x)
+  pub sound : (x : Place Conditions SignificantToken Tok) → IsSound x (read token_leaves x)
   unfolding read
   sound = recursive_keeps r.size (stop token_leaves) (rule token_leaves) IsSound stops_sound rule_keeps
 

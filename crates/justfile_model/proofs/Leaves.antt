@@ -1,18 +1,24 @@
 -- The grammar over trees and over shapes: a tree derives if its shape does.
-use Rattle.std.proofs.Common.{◌≡◌, ℕ, true, false, List, [], ◌∷◌, ◌++◌, map, Option, refl, sym, subst, ap, ◌∙◌}
+use Rattle.std.proofs.Common.{◌≡◌, ℕ, true, false, List, [], ◌∷◌, ◌++◌, map, Option, Some, None, refl, sym, subst, ap, ◌∙◌}
+use Rattle.std.specs.List.{flat_map}
+use Rattle.std.specs.Option.{option_map}
 use Rattle.std.proofs.lemmas.List.{map-append}
 use Rattle.justfile_model.specs.Tok.{Tok}
 use Rattle.justfile_model.specs.SignificantTokens.{SignificantToken}
+use Rattle.justfile_model.specs.Conditions.{Conditions}
 use Rattle.justfile_model.specs.Tree as tree
-use Rattle.justfile_model.specs.Tree.{Expr, Exprs, Parts, Fragment, BodyLine, Line, Item, Tree, Shape, over_expr, over_exprs, over_parts, over_fragment, over_line, over_item, lexeme, nothing, itself, line_of, shape_of}
+use Rattle.justfile_model.specs.Tree.{Expr, Exprs, Parts, Fragment, BodyLine, Line, Argument, Written, Entry, Parameter, DependencyArgument, Dependency, Header, AssignmentParts, Content, Item, WrittenItem, WrittenTree, WrittenShape, Tree, Shape, over_expr, over_exprs, over_parts, over_fragment, over_argument, over_written, over_entry, over_parameter, over_assignment, over_line, over_dependency_argument, over_dependency, over_header, over_content, over_item, lexeme, nothing, shape_of, written_shape_of}
 use Rattle.justfile_model.specs.Features.{Noted, over_noted}
 use Rattle.justfile_model.specs.Expressions.{Tokens, front, Under}
 use Rattle.justfile_model.specs.Grammar.{File}
 use Rattle.justfile_model.specs.Literals as literal
-use Rattle.justfile_model.specs.Literals.{Literal, over_literal, Answers, Cooks}
-use Rattle.justfile_model.specs.Files.{VersionNumbers, expr_literals, exprs_literals, parts_literals, fragments_literals, body_literals, item_literals, literals, FileDerives, ShapeDerives}
+use Rattle.justfile_model.specs.Literals.{Literal, over_literal, Cooks}
+use Rattle.justfile_model.specs.Files.{expr_literals, exprs_literals, parts_literals, fragments_literals, body_literals, optional_literals, argument_literals, written_literals, entries_literals, parameter_literals, dependency_literals, header_literals, content_literals, item_literals, items_literals, all_literals, literals, ordered, keeps_tokens, keeps_lexemes, Obeys, FileDerives, ShapeDerives}
 use Rattle.justfile_model.proofs.CarryExpressions.{Same, Pairs, nil, cons}
 use Rattle.justfile_model.proofs.Carry as c
+use Rattle.justfile_model.proofs.Carry.{Maps, over_items, Alike}
+use Rattle.justfile_model.proofs.Mapped.{map_same, option_same, flat_mapped}
+use Rattle.justfile_model.proofs.Ordered.{shape_ordered, tree_ordered}
 
 abbrev pub same_leaf : {A : Type 0} → A → A
 same_leaf x = x
@@ -60,15 +66,56 @@ body_itself : {A B C : Type 0} (body : List (BodyLine A B C)) → map (over_line
 body_itself [] = refl
 body_itself (Line number fragments ∷ body) = λ i. Line number (fragments_itself fragments i) ∷ body_itself body i
 
-item_itself : {A B C : Type 0} (i : Item A B C) → over_item same_leaf same_leaf same_leaf i ≡ i
-item_itself (tree.Assignment name value) = ap (tree.Assignment name) (expr_itself value)
-item_itself (tree.Comment text) = refl
-item_itself tree.Newline = refl
-item_itself (tree.Recipe name body) = ap (tree.Recipe name) (body_itself body)
+module _ {A B : Type 0} where
+  argument_itself : (a : Argument A B) → over_argument same_leaf same_leaf a ≡ a
+  argument_itself (tree.Positional first value) = ap (tree.Positional first) (expr_itself value)
+  argument_itself (tree.Bare key) = refl
+  argument_itself (tree.Keyed key value) = ap (tree.Keyed key) (expr_itself value)
 
-pub items_itself : {A B C : Type 0} (items : List (Item A B C)) → map (over_item same_leaf same_leaf same_leaf) items ≡ items
-items_itself [] = refl
-items_itself (i ∷ items) = λ k. item_itself i k ∷ items_itself items k
+  written_itself : (w : Written A B) → over_written same_leaf same_leaf w ≡ w
+  written_itself w = λ i. record { name = w.name; arguments = map_same (over_argument same_leaf same_leaf) argument_itself w.arguments i }
+
+  parameter_itself : (p : Parameter A B) → over_parameter same_leaf same_leaf p ≡ p
+  parameter_itself p = λ i. record { kind = p.kind; export = p.export; name = p.name; default = option_same (over_expr same_leaf same_leaf) expr_itself p.default i }
+
+  assignment_itself : (a : AssignmentParts A B) → over_assignment same_leaf same_leaf a ≡ a
+  assignment_itself a = λ i. record { eager = a.eager; export = a.export; name = a.name; value = expr_itself a.value i }
+
+module _ {A B S : Type 0} where
+  dependency_argument_itself : (a : DependencyArgument A B S) → over_dependency_argument same_leaf same_leaf same_leaf a ≡ a
+  dependency_argument_itself a = λ i. record { star = option_same same_leaf (λ star. refl) a.star i; value = expr_itself a.value i }
+
+  dependency_itself : (d : Dependency A B S) → over_dependency same_leaf same_leaf same_leaf d ≡ d
+  dependency_itself d = λ i. record {
+    star = option_same same_leaf (λ star. refl) d.star i;
+    path = map_same same_leaf (λ name. refl) d.path i;
+    arguments = map_same (over_dependency_argument same_leaf same_leaf same_leaf) dependency_argument_itself d.arguments i;
+  }
+
+  header_itself : (h : Header A B S) → over_header same_leaf same_leaf same_leaf h ≡ h
+  header_itself h = λ i. record {
+    quiet = h.quiet;
+    name = h.name;
+    parameters = map_same (over_parameter same_leaf same_leaf) parameter_itself h.parameters i;
+    priors = map_same (over_dependency same_leaf same_leaf same_leaf) dependency_itself h.priors i;
+    subsequents = map_same (over_dependency same_leaf same_leaf same_leaf) dependency_itself h.subsequents i;
+  }
+
+content_itself : {A B C S : Type 0} (c : Content A B C S) → over_content same_leaf same_leaf same_leaf same_leaf c ≡ c
+content_itself (tree.Assignment parts) = ap tree.Assignment (assignment_itself parts)
+content_itself (tree.Recipe parts) = λ i. tree.Recipe (record { doc = parts.doc; header = header_itself parts.header i; body = body_itself parts.body i })
+
+item_itself : {A B C S : Type 0} (i : WrittenItem A B C S) → over_item same_leaf same_leaf same_leaf same_leaf (map (over_written same_leaf same_leaf)) i ≡ i
+item_itself tree.Newline = refl
+item_itself (tree.Comment text) = refl
+item_itself (tree.Construct attributes content) = λ i. tree.Construct (map_same (over_written same_leaf same_leaf) written_itself attributes i) (content_itself content i)
+
+-- nothing becomes something else
+abbrev pub unchanged : {A B C S : Type 0} → Maps A B C S A B C S
+unchanged = record { leaf = same_leaf; spot = same_leaf; number = same_leaf; star = same_leaf }
+
+pub items_itself : {A B C S : Type 0} (items : List (WrittenItem A B C S)) → over_items unchanged items ≡ items
+items_itself = map_same (over_item same_leaf same_leaf same_leaf same_leaf (map (over_written same_leaf same_leaf))) item_itself
 
 -- ---- the literals over other leaves
 
@@ -113,24 +160,70 @@ module _ {A B D E : Type 0} (f : A → D) (g : B → E) where
   fragments_over (tree.Text token ∷ fragments) = fragments_over fragments
   fragments_over (tree.Interpolation value ∷ fragments) = two (expr_literals value) (fragments_literals fragments) _ _ (expr_over value) (fragments_over fragments)
 
-module _ {A B C D E F : Type 0} (f : A → D) (g : B → E) (h : C → F) where
+  -- of a part that may be missing
+  optional_over : (o : Option (Expr A B)) → optional_literals expr_literals (option_map (over_expr f g) o) ≡ map (over_literal f) (optional_literals expr_literals o)
+  optional_over None = refl
+  optional_over (Some e) = expr_over e
+
+  argument_over : (a : Argument A B) → argument_literals (over_argument f g a) ≡ map (over_literal f) (argument_literals a)
+  argument_over (tree.Positional first value) = expr_over value
+  argument_over (tree.Bare key) = refl
+  argument_over (tree.Keyed key value) = expr_over value
+
+  written_over : (ws : List (Written A B)) → written_literals (map (over_written f g) ws) ≡ map (over_literal f) (written_literals ws)
+  written_over =
+      flat_mapped (λ (w : Written A B). flat_map argument_literals w.arguments) (λ (w : Written D E). flat_map argument_literals w.arguments) (over_written f g) (over_literal f)
+      (λ w. flat_mapped argument_literals argument_literals (over_argument f g) (over_literal f) argument_over w.arguments)
+
+  entries_over : (es : List (Entry A B)) → entries_literals (map (over_entry f g) es) ≡ map (over_literal f) (entries_literals es)
+  entries_over [] = refl
+  entries_over (e ∷ es) = absurd e.attribute
+
+  parameter_over : (p : Parameter A B) → parameter_literals (over_parameter f g p) ≡ map (over_literal f) (parameter_literals p)
+  parameter_over p = optional_over p.default
+
+module _ {A B S D E T : Type 0} (f : A → D) (g : B → E) (k : S → T) where
+  dependency_over : (d : Dependency A B S) → dependency_literals (over_dependency f g k d) ≡ map (over_literal f) (dependency_literals d)
+  dependency_over d =
+      flat_mapped (λ (a : DependencyArgument A B S). expr_literals a.value) (λ (a : DependencyArgument D E T). expr_literals a.value) (over_dependency_argument f g k) (over_literal f)
+      (λ a. expr_over f g a.value) d.arguments
+
+  dependencies_over : (ds : List (Dependency A B S)) → flat_map dependency_literals (map (over_dependency f g k) ds) ≡ map (over_literal f) (flat_map dependency_literals ds)
+  dependencies_over = flat_mapped dependency_literals dependency_literals (over_dependency f g k) (over_literal f) dependency_over
+
+  header_over : (h : Header A B S) → header_literals (over_header f g k h) ≡ map (over_literal f) (header_literals h)
+  header_over h =
+      two f g (flat_map parameter_literals h.parameters ++ flat_map dependency_literals h.priors) (flat_map dependency_literals h.subsequents) _ _
+      (two f g (flat_map parameter_literals h.parameters) (flat_map dependency_literals h.priors) _ _
+      (flat_mapped parameter_literals parameter_literals (over_parameter f g) (over_literal f) (parameter_over f g) h.parameters) (dependencies_over h.priors))
+      (dependencies_over h.subsequents)
+
+module _ {A B C S D E F T : Type 0} (f : A → D) (g : B → E) (h : C → F) (k : S → T) where
   body_over : (body : List (BodyLine A B C)) → body_literals (map (over_line f g h) body) ≡ map (over_literal f) (body_literals body)
   body_over [] = refl
   body_over (Line number fragments ∷ body) = two f g (fragments_literals fragments) (body_literals body) _ _ (fragments_over f g fragments) (body_over body)
 
-  item_over : (i : Item A B C) → item_literals (over_item f g h i) ≡ map (over_literal f) (item_literals i)
-  item_over (tree.Assignment name value) = expr_over f g value
-  item_over (tree.Comment text) = refl
-  item_over tree.Newline = refl
-  item_over (tree.Recipe name body) = body_over body
+  content_over : (c : Content A B C S) → content_literals (over_content f g h k c) ≡ map (over_literal f) (content_literals c)
+  content_over (tree.Assignment parts) = expr_over f g parts.value
+  content_over (tree.Recipe parts) = two f g (header_literals parts.header) (body_literals parts.body) _ _ (header_over f g k parts.header) (body_over parts.body)
 
-  pub items_over : (items : List (Item A B C)) → literals (map (over_item f g h) items) ≡ map (over_literal f) (literals items)
-  items_over [] = refl
-  items_over (i ∷ items) = two f g (item_literals i) (literals items) _ _ (item_over i) (items_over items)
+  -- of items with attributes whose literals go along
+  module _ {X Y : Type 0} (m : X → Y) (of : X → List (Literal A)) (of' : Y → List (Literal D)) (same : (x : X) → of' (m x) ≡ map (over_literal f) (of x)) where
+    item_over : (i : Item A B C S X) → item_literals of' (over_item f g h k m i) ≡ map (over_literal f) (item_literals of i)
+    item_over tree.Newline = refl
+    item_over (tree.Comment text) = refl
+    item_over (tree.Construct attributes content) = two f g (of attributes) (content_literals content) _ _ (same attributes) (content_over content)
+
+    pub items_over : (items : List (Item A B C S X)) → items_literals of' (map (over_item f g h k m) items) ≡ map (over_literal f) (items_literals of items)
+    items_over [] = refl
+    items_over (i ∷ items) = two f g (item_literals of i) (items_literals of items) _ _ (item_over i) (items_over items)
 
 -- the literals of a shape are the lexemes of the tree's
 pub lexemes : (t : Tree) → literals (shape_of t) ≡ map (over_literal lexeme) (literals t)
-lexemes = items_over lexeme nothing nothing
+lexemes = items_over lexeme nothing nothing (λ star. star) (map (over_entry lexeme nothing)) entries_literals entries_literals (entries_over lexeme nothing)
+
+pub all_lexemes : (w : WrittenTree) → all_literals (written_shape_of w) ≡ map (over_literal lexeme) (all_literals w)
+all_lexemes = items_over lexeme nothing nothing nothing (map (over_written lexeme nothing)) written_literals written_literals (written_over lexeme nothing)
 
 -- ---- the same tokens
 
@@ -145,6 +238,10 @@ pairs_equal (cons e es) = λ i. e i ∷ pairs_equal es i
 pub equal_same : (t u : SignificantToken) → t ≡ u → Same t u
 equal_same t u e = record { kind = ap (λ (x : SignificantToken). x.tok.kind) e; lexeme = ap (λ (x : SignificantToken). x.tok.lexeme) e; glued = ap (λ (x : SignificantToken). x.glued) e }
 
+-- a shape of what is written keeps no place
+abbrev pub forgotten : Maps Tok Tok ℕ Tok (List ℕ) (Unit {0}) (Unit {0}) (Unit {0})
+forgotten = record { leaf = lexeme; spot = nothing; number = nothing; star = nothing }
+
 equal_lexemes : (t u : SignificantToken) → t ≡ u → u.tok.lexeme ≡ t.tok.lexeme
 equal_lexemes t u e = sym (ap (λ (x : SignificantToken). x.tok.lexeme) e)
 
@@ -152,53 +249,68 @@ module _ (Open : ℕ → Option SignificantToken → Type 0) where
   still : (d : ℕ) (ts us : Tokens) → Pairs (λ t u. t ≡ u) ts us → Open d (front ts) → Open d (front us)
   still d ts us s o = subst (λ x. Open d (front x)) (pairs_equal s) o
 
-  -- a tree's derivation is one of its shape
-  pub forget : {all : Tree} {fs : List (Noted Tok)} {ts : Tokens} → File itself itself line_of Open all fs ts → File lexeme nothing nothing Open (shape_of all) (map (over_noted nothing) fs) ts
+  -- a derivation of a written tree is one of its shape
+  pub forget : {all : WrittenTree} {fs : List (Noted Tok)} {ts : Tokens} → File keeps_tokens Open all fs ts → File keeps_lexemes Open (written_shape_of all) (map (over_noted nothing) fs) ts
   forget {all} {fs} {ts} h =
-      let x = c.file itself itself line_of Open (λ t u. t ≡ u) equal_same lexeme nothing nothing Open lexeme nothing nothing same_leaf same_leaf same_leaf equal_lexemes (λ t u s. refl) (λ t u s. refl) still h ts (equal_pairs ts) in
-      subst (λ y. File lexeme nothing nothing Open y (map (over_noted nothing) fs) ts) (sym (items_itself x.tree) ∙ x.alike)
-      (subst (λ n. File lexeme nothing nothing Open x.tree n ts) (sym (noted_itself x.features) ∙ x.noted_alike) x.derives)
+      let alike : Alike keeps_tokens forgotten keeps_lexemes unchanged (λ t u. t ≡ u) = record { leaves = equal_lexemes; spots = λ t u s. refl; numbers = λ t u s. refl; stars = λ t u s. refl } in
+      let x = c.file keeps_tokens Open forgotten (λ t u. t ≡ u) equal_same keeps_lexemes Open unchanged alike still h ts (equal_pairs ts) in
+      subst (λ y. File keeps_lexemes Open y (map (over_noted nothing) fs) ts) (sym (items_itself x.tree) ∙ x.alike)
+      (subst (λ n. File keeps_lexemes Open x.tree n ts) (sym (noted_itself x.features) ∙ x.noted_alike) x.derives)
 
-  -- a tree with this shape, and its features
-  pub record Lifted (shape : Shape) (fs : List (Noted (Unit {0}))) (ts : Tokens) : Type 0 where
-    pub tree : Tree
+  -- a written tree with this shape, and its features
+  pub record Lifted (shape : WrittenShape) (fs : List (Noted (Unit {0}))) (ts : Tokens) : Type 0 where
+    pub tree : WrittenTree
     pub features : List (Noted Tok)
-    pub derives : File itself itself line_of Open tree features ts
-    pub alike : shape_of tree ≡ shape
+    pub derives : File keeps_tokens Open tree features ts
+    pub alike : written_shape_of tree ≡ shape
     pub noted_alike : map (over_noted nothing) features ≡ fs
 
-  -- a shape's derivation is that of a tree with this shape
-  pub lift : {shape : Shape} {fs : List (Noted (Unit {0}))} {ts : Tokens} → File lexeme nothing nothing Open shape fs ts → Lifted shape fs ts
+  -- a shape's derivation is that of a written tree with this shape
+  pub lift : {shape : WrittenShape} {fs : List (Noted (Unit {0}))} {ts : Tokens} → File keeps_lexemes Open shape fs ts → Lifted shape fs ts
   lift {shape} {fs} {ts} h =
-      let x = c.file lexeme nothing nothing Open (λ t u. t ≡ u) equal_same itself itself line_of Open same_leaf same_leaf same_leaf lexeme nothing nothing equal_lexemes (λ t u s. refl) (λ t u s. refl) still h ts (equal_pairs ts) in
+      let alike : Alike keeps_lexemes unchanged keeps_tokens forgotten (λ t u. t ≡ u) = record { leaves = equal_lexemes; spots = λ t u s. refl; numbers = λ t u s. refl; stars = λ t u s. refl } in
+      let x = c.file keeps_lexemes Open unchanged (λ t u. t ≡ u) equal_same keeps_tokens Open forgotten alike still h ts (equal_pairs ts) in
       record { tree = x.tree; features = x.features; derives = x.derives; alike = x.alike ∙ items_itself shape; noted_alike = x.noted_alike ∙ noted_itself fs }
 
 -- a shape derives from tokens wherever they stand
-pub elsewhere : (limit : ℕ) {shape : Shape} {fs : List (Noted (Unit {0}))} {ts us : Tokens} → File lexeme nothing nothing (Under limit) shape fs ts → Pairs Same ts us
-    → File lexeme nothing nothing (Under limit) shape fs us
+pub elsewhere : (limit : ℕ) {shape : WrittenShape} {fs : List (Noted (Unit {0}))} {ts us : Tokens} → File keeps_lexemes (Under limit) shape fs ts → Pairs Same ts us
+    → File keeps_lexemes (Under limit) shape fs us
 elsewhere limit {shape} {fs} {ts} {us} h s =
-    let x = c.file lexeme nothing nothing (Under limit) Same (λ t u same. same) lexeme nothing nothing (Under limit) same_leaf same_leaf same_leaf same_leaf same_leaf same_leaf
-    (λ t u same. sym same.lexeme) (λ t u same. refl) (λ t u same. refl) (λ d ts us same opened. opened) h us s in
-    subst (λ y. File lexeme nothing nothing (Under limit) y fs us) (sym (items_itself x.tree) ∙ x.alike ∙ items_itself shape)
-    (subst (λ n. File lexeme nothing nothing (Under limit) x.tree n us) (sym (noted_itself x.features) ∙ x.noted_alike ∙ noted_itself fs) x.derives)
+    let alike : Alike keeps_lexemes unchanged keeps_lexemes unchanged Same = record { leaves = λ t u same. sym same.lexeme; spots = λ t u same. refl; numbers = λ t u same. refl; stars = λ t u same. refl } in
+    let x = c.file keeps_lexemes (Under limit) unchanged Same (λ t u same. same) keeps_lexemes (Under limit) unchanged alike (λ d ts us same opened. opened) h us s in
+    subst (λ y. File keeps_lexemes (Under limit) y fs us) (sym (items_itself x.tree) ∙ x.alike ∙ items_itself shape)
+    (subst (λ n. File keeps_lexemes (Under limit) x.tree n us) (sym (noted_itself x.features) ∙ x.noted_alike ∙ noted_itself fs) x.derives)
 
 -- ---- files
 
-module _ (expander : Answers) (current : VersionNumbers) (tokens : Tokens) where
-  pub file_forgets : (all : Tree) (fs : List (Noted Tok)) → FileDerives expander current tokens all fs → ShapeDerives expander current tokens (shape_of all) (map (over_noted nothing) fs)
-  file_forgets all fs h = record { derives = forget _ h.derives; cooked = h.cooked; cooks = subst (λ l. Cooks expander l h.cooked) (sym (lexemes all)) h.cooks }
+module _ (conditions : Conditions) (tokens : Tokens) where
+  pub file_forgets : (all : Tree) (fs : List (Noted Tok)) → FileDerives conditions tokens all fs → ShapeDerives conditions tokens (shape_of all) (map (over_noted nothing) fs)
+  file_forgets all fs h = record {
+    written = written_shape_of h.written;
+    derives = forget _ h.derives;
+    cooked = h.obeys.cooked;
+    cooks = subst (λ l. Cooks conditions.expander l h.obeys.cooked) (sym (all_lexemes h.written)) h.obeys.cooks;
+    unbroken = refl;
+    ordered_is = shape_ordered h.written all h.ordered_is;
+  }
 
-  pub file_lifts : (shape : Shape) (fs : List (Noted (Unit {0}))) → ShapeDerives expander current tokens shape fs
-      → (all : Tree) × (features : List (Noted Tok)) × FileDerives expander current tokens all features × (shape_of all ≡ shape) × (map (over_noted nothing) features ≡ fs)
+  pub file_lifts : (shape : Shape) (fs : List (Noted (Unit {0}))) → ShapeDerives conditions tokens shape fs
+      → (all : Tree) × (features : List (Noted Tok)) × FileDerives conditions tokens all features × (shape_of all ≡ shape) × (map (over_noted nothing) features ≡ fs)
   file_lifts shape fs h =
       let x = lift _ h.derives in
-      (x.tree, x.features, record { derives = x.derives; cooked = h.cooked; cooks = subst (λ l. Cooks expander l h.cooked) (ap literals (sym x.alike) ∙ lexemes x.tree) h.cooks }, x.alike, x.noted_alike)
+      let t = tree_ordered x.tree shape (ap ordered x.alike ∙ h.ordered_is) in
+      let obeys : Obeys conditions x.tree = record {
+        cooked = h.cooked;
+        cooks = subst (λ l. Cooks conditions.expander l h.cooked) (ap all_literals (sym x.alike) ∙ all_lexemes x.tree) h.cooks;
+        unbroken = refl;
+      } in
+      (t.0, x.features, record { written = x.tree; derives = x.derives; obeys = obeys; ordered_is = t.1 }, t.2, x.noted_alike)
 
   -- tokens derive at most one tree with its features
   abbrev pub OneTree : Type 0
-  OneTree = (tree other : Tree) (features others : List (Noted Tok)) → FileDerives expander current tokens tree features → FileDerives expander current tokens other others → (tree ≡ other) × (features ≡ others)
+  OneTree = (tree other : Tree) (features others : List (Noted Tok)) → FileDerives conditions tokens tree features → FileDerives conditions tokens other others → (tree ≡ other) × (features ≡ others)
 
-  pub one_shape : OneTree → (shape other : Shape) (fs gs : List (Noted (Unit {0}))) → ShapeDerives expander current tokens shape fs → ShapeDerives expander current tokens other gs → (shape ≡ other) × (fs ≡ gs)
+  pub one_shape : OneTree → (shape other : Shape) (fs gs : List (Noted (Unit {0}))) → ShapeDerives conditions tokens shape fs → ShapeDerives conditions tokens other gs → (shape ≡ other) × (fs ≡ gs)
   one_shape one_tree shape other fs gs h q =
       let x = file_lifts shape fs h in
       let y = file_lifts other gs q in

@@ -23,7 +23,7 @@ dropped zero h = h
 dropped (suc n) a.nil = a.nil
 dropped (suc n) (a.cons h hs) = dropped n hs
 
-module _ {R T A B R' T' A' B' : Type 0} (rel : Relations R T A B R' T' A' B') (one : Leaves R T A B) (other : Leaves R' T' A' B') (agree : Respects rel one other) where
+module _ {R T A B S D R' T' A' B' S' D' : Type 0} (rel : Relations R T A B S D R' T' A' B' S' D') (one : Leaves R T A B S D) (other : Leaves R' T' A' B' S' D') (agree : Respects rel one other) where
   -- ---- bodies
 
   value_alike : {s : State R T B} {s' : State R' T' B'} → States rel s s' → Reads rel (Alike rel) (expression one s) (expression other s')
@@ -116,23 +116,23 @@ module _ {R T A B R' T' A' B' : Type 0} (rel : Relations R T A B R' T' A' B') (o
   -- after lines that the other reader reads
   pub data Wants : Counters → State R' T' B' → Counters → Type 0 where
     here : {n : Counters} {s' : State R' T' B'} → Lacks n s' → Wants n s' n
-    later : {n m k : Counters} {s' rest : State R' T' B'} {is : List (Item A' B' ℕ)} → line other n s' ≡ Ok ((is, m), rest) → Wants m rest k → Wants n s' k
+    later : {n m k : Counters} {s' rest : State R' T' B'} {is : List (Item A' B' ℕ S' D')} → line other n s' ≡ Ok ((is, m), rest) → Wants m rest k → Wants n s' k
 
   -- what is read exceeds these counters
   abbrev pub AllExceed : {X : Type 0} → Counters → Read R' T' B' (X × Counters) → Type 0
   AllExceed n found = IfOk found (λ x. Exceeds n x.0.1)
 
-  abbrev pub AlikeNumbered : Counters → Item A B ℕ × Counters → Item A' B' ℕ × Counters → Type 0
+  abbrev pub AlikeNumbered : Counters → Item A B ℕ S D × Counters → Item A' B' ℕ S' D' × Counters → Type 0
   AlikeNumbered n x y = AlikeItem rel n x.0 y.0 × (x.1 ≡ y.1) × (x.1 ≡ count n x.0)
 
-  abbrev pub AllNumbered : Counters → List (Item A B ℕ) × Counters → List (Item A' B' ℕ) × Counters → Type 0
+  abbrev pub AllNumbered : Counters → List (Item A B ℕ S D) × Counters → List (Item A' B' ℕ S' D') × Counters → Type 0
   AllNumbered n x y = AlikeItems rel n x.0 y.0 × (x.1 ≡ y.1) × (x.1 ≡ counted n x.0)
 
   -- the number of a binding is wanting
-  abbrev NoBinding : Counters → Counters → Read R' T' B' (Item A' B' ℕ × Counters) → Type 0
+  abbrev NoBinding : Counters → Counters → Read R' T' B' (Item A' B' ℕ S' D' × Counters) → Type 0
   NoBinding n m found = (m ≡ n) × (one.has_number n.bindings ≡ false) × (other.has_number n.bindings ≡ true → IsOk found) × AllExceed n found
 
-  abbrev NoRecipe : Counters → Counters → Read R' T' B' (Item A' B' ℕ × Counters) → Type 0
+  abbrev NoRecipe : Counters → Counters → Read R' T' B' (Item A' B' ℕ S' D' × Counters) → Type 0
   NoRecipe n m found = (m ≡ n) × (one.has_number n.recipes ≡ false) × (other.has_number n.recipes ≡ true → IsOk found) × AllExceed n found
 
   binding_alike : (n : Counters) (name : T) (name' : T') {e : Expr A B} {e' : Expr A' B'} {s : State R T B} {s' : State R' T' B'} → rel.token name name' → Alike rel e e' → States rel s s'
@@ -142,7 +142,7 @@ module _ {R T A B R' T' A' B' : Type 0} (rel : Relations R T A B R' T' A' B') (o
     where
       go : (b b' : Bool) → one.has_number n.bindings ≡ b → other.has_number n.bindings ≡ b'
           → Related rel (AlikeNumbered n) (NoBinding n) (cond b (Ok ((n.bindings, with_bindings (n.bindings + 1) n), s)) (Err (NoNumber n)) >>= assigned one name e) (cond b' (Ok ((n.bindings, with_bindings (n.bindings + 1) n), s')) (Err (NoNumber n)) >>= assigned other name' e')
-      go true true is is' = both (a.assignment (agree.assignment s.run s'.run name name' h.run t n.bindings) v, refl, refl) h
+      go true true is is' = both (a.assignment agree.no_attributes (agree.assignment s.run s'.run name name' h.run t n.bindings) v, refl, refl) h
       go true false is is' = let left = agree.has_number n.bindings is in cc
       go false true is is' = short {found = Ok ((n.bindings, with_bindings (n.bindings + 1) n), s') >>= assigned other name' e'} (refl, is, (λ _. refl), bindings_end is (omega arith))
       go false false is is' = short {found = Err (NoNumber n)} (refl, is, (λ has. cc), tt)
@@ -154,7 +154,7 @@ module _ {R T A B R' T' A' B' : Type 0} (rel : Relations R T A B R' T' A' B') (o
     where
       go : (b b' : Bool) → one.has_number n.recipes ≡ b → other.has_number n.recipes ≡ b'
           → Related rel (AlikeNumbered n) (NoRecipe n) (cond b (Ok ((n.recipes, with_recipes (n.recipes + 1) n), s)) (Err (NoNumber n)) >>= headed one name body) (cond b' (Ok ((n.recipes, with_recipes (n.recipes + 1) n), s')) (Err (NoNumber n)) >>= headed other name' body')
-      go true true is is' = both (a.recipe (agree.recipe s.run s'.run name name' h.run t n.recipes body body' ls) ls, refl, refl) h
+      go true true is is' = both (a.recipe agree.no_attributes (agree.recipe s.run s'.run name name' h.run t n.recipes body body' ls) ls, refl, refl) h
       go true false is is' = let left = agree.has_number n.recipes is in cc
       go false true is is' = short {found = Ok ((n.recipes, with_recipes (n.recipes + 1) n), s') >>= headed other name' body'} (refl, is, (λ _. refl), recipes_end is (omega arith))
       go false false is is' = short {found = Err (NoNumber n)} (refl, is, (λ has. cc), tt)
@@ -174,10 +174,10 @@ module _ {R T A B R' T' A' B' : Type 0} (rel : Relations R T A B R' T' A' B') (o
       bind rel _ _ (body_behind_natural j) (λ b b' ls i. recipe_alike n name.0 name'.0 t ls i)))
 
   -- a number is wanting where these counters stand
-  abbrev NoItem : Counters → State R' T' B' → Counters → Read R' T' B' (Item A' B' ℕ × Counters) → Type 0
+  abbrev NoItem : Counters → State R' T' B' → Counters → Read R' T' B' (Item A' B' ℕ S' D' × Counters) → Type 0
   NoItem n s' m found = (m ≡ n) × Lacks n s' × AllExceed n found
 
-  abbrev NoLine : Counters → State R' T' B' → Counters → Read R' T' B' (List (Item A' B' ℕ) × Counters) → Type 0
+  abbrev NoLine : Counters → State R' T' B' → Counters → Read R' T' B' (List (Item A' B' ℕ S' D') × Counters) → Type 0
   NoLine n s' m found = (m ≡ n) × Lacks n s' × AllExceed n found
 
   comment_alike : (n : Counters) (t : T) (t' : T') → rel.token t t' → AlikeItem rel n (r.comment_item one t) (r.comment_item other t')
@@ -194,7 +194,7 @@ module _ {R T A B R' T' A' B' : Type 0} (rel : Relations R T A B R' T' A' B') (o
       (λ c c' t k. both (comment_alike n c.0 c'.0 t, refl, refl) k)
 
   -- items that draw no number, whatever the counters
-  abbrev pub Unnumbered : List (Item A B ℕ) → List (Item A' B' ℕ) → Type 0
+  abbrev pub Unnumbered : List (Item A B ℕ S D) → List (Item A' B' ℕ S' D') → Type 0
   Unnumbered is is' = (n : Counters) → AlikeItems rel n is is' × (counted n is ≡ n)
 
   pub line_end_natural : {s : State R T B} {s' : State R' T' B'} → States rel s s' → Reads rel Unnumbered (line_end one s) (line_end other s')
@@ -214,10 +214,10 @@ module _ {R T A B R' T' A' B' : Type 0} (rel : Relations R T A B R' T' A' B') (o
   unfolding ended
   ended_natural b b' same h = by_tests rel b b' same (both (λ n. (an_item a.newline no_item, refl)) h) (behind_natural h)
 
-  carried : (n : Counters) (found : Read R' T' B' (Item A' B' ℕ × Counters)) (f : (Item A' B' ℕ × Counters) × State R' T' B' → Read R' T' B' (List (Item A' B' ℕ))) → AllExceed n found → AllExceed n (found >>= λ i. f i >>= λ b. Ok ((i.0.0 ∷ b.0, i.0.1), b.1))
+  carried : (n : Counters) (found : Read R' T' B' (Item A' B' ℕ S' D' × Counters)) (f : (Item A' B' ℕ S' D' × Counters) × State R' T' B' → Read R' T' B' (List (Item A' B' ℕ S' D'))) → AllExceed n found → AllExceed n (found >>= λ i. f i >>= λ b. Ok ((i.0.0 ∷ b.0, i.0.1), b.1))
   carried n (Ok i) f h = go (f i)
     where
-      go : (found : Read R' T' B' (List (Item A' B' ℕ))) → AllExceed n (found >>= λ b. Ok ((i.0.0 ∷ b.0, i.0.1), b.1))
+      go : (found : Read R' T' B' (List (Item A' B' ℕ S' D'))) → AllExceed n (found >>= λ b. Ok ((i.0.0 ∷ b.0, i.0.1), b.1))
       go (Ok b) = h
       go (Err e) = tt
   carried n (Err e) f h = tt
@@ -231,24 +231,24 @@ module _ {R T A B R' T' A' B' : Type 0} (rel : Relations R T A B R' T' A' B') (o
       both (an_item q.0 (u (count n i.0.0)).0, q.1, q.2 ∙ sym (u (count n i.0.0)).1) j)))
       (λ x x' t k. both (an_item a.newline no_item, refl, refl) k)
 
-  items_both : {n : Counters} {is js : List (Item A B ℕ)} {is' js' : List (Item A' B' ℕ)} → AlikeItems rel n is is' → AlikeItems rel (counted n is) js js' → AlikeItems rel n (is ++ js) (is' ++ js')
+  items_both : {n : Counters} {is js : List (Item A B ℕ S D)} {is' js' : List (Item A' B' ℕ S' D')} → AlikeItems rel n is is' → AlikeItems rel (counted n is) js js' → AlikeItems rel n (is ++ js) (is' ++ js')
   items_both no_item k = k
   items_both (an_item h hs) k = an_item h (items_both hs k)
 
   -- all items, where the counters stand there
-  abbrev pub NoFile : Counters → State R' T' B' → Counters → Read R' T' B' (List (Item A' B' ℕ) × Counters) → Type 0
+  abbrev pub NoFile : Counters → State R' T' B' → Counters → Read R' T' B' (List (Item A' B' ℕ S' D') × Counters) → Type 0
   NoFile n s' m found = Wants n s' m × AllExceed m found
 
   -- counters grow along the items after a line
-  grown : (n : Counters) (done : List (Item A' B' ℕ)) (m : Counters) (s' : State R' T' B') → Exceeds n m → AllExceed n (after_numbered done (items other m s'))
+  grown : (n : Counters) (done : List (Item A' B' ℕ S' D')) (m : Counters) (s' : State R' T' B') → Exceeds n m → AllExceed n (after_numbered done (items other m s'))
   unfolding after_numbered
   grown n done m s' h = go (items other m s') (items_count other m s')
     where
-      go : (found : Read R' T' B' (List (Item A' B' ℕ) × Counters)) → Counted other m found → AllExceed n (found >>= λ more. Ok ((done ++ more.0.0, more.0.1), more.1))
+      go : (found : Read R' T' B' (List (Item A' B' ℕ S' D') × Counters)) → Counted other m found → AllExceed n (found >>= λ more. Ok ((done ++ more.0.0, more.0.1), more.1))
       go (Ok x) is = exceeds_then h (omega (arith, ap (λ (c : Counters). c.bindings) is, counted_bindings m x.0.0)) (omega (arith, ap (λ (c : Counters). c.recipes) is, counted_recipes m x.0.0))
       go (Err e) is = tt
 
-  line_exceeds : (n : Counters) (found : Read R' T' B' (List (Item A' B' ℕ) × Counters)) → AllExceed n found → AllExceed n (found >>= λ l. after_numbered l.0.0 (items_from other (l.0.1, l.1)))
+  line_exceeds : (n : Counters) (found : Read R' T' B' (List (Item A' B' ℕ S' D') × Counters)) → AllExceed n found → AllExceed n (found >>= λ l. after_numbered l.0.0 (items_from other (l.0.1, l.1)))
   line_exceeds n (Ok l) h = grown n l.0.0 l.0.1 l.1 h
   line_exceeds n (Err e) h = tt
 
@@ -259,7 +259,7 @@ module _ {R T A B R' T' A' B' : Type 0} (rel : Relations R T A B R' T' A' B') (o
 
   module _ (most : ℕ) (all : (n : Counters) (s : State R T B) (s' : State R' T' B') → length s.left < most → States rel s s' → Related rel (AllNumbered n) (NoFile n s') (items one n s) (items other n s')) where
     -- after a line
-    others_alike : (n : Counters) (l : (List (Item A B ℕ) × Counters) × State R T B) (l' : (List (Item A' B' ℕ) × Counters) × State R' T' B') (s' : State R' T' B') → length l.1.left < most → line other n s' ≡ Ok l' → AllNumbered n l.0 l'.0 → States rel l.1 l'.1
+    others_alike : (n : Counters) (l : (List (Item A B ℕ S D) × Counters) × State R T B) (l' : (List (Item A' B' ℕ S' D') × Counters) × State R' T' B') (s' : State R' T' B') → length l.1.left < most → line other n s' ≡ Ok l' → AllNumbered n l.0 l'.0 → States rel l.1 l'.1
         → Related rel (AllNumbered n) (NoFile n s') (after_numbered l.0.0 (items one l.0.1 l.1)) (after_numbered l'.0.0 (items other l'.0.1 l'.1))
     unfolding after_numbered
     others_alike n l l' s' less is' q k =
@@ -269,7 +269,7 @@ module _ {R T A B R' T' A' B' : Type 0} (rel : Relations R T A B R' T' A' B') (o
         (λ m w. (later (is' ∙ ap (λ (c : Counters). Ok ((l'.0.0, c), l'.1)) (sym q.1)) w.0, behind m (items other l.0.1 l'.1) w.1))
         (λ x x' is is2 u j. both (items_both q.0 (subst (λ (c : Counters). AlikeItems rel c x.0.0 x'.0.0) q.2 u.0), u.1, u.2 ∙ ap (λ (c : Counters). counted c x.0.0) q.2 ∙ sym (counted_both n l.0.0 x.0.0)) j))
       where
-        behind : (m : Counters) (found : Read R' T' B' (List (Item A' B' ℕ) × Counters)) → AllExceed m found → AllExceed m (found >>= λ more. Ok ((l'.0.0 ++ more.0.0, more.0.1), more.1))
+        behind : (m : Counters) (found : Read R' T' B' (List (Item A' B' ℕ S' D') × Counters)) → AllExceed m found → AllExceed m (found >>= λ more. Ok ((l'.0.0 ++ more.0.0, more.0.1), more.1))
         behind m (Ok x) h = h
         behind m (Err e) h = tt
 

@@ -22,7 +22,7 @@ string_asks : (expanded : Bool) (lexeme : List ℕ) → token_of (string_of expa
 string_asks true lexeme = refl
 string_asks false lexeme = refl
 
-module _ {R T A B R' T' A' B' : Type 0} (rel : Relations R T A B R' T' A' B') where
+module _ {R T A B S D R' T' A' B' S' D' : Type 0} (rel : Relations R T A B S D R' T' A' B' S' D') where
   -- the same is read, where reading stands alike
   pub data Places : Place R T B → Place R' T' B' → Type 0 where
     at : {level : Level} {c : Bool} {s : State R T B} {s' : State R' T' B'} → States rel s s' → Places (r.At level c s) (r.At level c s')
@@ -43,7 +43,7 @@ module _ {R T A B R' T' A' B' : Type 0} (rel : Relations R T A B R' T' A' B') wh
     pub first : Q x.0 y.0
     pub last : x.1 ≡ y.1
 
-  module _ (one : Leaves R T A B) (other : Leaves R' T' A' B') (agree : Respects rel one other) where
+  module _ (one : Leaves R T A B S D) (other : Leaves R' T' A' B' S' D') (agree : Respects rel one other) where
     abbrev pub Agrees : (x : Place R T B) (y : Place R' T' B') → Out one x → Out other y → Type 0
     Agrees (r.At k c s) (r.At k' c' s') found found' = Reads (Alike rel) found found'
     Agrees (r.Conditional w s) (r.Conditional w' s') found found' = Reads (Alike rel) found found'
@@ -128,7 +128,8 @@ module _ {R T A B R' T' A' B' : Type 0} (rel : Relations R T A B R' T' A' B') wh
       binary_alike : (k : Level) (c : Bool) {s : State R T B} {s' : State R' T' B'} → States rel s s' → Reads (Alike rel) (binary_rule one f k c s) (binary_rule other g k c s')
       unfolding binary_rule refused
       binary_alike k c {s} {s'} h =
-          by_tests rel (is_within k s) (is_within k s') (same_within rel k h)
+          by_tests rel (is_within (one.conditions s.run).limit k s) (is_within (other.conditions s'.run).limit k s')
+          (same_within rel (one.conditions s.run) (other.conditions s'.run) k (agree.conditions s.run s'.run h.run) h)
           (bind rel _ _ (level_alike (operand k) c (opened_alike rel k h)) (λ l l' e j. tail_alike k c l l' e j (accepted_operator rel one other agree k j)))
           (neither (a.too_deep (a.front_alike rel h.left)))
 

@@ -1,27 +1,24 @@
 -- The normal shape is its own, has the same literals, bindings and recipes, and is printable where the shape is.
 use Rattle.std.proofs.Common.{◌≡◌, [], ◌∷◌, ◌++◌, ◌&&◌, refl, ap, ◌∙◌, arith}
-use Rattle.justfile_model.specs.Tree.{Assignment, Comment, Newline, Recipe, Shape}
-use Rattle.justfile_model.specs.Files.{expr_literals, body_literals, literals, bindings, recipes}
+use Rattle.justfile_model.specs.Tree.{Comment, Construct, Newline, Shape}
+use Rattle.justfile_model.specs.Files.{entries_literals, item_literals, literals, bindings, recipes}
 use Rattle.justfile_model.specs.NormalShape.{behind_newline, normal_rest, normal}
-use Rattle.justfile_model.specs.Printing.{printable_body, printable}
+use Rattle.justfile_model.specs.Printing.{printable_content, printable}
 
 behind_twice : (r : Shape) → normal_rest r ≡ r → normal_rest (behind_newline r) ≡ behind_newline r
 behind_twice [] h = refl
 behind_twice (Newline ∷ []) h = refl
 behind_twice (Newline ∷ Newline ∷ r) h = h
-behind_twice (Newline ∷ Assignment name value ∷ r) h = ap behind_newline h
 behind_twice (Newline ∷ Comment text ∷ r) h = ap behind_newline h
-behind_twice (Newline ∷ Recipe name body ∷ r) h = ap behind_newline h
-behind_twice (Assignment name value ∷ r) h = ap behind_newline h
+behind_twice (Newline ∷ Construct attributes content ∷ r) h = ap behind_newline h
 behind_twice (Comment text ∷ r) h = ap behind_newline h
-behind_twice (Recipe name body ∷ r) h = ap behind_newline h
+behind_twice (Construct attributes content ∷ r) h = ap behind_newline h
 
 rest_twice : (s : Shape) → normal_rest (normal_rest s) ≡ normal_rest s
 rest_twice [] = refl
 rest_twice (Newline ∷ s) = behind_twice (normal_rest s) (rest_twice s)
-rest_twice (Assignment name value ∷ s) = ap (λ (r : Shape). Assignment name value ∷ r) (rest_twice s)
 rest_twice (Comment text ∷ s) = ap (λ (r : Shape). Comment text ∷ r) (rest_twice s)
-rest_twice (Recipe name body ∷ s) = ap (λ (r : Shape). Recipe name body ∷ r) (rest_twice s)
+rest_twice (Construct attributes content ∷ s) = ap (λ (r : Shape). Construct attributes content ∷ r) (rest_twice s)
 
 normal_of : (r : Shape) → normal_rest r ≡ r → normal r ≡ r
 normal_of [] h = refl
@@ -35,19 +32,16 @@ behind_literals : (r : Shape) → literals (behind_newline r) ≡ literals r
 behind_literals [] = refl
 behind_literals (Newline ∷ []) = refl
 behind_literals (Newline ∷ Newline ∷ r) = refl
-behind_literals (Newline ∷ Assignment name value ∷ r) = refl
 behind_literals (Newline ∷ Comment text ∷ r) = refl
-behind_literals (Newline ∷ Recipe name body ∷ r) = refl
-behind_literals (Assignment name value ∷ r) = refl
+behind_literals (Newline ∷ Construct attributes content ∷ r) = refl
 behind_literals (Comment text ∷ r) = refl
-behind_literals (Recipe name body ∷ r) = refl
+behind_literals (Construct attributes content ∷ r) = refl
 
 rest_literals : (s : Shape) → literals (normal_rest s) ≡ literals s
 rest_literals [] = refl
 rest_literals (Newline ∷ s) = behind_literals (normal_rest s) ∙ rest_literals s
-rest_literals (Assignment name value ∷ s) = ap (λ l. expr_literals value ++ l) (rest_literals s)
 rest_literals (Comment text ∷ s) = rest_literals s
-rest_literals (Recipe name body ∷ s) = ap (λ l. body_literals body ++ l) (rest_literals s)
+rest_literals (Construct attributes content ∷ s) = ap (λ l. item_literals entries_literals (Construct attributes content) ++ l) (rest_literals s)
 
 pub normal_literals : (s : Shape) → literals (normal s) ≡ literals s
 normal_literals [] = refl
@@ -57,19 +51,16 @@ behind_bindings : (r : Shape) → bindings (behind_newline r) ≡ bindings r
 behind_bindings [] = omega arith
 behind_bindings (Newline ∷ []) = omega arith
 behind_bindings (Newline ∷ Newline ∷ r) = omega arith
-behind_bindings (Newline ∷ Assignment name value ∷ r) = omega arith
 behind_bindings (Newline ∷ Comment text ∷ r) = omega arith
-behind_bindings (Newline ∷ Recipe name body ∷ r) = omega arith
-behind_bindings (Assignment name value ∷ r) = omega arith
+behind_bindings (Newline ∷ Construct attributes content ∷ r) = omega arith
 behind_bindings (Comment text ∷ r) = omega arith
-behind_bindings (Recipe name body ∷ r) = omega arith
+behind_bindings (Construct attributes content ∷ r) = omega arith
 
 rest_bindings : (s : Shape) → bindings (normal_rest s) ≡ bindings s
 rest_bindings [] = omega arith
 rest_bindings (Newline ∷ s) = omega (arith, behind_bindings (normal_rest s), rest_bindings s)
-rest_bindings (Assignment name value ∷ s) = omega (arith, rest_bindings s)
 rest_bindings (Comment text ∷ s) = omega (arith, rest_bindings s)
-rest_bindings (Recipe name body ∷ s) = omega (arith, rest_bindings s)
+rest_bindings (Construct attributes content ∷ s) = omega (arith, rest_bindings s)
 
 pub normal_bindings : (s : Shape) → bindings (normal s) ≡ bindings s
 normal_bindings [] = refl
@@ -79,19 +70,16 @@ behind_recipes : (r : Shape) → recipes (behind_newline r) ≡ recipes r
 behind_recipes [] = omega arith
 behind_recipes (Newline ∷ []) = omega arith
 behind_recipes (Newline ∷ Newline ∷ r) = omega arith
-behind_recipes (Newline ∷ Assignment name value ∷ r) = omega arith
 behind_recipes (Newline ∷ Comment text ∷ r) = omega arith
-behind_recipes (Newline ∷ Recipe name body ∷ r) = omega arith
-behind_recipes (Assignment name value ∷ r) = omega arith
+behind_recipes (Newline ∷ Construct attributes content ∷ r) = omega arith
 behind_recipes (Comment text ∷ r) = omega arith
-behind_recipes (Recipe name body ∷ r) = omega arith
+behind_recipes (Construct attributes content ∷ r) = omega arith
 
 rest_recipes : (s : Shape) → recipes (normal_rest s) ≡ recipes s
 rest_recipes [] = omega arith
 rest_recipes (Newline ∷ s) = omega (arith, behind_recipes (normal_rest s), rest_recipes s)
-rest_recipes (Assignment name value ∷ s) = omega (arith, rest_recipes s)
 rest_recipes (Comment text ∷ s) = omega (arith, rest_recipes s)
-rest_recipes (Recipe name body ∷ s) = omega (arith, rest_recipes s)
+rest_recipes (Construct attributes content ∷ s) = omega (arith, rest_recipes s)
 
 pub normal_recipes : (s : Shape) → recipes (normal s) ≡ recipes s
 normal_recipes [] = refl
@@ -101,19 +89,16 @@ behind_printable : (r : Shape) → printable (behind_newline r) ≡ printable r
 behind_printable [] = refl
 behind_printable (Newline ∷ []) = refl
 behind_printable (Newline ∷ Newline ∷ r) = refl
-behind_printable (Newline ∷ Assignment name value ∷ r) = refl
 behind_printable (Newline ∷ Comment text ∷ r) = refl
-behind_printable (Newline ∷ Recipe name body ∷ r) = refl
-behind_printable (Assignment name value ∷ r) = refl
+behind_printable (Newline ∷ Construct attributes content ∷ r) = refl
 behind_printable (Comment text ∷ r) = refl
-behind_printable (Recipe name body ∷ r) = refl
+behind_printable (Construct attributes content ∷ r) = refl
 
 rest_printable : (s : Shape) → printable (normal_rest s) ≡ printable s
 rest_printable [] = refl
 rest_printable (Newline ∷ s) = behind_printable (normal_rest s) ∙ rest_printable s
-rest_printable (Assignment name value ∷ s) = rest_printable s
 rest_printable (Comment text ∷ s) = rest_printable s
-rest_printable (Recipe name body ∷ s) = ap (λ b. printable_body body && b) (rest_printable s)
+rest_printable (Construct attributes content ∷ s) = ap (λ b. printable_content content && b) (rest_printable s)
 
 pub normal_printable : (s : Shape) → printable (normal s) ≡ printable s
 normal_printable [] = refl

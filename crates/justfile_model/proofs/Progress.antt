@@ -3,11 +3,11 @@ use Rattle.std.proofs.Common.{ℕ, ◌<◌, ◌≤◌, List, length, Option, ari
 use Rattle.justfile_base.specs.declared.token_kind.TokenKind.TheVariants as kinds
 use Rattle.justfile_model.specs.Tok.{Tok}
 use Rattle.justfile_model.specs.SignificantTokens.{SignificantToken}
-use Rattle.justfile_model.specs.Tree.{Fragment, BodyLine, Item}
+use Rattle.justfile_model.specs.Tree.{BodyLine, Content, Fragment}
 use Rattle.justfile_model.specs.Features.{Noted}
 use Rattle.justfile_model.specs.Expressions.{Tokens, NotNext}
 use Rattle.justfile_model.specs.Grammar as g
-use Rattle.justfile_model.specs.Grammar.{LineRest, BeforeBody, BodyLines, OnLine, Block}
+use Rattle.justfile_model.specs.Grammar.{Kept, LineRest, BeforeBody, BodyLines, OnLine, Block}
 use Rattle.justfile_model.proofs.ExpressionProgress.{expression_progress}
 
 module _ {A B : Type 0} (leaf : Tok → A) (spot : Tok → B) (Open : ℕ → Option SignificantToken → Type 0) where
@@ -24,20 +24,19 @@ module _ {A B : Type 0} (leaf : Tok → A) (spot : Tok → B) (Open : ℕ → Op
   line_rest_progress (g.text kind l) not = omega (arith, line_rest_keeps l)
   line_rest_progress (g.interpolation kind e kind2 l) not = omega (arith, expression_progress leaf spot Open e, line_rest_keeps l)
 
-pub before_progress : {ts rest : Tokens} → BeforeBody ts rest → length rest < length ts
+pub before_progress : {comment : Option (List ℕ)} {ts rest : Tokens} → BeforeBody comment ts rest → length rest < length ts
 before_progress (g.at_once kind kind2) = omega arith
 before_progress (g.commented kind kind2 kind3) = omega arith
 
-module _ {A B C : Type 0} (leaf : Tok → A) (spot : Tok → B) (number : Tok → C) (Open : ℕ → Option SignificantToken → Type 0) where
-  pub lines_progress : {lines : List (BodyLine A B C)} {fs : List (Noted B)} {ts rest : Tokens} → BodyLines leaf spot number Open lines fs ts rest → length rest < length ts
+module _ {A B C S : Type 0} (kept : Kept A B C S) (Open : ℕ → Option SignificantToken → Type 0) where
+  pub lines_progress : {lines : List (BodyLine A B C)} {fs : List (Noted B)} {ts rest : Tokens} → BodyLines kept Open lines fs ts rest → length rest < length ts
   lines_progress (g.no_line kind) = omega arith
   lines_progress (g.empty_line kind h) = omega (arith, lines_progress h)
-  lines_progress (g.some_line l h) = omega (arith, line_rest_keeps leaf spot Open l, lines_progress h)
+  lines_progress (g.some_line l h) = omega (arith, line_rest_keeps kept.leaf kept.spot Open l, lines_progress h)
 
-  pub on_line_progress : {i : Item A B C} {fs : List (Noted B)} {ts rest : Tokens} → OnLine leaf spot number Open i fs ts rest → length rest < length ts
-  on_line_progress (g.comment kind) = omega arith
-  on_line_progress (g.assignment kind kind2 e) = omega (arith, expression_progress leaf spot Open e)
+  pub on_line_progress : {c : Content A B C S} {fs : List (Noted B)} {ts rest : Tokens} → OnLine kept Open c fs ts rest → length rest < length ts
+  on_line_progress (g.assignment kind kind2 e) = omega (arith, expression_progress kept.leaf kept.spot Open e)
   on_line_progress (g.header kind kind2) = omega arith
 
-  pub block_progress : {i : Item A B C} {fs : List (Noted B)} {ts rest : Tokens} → Block leaf spot number Open i fs ts rest → length rest < length ts
+  pub block_progress : {c : Content A B C S} {fs : List (Noted B)} {ts rest : Tokens} → Block kept Open c fs ts rest → length rest < length ts
   block_progress (g.recipe kind kind2 b lines some) = omega (arith, before_progress b, lines_progress lines)

@@ -1,42 +1,47 @@
 -- What a reader comes to where the grammar has a tree: it reads the tree, or refuses a literal that has no text, or too deep an
 -- expression.
-use Rattle.std.proofs.Common.{◌≡◌, ℕ, ◌<◌, ◌≤◌, false, cond, nat_lt, List, [], ◌∷◌, ◌++◌, Option, Result, Ok, Err, refl, sym, subst, ap, ◌∙◌, inl, inr, append_assoc, arith}
+use Rattle.std.proofs.Common.{◌≡◌, ◌⊎◌, ℕ, ◌<◌, ◌≤◌, false, cond, nat_lt, List, [], ◌∷◌, ◌++◌, Option, Result, Ok, Err, refl, sym, subst, ap, ◌∙◌, inl, inr, append_assoc, arith}
 use Rattle.std.proofs.lemmas.Bool.Decides.{nat_tests}
+use Rattle.justfile_model.specs.Conditions.{Conditions}
 use Rattle.justfile_model.specs.Tok.{Tok}
 use Rattle.justfile_model.specs.SignificantTokens.{SignificantToken}
 use Rattle.justfile_model.specs.Tree.{lexeme}
 use Rattle.justfile_model.specs.Features.{Noted}
-use Rattle.justfile_model.specs.Expressions.{Tokens, front, Limited, Free, Waived}
+use Rattle.justfile_model.specs.Expressions.{Tokens, front, Under, Free, Waived}
 use Rattle.justfile_model.specs.Literals.{Literal, over_literal, token_of, LiteralFault, Answers, cooked_text}
 use Rattle.justfile_model.specs.Reading.{TooDeep, NotCooked, ◌>>=◌, refused}
 use Rattle.justfile_model.specs.ExpressionReader as r
 use Rattle.justfile_model.specs.ExpressionReader.{by_text}
 use Rattle.justfile_model.specs.TreeReader.{Read, Refusal, State, token_leaves}
-use Rattle.justfile_model.specs.Refusals.{LacksText, IsDue}
+use Rattle.justfile_model.specs.Refusals.{LacksText, IsTooDeep}
 use Rattle.justfile_model.proofs.CookedTexts.{AllCook, both_cook, then_cook, all_cook, texts_of}
 use Rattle.justfile_model.proofs.ReadingSteps.{after_test}
 use Rattle.justfile_model.proofs.Steps.{input}
 
-at_limit : (d : ℕ) → d ≤ 256 → nat_lt d 256 ≡ false → d ≡ 256
-at_limit d within h = let not : 256 ≤ d = grind (arith, nat_tests) in omega (arith, within, not)
+at_limit : (limit d : ℕ) → d ≤ limit → nat_lt d limit ≡ false → d ≡ limit
+at_limit limit d within h = let not : limit ≤ d = grind (arith, nat_tests) in omega (arith, within, not)
 
 -- under the limit nothing is waived
-pub kept : (d : ℕ) (at : Option SignificantToken) → Limited d at → Waived (λ at. ⊥) d at
-kept d at h = λ e. absurd (omega (arith, h, e))
+pub kept : (limit d : ℕ) (at : Option SignificantToken) → Under limit d at → Waived limit (λ at. ⊥) d at
+kept limit d at h = λ e. absurd (omega (arith, h, e))
 
 -- and without it everything
-pub dropped : (d : ℕ) (at : Option SignificantToken) → Free d at → Waived (λ at. Unit {0}) d at
-dropped d at h = λ e. tt
+pub dropped : (limit d : ℕ) (at : Option SignificantToken) → Free d at → Waived limit (λ at. Unit {0}) d at
+dropped limit d at h = λ e. tt
 
-module _ (expander : Answers) where
+-- the first of the literals that has no text is refused, or too deep an expression
+abbrev pub DueOf : Answers → (Hit : Option SignificantToken → Type 0) → List (Literal Tok) → Refusal → Type 0
+DueOf expander Hit all r = LacksText expander all r ⊎ IsTooDeep Hit r
+
+module _ (conditions : Conditions) where
   -- ---- the first literal without a text
 
-  lacks_first : (ls ms : List (Literal Tok)) (r : Refusal) → LacksText expander ls r → LacksText expander (ls ++ ms) r
+  lacks_first : (ls ms : List (Literal Tok)) (r : Refusal) → LacksText conditions.expander ls r → LacksText conditions.expander (ls ++ ms) r
   lacks_first ls ms r h = record {
     before = h.before;
     literal = h.literal;
-    behind = h.behind ++ ms;
-    all_is = ap (λ (l : List (Literal Tok)). l ++ ms) h.all_is ∙ append_assoc h.before (h.literal ∷ h.behind) ms;
+    others = h.others ++ ms;
+    all_is = ap (λ (l : List (Literal Tok)). l ++ ms) h.all_is ∙ append_assoc h.before (h.literal ∷ h.others) ms;
     cooked = h.cooked;
     cooks = h.cooks;
     fault = h.fault;
@@ -44,14 +49,14 @@ module _ (expander : Answers) where
     refusal_is = h.refusal_is;
   }
 
-  lacks_then : (ls ms : List (Literal Tok)) (r : Refusal) → AllCook expander ls → LacksText expander ms r → LacksText expander (ls ++ ms) r
+  lacks_then : (ls ms : List (Literal Tok)) (r : Refusal) → AllCook conditions.expander ls → LacksText conditions.expander ms r → LacksText conditions.expander (ls ++ ms) r
   lacks_then ls ms r a h =
-      let texts = texts_of expander (ls ++ h.before) (both_cook expander ls h.before a (all_cook expander h.before h.cooked h.cooks)) in
+      let texts = texts_of conditions.expander (ls ++ h.before) (both_cook conditions.expander ls h.before a (all_cook conditions.expander h.before h.cooked h.cooks)) in
       record {
         before = ls ++ h.before;
         literal = h.literal;
-        behind = h.behind;
-        all_is = ap (λ (m : List (Literal Tok)). ls ++ m) h.all_is ∙ sym (append_assoc ls h.before (h.literal ∷ h.behind));
+        others = h.others;
+        all_is = ap (λ (m : List (Literal Tok)). ls ++ m) h.all_is ∙ sym (append_assoc ls h.before (h.literal ∷ h.others));
         cooked = texts.0;
         cooks = texts.1;
         fault = h.fault;
@@ -63,40 +68,40 @@ module _ (expander : Answers) where
   text_or_none found text fault h e = cc
 
   -- no literal lacks a text where each has one
-  pub lacks_none : (ls : List (Literal Tok)) (r : Refusal) → AllCook expander ls → LacksText expander ls r → ⊥
+  pub lacks_none : (ls : List (Literal Tok)) (r : Refusal) → AllCook conditions.expander ls → LacksText conditions.expander ls r → ⊥
   lacks_none ls r a h =
-      let here = then_cook expander h.before (h.literal ∷ h.behind) (subst (AllCook expander) h.all_is a) in
-      text_or_none (cooked_text expander (over_literal lexeme h.literal)) here.0.text h.fault here.0.is h.no_text
+      let here = then_cook conditions.expander h.before (h.literal ∷ h.others) (subst (AllCook conditions.expander) h.all_is a) in
+      text_or_none (cooked_text conditions.expander (over_literal lexeme h.literal)) here.0.text h.fault here.0.is h.no_text
 
   -- ---- what is read if these literals have texts, where the limit is waived at some tokens
 
   module _ (Hit : Option SignificantToken → Type 0) where
-    due_first : (ls ms : List (Literal Tok)) (r : Refusal) → IsDue expander Hit ls r → IsDue expander Hit (ls ++ ms) r
+    due_first : (ls ms : List (Literal Tok)) (r : Refusal) → DueOf conditions.expander Hit ls r → DueOf conditions.expander Hit (ls ++ ms) r
     due_first ls ms r (inl h) = inl (lacks_first ls ms r h)
     due_first ls ms r (inr h) = inr h
 
-    due_then : (ls ms : List (Literal Tok)) (r : Refusal) → AllCook expander ls → IsDue expander Hit ms r → IsDue expander Hit (ls ++ ms) r
+    due_then : (ls ms : List (Literal Tok)) (r : Refusal) → AllCook conditions.expander ls → DueOf conditions.expander Hit ms r → DueOf conditions.expander Hit (ls ++ ms) r
     due_then ls ms r a (inl h) = inl (lacks_then ls ms r a h)
     due_then ls ms r a (inr h) = inr h
 
     -- it is read, or a refusal that is due is given
     pub data Reaches {X : Type 0} (found : Result X Refusal) (x : X) (ls : List (Literal Tok)) : Type 0 where
-      is_read : AllCook expander ls → found ≡ Ok x → Reaches found x ls
-      is_refused : {r : Refusal} → IsDue expander Hit ls r → found ≡ Err r → Reaches found x ls
+      is_read : AllCook conditions.expander ls → found ≡ Ok x → Reaches found x ls
+      is_refused : {r : Refusal} → DueOf conditions.expander Hit ls r → found ≡ Err r → Reaches found x ls
 
     pub by : {X : Type 0} {found found' : Result X Refusal} {x : X} {ls : List (Literal Tok)} → found ≡ found' → Reaches found' x ls → Reaches found x ls
     by {x = x} {ls = ls} is h = subst (λ o. Reaches o x ls) (sym is) h
 
     -- with the same features, put together otherwise
-    pub renoted : {A : Type 0} {found : Read A} {e : A} {d : ℕ} {rest : Tokens} {m n : List (Noted Tok)} {ls : List (Literal Tok)} → m ≡ n → Reaches found (e, input expander d rest m) ls → Reaches found (e, input expander d rest n) ls
-    renoted {A} {found} {e} {d} {rest} {ls = ls} same h = subst (λ (n : List (Noted Tok)). Reaches found (e, input expander d rest n) ls) same h
+    pub renoted : {A : Type 0} {found : Read A} {e : A} {d : ℕ} {rest : Tokens} {m n : List (Noted Tok)} {ls : List (Literal Tok)} → m ≡ n → Reaches found (e, input conditions d rest m) ls → Reaches found (e, input conditions d rest n) ls
+    renoted {A} {found} {e} {d} {rest} {ls = ls} same h = subst (λ (n : List (Noted Tok)). Reaches found (e, input conditions d rest n) ls) same h
 
     -- with the same literals, put together otherwise
     pub regrouped : {X : Type 0} {found : Result X Refusal} {x : X} {ls ms : List (Literal Tok)} → ls ≡ ms → Reaches found x ls → Reaches found x ms
     regrouped {found = found} {x = x} same h = subst (λ (ls : List (Literal Tok)). Reaches found x ls) same h
 
-    onto : {X : Type 0} {found : Result X Refusal} {x : X} (ls ms : List (Literal Tok)) → AllCook expander ls → Reaches found x ms → Reaches found x (ls ++ ms)
-    onto ls ms a (is_read b is) = is_read (both_cook expander ls ms a b) is
+    onto : {X : Type 0} {found : Result X Refusal} {x : X} (ls ms : List (Literal Tok)) → AllCook conditions.expander ls → Reaches found x ms → Reaches found x (ls ++ ms)
+    onto ls ms a (is_read b is) = is_read (both_cook conditions.expander ls ms a b) is
     onto ls ms a (is_refused h is) = is_refused (due_then ls ms _ a h) is
 
     -- a step, and those behind it
@@ -110,29 +115,29 @@ module _ (expander : Answers) where
     pass f (is_refused h is) goes = is_refused h (ap (λ o. o >>= f) is)
 
     text_reached : {A : Type 0} (l : Literal Tok) (e : A) (t : SignificantToken) (s : State) → t.tok ≡ token_of l
-        → (found : Result (List ℕ) LiteralFault) → cooked_text expander (over_literal lexeme l) ≡ found → Reaches (by_text token_leaves (λ text. e) (t, s) found) (e, s) (l ∷ [])
+        → (found : Result (List ℕ) LiteralFault) → cooked_text conditions.expander (over_literal lexeme l) ≡ found → Reaches (by_text token_leaves (λ text. e) (t, s) found) (e, s) (l ∷ [])
     text_reached l e t s at (Ok text) h = is_read (record { text = text; is = h }, tt) refl
     text_reached l e t s at (Err fault) h =
         is_refused
-        (inl (record { before = []; literal = l; behind = []; all_is = refl; cooked = []; cooks = tt; fault = fault; no_text = h; refusal_is = ap (λ (t : Tok). NotCooked fault t) at }))
+        (inl (record { before = []; literal = l; others = []; all_is = refl; cooked = []; cooks = tt; fault = fault; no_text = h; refusal_is = ap (λ (t : Tok). NotCooked fault t) at }))
         refl
 
     -- a literal
     pub cooked : {A : Type 0} (make : Tok → A) (ask : List ℕ → Literal (List ℕ)) (l : Literal Tok) (t : SignificantToken) {d : ℕ} {ts : Tokens} {ns : List (Noted Tok)} → t.tok ≡ token_of l → ask t.tok.lexeme ≡ over_literal lexeme l
-        → Reaches (r.cooked token_leaves make ask (t, input expander d ts ns)) (make t.tok, input expander d ts ns) (l ∷ [])
+        → Reaches (r.cooked token_leaves make ask (t, input conditions d ts ns)) (make t.tok, input conditions d ts ns) (l ∷ [])
     unfolding r.cooked
-    cooked make ask l t {d} {ts} {ns} at asks = text_reached l (make t.tok) t (input expander d ts ns) at (cooked_text expander (ask t.tok.lexeme)) (ap (cooked_text expander) (sym asks))
+    cooked make ask l t {d} {ts} {ns} at asks = text_reached l (make t.tok) t (input conditions d ts ns) at (cooked_text conditions.expander (ask t.tok.lexeme)) (ap (cooked_text conditions.expander) (sym asks))
 
     -- an expression is entered
-    pub entered : {A : Type 0} {x : Read A} {y : A × State} {ls : List (Literal Tok)} (d : ℕ) (s : State) → d ≤ 256 → Waived Hit d (front s.left) → (d < 256 → Reaches x y ls)
-        → Reaches (cond (nat_lt d 256) x (Err (refused TooDeep s))) y ls
+    pub entered : {A : Type 0} {x : Read A} {y : A × State} {ls : List (Literal Tok)} (d : ℕ) (s : State) → d ≤ conditions.limit → Waived conditions.limit Hit d (front s.left) → (d < conditions.limit → Reaches x y ls)
+        → Reaches (cond (nat_lt d conditions.limit) x (Err (refused TooDeep s))) y ls
     unfolding refused
     entered {x = x} {y = y} {ls = ls} d s within hit h =
-        after_test (nat_lt d 256) x _ (λ o. Reaches o y ls) (λ t. h (grind (arith, nat_tests)))
-        (λ t. is_refused (inr (record { token = front s.left; hit = hit (at_limit d within t); refusal_is = refl })) refl)
+        after_test (nat_lt d conditions.limit) x _ (λ o. Reaches o y ls) (λ t. h (grind (arith, nat_tests)))
+        (λ t. is_refused (inr (record { token = front s.left; hit = hit (at_limit conditions.limit d within t); refusal_is = refl })) refl)
 
   -- where nothing is waived and all literals have texts, it is read
-  pub only_read : {X : Type 0} {found : Result X Refusal} {x : X} {ls : List (Literal Tok)} → AllCook expander ls → Reaches (λ at. ⊥) found x ls → found ≡ Ok x
+  pub only_read : {X : Type 0} {found : Result X Refusal} {x : X} {ls : List (Literal Tok)} → AllCook conditions.expander ls → Reaches (λ at. ⊥) found x ls → found ≡ Ok x
   only_read a (is_read b is) = is
   only_read {ls = ls} a (is_refused (inl h) is) = absurd (lacks_none ls _ a h)
   only_read a (is_refused (inr h) is) = absurd h.hit
@@ -141,6 +146,6 @@ module _ (expander : Answers) where
   err_inside q r h = cc
 
   -- a refusal is one that is due
-  pub only_due : (Hit : Option SignificantToken → Type 0) {X : Type 0} {found : Result X Refusal} {x : X} {ls : List (Literal Tok)} {r : Refusal} → found ≡ Err r → Reaches Hit found x ls → IsDue expander Hit ls r
+  pub only_due : (Hit : Option SignificantToken → Type 0) {X : Type 0} {found : Result X Refusal} {x : X} {ls : List (Literal Tok)} {r : Refusal} → found ≡ Err r → Reaches Hit found x ls → DueOf conditions.expander Hit ls r
   only_due Hit e (is_read a is) = cc
-  only_due Hit {ls = ls} {r = r} e (is_refused {r = q} h is) = subst (IsDue expander Hit ls) (err_inside q r (sym is ∙ e)) h
+  only_due Hit {ls = ls} {r = r} e (is_refused {r = q} h is) = subst (DueOf conditions.expander Hit ls) (err_inside q r (sym is ∙ e)) h

@@ -67,7 +67,7 @@ module _ {R T B : Type 0} where
   at_drop : (n : ℕ) (s : State R T B) → Behind s (at s (drop n s.left))
   at_drop n s = (omega (arith, length-drop n s.left), refl, refl)
 
-module _ {R T A B : Type 0} (leaves : Leaves R T A B) where
+module _ {R T A B S D : Type 0} (leaves : Leaves R T A B S D) where
   -- ---- what is read leaves fewer tokens, in the same run and at the same depth
 
   pub expression_goes : (s : State R T B) → Goes s (expression leaves s)
@@ -227,7 +227,7 @@ module _ {R T A B : Type 0} (leaves : Leaves R T A B) where
   unfolding on_line
   on_line_goes n s =
       either_goes s (accept leaves kinds.Comment s) _ _ (accepts leaves kinds.Comment s)
-      (after_test (next_are leaves (kinds.Identifier ∷ kinds.ColonEquals ∷ []) s) _ _ (Goes {X = Item A B ℕ × Counters} s) (λ _. assignment_goes n s) (λ _. recipe_goes n s))
+      (after_test (next_are leaves (kinds.Identifier ∷ kinds.ColonEquals ∷ []) s) _ _ (Goes {X = Item A B ℕ S D × Counters} s) (λ _. assignment_goes n s) (λ _. recipe_goes n s))
       (λ c. there c.1)
 
   -- the end of the file is left
@@ -236,7 +236,7 @@ module _ {R T A B : Type 0} (leaves : Leaves R T A B) where
   line_end_keeps s =
       ending (accept leaves kinds.Eof s) _ (then s (expect leaves kinds.Eol s) _ (keeps s _ (expects leaves kinds.Eol s)) (λ x. there x.1))
     where
-      ending : (o : Taken R T B) (x : Read R T B (List (Item A B ℕ))) → Keeps s x → Keeps s (choose o x (λ y. Ok ([], s)))
+      ending : (o : Taken R T B) (x : Read R T B (List (Item A B ℕ S D))) → Keeps s x → Keeps s (choose o x (λ y. Ok ([], s)))
       ending None x h = h
       ending (Some p) x h = there s
 
@@ -248,7 +248,7 @@ module _ {R T A B : Type 0} (leaves : Leaves R T A B) where
 
   pub ended_keeps : (b : Bool) (s : State R T B) → Keeps s (ended leaves b s)
   unfolding ended
-  ended_keeps b s = after_test b _ _ (Keeps {X = List (Item A B ℕ)} s) (λ _. there s) (λ _. behind_keeps s)
+  ended_keeps b s = after_test b _ _ (Keeps {X = List (Item A B ℕ S D)} s) (λ _. there s) (λ _. behind_keeps s)
 
   pub line_goes : (n : Counters) (s : State R T B) → Goes s (line leaves n s)
   unfolding line
@@ -259,7 +259,7 @@ module _ {R T A B : Type 0} (leaves : Leaves R T A B) where
 
   -- ---- the rule of items
 
-  inside : Start leaves → Start leaves → Read R T B (List (Item A B ℕ) × Counters)
+  inside : Start leaves → Start leaves → Read R T B (List (Item A B ℕ S D) × Counters)
   inside x = below (λ x. length x.1.left) (stop leaves) (items_rule leaves) x (items_from leaves)
 
   unfolded : (x : Start leaves) → items_from leaves x ≡ items_rule leaves (inside x) x
@@ -279,9 +279,9 @@ module _ {R T A B : Type 0} (leaves : Leaves R T A B) where
 
   -- ---- a loop over items: `done` was read before, and `s` is what is left
 
-  module _ (done : List (Item A B ℕ)) (n : Counters) (s : State R T B) where
+  module _ (done : List (Item A B ℕ S D)) (n : Counters) (s : State R T B) where
     -- a line is read
-    pub items_go_on : (more : List (Item A B ℕ)) (m : Counters) (rest : State R T B) → accept leaves kinds.Eof s ≡ None → line leaves n s ≡ Ok ((more, m), rest)
+    pub items_go_on : (more : List (Item A B ℕ S D)) (m : Counters) (rest : State R T B) → accept leaves kinds.Eof s ≡ None → line leaves n s ≡ Ok ((more, m), rest)
         → after_numbered done (items leaves n s) ≡ after_numbered (done ++ more) (items leaves m rest)
     unfolding items_rule
     items_go_on more m rest h1 h2 = rw (items_is n s, h1, h2) (numbered_regroups done more (items leaves m rest))

@@ -128,7 +128,7 @@ module _ {R T B : Type 0} where
 
 -- ---- tokens
 
-module _ {R T A B : Type 0} (leaves : Leaves R T A B) where
+module _ {R T A B S D : Type 0} (leaves : Leaves R T A B S D) where
   passes : (test : SignificantToken → Bool) (s : State R T B) (l : List T) → length l ≤ length s.left → Takes s (accept_by leaves test s l)
   passes test s [] h p e = cc
   passes test s (t ∷ ts) h p e = by_test s t ts (test (leaves.see t)) (omega (arith, h)) p e
@@ -191,7 +191,7 @@ module _ {R T A B : Type 0} (leaves : Leaves R T A B) where
   unfolding cooked
   cooks make literal x =
       let l = literal (leaves.see x.0).tok.lexeme in
-      texts (λ text. make (leaves.literal x.0 l text)) x (cooked_text (leaves.expander x.1.run) l)
+      texts (λ text. make (leaves.literal x.0 l text)) x (cooked_text (leaves.conditions x.1.run).expander l)
 
   -- after a literal that was found, or where none was
   abbrev pub Found : State R T B → Option (Expr A B) → State R T B → Type 0

@@ -8,6 +8,7 @@ use Rattle.justfile_model.specs.declared.level.Level.TheVariants as levels
 use Rattle.justfile_model.specs.declared.list_feature.ListFeature.{ListFeature}
 use Rattle.justfile_model.specs.declared.operator.Operator.{Operator}
 use Rattle.justfile_model.specs.declared.operator.Operator.TheVariants as operators
+use Rattle.justfile_model.specs.Conditions.{Conditions}
 use Rattle.justfile_model.specs.ExpressionReader.{Met, accept_operator, by_text, closed, cooked, is_within, met_at, opened, operator_by}
 use Rattle.justfile_model.specs.Expressions.{ends_open, front}
 use Rattle.justfile_model.specs.Features.{Noted, noted_if, uncompared_feature}
@@ -18,11 +19,11 @@ use Rattle.justfile_model.specs.Reader.{has_body}
 use Rattle.justfile_model.specs.Reading.{◌>>=◌, Counters, Leaves, NoNumber, NotCooked, Read, Refusal, State, Taken, TooDeep, Unexpected, accept, accept_by, accept_marked, accept_word, at, begin_with, choose, expect, is_word, marked_by, marks, next_are, refused, same_kind, with}
 use Rattle.justfile_model.specs.SignificantTokens.{SignificantToken}
 use Rattle.justfile_model.specs.Tree as tree
-use Rattle.justfile_model.specs.Tree.{BodyLine, Expr, Exprs, Fragment, Item, Line, Parts, before, trimmed}
+use Rattle.justfile_model.specs.Tree.{BodyLine, Construct, Expr, Exprs, Fragment, Item, Line, Parts, before, plain_assignment, plain_recipe, trimmed}
 use Rattle.justfile_model.proofs.Counters.{count}
 
 -- what is related of two readers' runs, tokens, leaves and places
-pub record Relations (R T A B R' T' A' B' : Type 0) : Type 1 where
+pub record Relations (R T A B S D R' T' A' B' S' D' : Type 0) : Type 1 where
   pub run : R → R' → Type 0
   pub token : T → T' → Type 0
   pub spot : B → B' → Type 0
@@ -32,6 +33,9 @@ pub record Relations (R T A B R' T' A' B' : Type 0) : Type 1 where
   pub literal : Literal (List ℕ) → A → A' → Type 0
   -- texts of bodies
   pub text : A → A' → Type 0
+  -- stars, and attributes
+  pub star : S → S' → Type 0
+  pub attributes : D → D' → Type 0
   -- the names of assignments, and of recipes before their bodies, which got this number
   pub assignment : (number : ℕ) → A → A' → Type 0
   pub recipe : (number : ℕ) → A → List (BodyLine A B ℕ) → A' → List (BodyLine A' B' ℕ) → Type 0
@@ -49,7 +53,7 @@ pub each_length : {X Y : Type 0} {Rel : X → Y → Type 0} {xs : List X} {ys : 
 each_length nil = refl
 each_length (cons h hs) = ap suc (each_length hs)
 
-module _ {R T A B R' T' A' B' : Type 0} (rel : Relations R T A B R' T' A' B') where
+module _ {R T A B S D R' T' A' B' S' D' : Type 0} (rel : Relations R T A B S D R' T' A' B' S' D') where
   -- ---- trees
 
   mutual
@@ -94,16 +98,18 @@ module _ {R T A B R' T' A' B' : Type 0} (rel : Relations R T A B R' T' A' B') wh
     line : {number : ℕ} {fs : List (Fragment A B)} {fs' : List (Fragment A' B')} → Each AlikeFragment fs fs' → AlikeLine (Line number fs) (Line number fs')
 
   -- an item, where the counters stand before it
-  pub data AlikeItem (n : Counters) : Item A B ℕ → Item A' B' ℕ → Type 0 where
-    assignment : {a : A} {a' : A'} {e : Expr A B} {e' : Expr A' B'} → rel.assignment n.bindings a a' → Alike e e' → AlikeItem n (tree.Assignment a e) (tree.Assignment a' e')
-    comment : {text : List ℕ} → AlikeItem n (tree.Comment text) (tree.Comment text)
+  pub data AlikeItem (n : Counters) : Item A B ℕ S D → Item A' B' ℕ S' D' → Type 0 where
     newline : AlikeItem n tree.Newline tree.Newline
-    recipe : {a : A} {a' : A'} {body : List (BodyLine A B ℕ)} {body' : List (BodyLine A' B' ℕ)} → rel.recipe n.recipes a body a' body' → Each AlikeLine body body' → AlikeItem n (tree.Recipe a body) (tree.Recipe a' body')
+    comment : {text : List ℕ} → AlikeItem n (tree.Comment text) (tree.Comment text)
+    assignment : {d : D} {d' : D'} {a : A} {a' : A'} {e : Expr A B} {e' : Expr A' B'} → rel.attributes d d' → rel.assignment n.bindings a a' → Alike e e'
+        → AlikeItem n (Construct d (tree.Assignment (plain_assignment a e))) (Construct d' (tree.Assignment (plain_assignment a' e')))
+    recipe : {d : D} {d' : D'} {a : A} {a' : A'} {body : List (BodyLine A B ℕ)} {body' : List (BodyLine A' B' ℕ)} → rel.attributes d d' → rel.recipe n.recipes a body a' body' → Each AlikeLine body body'
+        → AlikeItem n (Construct d (tree.Recipe (plain_recipe a body))) (Construct d' (tree.Recipe (plain_recipe a' body')))
 
   -- items, where the counters stand before the first
-  pub data AlikeItems : Counters → List (Item A B ℕ) → List (Item A' B' ℕ) → Type 0 where
+  pub data AlikeItems : Counters → List (Item A B ℕ S D) → List (Item A' B' ℕ S' D') → Type 0 where
     no_item : {n : Counters} → AlikeItems n [] []
-    an_item : {n : Counters} {i : Item A B ℕ} {i' : Item A' B' ℕ} {is : List (Item A B ℕ)} {is' : List (Item A' B' ℕ)} → AlikeItem n i i' → AlikeItems (count n i) is is' → AlikeItems n (i ∷ is) (i' ∷ is')
+    an_item : {n : Counters} {i : Item A B ℕ S D} {i' : Item A' B' ℕ S' D'} {is : List (Item A B ℕ S D)} {is' : List (Item A' B' ℕ S' D')} → AlikeItem n i i' → AlikeItems (count n i) is is' → AlikeItems n (i ∷ is) (i' ∷ is')
 
   -- what a tree says of itself, both say
 
@@ -151,12 +157,12 @@ module _ {R T A B R' T' A' B' : Type 0} (rel : Relations R T A B R' T' A' B') wh
   same_ends (group e) = refl
   same_ends (list b es) = refl
 
-  pub same_body : {n : Counters} {i : Item A B ℕ} {i' : Item A' B' ℕ} → AlikeItem n i i' → has_body i ≡ has_body i'
-  same_body (assignment a e) = refl
-  same_body comment = refl
+  pub same_body : {n : Counters} {i : Item A B ℕ S D} {i' : Item A' B' ℕ S' D'} → AlikeItem n i i' → has_body i ≡ has_body i'
   same_body newline = refl
-  same_body (recipe a nil) = refl
-  same_body (recipe a (cons l ls)) = refl
+  same_body comment = refl
+  same_body (assignment d a e) = refl
+  same_body (recipe d a nil) = refl
+  same_body (recipe d a (cons l ls)) = refl
 
   before_alike : {l : BodyLine A B ℕ} {l' : BodyLine A' B' ℕ} {ls : List (BodyLine A B ℕ)} {ls' : List (BodyLine A' B' ℕ)} → AlikeLine l l' → Each AlikeLine ls ls' → Each AlikeLine (before l ls) (before l' ls')
   before_alike (line nil) nil = nil
@@ -218,12 +224,12 @@ module _ {R T A B R' T' A' B' : Type 0} (rel : Relations R T A B R' T' A' B') wh
   closed_alike levels.Conjunct h = h
   closed_alike levels.Value h = h
 
-  pub same_within : (k : Level) {s : State R T B} {s' : State R' T' B'} → States s s' → is_within k s ≡ is_within k s'
-  same_within levels.Expression h = ap (λ n. nat_lt n 256) h.depth
-  same_within levels.Disjunct h = refl
-  same_within levels.Compared h = refl
-  same_within levels.Conjunct h = refl
-  same_within levels.Value h = refl
+  pub same_within : (c c' : Conditions) (k : Level) {s : State R T B} {s' : State R' T' B'} → c ≡ c' → States s s' → is_within c.limit k s ≡ is_within c'.limit k s'
+  same_within c c' levels.Expression e h = λ i. nat_lt (h.depth i) (e i).limit
+  same_within c c' levels.Disjunct e h = refl
+  same_within c c' levels.Compared e h = refl
+  same_within c c' levels.Conjunct e h = refl
+  same_within c c' levels.Value e h = refl
 
   -- ---- answers
 
@@ -304,20 +310,22 @@ module _ {R T A B R' T' A' B' : Type 0} (rel : Relations R T A B R' T' A' B') wh
   meet_tested false o h k = none_met
 
   -- what the two make of tokens is related
-  pub record Respects (one : Leaves R T A B) (other : Leaves R' T' A' B') : Type 0 where
-    pub expander : (r : R) (r' : R') → rel.run r r' → one.expander r ≡ other.expander r'
+  pub record Respects (one : Leaves R T A B S D) (other : Leaves R' T' A' B' S' D') : Type 0 where
+    pub conditions : (r : R) (r' : R') → rel.run r r' → one.conditions r ≡ other.conditions r'
     pub see : (t : T) (t' : T') → rel.token t t' → one.see t ≡ other.see t'
     pub spot : (t : T) (t' : T') → rel.token t t' → rel.spot (one.spot t) (other.spot t')
     pub name : (t : T) (t' : T') → rel.token t t' → rel.name (one.name t) (other.name t')
-    pub literal : (r : R) (r' : R') (t : T) (t' : T') → rel.run r r' → rel.token t t' → (l : Literal (List ℕ)) (text : List ℕ) → token_of l ≡ (one.see t).tok.lexeme → cooked_text (one.expander r) l ≡ Ok text
+    pub literal : (r : R) (r' : R') (t : T) (t' : T') → rel.run r r' → rel.token t t' → (l : Literal (List ℕ)) (text : List ℕ) → token_of l ≡ (one.see t).tok.lexeme → cooked_text (one.conditions r).expander l ≡ Ok text
         → rel.literal l (one.literal t l text) (other.literal t' l text)
     pub text : (t : T) (t' : T') → rel.token t t' → rel.text (one.text t) (other.text t')
+    pub star : (t : T) (t' : T') → rel.token t t' → rel.star (one.star t) (other.star t')
+    pub no_attributes : rel.attributes one.no_attributes other.no_attributes
     pub assignment : (r : R) (r' : R') (t : T) (t' : T') → rel.run r r' → rel.token t t' → (number : ℕ) → rel.assignment number (one.assignment r t number) (other.assignment r' t' number)
     pub recipe : (r : R) (r' : R') (t : T) (t' : T') → rel.run r r' → rel.token t t' → (number : ℕ) (body : List (BodyLine A B ℕ)) (body' : List (BodyLine A' B' ℕ)) → Each AlikeLine body body'
         → rel.recipe number (one.recipe r t number body) body (other.recipe r' t' number body') body'
     pub has_number : (n : ℕ) → one.has_number n ≡ true → other.has_number n ≡ true
 
-  module _ (one : Leaves R T A B) (other : Leaves R' T' A' B') (agree : Respects one other) where
+  module _ (one : Leaves R T A B S D) (other : Leaves R' T' A' B' S' D') (agree : Respects one other) where
     accepted_by : (test : SignificantToken → Bool) {s : State R T B} {s' : State R' T' B'} {ts : List T} {ts' : List T'} → States s s' → Each rel.token ts ts' → Takes (accept_by one test s ts) (accept_by other test s' ts')
     accepted_by test h nil = none_taken
     accepted_by test h (cons {x = t} {y = t'} k ks) = take_tested (test (one.see t)) (test (other.see t')) (ap test (agree.see t t' k)) k (at_alike h ks)
@@ -389,10 +397,10 @@ module _ {R T A B R' T' A' B' : Type 0} (rel : Relations R T A B R' T' A' B') wh
     cooked_alike Q make make' ask asks x x' t h made =
         let lexeme = (one.see x.0).tok.lexeme in
         let l = ask lexeme in
-        let go : (lexeme' : List ℕ) → lexeme ≡ lexeme' → (E : Answers) → one.expander x.1.run ≡ E
-        → Related Q Never (by_text one (λ text. make (one.literal x.0 l text)) x (cooked_text (one.expander x.1.run) l)) (by_text other (λ text. make' (other.literal x'.0 (ask lexeme') text)) x' (cooked_text E (ask lexeme'))) =
-        λ lexeme' e E f. subst (λ k. Related Q Never (by_text one (λ text. make (one.literal x.0 l text)) x (cooked_text (one.expander x.1.run) l)) (by_text other (λ text. make' (other.literal x'.0 (ask k) text)) x' (cooked_text E (ask k)))) e
-        (subst (λ F. Related Q Never (by_text one (λ text. make (one.literal x.0 l text)) x (cooked_text (one.expander x.1.run) l)) (by_text other (λ text. make' (other.literal x'.0 l text)) x' (cooked_text F l))) f
-        (text_alike Q (λ text. make (one.literal x.0 l text)) (λ text. make' (other.literal x'.0 l text)) x x' t h (cooked_text (one.expander x.1.run) l)
+        let go : (lexeme' : List ℕ) → lexeme ≡ lexeme' → (E : Answers) → (one.conditions x.1.run).expander ≡ E
+        → Related Q Never (by_text one (λ text. make (one.literal x.0 l text)) x (cooked_text (one.conditions x.1.run).expander l)) (by_text other (λ text. make' (other.literal x'.0 (ask lexeme') text)) x' (cooked_text E (ask lexeme'))) =
+        λ lexeme' e E f. subst (λ k. Related Q Never (by_text one (λ text. make (one.literal x.0 l text)) x (cooked_text (one.conditions x.1.run).expander l)) (by_text other (λ text. make' (other.literal x'.0 (ask k) text)) x' (cooked_text E (ask k)))) e
+        (subst (λ F. Related Q Never (by_text one (λ text. make (one.literal x.0 l text)) x (cooked_text (one.conditions x.1.run).expander l)) (by_text other (λ text. make' (other.literal x'.0 l text)) x' (cooked_text F l))) f
+        (text_alike Q (λ text. make (one.literal x.0 l text)) (λ text. make' (other.literal x'.0 l text)) x x' t h (cooked_text (one.conditions x.1.run).expander l)
         (λ text is. made (one.literal x.0 l text) (other.literal x'.0 l text) (agree.literal x.1.run x'.1.run x.0 x'.0 h.run t l text (asks lexeme) is)))) in
-        go (other.see x'.0).tok.lexeme (ap (λ y. y.tok.lexeme) (agree.see x.0 x'.0 t)) (other.expander x'.1.run) (agree.expander x.1.run x'.1.run h.run)
+        go (other.see x'.0).tok.lexeme (ap (λ y. y.tok.lexeme) (agree.see x.0 x'.0 t)) (other.conditions x'.1.run).expander (ap (λ (c : Conditions). c.expander) (agree.conditions x.1.run x'.1.run h.run))

@@ -3,12 +3,12 @@ use Rattle.std.proofs.Common.{◌≡◌, Bool, true, false, cond, List, [], ◌�
 use Rattle.justfile_base.specs.declared.token_kind.TokenKind.TheVariants as kinds
 use Rattle.justfile_model.specs.Reader as reader
 use Rattle.justfile_model.specs.Reader.{Start, after_mark, after_numbered, assignment, at_end, body_behind, draw_binding, draw_recipe, ended, expression, has_body, items, items_from, items_rule, line, nothing_behind, on_line, recipe, stop}
+use Rattle.justfile_model.specs.Conditions.{Conditions}
 use Rattle.justfile_model.specs.Features.{Noted}
-use Rattle.justfile_model.specs.Literals.{Answers}
 use Rattle.justfile_model.specs.Reading.{◌>>=◌, Counters, accept, choose, expect, next_are}
 use Rattle.justfile_model.specs.SignificantTokens.{SignificantToken}
 use Rattle.justfile_model.specs.Tok.{Tok}
-use Rattle.justfile_model.specs.Tree.{Tree}
+use Rattle.justfile_model.specs.Tree.{WrittenTree}
 use Rattle.justfile_model.specs.TreeReader.{Read, Refusal, State, Taken, file, start, token_leaves, unnumbered}
 use Rattle.justfile_model.proofs.Turns.{both_recur}
 
@@ -65,11 +65,11 @@ ends : (n m : Counters) (s : State) (ts : List SignificantToken) → Alike (noth
 ends n m s [] = both
 ends n m s (t ∷ ts) = neither
 
-others : (done : Tree) {found found' : Read (Tree × Counters)} → Alike found found' → Alike (after_numbered done found) (after_numbered done found')
+others : (done : WrittenTree) {found found' : Read (WrittenTree × Counters)} → Alike found found' → Alike (after_numbered done found) (after_numbered done found')
 unfolding after_numbered
 others done h = then _ _ h (λ x n m s. both)
 
-rules : (f g : Start token_leaves → Read (Tree × Counters)) → ((x y : Start token_leaves) → Begins x y → Alike (f x) (g y)) → (x y : Start token_leaves) → Begins x y → Alike (items_rule token_leaves f x) (items_rule token_leaves g y)
+rules : (f g : Start token_leaves → Read (WrittenTree × Counters)) → ((x y : Start token_leaves) → Begins x y → Alike (f x) (g y)) → (x y : Start token_leaves) → Begins x y → Alike (items_rule token_leaves f x) (items_rule token_leaves g y)
 unfolding items_rule at_end
 rules f g alike x y (begins n m s) =
     pick (accept token_leaves kinds.Eof s) _ _ _ _
@@ -86,14 +86,14 @@ all_items n m s =
     same_size x y (begins n m s) = refl
 
 -- the tree and its features, as a file is read
-abbrev pub whole : Read (Tree × Counters) → Result (Tree × List (Noted Tok)) Refusal
+abbrev pub whole : Read (WrittenTree × Counters) → Result (WrittenTree × List (Noted Tok)) Refusal
 whole found = found >>= λ x. Ok (x.0.0, x.1.noted)
 
-same_whole : {found found' : Read (Tree × Counters)} → Alike found found' → whole found ≡ whole found'
+same_whole : {found found' : Read (WrittenTree × Counters)} → Alike found found' → whole found ≡ whole found'
 same_whole both = refl
 same_whole neither = refl
 
 -- a file is read alike wherever the counters stand
-pub file_by : (n : Counters) (expander : Answers) (tokens : List SignificantToken) → whole (reader.file token_leaves n (start expander tokens)) ≡ file expander tokens
+pub file_by : (n : Counters) (conditions : Conditions) (tokens : List SignificantToken) → whole (reader.file token_leaves n (start conditions tokens)) ≡ file conditions tokens
 unfolding reader.file file
-file_by n expander tokens = same_whole (all_items n unnumbered (after_mark token_leaves (start expander tokens)))
+file_by n conditions tokens = same_whole (all_items n unnumbered (after_mark token_leaves (start conditions tokens)))

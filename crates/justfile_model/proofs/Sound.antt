@@ -1,16 +1,18 @@
 -- What is read of a file derives, with the features that are noted on the way, and its literals have texts.
-use Rattle.std.proofs.Common.{◌≡◌, ℕ, Bool, true, false, cond, List, [], ◌∷◌, ◌++◌, length, drop, Ok, Err, IfOk, refl, sym, subst, ap, ◌∙◌, append_assoc}
+use Rattle.std.proofs.Common.{◌≡◌, ℕ, Bool, true, false, cond, List, [], ◌∷◌, ◌++◌, length, drop, Option, Some, None, Ok, Err, IfOk, refl, sym, subst, ap, ◌∙◌, append_assoc}
+use Rattle.std.specs.Str.{trim_end}
 use Rattle.justfile_base.specs.declared.token_kind.TokenKind.TheVariants as kinds
+use Rattle.justfile_model.specs.Conditions.{Conditions}
 use Rattle.justfile_model.specs.Tok.{Tok}
 use Rattle.justfile_model.specs.SignificantTokens.{SignificantToken}
 use Rattle.justfile_model.specs.Tree as tree
-use Rattle.justfile_model.specs.Tree.{Fragment, BodyLine, Line, Item, Tree, trimmed, itself, line_of}
+use Rattle.justfile_model.specs.Tree.{BodyLine, Construct, Content, Expr, Fragment, Line, WrittenItem, WrittenTree, itself, plain_assignment, plain_recipe, trimmed}
 use Rattle.justfile_model.specs.Features.{Noted}
-use Rattle.justfile_model.specs.Expressions.{Tokens, IsKind, NotNext, Limited}
+use Rattle.justfile_model.specs.Expressions.{Tokens, IsKind, NotNext, Under}
 use Rattle.justfile_model.specs.Grammar as g
 use Rattle.justfile_model.specs.Grammar.{BeforeBody, NotEmpty}
-use Rattle.justfile_model.specs.Literals.{Literal, Answers}
-use Rattle.justfile_model.specs.Files.{fragments_literals, body_literals, item_literals, literals}
+use Rattle.justfile_model.specs.Literals.{Literal}
+use Rattle.justfile_model.specs.Files.{all_literals, body_literals, fragments_literals, item_literals, keeps_tokens, written_literals}
 use Rattle.justfile_model.specs.Reading.{Counters, at, next_are, after}
 use Rattle.justfile_model.specs.Reader as reader
 use Rattle.justfile_model.specs.Reader.{Start, after_numbered, assignment, at_end, behind, body, body_behind, body_line, comment_item, draw_binding, draw_recipe, ended, expression, fragment, has_body, items, items_from, items_rule, line, line_at, line_end, line_rest, line_rest_rule, lines, lines_rule, no_line_rest, no_lines, on_line, recipe, some_lines, stop}
@@ -20,102 +22,111 @@ use Rattle.justfile_model.proofs.Turns.{recursive_keeps}
 use Rattle.justfile_model.proofs.Steps.{AreNext, are_next, after_bind, after_choose, after_expect}
 use Rattle.justfile_model.proofs.CookedTexts.{AllCook, fragments_cook, lines_cook, items_cook, trimmed_literals}
 use Rattle.justfile_model.proofs.Meets.{Met, nothing_met, both_met, all_met}
-use Rattle.justfile_model.proofs.ExpressionSound.{Expression, Derived, Here, expression_derives}
+use Rattle.justfile_model.proofs.ExpressionSound as e
+use Rattle.justfile_model.proofs.ExpressionSound.{Derived, Here, expression_derives}
 
--- trees with their tokens, under the limit
-abbrev pub LineRest : List (Fragment Tok Tok) → List (Noted Tok) → Tokens → Tokens → Type 0
-LineRest = g.LineRest itself itself Limited
+module _ (conditions : Conditions) where
+  -- trees with their tokens, under the limit
+  abbrev pub LineRest : List (Fragment Tok Tok) → List (Noted Tok) → Tokens → Tokens → Type 0
+  LineRest = g.LineRest itself itself (Under conditions.limit)
 
-abbrev pub BodyLines : List (BodyLine Tok Tok ℕ) → List (Noted Tok) → Tokens → Tokens → Type 0
-BodyLines = g.BodyLines itself itself line_of Limited
+  abbrev pub BodyLines : List (BodyLine Tok Tok ℕ) → List (Noted Tok) → Tokens → Tokens → Type 0
+  BodyLines = g.BodyLines keeps_tokens (Under conditions.limit)
 
-abbrev pub OnLine : Item Tok Tok ℕ → List (Noted Tok) → Tokens → Tokens → Type 0
-OnLine = g.OnLine itself itself line_of Limited
+  abbrev pub OnLine : Content Tok Tok ℕ Tok → List (Noted Tok) → Tokens → Tokens → Type 0
+  OnLine = g.OnLine keeps_tokens (Under conditions.limit)
 
-abbrev pub Block : Item Tok Tok ℕ → List (Noted Tok) → Tokens → Tokens → Type 0
-Block = g.Block itself itself line_of Limited
+  abbrev pub Block : Content Tok Tok ℕ Tok → List (Noted Tok) → Tokens → Tokens → Type 0
+  Block = g.Block keeps_tokens (Under conditions.limit)
 
-abbrev pub Items : Tree → List (Noted Tok) → Tokens → Type 0
-Items = g.Items itself itself line_of Limited
+  abbrev pub Items : WrittenTree → List (Noted Tok) → Tokens → Type 0
+  Items = g.Items keeps_tokens (Under conditions.limit)
 
-abbrev pub Behind : Tree → List (Noted Tok) → Tokens → Type 0
-Behind = g.Behind itself itself line_of Limited
+  abbrev pub Behind : WrittenTree → List (Noted Tok) → Tokens → Type 0
+  Behind = g.Behind keeps_tokens (Under conditions.limit)
 
-abbrev pub LineEnd : Tree → List (Noted Tok) → Tokens → Type 0
-LineEnd = g.LineEnd itself itself line_of Limited
+  abbrev pub LineEnd : WrittenTree → List (Noted Tok) → Tokens → Type 0
+  LineEnd = g.LineEnd keeps_tokens (Under conditions.limit)
 
-abbrev pub File : Tree → List (Noted Tok) → Tokens → Type 0
-File = g.File itself itself line_of Limited
+  abbrev pub File : WrittenTree → List (Noted Tok) → Tokens → Type 0
+  File = g.File keeps_tokens (Under conditions.limit)
 
--- an item with a body or without one
-abbrev pub Starts : Bool → Item Tok Tok ℕ → List (Noted Tok) → Tokens → Tokens → Type 0
-Starts true = Block
-Starts false = OnLine
+  -- what is read of a file's expressions
+  abbrev Expression : Bool → ℕ → Expr Tok Tok → List (Noted Tok) → Tokens → Tokens → Type 0
+  Expression = e.Expression conditions
 
--- at `Eof` a line's end is the file's
-at_eof : {items : Tree} {fs : List (Noted Tok)} {t : SignificantToken} {rest : Tokens} → IsKind kinds.Eof t → Items items fs (t ∷ rest) → LineEnd items fs (t ∷ rest)
-at_eof kind (g.end kind2) = g.file_end kind2
-at_eof kind (g.blank kind2 more) = cc
-at_eof kind (g.item (g.comment kind2) more) = cc
-at_eof kind (g.item (g.assignment kind2 kind3 e) more) = cc
-at_eof kind (g.item (g.header kind2 kind3) more) = cc
-at_eof kind (g.block (g.recipe kind2 kind3 first lines some) more) = cc
+  -- an item with a body, or without one, before what ends it
+  pub data Starts : Bool → WrittenItem Tok Tok ℕ Tok → List (Noted Tok) → Tokens → Tokens → Type 0 where
+    of_comment : {t : SignificantToken} {rest : Tokens} → IsKind kinds.Comment t → Starts false (comment_item token_leaves t) [] (t ∷ rest) rest
+    of_line : {c : Content Tok Tok ℕ Tok} {fs : List (Noted Tok)} {ts rest : Tokens} → OnLine c fs ts rest → Starts false (Construct [] c) fs ts rest
+    of_block : {c : Content Tok Tok ℕ Tok} {fs : List (Noted Tok)} {ts rest : Tokens} → Block c fs ts rest → Starts true (Construct [] c) fs ts rest
 
--- where a body ends, its last line does
-at_dedent : (ts : Tokens) → AreNext (kinds.Dedent ∷ []) ts → LineRest [] [] ts ts
-at_dedent [] h = absurd h
-at_dedent (t ∷ ts) h = g.body_ends h.0
+  -- at `Eof` a line's end is the file's
+  at_eof : {items : WrittenTree} {fs : List (Noted Tok)} {t : SignificantToken} {rest : Tokens} → IsKind kinds.Eof t → Items items fs (t ∷ rest) → LineEnd items fs (t ∷ rest)
+  at_eof kind (g.end kind2) = g.file_end kind2
+  at_eof kind (g.blank kind2 more) = cc
+  at_eof kind (g.comment kind2 more) = cc
+  at_eof kind (g.on_line (g.assignment kind2 kind3 e) more) = cc
+  at_eof kind (g.on_line (g.header kind2 kind3) more) = cc
+  at_eof kind (g.block (g.recipe kind2 kind3 first lines some) more) = cc
 
--- a line before others, where no body ends
-line_leads : {fragments : List (Fragment Tok Tok)} {fs : List (Noted Tok)} {ts between : Tokens} → LineRest fragments fs ts between → NotNext kinds.Dedent ts
-    → (more : List (BodyLine Tok Tok ℕ)) (gs : List (Noted Tok)) (rest : Tokens) → BodyLines more gs between rest → BodyLines (Line (line_at token_leaves ts) fragments ∷ more) (fs ++ gs) ts rest
-line_leads (g.line_ends kind) not more gs rest h = g.empty_line kind h
-line_leads (g.body_ends kind) not more gs rest h = absurd (not kind)
-line_leads (g.text kind l) not more gs rest h = g.some_line (g.text kind l) h
-line_leads (g.interpolation kind e kind2 l) not more gs rest h = g.some_line (g.interpolation kind e kind2 l) h
+  -- where a body ends, its last line does
+  at_dedent : (ts : Tokens) → AreNext (kinds.Dedent ∷ []) ts → LineRest [] [] ts ts
+  at_dedent [] h = absurd h
+  at_dedent (t ∷ ts) h = g.body_ends h.0
 
-starts_at_once : (ts : Tokens) → AreNext (kinds.Eol ∷ kinds.Indent ∷ []) ts → BeforeBody ts (drop 2 ts)
-starts_at_once [] h = absurd h
-starts_at_once (t ∷ []) h = absurd h.1
-starts_at_once (t ∷ u ∷ ts) h = g.at_once h.0 h.1.0
+  -- a line before others, where no body ends
+  line_leads : {fragments : List (Fragment Tok Tok)} {fs : List (Noted Tok)} {ts between : Tokens} → LineRest fragments fs ts between → NotNext kinds.Dedent ts
+      → (more : List (BodyLine Tok Tok ℕ)) (gs : List (Noted Tok)) (rest : Tokens) → BodyLines more gs between rest → BodyLines (Line (line_at token_leaves ts) fragments ∷ more) (fs ++ gs) ts rest
+  line_leads (g.line_ends kind) not more gs rest h = g.empty_line kind h
+  line_leads (g.body_ends kind) not more gs rest h = absurd (not kind)
+  line_leads (g.text kind l) not more gs rest h = g.some_line (g.text kind l) h
+  line_leads (g.interpolation kind e kind2 l) not more gs rest h = g.some_line (g.interpolation kind e kind2 l) h
 
-starts_commented : (ts : Tokens) → AreNext (kinds.Comment ∷ kinds.Eol ∷ kinds.Indent ∷ []) ts → BeforeBody ts (drop 3 ts)
-starts_commented [] h = absurd h
-starts_commented (t ∷ []) h = absurd h.1
-starts_commented (t ∷ u ∷ []) h = absurd h.1.1
-starts_commented (t ∷ u ∷ v ∷ ts) h = g.commented h.0 h.1.0 h.1.1.0
+  starts_at_once : (ts : Tokens) → AreNext (kinds.Eol ∷ kinds.Indent ∷ []) ts → BeforeBody None ts (drop 2 ts)
+  starts_at_once [] h = absurd h
+  starts_at_once (t ∷ []) h = absurd h.1
+  starts_at_once (t ∷ u ∷ ts) h = g.at_once h.0 h.1.0
 
-abbrev recipe_item : SignificantToken → List (BodyLine Tok Tok ℕ) → Item Tok Tok ℕ
-recipe_item name ls = tree.Recipe name.tok ls
+  starts_commented : (ts : Tokens) → AreNext (kinds.Comment ∷ kinds.Eol ∷ kinds.Indent ∷ []) ts → (comment : Option (List ℕ)) × BeforeBody comment ts (drop 3 ts)
+  starts_commented [] h = absurd h
+  starts_commented (t ∷ []) h = absurd h.1
+  starts_commented (t ∷ u ∷ []) h = absurd h.1.1
+  starts_commented (t ∷ u ∷ v ∷ ts) h = (Some (trim_end t.tok.lexeme), g.commented h.0 h.1.0 h.1.1.0)
 
-starts_block : (name : SignificantToken) (fs : List (Noted Tok)) (ts rest : Tokens) (ls : List (BodyLine Tok Tok ℕ)) → Block (recipe_item name ls) fs ts rest → NotEmpty ls → Starts (has_body (recipe_item name ls)) (recipe_item name ls) fs ts rest
-starts_block name fs ts rest [] b some = absurd some
-starts_block name fs ts rest (l ∷ ls) b some = b
+  abbrev recipe_content : SignificantToken → List (BodyLine Tok Tok ℕ) → Content Tok Tok ℕ Tok
+  recipe_content name ls = tree.Recipe (plain_recipe name.tok ls)
 
-module _ (expander : Answers) where
+  abbrev recipe_item : SignificantToken → List (BodyLine Tok Tok ℕ) → WrittenItem Tok Tok ℕ Tok
+  recipe_item name ls = Construct [] (recipe_content name ls)
+
+  starts_block : (name : SignificantToken) (fs : List (Noted Tok)) (ts rest : Tokens) (ls : List (BodyLine Tok Tok ℕ)) → Block (recipe_content name ls) fs ts rest → NotEmpty ls → Starts (has_body (recipe_item name ls)) (recipe_item name ls) fs ts rest
+  starts_block name fs ts rest [] b some = absurd some
+  starts_block name fs ts rest (l ∷ ls) b some = of_block b
+
   -- one behind the other, with all their literals
-  joined : {fs gs : List (Noted Tok)} {ls ms all : List (Literal Tok)} {a b c : List (Noted Tok)} → Met expander fs ls a b → Met expander gs ms b c → AllCook expander all → Met expander (fs ++ gs) all a c
+  joined : {fs gs : List (Noted Tok)} {ls ms all : List (Literal Tok)} {a b c : List (Noted Tok)} → Met conditions.expander fs ls a b → Met conditions.expander gs ms b c → AllCook conditions.expander all → Met conditions.expander (fs ++ gs) all a c
   joined h k cooks = record { noted_is = (both_met h k).noted_is; cooks = cooks }
 
   -- with other literals
-  with_literals : {fs : List (Noted Tok)} {ls all : List (Literal Tok)} {a b : List (Noted Tok)} → Met expander fs ls a b → AllCook expander all → Met expander fs all a b
+  with_literals : {fs : List (Noted Tok)} {ls all : List (Literal Tok)} {a b : List (Noted Tok)} → Met conditions.expander fs ls a b → AllCook conditions.expander all → Met conditions.expander fs all a b
   with_literals h cooks = record { noted_is = h.noted_is; cooks = cooks }
 
   -- a fragment that was read, before any that may follow
   abbrev pub IsFragment : State → Fragment Tok Tok × State → Type 0
   IsFragment s x =
-      Derived expander (λ fs ts between. (more : List (Fragment Tok Tok)) (gs : List (Noted Tok)) (rest : Tokens) → LineRest more gs between rest → LineRest (x.0 ∷ more) (fs ++ gs) ts rest) (fragments_literals (x.0 ∷ [])) 0 s x.1
+      Derived conditions (λ fs ts between. (more : List (Fragment Tok Tok)) (gs : List (Noted Tok)) (rest : Tokens) → LineRest more gs between rest → LineRest (x.0 ∷ more) (fs ++ gs) ts rest) (fragments_literals (x.0 ∷ [])) 0 s x.1
 
   abbrev pub IsLineRest : State → List (Fragment Tok Tok) × State → Type 0
-  IsLineRest s x = Derived expander (LineRest x.0) (fragments_literals x.0) 0 s x.1
+  IsLineRest s x = Derived conditions (LineRest x.0) (fragments_literals x.0) 0 s x.1
 
   -- a line that was read where no body ends, before any that may follow
   abbrev pub IsBodyLine : State → BodyLine Tok Tok ℕ × State → Type 0
   IsBodyLine s x =
-      Derived expander (λ fs ts between. NotNext kinds.Dedent ts → (more : List (BodyLine Tok Tok ℕ)) (gs : List (Noted Tok)) (rest : Tokens) → BodyLines more gs between rest → BodyLines (x.0 ∷ more) (fs ++ gs) ts rest) (body_literals (x.0 ∷ [])) 0 s x.1
+      Derived conditions (λ fs ts between. NotNext kinds.Dedent ts → (more : List (BodyLine Tok Tok ℕ)) (gs : List (Noted Tok)) (rest : Tokens) → BodyLines more gs between rest → BodyLines (x.0 ∷ more) (fs ++ gs) ts rest) (body_literals (x.0 ∷ [])) 0 s x.1
 
   abbrev pub IsLines : State → List (BodyLine Tok Tok ℕ) × State → Type 0
-  IsLines s x = Derived expander (BodyLines x.0) (body_literals x.0) 0 s x.1
+  IsLines s x = Derived conditions (BodyLines x.0) (body_literals x.0) 0 s x.1
 
   -- lines of which some are left
   pub record IsBody (s : State) (x : List (BodyLine Tok Tok ℕ) × State) : Type 0 where
@@ -124,53 +135,53 @@ module _ (expander : Answers) where
     pub lines : BodyLines all features s.left x.1.left
     pub left : trimmed all ≡ x.0
     pub some : NotEmpty x.0
-    pub met : Met expander features (body_literals x.0) s.noted x.1.noted
-    pub stays : Here expander 0 x.1
+    pub met : Met conditions.expander features (body_literals x.0) s.noted x.1.noted
+    pub stays : Here conditions 0 x.1
 
   -- a body behind a header, or none
   pub data IsBodyBehind (s : State) : List (BodyLine Tok Tok ℕ) × State → Type 0 where
     no_body : IsBodyBehind s ([], s)
-    a_body : {first : Tokens} {x : List (BodyLine Tok Tok ℕ) × State} → BeforeBody s.left first → IsBody (at s first) x → IsBodyBehind s x
+    a_body : {comment : Option (List ℕ)} {first : Tokens} {x : List (BodyLine Tok Tok ℕ) × State} → BeforeBody comment s.left first → IsBody (at s first) x → IsBodyBehind s x
 
-  abbrev pub IsOnLine : State → (Item Tok Tok ℕ × Counters) × State → Type 0
-  IsOnLine s x = Derived expander (Starts (has_body x.0.0) x.0.0) (item_literals x.0.0) 0 s x.1
+  abbrev pub IsOnLine : State → (WrittenItem Tok Tok ℕ Tok × Counters) × State → Type 0
+  IsOnLine s x = Derived conditions (Starts (has_body x.0.0) x.0.0) (item_literals written_literals x.0.0) 0 s x.1
 
   -- items that were read, before any that may follow
-  abbrev pub Leads : (Tree → List (Noted Tok) → Tokens → Type 0) → State → Tree × State → Type 0
-  Leads Rule s x = Derived expander (λ fs ts between. (more : Tree) (gs : List (Noted Tok)) → Items more gs between → Rule (x.0 ++ more) (fs ++ gs) ts) (literals x.0) 0 s x.1
+  abbrev pub Leads : (WrittenTree → List (Noted Tok) → Tokens → Type 0) → State → WrittenTree × State → Type 0
+  Leads Rule s x = Derived conditions (λ fs ts between. (more : WrittenTree) (gs : List (Noted Tok)) → Items more gs between → Rule (x.0 ++ more) (fs ++ gs) ts) (all_literals x.0) 0 s x.1
 
   -- the same with what was drawn for them
-  abbrev pub LeadsNumbered : State → (Tree × Counters) × State → Type 0
+  abbrev pub LeadsNumbered : State → (WrittenTree × Counters) × State → Type 0
   LeadsNumbered s x = Leads Items s (x.0.0, x.1)
 
   -- all items up to the end of the file
-  abbrev pub IsWhole : (Tree → List (Noted Tok) → Tokens → Type 0) → State → (Tree × Counters) × State → Type 0
-  IsWhole Rule s x = Derived expander (λ fs ts end. Rule x.0.0 fs ts) (literals x.0.0) 0 s x.1
+  abbrev pub IsWhole : (WrittenTree → List (Noted Tok) → Tokens → Type 0) → State → (WrittenTree × Counters) × State → Type 0
+  IsWhole Rule s x = Derived conditions (λ fs ts end. Rule x.0.0 fs ts) (all_literals x.0.0) 0 s x.1
 
   -- a file and its features
-  pub record IsFile (ts : Tokens) (x : Tree × List (Noted Tok)) : Type 0 where
+  pub record IsFile (ts : Tokens) (x : WrittenTree × List (Noted Tok)) : Type 0 where
     pub derives : File x.0 x.1 ts
-    pub cooks : AllCook expander (literals x.0)
+    pub cooks : AllCook conditions.expander (all_literals x.0)
 
-  pub assignment_sound : (n : Counters) (s : State) → Here expander 0 s → IfOk (assignment token_leaves n s) (IsOnLine s)
+  pub assignment_sound : (n : Counters) (s : State) → Here conditions 0 s → IfOk (assignment token_leaves n s) (IsOnLine s)
   unfolding assignment draw_binding
   assignment_sound n s here =
-      let P : Read (Item Tok Tok ℕ × Counters) → Type 0 = λ o. IfOk o (IsOnLine s) in
+      let P : Read (WrittenItem Tok Tok ℕ Tok × Counters) → Type 0 = λ o. IfOk o (IsOnLine s) in
       after_expect kinds.Identifier s _ P (λ e. tt) (λ name t1 split kind.
       after_expect kinds.ColonEquals (at s t1) _ P (λ e. tt) (λ operator t2 split2 kind2.
       after_bind (expression token_leaves (at s t2)) _ P (λ e. tt) (λ e is.
-      let found = expression_derives expander false 0 (at s t2) e is here in
-      let R : Tokens → Type 0 = λ ts. OnLine (tree.Assignment name.tok e.0) found.features ts e.1.left in
+      let found = expression_derives conditions false 0 (at s t2) e is here in
+      let R : Tokens → Type 0 = λ ts. OnLine (tree.Assignment (plain_assignment name.tok e.0)) found.features ts e.1.left in
       record {
         features = found.features;
-        derives = subst R (sym split) (subst (λ (ts : Tokens). R (name ∷ ts)) (sym split2) (g.assignment kind kind2 found.derives));
+        derives = of_line (subst R (sym split) (subst (λ (ts : Tokens). R (name ∷ ts)) (sym split2) (g.assignment kind kind2 found.derives)));
         met = found.met;
         stays = found.stays;
       })))
 
   -- ---- bodies
 
-  pub fragment_sound : (s : State) → Here expander 0 s → IfOk (fragment token_leaves s) (IsFragment s)
+  pub fragment_sound : (s : State) → Here conditions 0 s → IfOk (fragment token_leaves s) (IsFragment s)
   unfolding fragment
   fragment_sound s here =
       let P : Read (Fragment Tok Tok) → Type 0 = λ o. IfOk o (IsFragment s) in
@@ -178,7 +189,7 @@ module _ (expander : Answers) where
       (λ _. after_expect kinds.InterpolationStart s _ P (λ e. tt) (λ start t1 split kind.
       after_bind (expression token_leaves (at s t1)) _ P (λ e. tt) (λ e is.
       after_expect kinds.InterpolationEnd e.1 _ P (λ e. tt) (λ end t2 split2 kind2.
-      let found = expression_derives expander false 0 (at s t1) e is here in
+      let found = expression_derives conditions false 0 (at s t1) e is here in
       let R : List (Fragment Tok Tok) → List (Noted Tok) → Tokens → Tokens → Type 0 = λ more gs rest ts. LineRest (tree.Interpolation e.0 ∷ more) (found.features ++ gs) ts rest in
       record {
         features = found.features;
@@ -193,10 +204,10 @@ module _ (expander : Answers) where
         stays = here;
       })
 
-  pub fragment_at : (s : State) (x : Fragment Tok Tok × State) → fragment token_leaves s ≡ Ok x → Here expander 0 s → IsFragment s x
+  pub fragment_at : (s : State) (x : Fragment Tok Tok × State) → fragment token_leaves s ≡ Ok x → Here conditions 0 s → IsFragment s x
   fragment_at s x is here = known x (IsFragment s) is (fragment_sound s here)
 
-  line_rest_keeps : (f : State → Read (List (Fragment Tok Tok))) → ((s : State) → Here expander 0 s → IfOk (f s) (IsLineRest s)) → (s : State) → Here expander 0 s → IfOk (line_rest_rule token_leaves f s) (IsLineRest s)
+  line_rest_keeps : (f : State → Read (List (Fragment Tok Tok))) → ((s : State) → Here conditions 0 s → IfOk (f s) (IsLineRest s)) → (s : State) → Here conditions 0 s → IfOk (line_rest_rule token_leaves f s) (IsLineRest s)
   unfolding line_rest_rule after
   line_rest_keeps f h s here =
       let P : Read (List (Fragment Tok Tok)) → Type 0 = λ o. IfOk o (IsLineRest s) in
@@ -209,19 +220,19 @@ module _ (expander : Answers) where
       record {
         features = first.features ++ rest.features;
         derives = first.derives more.0 rest.features more.1.left rest.derives;
-        met = joined first.met rest.met (fragments_cook expander x.0 more.0 first.met.cooks rest.met.cooks);
+        met = joined first.met rest.met (fragments_cook conditions.expander x.0 more.0 first.met.cooks rest.met.cooks);
         stays = rest.stays;
       }))))
       (λ t rest split kind. record { features = []; derives = subst (λ (ts : Tokens). LineRest [] [] ts rest) (sym split) (g.line_ends kind); met = nothing_met; stays = here })
 
-  pub line_rest_sound : (s : State) → Here expander 0 s → IfOk (line_rest token_leaves s) (IsLineRest s)
+  pub line_rest_sound : (s : State) → Here conditions 0 s → IfOk (line_rest token_leaves s) (IsLineRest s)
   unfolding line_rest
-  line_rest_sound = recursive_keeps (λ s. length s.left) (no_line_rest token_leaves) (line_rest_rule token_leaves) (λ s found. Here expander 0 s → IfOk found (IsLineRest s)) (λ s here. tt) line_rest_keeps
+  line_rest_sound = recursive_keeps (λ s. length s.left) (no_line_rest token_leaves) (line_rest_rule token_leaves) (λ s found. Here conditions 0 s → IfOk found (IsLineRest s)) (λ s here. tt) line_rest_keeps
 
-  pub line_rest_at : (s : State) (x : List (Fragment Tok Tok) × State) → line_rest token_leaves s ≡ Ok x → Here expander 0 s → IsLineRest s x
+  pub line_rest_at : (s : State) (x : List (Fragment Tok Tok) × State) → line_rest token_leaves s ≡ Ok x → Here conditions 0 s → IsLineRest s x
   line_rest_at s x is here = known x (IsLineRest s) is (line_rest_sound s here)
 
-  pub body_line_sound : (s : State) → Here expander 0 s → IfOk (body_line token_leaves s) (IsBodyLine s)
+  pub body_line_sound : (s : State) → Here conditions 0 s → IfOk (body_line token_leaves s) (IsBodyLine s)
   unfolding body_line
   body_line_sound s here =
       let P : Read (BodyLine Tok Tok ℕ) → Type 0 = λ o. IfOk o (IsBodyLine s) in
@@ -229,10 +240,10 @@ module _ (expander : Answers) where
       let found = line_rest_at s x is here in
       record { features = found.features; derives = line_leads found.derives; met = all_met found.met; stays = found.stays })
 
-  pub body_line_at : (s : State) (x : BodyLine Tok Tok ℕ × State) → body_line token_leaves s ≡ Ok x → Here expander 0 s → IsBodyLine s x
+  pub body_line_at : (s : State) (x : BodyLine Tok Tok ℕ × State) → body_line token_leaves s ≡ Ok x → Here conditions 0 s → IsBodyLine s x
   body_line_at s x is here = known x (IsBodyLine s) is (body_line_sound s here)
 
-  lines_keep : (f : State → Read (List (BodyLine Tok Tok ℕ))) → ((s : State) → Here expander 0 s → IfOk (f s) (IsLines s)) → (s : State) → Here expander 0 s → IfOk (lines_rule token_leaves f s) (IsLines s)
+  lines_keep : (f : State → Read (List (BodyLine Tok Tok ℕ))) → ((s : State) → Here conditions 0 s → IfOk (f s) (IsLines s)) → (s : State) → Here conditions 0 s → IfOk (lines_rule token_leaves f s) (IsLines s)
   unfolding lines_rule after
   lines_keep f h s here =
       let P : Read (List (BodyLine Tok Tok ℕ)) → Type 0 = λ o. IfOk o (IsLines s) in
@@ -243,19 +254,19 @@ module _ (expander : Answers) where
       record {
         features = first.features ++ rest.features;
         derives = first.derives not more.0 rest.features more.1.left rest.derives;
-        met = joined first.met rest.met (lines_cook expander x.0 more.0 first.met.cooks rest.met.cooks);
+        met = joined first.met rest.met (lines_cook conditions.expander x.0 more.0 first.met.cooks rest.met.cooks);
         stays = rest.stays;
       })))
       (λ t rest split kind. record { features = []; derives = subst (λ (ts : Tokens). BodyLines [] [] ts rest) (sym split) (g.no_line kind); met = nothing_met; stays = here })
 
-  pub lines_sound : (s : State) → Here expander 0 s → IfOk (lines token_leaves s) (IsLines s)
+  pub lines_sound : (s : State) → Here conditions 0 s → IfOk (lines token_leaves s) (IsLines s)
   unfolding lines
-  lines_sound = recursive_keeps (λ s. length s.left) (no_lines token_leaves) (lines_rule token_leaves) (λ s found. Here expander 0 s → IfOk found (IsLines s)) (λ s here. tt) lines_keep
+  lines_sound = recursive_keeps (λ s. length s.left) (no_lines token_leaves) (lines_rule token_leaves) (λ s found. Here conditions 0 s → IfOk found (IsLines s)) (λ s here. tt) lines_keep
 
-  pub lines_at : (s : State) (x : List (BodyLine Tok Tok ℕ) × State) → lines token_leaves s ≡ Ok x → Here expander 0 s → IsLines s x
+  pub lines_at : (s : State) (x : List (BodyLine Tok Tok ℕ) × State) → lines token_leaves s ≡ Ok x → Here conditions 0 s → IsLines s x
   lines_at s x is here = known x (IsLines s) is (lines_sound s here)
 
-  some_left : (s rest : State) (all ls : List (BodyLine Tok Tok ℕ)) → Derived expander (BodyLines all) (body_literals all) 0 s rest → trimmed all ≡ ls → IfOk (some_lines token_leaves ls rest) (IsBody s)
+  some_left : (s rest : State) (all ls : List (BodyLine Tok Tok ℕ)) → Derived conditions (BodyLines all) (body_literals all) 0 s rest → trimmed all ≡ ls → IfOk (some_lines token_leaves ls rest) (IsBody s)
   some_left s rest all [] h e = tt
   some_left s rest all (l ∷ ls) h e =
       record {
@@ -264,42 +275,42 @@ module _ (expander : Answers) where
         lines = h.derives;
         left = e;
         some = tt;
-        met = with_literals h.met (subst (AllCook expander) (sym (trimmed_literals all) ∙ ap body_literals e) h.met.cooks);
+        met = with_literals h.met (subst (AllCook conditions.expander) (sym (trimmed_literals all) ∙ ap body_literals e) h.met.cooks);
         stays = h.stays;
       }
 
-  pub body_sound : (s : State) → Here expander 0 s → IfOk (body token_leaves s) (IsBody s)
+  pub body_sound : (s : State) → Here conditions 0 s → IfOk (body token_leaves s) (IsBody s)
   unfolding body
   body_sound s here =
       after_bind (lines token_leaves s) _ (λ o. IfOk o (IsBody s)) (λ e. tt) (λ x is. some_left s x.1 x.0 (trimmed x.0) (lines_at s x is here) refl)
 
-  body_is_behind : (s : State) (first : Tokens) → BeforeBody s.left first → (found : Read (List (BodyLine Tok Tok ℕ))) → IfOk found (IsBody (at s first)) → IfOk found (IsBodyBehind s)
-  body_is_behind s first b (Ok x) h = a_body b h
+  body_is_behind : (s : State) (first : Tokens) → (comment : Option (List ℕ)) × BeforeBody comment s.left first → (found : Read (List (BodyLine Tok Tok ℕ))) → IfOk found (IsBody (at s first)) → IfOk found (IsBodyBehind s)
+  body_is_behind s first b (Ok x) h = a_body b.1 h
   body_is_behind s first b (Err e) h = tt
 
-  pub body_behind_sound : (s : State) → Here expander 0 s → IfOk (body_behind token_leaves s) (IsBodyBehind s)
+  pub body_behind_sound : (s : State) → Here conditions 0 s → IfOk (body_behind token_leaves s) (IsBodyBehind s)
   unfolding body_behind
   body_behind_sound s here =
       let P : Read (List (BodyLine Tok Tok ℕ)) → Type 0 = λ o. IfOk o (IsBodyBehind s) in
       let short : State = at s (drop 2 s.left) in
       let long : State = at s (drop 3 s.left) in
       after_test (next_are token_leaves (kinds.Eol ∷ kinds.Indent ∷ []) s) _ _ P
-      (λ h. body_is_behind s short.left (starts_at_once s.left (are_next (kinds.Eol ∷ kinds.Indent ∷ []) s h)) (body token_leaves short) (body_sound short here))
+      (λ h. body_is_behind s short.left (None, starts_at_once s.left (are_next (kinds.Eol ∷ kinds.Indent ∷ []) s h)) (body token_leaves short) (body_sound short here))
       (λ _. after_test (next_are token_leaves (kinds.Comment ∷ kinds.Eol ∷ kinds.Indent ∷ []) s) _ _ P
       (λ h. body_is_behind s long.left (starts_commented s.left (are_next (kinds.Comment ∷ kinds.Eol ∷ kinds.Indent ∷ []) s h)) (body token_leaves long) (body_sound long here))
       (λ _. no_body))
 
-  pub body_behind_at : (s : State) (x : List (BodyLine Tok Tok ℕ) × State) → body_behind token_leaves s ≡ Ok x → Here expander 0 s → IsBodyBehind s x
+  pub body_behind_at : (s : State) (x : List (BodyLine Tok Tok ℕ) × State) → body_behind token_leaves s ≡ Ok x → Here conditions 0 s → IsBodyBehind s x
   body_behind_at s x is here = known x (IsBodyBehind s) is (body_behind_sound s here)
 
   -- ---- items
 
-  headed : (n : Counters) (name colon : SignificantToken) (s : State) (x : List (BodyLine Tok Tok ℕ) × State) → Here expander 0 s → IsKind kinds.Identifier name → IsKind kinds.Colon colon → IsBodyBehind s x
+  headed : (n : Counters) (name colon : SignificantToken) (s : State) (x : List (BodyLine Tok Tok ℕ) × State) → Here conditions 0 s → IsKind kinds.Identifier name → IsKind kinds.Colon colon → IsBodyBehind s x
       → IsOnLine (at s (name ∷ colon ∷ s.left)) ((recipe_item name x.0, n), x.1)
-  headed n name colon s x here kind kind2 no_body = record { features = []; derives = g.header kind kind2; met = nothing_met; stays = here }
+  headed n name colon s x here kind kind2 no_body = record { features = []; derives = of_line (g.header kind kind2); met = nothing_met; stays = here }
   headed n name colon s x here kind kind2 (a_body b h) =
       let ts : Tokens = name ∷ colon ∷ s.left in
-      let R : List (BodyLine Tok Tok ℕ) → Type 0 = λ ls. Block (recipe_item name ls) h.features ts x.1.left in
+      let R : List (BodyLine Tok Tok ℕ) → Type 0 = λ ls. Block (recipe_content name ls) h.features ts x.1.left in
       record {
         features = h.features;
         derives = starts_block name h.features ts x.1.left x.0 (subst R h.left (g.recipe kind kind2 b h.lines (subst NotEmpty (sym h.left) h.some))) h.some;
@@ -307,10 +318,10 @@ module _ (expander : Answers) where
         stays = h.stays;
       }
 
-  pub recipe_sound : (n : Counters) (s : State) → Here expander 0 s → IfOk (recipe token_leaves n s) (IsOnLine s)
+  pub recipe_sound : (n : Counters) (s : State) → Here conditions 0 s → IfOk (recipe token_leaves n s) (IsOnLine s)
   unfolding recipe draw_recipe
   recipe_sound n s here =
-      let P : Read (Item Tok Tok ℕ × Counters) → Type 0 = λ o. IfOk o (IsOnLine s) in
+      let P : Read (WrittenItem Tok Tok ℕ Tok × Counters) → Type 0 = λ o. IfOk o (IsOnLine s) in
       after_expect kinds.Identifier s _ P (λ e. tt) (λ name t1 split kind.
       after_expect kinds.Colon (at s t1) _ P (λ e. tt) (λ colon t2 split2 kind2.
       after_bind (body_behind token_leaves (at s t2)) _ P (λ e. tt) (λ b is.
@@ -319,42 +330,42 @@ module _ (expander : Answers) where
       let R : Tokens → Type 0 = λ ts. Starts (has_body i) i found.features ts b.1.left in
       record { features = found.features; derives = subst R (sym split) (subst (λ (ts : Tokens). R (name ∷ ts)) (sym split2) found.derives); met = found.met; stays = found.stays })))
 
-  pub on_line_sound : (n : Counters) (s : State) → Here expander 0 s → IfOk (on_line token_leaves n s) (IsOnLine s)
+  pub on_line_sound : (n : Counters) (s : State) → Here conditions 0 s → IfOk (on_line token_leaves n s) (IsOnLine s)
   unfolding on_line
   on_line_sound n s here =
-      let P : Read (Item Tok Tok ℕ × Counters) → Type 0 = λ o. IfOk o (IsOnLine s) in
+      let P : Read (WrittenItem Tok Tok ℕ Tok × Counters) → Type 0 = λ o. IfOk o (IsOnLine s) in
       after_choose kinds.Comment s _ _ P
       (λ _. after_test (next_are token_leaves (kinds.Identifier ∷ kinds.ColonEquals ∷ []) s) _ _ P (λ _. assignment_sound n s here) (λ _. recipe_sound n s here))
       (λ c rest split kind. record {
         features = [];
-        derives = subst (λ (ts : Tokens). OnLine (comment_item token_leaves c) [] ts rest) (sym split) (g.comment kind);
+        derives = subst (λ (ts : Tokens). Starts false (comment_item token_leaves c) [] ts rest) (sym split) (of_comment kind);
         met = nothing_met;
         stays = here;
       })
 
-  pub on_line_at : (n : Counters) (s : State) (x : (Item Tok Tok ℕ × Counters) × State) → on_line token_leaves n s ≡ Ok x → Here expander 0 s → IsOnLine s x
+  pub on_line_at : (n : Counters) (s : State) (x : (WrittenItem Tok Tok ℕ Tok × Counters) × State) → on_line token_leaves n s ≡ Ok x → Here conditions 0 s → IsOnLine s x
   on_line_at n s x is here = known x (IsOnLine s) is (on_line_sound n s here)
 
-  pub line_end_sound : (s : State) → Here expander 0 s → IfOk (line_end token_leaves s) (Leads LineEnd s)
+  pub line_end_sound : (s : State) → Here conditions 0 s → IfOk (line_end token_leaves s) (Leads LineEnd s)
   unfolding line_end
   line_end_sound s here =
-      let P : Read Tree → Type 0 = λ o. IfOk o (Leads LineEnd s) in
+      let P : Read WrittenTree → Type 0 = λ o. IfOk o (Leads LineEnd s) in
       after_choose kinds.Eof s _ _ P
       (λ _. after_expect kinds.Eol s _ P (λ e. tt) (λ t rest split kind.
       record { features = []; derives = λ more gs h. subst (LineEnd (tree.Newline ∷ more) gs) (sym split) (g.line_end kind h); met = nothing_met; stays = here }))
       (λ t rest split kind. record { features = []; derives = λ more gs h. subst (LineEnd more gs) (sym split) (at_eof kind (subst (Items more gs) split h)); met = nothing_met; stays = here })
 
-  pub line_end_at : (s : State) (x : Tree × State) → line_end token_leaves s ≡ Ok x → Here expander 0 s → Leads LineEnd s x
+  pub line_end_at : (s : State) (x : WrittenTree × State) → line_end token_leaves s ≡ Ok x → Here conditions 0 s → Leads LineEnd s x
   line_end_at s x is here = known x (Leads LineEnd s) is (line_end_sound s here)
 
-  bare_end : (s : State) (found : Read Tree) → IfOk found (Leads LineEnd s) → IfOk found (Leads Behind s)
+  bare_end : (s : State) (found : Read WrittenTree) → IfOk found (Leads LineEnd s) → IfOk found (Leads Behind s)
   bare_end s (Ok x) h = record { features = h.features; derives = λ more gs i. g.bare (h.derives more gs i); met = h.met; stays = h.stays }
   bare_end s (Err e) h = tt
 
-  pub behind_sound : (s : State) → Here expander 0 s → IfOk (behind token_leaves s) (Leads Behind s)
+  pub behind_sound : (s : State) → Here conditions 0 s → IfOk (behind token_leaves s) (Leads Behind s)
   unfolding behind
   behind_sound s here =
-      let P : Read Tree → Type 0 = λ o. IfOk o (Leads Behind s) in
+      let P : Read WrittenTree → Type 0 = λ o. IfOk o (Leads Behind s) in
       after_choose kinds.Comment s _ _ P
       (λ _. bare_end s (line_end token_leaves s) (line_end_sound s here))
       (λ c rest split kind. after_bind (line_end token_leaves (at s rest)) _ P (λ e. tt) (λ x is.
@@ -367,25 +378,34 @@ module _ (expander : Answers) where
       }))
 
   -- what ends an item, before the items that may follow
-  abbrev Ends : Item Tok Tok ℕ → List (Noted Tok) → Tokens → State → Tree × State → Type 0
-  Ends i is ts s x = Derived expander (λ fs between end. (more : Tree) (gs : List (Noted Tok)) → Items more gs end → Items (i ∷ (x.0 ++ more)) (is ++ (fs ++ gs)) ts) (literals x.0) 0 s x.1
+  abbrev Ends : WrittenItem Tok Tok ℕ Tok → List (Noted Tok) → Tokens → State → WrittenTree × State → Type 0
+  Ends i is ts s x = Derived conditions (λ fs between end. (more : WrittenTree) (gs : List (Noted Tok)) → Items more gs end → Items (i ∷ (x.0 ++ more)) (is ++ (fs ++ gs)) ts) (all_literals x.0) 0 s x.1
 
-  ends_line : (i : Item Tok Tok ℕ) (is : List (Noted Tok)) (ts : Tokens) (s : State) → OnLine i is ts s.left → (found : Read Tree) → IfOk found (Leads Behind s) → IfOk found (Ends i is ts s)
-  ends_line i is ts s o (Ok x) h = record { features = h.features; derives = λ more gs m. g.item o (h.derives more gs m); met = h.met; stays = h.stays }
+  -- an item without a body
+  stands : {i : WrittenItem Tok Tok ℕ Tok} {items : WrittenTree} {is fs : List (Noted Tok)} {ts rest : Tokens} → Starts false i is ts rest → Behind items fs rest → Items (i ∷ items) (is ++ fs) ts
+  stands (of_comment kind) h = g.comment kind h
+  stands (of_line o) h = g.on_line o h
+
+  -- an item with a body
+  blocks : {i : WrittenItem Tok Tok ℕ Tok} {items : WrittenTree} {is fs : List (Noted Tok)} {ts rest : Tokens} → Starts true i is ts rest → Items items fs rest → Items (i ∷ tree.Newline ∷ items) (is ++ fs) ts
+  blocks (of_block b) h = g.block b h
+
+  ends_line : (i : WrittenItem Tok Tok ℕ Tok) (is : List (Noted Tok)) (ts : Tokens) (s : State) → Starts false i is ts s.left → (found : Read WrittenTree) → IfOk found (Leads Behind s) → IfOk found (Ends i is ts s)
+  ends_line i is ts s o (Ok x) h = record { features = h.features; derives = λ more gs m. stands o (h.derives more gs m); met = h.met; stays = h.stays }
   ends_line i is ts s o (Err e) h = tt
 
-  ends_by : (i : Item Tok Tok ℕ) (is : List (Noted Tok)) (ts : Tokens) (s : State) (b : Bool) → Here expander 0 s → Starts b i is ts s.left → IfOk (cond b (Ok (tree.Newline ∷ [], s)) (behind token_leaves s)) (Ends i is ts s)
-  ends_by i is ts s true here h = record { features = []; derives = λ more gs m. g.block h m; met = nothing_met; stays = here }
+  ends_by : (i : WrittenItem Tok Tok ℕ Tok) (is : List (Noted Tok)) (ts : Tokens) (s : State) (b : Bool) → Here conditions 0 s → Starts b i is ts s.left → IfOk (cond b (Ok (tree.Newline ∷ [], s)) (behind token_leaves s)) (Ends i is ts s)
+  ends_by i is ts s true here h = record { features = []; derives = λ more gs m. blocks h m; met = nothing_met; stays = here }
   ends_by i is ts s false here h = ends_line i is ts s h (behind token_leaves s) (behind_sound s here)
 
-  ended_sound : (i : Item Tok Tok ℕ) (is : List (Noted Tok)) (ts : Tokens) (s : State) → Here expander 0 s → Starts (has_body i) i is ts s.left → IfOk (ended token_leaves (has_body i) s) (Ends i is ts s)
+  ended_sound : (i : WrittenItem Tok Tok ℕ Tok) (is : List (Noted Tok)) (ts : Tokens) (s : State) → Here conditions 0 s → Starts (has_body i) i is ts s.left → IfOk (ended token_leaves (has_body i) s) (Ends i is ts s)
   unfolding ended
   ended_sound i is ts s here h = ends_by i is ts s (has_body i) here h
 
-  pub line_sound : (n : Counters) (s : State) → Here expander 0 s → IfOk (line token_leaves n s) (LeadsNumbered s)
+  pub line_sound : (n : Counters) (s : State) → Here conditions 0 s → IfOk (line token_leaves n s) (LeadsNumbered s)
   unfolding line
   line_sound n s here =
-      let P : Read (Tree × Counters) → Type 0 = λ o. IfOk o (LeadsNumbered s) in
+      let P : Read (WrittenTree × Counters) → Type 0 = λ o. IfOk o (LeadsNumbered s) in
       after_choose kinds.Eol s _ _ P
       (λ _. after_bind (on_line token_leaves n s) _ P (λ e. tt) (λ i is. after_bind (ended token_leaves (has_body i.0.0) i.1) _ P (λ e. tt) (λ b is2.
       let one = on_line_at n s i is here in
@@ -398,22 +418,22 @@ module _ (expander : Answers) where
       })))
       (λ t rest split kind. record { features = []; derives = λ more gs h. subst (Items (tree.Newline ∷ more) gs) (sym split) (g.blank kind h); met = nothing_met; stays = here })
 
-  pub line_at_start : (n : Counters) (s : State) (x : (Tree × Counters) × State) → line token_leaves n s ≡ Ok x → Here expander 0 s → LeadsNumbered s x
+  pub line_at_start : (n : Counters) (s : State) (x : (WrittenTree × Counters) × State) → line token_leaves n s ≡ Ok x → Here conditions 0 s → LeadsNumbered s x
   line_at_start n s x is here = known x (LeadsNumbered s) is (line_sound n s here)
 
-  last_token : (n : Counters) (s : State) (rest : Tokens) (t : SignificantToken) → Here expander 0 s → s.left ≡ t ∷ rest → IsKind kinds.Eof t → IfOk (at_end token_leaves n (at s rest)) (IsWhole Items s)
+  last_token : (n : Counters) (s : State) (rest : Tokens) (t : SignificantToken) → Here conditions 0 s → s.left ≡ t ∷ rest → IsKind kinds.Eof t → IfOk (at_end token_leaves n (at s rest)) (IsWhole Items s)
   unfolding at_end
   last_token n s [] t here split kind = record { features = []; derives = subst (Items [] []) (sym split) (g.end kind); met = nothing_met; stays = here }
   last_token n s (u ∷ rest) t here split kind = tt
 
   -- all that is left is read
-  abbrev AllRead : Start token_leaves → Read (Tree × Counters) → Type 0
-  AllRead x found = Here expander 0 x.1 → IfOk found (IsWhole Items x.1)
+  abbrev AllRead : Start token_leaves → Read (WrittenTree × Counters) → Type 0
+  AllRead x found = Here conditions 0 x.1 → IfOk found (IsWhole Items x.1)
 
-  rule_keeps : (f : Start token_leaves → Read (Tree × Counters)) → ((x : Start token_leaves) → AllRead x (f x)) → (x : Start token_leaves) → AllRead x (items_rule token_leaves f x)
+  rule_keeps : (f : Start token_leaves → Read (WrittenTree × Counters)) → ((x : Start token_leaves) → AllRead x (f x)) → (x : Start token_leaves) → AllRead x (items_rule token_leaves f x)
   unfolding items_rule after_numbered
   rule_keeps f h x here =
-      let P : Read (Tree × Counters) → Type 0 = λ o. IfOk o (IsWhole Items x.1) in
+      let P : Read (WrittenTree × Counters) → Type 0 = λ o. IfOk o (IsWhole Items x.1) in
       after_choose kinds.Eof x.1 _ _ P
       (λ _. after_bind (line token_leaves x.0 x.1) _ P (λ e. tt) (λ l is. after_bind (f (l.0.1, l.1)) _ P (λ e. tt) (λ more is2.
       let first = line_at_start x.0 x.1 l is here in
@@ -421,38 +441,38 @@ module _ (expander : Answers) where
       record {
         features = first.features ++ rest.features;
         derives = first.derives more.0.0 rest.features rest.derives;
-        met = joined first.met rest.met (items_cook expander l.0.0 more.0.0 first.met.cooks rest.met.cooks);
+        met = joined first.met rest.met (items_cook conditions.expander l.0.0 more.0.0 first.met.cooks rest.met.cooks);
         stays = rest.stays;
       })))
       (λ t rest split kind. last_token x.0 x.1 rest t here split kind)
 
-  pub items_sound : (n : Counters) (s : State) → Here expander 0 s → IfOk (items token_leaves n s) (IsWhole Items s)
+  pub items_sound : (n : Counters) (s : State) → Here conditions 0 s → IfOk (items token_leaves n s) (IsWhole Items s)
   unfolding items_from
   items_sound n s = recursive_keeps (λ x. length x.1.left) (stop token_leaves) (items_rule token_leaves) AllRead (λ x here. tt) rule_keeps (n, s)
 
-  unmarked_file : (s : State) (found : Read (Tree × Counters)) → IfOk found (IsWhole Items s) → IfOk found (IsWhole File s)
+  unmarked_file : (s : State) (found : Read (WrittenTree × Counters)) → IfOk found (IsWhole Items s) → IfOk found (IsWhole File s)
   unmarked_file s (Ok x) h = record { features = h.features; derives = g.unmarked h.derives; met = h.met; stays = h.stays }
   unmarked_file s (Err e) h = tt
 
-  marked_file : (s : State) (rest : Tokens) (t : SignificantToken) → s.left ≡ t ∷ rest → IsKind kinds.ByteOrderMark t → (found : Read (Tree × Counters)) → IfOk found (IsWhole Items (at s rest)) → IfOk found (IsWhole File s)
+  marked_file : (s : State) (rest : Tokens) (t : SignificantToken) → s.left ≡ t ∷ rest → IsKind kinds.ByteOrderMark t → (found : Read (WrittenTree × Counters)) → IfOk found (IsWhole Items (at s rest)) → IfOk found (IsWhole File s)
   marked_file s rest t split kind (Ok x) h = record { features = h.features; derives = subst (File x.0.0 h.features) (sym split) (g.marked kind h.derives); met = h.met; stays = h.stays }
   marked_file s rest t split kind (Err e) h = tt
 
-  whole_file : (ts : Tokens) → IfOk (reader.file token_leaves unnumbered (start expander ts)) (IsWhole File (start expander ts))
+  whole_file : (ts : Tokens) → IfOk (reader.file token_leaves unnumbered (start conditions ts)) (IsWhole File (start conditions ts))
   unfolding reader.file
   whole_file ts =
-      let s : State = start expander ts in
-      let P : Read (Tree × Counters) → Type 0 = λ o. IfOk o (IsWhole File s) in
+      let s : State = start conditions ts in
+      let P : Read (WrittenTree × Counters) → Type 0 = λ o. IfOk o (IsWhole File s) in
       after_choose kinds.ByteOrderMark s s (λ mark. mark.1) (λ (t : State). P (items token_leaves unnumbered t))
       (λ _. unmarked_file s (items token_leaves unnumbered s) (items_sound unnumbered s (refl, refl)))
       (λ t rest split kind. marked_file s rest t split kind (items token_leaves unnumbered (at s rest)) (items_sound unnumbered (at s rest) (refl, refl)))
 
-  pub file_sound : (ts : Tokens) → IfOk (file expander ts) (IsFile ts)
+  pub file_sound : (ts : Tokens) → IfOk (file conditions ts) (IsFile ts)
   unfolding file
   file_sound ts =
-      after_bind (reader.file token_leaves unnumbered (start expander ts)) _ (λ o. IfOk o (IsFile ts)) (λ e. tt) (λ x is.
-      let found = known x (IsWhole File (start expander ts)) is (whole_file ts) in
+      after_bind (reader.file token_leaves unnumbered (start conditions ts)) _ (λ o. IfOk o (IsFile ts)) (λ e. tt) (λ x is.
+      let found = known x (IsWhole File (start conditions ts)) is (whole_file ts) in
       record { derives = subst (λ (fs : List (Noted Tok)). File x.0.0 fs ts) (sym found.met.noted_is) found.derives; cooks = found.met.cooks })
 
-  pub file_at : (ts : Tokens) (x : Tree × List (Noted Tok)) → file expander ts ≡ Ok x → IsFile ts x
+  pub file_at : (ts : Tokens) (x : WrittenTree × List (Noted Tok)) → file conditions ts ≡ Ok x → IsFile ts x
   file_at ts x is = known x (IsFile ts) is (file_sound ts)

@@ -17,7 +17,7 @@ use Rattle.justfile_model.specs.Operators.{is_at, operator_of}
 use Rattle.justfile_model.specs.Tok.{Tok}
 use Rattle.justfile_model.specs.SignificantTokens.{SignificantToken}
 use Rattle.justfile_model.specs.Features.{Noted}
-use Rattle.justfile_model.specs.Literals.{Answers}
+use Rattle.justfile_model.specs.Conditions.{Conditions}
 use Rattle.justfile_model.specs.Expressions.{Tokens, IsKind, NotNext, IsWord, NotWord, IsMarked, NotMarked, operator_kind, NotCompared, NotJoined}
 use Rattle.justfile_model.specs.Reading.{Unexpected, ◌>>=◌, at, refused, same_kind, accept_by, accept, is_word, accept_word, marked_by, marks, accept_marked, choose, expect, begin_with, next_are}
 use Rattle.justfile_model.specs.ExpressionReader as r
@@ -25,8 +25,8 @@ use Rattle.justfile_model.specs.ExpressionReader.{accept_operator, met_at, opera
 use Rattle.justfile_model.specs.TreeReader.{Refusal, State, Taken, token_leaves}
 
 -- in this run at this depth, these tokens are left, and these features were noted
-abbrev pub input : Answers → ℕ → Tokens → List (Noted Tok) → State
-input expander depth tokens noted = record { run = expander; depth = depth; left = tokens; noted = noted }
+abbrev pub input : Conditions → ℕ → Tokens → List (Noted Tok) → State
+input conditions depth tokens noted = record { run = conditions; depth = depth; left = tokens; noted = noted }
 
 -- what holds of each outcome of a step holds of the whole
 pub after_bind : {A B : Type 0} (r : Result A Refusal) (f : A → Result B Refusal) (P : Result B Refusal → Type 0) → ((e : Refusal) → P (Err e)) → ((x : A) → r ≡ Ok x → P (f x)) → P (r >>= f)
@@ -72,14 +72,14 @@ after_accept kind s P = go s.left
     go [] not_here here = not_here tt
     go (t ∷ ts) not_here here = tested t (at s ts) (IsKind kind t) P (same_kind t.tok.kind kind) (kind_is kind t) (kind_test kind t) not_here (here t ts refl)
 
-pub accept_taken : (kind : TokenKind) (t : SignificantToken) (ts : Tokens) (E : Answers) (d : ℕ) (ns : List (Noted Tok)) → IsKind kind t → accept token_leaves kind (input E d (t ∷ ts) ns) ≡ Some (t, input E d ts ns)
+pub accept_taken : (kind : TokenKind) (t : SignificantToken) (ts : Tokens) (C : Conditions) (d : ℕ) (ns : List (Noted Tok)) → IsKind kind t → accept token_leaves kind (input C d (t ∷ ts) ns) ≡ Some (t, input C d ts ns)
 unfolding accept
-accept_taken kind t ts E d ns e = rw (kind_test kind t e) refl
+accept_taken kind t ts C d ns e = rw (kind_test kind t e) refl
 
-pub accept_left : (kind : TokenKind) (ts : Tokens) (E : Answers) (d : ℕ) (ns : List (Noted Tok)) → NotNext kind ts → accept token_leaves kind (input E d ts ns) ≡ None
+pub accept_left : (kind : TokenKind) (ts : Tokens) (C : Conditions) (d : ℕ) (ns : List (Noted Tok)) → NotNext kind ts → accept token_leaves kind (input C d ts ns) ≡ None
 unfolding accept
-accept_left kind [] E d ns h = refl
-accept_left kind (t ∷ ts) E d ns h = rw (is_false (same_kind t.tok.kind kind) (λ e. h (kind_is kind t e))) refl
+accept_left kind [] C d ns h = refl
+accept_left kind (t ∷ ts) C d ns h = rw (is_false (same_kind t.tok.kind kind) (λ e. h (kind_is kind t e))) refl
 
 -- ---- tokens of these kinds
 
@@ -132,14 +132,14 @@ after_word word s P = go s.left
     go [] not_here here = not_here tt
     go (t ∷ ts) not_here here = tested t (at s ts) (IsWord word t) P (is_word word t) (word_is word t) (word_test word t) not_here (here t ts refl)
 
-pub word_taken : (word : List ℕ) (t : SignificantToken) (ts : Tokens) (E : Answers) (d : ℕ) (ns : List (Noted Tok)) → IsWord word t → accept_word token_leaves word (input E d (t ∷ ts) ns) ≡ Some (t, input E d ts ns)
+pub word_taken : (word : List ℕ) (t : SignificantToken) (ts : Tokens) (C : Conditions) (d : ℕ) (ns : List (Noted Tok)) → IsWord word t → accept_word token_leaves word (input C d (t ∷ ts) ns) ≡ Some (t, input C d ts ns)
 unfolding accept_word
-word_taken word t ts E d ns e = rw (word_test word t e) refl
+word_taken word t ts C d ns e = rw (word_test word t e) refl
 
-pub word_left : (word : List ℕ) (ts : Tokens) (E : Answers) (d : ℕ) (ns : List (Noted Tok)) → NotWord word ts → accept_word token_leaves word (input E d ts ns) ≡ None
+pub word_left : (word : List ℕ) (ts : Tokens) (C : Conditions) (d : ℕ) (ns : List (Noted Tok)) → NotWord word ts → accept_word token_leaves word (input C d ts ns) ≡ None
 unfolding accept_word
-word_left word [] E d ns h = refl
-word_left word (t ∷ ts) E d ns h = rw (is_false (is_word word t) (λ e. h (word_is word t e))) refl
+word_left word [] C d ns h = refl
+word_left word (t ∷ ts) C d ns h = rw (is_false (is_word word t) (λ e. h (word_is word t e))) refl
 
 -- ---- a string that a name marks
 
@@ -169,15 +169,15 @@ after_marked word kind s P = go s.left
     go (m ∷ []) not_here here = not_here tt
     go (m ∷ t ∷ ts) not_here here = tested t (at s ts) (IsMarked word kind m t) P (marks word kind m t) (marked_is word kind m t) (marked_test word kind m t) not_here (here m t ts refl)
 
-pub marked_taken : (word : List ℕ) (kind : TokenKind) (m t : SignificantToken) (ts : Tokens) (E : Answers) (d : ℕ) (ns : List (Noted Tok)) → IsMarked word kind m t → accept_marked token_leaves word kind (input E d (m ∷ t ∷ ts) ns) ≡ Some (t, input E d ts ns)
+pub marked_taken : (word : List ℕ) (kind : TokenKind) (m t : SignificantToken) (ts : Tokens) (C : Conditions) (d : ℕ) (ns : List (Noted Tok)) → IsMarked word kind m t → accept_marked token_leaves word kind (input C d (m ∷ t ∷ ts) ns) ≡ Some (t, input C d ts ns)
 unfolding accept_marked
-marked_taken word kind m t ts E d ns e = rw (marked_test word kind m t e) refl
+marked_taken word kind m t ts C d ns e = rw (marked_test word kind m t e) refl
 
-pub marked_left : (word : List ℕ) (kind : TokenKind) (ts : Tokens) (E : Answers) (d : ℕ) (ns : List (Noted Tok)) → NoMark word kind ts → accept_marked token_leaves word kind (input E d ts ns) ≡ None
+pub marked_left : (word : List ℕ) (kind : TokenKind) (ts : Tokens) (C : Conditions) (d : ℕ) (ns : List (Noted Tok)) → NoMark word kind ts → accept_marked token_leaves word kind (input C d ts ns) ≡ None
 unfolding accept_marked
-marked_left word kind [] E d ns h = refl
-marked_left word kind (m ∷ []) E d ns h = refl
-marked_left word kind (m ∷ t ∷ ts) E d ns h = rw (is_false (marks word kind m t) (λ e. h (marked_is word kind m t e))) refl
+marked_left word kind [] C d ns h = refl
+marked_left word kind (m ∷ []) C d ns h = refl
+marked_left word kind (m ∷ t ∷ ts) C d ns h = rw (is_false (marks word kind m t) (λ e. h (marked_is word kind m t e))) refl
 
 -- ---- choices
 
@@ -190,9 +190,9 @@ after_choose_word word s x f P = after_word word s (λ o. P (choose o x f))
 pub after_choose_marked : {A : Type 0} (word : List ℕ) (kind : TokenKind) (s : State) (x : A) (f : SignificantToken × State → A) (P : A → Type 0) → (NoMark word kind s.left → P x) → ((m t : SignificantToken) (rest : Tokens) → s.left ≡ m ∷ t ∷ rest → IsMarked word kind m t → P (f (t, at s rest))) → P (choose (accept_marked token_leaves word kind s) x f)
 after_choose_marked word kind s x f P = after_marked word kind s (λ o. P (choose o x f))
 
-pub expect_taken : (kind : TokenKind) (t : SignificantToken) (ts : Tokens) (E : Answers) (d : ℕ) (ns : List (Noted Tok)) → IsKind kind t → expect token_leaves kind (input E d (t ∷ ts) ns) ≡ Ok (t, input E d ts ns)
+pub expect_taken : (kind : TokenKind) (t : SignificantToken) (ts : Tokens) (C : Conditions) (d : ℕ) (ns : List (Noted Tok)) → IsKind kind t → expect token_leaves kind (input C d (t ∷ ts) ns) ≡ Ok (t, input C d ts ns)
 unfolding expect
-expect_taken kind t ts E d ns e = rw (accept_taken kind t ts E d ns e) refl
+expect_taken kind t ts C d ns e = rw (accept_taken kind t ts C d ns e) refl
 
 -- where the token is the one that is expected, it is read
 pub after_expect : {B : Type 0} (kind : TokenKind) (s : State) (f : SignificantToken × State → Result B Refusal) (P : Result B Refusal → Type 0) → ((e : Refusal) → P (Err e)) → ((t : SignificantToken) (rest : Tokens) → s.left ≡ t ∷ rest → IsKind kind t → P (f (t, at s rest))) → P (expect token_leaves kind s >>= f)
@@ -238,7 +238,7 @@ is_operator _ o e = cc
 
 -- an operator that was taken, and what is left
 abbrev pub TakenOperator : Type 0
-TakenOperator = r.Met Answers SignificantToken Tok
+TakenOperator = r.Met Conditions SignificantToken Tok
 
 -- no operator of the level comes next
 abbrev pub NoOperator : Level → Tokens → Type 0
@@ -335,13 +335,13 @@ module _ (s : State) (P : TakenOperator → Type 0) where
       one operators.And t rest fits = cc
       one (operators.Compare by) t rest fits = cc
 
-pub operator_taken : (level : Level) (o : Operator) (t : SignificantToken) (ts : Tokens) (E : Answers) (d : ℕ) (ns : List (Noted Tok)) → is_at level o ≡ true → IsKind (operator_token o) t → accept_operator token_leaves level (input E d (t ∷ ts) ns) ≡ Some (o, t, input E d ts ns)
+pub operator_taken : (level : Level) (o : Operator) (t : SignificantToken) (ts : Tokens) (C : Conditions) (d : ℕ) (ns : List (Noted Tok)) → is_at level o ≡ true → IsKind (operator_token o) t → accept_operator token_leaves level (input C d (t ∷ ts) ns) ≡ Some (o, t, input C d ts ns)
 unfolding accept_operator
-operator_taken level o t ts E d ns fits e = let same : operator_of t.tok.kind ≡ Some o = ap operator_of e ∙ token_operator o in rw (same, fits) refl
+operator_taken level o t ts C d ns fits e = let same : operator_of t.tok.kind ≡ Some o = ap operator_of e ∙ token_operator o in rw (same, fits) refl
 
-pub operator_left : (level : Level) (ts : Tokens) (E : Answers) (d : ℕ) (ns : List (Noted Tok)) → NoOperator level ts → accept_operator token_leaves level (input E d ts ns) ≡ None
-operator_left level ts E d ns apart =
-    after_operator level (input E d ts ns) (λ o. o ≡ None) (λ _. refl) (λ o t rest fits split e. absurd (subst (NotNext (operator_token o)) split (apart o fits) e))
+pub operator_left : (level : Level) (ts : Tokens) (C : Conditions) (d : ℕ) (ns : List (Noted Tok)) → NoOperator level ts → accept_operator token_leaves level (input C d ts ns) ≡ None
+operator_left level ts C d ns apart =
+    after_operator level (input C d ts ns) (λ o. o ≡ None) (λ _. refl) (λ o t rest fits split e. absurd (subst (NotNext (operator_token o)) split (apart o fits) e))
 
 -- no operator of a level comes next
 

@@ -9,7 +9,7 @@ use Rattle.justfile_model.specs.declared.operator.Operator.{Operator}
 use Rattle.justfile_model.specs.Tree as t
 use Rattle.justfile_model.specs.Tree.{Expr, Exprs, Parts}
 use Rattle.justfile_model.specs.Features.{called, noted_if, uncompared}
-use Rattle.justfile_model.specs.Expressions.{depth_limit, ends_open}
+use Rattle.justfile_model.specs.Expressions.{ends_open}
 use Rattle.justfile_model.specs.Literals as literals
 use Rattle.justfile_model.specs.Literals.{Literal, LiteralFault, cooked_text, string_of}
 use Rattle.justfile_model.specs.Operators.{binary, feature_of, is_at, operand, operator_of, rank, right}
@@ -39,9 +39,9 @@ Met R T B = Option (Operator × T × State R T B)
 
 -- an expression is opened and closed at the loosest level, up to the limit of depth
 module _ {R T B : Type 0} where
-  abbrev pub is_within : Level → State R T B → Bool
-  is_within Expression s = nat_lt s.depth depth_limit
-  is_within _ s = true
+  abbrev pub is_within : (limit : ℕ) → Level → State R T B → Bool
+  is_within limit Expression s = nat_lt s.depth limit
+  is_within limit _ s = true
 
   abbrev pub opened : Level → State R T B → State R T B
   opened Expression s = deeper s
@@ -51,7 +51,7 @@ module _ {R T B : Type 0} where
   closed Expression s = shallower s
   closed _ s = s
 
-module _ {R T A B : Type 0} (leaves : Leaves R T A B) where
+module _ {R T A B S D : Type 0} (leaves : Leaves R T A B S D) where
   abbrev pub ReadExpr : Type 0
   ReadExpr = Read R T B (Expr A B)
 
@@ -69,7 +69,7 @@ module _ {R T A B : Type 0} (leaves : Leaves R T A B) where
 
   -- a literal, and what is made of its leaf
   abbrev pub cooked_by : {X : Type 0} → (A → X) → T × State R T B → Literal (List ℕ) → Read R T B X
-  cooked_by make x literal = by_text (λ text. make (leaves.literal x.0 literal text)) x (cooked_text (leaves.expander x.1.run) literal)
+  cooked_by make x literal = by_text (λ text. make (leaves.literal x.0 literal text)) x (cooked_text (leaves.conditions x.1.run).expander literal)
 
   -- the same of a token, which is such a literal
   unfoldable pub cooked : {X : Type 0} → (A → X) → (List ℕ → Literal (List ℕ)) → T × State R T B → Read R T B X
@@ -146,7 +146,7 @@ module _ {R T A B : Type 0} (leaves : Leaves R T A B) where
 
     -- an operator of the level, and what stands on either side of it, or the left side alone
     unfoldable pub binary_rule : Level → Bool → State R T B → ReadExpr
-    binary_rule level c s = if is_within level s then (do
+    binary_rule level c s = if is_within (leaves.conditions s.run).limit level s then (do
       l ← read (At (operand level) c (opened level s))
       binary_tail level c l (accept_operator level l.1))
         else Err (refused TooDeep s)

@@ -220,22 +220,14 @@ module _ {A B : Type 0} (leaf : Tok → A) (spot : Tok → B) (Open : ℕ → Op
           → IsKind kinds.FormatStringContinue token → Expression false depth e fs tokens behind → FormatParts depth ps gs behind rest
           → FormatParts depth (tree.Continue (leaf token.tok) e ps) (fs ++ gs) (token ∷ tokens) rest
 
--- how many expressions may be open
-abbrev pub depth_limit : ℕ
-depth_limit = 256
-
 -- fewer expressions than the limit are open
 abbrev pub Under : ℕ → ℕ → Option SignificantToken → Type 0
 Under limit depth at = depth < limit
-
--- the limit of depth
-abbrev pub Limited : ℕ → Option SignificantToken → Type 0
-Limited = Under depth_limit
 
 -- no limit
 abbrev pub Free : ℕ → Option SignificantToken → Type 0
 Free depth at = Unit {0}
 
 -- the limit, waived for expressions that begin at some tokens, and within them
-abbrev pub Waived : (Hit : Option SignificantToken → Type 0) → ℕ → Option SignificantToken → Type 0
-Waived Hit depth at = depth ≡ depth_limit → Hit at
+abbrev pub Waived : (limit : ℕ) (Hit : Option SignificantToken → Type 0) → ℕ → Option SignificantToken → Type 0
+Waived limit Hit depth at = depth ≡ limit → Hit at

@@ -1,19 +1,16 @@
 -- What a file derives.
-use Rattle.std.specs.Prelude.{◌≡◌, ℕ, ◌+◌, ◌-◌, ◌^◌, ◌≤◌, List, [], ◌∷◌, ◌++◌, map}
+use Rattle.std.specs.Prelude.{◌≡◌, ℕ, ◌+◌, ◌-◌, ◌^◌, ◌≤◌, List, [], ◌∷◌, ◌++◌, map, length, Option, Some, None}
+use Rattle.std.specs.List.{flat_map}
 use Rattle.justfile_model.specs.SignificantTokens.{SignificantToken}
-use Rattle.justfile_model.specs.Tree.{Expr, Or, And, Comparison, Concatenation, ListConcatenation, Join, Root, If, IfElse, Not, StringLiteral, FormatLiteral, FormatString, Backtick, Assert, AssertMessage, Variable, Call, Group, ListOf, Exprs, none, more, Parts, Last, Continue, Fragment, Text, Interpolation, BodyLine, Line, Item, Assignment, Comment, Newline, Recipe, Tree, Shape, lexeme, nothing, itself, line_of}
+use Rattle.justfile_model.specs.Tree.{Expr, Or, And, Comparison, Concatenation, ListConcatenation, Join, Root, If, IfElse, Not, StringLiteral, FormatLiteral, FormatString, Backtick, Assert, AssertMessage, Variable, Call, Group, ListOf, Exprs, none, more, Parts, Last, Continue, Fragment, Text, Interpolation, BodyLine, Line, Argument, Positional, Bare, Keyed, Written, Entry, Parameter, Dependency, Header, Content, Assignment, Recipe, Item, Newline, Comment, Construct, WrittenItem, OrderedItem, WrittenTree, WrittenShape, Tree, Shape, starless, lexeme, nothing, itself, line_of}
 use Rattle.justfile_model.specs.Tok.{Tok}
 use Rattle.justfile_model.specs.Features.{Noted}
-use Rattle.justfile_model.specs.Expressions.{Free, Limited}
-use Rattle.justfile_model.specs.Grammar.{File}
+use Rattle.justfile_model.specs.Conditions.{Conditions}
+use Rattle.justfile_model.specs.Expressions.{Free, Under}
+use Rattle.justfile_model.specs.Grammar.{File, Kept}
 use Rattle.justfile_model.specs.Literals as literal
-use Rattle.justfile_model.specs.Literals.{Literal, over_literal, Answers, Cooks}
-
--- a version of the program: three numbers
-pub record VersionNumbers : Type 0 where
-  pub major : ℕ
-  pub minor : ℕ
-  pub patch : ℕ
+use Rattle.justfile_model.specs.Literals.{Literal, over_literal, Cooks}
+use Rattle.justfile_model.specs.Rules.{Broken, broken}
 
 abbrev mutual
   -- the literals of an expression, in order
@@ -43,7 +40,7 @@ abbrev mutual
   exprs_literals none = []
   exprs_literals (more e others) = expr_literals e ++ exprs_literals others
 
-  -- those behind an expression of a format string that began so
+  -- those after an expression of a format string that began so
   pub parts_literals : {A B : Type 0} → (start : A) → Parts A B → List (Literal A)
   parts_literals start (Last token) = literal.End start token ∷ []
   parts_literals start (Continue token e parts) = literal.Continue start token ∷ expr_literals e ++ parts_literals start parts
@@ -57,35 +54,81 @@ abbrev pub body_literals : {A B C : Type 0} → List (BodyLine A B C) → List (
 body_literals [] = []
 body_literals (Line number fragments ∷ lines) = fragments_literals fragments ++ body_literals lines
 
-abbrev pub item_literals : {A B C : Type 0} → Item A B C → List (Literal A)
-item_literals (Assignment name value) = expr_literals value
-item_literals (Comment text) = []
-item_literals Newline = []
-item_literals (Recipe name body) = body_literals body
+-- the literals of a part that may be missing
+abbrev pub optional_literals : {X A : Type 0} → (X → List (Literal A)) → Option X → List (Literal A)
+optional_literals f None = []
+optional_literals f (Some x) = f x
 
-abbrev pub literals : {A B C : Type 0} → List (Item A B C) → List (Literal A)
-literals [] = []
-literals (i ∷ items) = item_literals i ++ literals items
+abbrev pub argument_literals : {A B : Type 0} → Argument A B → List (Literal A)
+argument_literals (Positional first value) = expr_literals value
+argument_literals (Bare key) = []
+argument_literals (Keyed key value) = expr_literals value
 
--- how many numbers of bindings an item takes
-abbrev pub item_bindings : {A B C : Type 0} → Item A B C → ℕ
-item_bindings (Assignment name value) = 1
-item_bindings (Comment text) = 0
+-- the literals of attributes as they are written
+abbrev pub written_literals : {A B : Type 0} → List (Written A B) → List (Literal A)
+written_literals ws = flat_map (λ w. flat_map argument_literals w.arguments) ws
+
+-- the literals of attributes by what they mean; so far no attribute has a meaning
+abbrev pub entries_literals : {A B : Type 0} → List (Entry A B) → List (Literal A)
+entries_literals entries = flat_map (λ e. absurd e.attribute) entries
+
+abbrev pub parameter_literals : {A B : Type 0} → Parameter A B → List (Literal A)
+parameter_literals p = optional_literals expr_literals p.default
+
+abbrev pub dependency_literals : {A B S : Type 0} → Dependency A B S → List (Literal A)
+dependency_literals d = flat_map (λ a. expr_literals a.value) d.arguments
+
+abbrev pub header_literals : {A B S : Type 0} → Header A B S → List (Literal A)
+header_literals h = flat_map parameter_literals h.parameters ++ flat_map dependency_literals h.priors ++ flat_map dependency_literals h.subsequents
+
+abbrev pub content_literals : {A B C S : Type 0} → Content A B C S → List (Literal A)
+content_literals (Assignment parts) = expr_literals parts.value
+content_literals (Recipe parts) = header_literals parts.header ++ body_literals parts.body
+
+-- of an item with attributes that have these literals
+module _ {A B C S D : Type 0} (literals_of : D → List (Literal A)) where
+  abbrev pub item_literals : Item A B C S D → List (Literal A)
+  item_literals Newline = []
+  item_literals (Comment text) = []
+  item_literals (Construct attributes content) = literals_of attributes ++ content_literals content
+
+  abbrev pub items_literals : List (Item A B C S D) → List (Literal A)
+  items_literals [] = []
+  items_literals (i ∷ items) = item_literals i ++ items_literals items
+
+-- the literals of a written tree, in the order of reading
+abbrev pub all_literals : {A B C S : Type 0} → List (WrittenItem A B C S) → List (Literal A)
+all_literals = items_literals written_literals
+
+-- the literals that stand in a tree, in its order
+abbrev pub literals : {A B C : Type 0} → List (OrderedItem A B C) → List (Literal A)
+literals = items_literals entries_literals
+
+-- how many numbers of bindings a construct takes
+abbrev pub content_bindings : {A B C S : Type 0} → Content A B C S → ℕ
+content_bindings (Assignment parts) = 1
+content_bindings (Recipe parts) = length parts.header.parameters
+
+abbrev pub item_bindings : {A B C S D : Type 0} → Item A B C S D → ℕ
 item_bindings Newline = 0
-item_bindings (Recipe name body) = 0
+item_bindings (Comment text) = 0
+item_bindings (Construct attributes content) = content_bindings content
 
-abbrev pub bindings : {A B C : Type 0} → List (Item A B C) → ℕ
+abbrev pub bindings : {A B C S D : Type 0} → List (Item A B C S D) → ℕ
 bindings [] = 0
 bindings (i ∷ items) = item_bindings i + bindings items
 
--- how many numbers of recipes an item takes
-abbrev pub item_recipes : {A B C : Type 0} → Item A B C → ℕ
-item_recipes (Assignment name value) = 0
-item_recipes (Comment text) = 0
-item_recipes Newline = 0
-item_recipes (Recipe name body) = 1
+-- how many numbers of recipes a construct takes
+abbrev pub content_recipes : {A B C S : Type 0} → Content A B C S → ℕ
+content_recipes (Assignment parts) = 0
+content_recipes (Recipe parts) = 1
 
-abbrev pub recipes : {A B C : Type 0} → List (Item A B C) → ℕ
+abbrev pub item_recipes : {A B C S D : Type 0} → Item A B C S D → ℕ
+item_recipes Newline = 0
+item_recipes (Comment text) = 0
+item_recipes (Construct attributes content) = content_recipes content
+
+abbrev pub recipes : {A B C S D : Type 0} → List (Item A B C S D) → ℕ
 recipes [] = 0
 recipes (i ∷ items) = item_recipes i + recipes items
 
@@ -95,22 +138,66 @@ NumbersFrom first [] = Unit {0}
 NumbersFrom first (n ∷ ns) = (n ≡ first) × NumbersFrom (first + 1) ns
 
 -- the numbers suffice, where the counters of bindings and of recipes stand there
-pub record NumbersSuffice {A B C : Type 0} (binding recipe : ℕ) (items : List (Item A B C)) : Type 0 where
+pub record NumbersSuffice {A B C S D : Type 0} (binding recipe : ℕ) (items : List (Item A B C S D)) : Type 0 where
   pub bindings_suffice : binding + bindings items ≤ 2 ^ 32 - 1
   pub recipes_suffice : recipe + recipes items ≤ 2 ^ 32 - 1
 
--- the grammar alone: no limit of depth, and any text in a literal
-abbrev pub FileTree : List SignificantToken → Tree → List (Noted Tok) → Type 0
-FileTree tokens tree features = File itself itself line_of Free tree features tokens
+-- what attributes mean, in the order of their content; none where they break a rule. So far no attribute has a meaning.
+abbrev pub entries_of : {A B : Type 0} → List (Written A B) → Option (List (Entry A B))
+entries_of [] = Some []
+entries_of (w ∷ ws) = None
 
--- the tree of a file's tokens, and its features, under an expander and a running version
-pub record FileDerives (expander : Answers) (current : VersionNumbers) (tokens : List SignificantToken) (tree : Tree) (features : List (Noted Tok)) : Type 0 where
-  pub derives : File itself itself line_of Limited tree features tokens
-  pub cooked : List (List ℕ)
-  pub cooks : Cooks expander (map (over_literal lexeme) (literals tree)) cooked
+-- an item with what its attributes mean
+abbrev pub with_entries : {A B C S : Type 0} → Content A B C S → Option (List (Entry A B)) → Option (OrderedItem A B C)
+with_entries content None = None
+with_entries content (Some entries) = Some (Construct entries (starless content))
 
--- the same of a shape
-pub record ShapeDerives (expander : Answers) (current : VersionNumbers) (tokens : List SignificantToken) (shape : Shape) (features : List (Noted (Unit {0}))) : Type 0 where
-  pub derives : File lexeme nothing nothing Limited shape features tokens
+abbrev pub ordered_item : {A B C S : Type 0} → WrittenItem A B C S → Option (OrderedItem A B C)
+ordered_item Newline = Some Newline
+ordered_item (Comment text) = Some (Comment text)
+ordered_item (Construct ws content) = with_entries content (entries_of ws)
+
+-- an item before others, if it is there and they are
+abbrev pub if_both : {X : Type 0} → Option X → Option (List X) → Option (List X)
+if_both None others = None
+if_both (Some x) None = None
+if_both (Some x) (Some xs) = Some (x ∷ xs)
+
+-- a written tree with what its attributes mean
+abbrev pub ordered : {A B C S : Type 0} → List (WrittenItem A B C S) → Option (List (OrderedItem A B C))
+ordered [] = Some []
+ordered (i ∷ items) = if_both (ordered_item i) (ordered items)
+
+-- a written tree keeps tokens, and the lines on which bodies' lines begin
+abbrev pub keeps_tokens : Kept Tok Tok ℕ Tok
+keeps_tokens = record { leaf = itself; spot = itself; number = line_of; star = itself }
+
+-- a written shape keeps lexemes
+abbrev pub keeps_lexemes : Kept (List ℕ) (Unit {0}) (Unit {0}) (Unit {0})
+keeps_lexemes = record { leaf = lexeme; spot = nothing; number = nothing; star = nothing }
+
+-- the grammar alone: no limit of depth, any text in a literal, and no other rule
+abbrev pub FileTree : List SignificantToken → WrittenTree → List (Noted Tok) → Type 0
+FileTree tokens written features = File keeps_tokens Free written features tokens
+
+-- a written tree under the conditions: its literals have texts, and no rule is broken
+pub record Obeys (conditions : Conditions) (written : WrittenTree) : Type 0 where
   pub cooked : List (List ℕ)
-  pub cooks : Cooks expander (literals shape) cooked
+  pub cooks : Cooks conditions.expander (map (over_literal lexeme) (all_literals written)) cooked
+  pub unbroken : ◌≡◌ {A = List (Broken Tok)} (broken conditions written) []
+
+-- the tree of a file's tokens, and its features
+pub record FileDerives (conditions : Conditions) (tokens : List SignificantToken) (tree : Tree) (features : List (Noted Tok)) : Type 0 where
+  pub written : WrittenTree
+  pub derives : File keeps_tokens (Under conditions.limit) written features tokens
+  pub obeys : Obeys conditions written
+  pub ordered_is : ordered written ≡ Some tree
+
+-- a shape of a file's tokens, and its features
+pub record ShapeDerives (conditions : Conditions) (tokens : List SignificantToken) (shape : Shape) (features : List (Noted (Unit {0}))) : Type 0 where
+  pub written : WrittenShape
+  pub derives : File keeps_lexemes (Under conditions.limit) written features tokens
+  pub cooked : List (List ℕ)
+  pub cooks : Cooks conditions.expander (all_literals written) cooked
+  pub unbroken : ◌≡◌ {A = List (Broken (Unit {0}))} (broken conditions written) []
+  pub ordered_is : ordered written ≡ Some shape

@@ -1,9 +1,12 @@
 -- The printed text, of a normal shape at an indentation.
-use Rattle.std.specs.Prelude.{ℕ, Bool, true, not, ◌&&◌, List, [], ◌∷◌, ◌++◌, ◌==◌, false, codes}
+use Rattle.std.specs.Prelude.{ℕ, Bool, true, not, ◌&&◌, List, [], ◌∷◌, ◌++◌, ◌==◌, false, codes, Option, Some, None}
 use Rattle.std.specs.List.{flat_map}
+use Rattle.justfile_base.specs.Path.{path_text}
 use Rattle.justfile_model.specs.declared.conditional_operator.ConditionalOperator.{ConditionalOperator}
 use Rattle.justfile_model.specs.declared.conditional_operator.ConditionalOperator.TheVariants.{Equality, Inequality, RegexMatch, RegexMismatch}
-use Rattle.justfile_model.specs.Tree.{Expr, Or, And, Comparison, Concatenation, ListConcatenation, Join, Root, If, IfElse, Not, StringLiteral, FormatLiteral, FormatString, Backtick, Assert, AssertMessage, Variable, Call, Group, ListOf, Exprs, none, more, Parts, Last, Continue, Fragment, Text, Interpolation, BodyLine, Line, Item, Assignment, Comment, Newline, Recipe, Shape}
+use Rattle.justfile_model.specs.declared.parameter_kind.ParameterKind.{ParameterKind}
+use Rattle.justfile_model.specs.declared.parameter_kind.ParameterKind.TheVariants.{Plus, Singular, Star}
+use Rattle.justfile_model.specs.Tree.{Expr, Or, And, Comparison, Concatenation, ListConcatenation, Join, Root, If, IfElse, Not, StringLiteral, FormatLiteral, FormatString, Backtick, Assert, AssertMessage, Variable, Call, Group, ListOf, Exprs, none, more, Parts, Last, Continue, Fragment, Text, Interpolation, BodyLine, Line, Entry, Parameter, DependencyArgument, Dependency, Header, AssignmentParts, RecipeParts, Content, Assignment, Recipe, Item, Newline, Comment, Construct, OrderedItem, Shape}
 
 -- a piece that is the same in every text; kept folded, so that a text stays a row of pieces
 unfoldable pub piece : List ℕ → List ℕ
@@ -72,18 +75,81 @@ abbrev pub line_text : (indentation : List ℕ) → BodyLine (List ℕ) (Unit {0
 line_text indentation (Line number []) = []
 line_text indentation (Line number fragments) = indentation ++ flat_map fragment_text fragments
 
--- each line of a body on a line of its own, behind the one before
+-- each line of a body on a line of its own, after a newline
 abbrev pub body_text : (indentation : List ℕ) → List (BodyLine (List ℕ) (Unit {0}) (Unit {0})) → List ℕ
 body_text indentation = flat_map (λ line. piece (codes "\n") ++ line_text indentation line)
 
-abbrev pub item_text : Item (List ℕ) (Unit {0}) (Unit {0}) → (indentation : List ℕ) → List ℕ
-item_text (Assignment name value) indentation = name ++ piece (codes " := ") ++ expr_text value
-item_text (Comment text) indentation = text
-item_text Newline indentation = []
-item_text (Recipe name body) indentation = name ++ piece (codes ":") ++ body_text indentation body
+-- what follows a value, if there is one
+abbrev pub if_some : {X : Type 0} → (X → List ℕ) → Option X → List ℕ
+if_some f None = []
+if_some f (Some x) = f x
 
--- what stands behind an item: a newline behind a line end, a space between two others
-abbrev pub item_end : {A B C : Type 0} → Item A B C → List (Item A B C) → List ℕ
+abbrev pub if_true : Bool → List ℕ → List ℕ
+if_true true text = text
+if_true false text = []
+
+-- attributes, each on a line of its own; so far there is none
+abbrev pub entries_text : List (Entry (List ℕ) (Unit {0})) → List ℕ
+entries_text = flat_map (λ e. absurd e.attribute)
+
+-- a doc on a line of its own
+abbrev pub doc_line : List ℕ → List ℕ
+doc_line [] = piece (codes "#\n")
+doc_line doc = piece (codes "# ") ++ doc ++ piece (codes "\n")
+
+abbrev pub prefix_text : ParameterKind → List ℕ
+prefix_text Plus = piece (codes "+")
+prefix_text Singular = []
+prefix_text Star = piece (codes "*")
+
+abbrev pub parameter_text : Parameter (List ℕ) (Unit {0}) → List ℕ
+parameter_text p =
+    prefix_text p.kind ++ if_true p.export (piece (codes "$")) ++ p.name ++ if_some (λ e. piece (codes "=") ++ expr_text e) p.default
+
+abbrev pub dependency_argument_text : DependencyArgument (List ℕ) (Unit {0}) (Unit {0}) → List ℕ
+dependency_argument_text a = piece (codes " ") ++ if_some (λ star. piece (codes "*")) a.star ++ expr_text a.value
+
+-- a dependency: in parentheses where there are arguments
+abbrev pub parenthesized : (star : Option (Unit {0})) (path : List ℕ) → List (DependencyArgument (List ℕ) (Unit {0}) (Unit {0})) → List ℕ
+parenthesized star path [] = path
+parenthesized star path arguments =
+    if_some (λ s. piece (codes "*")) star ++ piece (codes "(") ++ path ++ flat_map dependency_argument_text arguments ++ piece (codes ")")
+
+abbrev pub dependency_text : Dependency (List ℕ) (Unit {0}) (Unit {0}) → List ℕ
+dependency_text d = parenthesized d.star (path_text d.path) d.arguments
+
+abbrev pub subsequents_text : List (Dependency (List ℕ) (Unit {0}) (Unit {0})) → List ℕ
+subsequents_text [] = []
+subsequents_text ds = piece (codes " &&") ++ flat_map (λ d. piece (codes " ") ++ dependency_text d) ds
+
+abbrev pub header_text : Header (List ℕ) (Unit {0}) (Unit {0}) → List ℕ
+header_text h =
+    if_true h.quiet (piece (codes "@")) ++ h.name ++ flat_map (λ p. piece (codes " ") ++ parameter_text p) h.parameters ++ piece (codes ":")
+    ++ flat_map (λ d. piece (codes " ") ++ dependency_text d) h.priors ++ subsequents_text h.subsequents
+
+abbrev pub assignment_text : AssignmentParts (List ℕ) (Unit {0}) → List ℕ
+assignment_text a =
+    if_true a.eager (piece (codes "eager ")) ++ if_true a.export (piece (codes "export ")) ++ a.name ++ piece (codes " := ") ++ expr_text a.value
+
+abbrev pub recipe_text : RecipeParts (List ℕ) (Unit {0}) (Unit {0}) (Unit {0}) → (indentation : List ℕ) → List ℕ
+recipe_text r indentation = header_text r.header ++ body_text indentation r.body
+
+-- a construct after its doc and its attributes
+abbrev pub content_text : Content (List ℕ) (Unit {0}) (Unit {0}) (Unit {0}) → (indentation : List ℕ) → List ℕ
+content_text (Assignment parts) indentation = assignment_text parts
+content_text (Recipe parts) indentation = recipe_text parts indentation
+
+abbrev pub content_doc : Content (List ℕ) (Unit {0}) (Unit {0}) (Unit {0}) → List ℕ
+content_doc (Assignment parts) = []
+content_doc (Recipe parts) = if_some doc_line parts.doc
+
+abbrev pub item_text : OrderedItem (List ℕ) (Unit {0}) (Unit {0}) → (indentation : List ℕ) → List ℕ
+item_text Newline indentation = []
+item_text (Comment text) indentation = text
+item_text (Construct entries content) indentation = content_doc content ++ entries_text entries ++ content_text content indentation
+
+-- what stands after an item: a newline after a line end, a space between two others
+abbrev pub item_end : {A B C S D : Type 0} → Item A B C S D → List (Item A B C S D) → List ℕ
 item_end Newline items = piece (codes "\n")
 item_end i [] = []
 item_end i (Newline ∷ items) = []
@@ -109,11 +175,16 @@ abbrev pub printable_body : {B C : Type 0} → List (BodyLine (List ℕ) B C) �
 printable_body [] = true
 printable_body (Line number fragments ∷ lines) = printable_fragments fragments && printable_body lines
 
-abbrev pub printable_item : {B C : Type 0} → Item (List ℕ) B C → Bool
-printable_item (Recipe name body) = printable_body body
-printable_item _ = true
+abbrev pub printable_content : {B C S : Type 0} → Content (List ℕ) B C S → Bool
+printable_content (Assignment parts) = true
+printable_content (Recipe parts) = printable_body parts.body
+
+abbrev pub printable_item : {B C S D : Type 0} → Item (List ℕ) B C S D → Bool
+printable_item Newline = true
+printable_item (Comment text) = true
+printable_item (Construct attributes content) = printable_content content
 
 -- no line of a body ends in a carriage return
-abbrev pub printable : {B C : Type 0} → List (Item (List ℕ) B C) → Bool
+abbrev pub printable : {B C S D : Type 0} → List (Item (List ℕ) B C S D) → Bool
 printable [] = true
 printable (i ∷ items) = printable_item i && printable items

@@ -5,7 +5,7 @@ use Rattle.std.specs.Str.{trim_end}
 use Rattle.justfile_base.specs.declared.token_kind.TokenKind.TheVariants as kinds
 use Rattle.justfile_model.specs.declared.level.Level.TheVariants.{Expression}
 use Rattle.justfile_model.specs.Tree as tree
-use Rattle.justfile_model.specs.Tree.{Expr, Fragment, BodyLine, Line, Item, trimmed}
+use Rattle.justfile_model.specs.Tree.{BodyLine, Construct, Content, Expr, Fragment, Item, Line, plain_assignment, plain_recipe, trimmed}
 use Rattle.justfile_model.specs.ExpressionReader as expressions
 use Rattle.justfile_model.specs.Recursive.{recursive}
 use Rattle.justfile_model.specs.Reading.{◌>>=◌, Counters, Leaves, NoNumber, Read, State, Unexpected, accept, after, at, choose, expect, next_are, refused}
@@ -16,10 +16,20 @@ with_bindings bindings n = record { bindings = bindings; constants = n.constants
 abbrev pub with_recipes : ℕ → Counters → Counters
 with_recipes recipes n = record { bindings = n.bindings; constants = n.constants; recipes = recipes }
 
+-- a body has a line
+abbrev pub some_line : {A B C : Type 0} → List (BodyLine A B C) → Bool
+some_line [] = false
+some_line (l ∷ lines) = true
+
 -- a recipe with a body
-abbrev pub has_body : {A B C : Type 0} → Item A B C → Bool
-has_body (tree.Recipe name (l ∷ lines)) = true
-has_body _ = false
+abbrev pub content_has_body : {A B C S : Type 0} → Content A B C S → Bool
+content_has_body (tree.Assignment parts) = false
+content_has_body (tree.Recipe parts) = some_line parts.body
+
+abbrev pub has_body : {A B C S D : Type 0} → Item A B C S D → Bool
+has_body tree.Newline = false
+has_body (tree.Comment text) = false
+has_body (Construct attributes content) = content_has_body content
 
 -- these, and what is read after them, with the counters
 unfoldable pub after_numbered : {R T B X : Type 0} → List X → Read R T B (List X × Counters) → Read R T B (List X × Counters)
@@ -27,7 +37,7 @@ after_numbered done found = do
   more ← found
   Ok ((done ++ more.0.0, more.0.1), more.1)
 
-module _ {R T A B : Type 0} (leaves : Leaves R T A B) where
+module _ {R T A B S D : Type 0} (leaves : Leaves R T A B S D) where
   abbrev pub expression : State R T B → Read R T B (Expr A B)
   expression s = expressions.read leaves (expressions.At Expression false s)
 
@@ -116,14 +126,14 @@ module _ {R T A B : Type 0} (leaves : Leaves R T A B) where
   -- ---- items
 
   -- a comment is kept without the white space at its end
-  abbrev pub comment_item : T → Item A B ℕ
+  abbrev pub comment_item : T → Item A B ℕ S D
   comment_item t = tree.Comment (trim_end (leaves.see t).tok.lexeme)
 
   -- an assignment of a value, which got a number
-  abbrev pub assigned : T → Expr A B → (ℕ × Counters) × State R T B → Read R T B (Item A B ℕ × Counters)
-  assigned name value x = Ok ((tree.Assignment (leaves.assignment x.1.run name x.0.0) value, x.0.1), x.1)
+  abbrev pub assigned : T → Expr A B → (ℕ × Counters) × State R T B → Read R T B (Item A B ℕ S D × Counters)
+  assigned name value x = Ok ((Construct leaves.no_attributes (tree.Assignment (plain_assignment (leaves.assignment x.1.run name x.0.0) value)), x.0.1), x.1)
 
-  unfoldable pub assignment : Counters → State R T B → Read R T B (Item A B ℕ × Counters)
+  unfoldable pub assignment : Counters → State R T B → Read R T B (Item A B ℕ S D × Counters)
   assignment n s = do
     name ← expect leaves kinds.Identifier s
     operator ← expect leaves kinds.ColonEquals name.1
@@ -132,11 +142,11 @@ module _ {R T A B : Type 0} (leaves : Leaves R T A B) where
     assigned name.0 e.0 number
 
   -- a recipe with a body, which got a number
-  abbrev pub headed : T → List (BodyLine A B ℕ) → (ℕ × Counters) × State R T B → Read R T B (Item A B ℕ × Counters)
-  headed name body x = Ok ((tree.Recipe (leaves.recipe x.1.run name x.0.0 body) body, x.0.1), x.1)
+  abbrev pub headed : T → List (BodyLine A B ℕ) → (ℕ × Counters) × State R T B → Read R T B (Item A B ℕ S D × Counters)
+  headed name body x = Ok ((Construct leaves.no_attributes (tree.Recipe (plain_recipe (leaves.recipe x.1.run name x.0.0 body) body)), x.0.1), x.1)
 
   -- a recipe up to its end, after which it gets its number
-  unfoldable pub recipe : Counters → State R T B → Read R T B (Item A B ℕ × Counters)
+  unfoldable pub recipe : Counters → State R T B → Read R T B (Item A B ℕ S D × Counters)
   recipe n s = do
     name ← expect leaves kinds.Identifier s
     colon ← expect leaves kinds.Colon name.1
@@ -144,14 +154,14 @@ module _ {R T A B : Type 0} (leaves : Leaves R T A B) where
     number ← draw_recipe n b.1
     headed name.0 b.0 number
 
-  unfoldable pub on_line : Counters → State R T B → Read R T B (Item A B ℕ × Counters)
+  unfoldable pub on_line : Counters → State R T B → Read R T B (Item A B ℕ S D × Counters)
   on_line n s =
       choose (accept leaves kinds.Comment s)
       (if next_are leaves (kinds.Identifier ∷ kinds.ColonEquals ∷ []) s then assignment n s else recipe n s)
       (λ c. Ok ((comment_item c.0, n), c.1))
 
   -- the end of the line is an item; the end of the file is none, and is left
-  unfoldable pub line_end : State R T B → Read R T B (List (Item A B ℕ))
+  unfoldable pub line_end : State R T B → Read R T B (List (Item A B ℕ S D))
   line_end s =
       choose (accept leaves kinds.Eof s)
       (do
@@ -160,7 +170,7 @@ module _ {R T A B : Type 0} (leaves : Leaves R T A B) where
       (λ x. Ok ([], s))
 
   -- a trailing comment, and the line's end
-  unfoldable pub behind : State R T B → Read R T B (List (Item A B ℕ))
+  unfoldable pub behind : State R T B → Read R T B (List (Item A B ℕ S D))
   behind s =
       choose (accept leaves kinds.Comment s)
       (line_end s)
@@ -169,11 +179,11 @@ module _ {R T A B : Type 0} (leaves : Leaves R T A B) where
         Ok (comment_item c.0 ∷ end.0, end.1))
 
   -- what ends an item, which has a body or not: after a body a line starts, and a line end is made
-  unfoldable pub ended : (has_body : Bool) → State R T B → Read R T B (List (Item A B ℕ))
+  unfoldable pub ended : (has_body : Bool) → State R T B → Read R T B (List (Item A B ℕ S D))
   ended has_body s = if has_body then Ok (tree.Newline ∷ [], s) else behind s
 
   -- the items of a line: none but its end, or an item and what ends it
-  unfoldable pub line : Counters → State R T B → Read R T B (List (Item A B ℕ) × Counters)
+  unfoldable pub line : Counters → State R T B → Read R T B (List (Item A B ℕ S D) × Counters)
   line n s =
       choose (accept leaves kinds.Eol s)
       (do
@@ -183,18 +193,18 @@ module _ {R T A B : Type 0} (leaves : Leaves R T A B) where
       (λ newline. Ok ((tree.Newline ∷ [], n), newline.1))
 
   -- nothing stands after the end of the file
-  abbrev pub nothing_behind : Counters → State R T B → List T → Read R T B (List (Item A B ℕ) × Counters)
+  abbrev pub nothing_behind : Counters → State R T B → List T → Read R T B (List (Item A B ℕ S D) × Counters)
   nothing_behind n s [] = Ok (([], n), s)
   nothing_behind n s (t ∷ ts) = Err (refused Unexpected s)
 
-  unfoldable pub at_end : Counters → State R T B → Read R T B (List (Item A B ℕ) × Counters)
+  unfoldable pub at_end : Counters → State R T B → Read R T B (List (Item A B ℕ S D) × Counters)
   at_end n s = nothing_behind n s s.left
 
   -- where a line begins: the counters, and what is left
   abbrev pub Start : Type 0
   Start = Counters × State R T B
 
-  unfoldable pub items_rule : (Start → Read R T B (List (Item A B ℕ) × Counters)) → Start → Read R T B (List (Item A B ℕ) × Counters)
+  unfoldable pub items_rule : (Start → Read R T B (List (Item A B ℕ S D) × Counters)) → Start → Read R T B (List (Item A B ℕ S D) × Counters)
   items_rule read x =
       choose (accept leaves kinds.Eof x.1)
       (do
@@ -202,19 +212,19 @@ module _ {R T A B : Type 0} (leaves : Leaves R T A B) where
         after_numbered l.0.0 (read (l.0.1, l.1)))
       (λ end. at_end x.0 end.1)
 
-  abbrev pub stop : Start → Read R T B (List (Item A B ℕ) × Counters)
+  abbrev pub stop : Start → Read R T B (List (Item A B ℕ S D) × Counters)
   stop x = Err (Unexpected None)
 
   -- the items up to the end of the file
-  unfoldable pub items_from : Start → Read R T B (List (Item A B ℕ) × Counters)
+  unfoldable pub items_from : Start → Read R T B (List (Item A B ℕ S D) × Counters)
   items_from = recursive (λ x. length x.1.left) stop items_rule
 
-  abbrev pub items : Counters → State R T B → Read R T B (List (Item A B ℕ) × Counters)
+  abbrev pub items : Counters → State R T B → Read R T B (List (Item A B ℕ S D) × Counters)
   items n s = items_from (n, s)
 
   -- what is left after a byte order mark, if one comes first
   abbrev pub after_mark : State R T B → State R T B
   after_mark s = choose (accept leaves kinds.ByteOrderMark s) s (λ mark. mark.1)
 
-  unfoldable pub file : Counters → State R T B → Read R T B (List (Item A B ℕ) × Counters)
+  unfoldable pub file : Counters → State R T B → Read R T B (List (Item A B ℕ S D) × Counters)
   file n s = items n (after_mark s)

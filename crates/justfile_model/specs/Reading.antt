@@ -10,13 +10,16 @@ use Rattle.justfile_model.specs.SignificantTokens.{SignificantToken}
 use Rattle.justfile_model.specs.declared.list_feature.ListFeature.{ListFeature}
 use Rattle.justfile_model.specs.Expressions.{front}
 use Rattle.justfile_model.specs.Features.{Noted, noted}
-use Rattle.justfile_model.specs.Literals.{Answers, Literal, LiteralFault}
+use Rattle.justfile_model.specs.Conditions.{Conditions}
+use Rattle.justfile_model.specs.Literals.{Literal, LiteralFault}
+use Rattle.justfile_model.specs.Rules.{Broken}
 use Rattle.justfile_model.specs.Tree.{BodyLine}
 
--- How tokens `T` are seen, and what a tree keeps of them: `A` at its leaves, and `B` of a place. `R` is what stays while a file is read.
-pub record Leaves (R T A B : Type 0) : Type 0 where
-  -- what the literals' texts are expanded by
-  pub expander : R → Answers
+-- How tokens `T` are seen, and what a tree keeps of them: `A` at its leaves, `B` of a place, `S` of a star, and `D` of attributes. `R` is
+-- what stays while a file is read.
+pub record Leaves (R T A B S D : Type 0) : Type 0 where
+  -- what the file is read under
+  pub conditions : R → Conditions
   -- a token as the grammar sees it
   pub see : T → SignificantToken
   -- an operator, a word or a delimiter, and where a feature is noted
@@ -27,6 +30,10 @@ pub record Leaves (R T A B : Type 0) : Type 0 where
   pub literal : T → Literal (List ℕ) → (text : List ℕ) → A
   -- a text of a body
   pub text : T → A
+  -- the star of a dependency
+  pub star : T → S
+  -- what a construct has that no attribute stands before
+  pub no_attributes : D
   -- the name of an assignment, which got a number
   pub assignment : R → T → (number : ℕ) → A
   -- the name of a recipe, which got a number, before its body
@@ -55,6 +62,8 @@ pub data Refusal (T B : Type 0) : Type 0 where
   TooDeep : (token : Option T) → Refusal T B
   -- the literal has no text
   NotCooked : (fault : LiteralFault) (literal : B) → Refusal T B
+  -- a rule is broken
+  BreaksRule : (rule : Broken B) → Refusal T B
   -- a number is wanted, and its counter has none left; where the counters stand
   NoNumber : Counters → Refusal T B
 
@@ -120,7 +129,7 @@ module _ {R T B : Type 0} where
     more ← found
     Ok (done ++ more.0, more.1)
 
-module _ {R T A B : Type 0} (leaves : Leaves R T A B) where
+module _ {R T A B S D : Type 0} (leaves : Leaves R T A B S D) where
   -- with a feature at a token
   abbrev pub note : ListFeature → T → State R T B → State R T B
   note feature t s = with (noted feature (leaves.spot t)) s

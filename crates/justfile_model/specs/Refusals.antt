@@ -1,19 +1,22 @@
 -- Which refusal is due where the grammar alone has a tree.
 use Rattle.std.specs.Prelude.{◌≡◌, ◌⊎◌, ℕ, List, ◌∷◌, ◌++◌, map, Option, Err}
+use Rattle.std.specs.List.{Contains}
 use Rattle.justfile_model.specs.Tok.{Tok}
 use Rattle.justfile_model.specs.SignificantTokens.{SignificantToken}
-use Rattle.justfile_model.specs.Tree.{Tree, lexeme}
+use Rattle.justfile_model.specs.Tree.{WrittenTree, lexeme}
+use Rattle.justfile_model.specs.Conditions.{Conditions}
 use Rattle.justfile_model.specs.Literals.{Literal, over_literal, token_of, LiteralFault, Answers, cooked_text, Cooks}
-use Rattle.justfile_model.specs.Files.{literals}
-use Rattle.justfile_model.specs.Reading.{TooDeep, NotCooked}
+use Rattle.justfile_model.specs.Files.{all_literals}
+use Rattle.justfile_model.specs.Reading.{BreaksRule, TooDeep, NotCooked}
+use Rattle.justfile_model.specs.Rules.{Broken, broken}
 use Rattle.justfile_model.specs.TreeReader.{Refusal}
 
 -- the first of the literals that has no text is refused, for its fault, at its token
 pub record LacksText (expander : Answers) (all : List (Literal Tok)) (r : Refusal) : Type 0 where
   pub before : List (Literal Tok)
   pub literal : Literal Tok
-  pub behind : List (Literal Tok)
-  pub all_is : all ≡ before ++ literal ∷ behind
+  pub others : List (Literal Tok)
+  pub all_is : all ≡ before ++ literal ∷ others
   pub cooked : List (List ℕ)
   pub cooks : Cooks expander (map (over_literal lexeme) before) cooked
   pub fault : LiteralFault
@@ -26,10 +29,12 @@ pub record IsTooDeep (Hit : Option SignificantToken → Type 0) (r : Refusal) : 
   pub hit : Hit token
   pub refusal_is : r ≡ TooDeep token
 
--- the one or the other, where the limit is waived at some tokens
-abbrev pub IsDue : Answers → (Hit : Option SignificantToken → Type 0) → List (Literal Tok) → Refusal → Type 0
-IsDue expander Hit all r = LacksText expander all r ⊎ IsTooDeep Hit r
+-- one of the rules that the tree breaks is refused; which one is left open
+pub record IsBroken (conditions : Conditions) (written : WrittenTree) (r : Refusal) : Type 0 where
+  pub rule : Broken Tok
+  pub among : Contains (broken conditions written) rule
+  pub refusal_is : r ≡ BreaksRule rule
 
--- the first of a tree's literals that has no text is refused
-abbrev pub RefusesLiteral : Answers → Tree → Refusal → Type 0
-RefusesLiteral expander tree = LacksText expander (literals tree)
+-- one of the three, where the limit is waived at some tokens
+abbrev pub IsDue : Conditions → (Hit : Option SignificantToken → Type 0) → WrittenTree → Refusal → Type 0
+IsDue conditions Hit written r = LacksText conditions.expander (all_literals written) r ⊎ IsTooDeep Hit r ⊎ IsBroken conditions written r

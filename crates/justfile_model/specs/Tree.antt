@@ -1,7 +1,12 @@
 -- Syntax trees, over what stands at their leaves: `A` where a shape keeps a lexeme, `B` where it keeps nothing of a token, `C` where a
--- tree keeps the line of a token. In a tree these are tokens, tokens and numbers; in a shape lexemes, nothing and nothing.
-use Rattle.std.specs.Prelude.{ℕ, Bool, List, [], ◌∷◌, map}
+-- tree keeps the line of a token. In a tree these are tokens, tokens and numbers; in a shape lexemes, nothing and nothing. Items have two
+-- more: `S` stands at the stars of dependencies, and `D` is what an item has of attributes. A written tree, which is what the grammar
+-- gives, keeps the tokens of stars, and attributes as they are written. A tree keeps no place of a star, and has attributes by what they
+-- mean, in the order of their content.
+use Rattle.std.specs.Prelude.{ℕ, Bool, false, List, [], ◌∷◌, map, Option, None}
+use Rattle.std.specs.Option.{option_map}
 use Rattle.justfile_model.specs.declared.conditional_operator.ConditionalOperator.{ConditionalOperator}
+use Rattle.justfile_model.specs.declared.parameter_kind.ParameterKind.{ParameterKind}
 use Rattle.justfile_model.specs.Tok.{Tok}
 
 mutual
@@ -21,7 +26,7 @@ mutual
     Root : (operator : B) (rhs : Expr A B) → Expr A B
     -- `if condition { branch }`
     If : (condition branch : Expr A B) → Expr A B
-    -- the same with `else { other }`, or with `else other` where that is a conditional itself
+    -- `if condition { branch } else { other }`, or with `else other` where that is a conditional itself
     IfElse : (condition branch other : Expr A B) → Expr A B
     -- `!operand`
     Not : (operand : Expr A B) → Expr A B
@@ -49,7 +54,7 @@ mutual
     none : Exprs A B
     more : (e : Expr A B) (others : Exprs A B) → Exprs A B
 
-  -- what stands behind an expression in a format string
+  -- what stands after an expression in a format string
   pub data Parts (A B : Type 0) : Type 0 where
     Last : (token : A) → Parts A B
     Continue : (token : A) (e : Expr A B) (parts : Parts A B) → Parts A B
@@ -63,20 +68,115 @@ pub data Fragment (A B : Type 0) : Type 0 where
 pub data BodyLine (A B C : Type 0) : Type 0 where
   Line : (number : C) (fragments : List (Fragment A B)) → BodyLine A B C
 
-pub data Item (A B C : Type 0) : Type 0 where
-  Assignment : (name : A) (value : Expr A B) → Item A B C
-  -- a comment without the white space at its end
-  Comment : (text : List ℕ) → Item A B C
+-- an argument of an attribute as it is written
+pub data Argument (A B : Type 0) : Type 0 where
+  -- an expression, and its first token
+  Positional : (first : B) (value : Expr A B) → Argument A B
+  -- `key`
+  Bare : (key : A) → Argument A B
+  -- `key=value`
+  Keyed : (key : A) (value : Expr A B) → Argument A B
+
+-- an attribute as it is written: its arguments in order
+pub record Written (A B : Type 0) : Type 0 where
+  pub name : A
+  pub arguments : List (Argument A B)
+
+-- an attribute by what it means; so far there is none
+abbrev pub Attribute : (A B : Type 0) → Type 0
+Attribute A B = ⊥
+
+-- an attribute of an item by what it means, and the place of its name
+pub record Entry (A B : Type 0) : Type 0 where
+  pub name : B
+  pub attribute : Attribute A B
+
+pub record Parameter (A B : Type 0) : Type 0 where
+  pub kind : ParameterKind
+  -- `$` stands before the name
+  pub export : Bool
+  pub name : A
+  pub default : Option (Expr A B)
+
+-- an argument of a dependency, starred or not
+pub record DependencyArgument (A B S : Type 0) : Type 0 where
+  pub star : Option S
+  pub value : Expr A B
+
+-- a dependency, by the names of its path; in a tree it is starred if one of its arguments is
+pub record Dependency (A B S : Type 0) : Type 0 where
+  pub star : Option S
+  pub path : List A
+  pub arguments : List (DependencyArgument A B S)
+
+-- the header of a recipe
+pub record Header (A B S : Type 0) : Type 0 where
+  -- `@` stands before the name
+  pub quiet : Bool
+  pub name : A
+  pub parameters : List (Parameter A B)
+  -- the dependencies before `&&`, or all of them
+  pub priors : List (Dependency A B S)
+  pub subsequents : List (Dependency A B S)
+
+-- `name := value`, with `eager` or `export` before it or not
+pub record AssignmentParts (A B : Type 0) : Type 0 where
+  pub eager : Bool
+  pub export : Bool
+  pub name : A
+  pub value : Expr A B
+
+-- a recipe and the lines of its body; none if it has no body; a written one has no doc
+pub record RecipeParts (A B C S : Type 0) : Type 0 where
+  pub doc : Option (List ℕ)
+  pub header : Header A B S
+  pub body : List (BodyLine A B C)
+
+-- what may have attributes
+pub data Content (A B C S : Type 0) : Type 0 where
+  Assignment : (parts : AssignmentParts A B) → Content A B C S
+  Recipe : (parts : RecipeParts A B C S) → Content A B C S
+
+pub data Item (A B C S D : Type 0) : Type 0 where
   -- the end of a line, or a blank line
-  Newline : Item A B C
-  -- a recipe and the lines of its body; none if it has no body
-  Recipe : (name : A) (body : List (BodyLine A B C)) → Item A B C
+  Newline : Item A B C S D
+  -- a comment without the white space at its end
+  Comment : (text : List ℕ) → Item A B C S D
+  -- a construct, after its attributes
+  Construct : (attributes : D) (content : Content A B C S) → Item A B C S D
+
+-- an item as it is written
+abbrev pub WrittenItem : (A B C S : Type 0) → Type 0
+WrittenItem A B C S = Item A B C S (List (Written A B))
+
+-- an item with what its attributes mean, in the order of their content
+abbrev pub OrderedItem : (A B C : Type 0) → Type 0
+OrderedItem A B C = Item A B C (Unit {0}) (List (Entry A B))
+
+-- a tree of the grammar alone
+abbrev pub WrittenTree : Type 0
+WrittenTree = List (WrittenItem Tok Tok ℕ Tok)
 
 abbrev pub Tree : Type 0
-Tree = List (Item Tok Tok ℕ)
+Tree = List (OrderedItem Tok Tok ℕ)
+
+abbrev pub WrittenShape : Type 0
+WrittenShape = List (WrittenItem (List ℕ) (Unit {0}) (Unit {0}) (Unit {0}))
 
 abbrev pub Shape : Type 0
-Shape = List (Item (List ℕ) (Unit {0}) (Unit {0}))
+Shape = List (OrderedItem (List ℕ) (Unit {0}) (Unit {0}))
+
+-- `name := value`
+abbrev pub plain_assignment : {A B : Type 0} → A → Expr A B → AssignmentParts A B
+plain_assignment name value = record { eager = false; export = false; name = name; value = value }
+
+-- a header that is a name
+abbrev pub plain_header : {A B S : Type 0} → A → Header A B S
+plain_header name = record { quiet = false; name = name; parameters = []; priors = []; subsequents = [] }
+
+-- a recipe with such a header
+abbrev pub plain_recipe : {A B C S : Type 0} → A → List (BodyLine A B C) → RecipeParts A B C S
+plain_recipe name body = record { doc = None; header = plain_header name; body = body }
 
 -- a line before others that are left once empty lines at the end are left out
 abbrev pub before : {A B C : Type 0} → BodyLine A B C → List (BodyLine A B C) → List (BodyLine A B C)
@@ -125,15 +225,70 @@ module _ {A B C D : Type 0} (f : A → C) (g : B → D) where
   over_fragment (Text token) = Text (f token)
   over_fragment (Interpolation value) = Interpolation (over_expr value)
 
-module _ {A B C D E F : Type 0} (f : A → D) (g : B → E) (h : C → F) where
-  abbrev pub over_line : BodyLine A B C → BodyLine D E F
+  abbrev pub over_argument : Argument A B → Argument C D
+  over_argument (Positional first value) = Positional (g first) (over_expr value)
+  over_argument (Bare key) = Bare (f key)
+  over_argument (Keyed key value) = Keyed (f key) (over_expr value)
+
+  abbrev pub over_written : Written A B → Written C D
+  over_written w = record { name = f w.name; arguments = map over_argument w.arguments }
+
+  abbrev pub over_assignment : AssignmentParts A B → AssignmentParts C D
+  over_assignment a = record { eager = a.eager; export = a.export; name = f a.name; value = over_expr a.value }
+
+  abbrev pub over_parameter : Parameter A B → Parameter C D
+  over_parameter p = record { kind = p.kind; export = p.export; name = f p.name; default = option_map over_expr p.default }
+
+  abbrev pub over_entry : Entry A B → Entry C D
+  over_entry e = record { name = g e.name; attribute = e.attribute }
+
+module _ {A B C A' B' C' : Type 0} (f : A → A') (g : B → B') (h : C → C') where
+  abbrev pub over_line : BodyLine A B C → BodyLine A' B' C'
   over_line (Line number fragments) = Line (h number) (map (over_fragment f g) fragments)
 
-  abbrev pub over_item : Item A B C → Item D E F
-  over_item (Assignment name value) = Assignment (f name) (over_expr f g value)
-  over_item (Comment text) = Comment text
-  over_item Newline = Newline
-  over_item (Recipe name body) = Recipe (f name) (map over_line body)
+module _ {A B S A' B' S' : Type 0} (f : A → A') (g : B → B') (k : S → S') where
+  abbrev pub over_dependency_argument : DependencyArgument A B S → DependencyArgument A' B' S'
+  over_dependency_argument a = record { star = option_map k a.star; value = over_expr f g a.value }
+
+  abbrev pub over_dependency : Dependency A B S → Dependency A' B' S'
+  over_dependency d = record { star = option_map k d.star; path = map f d.path; arguments = map over_dependency_argument d.arguments }
+
+  abbrev pub over_header : Header A B S → Header A' B' S'
+  over_header header = record {
+    quiet = header.quiet;
+    name = f header.name;
+    parameters = map (over_parameter f g) header.parameters;
+    priors = map over_dependency header.priors;
+    subsequents = map over_dependency header.subsequents;
+  }
+
+module _ {A B C S A' B' C' S' : Type 0} (f : A → A') (g : B → B') (h : C → C') (k : S → S') where
+  abbrev pub over_recipe : RecipeParts A B C S → RecipeParts A' B' C' S'
+  over_recipe r = record { doc = r.doc; header = over_header f g k r.header; body = map (over_line f g h) r.body }
+
+  abbrev pub over_content : Content A B C S → Content A' B' C' S'
+  over_content (Assignment parts) = Assignment (over_assignment f g parts)
+  over_content (Recipe parts) = Recipe (over_recipe parts)
+
+  abbrev pub over_item : {D D' : Type 0} → (D → D') → Item A B C S D → Item A' B' C' S' D'
+  over_item attributes_over Newline = Newline
+  over_item attributes_over (Comment text) = Comment text
+  over_item attributes_over (Construct attributes content) = Construct (attributes_over attributes) (over_content content)
+
+-- without the places of stars
+abbrev pub starless_argument : {A B S : Type 0} → DependencyArgument A B S → DependencyArgument A B (Unit {0})
+starless_argument a = record { star = option_map (λ star. tt) a.star; value = a.value }
+
+abbrev pub starless_dependency : {A B S : Type 0} → Dependency A B S → Dependency A B (Unit {0})
+starless_dependency d = record { star = option_map (λ star. tt) d.star; path = d.path; arguments = map starless_argument d.arguments }
+
+abbrev pub starless_header : {A B S : Type 0} → Header A B S → Header A B (Unit {0})
+starless_header h =
+    record { quiet = h.quiet; name = h.name; parameters = h.parameters; priors = map starless_dependency h.priors; subsequents = map starless_dependency h.subsequents }
+
+abbrev pub starless : {A B C S : Type 0} → Content A B C S → Content A B C (Unit {0})
+starless (Assignment parts) = Assignment parts
+starless (Recipe parts) = Recipe (record { doc = parts.doc; header = starless_header parts.header; body = parts.body })
 
 -- what a shape keeps of a token
 abbrev pub lexeme : Tok → List ℕ
@@ -151,6 +306,14 @@ itself t = t
 abbrev pub line_of : Tok → ℕ
 line_of t = t.line
 
+-- an item of a tree without its places
+abbrev pub item_shape_of : OrderedItem Tok Tok ℕ → OrderedItem (List ℕ) (Unit {0}) (Unit {0})
+item_shape_of = over_item lexeme nothing nothing (λ star. star) (map (over_entry lexeme nothing))
+
 -- the tree without its places
 abbrev pub shape_of : Tree → Shape
-shape_of = map (over_item lexeme nothing nothing)
+shape_of = map item_shape_of
+
+-- the written tree without its places
+abbrev pub written_shape_of : WrittenTree → WrittenShape
+written_shape_of = map (over_item lexeme nothing nothing nothing (map (over_written lexeme nothing)))

@@ -1,7 +1,7 @@
 -- A text without the indentation that its lines share.
 use Rattle.std.specs.Prelude.{◌≡◌, ◌≤◌, ℕ, Bool, true, false, not, ◌||◌, ◌==◌, nat_eq, List, [], ◌∷◌, ◌++◌, map, drop, length, codes, filter, take_while, if◌then◌else◌}
 use Rattle.std.specs.List.{All, list_all, onto_first, ends_with}
-use Rattle.justfile_base.specs.Indentation.{is_blank}
+use Rattle.justfile_base.specs.Indentation.{is_space_or_tab}
 
 -- the lines, each with its line feed. None is empty
 abbrev pub lines : List ℕ → List (List ℕ)
@@ -10,7 +10,7 @@ lines (b ∷ bs) = if b == 10 then (b ∷ []) ∷ lines bs else onto_first b (li
 
 -- a space, a tab, CR or LF
 abbrev pub is_white : ℕ → Bool
-is_white b = is_blank b || b == 13 || b == 10
+is_white b = is_space_or_tab b || b == 13 || b == 10
 
 -- the line has nothing else
 abbrev pub is_blank_line : List ℕ → Bool
@@ -18,7 +18,7 @@ is_blank_line line = list_all is_white line
 
 -- the spaces and tabs at the front
 abbrev pub leading_blanks : List ℕ → List ℕ
-leading_blanks line = take_while is_blank line
+leading_blanks line = take_while is_space_or_tab line
 
 -- the byte is at the front
 abbrev pub is_first : ℕ → List ℕ → Bool
@@ -49,9 +49,9 @@ IsIndented run line = is_blank_line line ≡ false → IsFront run line
 
 -- the run of blanks is the longest one that all lines but the blank ones begin with, and empty where there are no others
 pub record IsLongestRun (run : List ℕ) (ls : List (List ℕ)) : Type 0 where
-  pub blank : list_all is_blank run ≡ true
+  pub blank : list_all is_space_or_tab run ≡ true
   pub shared : All (IsIndented run) ls
-  pub longest : (other : List ℕ) → list_all is_blank other ≡ true → All (IsIndented other) ls → list_all is_blank_line ls ≡ false → length other ≤ length run
+  pub longest : (other : List ℕ) → list_all is_space_or_tab other ≡ true → All (IsIndented other) ls → list_all is_blank_line ls ≡ false → length other ≤ length run
   pub none : list_all is_blank_line ls ≡ true → run ≡ []
 
 -- CR and LF if the line ends so, else LF

@@ -6,9 +6,12 @@ pub mod examples;
 pub mod grammar_laws;
 pub mod laws;
 mod level;
+pub mod lexing_laws;
 mod list_feature;
 mod open_delimiter;
 mod operator;
+mod parameter_kind;
+pub mod printed_examples;
 mod raw_text;
 
 pub use crate::conditional_operator::ConditionalOperator;
@@ -16,4 +19,5 @@ pub use crate::level::Level;
 pub use crate::list_feature::ListFeature;
 pub use crate::open_delimiter::OpenDelimiter;
 pub use crate::operator::Operator;
+pub use crate::parameter_kind::ParameterKind;
 pub use crate::raw_text::RawText;

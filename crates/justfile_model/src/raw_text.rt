@@ -6,6 +6,10 @@ pub enum RawText {
     Comment,
     /// The text of a body line.
     Body,
-    /// What is inside a literal, or inside a part of a format string if the flag is set.
-    Literal(StringKind, bool),
+    /// What is inside a literal.
+    Literal {
+        kind: StringKind,
+        /// Whether the literal is a part of a format string.
+        is_format_string: bool,
+    },
 }

@@ -4,9 +4,8 @@ use Rattle.justfile_base.specs.declared.token.Token.{Token}
 use Rattle.justfile_file.specs.Ast.{noted_of}
 use Rattle.justfile_model.specs.ExpressionReader as expressions
 use Rattle.justfile_model.specs.Expressions as grammar
-use Rattle.justfile_model.specs.Expressions.{Limited}
+use Rattle.justfile_model.specs.Expressions.{Free}
 use Rattle.justfile_model.specs.Features.{Noted}
-use Rattle.justfile_model.specs.Literals.{Answers}
 use Rattle.justfile_model.specs.SignificantTokens.{SignificantToken}
 use Rattle.justfile_model.specs.Tok.{Tok}
 use Rattle.justfile_model.specs.Tree.{Expr, itself}
@@ -14,6 +13,7 @@ use Rattle.justfile_model.specs.TreeReader as model
 use Rattle.justfile_model.specs.TreeReader.{token_leaves}
 use Rattle.justfile_model.specs.declared.level.Level.TheVariants as levels
 use Rattle.justfile_model.specs.declared.list_feature.ListFeature.{ListFeature}
+use Rattle.justfile_model.proofs.Depth.{expression_freed}
 use Rattle.justfile_model.proofs.ExpressionSound.{expression_derives}
 use Rattle.justfile_model.proofs.NaturalExpressions.{expression_natural}
 use Rattle.justfile_model.proofs.Related as a
@@ -22,20 +22,20 @@ use Rattle.justfile_parse.specs.Reader.{At, ReadExpr, Refusal, Run, State, leave
 use Rattle.justfile_parse.specs.Significant.{significant_of}
 use Rattle.justfile_parse.specs.Tree.{Leaf}
 use Rattle.justfile_parse.specs.declared.significant.TableEntry.{TableEntry}
-use Rattle.justfile_parse.proofs.Seen.{IsEntry, respects, seen}
+use Rattle.justfile_parse.proofs.Seen.{IsEntry, Relates, respects, seen}
 
 -- any token
 abbrev pub Any : Token → Type 0
 Any token = Unit {0}
 
 module _ (run : Run) where
-  abbrev pub rel : a.Relations Run TableEntry Leaf Token Answers SignificantToken Tok Tok
-  rel = seen run.expander Any run.file_depth run.import_offsets
+  abbrev pub rel : Relates
+  rel = seen run.conditions Any run.file_depth run.import_offsets
 
   abbrev pub agree : a.Respects rel leaves token_leaves
-  agree = respects run.expander Any run.file_depth run.import_offsets
+  agree = respects run.conditions Any run.file_depth run.import_offsets
 
-  each_entry : (es : List TableEntry) → Each (IsEntry run.expander Any run.file_depth run.import_offsets) es (map significant_of es)
+  each_entry : (es : List TableEntry) → Each (IsEntry run.conditions Any run.file_depth run.import_offsets) es (map significant_of es)
   each_entry [] = a.nil
   each_entry (e ∷ es) = a.cons (record { among = tt; is = refl }) (each_entry es)
 
@@ -43,20 +43,20 @@ module _ (run : Run) where
   each_noted [] = a.nil
   each_noted (f ∷ fs) = a.cons (refl, record { among = tt; is = refl }) (each_noted fs)
 
-  pub entries_are : {es : List TableEntry} {ts : List SignificantToken} → Each (IsEntry run.expander Any run.file_depth run.import_offsets) es ts → ts ≡ map significant_of es
+  pub entries_are : {es : List TableEntry} {ts : List SignificantToken} → Each (IsEntry run.conditions Any run.file_depth run.import_offsets) es ts → ts ≡ map significant_of es
   entries_are a.nil = refl
   entries_are (a.cons h hs) = λ i. sym h.is i ∷ entries_are hs i
 
 -- the state as the definitions see it
 abbrev pub state_seen : State → model.State
-state_seen s = record { run = s.run.expander; depth = s.depth; left = map significant_of s.left; noted = map noted_of s.noted }
+state_seen s = record { run = s.run.conditions; depth = s.depth; left = map significant_of s.left; noted = map noted_of s.noted }
 
 pub state_alike : (s : State) → States (rel s.run) s (state_seen s)
-state_alike s = record { run = record { expander_is = refl; same = refl; file_depth_is = refl; import_offsets_are = refl }; depth = refl; left = each_entry s.run s.left; noted = each_noted s.run s.noted }
+state_alike s = record { run = record { conditions_are = refl; same = refl; file_depth_is = refl; import_offsets_are = refl }; depth = refl; left = each_entry s.run s.left; noted = each_noted s.run s.noted }
 
--- an expression that is read derives
+-- an expression that is read derives, also without the limit
 pub derives : (s : State) (e : Expr Leaf Token) (rest : State) → read (At levels.Expression false s) ≡ Ok (e, rest)
-    → (tree : Expr Tok Tok) × (features : List (Noted Tok)) × grammar.Expression itself itself Limited false s.depth tree features (map significant_of s.left) (map significant_of rest.left)
+    → (tree : Expr Tok Tok) × (features : List (Noted Tok)) × grammar.Expression itself itself Free false s.depth tree features (map significant_of s.left) (map significant_of rest.left)
 derives s e rest found = by_law (read (At levels.Expression false s)) (expressions.read token_leaves (expressions.At levels.Expression false (state_seen s))) refl (expression_natural (rel s.run) leaves token_leaves (agree s.run) false (state_alike s)) found
   where
     inside : (x y : Expr Leaf Token × State) → ◌≡◌ {A = ReadExpr} (Ok x) (Ok y) → x ≡ y
@@ -66,10 +66,10 @@ derives s e rest found = by_law (read (At levels.Expression false s)) (expressio
     no_read f y h = cc
 
     by_law : (o : ReadExpr) (o' : model.Read (Expr Tok Tok)) → expressions.read token_leaves (expressions.At levels.Expression false (state_seen s)) ≡ o' → Related (rel s.run) (a.Alike (rel s.run)) (Never (rel s.run)) o o' → o ≡ Ok (e, rest)
-        → (tree : Expr Tok Tok) × (features : List (Noted Tok)) × grammar.Expression itself itself Limited false s.depth tree features (map significant_of s.left) (map significant_of rest.left)
+        → (tree : Expr Tok Tok) × (features : List (Noted Tok)) × grammar.Expression itself itself Free false s.depth tree features (map significant_of s.left) (map significant_of rest.left)
     by_law o o' is (a.both {x = x} {y = y} q k) same =
-        let d = expression_derives s.run.expander false s.depth (state_seen s) y is (refl, refl) in
+        let d = expression_derives s.run.conditions false s.depth (state_seen s) y is (refl, refl) in
         let left : y.1.left ≡ map significant_of rest.left = entries_are s.run k.left ∙ ap (λ (z : Expr Leaf Token × State). map significant_of z.1.left) (inside x (e, rest) same) in
-        (y.0, d.features, subst (λ (ts : List SignificantToken). grammar.Expression itself itself Limited false s.depth y.0 d.features (map significant_of s.left) ts) left d.derives)
+        (y.0, d.features, subst (λ (ts : List SignificantToken). grammar.Expression itself itself Free false s.depth y.0 d.features (map significant_of s.left) ts) left (expression_freed s.run.conditions.limit itself itself d.derives))
     by_law o o' is (a.neither {e = f} h) same = absurd (no_read f (e, rest) same)
     by_law o o' is (a.short h) same = absurd h

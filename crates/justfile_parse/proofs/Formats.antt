@@ -13,7 +13,7 @@ use Rattle.justfile_base.specs.declared.token_kind.TokenKind.TheVariants as kind
 use Rattle.justfile_canon.proofs.FormatParts.{AreInFormat, InFormat, continue_inside, end_inside, expression_inside, lexed_inside}
 use Rattle.justfile_cook.specs.Literal.{is_part}
 use Rattle.justfile_model.specs.Expressions as grammar
-use Rattle.justfile_model.specs.Expressions.{IsKind, Limited, Tokens}
+use Rattle.justfile_model.specs.Expressions.{Free, IsKind, Tokens}
 use Rattle.justfile_model.specs.Features.{Noted}
 use Rattle.justfile_model.specs.Literals.{LiteralFault, format_text}
 use Rattle.justfile_model.specs.SignificantTokens.{SignificantToken, significant_tokens}
@@ -39,11 +39,11 @@ use Rattle.justfile_parse.proofs.Rules.{part_is}
 
 -- ---- of a text
 
-parts_ended : {k : StringKind} {d : ℕ} {ps : Parts Tok Tok} {fs : List (Noted Tok)} {ts rest : Tokens} → grammar.FormatParts itself itself Limited d ps fs ts rest → InFormat k ts → IsTrue (is_part k string_parts.End (last_of ps).lexeme)
+parts_ended : {k : StringKind} {d : ℕ} {ps : Parts Tok Tok} {fs : List (Noted Tok)} {ts rest : Tokens} → grammar.FormatParts itself itself Free d ps fs ts rest → InFormat k ts → IsTrue (is_part k string_parts.End (last_of ps).lexeme)
 parts_ended {k} (grammar.end {token = t} {rest = rest} kind) h =
     let e : is_part k string_parts.End t.tok.lexeme ≡ true = framed_test 2 (delimiter_len k) t.tok.lexeme (end_inside t rest kind h) in
     search (rules, e)
-parts_ended (grammar.next {token = t} {tokens = ts} kind x ps) h = parts_ended ps (expression_inside itself itself Limited x (continue_inside t ts kind h).1)
+parts_ended (grammar.next {token = t} {tokens = ts} kind x ps) h = parts_ended ps (expression_inside itself itself Free x (continue_inside t ts kind h).1)
 
 start_inside : (before : Tokens) (start : SignificantToken) (behind : Tokens) → AreInFormat (before ++ start ∷ behind) → IsKind kinds.FormatStringStart start → InFormat (kind_of start.tok.lexeme) behind
 start_inside [] start behind h kind = h.0 kind
@@ -52,7 +52,7 @@ start_inside (t ∷ before) start behind h kind = start_inside before start behi
 inside_ended : (ts : Tokens) → AreInFormat ts → AreEnded ts
 unfolding AreEnded IsEndedBehind IsEnded
 inside_ended ts h before start behind is kind depth e fs rest x ps gs end parts =
-    parts_ended parts (expression_inside itself itself Limited x (start_inside before start behind (subst AreInFormat is h) kind))
+    parts_ended parts (expression_inside itself itself Free x (start_inside before start behind (subst AreInFormat is h) kind))
 
 pub ended_lex : (tokens : List Token) (table : List TableEntry) → IsOneLex tokens → map significant_of table ≡ significant_tokens (map tok_of tokens) → AreEnded (map significant_of table)
 ended_lex tokens table l is = subst AreEnded (sym is) (inside_ended (significant_tokens (map tok_of tokens)) (lexed_inside l.text (map tok_of tokens) l.utf8 l.lexed))

@@ -13,6 +13,7 @@ pub mod Parts
 pub mod Readings
 pub mod Rest
 pub mod Rows
+pub mod Operators
 pub mod Rules
 pub mod Seen
 pub mod Shapes

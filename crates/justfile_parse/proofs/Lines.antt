@@ -7,21 +7,20 @@ use Rattle.justfile_file.specs.Item.{item_of, line_of}
 use Rattle.justfile_file.specs.declared.item.Item as file
 use Rattle.justfile_file.specs.declared.item.Item.TheVariants as items
 use Rattle.justfile_file.specs.declared.line.Line as body
-use Rattle.justfile_model.specs.Tok.{tok_of}
 use Rattle.justfile_model.specs.Tree as tree
-use Rattle.justfile_model.specs.Tree.{Item}
+use Rattle.justfile_model.specs.Tree.{OrderedItem}
 use Rattle.justfile_model.specs.Reader as files
-use Rattle.justfile_model.specs.Reader.{after_numbered, comment_item, has_body}
+use Rattle.justfile_model.specs.Reader.{after_numbered, comment_item, has_body, some_line}
 use Rattle.justfile_model.specs.Reading.{◌>>=◌, Counters, after}
 use Rattle.justfile_parse.specs.Reader.{Read, ReadItems, Refusal, State, accept, behind, ended, expect, leaves, line, line_end, on_line}
 use Rattle.justfile_parse.specs.Reading.{StopsAt, literal_refusal, refusal_at}
-use Rattle.justfile_parse.specs.Tree.{Headed, Leaf, item_tree, line_tree, recipe_name}
+use Rattle.justfile_parse.specs.Tree.{Leaf, item_tree, line_tree}
 use Rattle.justfile_parse.specs.declared.significant.TableEntry.{TableEntry}
 use Rattle.justfile_parse.specs.declared.stop.Stop.{Stop}
 use Rattle.justfile_parse.specs.declared.stop.Stop.TheVariants.{Refused, Literal, Memory, Numbers}
 
 abbrev Items : Type 0
-Items = List (Item Leaf Token ℕ)
+Items = List (OrderedItem Leaf Token ℕ)
 
 module _ (done : Items) (s : State) where
   pub line_end_closes : (end : TableEntry × State) → accept kinds.Eof s ≡ Some end → after done (line_end s) ≡ Ok (done, s)
@@ -36,17 +35,11 @@ module _ (done : Items) (s : State) where
   unfolding after files.line_end
   line_end_fails e h1 h2 = rw (h1, h2) refl
 
-  pub line_end_stops : (stop : Stop) (left : State) → accept kinds.Eof s ≡ None → StopsAt stop left ⊥ (expect kinds.Eol s) → StopsAt stop left ⊥ (after done (line_end s))
-  line_end_stops (Refused r) left none h = line_end_fails (refusal_at r left) none h
-  line_end_stops (Literal refused) left none h = line_end_fails (literal_refusal refused.value.error) none h
-  line_end_stops Memory left none h = tt
-  line_end_stops Numbers left none h = h
-
   pub behind_bare : accept kinds.Comment s ≡ None → after done (behind s) ≡ after done (line_end s)
   unfolding files.behind
   behind_bare h = rw h refl
 
-  then_end : (i : Item Leaf Token ℕ) (found : Read Items) → after done (found >>= λ end. Ok (i ∷ end.0, end.1)) ≡ after (done ++ i ∷ []) found
+  then_end : (i : OrderedItem Leaf Token ℕ) (found : Read Items) → after done (found >>= λ end. Ok (i ∷ end.0, end.1)) ≡ after (done ++ i ∷ []) found
   unfolding after
   then_end i (Ok x) = ap (λ (l : Items). Ok (l, x.1)) (sym (append_assoc done (i ∷ []) x.0))
   then_end i (Err e) = refl
@@ -80,7 +73,7 @@ module _ (done : Items) (s : State) where
     line_stops Numbers left wanting none h = line_fails wanting none h
 
     -- after an item
-    module _ (i : Item Leaf Token ℕ) (m : Counters) (rest : State) (none : accept kinds.Eol s ≡ None) (item : on_line n s ≡ Ok ((i, m), rest)) where
+    module _ (i : OrderedItem Leaf Token ℕ) (m : Counters) (rest : State) (none : accept kinds.Eol s ≡ None) (item : on_line n s ≡ Ok ((i, m), rest)) where
       abbrev numbered : Items × State → ReadItems
       numbered x = Ok ((x.0, m), x.1)
 
@@ -112,6 +105,6 @@ has_body_is (items.Comment text) = refl
 has_body_is items.Newline = refl
 has_body_is (items.Recipe r) = by_lines r.body.items
   where
-    by_lines : (ls : List body.Line) → has_body (tree.Recipe (tok_of r.name.token) (map line_of ls)) ≡ has_body (tree.Recipe (Headed (recipe_name r)) (map line_tree ls))
+    by_lines : (ls : List body.Line) → some_line (map line_of ls) ≡ some_line (map line_tree ls)
     by_lines [] = refl
     by_lines (l ∷ ls) = refl

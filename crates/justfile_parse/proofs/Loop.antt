@@ -5,7 +5,7 @@ use Rattle.justfile_base.specs.declared.numerator.Numerator.{Numerator}
 use Rattle.justfile_base.specs.declared.token.Token.{Token}
 use Rattle.justfile_base.specs.declared.token_kind.TokenKind.TheVariants as kinds
 use Rattle.justfile_file.specs.declared.item.Item as file
-use Rattle.justfile_model.specs.Tree.{Item}
+use Rattle.justfile_model.specs.Tree.{OrderedItem}
 use Rattle.justfile_model.specs.Reader as files
 use Rattle.justfile_model.specs.Reader.{after_numbered}
 use Rattle.justfile_model.specs.Reading.{◌>>=◌, Counters}
@@ -22,10 +22,10 @@ use Rattle.justfile_model.proofs.ReadingSteps.{known}
 use Rattle.justfile_parse.proofs.Moves.{line_moves, names, on_line_moves}
 
 abbrev Items : Type 0
-Items = List (Item Leaf Token ℕ)
+Items = List (OrderedItem Leaf Token ℕ)
 
 -- an item got its number
-pub moved_by : (old new : Numerator) (s : State) (i : Item Leaf Token ℕ) (rest : State) → s.depth ≡ 0 → on_line (counters_of old) s ≡ Ok ((i, counters_of new), rest) → IsMoved old new (names s)
+pub moved_by : (old new : Numerator) (s : State) (i : OrderedItem Leaf Token ℕ) (rest : State) → s.depth ≡ 0 → on_line (counters_of old) s ≡ Ok ((i, counters_of new), rest) → IsMoved old new (names s)
 moved_by old new s i rest none h =
     let moves = on_line_moves (counters_of old) s none i (counters_of new) rest h in
     record { least = moves.least; recipes_least = moves.recipes_least; most_is = omega (arith, moves.most); constants = moves.constants }

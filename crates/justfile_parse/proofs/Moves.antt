@@ -3,9 +3,10 @@ use Rattle.std.proofs.Common.{◌≡◌, ℕ, ◌+◌, ◌≤◌, Bool, true, fa
 use Rattle.justfile_base.specs.declared.token.Token.{Token}
 use Rattle.justfile_base.specs.declared.token_kind.TokenKind.{TokenKind}
 use Rattle.justfile_base.specs.declared.token_kind.TokenKind.TheVariants as kinds
-use Rattle.justfile_model.specs.Expressions.{Limited, Tokens}
+use Rattle.justfile_model.specs.Conditions.{Conditions}
+use Rattle.justfile_model.specs.Expressions.{Tokens, Under}
 use Rattle.justfile_model.specs.Features.{Noted}
-use Rattle.justfile_model.specs.Files.{item_bindings, item_recipes}
+use Rattle.justfile_model.specs.Files.{item_bindings, item_recipes, keeps_tokens}
 use Rattle.justfile_model.specs.Reader as files
 use Rattle.justfile_model.specs.Reader.{has_body}
 use Rattle.justfile_model.specs.Reading as reading
@@ -13,16 +14,16 @@ use Rattle.justfile_model.specs.Reading.{◌>>=◌, Counters, after, choose, ref
 use Rattle.justfile_model.specs.SignificantTokens.{identifiers}
 use Rattle.justfile_model.specs.Tok.{Tok}
 use Rattle.justfile_model.specs.Tree as tree
-use Rattle.justfile_model.specs.Tree.{Item, itself, line_of}
+use Rattle.justfile_model.specs.Tree.{OrderedItem, WrittenItem}
 use Rattle.justfile_model.specs.TreeReader as model
 use Rattle.justfile_model.specs.TreeReader.{token_leaves}
-use Rattle.justfile_model.proofs.Counters.{count}
+use Rattle.justfile_model.proofs.Counters.{count, counted_bindings, counted_constants, counted_recipes}
 use Rattle.justfile_model.proofs.Counting.{block_counts, on_line_counts}
 use Rattle.justfile_model.proofs.Natural as natural
 use Rattle.justfile_model.proofs.ReadingSteps.{known}
 use Rattle.justfile_model.proofs.Related as a
 use Rattle.justfile_model.proofs.Related.{AlikeItem, Related}
-use Rattle.justfile_model.proofs.Sound.{Starts, on_line_at}
+use Rattle.justfile_model.proofs.Sound.{Starts, of_block, of_comment, of_line, on_line_at}
 use Rattle.justfile_parse.specs.Reader.{after_mark, Read, ReadItem, ReadItems, Refusal, State, accept, behind, ended, expect, leaves, line, line_end, on_line}
 use Rattle.justfile_parse.specs.Significant.{significant_of}
 use Rattle.justfile_parse.specs.Tree.{Leaf}
@@ -43,42 +44,45 @@ pub record MovesBy (n m : Counters) (before behind : ℕ) : Type 0 where
 
 -- ---- an item
 
-counts_by : (n : Counters) (i : Item Leaf Token ℕ) (before behind : ℕ) → item_bindings i + item_recipes i + behind ≤ before → MovesBy n (count n i) before behind
-counts_by n (tree.Assignment name value) before behind h = record { least = omega arith; recipes_least = omega arith; most = omega (arith, h); constants = refl }
-counts_by n (tree.Comment text) before behind h = record { least = omega arith; recipes_least = omega arith; most = omega (arith, h); constants = refl }
-counts_by n tree.Newline before behind h = record { least = omega arith; recipes_least = omega arith; most = omega (arith, h); constants = refl }
-counts_by n (tree.Recipe name body) before behind h = record { least = omega arith; recipes_least = omega arith; most = omega (arith, h); constants = refl }
+counts_by : (n : Counters) (i : OrderedItem Leaf Token ℕ) (before behind : ℕ) → item_bindings i + item_recipes i + behind ≤ before → MovesBy n (count n i) before behind
+counts_by n i before behind h = record {
+  least = omega (arith, counted_bindings n (i ∷ []));
+  recipes_least = omega (arith, counted_recipes n (i ∷ []));
+  most = omega (arith, h, counted_bindings n (i ∷ []), counted_recipes n (i ∷ []));
+  constants = counted_constants n (i ∷ []);
+}
 
-starts_count : (b : Bool) (i : Item Tok Tok ℕ) (fs : List (Noted Tok)) (ts rest : Tokens) → Starts b i fs ts rest → item_bindings i + item_recipes i + identifiers rest ≤ identifiers ts
-starts_count true i fs ts rest h = block_counts itself itself line_of Limited h
-starts_count false i fs ts rest h = on_line_counts itself itself line_of Limited h
+starts_count : (conditions : Conditions) {b : Bool} {i : WrittenItem Tok Tok ℕ Tok} {fs : List (Noted Tok)} {ts rest : Tokens} → Starts conditions b i fs ts rest → item_bindings i + item_recipes i + identifiers rest ≤ identifiers ts
+starts_count conditions (of_comment kind) = omega arith
+starts_count conditions (of_line h) = on_line_counts keeps_tokens (Under conditions.limit) h
+starts_count conditions (of_block h) = block_counts keeps_tokens (Under conditions.limit) h
 
 module _ (n : Counters) (s : State) (open_none : s.depth ≡ 0) where
-  same_count : {i : Item Leaf Token ℕ} {i' : Item Tok Tok ℕ} → AlikeItem (rel s.run) n i i' → item_bindings i + item_recipes i ≡ item_bindings i' + item_recipes i'
-  same_count (a.assignment h e) = refl
+  same_count : {i : OrderedItem Leaf Token ℕ} {i' : WrittenItem Tok Tok ℕ Tok} → AlikeItem (rel s.run) n i i' → item_bindings i + item_recipes i ≡ item_bindings i' + item_recipes i'
+  same_count (a.assignment none h e) = refl
   same_count a.comment = refl
   same_count a.newline = refl
-  same_count (a.recipe h body) = refl
+  same_count (a.recipe none h body) = refl
 
   -- what begins a line takes an identifier for its number
-  pub on_line_moves : (i : Item Leaf Token ℕ) (m : Counters) (rest : State) → on_line n s ≡ Ok ((i, m), rest) → MovesBy n m (names s) (names rest)
+  pub on_line_moves : (i : OrderedItem Leaf Token ℕ) (m : Counters) (rest : State) → on_line n s ≡ Ok ((i, m), rest) → MovesBy n m (names s) (names rest)
   on_line_moves i m rest found = by_law (on_line n s) (files.on_line token_leaves n (state_seen s)) refl (natural.on_line_natural (rel s.run) leaves token_leaves (agree s.run) n (state_alike s)) found
     where
-      inside : (x y : (Item Leaf Token ℕ × Counters) × State) → ◌≡◌ {A = ReadItem} (Ok x) (Ok y) → x ≡ y
+      inside : (x y : (OrderedItem Leaf Token ℕ × Counters) × State) → ◌≡◌ {A = ReadItem} (Ok x) (Ok y) → x ≡ y
       inside x y h = cc
 
-      no_read : (f : Refusal) (y : (Item Leaf Token ℕ × Counters) × State) → ◌≡◌ {A = ReadItem} (Err f) (Ok y) → ⊥
+      no_read : (f : Refusal) (y : (OrderedItem Leaf Token ℕ × Counters) × State) → ◌≡◌ {A = ReadItem} (Err f) (Ok y) → ⊥
       no_read f y h = cc
 
-      by_law : {Short : Counters → model.Read (Item Tok Tok ℕ × Counters) → Type 0} (o : ReadItem) (o' : model.Read (Item Tok Tok ℕ × Counters)) → files.on_line token_leaves n (state_seen s) ≡ o'
+      by_law : {Short : Counters → model.Read (WrittenItem Tok Tok ℕ Tok × Counters) → Type 0} (o : ReadItem) (o' : model.Read (WrittenItem Tok Tok ℕ Tok × Counters)) → files.on_line token_leaves n (state_seen s) ≡ o'
           → Related (rel s.run) (natural.AlikeNumbered (rel s.run) leaves token_leaves (agree s.run) n) Short o o' → o ≡ Ok ((i, m), rest) → MovesBy n m (names s) (names rest)
       by_law o o' is (a.both {x = x} {y = y} q k) same =
           let e = inside x ((i, m), rest) same in
-          let d = on_line_at s.run.expander n (state_seen s) y is (open_none, refl) in
-          let count_of = starts_count (has_body y.0.0) y.0.0 d.features (state_seen s).left y.1.left d.derives in
+          let d = on_line_at s.run.conditions n (state_seen s) y is (open_none, refl) in
+          let count_of = starts_count s.run.conditions d.derives in
           let moves : MovesBy n (count n x.0.0) (names s) (names x.1) = counts_by n x.0.0 (names s) (names x.1) (omega (arith, count_of, same_count q.0, ap (λ (ts : Tokens). identifiers ts) (entries_are s.run k.left))) in
           let counted = subst (λ (c : Counters). MovesBy n c (names s) (names x.1)) (sym q.2) moves in
-          subst (λ (z : (Item Leaf Token ℕ × Counters) × State). MovesBy n z.0.1 (names s) (names z.1)) e counted
+          subst (λ (z : (OrderedItem Leaf Token ℕ × Counters) × State). MovesBy n z.0.1 (names s) (names z.1)) e counted
       by_law o o' is (a.neither {e = f} h) same = absurd (no_read f ((i, m), rest) same)
       by_law o o' is (a.short {n = k} h) same = absurd (no_read (reading.NoNumber k) ((i, m), rest) same)
 
@@ -117,7 +121,7 @@ either_fewer {A} kind s x f h k = go (accept kind s) (accepted kind s)
     go (Some p) i = last p (f p) i.0 (k p)
 
 abbrev Items : Type 0
-Items = List (Item Leaf Token ℕ)
+Items = List (OrderedItem Leaf Token ℕ)
 
 line_end_fewer : (s : State) → Fewer {A = Items} s (line_end s)
 unfolding files.line_end
@@ -148,7 +152,7 @@ module _ (n : Counters) (s : State) (open_none : s.depth ≡ 0) where
   unfolding files.line
   line_moved = go (accept kinds.Eol s) (accepted kinds.Eol s)
     where
-      behind_item : (i : (Item Leaf Token ℕ × Counters) × State) → MovesBy n i.0.1 (names s) (names i.1) → (o : Read Items) → Fewer {A = Items} i.1 o
+      behind_item : (i : (OrderedItem Leaf Token ℕ × Counters) × State) → MovesBy n i.0.1 (names s) (names i.1) → (o : Read Items) → Fewer {A = Items} i.1 o
           → Moved (o >>= λ b. Ok ((i.0.0 ∷ b.0, i.0.1), b.1))
       behind_item i h (Ok b) k = record { least = h.least; recipes_least = h.recipes_least; most = omega (arith, h.most, k); constants = h.constants }
       behind_item i h (Err e) k = tt

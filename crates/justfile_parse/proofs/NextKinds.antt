@@ -1,5 +1,5 @@
 -- The kinds of the next tokens.
-use Rattle.std.proofs.Common.{◌≡◌, ℕ, ◌+◌, ◌<◌, ◌≤◌, Bool, true, false, List, ◌∷◌, length, drop, get_or, refl, sym, ap, ◌∙◌, add-one, arith}
+use Rattle.std.proofs.Common.{◌≡◌, ℕ, ◌+◌, ◌<◌, ◌≤◌, Bool, true, false, List, ◌∷◌, length, drop, get_or, sym, ap, ◌∙◌, add-one, arith}
 use Rattle.std.specs.Prelude.{◌&&◌, nat_lt}
 use Rattle.std.proofs.Math.Seq.{drop-cons}
 use Rattle.std.proofs.lemmas.List.{drop_all, drop-drop}
@@ -20,9 +20,6 @@ pub record AreTo (table : List TableEntry) (kinds : List TokenKind) (start index
   pub same : reading.begin_with leaves kinds (drop start table) ≡ reading.begin_with leaves (drop index kinds) (drop next table)
 
 module _ (table : List TableEntry) (kinds : List TokenKind) where
-  pub are_begin : (start : ℕ) → start ≤ length table → AreTo table kinds start 0 start
-  are_begin start h = record { at = omega arith; within = h; same = refl }
-
   module _ (start index next : ℕ) (so_far : AreTo table kinds start index next) where
     pub are_all : length kinds ≤ index → reading.begin_with leaves kinds (drop start table) ≡ true
     unfolding reading.begin_with

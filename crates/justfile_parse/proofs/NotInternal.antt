@@ -190,4 +190,5 @@ pub refusal_not_internal : (tokens : List SignificantToken) (r : model.Refusal) 
 refusal_not_internal tokens (reader.Unexpected at) e h = unexpected_kind e.kind e.token h.0
 refusal_not_internal tokens (reader.TooDeep at) e h = ap internal_message h.0
 refusal_not_internal tokens (reader.NotCooked fault t) e h = literal_kind fault e.kind h.0
+refusal_not_internal tokens (reader.BreaksRule rule) e h = absurd h
 refusal_not_internal tokens (reader.NoNumber counters) e h = absurd h

@@ -1,6 +1,6 @@
 -- What is read of a table, and what that says of the tokens.
-use Rattle.std.proofs.Common.{◌≡◌, ℕ, ◌+◌, ◌<◌, ◌≤◌, Bool, true, false, ◌&&◌, cond, IsTrue, rules, List, [], ◌∷◌, ◌++◌, map, length, All, Contains, None, Result, Ok, Err, inl, inr, refl, sym, ap, ◌∙◌, subst, arith}
-use Rattle.std.specs.Prelude.{◌-◌, get_or, reverse, string_bytes}
+use Rattle.std.proofs.Common.{◌≡◌, ℕ, ◌+◌, ◌<◌, ◌≤◌, Bool, true, false, ◌&&◌, cond, IsTrue, rules, List, [], ◌∷◌, ◌++◌, map, length, All, Contains, Some, None, Result, Ok, Err, inl, inr, refl, sym, ap, ◌∙◌, subst, arith}
+use Rattle.std.specs.Prelude.{◌-◌, ◌^◌, get_or, reverse, string_bytes}
 use Rattle.std.specs.List.{list_all, flat_map}
 use Rattle.std.proofs.lemmas.Bool.Decides.{nat_tests}
 use Rattle.std.proofs.lemmas.List.{append-nil, length-map, map-append, reverse-append, reverse-reverse}
@@ -10,6 +10,7 @@ use Rattle.justfile_base.specs.StringLiteral.{begins_format_string}
 use Rattle.justfile_base.specs.declared.format_string_part.FormatStringPart.TheVariants as format_parts
 use Rattle.justfile_base.specs.declared.name.Name.{Name}
 use Rattle.justfile_base.specs.Token.{lexeme_of}
+use Rattle.justfile_base.specs.Numerator.{bindings_of, recipes_of}
 use Rattle.justfile_base.specs.declared.fault.Fault.{Fault}
 use Rattle.justfile_base.specs.declared.fault.Fault.TheVariants as faults
 use Rattle.justfile_base.specs.declared.numerator.Numerator.{Numerator}
@@ -30,7 +31,8 @@ use Rattle.justfile_file.specs.declared.ast.Ast.{Ast}
 use Rattle.justfile_file.specs.declared.item.Item.{Item}
 use Rattle.justfile_file.specs.declared.item.Item.TheVariants.{Assignment, Comment, Newline, Recipe}
 use Rattle.justfile_model.specs.Answers.{IsFrom, IsLexerFault}
-use Rattle.justfile_model.specs.Files.{VersionNumbers, FileDerives, body_literals, expr_literals, exprs_literals, fragments_literals, item_literals, literals, parts_literals}
+use Rattle.justfile_model.specs.Conditions.{Conditions}
+use Rattle.justfile_model.specs.Files.{FileDerives, body_literals, entries_literals, expr_literals, exprs_literals, fragments_literals, item_literals, literals, ordered, parts_literals}
 use Rattle.justfile_model.specs.Lexed.{Lexed, IsFault}
 use Rattle.justfile_model.specs.LexicalFault.{LexicalFault}
 use Rattle.justfile_model.specs.Features.{Noted}
@@ -41,9 +43,10 @@ use Rattle.justfile_model.specs.TreeReader as model
 use Rattle.justfile_model.specs.SignificantTokens.{SignificantToken, is_whitespace, significant_from, significant_tokens}
 use Rattle.justfile_model.specs.Tok.{Tok, tok_of}
 use Rattle.justfile_model.specs.Tree as tree
-use Rattle.justfile_model.specs.Tree.{Tree, lexeme}
+use Rattle.justfile_model.specs.Tree.{Tree, WrittenTree, lexeme}
 use Rattle.justfile_model.proofs.LexedLaws.{one_list, never_both}
 use Rattle.justfile_model.proofs.Agreement.{sound, complete, due, refused}
+use Rattle.justfile_model.proofs.Ordered.{ordered_bindings, ordered_recipes}
 use Rattle.justfile_parse.specs.Given.{AreGivenExpressions, AreGivenParts, IsGivenFragment, IsGivenHeld, IsGivenItem, IsGivenExpression, IsGivenLine, IsGivenPart, IsInTable, first_part, later_part}
 use Rattle.justfile_cook.specs.Literal.{IsPartOf, is_framed, is_quoted}
 use Rattle.justfile_parse.specs.Errors.{IsErrorOf}
@@ -57,8 +60,8 @@ use Rattle.justfile_parse.proofs.NotInternal.{not_internal, refusal_not_internal
 use Rattle.justfile_tree.specs.Expression.{assert_of, conditional_of, expr_of, expr_cooked, exprs_cooked, exprs_of_row, format_of, held_cooked, join_of, literal_tok, part_tok, parts_cooked, parts_of_row}
 use Rattle.justfile_tree.specs.declared.expression.Expression.{Expression, And', Assert', Backtick, Call', Comparison', Concatenation', Conditional', FormatString', Group', Join', List', ListConcatenation', Not', Or', StringLiteral, Variable, Held-Expression-Assert-1, None', Some', Row_of-Expression, end_of-Expression, more_of-Expression, Row_of-Expression-FormatString-1-2, end_of-Expression-FormatString-1-2, more_of-Expression-FormatString-1-2}
 
-ok_is_no_error : (e : model.Refusal) (x : Tree × List (Noted Tok)) (found : Result (Tree × List (Noted Tok)) model.Refusal) → found ≡ Err e → found ≡ Ok x → ⊥
-ok_is_no_error e x found h k = let both : ◌≡◌ {A = Result (Tree × List (Noted Tok)) model.Refusal} (Err e) (Ok x) = sym h ∙ k in cc
+ok_is_no_error : (e : model.Refusal) (x : WrittenTree × List (Noted Tok)) (found : Result (WrittenTree × List (Noted Tok)) model.Refusal) → found ≡ Err e → found ≡ Ok x → ⊥
+ok_is_no_error e x found h k = let both : ◌≡◌ {A = Result (WrittenTree × List (Noted Tok)) model.Refusal} (Err e) (Ok x) = sym h ∙ k in cc
 
 -- ---- the tokens of one lex
 
@@ -295,7 +298,7 @@ module _ (expander : Answers) (P : Token → Type 0) where
       joined_cook expander (fragments_literals (map fragment_of l.fragments.items)) _ (line_cooked l) _ (fragments_cook l.fragments.items (All-head (IsGivenLine expander P) l ls all))
       (lines_cook ls (All-tail (IsGivenLine expander P) l ls all))
 
-  item_cooks : (file_depth : ℕ) (import_offsets : List ℕ) (i : Item) → IsGivenItem expander P file_depth import_offsets i → Cooks expander (lexemes (item_literals (item_of i))) (item_cooked i)
+  item_cooks : (file_depth : ℕ) (import_offsets : List ℕ) (i : Item) → IsGivenItem expander P file_depth import_offsets i → Cooks expander (lexemes (item_literals entries_literals (item_of i))) (item_cooked i)
   item_cooks file_depth import_offsets (Assignment a) h = expression_cooks a.value h.value
   item_cooks file_depth import_offsets (Comment text) h = tt
   item_cooks file_depth import_offsets Newline h = tt
@@ -305,7 +308,7 @@ module _ (expander : Answers) (P : Token → Type 0) where
 pub cooks_of : (expander : Answers) (P : Token → Type 0) (file_depth : ℕ) (import_offsets : List ℕ) (items : List Item) → All (IsGivenItem expander P file_depth import_offsets) items → Cooks expander (lexemes (literals (map item_of items))) (flat_map item_cooked items)
 cooks_of expander P file_depth import_offsets [] all = tt
 cooks_of expander P file_depth import_offsets (i ∷ items) all =
-    joined_cook expander (item_literals (item_of i)) _ (item_cooked i) _
+    joined_cook expander (item_literals entries_literals (item_of i)) _ (item_cooked i) _
     (item_cooks expander P file_depth import_offsets i (All-head (IsGivenItem expander P file_depth import_offsets) i items all))
     (cooks_of expander P file_depth import_offsets items (All-tail (IsGivenItem expander P file_depth import_offsets) i items all))
 
@@ -317,50 +320,68 @@ given_tokens expander tokens table file_depth import_offsets items all =
     All-weaker (IsGivenItem expander (IsInTable table) file_depth import_offsets) (IsGivenItem expander (Contains tokens) file_depth import_offsets)
     (given_weaker expander (IsInTable table) (Contains tokens) (in_tokens tokens table all) file_depth import_offsets) items
 
-module _ (expander : Answers) (current : VersionNumbers) (tokens : List Token) (table : List TableEntry) (old new : Numerator) (is : map significant_of table ≡ significant_tokens (map tok_of tokens)) where
-  found : (tree : Tree) (features : List (Noted Tok)) → FileDerives expander current (significant_tokens (map tok_of tokens)) tree features → model.file expander (map significant_of table) ≡ Ok (tree, features)
-  found tree features d = ap (model.file expander) is ∙ complete expander current (significant_tokens (map tok_of tokens)) tree features d
+module _ (conditions : Conditions) (tokens : List Token) (table : List TableEntry) (old new : Numerator) (is : map significant_of table ≡ significant_tokens (map tok_of tokens)) where
+  -- the tokens of a lex are those of its table
+  abbrev Derives : Tree → List (Noted Tok) → Type 0
+  Derives tree features = FileDerives conditions (significant_tokens (map tok_of tokens)) tree features
 
-  pub derives_of : (tree : Tree) (features : List (Noted Tok)) → model.file expander (map significant_of table) ≡ Ok (tree, features) → FileDerives expander current (significant_tokens (map tok_of tokens)) tree features
-  derives_of tree features h = sound expander current (significant_tokens (map tok_of tokens)) tree features (sym (ap (model.file expander) is) ∙ h)
+  abbrev there : Result (WrittenTree × List (Noted Tok)) model.Refusal
+  there = model.file conditions (map significant_of table)
+
+  found : (tree : Tree) (features : List (Noted Tok)) → Derives tree features → (written : WrittenTree) × (ordered written ≡ Some tree) × (there ≡ Ok (written, features))
+  found tree features d =
+      let x = complete conditions (significant_tokens (map tok_of tokens)) tree features d in
+      (x.0, x.1, ap (model.file conditions) is ∙ x.2)
+
+  pub derives_of : (written : WrittenTree) (tree : Tree) (features : List (Noted Tok)) → there ≡ Ok (written, features) → ordered written ≡ Some tree → Derives tree features
+  derives_of written tree features h meaning =
+      let x = sound conditions (significant_tokens (map tok_of tokens)) written features (sym (ap (model.file conditions) is) ∙ h) in
+      let e : Some x.0 ≡ Some tree = sym x.1 ∙ meaning in
+      let same : x.0 ≡ tree = cc in
+      subst (λ (t : Tree). Derives t features) same x.2
 
   pub unparsed_of : All (λ entry. Contains tokens entry.token.now) table → (fault : Fault)
-      → IsUnread expander (map significant_of table) (IsInTable table) old new fault
-      → IsUnparsed expander current (map tok_of tokens) (Contains tokens) old new fault
+      → IsUnread conditions (map significant_of table) (IsInTable table) old new fault
+      → IsUnparsed conditions (map tok_of tokens) (Contains tokens) old new fault
   unparsed_of all (faults.Compile e) h =
       let ts = significant_tokens (map tok_of tokens) in
-      let read : model.file expander ts ≡ Err h.refusal = sym (ap (model.file expander) is) ∙ h.read in
+      let read : model.file conditions ts ≡ Err h.refusal = sym (ap (model.file conditions) is) ∙ h.read in
       let error : IsErrorOf ts h.refusal e = subst (λ (us : List SignificantToken). IsErrorOf us h.refusal e) is h.error in
       record {
-        derives_none = λ tree features d. ok_is_no_error h.refusal (tree, features) (model.file expander (map significant_of table)) h.read (found tree features d);
+        derives_none = λ tree features d. let x = found tree features d in ok_is_no_error h.refusal (x.0, features) there h.read x.2;
         among = in_tokens tokens table all e.token h.among;
         not_internal = refusal_not_internal ts h.refusal e error;
         refused = record {
           refusal = h.refusal;
           read = read;
           error = error;
-          breaks = λ tree features d. refused expander ts tree features d h.refusal read;
-          breaks_at = λ tree features Hit d. due expander ts tree features Hit d h.refusal read;
+          breaks = λ written features d. refused conditions ts written features d h.refusal read;
+          breaks_at = λ written features Hit d. due conditions ts written features Hit d h.refusal read;
         };
       }
   unparsed_of all faults.Memory h = tt
   unparsed_of all faults.Numbers h =
-      let P : List SignificantToken → Type 0 = λ ts. WantsNumber expander ts old new in
-      (subst P is h.0, λ tree features d s. h.1 tree features (found tree features d) s)
+      let P : List SignificantToken → Type 0 = λ ts. WantsNumber conditions ts old new in (
+        subst P is h.0,
+        λ tree features d enough. let x = found tree features d in h.1 x.0 features x.2 (record {
+          bindings_suffice = subst (λ (n : ℕ). bindings_of old + n ≤ 2 ^ 32 - 1) (ordered_bindings x.0 tree x.1) enough.bindings_suffice;
+          recipes_suffice = subst (λ (n : ℕ). recipes_of old + n ≤ 2 ^ 32 - 1) (ordered_recipes x.0 tree x.1) enough.recipes_suffice;
+        }),
+      )
 
   pub parsed_of : All (λ entry. Contains tokens entry.token.now) table → (file_depth : ℕ) (import_offsets : List ℕ) (ast : Ast)
-      → IsRead expander table file_depth import_offsets (map significant_of table) old new (ast.items.items, ast.list_features.items) → ast.unstable_features.keys ≡ []
-      → IsParsed expander current (map tok_of tokens) (Contains tokens) file_depth import_offsets old new ast
+      → IsRead conditions table file_depth import_offsets (map significant_of table) old new (ast.items.items, ast.list_features.items) → ast.unstable_features.keys ≡ []
+      → IsParsed conditions (map tok_of tokens) (Contains tokens) file_depth import_offsets old new ast
   parsed_of all file_depth import_offsets ast h stable =
       record {
-        derives = derives_of (tree_of ast) (features_of ast) h.read;
+        derives = derives_of h.written (tree_of ast) (features_of ast) h.read h.ordered_is;
         filled = record {
-          cooks = cooks_of expander (IsInTable table) file_depth import_offsets ast.items.items h.given.given;
+          cooks = cooks_of conditions.expander (IsInTable table) file_depth import_offsets ast.items.items h.given.given;
           numbered = h.given.numbered;
           recipes_numbered = h.given.recipes_numbered;
           counted = h.given.counted;
           recipes_counted = h.given.recipes_counted;
-          given = given_tokens expander tokens table file_depth import_offsets ast.items.items all h.given.given;
+          given = given_tokens conditions.expander tokens table file_depth import_offsets ast.items.items all h.given.given;
           noted = All-weaker (λ (x : ListFeature × Token). IsInTable table x.1) (λ (x : ListFeature × Token). Contains tokens x.1) (λ x. in_tokens tokens table all x.1) ast.list_features.items h.noted.all;
           stable = stable;
         };
@@ -368,16 +389,16 @@ module _ (expander : Answers) (current : VersionNumbers) (tokens : List Token) (
 
 -- ---- a text
 
-module _ (expander : Answers) (current : VersionNumbers) (path src : List ℕ) (utf8 : IsUtf8 src) (tokens : List Token) (lexed : Lexed src (map tok_of tokens)) (all : All (IsFrom path src) tokens) (old new : Numerator) where
+module _ (conditions : Conditions) (path src : List ℕ) (utf8 : IsUtf8 src) (tokens : List Token) (lexed : Lexed src (map tok_of tokens)) (all : All (IsFrom path src) tokens) (old new : Numerator) where
   from_tokens : (t : Token) → Contains tokens t → IsFrom path src t
   from_tokens t h = All-contains (IsFrom path src) tokens t all h
 
-  derives_tokens : (tree : Tree) (features : List (Noted Tok)) → TextDerives expander current src tree features → FileDerives expander current (significant_tokens (map tok_of tokens)) tree features
+  derives_tokens : (tree : Tree) (features : List (Noted Tok)) → TextDerives conditions src tree features → FileDerives conditions (significant_tokens (map tok_of tokens)) tree features
   derives_tokens tree features d =
-      let P : List Tok → Type 0 = λ ts. FileDerives expander current (significant_tokens ts) tree features in
+      let P : List Tok → Type 0 = λ ts. FileDerives conditions (significant_tokens ts) tree features in
       subst P (one_list src d.tokens (map tok_of tokens) d.lexed lexed) d.file
 
-  pub no_tree : (fault : Fault) → IsUnparsed expander current (map tok_of tokens) (Contains tokens) old new fault → HasNoTree expander current path src old new fault
+  pub no_tree : (fault : Fault) → IsUnparsed conditions (map tok_of tokens) (Contains tokens) old new fault → HasNoTree conditions path src old new fault
   no_tree (faults.Compile e) h =
       record {
         derives_none = λ tree features d. h.derives_none tree features (derives_tokens tree features d);
@@ -388,7 +409,7 @@ module _ (expander : Answers) (current : VersionNumbers) (path src : List ℕ) (
   no_tree faults.Memory h = tt
   no_tree faults.Numbers h = (record { tokens = map tok_of tokens; lexed = lexed; wants = h.0 }, λ tree features d suffice. h.1 tree features (derives_tokens tree features d) suffice)
 
-  pub text_parsed : (file_depth : ℕ) (import_offsets : List ℕ) (ast : Ast) → IsParsed expander current (map tok_of tokens) (Contains tokens) file_depth import_offsets old new ast → IsParsedText expander current path src file_depth import_offsets old new ast
+  pub text_parsed : (file_depth : ℕ) (import_offsets : List ℕ) (ast : Ast) → IsParsed conditions (map tok_of tokens) (Contains tokens) file_depth import_offsets old new ast → IsParsedText conditions path src file_depth import_offsets old new ast
   text_parsed file_depth import_offsets ast h =
       record {
         derives = record { utf8 = utf8; tokens = map tok_of tokens; lexed = lexed; file = h.derives };
@@ -399,21 +420,21 @@ module _ (expander : Answers) (current : VersionNumbers) (path src : List ℕ) (
           counted = h.filled.counted;
           recipes_counted = h.filled.recipes_counted;
           given =
-              All-weaker (IsGivenItem expander (Contains tokens) file_depth import_offsets) (IsGivenItem expander (IsFrom path src) file_depth import_offsets)
-              (given_weaker expander (Contains tokens) (IsFrom path src) from_tokens file_depth import_offsets) ast.items.items h.filled.given;
+              All-weaker (IsGivenItem conditions.expander (Contains tokens) file_depth import_offsets) (IsGivenItem conditions.expander (IsFrom path src) file_depth import_offsets)
+              (given_weaker conditions.expander (Contains tokens) (IsFrom path src) from_tokens file_depth import_offsets) ast.items.items h.filled.given;
           noted = All-weaker (λ (x : ListFeature × Token). Contains tokens x.1) (λ (x : ListFeature × Token). IsFrom path src x.1) (λ x. from_tokens x.1) ast.list_features.items h.filled.noted;
           stable = h.filled.stable;
         };
       }
 
 -- a text with a fault of lexing has no tree
-pub lexical : (expander : Answers) (current : VersionNumbers) (path src : List ℕ) (numerator : Numerator) (fault : Fault) → IsLexerFault path src fault → HasNoTree expander current path src numerator numerator fault
-lexical expander current path src numerator (faults.Compile e) h =
+pub lexical : (conditions : Conditions) (path src : List ℕ) (numerator : Numerator) (fault : Fault) → IsLexerFault path src fault → HasNoTree conditions path src numerator numerator fault
+lexical conditions path src numerator (faults.Compile e) h =
     record {
       derives_none = λ tree features d. never_both src d.tokens h.fault (tok_of e.token) d.lexed h.is_fault;
       from = h.from;
       not_internal = not_internal src e.kind (tok_of e.token) (let P : LexicalFault → Type 0 = λ f. IsFault src f (tok_of e.token) in subst P (sym h.kind_is) h.is_fault);
       cause = inl (h, refl);
     }
-lexical expander current path src numerator faults.Memory h = tt
-lexical expander current path src numerator faults.Numbers h = absurd h
+lexical conditions path src numerator faults.Memory h = tt
+lexical conditions path src numerator faults.Numbers h = absurd h

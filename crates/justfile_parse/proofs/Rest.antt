@@ -82,10 +82,6 @@ pub file_depth_is : {X : Type 0} (answer : X → List ℕ → Result (List ℕ) 
 unfolding state_of state_at
 file_depth_is answer p = refl
 
-pub depth_is : {X : Type 0} (answer : X → List ℕ → Result (List ℕ) (List ℕ)) (p : Parser X) → (state_of answer p).depth ≡ p.depth
-unfolding state_of state_at
-depth_is answer p = refl
-
 pub import_offsets_are : {X : Type 0} (answer : X → List ℕ → Result (List ℕ) (List ℕ)) (p : Parser X) → (state_of answer p).run.import_offsets ≡ p.import_offsets.now
 unfolding state_of state_at
 import_offsets_are answer p = refl

@@ -16,13 +16,9 @@ use Rattle.justfile_model.specs.Reading.{◌>>=◌, choose}
 use Rattle.justfile_parse.specs.Reader as r
 use Rattle.justfile_parse.specs.Reader.{At, Read, ReadExpr, State, accept, accept_word, assert, braced, condition, enclosed, expect, format_parts, format_string, group, leaves, list, name, note_first, part, part_by, read, single}
 use Rattle.justfile_parse.specs.Tree.{Leaf}
-use Rattle.justfile_model.specs.declared.level.Level.{Level}
 use Rattle.justfile_model.specs.declared.level.Level.TheVariants.{Expression}
 use Rattle.justfile_parse.specs.declared.significant.TableEntry.{TableEntry}
 use Rattle.justfile_model.proofs.ExpressionReading as laws
-
-pub level_is : (k : Level) (c : Bool) (s : State) → read (At k c s) ≡ expressions.at_rule leaves read k c s
-level_is k c s = laws.level_is leaves k c s
 
 pub conditional_is : (w : TableEntry) (s : State) → read (r.Conditional w s) ≡ expressions.conditional_rule leaves read w s
 conditional_is w s = laws.conditional_is leaves w s

@@ -21,17 +21,18 @@ use Rattle.justfile_file.specs.declared.item.Item.{Item}
 use Rattle.justfile_file.specs.declared.item.Item.TheVariants as items
 use Rattle.justfile_file.specs.declared.line.Line.{Line}
 use Rattle.justfile_file.specs.declared.recipe.UnresolvedRecipe.{UnresolvedRecipe}
+use Rattle.justfile_model.specs.Conditions.{Conditions}
 use Rattle.justfile_model.specs.Features.{Noted}
-use Rattle.justfile_model.specs.Files.{NumbersFrom}
+use Rattle.justfile_model.specs.Files.{NumbersFrom, if_both, ordered, ordered_item}
 use Rattle.justfile_model.specs.Reading.{Counters}
 use Rattle.justfile_model.specs.declared.list_feature.ListFeature.{ListFeature}
 use Rattle.justfile_parse.proofs.Shebangs.{shebang_given}
 use Rattle.justfile_model.specs.Literals as literals
-use Rattle.justfile_model.specs.Literals.{Answers, cooked_text, format_text, string_of, token_of}
+use Rattle.justfile_model.specs.Literals.{cooked_text, format_text, string_of, token_of}
 use Rattle.justfile_model.specs.SignificantTokens.{SignificantToken}
 use Rattle.justfile_model.specs.Tok.{Tok, tok_of}
 use Rattle.justfile_model.specs.Tree as tree
-use Rattle.justfile_model.specs.Tree.{BodyLine, Expr, Exprs, Parts, Tree}
+use Rattle.justfile_model.specs.Tree.{BodyLine, Content, Entry, Expr, Exprs, Parts, Written, WrittenItem, WrittenTree, plain_assignment, plain_recipe, starless}
 use Rattle.justfile_model.specs.TreeReader.{token_leaves}
 use Rattle.justfile_model.proofs.Related as a
 use Rattle.justfile_model.proofs.Counters.{count}
@@ -45,11 +46,19 @@ use Rattle.justfile_parse.specs.Significant.{significant_of}
 use Rattle.justfile_parse.specs.Tree.{AssignmentName, RecipeName, Leaf, LiteralText, Assigned, Headed, Named, Literal, Command, Text, assignment_name, fragment_tree, item_tree, line_tree, format_of, literal_of, parts_of_row, recipe_name, tree_of, trees_of_row}
 use Rattle.justfile_parse.specs.declared.significant.TableEntry.{TableEntry}
 
-module _ (expander : Answers) (IsToken : Token → Type 0) (file_depth : ℕ) (import_offsets : List ℕ) where
+-- a reader of a table beside one of significant tokens
+abbrev pub Relates : Type 1
+Relates = Relations Run TableEntry Leaf Token (Unit {0}) (List (Entry Leaf Token)) Conditions SignificantToken Tok Tok Tok (List (Written Tok Tok))
+
+-- an item without attributes means itself
+plain_item : (content : Content Tok Tok ℕ Tok) (ws : List (Written Tok Tok)) → ws ≡ [] → ordered_item (tree.Construct ws content) ≡ Some (tree.Construct [] (starless content))
+plain_item content ws e = ap (λ (k : List (Written Tok Tok)). ordered_item (tree.Construct k content)) e
+
+module _ (conditions : Conditions) (IsToken : Token → Type 0) (file_depth : ℕ) (import_offsets : List ℕ) where
   -- this run
-  pub record IsRun (run : Run) (E : Answers) : Type 0 where
-    pub expander_is : run.expander ≡ E
-    pub same : E ≡ expander
+  pub record IsRun (run : Run) (C : Conditions) : Type 0 where
+    pub conditions_are : run.conditions ≡ C
+    pub same : C ≡ conditions
     pub file_depth_is : run.file_depth ≡ file_depth
     pub import_offsets_are : run.import_offsets ≡ import_offsets
 
@@ -75,14 +84,18 @@ module _ (expander : Answers) (IsToken : Token → Type 0) (file_depth : ℕ) (i
     pub among : IsToken token
     pub lexeme : token_of l ≡ lexeme_of token
     pub text : List ℕ
-    pub cooked : cooked_text expander l ≡ Ok text
+    pub cooked : cooked_text conditions.expander l ≡ Ok text
     pub is : leaf ≡ literal_leaf token l text
     pub tok_is : tok ≡ tok_of token
 
   abbrev in_run : Run
-  in_run = record { expander = expander; table = []; file_depth = file_depth; import_offsets = import_offsets }
+  in_run = record { conditions = conditions; table = []; file_depth = file_depth; import_offsets = import_offsets }
 
-  abbrev pub seen : Relations Run TableEntry Leaf Token Answers SignificantToken Tok Tok
+  -- no attribute stands before either
+  abbrev pub AreNone : List (Entry Leaf Token) → List (Written Tok Tok) → Type 0
+  AreNone entries written = (entries ≡ []) × (written ≡ [])
+
+  abbrev pub seen : Relates
   seen = record {
     run = IsRun;
     token = IsEntry;
@@ -90,6 +103,8 @@ module _ (expander : Answers) (IsToken : Token → Type 0) (file_depth : ℕ) (i
     name = IsLeaf (λ token. Named token None);
     literal = IsLiteralLeaf;
     text = IsLeaf Text;
+    star = λ star tok. Unit {0};
+    attributes = AreNone;
     assignment = λ number. IsLeaf (λ token. assigned in_run token number);
     recipe = λ number leaf body tok lines. IsLeaf (λ token. headed in_run token number body) leaf tok;
   }
@@ -99,33 +114,35 @@ module _ (expander : Answers) (IsToken : Token → Type 0) (file_depth : ℕ) (i
   named : (make : Token → Leaf) (entry : TableEntry) (t : SignificantToken) → IsEntry entry t → IsLeaf make (make entry.token.now) t.tok
   named make entry t h = record { token = entry.token.now; among = h.among; is = refl; tok_is = ap (λ (s : SignificantToken). s.tok) (sym h.is) }
 
-  assigned_is : (run : Run) (E : Answers) → IsRun run E → (token : Token) (number : ℕ) → assigned run token number ≡ assigned in_run token number
-  assigned_is run E h token number = rw h.file_depth_is refl
+  assigned_is : (run : Run) (C : Conditions) → IsRun run C → (token : Token) (number : ℕ) → assigned run token number ≡ assigned in_run token number
+  assigned_is run C h token number = rw h.file_depth_is refl
 
-  headed_is : (run : Run) (E : Answers) → IsRun run E → (token : Token) (number : ℕ) (body : List (BodyLine Leaf Token ℕ)) → headed run token number body ≡ headed in_run token number body
-  headed_is run E h token number body = rw (h.file_depth_is, h.import_offsets_are) refl
+  headed_is : (run : Run) (C : Conditions) → IsRun run C → (token : Token) (number : ℕ) (body : List (BodyLine Leaf Token ℕ)) → headed run token number body ≡ headed in_run token number body
+  headed_is run C h token number body = rw (h.file_depth_is, h.import_offsets_are) refl
 
   pub respects : Respects seen leaves token_leaves
   unfolding leaves
   respects = record {
-    expander = λ run E h. h.expander_is;
+    conditions = λ run C h. h.conditions_are;
     see = λ entry t h. h.is;
     spot = λ entry t h. record { among = h.among; is = ap (λ (s : SignificantToken). s.tok) h.is };
     name = λ entry t h. named (λ token. Named token None) entry t h;
-    literal = λ run E entry t r h l text lexeme cooked. record {
+    literal = λ run C entry t r h l text lexeme cooked. record {
       token = entry.token.now;
       among = h.among;
       lexeme = lexeme;
       text = text;
-      cooked = ap (λ (F : Answers). cooked_text F l) (sym (r.expander_is ∙ r.same)) ∙ cooked;
+      cooked = ap (λ (D : Conditions). cooked_text D.expander l) (sym (r.conditions_are ∙ r.same)) ∙ cooked;
       is = refl;
       tok_is = ap (λ (s : SignificantToken). s.tok) (sym h.is);
     };
     text = λ entry t h. named Text entry t h;
-    assignment = λ run E entry t r h number.
-        subst (λ (leaf : Leaf). IsLeaf (λ token. assigned in_run token number) leaf t.tok) (sym (assigned_is run E r entry.token.now number)) (named (λ token. assigned in_run token number) entry t h);
-    recipe = λ run E entry t r h number body lines same.
-        subst (λ (leaf : Leaf). IsLeaf (λ token. headed in_run token number body) leaf t.tok) (sym (headed_is run E r entry.token.now number body)) (named (λ token. headed in_run token number body) entry t h);
+    star = λ entry t h. tt;
+    no_attributes = (refl, refl);
+    assignment = λ run C entry t r h number.
+        subst (λ (leaf : Leaf). IsLeaf (λ token. assigned in_run token number) leaf t.tok) (sym (assigned_is run C r entry.token.now number)) (named (λ token. assigned in_run token number) entry t h);
+    recipe = λ run C entry t r h number body lines same.
+        subst (λ (leaf : Leaf). IsLeaf (λ token. headed in_run token number body) leaf t.tok) (sym (headed_is run C r entry.token.now number body)) (named (λ token. headed in_run token number body) entry t h);
     has_number = λ n h. refl;
   }
 
@@ -161,12 +178,12 @@ module _ (expander : Answers) (IsToken : Token → Type 0) (file_depth : ℕ) (i
       let x = name_seen (λ t. Named t None) token (Named token number) tok (λ t. refl) refl h in
       (x.0, x.1, ap number_in h.is)
 
-  command_seen : (lexeme : List ℕ) (contents : List ℕ) (token : Token) (tok : Tok) → IsLiteralLeaf (literals.Command lexeme) (Command token contents) tok → IsGivenCommand expander IsToken contents token × (tok ≡ tok_of token)
+  command_seen : (lexeme : List ℕ) (contents : List ℕ) (token : Token) (tok : Tok) → IsLiteralLeaf (literals.Command lexeme) (Command token contents) tok → IsGivenCommand conditions.expander IsToken contents token × (tok ≡ tok_of token)
   command_seen lexeme contents token tok h =
       let same : h.token ≡ token = ap (token_in token) (sym h.is) in
       let text : h.text ≡ contents = ap cooked_in (sym h.is) in
       let asked : lexeme ≡ lexeme_of token = h.lexeme ∙ ap lexeme_of same in (
-        record { among = subst IsToken same h.among; cooked = ap (λ (l : List ℕ). cooked_text expander (literals.Command l)) (sym asked) ∙ h.cooked ∙ ap (λ (t : List ℕ). Ok t) text },
+        record { among = subst IsToken same h.among; cooked = ap (λ (l : List ℕ). cooked_text conditions.expander (literals.Command l)) (sym asked) ∙ h.cooked ∙ ap (λ (t : List ℕ). Ok t) text },
         h.tok_is ∙ ap tok_of same,
       )
 
@@ -185,7 +202,7 @@ module _ (expander : Answers) (IsToken : Token → Type 0) (file_depth : ℕ) (i
   plain_tok : (l : strings.StringLiteral) → l.part ≡ None → literal_tok l ≡ tok_of l.token
   plain_tok l p = rw p refl
 
-  string_seen : (lexeme : List ℕ) (l : strings.StringLiteral) (tok : Tok) → IsLiteralLeaf (string_of l.expand lexeme) (Literal (literal_of l)) tok → IsGivenLiteral expander IsToken l × (tok ≡ literal_tok l)
+  string_seen : (lexeme : List ℕ) (l : strings.StringLiteral) (tok : Tok) → IsLiteralLeaf (string_of l.expand lexeme) (Literal (literal_of l)) tok → IsGivenLiteral conditions.expander IsToken l × (tok ≡ literal_tok l)
   string_seen lexeme l tok h =
       let same : literal_of l ≡ whole l.expand lexeme h.token h.text = ap (text_in (literal_of l)) (h.is ∙ whole_is l.expand lexeme h.token h.text) in
       let token : h.token ≡ l.token = ap (λ (x : LiteralText). x.token) (sym same) in
@@ -194,7 +211,7 @@ module _ (expander : Answers) (IsToken : Token → Type 0) (file_depth : ℕ) (i
       let asked : lexeme ≡ lexeme_of l.token = sym (asks l.expand lexeme) ∙ h.lexeme ∙ ap lexeme_of token in (
         record {
           among = subst IsToken token h.among;
-          cooked = ap (λ (x : List ℕ). cooked_text expander (string_of l.expand x)) (sym asked) ∙ h.cooked ∙ ap (λ (t : List ℕ). Ok t) text;
+          cooked = ap (λ (x : List ℕ). cooked_text conditions.expander (string_of l.expand x)) (sym asked) ∙ h.cooked ∙ ap (λ (t : List ℕ). Ok t) text;
           kind = ap (λ (x : LiteralText). x.kind) same ∙ ap kind_of asked;
           part = part;
         },
@@ -259,21 +276,21 @@ module _ (expander : Answers) (IsToken : Token → Type 0) (file_depth : ℕ) (i
   -- what is read of the tokens is its tree, and it is given what its parts have
   record Seen (e : Expression) (t : Expr Tok Tok) : Type 0 where
     same : t ≡ expr_of e
-    given : IsGivenExpression expander IsToken e
+    given : IsGivenExpression conditions.expander IsToken e
 
   record SeenRow {n : _} (row : Row_of-Expression n) (ts : Exprs Tok Tok) : Type 0 where
     same : ts ≡ exprs_of_row row
-    given : AreGivenExpressions expander IsToken row
+    given : AreGivenExpressions conditions.expander IsToken row
 
   -- a format string with this start
   record SeenFormat (start : strings.StringLiteral) {n : _} (row : Row_of-Expression-FormatString-1-2 n) (t : Expr Tok Tok) : Type 0 where
     same : t ≡ model.format_of (tok_of start.token) row
-    given : IsGivenPart IsToken (kind_of (lexeme_of start.token)) (first_part row) start × AreGivenParts expander IsToken (kind_of (lexeme_of start.token)) row
+    given : IsGivenPart IsToken (kind_of (lexeme_of start.token)) (first_part row) start × AreGivenParts conditions.expander IsToken (kind_of (lexeme_of start.token)) row
 
   -- the parts of a format string from this one on
   record SeenParts (start : List ℕ) (l : strings.StringLiteral) {n : _} (row : Row_of-Expression-FormatString-1-2 n) (ps : Parts Tok Tok) : Type 0 where
     same : ps ≡ model.parts_of_row (part_tok l) row
-    given : IsGivenPart IsToken (kind_of start) (later_part row) l × AreGivenParts expander IsToken (kind_of start) row
+    given : IsGivenPart IsToken (kind_of start) (later_part row) l × AreGivenParts conditions.expander IsToken (kind_of start) row
 
   mutual
     seen_expression : (e : Expression) {t : Expr Tok Tok} → Alike seen (tree_of e) t → Seen e t
@@ -356,7 +373,7 @@ module _ (expander : Answers) (IsToken : Token → Type 0) (file_depth : ℕ) (i
         let x = start_seen lexeme start tok h in
         let y = seen_expression e c in
         let z = seen_parts lexeme literal others ps in
-        let P : List ℕ → Type 0 = λ k. IsGivenPart IsToken (kind_of k) (later_part others) literal × AreGivenParts expander IsToken (kind_of k) others in
+        let P : List ℕ → Type 0 = λ k. IsGivenPart IsToken (kind_of k) (later_part others) literal × AreGivenParts conditions.expander IsToken (kind_of k) others in
         let w = subst P x.2 z.given in
         record { same = λ i. tree.FormatString (x.1 i) (y.same i) (z.same i); given = (x.0, (y.given, w.0, w.1)) }
 
@@ -370,13 +387,9 @@ module _ (expander : Answers) (IsToken : Token → Type 0) (file_depth : ℕ) (i
         let z = seen_parts start literal others ps in
         record { same = λ i. tree.Continue (x.1 i) (y.same i) (z.same i); given = (x.0, (y.given, z.given.0, z.given.1)) }
 
-  -- what an expression of these tokens derives
-  pub expression_seen : (e : Expression) {t : Expr Tok Tok} → Alike seen (tree_of e) t → (t ≡ expr_of e) × IsGivenExpression expander IsToken e
-  expression_seen e h = let x = seen_expression e h in (x.same, x.given)
-
   -- ---- bodies
 
-  fragment_seen : (f : Fragment) (t : tree.Fragment Tok Tok) → AlikeFragment seen (fragment_tree f) t → (t ≡ fragment_of f) × IsGivenFragment expander IsToken f
+  fragment_seen : (f : Fragment) (t : tree.Fragment Tok Tok) → AlikeFragment seen (fragment_tree f) t → (t ≡ fragment_of f) × IsGivenFragment conditions.expander IsToken f
   fragment_seen (fragments.Interpolation e) t (a.a_value h) = let x = seen_expression e h in (ap (λ (k : Expr Tok Tok). tree.Interpolation k) x.same, x.given)
   fragment_seen (fragments.Text token) t (a.a_text {a' = tok} h) =
       let x = name_seen Text token (Text token) tok (λ t. refl) refl h in
@@ -390,9 +403,9 @@ module _ (expander : Answers) (IsToken : Token → Type 0) (file_depth : ℕ) (i
       let y = all_seen view model_view IsGood one zs hs in
       ((λ i. x.0 i ∷ y.0 i), All-cons IsGood z zs x.1 y.1)
 
-  line_seen : (l : Line) (t : BodyLine Tok Tok ℕ) → AlikeLine seen (line_tree l) t → (t ≡ line_of l) × IsGivenLine expander IsToken l
+  line_seen : (l : Line) (t : BodyLine Tok Tok ℕ) → AlikeLine seen (line_tree l) t → (t ≡ line_of l) × IsGivenLine conditions.expander IsToken l
   line_seen l t (a.line hs) =
-      let x = all_seen fragment_tree fragment_of (IsGivenFragment expander IsToken) fragment_seen l.fragments.items hs in
+      let x = all_seen fragment_tree fragment_of (IsGivenFragment conditions.expander IsToken) fragment_seen l.fragments.items hs in
       (ap (λ (fs : List (tree.Fragment Tok Tok)). tree.Line l.number fs) x.0, x.1)
 
   -- ---- items
@@ -406,20 +419,23 @@ module _ (expander : Answers) (IsToken : Token → Type 0) (file_depth : ℕ) (i
   headed_in other _ = other
 
   -- an item, where the counters stand before it
-  record SeenItem (n : Counters) (i : Item) (t : tree.Item Tok Tok ℕ) : Type 0 where
-    same : t ≡ item_of i
-    given : IsGivenItem expander IsToken file_depth import_offsets i
+  record SeenItem (n : Counters) (i : Item) (t : WrittenItem Tok Tok ℕ Tok) : Type 0 where
+    same : ordered_item t ≡ Some (item_of i)
+    given : IsGivenItem conditions.expander IsToken file_depth import_offsets i
     numbers : (more : List ℕ) → NumbersFrom (count n (item_tree i)).bindings more → NumbersFrom n.bindings (item_numbers i ++ more)
     recipe_numbers : (more : List ℕ) → NumbersFrom (count n (item_tree i)).recipes more → NumbersFrom n.recipes (item_recipe_numbers i ++ more)
 
-  assignment_seen : (n : Counters) (b : Binding Expression) {t : Tok} {e : Expr Tok Tok} → IsLeaf (λ token. assigned in_run token n.bindings) (Assigned (assignment_name b)) t → Alike seen (tree_of b.value) e → SeenItem n (items.Assignment b) (tree.Assignment t e)
-  assignment_seen n b h v =
+  assignment_seen : (n : Counters) (b : Binding Expression) {ws : List (Written Tok Tok)} {t : Tok} {e : Expr Tok Tok} → ws ≡ [] → IsLeaf (λ token. assigned in_run token n.bindings) (Assigned (assignment_name b)) t → Alike seen (tree_of b.value) e
+      → SeenItem n (items.Assignment b) (tree.Construct ws (tree.Assignment (plain_assignment t e)))
+  assignment_seen n b {ws} {t} {e} none h v =
       let same : assignment_name b ≡ assigned_in (assignment_name b) (assigned in_run h.token n.bindings) = ap (assigned_in (assignment_name b)) h.is in
       let token : h.token ≡ b.name.token = ap (λ (x : AssignmentName). x.name) (sym same) in
       let number : b.number.0 ≡ n.bindings = ap (λ (x : AssignmentName). x.number.0) same in
       let x = seen_expression b.value v in
       record {
-        same = λ i. tree.Assignment ((h.tok_is ∙ ap tok_of token) i) (x.same i);
+        same =
+            plain_item (tree.Assignment (plain_assignment t e)) ws none
+            ∙ (λ i. Some (tree.Construct [] (tree.Assignment (plain_assignment ((h.tok_is ∙ ap tok_of token) i) (x.same i)))));
         given = record {
           among = subst IsToken token h.among;
           file_depth_is = ap (λ (x : AssignmentName). x.file_depth) same;
@@ -431,15 +447,17 @@ module _ (expander : Answers) (IsToken : Token → Type 0) (file_depth : ℕ) (i
         recipe_numbers = λ more h. h;
       }
 
-  recipe_seen : (n : Counters) (r : UnresolvedRecipe) {t : Tok} {body : List (BodyLine Tok Tok ℕ)} → IsLeaf (λ token. headed in_run token n.recipes (map line_tree r.body.items)) (Headed (recipe_name r)) t → Each (AlikeLine seen) (map line_tree r.body.items) body
-      → SeenItem n (items.Recipe r) (tree.Recipe t body)
-  recipe_seen n r h ls =
+  recipe_seen : (n : Counters) (r : UnresolvedRecipe) {ws : List (Written Tok Tok)} {t : Tok} {body : List (BodyLine Tok Tok ℕ)} → ws ≡ [] → IsLeaf (λ token. headed in_run token n.recipes (map line_tree r.body.items)) (Headed (recipe_name r)) t → Each (AlikeLine seen) (map line_tree r.body.items) body
+      → SeenItem n (items.Recipe r) (tree.Construct ws (tree.Recipe (plain_recipe t body)))
+  recipe_seen n r {ws} {t} {body} none h ls =
       let same : recipe_name r ≡ headed_in (recipe_name r) (headed in_run h.token n.recipes (map line_tree r.body.items)) = ap (headed_in (recipe_name r)) h.is in
       let token : h.token ≡ r.name.token = ap (λ (x : RecipeName). x.name) (sym same) in
       let number : r.number.0 ≡ n.recipes = ap (λ (x : RecipeName). x.number.0) same in
-      let x = all_seen line_tree line_of (IsGivenLine expander IsToken) line_seen r.body.items ls in
+      let x = all_seen line_tree line_of (IsGivenLine conditions.expander IsToken) line_seen r.body.items ls in
       record {
-        same = λ i. tree.Recipe ((h.tok_is ∙ ap tok_of token) i) (x.0 i);
+        same =
+            plain_item (tree.Recipe (plain_recipe t body)) ws none
+            ∙ (λ i. Some (tree.Construct [] (tree.Recipe (plain_recipe ((h.tok_is ∙ ap tok_of token) i) (x.0 i)))));
         given = record {
           among = subst IsToken token h.among;
           body = x.1;
@@ -452,27 +470,27 @@ module _ (expander : Answers) (IsToken : Token → Type 0) (file_depth : ℕ) (i
         recipe_numbers = λ more h. (number, h);
       }
 
-  item_seen : (n : Counters) (i : Item) {t : tree.Item Tok Tok ℕ} → AlikeItem seen n (item_tree i) t → SeenItem n i t
-  item_seen n (items.Assignment b) (a.assignment h v) = assignment_seen n b h v
+  item_seen : (n : Counters) (i : Item) {t : WrittenItem Tok Tok ℕ Tok} → AlikeItem seen n (item_tree i) t → SeenItem n i t
+  item_seen n (items.Assignment b) (a.assignment none h v) = assignment_seen n b none.1 h v
   item_seen n (items.Comment text) a.comment = record { same = refl; given = tt; numbers = λ more h. h; recipe_numbers = λ more h. h }
   item_seen n items.Newline a.newline = record { same = refl; given = tt; numbers = λ more h. h; recipe_numbers = λ more h. h }
-  item_seen n (items.Recipe r) (a.recipe h ls) = recipe_seen n r h ls
+  item_seen n (items.Recipe r) (a.recipe none h ls) = recipe_seen n r none.1 h ls
 
   -- items, where the counters stand before the first
-  pub record SeenItems (n : Counters) (is : List Item) (ts : Tree) : Type 0 where
-    pub same : ts ≡ map item_of is
-    pub given : All (IsGivenItem expander IsToken file_depth import_offsets) is
+  pub record SeenItems (n : Counters) (is : List Item) (ts : WrittenTree) : Type 0 where
+    pub same : ordered ts ≡ Some (map item_of is)
+    pub given : All (IsGivenItem conditions.expander IsToken file_depth import_offsets) is
     pub numbered : NumbersFrom n.bindings (flat_map item_numbers is)
     pub recipes_numbered : NumbersFrom n.recipes (flat_map item_recipe_numbers is)
 
-  pub items_seen : (n : Counters) (is : List Item) {ts : Tree} → AlikeItems seen n (map item_tree is) ts → SeenItems n is ts
-  items_seen n [] a.no_item = record { same = refl; given = All-nil (IsGivenItem expander IsToken file_depth import_offsets); numbered = tt; recipes_numbered = tt }
+  pub items_seen : (n : Counters) (is : List Item) {ts : WrittenTree} → AlikeItems seen n (map item_tree is) ts → SeenItems n is ts
+  items_seen n [] a.no_item = record { same = refl; given = All-nil (IsGivenItem conditions.expander IsToken file_depth import_offsets); numbered = tt; recipes_numbered = tt }
   items_seen n (i ∷ is) (a.an_item h hs) =
       let x = item_seen n i h in
       let y = items_seen (count n (item_tree i)) is hs in
       record {
-        same = λ j. x.same j ∷ y.same j;
-        given = All-cons (IsGivenItem expander IsToken file_depth import_offsets) i is x.given y.given;
+        same = λ j. if_both (x.same j) (y.same j);
+        given = All-cons (IsGivenItem conditions.expander IsToken file_depth import_offsets) i is x.given y.given;
         numbered = x.numbers (flat_map item_numbers is) y.numbered;
         recipes_numbered = x.recipe_numbers (flat_map item_recipe_numbers is) y.recipes_numbered;
       }

@@ -35,9 +35,6 @@ module _ {A B C : Type 0} where
 pub record IsTrimmedTo (old new : List lines.Line) : Type 0 where
   pub alike : trimmed (map line_tree new) ≡ trimmed (map line_tree old)
 
-pub trim_begins : (all : List lines.Line) → IsTrimmedTo all all
-trim_begins all = record { alike = refl }
-
 empty_line : (l : lines.Line) → l.fragments.items ≡ [] → line_tree l ≡ Line l.number []
 empty_line l e = ap (λ (fs : List Fragment). Line l.number (map fragment_tree fs)) e
 

@@ -12,17 +12,16 @@ use Rattle.justfile_base.specs.declared.token.Token.{Token}
 use Rattle.justfile_file.specs.Item.{item_of}
 use Rattle.justfile_file.specs.declared.item.Item.{Item}
 use Rattle.justfile_file.specs.declared.item.Item.TheVariants as items
+use Rattle.justfile_model.specs.Conditions.{Conditions}
 use Rattle.justfile_model.specs.Expressions.{front}
 use Rattle.justfile_model.specs.Features.{Noted}
 use Rattle.justfile_model.specs.Files.{NumbersSuffice, bindings, recipes}
-use Rattle.justfile_model.specs.Literals.{Answers}
 use Rattle.justfile_model.specs.Reader as files
 use Rattle.justfile_model.specs.Reading as reading
 use Rattle.justfile_model.specs.Reading.{Counters, NoNumber}
 use Rattle.justfile_model.specs.SignificantTokens.{SignificantToken}
 use Rattle.justfile_model.specs.Tok.{Tok, tok_of}
-use Rattle.justfile_model.specs.Tree as tree
-use Rattle.justfile_model.specs.Tree.{Tree}
+use Rattle.justfile_model.specs.Tree.{OrderedItem, WrittenTree}
 use Rattle.justfile_model.specs.TreeReader as model
 use Rattle.justfile_model.specs.TreeReader.{start, token_leaves}
 use Rattle.justfile_model.specs.declared.list_feature.ListFeature.{ListFeature}
@@ -48,7 +47,7 @@ use Rattle.justfile_parse.specs.declared.stop.Stop.{Stop}
 use Rattle.justfile_parse.specs.declared.stop.Stop.TheVariants as stops
 use Rattle.justfile_parse.proofs.Cooked.{kind_is_due}
 use Rattle.justfile_parse.proofs.Rest.{in_table}
-use Rattle.justfile_parse.proofs.Seen.{IsEntry, items_seen, noted_seen, respects, seen}
+use Rattle.justfile_parse.proofs.Seen.{IsEntry, Relates, items_seen, noted_seen, respects, seen}
 
 -- a tree holds as many bindings and recipes whatever stands at its leaves
 same_bindings : (is : List Item) → bindings (map item_tree is) ≡ bindings (map item_of is)
@@ -65,46 +64,46 @@ same_recipes (items.Comment text ∷ is) = ap (λ (n : ℕ). 0 + n) (same_recipe
 same_recipes (items.Newline ∷ is) = ap (λ (n : ℕ). 0 + n) (same_recipes is)
 same_recipes (items.Recipe r ∷ is) = ap (λ (n : ℕ). 1 + n) (same_recipes is)
 
-module _ (expander : Answers) (table : List TableEntry) (file_depth : ℕ) (import_offsets : List ℕ) where
+module _ (conditions : Conditions) (table : List TableEntry) (file_depth : ℕ) (import_offsets : List ℕ) where
   abbrev tokens : List SignificantToken
   tokens = map significant_of table
 
-  abbrev rel : a.Relations Run TableEntry Leaf Token Answers SignificantToken Tok Tok
-  rel = seen expander (IsInTable table) file_depth import_offsets
+  abbrev rel : Relates
+  rel = seen conditions (IsInTable table) file_depth import_offsets
 
   abbrev pub begin : State
-  begin = record { run = record { expander = expander; table = table; file_depth = file_depth; import_offsets = import_offsets }; depth = 0; left = table; noted = [] }
+  begin = record { run = record { conditions = conditions; table = table; file_depth = file_depth; import_offsets = import_offsets }; depth = 0; left = table; noted = [] }
 
-  each_entry : (es : List TableEntry) → All (λ (e : TableEntry). IsInTable table e.token.now) es → Each (IsEntry expander (IsInTable table) file_depth import_offsets) es (map significant_of es)
+  each_entry : (es : List TableEntry) → All (λ (e : TableEntry). IsInTable table e.token.now) es → Each (IsEntry conditions (IsInTable table) file_depth import_offsets) es (map significant_of es)
   each_entry [] h = a.nil
   each_entry (e ∷ es) h =
       let P : TableEntry → Type 0 = λ (e : TableEntry). IsInTable table e.token.now in
       a.cons (record { among = All-head P e es h; is = refl }) (each_entry es (All-tail P e es h))
 
-  begin_alike : States rel begin (start expander tokens)
-  begin_alike = record { run = record { expander_is = refl; same = refl; file_depth_is = refl; import_offsets_are = refl }; depth = refl; left = each_entry table (λ k d h. in_table table k d h); noted = a.nil }
+  begin_alike : States rel begin (start conditions tokens)
+  begin_alike = record { run = record { conditions_are = refl; same = refl; file_depth_is = refl; import_offsets_are = refl }; depth = refl; left = each_entry table (λ k d h. in_table table k d h); noted = a.nil }
 
   module _ (n : Counters) where
     abbrev Found : Type 0
-    Found = model.Read (Tree × Counters)
+    Found = model.Read (WrittenTree × Counters)
 
     abbrev there : Found
-    there = files.file token_leaves n (start expander tokens)
+    there = files.file token_leaves n (start conditions tokens)
 
-    abbrev Q : List (tree.Item Leaf Token ℕ) × Counters → Tree × Counters → Type 0
-    Q = natural.AllNumbered rel leaves token_leaves (respects expander (IsInTable table) file_depth import_offsets) n
+    abbrev Q : List (OrderedItem Leaf Token ℕ) × Counters → WrittenTree × Counters → Type 0
+    Q = natural.AllNumbered rel leaves token_leaves (respects conditions (IsInTable table) file_depth import_offsets) n
 
     abbrev Short : Counters → Found → Type 0
-    Short = natural.NoFile rel leaves token_leaves (respects expander (IsInTable table) file_depth import_offsets) n (files.after_mark token_leaves (start expander tokens))
+    Short = natural.NoFile rel leaves token_leaves (respects conditions (IsInTable table) file_depth import_offsets) n (files.after_mark token_leaves (start conditions tokens))
 
     related : Related rel Q Short (reader.file n begin) there
-    related = natural.file_natural rel leaves token_leaves (respects expander (IsInTable table) file_depth import_offsets) n begin (start expander tokens) begin_alike
+    related = natural.file_natural rel leaves token_leaves (respects conditions (IsInTable table) file_depth import_offsets) n begin (start conditions tokens) begin_alike
 
     abbrev Pair : Type 0
-    Pair = (List (tree.Item Leaf Token ℕ) × Counters) × State
+    Pair = (List (OrderedItem Leaf Token ℕ) × Counters) × State
 
     -- both read
-    got : (found : ReadItems) (found' : Found) → Related rel Q Short found found' → (x : Pair) → found ≡ Ok x → (y : (Tree × Counters) × model.State) × (found' ≡ Ok y) × Q x.0 y.0 × States rel x.1 y.1
+    got : (found : ReadItems) (found' : Found) → Related rel Q Short found found' → (x : Pair) → found ≡ Ok x → (y : (WrittenTree × Counters) × model.State) × (found' ≡ Ok y) × Q x.0 y.0 × States rel x.1 y.1
     got found found' (a.both {x = z} {y = y} q k) x is =
         let same : z ≡ x = inside z x is in
         (y, refl, subst (λ (w : Pair). Q w.0 y.0) same q, subst (λ (w : Pair). States rel w.1 y.1) same k)
@@ -145,15 +144,17 @@ module _ (expander : Answers) (table : List TableEntry) (file_depth : ℕ) (impo
   -- ---- a file that is read
 
   pub read_of : (old new : Numerator) (is : List Item) (features : List (ListFeature × Token)) (s : State) → reader.file (counters_of old) begin ≡ Ok ((map item_tree is, counters_of new), s) → s.noted ≡ features
-      → IsRead expander table file_depth import_offsets tokens old new (is, features)
+      → IsRead conditions table file_depth import_offsets tokens old new (is, features)
   read_of old new is features s found noted =
       let n = counters_of old in
       let g = got n (reader.file n begin) (there n) (related n) ((map item_tree is, counters_of new), s) found in
-      let x = items_seen expander (IsInTable table) file_depth import_offsets n is g.2.0 in
-      let f = noted_seen expander (IsInTable table) file_depth import_offsets features (subst (λ (fs : List (ListFeature × Token)). Each (a.AlikeNoted rel) fs g.0.1.noted) noted g.3.noted) in
+      let x = items_seen conditions (IsInTable table) file_depth import_offsets n is g.2.0 in
+      let f = noted_seen conditions (IsInTable table) file_depth import_offsets features (subst (λ (fs : List (ListFeature × Token)). Each (a.AlikeNoted rel) fs g.0.1.noted) noted g.3.noted) in
       let counts : counters_of new ≡ counted n (map item_tree is) = g.2.2 in
       record {
-        read = sym (file_by n expander tokens) ∙ ap (λ (r : Found n). whole r) g.1 ∙ (λ i. Ok (x.same i, f.0 i));
+        written = g.0.0.0;
+        read = sym (file_by n conditions tokens) ∙ ap (λ (r : Found n). whole r) g.1 ∙ (λ i. Ok (g.0.0.0, f.0 i));
+        ordered_is = x.same;
         given = record {
           given = x.given;
           numbered = x.numbered;
@@ -191,7 +192,7 @@ module _ (expander : Answers) (table : List TableEntry) (file_depth : ℕ) (impo
   -- ---- a number that is wanting
 
   abbrev agree : a.Respects rel leaves token_leaves
-  agree = respects expander (IsInTable table) file_depth import_offsets
+  agree = respects conditions (IsInTable table) file_depth import_offsets
 
   last : (b : ℕ) → leaves.has_number b ≡ false → b ≡ 2 ^ 32 - 1
   unfolding leaves
@@ -206,20 +207,20 @@ module _ (expander : Answers) (table : List TableEntry) (file_depth : ℕ) (impo
   lines_of (natural.later is wants) = let x = lines_of wants in (x.0, more is x.1, x.2)
 
   module _ (old new : Numerator) where
-    wants_of : natural.Wants rel leaves token_leaves agree (counters_of old) (files.after_mark token_leaves (start expander tokens)) (counters_of new) → WantsNumber expander tokens old new
+    wants_of : natural.Wants rel leaves token_leaves agree (counters_of old) (files.after_mark token_leaves (start conditions tokens)) (counters_of new) → WantsNumber conditions tokens old new
     wants_of wants = let x = lines_of wants in record { left = x.0; lines = x.1; lacks = lacks_of new x.0 x.2 }
 
-    whole_of : (found : Found (counters_of old)) (t : Tree) (fs : List (Noted Tok)) → whole found ≡ Ok (t, fs) → (y : (Tree × Counters) × model.State) × (found ≡ Ok y) × (y.0.0 ≡ t)
-    whole_of (Ok y) t fs is = (y, refl, ap (λ (p : Tree × List (Noted Tok)). p.0) (inside (y.0.0, y.1.noted) (t, fs) is))
+    whole_of : (found : Found (counters_of old)) (t : WrittenTree) (fs : List (Noted Tok)) → whole found ≡ Ok (t, fs) → (y : (WrittenTree × Counters) × model.State) × (found ≡ Ok y) × (y.0.0 ≡ t)
+    whole_of (Ok y) t fs is = (y, refl, ap (λ (p : WrittenTree × List (Noted Tok)). p.0) (inside (y.0.0, y.1.noted) (t, fs) is))
       where
-        inside : (p q : Tree × List (Noted Tok)) → ◌≡◌ {A = Result (Tree × List (Noted Tok)) model.Refusal} (Ok p) (Ok q) → p ≡ q
+        inside : (p q : WrittenTree × List (Noted Tok)) → ◌≡◌ {A = Result (WrittenTree × List (Noted Tok)) model.Refusal} (Ok p) (Ok q) → p ≡ q
         inside p q e = cc
     whole_of (Err e) t fs is = absurd (never e (t, fs) is)
       where
-        never : (e : model.Refusal) (p : Tree × List (Noted Tok)) → ◌≡◌ {A = Result (Tree × List (Noted Tok)) model.Refusal} (Err e) (Ok p) → ⊥
+        never : (e : model.Refusal) (p : WrittenTree × List (Noted Tok)) → ◌≡◌ {A = Result (WrittenTree × List (Noted Tok)) model.Refusal} (Err e) (Ok p) → ⊥
         never e p is = cc
 
-    exceeded : (y : (Tree × Counters) × model.State) (t : Tree) → y.0.0 ≡ t → y.0.1 ≡ counted (counters_of old) y.0.0 → natural.Exceeds rel leaves token_leaves agree (counters_of new) y.0.1 → NumbersSuffice (bindings_of old) (recipes_of old) t → ⊥
+    exceeded : (y : (WrittenTree × Counters) × model.State) (t : WrittenTree) → y.0.0 ≡ t → y.0.1 ≡ counted (counters_of old) y.0.0 → natural.Exceeds rel leaves token_leaves agree (counters_of new) y.0.1 → NumbersSuffice (bindings_of old) (recipes_of old) t → ⊥
     exceeded y t same counts (natural.bindings_end is less) enough =
         omega (
           arith,
@@ -227,7 +228,7 @@ module _ (expander : Answers) (table : List TableEntry) (file_depth : ℕ) (impo
           less,
           ap (λ (c : Counters). c.bindings) counts,
           counted_bindings (counters_of old) y.0.0,
-          ap (λ (t : Tree). bindings t) same,
+          ap (λ (t : WrittenTree). bindings t) same,
           enough.bindings_suffice,
         )
     exceeded y t same counts (natural.recipes_end is less) enough =
@@ -237,18 +238,18 @@ module _ (expander : Answers) (table : List TableEntry) (file_depth : ℕ) (impo
           less,
           ap (λ (c : Counters). c.recipes) counts,
           counted_recipes (counters_of old) y.0.0,
-          ap (λ (t : Tree). recipes t) same,
+          ap (λ (t : WrittenTree). recipes t) same,
           enough.recipes_suffice,
         )
 
     -- no tree has numbers enough
-    never_of : natural.AllExceed rel leaves token_leaves agree (counters_of new) (there (counters_of old)) → (t : Tree) (fs : List (Noted Tok)) → model.file expander tokens ≡ Ok (t, fs) → NumbersSuffice (bindings_of old) (recipes_of old) t → ⊥
+    never_of : natural.AllExceed rel leaves token_leaves agree (counters_of new) (there (counters_of old)) → (t : WrittenTree) (fs : List (Noted Tok)) → model.file conditions tokens ≡ Ok (t, fs) → NumbersSuffice (bindings_of old) (recipes_of old) t → ⊥
     unfolding files.file
     never_of exceeds t fs is enough =
         let n = counters_of old in
-        let x = whole_of (there n) t fs (file_by n expander tokens ∙ is) in
-        let counts = known x.0 (λ (y : (Tree × Counters) × model.State). y.0.1 ≡ counted n y.0.0) x.1 (items_count token_leaves n (files.after_mark token_leaves (start expander tokens))) in
-        let over = known x.0 (λ (y : (Tree × Counters) × model.State). natural.Exceeds rel leaves token_leaves agree (counters_of new) y.0.1) x.1 exceeds in
+        let x = whole_of (there n) t fs (file_by n conditions tokens ∙ is) in
+        let counts = known x.0 (λ (y : (WrittenTree × Counters) × model.State). y.0.1 ≡ counted n y.0.0) x.1 (items_count token_leaves n (files.after_mark token_leaves (start conditions tokens))) in
+        let over = known x.0 (λ (y : (WrittenTree × Counters) × model.State). natural.Exceeds rel leaves token_leaves agree (counters_of new) y.0.1) x.1 exceeds in
         exceeded x.0 t x.2 counts over enough
 
     same_counters : (m : Counters) → ◌≡◌ {A = reader.Refusal} (NoNumber (counters_of new)) (NoNumber m) → m ≡ counters_of new
@@ -258,27 +259,27 @@ module _ (expander : Answers) (table : List TableEntry) (file_depth : ℕ) (impo
     no_refusal e' h = elim h [ ]
 
     wanting_of : Lost (counters_of old) (NoNumber (counters_of new)) (there (counters_of old))
-        → WantsNumber expander tokens old new × ((t : Tree) (fs : List (Noted Tok)) → model.file expander tokens ≡ Ok (t, fs) → NumbersSuffice (bindings_of old) (recipes_of old) t → ⊥)
+        → WantsNumber conditions tokens old new × ((t : WrittenTree) (fs : List (Noted Tok)) → model.file conditions tokens ≡ Ok (t, fs) → NumbersSuffice (bindings_of old) (recipes_of old) t → ⊥)
     wanting_of (refused e' is h) = absurd (no_refusal e' h)
     wanting_of (wanting m is short) =
         let k = subst (λ (c : Counters). Short (counters_of old) c (there (counters_of old))) (same_counters m is) short in
         (wants_of k.0, never_of k.1)
 
-    refused_of : (r : Refusal) (s : State) (e : CompileError) → Lost (counters_of old) (refusal_at r s) (there (counters_of old)) → IsKindAt r e.kind e.token → IsPlace table (front s.left) e.token → IsUnread expander tokens (IsInTable table) old new (faults.Compile e)
+    refused_of : (r : Refusal) (s : State) (e : CompileError) → Lost (counters_of old) (refusal_at r s) (there (counters_of old)) → IsKindAt r e.kind e.token → IsPlace table (front s.left) e.token → IsUnread conditions tokens (IsInTable table) old new (faults.Compile e)
     refused_of r s e (refused e' is h) kind at =
         let x = error_at r s e e' h kind at in
-        record { refusal = e'; read = sym (file_by (counters_of old) expander tokens) ∙ ap (λ (r : Found (counters_of old)). whole r) is; error = x.0; among = x.1 }
+        record { refusal = e'; read = sym (file_by (counters_of old) conditions tokens) ∙ ap (λ (r : Found (counters_of old)). whole r) is; error = x.0; among = x.1 }
     refused_of r s e (wanting m is short) kind at = absurd (no_number r s m is)
 
-    literal_of : (l : LiteralRefusal) (e : CompileError) → Lost (counters_of old) (literal_refusal l.error) (there (counters_of old)) → e ≡ l.error → IsUnread expander tokens (IsInTable table) old new (faults.Compile e)
+    literal_of : (l : LiteralRefusal) (e : CompileError) → Lost (counters_of old) (literal_refusal l.error) (there (counters_of old)) → e ≡ l.error → IsUnread conditions tokens (IsInTable table) old new (faults.Compile e)
     literal_of l e (refused e' is h) same =
         let x = literal_at l e' h in
-        subst (λ (k : CompileError). IsUnread expander tokens (IsInTable table) old new (faults.Compile k)) (sym same)
-        (record { refusal = e'; read = sym (file_by (counters_of old) expander tokens) ∙ ap (λ (r : Found (counters_of old)). whole r) is; error = x.0; among = x.1 })
+        subst (λ (k : CompileError). IsUnread conditions tokens (IsInTable table) old new (faults.Compile k)) (sym same)
+        (record { refusal = e'; read = sym (file_by (counters_of old) conditions tokens) ∙ ap (λ (r : Found (counters_of old)). whole r) is; error = x.0; among = x.1 })
     literal_of l e (wanting m is short) same = absurd (no_literal l m is)
 
     pub unread_of : (s : State) (stop : Stop) (fault : Fault) → StopsAt stop s (reader.file (counters_of old) begin ≡ Err (NoNumber (counters_of new))) (reader.file (counters_of old) begin) → IsFaultOf table (front s.left) stop fault
-        → IsUnread expander tokens (IsInTable table) old new fault
+        → IsUnread conditions tokens (IsInTable table) old new fault
     unread_of s (stops.Refused r) (faults.Compile e) h is = refused_of r s e (file_lost (counters_of old) (refusal_at r s) h) is.0 is.1
     unread_of s (stops.Refused r) faults.Memory h is = absurd is
     unread_of s (stops.Refused r) faults.Numbers h is = absurd is

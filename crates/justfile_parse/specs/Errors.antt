@@ -5,16 +5,16 @@ use Rattle.justfile_base.specs.declared.compile_error_kind.CompileErrorKind.{Com
 use Rattle.justfile_base.specs.declared.compile_error_kind.CompileErrorKind.TheVariants as kinds
 use Rattle.justfile_base.specs.declared.token.Token.{Token}
 use Rattle.justfile_cook.specs.Literal.{IsKindOf}
+use Rattle.justfile_model.specs.Conditions.{Conditions}
 use Rattle.justfile_model.specs.Expressions.{Waived}
 use Rattle.justfile_model.specs.Features.{Noted}
-use Rattle.justfile_model.specs.Files.{FileTree, literals}
+use Rattle.justfile_model.specs.Files.{FileTree, keeps_tokens}
 use Rattle.justfile_model.specs.Grammar.{File}
-use Rattle.justfile_model.specs.Literals.{Answers}
 use Rattle.justfile_model.specs.Reading as reading
 use Rattle.justfile_model.specs.Refusals.{IsDue}
 use Rattle.justfile_model.specs.SignificantTokens.{SignificantToken}
 use Rattle.justfile_model.specs.Tok.{Tok, tok_of}
-use Rattle.justfile_model.specs.Tree.{Tree, itself, line_of}
+use Rattle.justfile_model.specs.Tree.{WrittenTree}
 use Rattle.justfile_model.specs.TreeReader.{Refusal, file}
 
 -- the token is this one, or the last of the tokens where there is none
@@ -27,20 +27,22 @@ abbrev pub IsUnexpected : CompileErrorKind → Token → Type 0
 IsUnexpected (kinds.UnexpectedToken expected found) token = found ≡ token.kind
 IsUnexpected _ token = ⊥
 
--- the error has the kind and the place of a refusal of these tokens, which are never refused for want of a number
+-- The error has the kind and the place of a refusal of these tokens. They are never refused because a number is wanting, nor so far because a
+-- rule is broken: there is none.
 abbrev pub IsErrorOf : List SignificantToken → Refusal → CompileError → Type 0
 IsErrorOf tokens (reading.Unexpected at) e = IsUnexpected e.kind e.token × IsAt tokens at e.token
 IsErrorOf tokens (reading.TooDeep at) e = (e.kind ≡ kinds.ParsingRecursionDepthExceeded) × IsAt tokens at e.token
 IsErrorOf tokens (reading.NotCooked fault t) e = IsKindOf fault e.kind × (tok_of e.token ≡ t)
+IsErrorOf tokens (reading.BreaksRule rule) e = ⊥
 IsErrorOf tokens (reading.NoNumber counters) e = ⊥
 
 -- The error is that of the refusal of the tokens. Where the grammar alone has a tree of them, that is the refusal of the first of its
--- literals that has no text, or too many expressions are open at a token; and then, where all expressions that are entered at the limit
--- begin at some tokens, at one of these.
-pub record IsRefused (expander : Answers) (tokens : List SignificantToken) (e : CompileError) : Type 0 where
+-- literals that has no text, or of a rule that it breaks, or too many expressions are open at a token; and then, where all expressions that
+-- are entered at the limit begin at some tokens, at one of these.
+pub record IsRefused (conditions : Conditions) (tokens : List SignificantToken) (e : CompileError) : Type 0 where
   pub refusal : Refusal
-  pub read : file expander tokens ≡ Err refusal
+  pub read : file conditions tokens ≡ Err refusal
   pub error : IsErrorOf tokens refusal e
-  pub breaks : (tree : Tree) (features : List (Noted Tok)) → FileTree tokens tree features → IsDue expander (λ at. Unit {0}) (literals tree) refusal
-  pub breaks_at : (tree : Tree) (features : List (Noted Tok)) (Hit : Option SignificantToken → Bool)
-      → File itself itself line_of (Waived (λ at. IsTrue (Hit at))) tree features tokens → IsDue expander (λ at. IsTrue (Hit at)) (literals tree) refusal
+  pub breaks : (written : WrittenTree) (features : List (Noted Tok)) → FileTree tokens written features → IsDue conditions (λ at. Unit {0}) written refusal
+  pub breaks_at : (written : WrittenTree) (features : List (Noted Tok)) (Hit : Option SignificantToken → Bool)
+      → File keeps_tokens (Waived conditions.limit (λ at. IsTrue (Hit at))) written features tokens → IsDue conditions (λ at. IsTrue (Hit at)) written refusal

@@ -1,18 +1,21 @@
 -- With which delimiter a format string ends.
-use Rattle.std.specs.Prelude.{◌≡◌, ℕ, false, IsTrue, List, ◌∷◌, ◌++◌, map}
+use Rattle.std.specs.Prelude.{◌≡◌, ℕ, ◌<◌, false, IsTrue, List, ◌∷◌, ◌++◌, length, map}
 use Rattle.std.specs.Coded.{Coded-set, coded_bool}
+use Rattle.std.specs.List.{list_all}
 use Rattle.justfile_base.specs.StringKind.{kind_of}
 use Rattle.justfile_base.specs.declared.format_string_part.FormatStringPart.TheVariants.{End}
 use Rattle.justfile_base.specs.declared.string_kind.StringKind.{StringKind}
 use Rattle.justfile_base.specs.declared.token_kind.TokenKind.TheVariants.{FormatStringStart}
 use Rattle.justfile_cook.specs.Literal.{is_part}
 use Rattle.justfile_model.specs.Expressions as grammar
-use Rattle.justfile_model.specs.Expressions.{IsKind, Limited, Tokens}
+use Rattle.justfile_model.specs.Expressions.{Free, IsKind, Tokens}
 use Rattle.justfile_model.specs.Features.{Noted}
 use Rattle.justfile_model.specs.SignificantTokens.{SignificantToken}
 use Rattle.justfile_model.specs.Tok.{Tok}
 use Rattle.justfile_model.specs.Tree.{Expr, Parts, Last, Continue, itself}
+use Rattle.justfile_parse.specs.Literal.{is_sound}
 use Rattle.justfile_parse.specs.Significant.{significant_of}
+use Rattle.justfile_parse.specs.declared.significant.TableEntry.{TableEntry}
 use Rattle.justfile_parse.specs.Reader.{State}
 
 abbrev pub last_of : Parts Tok Tok → Tok
@@ -21,11 +24,11 @@ last_of (Continue token e ps) = last_of ps
 
 -- Of the parts that these tokens derive after an expression, the last ends with the delimiter of this kind.
 unfoldable pub IsEnded : StringKind → ℕ → Tokens → Type 0
-IsEnded kind depth tokens = (ps : Parts Tok Tok) (features : List (Noted Tok)) (rest : Tokens) → grammar.FormatParts itself itself Limited depth ps features tokens rest → IsTrue (is_part kind End (last_of ps).lexeme)
+IsEnded kind depth tokens = (ps : Parts Tok Tok) (features : List (Noted Tok)) (rest : Tokens) → grammar.FormatParts itself itself Free depth ps features tokens rest → IsTrue (is_part kind End (last_of ps).lexeme)
 
 -- the same where the tokens begin with the expression
 unfoldable pub IsEndedBehind : StringKind → ℕ → Tokens → Type 0
-IsEndedBehind kind depth tokens = (e : Expr Tok Tok) (features : List (Noted Tok)) (rest : Tokens) → grammar.Expression itself itself Limited false depth e features tokens rest → IsEnded kind depth rest
+IsEndedBehind kind depth tokens = (e : Expr Tok Tok) (features : List (Noted Tok)) (rest : Tokens) → grammar.Expression itself itself Free false depth e features tokens rest → IsEnded kind depth rest
 
 -- the same of the entries that are left to a reader
 unfoldable pub IsEndedAt : StringKind → State → Type 0
@@ -38,6 +41,10 @@ IsEndedFrom kind s = IsEndedBehind kind s.depth (map significant_of s.left)
 -- each format string ends with the delimiter of its start
 unfoldable pub AreEnded : Tokens → Type 0
 AreEnded tokens = (before : Tokens) (start : SignificantToken) (behind : Tokens) → tokens ≡ before ++ start ∷ behind → IsKind FormatStringStart start → (depth : ℕ) → IsEndedBehind (kind_of start.tok.lexeme) depth behind
+
+-- a table that is not empty, whose literals are delimited, and whose format strings end as they start
+abbrev pub IsTable : List TableEntry → Type 0
+IsTable table = (0 < length table) × IsTrue (list_all is_sound table) × AreEnded (map significant_of table)
 
 pub prop_ended : (tokens : Tokens) → IsProp (AreEnded tokens)
 unfolding AreEnded IsEndedBehind IsEnded

@@ -1,5 +1,5 @@
 -- What the parser gives the parts of a tree beside their tokens.
-use Rattle.std.specs.Prelude.{◌≡◌, ◌↔◌, ℕ, ◌+◌, map, Bool, true, false, ◌==◌, List, [], ◌∷◌, slice_index, None, Ok, IsSomeAnd, IsTrue, string_bytes, Contains, All}
+use Rattle.std.specs.Prelude.{◌≡◌, ◌↔◌, ℕ, ◌+◌, map, Bool, false, ◌==◌, List, slice_index, None, Ok, IsSomeAnd, IsTrue, string_bytes, Contains, All}
 use Rattle.justfile_base.specs.declared.format_string_part.FormatStringPart.{FormatStringPart}
 use Rattle.justfile_base.specs.declared.format_string_part.FormatStringPart.TheVariants as parts
 use Rattle.justfile_base.specs.declared.string_kind.StringKind.{StringKind}
@@ -99,22 +99,6 @@ module _ (expander : Answers) (IsToken : Token → Type 0) where
     AreGivenParts kind (more_of-Expression-FormatString-1-2 e literal others) =
         IsGivenExpression e × IsGivenPart IsToken kind (later_part others) literal × AreGivenParts kind others
 
-  -- expressions of a format string of a kind, each with the part after it
-  abbrev pub AreGivenBehind : (kind : StringKind) → List (Expression × literals.StringLiteral) → Type 0
-  AreGivenBehind kind [] = ⊥
-  AreGivenBehind kind (x ∷ []) = IsGivenExpression x.0 × IsGivenPart IsToken kind parts.End x.1
-  AreGivenBehind kind (x ∷ y ∷ xs) = IsGivenExpression x.0 × IsGivenPart IsToken kind parts.Continue x.1 × AreGivenBehind kind (y ∷ xs)
-
-  -- a format string that begins with this part
-  abbrev pub IsGivenFormat : literals.StringLiteral → List (Expression × literals.StringLiteral) → Type 0
-  IsGivenFormat start [] = IsGivenPart IsToken (kind_of (lexeme_of start.token)) parts.Single start
-  IsGivenFormat start (x ∷ xs) = IsGivenPart IsToken (kind_of (lexeme_of start.token)) parts.Start start × AreGivenBehind (kind_of (lexeme_of start.token)) (x ∷ xs)
-
--- a part after an expression, by whether it is the last
-abbrev pub part_by : (is_last : Bool) → FormatStringPart
-part_by true = parts.End
-part_by false = parts.Continue
-
 -- a name that begins with `_` is private
 abbrev pub is_private : List ℕ → Bool
 is_private name = slice_index name 0 == 95
@@ -150,13 +134,6 @@ IsGivenItem expander IsToken file_depth import_offsets (Assignment binding) = Is
 IsGivenItem expander IsToken file_depth import_offsets (Comment text) = Unit {0}
 IsGivenItem expander IsToken file_depth import_offsets Newline = Unit {0}
 IsGivenItem expander IsToken file_depth import_offsets (Recipe recipe) = IsGivenRecipe expander IsToken file_depth import_offsets recipe
-
--- an item that gets no number
-abbrev pub IsUnnumberedItem : Item → Type 0
-IsUnnumberedItem (Assignment binding) = ⊥
-IsUnnumberedItem (Comment text) = Unit {0}
-IsUnnumberedItem Newline = Unit {0}
-IsUnnumberedItem (Recipe recipe) = ⊥
 
 -- Items, read so far from a file whose numbers the first numerator gives, where the next numerator gives the numbers of what follows.
 pub record IsGivenItems (expander : Answers) (IsToken : Token → Type 0) (file_depth : ℕ) (import_offsets : List ℕ) (first next : Numerator) (items : List Item) : Type 0 where

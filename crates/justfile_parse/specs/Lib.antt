@@ -1,3 +1,4 @@
+pub mod Conditions
 pub mod Errors
 pub mod Fault
 pub mod Formats

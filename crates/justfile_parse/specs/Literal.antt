@@ -1,5 +1,5 @@
 -- What is known of the literals among the tokens.
-use Rattle.std.specs.Prelude.{ℕ, Bool, true, List}
+use Rattle.std.specs.Prelude.{◌≡◌, ℕ, Bool, true, IsTrue, List}
 use Rattle.justfile_base.specs.StringKind.{kind_of}
 use Rattle.justfile_base.specs.Token.{lexeme_of}
 use Rattle.justfile_base.specs.declared.format_string_part.FormatStringPart.TheVariants as parts
@@ -18,3 +18,7 @@ is_delimited _ lexeme = true
 
 abbrev pub is_sound : TableEntry → Bool
 is_sound entry = is_delimited entry.token.now.kind (lexeme_of entry.token.now)
+
+-- a token of a kind, delimited if it is a literal
+abbrev pub IsOf : TokenKind → TableEntry → Type 0
+IsOf kind entry = (entry.token.now.kind ≡ kind) × IsTrue (is_sound entry)

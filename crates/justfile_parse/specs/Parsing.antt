@@ -8,13 +8,13 @@ use Rattle.justfile_base.specs.declared.fault.Fault.{Fault}
 use Rattle.justfile_base.specs.declared.fault.Fault.TheVariants as faults
 use Rattle.justfile_base.specs.declared.numerator.Numerator.{Numerator}
 use Rattle.justfile_base.specs.declared.token.Token.{Token}
-use Rattle.justfile_base.specs.declared.version.Version.{Version}
 use Rattle.justfile_canon.specs.RoundTrip.{TextDerives}
 use Rattle.justfile_file.specs.Ast.{tree_of, features_of, cooked_texts, binding_numbers, recipe_numbers}
 use Rattle.justfile_file.specs.declared.ast.Ast.{Ast}
 use Rattle.justfile_model.specs.Answers.{IsFrom, IsLexicalError}
+use Rattle.justfile_model.specs.Conditions.{Conditions}
 use Rattle.justfile_model.specs.Features.{Noted}
-use Rattle.justfile_model.specs.Files.{VersionNumbers, FileDerives, NumbersFrom, NumbersSuffice, bindings, recipes, literals}
+use Rattle.justfile_model.specs.Files.{FileDerives, NumbersFrom, NumbersSuffice, bindings, recipes, literals}
 use Rattle.justfile_model.specs.Lexed.{Lexed}
 use Rattle.justfile_model.specs.Literals.{over_literal, Answers, Cooks}
 use Rattle.justfile_model.specs.SignificantTokens.{significant_tokens}
@@ -24,9 +24,6 @@ use Rattle.justfile_model.specs.declared.list_feature.ListFeature.{ListFeature}
 use Rattle.justfile_parse.specs.Errors.{IsRefused}
 use Rattle.justfile_parse.specs.Given.{IsGivenItem}
 use Rattle.justfile_parse.specs.WantsNumber.{WantsNumber}
-
-abbrev pub version_numbers : Version → VersionNumbers
-version_numbers v = record { major = v.major; minor = v.minor; patch = v.patch }
 
 -- the tokens, all of one source, are those of its text
 pub record IsOneLex (tokens : List Token) : Type 0 where
@@ -48,56 +45,56 @@ pub record IsFilled (expander : Answers) (IsToken : Token → Type 0) (file_dept
   pub stable : ast.unstable_features.keys ≡ []
 
 -- the file's tokens derive its tree and its features
-pub record IsParsed (expander : Answers) (current : VersionNumbers) (tokens : List Tok) (IsToken : Token → Type 0) (file_depth : ℕ) (import_offsets : List ℕ) (old new : Numerator) (ast : Ast) : Type 0 where
-  pub derives : FileDerives expander current (significant_tokens tokens) (tree_of ast) (features_of ast)
-  pub filled : IsFilled expander IsToken file_depth import_offsets old new ast
+pub record IsParsed (conditions : Conditions) (tokens : List Tok) (IsToken : Token → Type 0) (file_depth : ℕ) (import_offsets : List ℕ) (old new : Numerator) (ast : Ast) : Type 0 where
+  pub derives : FileDerives conditions (significant_tokens tokens) (tree_of ast) (features_of ast)
+  pub filled : IsFilled conditions.expander IsToken file_depth import_offsets old new ast
 
 -- no tree derives; the error is that of the refusal, stands at one of the tokens and is no fault of the program
-pub record IsCompileError (expander : Answers) (current : VersionNumbers) (tokens : List Tok) (IsToken : Token → Type 0) (e : CompileError) : Type 0 where
-  pub derives_none : (tree : Tree) (features : List (Noted Tok)) → FileDerives expander current (significant_tokens tokens) tree features → ⊥
+pub record IsCompileError (conditions : Conditions) (tokens : List Tok) (IsToken : Token → Type 0) (e : CompileError) : Type 0 where
+  pub derives_none : (tree : Tree) (features : List (Noted Tok)) → FileDerives conditions (significant_tokens tokens) tree features → ⊥
   pub among : IsToken e.token
   pub not_internal : internal_message e.kind ≡ None
-  pub refused : IsRefused expander (significant_tokens tokens) e
+  pub refused : IsRefused conditions (significant_tokens tokens) e
 
 -- Why there is no file. `Numbers`: a number was wanted, its counter was at its end, and no tree that derives has numbers enough. `Memory`
 -- says nothing.
-abbrev pub IsUnparsed : Answers → VersionNumbers → List Tok → (Token → Type 0) → Numerator → Numerator → Fault → Type 0
-IsUnparsed expander current tokens IsToken old new (faults.Compile e) = IsCompileError expander current tokens IsToken e
-IsUnparsed expander current tokens IsToken old new faults.Memory = Unit {0}
-IsUnparsed expander current tokens IsToken old new faults.Numbers =
-    WantsNumber expander (significant_tokens tokens) old new
-    × ((tree : Tree) (features : List (Noted Tok)) → FileDerives expander current (significant_tokens tokens) tree features → NumbersSuffice (bindings_of old) (recipes_of old) tree → ⊥)
+abbrev pub IsUnparsed : Conditions → List Tok → (Token → Type 0) → Numerator → Numerator → Fault → Type 0
+IsUnparsed conditions tokens IsToken old new (faults.Compile e) = IsCompileError conditions tokens IsToken e
+IsUnparsed conditions tokens IsToken old new faults.Memory = Unit {0}
+IsUnparsed conditions tokens IsToken old new faults.Numbers =
+    WantsNumber conditions (significant_tokens tokens) old new
+    × ((tree : Tree) (features : List (Noted Tok)) → FileDerives conditions (significant_tokens tokens) tree features → NumbersSuffice (bindings_of old) (recipes_of old) tree → ⊥)
 
 -- the text derives the file's tree and its features
-pub record IsParsedText (expander : Answers) (current : VersionNumbers) (path src : List ℕ) (file_depth : ℕ) (import_offsets : List ℕ) (old new : Numerator) (ast : Ast) : Type 0 where
-  pub derives : TextDerives expander current src (tree_of ast) (features_of ast)
-  pub filled : IsFilled expander (IsFrom path src) file_depth import_offsets old new ast
+pub record IsParsedText (conditions : Conditions) (path src : List ℕ) (file_depth : ℕ) (import_offsets : List ℕ) (old new : Numerator) (ast : Ast) : Type 0 where
+  pub derives : TextDerives conditions src (tree_of ast) (features_of ast)
+  pub filled : IsFilled conditions.expander (IsFrom path src) file_depth import_offsets old new ast
 
 -- the text has tokens, and the error is that of their refusal
-pub record IsTextRefused (expander : Answers) (src : List ℕ) (e : CompileError) : Type 0 where
+pub record IsTextRefused (conditions : Conditions) (src : List ℕ) (e : CompileError) : Type 0 where
   pub tokens : List Tok
   pub lexed : Lexed src tokens
-  pub refused : IsRefused expander (significant_tokens tokens) e
+  pub refused : IsRefused conditions (significant_tokens tokens) e
 
 -- The text derives no tree, which the error says at a part of the text and never as a fault of the program: it is the fault of lexing,
 -- which leaves the numerator as it was, or that of the refusal of the text's tokens.
-pub record IsTreeless (expander : Answers) (current : VersionNumbers) (path src : List ℕ) (old new : Numerator) (e : CompileError) : Type 0 where
-  pub derives_none : (tree : Tree) (features : List (Noted Tok)) → TextDerives expander current src tree features → ⊥
+pub record IsTreeless (conditions : Conditions) (path src : List ℕ) (old new : Numerator) (e : CompileError) : Type 0 where
+  pub derives_none : (tree : Tree) (features : List (Noted Tok)) → TextDerives conditions src tree features → ⊥
   pub from : IsFrom path src e.token
   pub not_internal : internal_message e.kind ≡ None
-  pub cause : (IsLexicalError path src e × (new ≡ old)) ⊎ IsTextRefused expander src e
+  pub cause : (IsLexicalError path src e × (new ≡ old)) ⊎ IsTextRefused conditions src e
 
 -- a number is wanted in the text's tokens, and its counter, where the new numerator stands, is at its end
-pub record TextWantsNumber (expander : Answers) (src : List ℕ) (old new : Numerator) : Type 0 where
+pub record TextWantsNumber (conditions : Conditions) (src : List ℕ) (old new : Numerator) : Type 0 where
   pub tokens : List Tok
   pub lexed : Lexed src tokens
-  pub wants : WantsNumber expander (significant_tokens tokens) old new
+  pub wants : WantsNumber conditions (significant_tokens tokens) old new
 
 -- Why a text has no tree. `Numbers`: a number was wanted, its counter was at its end, and no tree that derives has numbers enough.
 -- `Memory` says nothing.
-abbrev pub HasNoTree : Answers → VersionNumbers → (path src : List ℕ) → Numerator → Numerator → Fault → Type 0
-HasNoTree expander current path src old new (faults.Compile e) = IsTreeless expander current path src old new e
-HasNoTree expander current path src old new faults.Memory = Unit {0}
-HasNoTree expander current path src old new faults.Numbers =
-    TextWantsNumber expander src old new
-    × ((tree : Tree) (features : List (Noted Tok)) → TextDerives expander current src tree features → NumbersSuffice (bindings_of old) (recipes_of old) tree → ⊥)
+abbrev pub HasNoTree : Conditions → (path src : List ℕ) → Numerator → Numerator → Fault → Type 0
+HasNoTree conditions path src old new (faults.Compile e) = IsTreeless conditions path src old new e
+HasNoTree conditions path src old new faults.Memory = Unit {0}
+HasNoTree conditions path src old new faults.Numbers =
+    TextWantsNumber conditions src old new
+    × ((tree : Tree) (features : List (Noted Tok)) → TextDerives conditions src tree features → NumbersSuffice (bindings_of old) (recipes_of old) tree → ⊥)

@@ -1,5 +1,5 @@
 -- Reading a table, with all that the parser's trees hold. That the definitions read the same trees of tokens is a law.
-use Rattle.std.specs.Prelude.{ℕ, ◌-◌, ◌^◌, Bool, true, false, List, [], ◌∷◌, Option, Some, None, Ok, Err, codes, nat_eq, not, ◌==◌}
+use Rattle.std.specs.Prelude.{ℕ, ◌-◌, ◌^◌, Bool, true, false, List, [], ◌∷◌, Option, Some, None, Ok, Err, codes, nat_eq, not, ◌==◌, if◌then◌else◌}
 use Rattle.std.specs.List.{starts_with}
 use Rattle.justfile_base.specs.Numerator.{number_of}
 use Rattle.justfile_base.specs.StringKind.{kind_of}
@@ -10,9 +10,10 @@ use Rattle.justfile_base.specs.declared.string_kind.StringKind.{StringKind}
 use Rattle.justfile_base.specs.declared.token.Token.{Token}
 use Rattle.justfile_base.specs.declared.token_kind.TokenKind.{TokenKind}
 use Rattle.justfile_model.specs.Literals as literals
-use Rattle.justfile_model.specs.Literals.{Answers, format_text}
+use Rattle.justfile_model.specs.Conditions.{Conditions}
+use Rattle.justfile_model.specs.Literals.{format_text}
 use Rattle.justfile_model.specs.Tree as tree
-use Rattle.justfile_model.specs.Tree.{Expr, BodyLine, Fragment, Item}
+use Rattle.justfile_model.specs.Tree.{BodyLine, Entry, Expr, Fragment, OrderedItem}
 use Rattle.justfile_model.specs.Features.{uncompared}
 use Rattle.justfile_model.specs.ExpressionReader as expressions
 use Rattle.justfile_model.specs.Reader as files
@@ -22,13 +23,14 @@ use Rattle.justfile_parse.specs.Given.{is_private}
 use Rattle.justfile_parse.specs.Significant.{significant_of}
 use Rattle.justfile_parse.specs.Tree.{Leaf, Named, Literal, Command, Text, Assigned, Headed}
 use Rattle.justfile_model.specs.declared.level.Level.{Level}
-use Rattle.justfile_model.specs.declared.level.Level.TheVariants.{Expression}
+use Rattle.justfile_model.specs.declared.level.Level.TheVariants.{Expression, Disjunct, Compared}
+use Rattle.justfile_model.specs.Operators.{operator_of}
 use Rattle.justfile_model.specs.declared.operator.Operator.{Operator}
 use Rattle.justfile_parse.specs.declared.significant.TableEntry.{TableEntry}
 
 -- what stays while a file is read
 pub record Run : Type 0 where
-  pub expander : Answers
+  pub conditions : Conditions
   pub table : List TableEntry
   pub file_depth : ℕ
   pub import_offsets : List ℕ
@@ -62,14 +64,16 @@ abbrev pub headed : Run → Token → ℕ → List (BodyLine Leaf Token ℕ) →
 headed run name number body =
     Headed (record { file_depth = run.file_depth; import_offsets = run.import_offsets; name = name; number = number_of number; private = is_private (lexeme_of name); shebang = has_shebang body })
 
-unfoldable pub leaves : Leaves Run TableEntry Leaf Token
+unfoldable pub leaves : Leaves Run TableEntry Leaf Token (Unit {0}) (List (Entry Leaf Token))
 leaves = record {
-  expander = λ run. run.expander;
+  conditions = λ run. run.conditions;
   see = significant_of;
   spot = λ t. t.token.now;
   name = λ t. Named t.token.now None;
   literal = λ t literal text. literal_leaf t.token.now literal text;
   text = λ t. Text t.token.now;
+  star = λ t. tt;
+  no_attributes = [];
   assignment = λ run t number. assigned run t.token.now number;
   recipe = λ run t number body. headed run t.token.now number body;
   has_number = λ n. not (n == 2 ^ 32 - 1);
@@ -113,6 +117,10 @@ accept_word = reading.accept_word leaves
 abbrev pub accept_marked : List ℕ → TokenKind → State → Option (TableEntry × State)
 accept_marked = reading.accept_marked leaves
 
+-- an expression may be entered
+abbrev pub is_within : Level → State → Bool
+is_within level s = expressions.is_within s.run.conditions.limit level s
+
 abbrev pub accept_operator : Level → State → Option (Operator × TableEntry × State)
 accept_operator = expressions.accept_operator leaves
 
@@ -142,8 +150,25 @@ part_by kind part x =
 abbrev pub part : (start : List ℕ) → State → Read (Leaf × Bool)
 part = expressions.part leaves
 
-abbrev pub binary_from : Level → (condition : Bool) → State → ReadExpr
-binary_from = expressions.binary_from leaves
+-- an expression of a level is opened, up to the limit of depth
+unfoldable pub enter : Level → State → Read (Unit {0})
+enter level s = if is_within level s then Ok (tt, expressions.opened level s) else Err (refused reading.TooDeep s)
+
+-- an operator of a level after its left side, and its right side; the left side alone if there is no such operator
+unfoldable pub operation : Level → (condition : Bool) → Expr Leaf Token × State → ReadExpr
+operation level condition lhs = expressions.binary_tail leaves read level condition lhs (accept_operator level lhs.1)
+
+-- the operators of the levels from comparisons up to this one, each with its right side, after a conjunct
+unfoldable pub operations : Level → (condition : Bool) → Expr Leaf Token × State → ReadExpr
+operations Expression condition lhs = operation Compared condition lhs >>= operation Disjunct condition >>= operation Expression condition
+operations Disjunct condition lhs = operation Compared condition lhs >>= operation Disjunct condition
+operations Compared condition lhs = operation Compared condition lhs
+operations _ condition lhs = Ok lhs
+
+-- the operator that comes next, if one does
+abbrev pub front_operator : List TableEntry → Option Operator
+front_operator [] = None
+front_operator (t ∷ ts) = operator_of t.token.now.kind
 
 -- an expression, and the delimiter after it
 unfoldable pub enclosed : TokenKind → State → ReadExpr
@@ -235,11 +260,11 @@ body_behind = files.body_behind leaves
 
 -- an item, and the counters after it
 abbrev pub ReadItem : Type 0
-ReadItem = Read (Item Leaf Token ℕ × Counters)
+ReadItem = Read (OrderedItem Leaf Token ℕ × Counters)
 
 -- items, and the counters after them
 abbrev pub ReadItems : Type 0
-ReadItems = Read (List (Item Leaf Token ℕ) × Counters)
+ReadItems = Read (List (OrderedItem Leaf Token ℕ) × Counters)
 
 abbrev pub assignment : Counters → State → ReadItem
 assignment = files.assignment leaves
@@ -250,13 +275,13 @@ recipe = files.recipe leaves
 abbrev pub on_line : Counters → State → ReadItem
 on_line = files.on_line leaves
 
-abbrev pub line_end : State → Read (List (Item Leaf Token ℕ))
+abbrev pub line_end : State → Read (List (OrderedItem Leaf Token ℕ))
 line_end = files.line_end leaves
 
-abbrev pub behind : State → Read (List (Item Leaf Token ℕ))
+abbrev pub behind : State → Read (List (OrderedItem Leaf Token ℕ))
 behind = files.behind leaves
 
-abbrev pub ended : (has_body : Bool) → State → Read (List (Item Leaf Token ℕ))
+abbrev pub ended : (has_body : Bool) → State → Read (List (OrderedItem Leaf Token ℕ))
 ended = files.ended leaves
 
 abbrev pub line : Counters → State → ReadItems

@@ -1,5 +1,5 @@
 -- What a method of the parser returns is what the definitions read.
-use Rattle.std.specs.Prelude.{◌≡◌, ℕ, ◌≤◌, ◌+◌, List, Option, Some, None, Result, Ok, Err, map}
+use Rattle.std.specs.Prelude.{◌≡◌, ℕ, ◌≤◌, ◌+◌, List, [], Option, Some, None, Result, Ok, Err, map}
 use Rattle.justfile_base.specs.Numerator.{bindings_of, constants_of, recipes_of}
 use Rattle.justfile_base.specs.declared.compile_error.CompileError.{CompileError}
 use Rattle.justfile_base.specs.declared.compile_error_kind.CompileErrorKind.{CompileErrorKind}
@@ -12,11 +12,11 @@ use Rattle.justfile_file.specs.Ast.{noted_of}
 use Rattle.justfile_file.specs.Item.{item_of}
 use Rattle.justfile_file.specs.declared.item.Item.{Item}
 use Rattle.justfile_model.specs.Features.{Noted}
-use Rattle.justfile_model.specs.Files.{NumbersSuffice}
-use Rattle.justfile_model.specs.Literals.{Answers}
+use Rattle.justfile_model.specs.Conditions.{Conditions}
+use Rattle.justfile_model.specs.Files.{NumbersSuffice, ordered}
 use Rattle.justfile_model.specs.SignificantTokens.{SignificantToken}
 use Rattle.justfile_model.specs.Tok.{Tok}
-use Rattle.justfile_model.specs.Tree.{Tree}
+use Rattle.justfile_model.specs.Tree.{WrittenTree}
 use Rattle.justfile_model.specs.TreeReader as tree
 use Rattle.justfile_model.specs.declared.list_feature.ListFeature.{ListFeature}
 use Rattle.justfile_parse.specs.Errors.{IsAt, IsErrorOf, IsUnexpected}
@@ -60,6 +60,21 @@ abbrev pub ReadsNumbered : {X Y : Type 0} → (X → Y) → Result X Stop → Nu
 ReadsNumbered view (Ok x) n s found = found ≡ Ok ((view x, counters_of n), s)
 ReadsNumbered view (Err stop) n s found = StopsAt stop s (found ≡ Err (state.NoNumber (counters_of n))) found
 
+-- The next entry of a state, and what is left after it; or nothing is left.
+abbrev pub Peeks : Option TableEntry → (here next : State) → Type 0
+Peeks (Some entry) here next = here ≡ state.before entry next
+Peeks None here next = here.left ≡ []
+
+-- What was taken, and the state after it, are what the definitions take; nothing was taken where they take nothing.
+abbrev pub Takes : {X : Type 0} → Option X → State → Option (X × State) → Type 0
+Takes (Some x) s found = found ≡ Some (x, s)
+Takes None s found = found ≡ None
+
+-- It is so of what was returned, or memory is wanting.
+abbrev pub UnlessMemory : {X : Type 0} → Result X Stop → (X → Type 0) → Type 0
+UnlessMemory (Ok x) Holds = Holds x
+UnlessMemory (Err stop) Holds = stop ≡ stops.Memory
+
 -- the fault of a literal, as reading stops for it
 abbrev pub TextStops : Stop → Fault → Type 0
 TextStops (stops.Literal refused) (faults.Compile error) = refused.value.error ≡ error
@@ -80,6 +95,10 @@ abbrev pub IsKindAt : Refusal → CompileErrorKind → Token → Type 0
 IsKindAt Unexpected kind token = IsUnexpected kind token
 IsKindAt TooDeep kind token = kind ≡ error_kinds.ParsingRecursionDepthExceeded
 
+-- the error is that of the refusal, at this token
+abbrev pub IsErrorAt : Refusal → Token → CompileError → Type 0
+IsErrorAt refusal token error = IsKindAt refusal error.kind error.token × (error.token ≡ token)
+
 -- the token is the next one, or the last of the table where none is left
 abbrev pub IsPlace : List TableEntry → (next : Option TableEntry) → Token → Type 0
 IsPlace table (Some entry) token = token ≡ entry.token.now
@@ -93,27 +112,25 @@ IsFaultOf table next stops.Memory faults.Memory = Unit {0}
 IsFaultOf table next stops.Numbers faults.Numbers = Unit {0}
 IsFaultOf table next _ _ = ⊥
 
--- what was read of a file, as the definitions see it
-abbrev pub view_of : List Item → List (ListFeature × Token) → Tree × List (Noted Tok)
-view_of items features = (map item_of items, map noted_of features)
-
--- the items and the features are what is read, and the numerator gave the items' numbers
-pub record IsRead (expander : Answers) (table : List TableEntry) (file_depth : ℕ) (import_offsets : List ℕ) (tokens : List SignificantToken) (old new : Numerator) (x : List Item × List (ListFeature × Token)) : Type 0 where
-  pub read : tree.file expander tokens ≡ Ok (view_of x.0 x.1)
-  pub given : IsGivenItems expander (IsInTable table) file_depth import_offsets old new x.0
+-- The items are what the written tree that is read means, the features are those that are read, and the numerator gave the items' numbers.
+pub record IsRead (conditions : Conditions) (table : List TableEntry) (file_depth : ℕ) (import_offsets : List ℕ) (tokens : List SignificantToken) (old new : Numerator) (x : List Item × List (ListFeature × Token)) : Type 0 where
+  pub written : WrittenTree
+  pub read : tree.file conditions tokens ≡ Ok (written, map noted_of x.1)
+  pub ordered_is : ordered written ≡ Some (map item_of x.0)
+  pub given : IsGivenItems conditions.expander (IsInTable table) file_depth import_offsets old new x.0
   pub noted : AreNotedIn table x.1
 
 -- the error is that of the refusal, at such a token
-pub record IsReadError (expander : Answers) (tokens : List SignificantToken) (IsToken : Token → Type 0) (e : CompileError) : Type 0 where
+pub record IsReadError (conditions : Conditions) (tokens : List SignificantToken) (IsToken : Token → Type 0) (e : CompileError) : Type 0 where
   pub refusal : tree.Refusal
-  pub read : tree.file expander tokens ≡ Err refusal
+  pub read : tree.file conditions tokens ≡ Err refusal
   pub error : IsErrorOf tokens refusal e
   pub among : IsToken e.token
 
 -- The fault says why nothing was read. Where a number was wanted, no tree that is read has numbers enough.
-abbrev pub IsUnread : Answers → List SignificantToken → (Token → Type 0) → Numerator → Numerator → Fault → Type 0
-IsUnread expander tokens IsToken old new (faults.Compile e) = IsReadError expander tokens IsToken e
-IsUnread expander tokens IsToken old new faults.Memory = Unit {0}
-IsUnread expander tokens IsToken old new faults.Numbers =
-    WantsNumber expander tokens old new
-    × ((t : Tree) (features : List (Noted Tok)) → tree.file expander tokens ≡ Ok (t, features) → NumbersSuffice (bindings_of old) (recipes_of old) t → ⊥)
+abbrev pub IsUnread : Conditions → List SignificantToken → (Token → Type 0) → Numerator → Numerator → Fault → Type 0
+IsUnread conditions tokens IsToken old new (faults.Compile e) = IsReadError conditions tokens IsToken e
+IsUnread conditions tokens IsToken old new faults.Memory = Unit {0}
+IsUnread conditions tokens IsToken old new faults.Numbers =
+    WantsNumber conditions tokens old new
+    × ((t : WrittenTree) (features : List (Noted Tok)) → tree.file conditions tokens ≡ Ok (t, features) → NumbersSuffice (bindings_of old) (recipes_of old) t → ⊥)

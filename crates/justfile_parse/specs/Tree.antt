@@ -13,7 +13,7 @@ use Rattle.justfile_file.specs.declared.item.Item.TheVariants as items
 use Rattle.justfile_file.specs.declared.line.Line as line
 use Rattle.justfile_file.specs.declared.recipe.UnresolvedRecipe.{UnresolvedRecipe}
 use Rattle.justfile_model.specs.Tree as tree
-use Rattle.justfile_model.specs.Tree.{Expr, Exprs, Parts, Fragment, BodyLine, Item}
+use Rattle.justfile_model.specs.Tree.{Expr, Exprs, Parts, Fragment, BodyLine, OrderedItem, plain_assignment, plain_recipe}
 use Rattle.justfile_tree.specs.declared.expression.Expression.{Expression, And', Assert', Backtick, Call', Comparison', Concatenation', Conditional', FormatString', Group', Join', List', ListConcatenation', Not', Or', StringLiteral, Variable, Held-Expression-Assert-1, None', Some', Row_of-Expression, end_of-Expression, more_of-Expression, Row_of-Expression-FormatString-1-2, end_of-Expression-FormatString-1-2, more_of-Expression-FormatString-1-2}
 
 -- a literal by its text
@@ -56,7 +56,7 @@ pub data Leaf : Type 0 where
   Headed : RecipeName → Leaf
 
 abbrev mutual
-  -- its tree
+  -- the tree of an expression
   pub tree_of : Expression → Expr Leaf Token
   tree_of (And' p lhs q rhs) = tree.And (tree_of lhs) (tree_of rhs)
   tree_of (Assert' p condition message name) = assert_of name.token (tree_of condition) message
@@ -126,16 +126,16 @@ line_tree line = tree.Line line.number (map fragment_tree line.fragments.items)
 abbrev pub assignment_name : Binding Expression → AssignmentName
 assignment_name a = record { file_depth = a.file_depth; name = a.name.token; number = a.number; prelude = a.prelude; private = a.private }
 
-abbrev pub assignment_tree : Binding Expression → Item Leaf Token ℕ
-assignment_tree a = tree.Assignment (Assigned (assignment_name a)) (tree_of a.value)
+abbrev pub assignment_tree : Binding Expression → OrderedItem Leaf Token ℕ
+assignment_tree a = tree.Construct [] (tree.Assignment (plain_assignment (Assigned (assignment_name a)) (tree_of a.value)))
 
 abbrev pub recipe_name : UnresolvedRecipe → RecipeName
 recipe_name r = record { file_depth = r.file_depth; import_offsets = r.import_offsets.items; name = r.name.token; number = r.number; private = r.private; shebang = r.shebang }
 
-abbrev pub recipe_tree : UnresolvedRecipe → Item Leaf Token ℕ
-recipe_tree r = tree.Recipe (Headed (recipe_name r)) (map line_tree r.body.items)
+abbrev pub recipe_tree : UnresolvedRecipe → OrderedItem Leaf Token ℕ
+recipe_tree r = tree.Construct [] (tree.Recipe (plain_recipe (Headed (recipe_name r)) (map line_tree r.body.items)))
 
-abbrev pub item_tree : item.Item → Item Leaf Token ℕ
+abbrev pub item_tree : item.Item → OrderedItem Leaf Token ℕ
 item_tree (items.Assignment a) = assignment_tree a
 item_tree (items.Comment text) = tree.Comment text.now
 item_tree items.Newline = tree.Newline

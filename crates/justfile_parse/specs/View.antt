@@ -1,8 +1,8 @@
 -- What the definitions see of the parser: all that it holds.
-use Rattle.std.specs.Prelude.{ℕ, ◌-◌, List, drop, length, Result}
+use Rattle.std.specs.Prelude.{◌≡◌, ℕ, ◌<◌, ◌-◌, List, Option, Some, None, drop, length, Result}
 use Rattle.justfile_base.specs.declared.token.Token.{Token}
-use Rattle.justfile_cook.specs.Literal.{answers_by}
 use Rattle.justfile_model.specs.declared.list_feature.ListFeature.{ListFeature}
+use Rattle.justfile_parse.specs.Conditions.{conditions_of}
 use Rattle.justfile_parse.specs.Reader.{Run, State}
 use Rattle.justfile_parse.specs.declared.parser.Parser.{Parser}
 
@@ -11,7 +11,7 @@ state_at run depth n features = record { run = run; depth = depth; left = drop n
 
 module _ {X : Type 0} (answer : X → List ℕ → Result (List ℕ) (List ℕ)) where
   abbrev pub run_of : Parser X → Run
-  run_of p = record { expander = answers_by answer p.expander.now; table = p.tokens.now; file_depth = p.file_depth; import_offsets = p.import_offsets.now }
+  run_of p = record { conditions = conditions_of answer p.expander.now p.current; table = p.tokens.now; file_depth = p.file_depth; import_offsets = p.import_offsets.now }
 
   -- where the parser would be at another entry
   abbrev pub state_from : Parser X → ℕ → State
@@ -23,3 +23,8 @@ module _ {X : Type 0} (answer : X → List ℕ → Result (List ℕ) (List ℕ))
 -- how many entries are left
 unfoldable pub left : {X : Type 0} → Parser X → ℕ
 left p = length p.tokens.now - p.next
+
+-- Where something was taken, fewer entries are left. Where nothing was, the parser is as before.
+abbrev pub Moves : {X Y : Type 0} → Option Y → (old new : Parser X) → Type 0
+Moves (Some y) old new = left new < left old
+Moves None old new = new ≡ old

@@ -2,11 +2,11 @@
 use Rattle.std.specs.Prelude.{◌≡◌, ◌-◌, ◌^◌, List, Ok, IsOk}
 use Rattle.justfile_base.specs.Numerator.{bindings_of, constants_of, recipes_of}
 use Rattle.justfile_base.specs.declared.numerator.Numerator.{Numerator}
-use Rattle.justfile_model.specs.Literals.{Answers}
+use Rattle.justfile_model.specs.Conditions.{Conditions}
 use Rattle.justfile_model.specs.Reader.{after_mark, assignment, line, recipe}
 use Rattle.justfile_model.specs.Reading.{Counters}
 use Rattle.justfile_model.specs.SignificantTokens.{SignificantToken}
-use Rattle.justfile_model.specs.Tree.{Tree}
+use Rattle.justfile_model.specs.Tree.{WrittenTree}
 use Rattle.justfile_model.specs.TreeReader.{State, start, token_leaves}
 
 -- where the numerator stands
@@ -31,7 +31,7 @@ pub data LacksNumber (s : State) (numerator : Numerator) : Type 0 where
 -- what is left begins with lines, for which the counters move up, and that after them is left
 pub data AreLines : Counters → State → Counters → State → Type 0 where
   none : {n : Counters} {s : State} → AreLines n s n s
-  more : {n m k : Counters} {s rest left : State} {items : Tree} → line token_leaves n s ≡ Ok ((items, m), rest) → AreLines m rest k left → AreLines n s k left
+  more : {n m k : Counters} {s rest left : State} {items : WrittenTree} → line token_leaves n s ≡ Ok ((items, m), rest) → AreLines m rest k left → AreLines n s k left
 
 -- after lines whose bindings and recipes got their numbers, an assignment or a recipe lacks its number
 pub record LinesWantNumber (s : State) (old new : Numerator) : Type 0 where
@@ -40,5 +40,5 @@ pub record LinesWantNumber (s : State) (old new : Numerator) : Type 0 where
   pub lacks : LacksNumber left new
 
 -- a number is wanted in a file's tokens, and its counter, which counted up from the old numerator to the new, is at its end
-abbrev pub WantsNumber : Answers → List SignificantToken → (old new : Numerator) → Type 0
-WantsNumber expander tokens old new = LinesWantNumber (after_mark token_leaves (start expander tokens)) old new
+abbrev pub WantsNumber : Conditions → List SignificantToken → (old new : Numerator) → Type 0
+WantsNumber conditions tokens old new = LinesWantNumber (after_mark token_leaves (start conditions tokens)) old new

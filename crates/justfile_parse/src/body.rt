@@ -18,16 +18,16 @@ impl<'src, X: Expander> Parser<'_, 'src, X> {
     /// The body of a recipe, from the end of its header on; no line if it has none. A comment before
     /// a body is left out.
     #[tactic(auto, using(crate::proofs::Bodies::body_at_once, crate::proofs::Bodies::body_commented, crate::proofs::Bodies::body_missing))]
-    pub(crate) fn parse_body_behind(&mut self) -> Result<Vec<Line<'src>>, Stop<'src>>
+    pub(crate) fn parse_body_after_header(&mut self) -> Result<Vec<Line<'src>>, Stop<'src>>
         ensures reads { Reads (λ lines. map line_tree lines.items) result (state_of X.answer self.new)
             (reader.body_behind (state_of X.answer self.old)) }
         ensures progress { OnOk result (left self.new ≤ left self.old) }
     {
-        if self.next_are(&[TokenKind::Eol, TokenKind::Indent]) {
+        if self.peek_kinds(&[TokenKind::Eol, TokenKind::Indent]) {
             self.skip(2);
             return self.parse_body();
         }
-        if self.next_are(&[TokenKind::Comment, TokenKind::Eol, TokenKind::Indent]) {
+        if self.peek_kinds(&[TokenKind::Comment, TokenKind::Eol, TokenKind::Indent]) {
             self.skip(3);
             return self.parse_body();
         }
@@ -72,17 +72,17 @@ impl<'src, X: Expander> Parser<'_, 'src, X> {
         ensures reads { Reads line_tree result (state_of X.answer self.new) (reader.body_line (state_of X.answer self.old)) }
         ensures progress { OnOk result (left self.new ≤ left self.old) }
     {
-        let number = self.line();
+        let number = self.peek_line();
         let fragments = self.parse_line_rest()?;
         Ok(Line { fragments, number })
     }
 
     /// The line of the source that the next token begins on, from 0; 0 where no token is left.
     #[tactic(auto, unfolding(crate::specs::Reader::leaves))]
-    fn line(&self) -> usize
+    fn peek_line(&self) -> usize
         ensures { result ≡ reader.line_at (state_of X.answer self.now).left }
     {
-        match self.first() {
+        match self.peek_front() {
             Some(entry) => entry.token.line,
             None => 0,
         }
@@ -100,7 +100,7 @@ impl<'src, X: Expander> Parser<'_, 'src, X> {
             if let Some(_newline) = self.accept(TokenKind::Eol) {
                 return Ok(fragments);
             }
-            if self.next_are(&[TokenKind::Dedent]) {
+            if self.peek_kinds(&[TokenKind::Dedent]) {
                 return Ok(fragments);
             }
             let fragment = self.parse_fragment()?;

@@ -1,24 +1,24 @@
 //! How expressions are read.
-ghost use Rattle.std.specs.Prelude.{◌≡◌, ◌<◌, IsTrue, true, false, map, OnErr, OnOk, OnSome, IfErr, IfOk, IfSome, IfNone, Some, None};
+ghost use Rattle.std.specs.Prelude.{◌≡◌, ◌<◌, ◌≤◌, IsTrue, false, OnOk, IfSome, IfNone, Some, None};
 ghost use Rattle.justfile_base.specs.StringKind.{kind_of};
 ghost use Rattle.justfile_base.specs.Token.{lexeme_of};
 ghost use Rattle.justfile_base.specs.declared.token_kind.TokenKind.TheVariants as kinds;
 ghost use Rattle.justfile_model.specs.Expressions.{ends_open};
 ghost use Rattle.justfile_model.specs.Tree as tree;
 ghost use Rattle.justfile_parse.specs.Formats.{IsEndedAt, IsEndedFrom};
-ghost use Rattle.justfile_parse.specs.Literal.{is_sound};
-ghost use Rattle.justfile_model.specs.ExpressionReader.{closed, is_within, opened};
+ghost use Rattle.justfile_parse.specs.Literal.{IsOf};
+ghost use Rattle.justfile_model.specs.ExpressionReader.{closed};
 ghost use Rattle.justfile_model.specs.Operators.{is_binary};
 ghost use Rattle.justfile_parse.specs.Reader as reader;
-ghost use Rattle.justfile_parse.specs.Reading.{Reads};
+ghost use Rattle.justfile_parse.specs.Reading.{Reads, UnlessMemory};
 ghost use Rattle.justfile_parse.specs.Tree.{Literal, Named, format_tree, literal_of, tree_of, trees_of};
 ghost use Rattle.justfile_model.specs.declared.level.Level.TheVariants as levels;
-ghost use Rattle.justfile_parse.specs.declared.stop.Refusal.TheVariants as refusals;
-ghost use Rattle.justfile_parse.specs.declared.stop.Stop.TheVariants as stops;
 
-use crate::feature::function_feature;
-use crate::literal::kind_of;
-use crate::operator::{binary, feature_of, is_at, operand_level, operator_of, right_level};
+use crate::feature::find_function_feature;
+use crate::literal::find_kind;
+use crate::operator::{
+    find_feature, find_left_level, find_operator, find_right_level, is_at, make_operation,
+};
 use crate::parser::{Parser, is_word};
 use crate::significant::TableEntry;
 use crate::stop::{Refusal, Stop};
@@ -30,7 +30,7 @@ use justfile_tree::{Expression, ListFeature};
 const RECURSION_LIMIT: usize = 256;
 
 impl<'run, 'src, X: Expander> Parser<'run, 'src, X> {
-    ghost use Rattle.justfile_parse.specs.View.{left, state_of};
+    ghost use Rattle.justfile_parse.specs.View.{Moves, left, state_of};
 
     /// An expression, in a box of its own.
     pub(crate) fn parse_expression(&mut self) -> Result<Box<Expression<'src>>, Stop<'src>>
@@ -41,64 +41,98 @@ impl<'run, 'src, X: Expander> Parser<'run, 'src, X> {
         self.parse_level(Level::Expression, false)
     }
 
-    /// An expression of a level, which is a condition or not. `if` begins a conditional where `/` may
-    /// stand.
+    /// An expression of a level with operators, which is a condition or not.
     #[cycle(expression)]
-    #[tactic(auto, using(crate::proofs::Rules::level_is), unfolding(justfile_model::specs::ExpressionReader::conjunct_rule, crate::specs::Reader::leaves))]
+    #[tactic(auto, using(crate::proofs::Operators::level_is))]
     fn parse_level(
-        &mut self,
-        level: Level,
-        condition: bool,
-    ) -> Result<Box<Expression<'src>>, Stop<'src>>
-        ensures reads { Reads (λ e. tree_of e.value) result (state_of X.answer self.new)
-            (reader.read (reader.At level condition (state_of X.answer self.old))) }
-        ensures progress { OnOk result (left self.new < left self.old) }
-    {
-        match level {
-            Level::Value => self.parse_value(),
-            Level::Conjunct => {
-                if let Some(word) = self.accept_keyword(Keyword::If) {
-                    return self.parse_conditional(word);
-                }
-                let Some(operator) = self.accept(TokenKind::Slash) else {
-                    return self.parse_binary(Level::Conjunct, condition);
-                };
-                let rhs = self.parse_level(Level::Conjunct, false)?;
-                self.node(Expression::Join {
-                    lhs: None,
-                    operator: *operator.token,
-                    rhs,
-                })
-            }
-            Level::Expression | Level::Disjunct | Level::Compared => {
-                self.parse_binary(level, condition)
-            }
-        }
-    }
-
-    /// An operator of a level, and what stands on either side of it, or the left side alone.
-    #[cycle(expression)]
-    #[tactic(auto, unfolding(justfile_model::specs::ExpressionReader::binary_rule, crate::specs::Reader::leaves))]
-    fn parse_binary(
         &mut self,
         level: Level,
         condition: bool,
     ) -> Result<Box<Expression<'src>>, Stop<'src>>
         requires { IsTrue (is_binary level) }
         ensures reads { Reads (λ e. tree_of e.value) result (state_of X.answer self.new)
-            (reader.binary_from level condition (state_of X.answer self.old)) }
+            (reader.read (reader.At level condition (state_of X.answer self.old))) }
         ensures progress { OnOk result (left self.new < left self.old) }
     {
         self.enter(level)?;
-        let lhs = self.parse_level(operand_level(level), condition)?;
+        let conjunct = self.parse_conjunct(condition)?;
+        self.parse_operations(conjunct, level, condition)
+    }
+
+    /// An expression without comparisons, `&&` and `||`. `if` begins a conditional where `/` may stand.
+    #[cycle(expression)]
+    #[tactic(auto, using(crate::proofs::Operators::conjunct_is))]
+    fn parse_conjunct(&mut self, condition: bool) -> Result<Box<Expression<'src>>, Stop<'src>>
+        ensures reads { Reads (λ e. tree_of e.value) result (state_of X.answer self.new)
+            (reader.read (reader.At levels.Conjunct condition (state_of X.answer self.old))) }
+        ensures progress { OnOk result (left self.new < left self.old) }
+    {
+        if let Some(word) = self.accept_keyword(Keyword::If) {
+            return self.parse_conditional(word);
+        }
+        let Some(operator) = self.accept(TokenKind::Slash) else {
+            let lhs = self.parse_value()?;
+            return self.parse_operation(lhs, Level::Conjunct, condition);
+        };
+        let rhs = self.parse_conjunct(false)?;
+        self.box_expression(Expression::Join {
+            lhs: None,
+            operator: *operator.token,
+            rhs,
+        })
+    }
+
+    /// The operators of the levels from comparisons up to this one, each with its right side, after a
+    /// conjunct. Most expressions have none.
+    #[cycle(expression)]
+    #[tactic(auto, using(crate::proofs::Operators::operations_end), unfolding(crate::specs::Reader::operations))]
+    fn parse_operations(
+        &mut self,
+        lhs: Box<Expression<'src>>,
+        level: Level,
+        condition: bool,
+    ) -> Result<Box<Expression<'src>>, Stop<'src>>
+        ensures reads { Reads (λ e. tree_of e.value) result (state_of X.answer self.new)
+            (reader.operations level condition (tree_of lhs.entry.value, state_of X.answer self.old)) }
+        ensures progress { OnOk result (left self.new ≤ left self.old) }
+    {
+        let Some(_operator) = self.peek_operator() else {
+            self.leave(level);
+            return Ok(lhs);
+        };
+        match level {
+            Level::Conjunct | Level::Value => Ok(lhs),
+            Level::Expression | Level::Disjunct | Level::Compared => {
+                let lhs = self.parse_operations(lhs, find_left_level(level), condition)?;
+                self.parse_operation(lhs, level, condition)
+            }
+        }
+    }
+
+    /// An operator of a level after its left side, and its right side; the left side alone if there is
+    /// no such operator.
+    #[cycle(expression)]
+    #[tactic(auto, unfolding(crate::specs::Reader::operation, crate::specs::Reader::leaves))]
+    #[inline(always)]
+    fn parse_operation(
+        &mut self,
+        lhs: Box<Expression<'src>>,
+        level: Level,
+        condition: bool,
+    ) -> Result<Box<Expression<'src>>, Stop<'src>>
+        requires { IsTrue (is_binary level) }
+        ensures reads { Reads (λ e. tree_of e.value) result (state_of X.answer self.new)
+            (reader.operation level condition (tree_of lhs.entry.value, state_of X.answer self.old)) }
+        ensures progress { OnOk result (left self.new ≤ left self.old) }
+    {
         let Some((operator, entry)) = self.accept_operator(level) else {
             self.leave(level);
             return Ok(lhs);
         };
-        self.note_if(feature_of(operator, condition), *entry.token)?;
-        let rhs = self.parse_level(right_level(level), false)?;
+        self.note_if(find_feature(operator, condition), *entry.token)?;
+        let rhs = self.parse_level(find_right_level(level), false)?;
         self.leave(level);
-        self.node(binary(lhs, operator, *entry.token, rhs))
+        self.box_expression(make_operation(lhs, operator, *entry.token, rhs))
     }
 
     /// An expression, and the delimiter after it.
@@ -124,7 +158,7 @@ impl<'run, 'src, X: Expander> Parser<'run, 'src, X> {
         ensures reads { Reads (λ e. tree_of e.value) result (state_of X.answer self.new) (reader.condition (state_of X.answer self.old)) }
         ensures progress { OnOk result (left self.new < left self.old) }
     {
-        let first = self.first();
+        let first = self.peek_front();
         let condition = self.parse_level(Level::Expression, true)?;
         self.note_condition(&condition, first)?;
         Ok(condition)
@@ -157,14 +191,14 @@ impl<'run, 'src, X: Expander> Parser<'run, 'src, X> {
         let then = self.parse_braced()?;
         let Some(_else) = self.accept_keyword(Keyword::Else) else {
             self.note(ListFeature::IfWithoutElse, *word.token)?;
-            return self.node(Expression::Conditional {
+            return self.box_expression(Expression::Conditional {
                 condition,
                 then,
                 otherwise: None,
             });
         };
         let otherwise = Some(self.parse_otherwise()?);
-        self.node(Expression::Conditional {
+        self.box_expression(Expression::Conditional {
             condition,
             then,
             otherwise,
@@ -189,7 +223,7 @@ impl<'run, 'src, X: Expander> Parser<'run, 'src, X> {
     /// What may stand on either side of an operator: `!`, or what takes no operator before it. Each of
     /// the methods after this one takes one form of it, and leaves the others to the next.
     #[cycle(expression)]
-    #[tactic(auto, unfolding(justfile_model::specs::ExpressionReader::value_rule, crate::specs::Reader::leaves))]
+    #[tactic(auto, using(crate::proofs::Operators::value_is))]
     #[inline(never)]
     fn parse_value(&mut self) -> Result<Box<Expression<'src>>, Stop<'src>>
         ensures reads { Reads (λ e. tree_of e.value) result (state_of X.answer self.new) (reader.value (state_of X.answer self.old)) }
@@ -197,10 +231,10 @@ impl<'run, 'src, X: Expander> Parser<'run, 'src, X> {
     {
         if let Some(bang) = self.accept(TokenKind::Bang) {
             self.note(ListFeature::NegationOperator, *bang.token)?;
-            let operand = self.parse_level(Level::Value, false)?;
-            return self.node(Expression::Not { operand });
+            let operand = self.parse_value()?;
+            return self.box_expression(Expression::Not { operand });
         }
-        match self.literal()? {
+        match self.parse_literal()? {
             Some(literal) => Ok(literal),
             None => self.parse_format(),
         }
@@ -228,16 +262,15 @@ impl<'run, 'src, X: Expander> Parser<'run, 'src, X> {
         &mut self,
         start: TableEntry<'run, 'src>,
     ) -> Result<Box<Expression<'src>>, Stop<'src>>
-        requires kind { start.token.now.kind ≡ kinds.FormatStringStart }
-        requires sound { IsTrue (is_sound start) }
+        requires start { IsOf kinds.FormatStringStart start }
         requires ended { IsEndedFrom (kind_of (lexeme_of start.token.now)) (state_of X.answer self.old) }
         ensures reads { Reads (λ e. tree_of e.value) result (state_of X.answer self.new)
             (reader.format_string (start.entry, state_of X.answer self.old)) }
         ensures progress { OnOk result (left self.new < left self.old) }
     {
-        let literal = self.part(start, kind_of(start), FormatStringPart::Start)?;
+        let literal = self.cook_part(start, find_kind(start), FormatStringPart::Start)?;
         let expressions = self.parse_parts(start)?;
-        self.node(format_string(literal, expressions))
+        self.box_expression(make_format_string(literal, expressions))
     }
 
     /// The expressions after the start of a format string, each with the part after it.
@@ -294,14 +327,14 @@ impl<'run, 'src, X: Expander> Parser<'run, 'src, X> {
         let condition = self.parse_condition()?;
         let Some(_comma) = self.accept(TokenKind::Comma) else {
             self.expect(TokenKind::ParenR)?;
-            return self.node(Expression::Assert {
+            return self.box_expression(Expression::Assert {
                 condition,
                 message: None,
                 name,
             });
         };
         let message = Some(self.parse_enclosed(TokenKind::ParenR)?);
-        self.node(Expression::Assert {
+        self.box_expression(Expression::Assert {
             condition,
             message,
             name,
@@ -320,11 +353,11 @@ impl<'run, 'src, X: Expander> Parser<'run, 'src, X> {
         };
         let name = Name::from_identifier(*entry.token);
         let Some(_opening) = self.accept(TokenKind::ParenL) else {
-            return self.node(Expression::Variable { name, number: None });
+            return self.box_expression(Expression::Variable { name, number: None });
         };
         let arguments = self.parse_sequence(TokenKind::ParenR)?;
-        self.note_if(function_feature(entry.token.lexeme()), *entry.token)?;
-        self.node(call(name, arguments))
+        self.note_if(find_function_feature(entry.token.lexeme()), *entry.token)?;
+        self.box_expression(make_call(name, arguments))
     }
 
     /// An expression in parentheses, or a list.
@@ -338,7 +371,7 @@ impl<'run, 'src, X: Expander> Parser<'run, 'src, X> {
             return self.parse_list();
         };
         let contents = self.parse_enclosed(TokenKind::ParenR)?;
-        self.node(Expression::Group { contents })
+        self.box_expression(Expression::Group { contents })
     }
 
     /// A list.
@@ -353,7 +386,7 @@ impl<'run, 'src, X: Expander> Parser<'run, 'src, X> {
         };
         self.note(ListFeature::ListLiteral, *opener.token)?;
         let elements = self.parse_sequence(TokenKind::BracketR)?;
-        self.node(list(*opener.token, elements))
+        self.box_expression(make_list(*opener.token, elements))
     }
 
     /// Expressions with commas between, up to the closing delimiter and with it.
@@ -410,22 +443,18 @@ impl<'run, 'src, X: Expander> Parser<'run, 'src, X> {
         ensures progress { OnOk result (left self.new < left self.old) }
     {
         if let Some(entry) = self.accept(TokenKind::FormatStringContinue) {
-            let literal = self.part(entry, kind_of(start), FormatStringPart::Continue)?;
+            let literal = self.cook_part(entry, find_kind(start), FormatStringPart::Continue)?;
             return Ok((literal, false));
         }
         let entry = self.expect(TokenKind::FormatStringEnd)?;
-        let literal = self.part(entry, kind_of(start), FormatStringPart::End)?;
+        let literal = self.cook_part(entry, find_kind(start), FormatStringPart::End)?;
         Ok((literal, true))
     }
 
     /// Opens an expression.
-    #[tactic(auto, unfolding(crate::specs::View::state_at, crate::specs::View::state_of, crate::specs::View::left))]
+    #[tactic(auto, unfolding(crate::specs::Reader::enter, crate::specs::View::state_at, crate::specs::View::state_of, crate::specs::View::left))]
     fn enter(&mut self, level: Level) -> Result<(), Stop<'src>>
-        ensures within { OnOk result (is_within level (state_of X.answer self.old) ≡ true) }
-        ensures opened { OnOk result (state_of X.answer self.new ≡ opened level (state_of X.answer self.old)) }
-        ensures refused { IfErr result (λ stop. stop ≡ stops.Refused refusals.TooDeep) }
-        ensures at { OnErr result (is_within level (state_of X.answer self.old) ≡ false) }
-        ensures unmoved { OnErr result (self.new ≡ self.old) }
+        ensures reads { Reads (λ done. done) result (state_of X.answer self.new) (reader.enter level (state_of X.answer self.old)) }
         ensures stays { left self.new ≡ left self.old }
     {
         if matches!(level, Level::Expression) {
@@ -450,12 +479,11 @@ impl<'run, 'src, X: Expander> Parser<'run, 'src, X> {
 
     /// An expression in a box of its own.
     #[inline(never)]
-    pub(crate) fn node(
+    pub(crate) fn box_expression(
         &self,
         expression: Expression<'src>,
     ) -> Result<Box<Expression<'src>>, Stop<'src>>
-        ensures is { IfOk result (λ e. e.value ≡ expression.entry) }
-        ensures memory { IfErr result (λ stop. stop ≡ stops.Memory) }
+        ensures { UnlessMemory result (λ e. e.value ≡ expression.entry) }
     {
         Ok(Box::new(self.alloc, expression)?)
     }
@@ -466,17 +494,23 @@ impl<'run, 'src, X: Expander> Parser<'run, 'src, X> {
         ensures some { IfSome result
             (λ found. reader.accept_operator level (state_of X.answer self.old) ≡ Some (found.0, found.1, state_of X.answer self.new)) }
         ensures none { IfNone result (reader.accept_operator level (state_of X.answer self.old) ≡ None) }
-        ensures unmoved { IfNone result (self.new ≡ self.old) }
-        ensures progress { OnSome result (left self.new < left self.old) }
+        ensures moves { Moves result self.old self.new }
     {
         let entry = self.peek()?;
-        let operator = operator_of(entry.token.kind)?;
+        let operator = find_operator(entry.token.kind)?;
         if is_at(level, operator) {
             self.next += 1;
             Some((operator, entry))
         } else {
             None
         }
+    }
+
+    /// The operator that comes next, if one does.
+    fn peek_operator(&self) -> Option<Operator>
+        ensures { result ≡ reader.front_operator (state_of X.answer self.now).left }
+    {
+        find_operator(self.peek()?.token.kind)
     }
 
     /// No `else` may stand after a branch that ends in a conditional without one.
@@ -527,21 +561,21 @@ fn ends_open(expression: &Expression<'_>) -> bool
 }
 
 #[tactic(auto, using(crate::proofs::Rows::call_is))]
-fn call<'src>(name: Name<'src>, arguments: Vec<Expression<'src>>) -> Expression<'src>
+fn make_call<'src>(name: Name<'src>, arguments: Vec<Expression<'src>>) -> Expression<'src>
     ensures { tree_of result ≡ tree.Call (Named name.entry.token None) (trees_of arguments.entry.items) }
 {
     Expression::Call { name, arguments }
 }
 
 #[tactic(auto, using(crate::proofs::Rows::list_is))]
-fn list<'src>(opener: Token<'src>, elements: Vec<Expression<'src>>) -> Expression<'src>
+fn make_list<'src>(opener: Token<'src>, elements: Vec<Expression<'src>>) -> Expression<'src>
     ensures { tree_of result ≡ tree.ListOf opener.entry (trees_of elements.entry.items) }
 {
     Expression::List { elements, opener }
 }
 
 #[tactic(auto, using(crate::proofs::Rows::format_is))]
-pub(crate) fn format_string<'src>(
+pub(crate) fn make_format_string<'src>(
     start: StringLiteral<'src>,
     expressions: Vec<(Expression<'src>, StringLiteral<'src>)>,
 ) -> Expression<'src>

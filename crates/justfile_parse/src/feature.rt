@@ -1,9 +1,9 @@
-ghost use Rattle.std.specs.Prelude.{◌≡◌, IfErr, OnOk};
+ghost use Rattle.std.specs.Prelude.{◌≡◌};
 ghost use Rattle.justfile_model.specs.Features.{function_feature, noted, noted_if, uncompared_feature};
 ghost use Rattle.justfile_model.specs.Reading.{with};
 ghost use Rattle.justfile_parse.specs.Reader.{note_first};
 ghost use Rattle.justfile_parse.specs.Tree.{tree_of};
-ghost use Rattle.justfile_parse.specs.declared.stop.Stop.TheVariants as stops;
+ghost use Rattle.justfile_parse.specs.Reading.{UnlessMemory};
 
 use crate::parser::Parser;
 use crate::significant::TableEntry;
@@ -21,9 +21,9 @@ impl<'src, X: Expander> Parser<'_, 'src, X> {
         feature: ListFeature,
         token: Token<'src>,
     ) -> Result<(), Stop<'src>>
-        ensures value { OnOk result (state_of X.answer self.new ≡ with (noted feature token.entry) (state_of X.answer self.old)) }
+        ensures notes { UnlessMemory result
+            (λ done. state_of X.answer self.new ≡ with (noted feature token.entry) (state_of X.answer self.old)) }
         ensures stays { left self.new ≡ left self.old }
-        ensures memory { IfErr result (λ stop. stop ≡ stops.Memory) }
     {
         self.list_features.push((feature, token))?;
         Ok(())
@@ -36,9 +36,9 @@ impl<'src, X: Expander> Parser<'_, 'src, X> {
         feature: Option<ListFeature>,
         token: Token<'src>,
     ) -> Result<(), Stop<'src>>
-        ensures value { OnOk result (state_of X.answer self.new ≡ with (noted_if feature token.entry) (state_of X.answer self.old)) }
+        ensures notes { UnlessMemory result
+            (λ done. state_of X.answer self.new ≡ with (noted_if feature token.entry) (state_of X.answer self.old)) }
         ensures stays { left self.new ≡ left self.old }
-        ensures memory { IfErr result (λ stop. stop ≡ stops.Memory) }
     {
         match feature {
             Some(feature) => self.note(feature, token),
@@ -52,13 +52,12 @@ impl<'src, X: Expander> Parser<'_, 'src, X> {
         condition: &Expression<'src>,
         first: Option<TableEntry<'_, 'src>>,
     ) -> Result<(), Stop<'src>>
-        ensures value { OnOk result
-            (state_of X.answer self.new ≡ note_first (tree_of condition.now) first.entry (state_of X.answer self.old)) }
+        ensures notes { UnlessMemory result
+            (λ done. state_of X.answer self.new ≡ note_first (tree_of condition.now) first.entry (state_of X.answer self.old)) }
         ensures stays { left self.new ≡ left self.old }
-        ensures memory { IfErr result (λ stop. stop ≡ stops.Memory) }
     {
         match first {
-            Some(first) => self.note_if(condition_feature(condition), *first.token),
+            Some(first) => self.note_if(find_condition_feature(condition), *first.token),
             None => Ok(()),
         }
     }
@@ -66,7 +65,7 @@ impl<'src, X: Expander> Parser<'_, 'src, X> {
 
 /// The feature that a condition is, if it is no comparison.
 #[tactic(auto, using(crate::proofs::Shapes::assert_plain, crate::proofs::Shapes::conditional_plain, crate::proofs::Shapes::format_plain, crate::proofs::Shapes::join_plain))]
-fn condition_feature(condition: &Expression<'_>) -> Option<ListFeature>
+fn find_condition_feature(condition: &Expression<'_>) -> Option<ListFeature>
     ensures { result ≡ uncompared_feature (tree_of condition.now) }
 {
     match condition {
@@ -90,7 +89,7 @@ fn condition_feature(condition: &Expression<'_>) -> Option<ListFeature>
 }
 
 /// The feature that a function is, if it is one.
-pub(crate) fn function_feature(name: &str) -> Option<ListFeature>
+pub(crate) fn find_function_feature(name: &str) -> Option<ListFeature>
     ensures { result ≡ function_feature name.now }
 {
     if name == "bool" {

@@ -1,5 +1,5 @@
 //! The items of a file, and the numbers that they get.
-ghost use Rattle.std.specs.Prelude.{◌≡◌, ◌<◌, ◌≤◌, ◌∷◌, ◌++◌, [], map, OnOk, OnErr, IfErr};
+ghost use Rattle.std.specs.Prelude.{◌≡◌, ◌<◌, ◌≤◌, ◌∷◌, ◌++◌, [], map, OnOk, OnErr};
 ghost use Rattle.std.specs.Str.{trim_end};
 ghost use Rattle.justfile_base.specs.Token.{lexeme_of};
 ghost use Rattle.justfile_model.specs.SignificantTokens.{identifiers};
@@ -10,10 +10,9 @@ ghost use Rattle.justfile_model.specs.Reading.{after};
 ghost use Rattle.justfile_model.specs.Reader.{after_numbered};
 ghost use Rattle.justfile_parse.specs.Reader as reader;
 ghost use Rattle.justfile_parse.specs.Reader.{State};
-ghost use Rattle.justfile_parse.specs.Reading.{IsMoved, Reads, ReadsNumbered};
+ghost use Rattle.justfile_parse.specs.Reading.{IsMoved, Reads, ReadsNumbered, UnlessMemory};
 ghost use Rattle.justfile_parse.specs.Significant.{significant_of};
 ghost use Rattle.justfile_parse.specs.Tree.{assignment_tree, item_tree};
-ghost use Rattle.justfile_parse.specs.declared.stop.Stop.TheVariants as stops;
 
 use crate::parser::Parser;
 use crate::stop::{Refusal, Stop};
@@ -49,7 +48,7 @@ impl<'src, X: Expander> Parser<'_, 'src, X> {
     fn expect_nothing(&self) -> Result<(), Stop<'src>>
         ensures { Reads (λ nothing. nothing) result (state_of X.answer self.now) (reader.nothing (state_of X.answer self.now)) }
     {
-        match self.first() {
+        match self.peek_front() {
             Some(_entry) => Err(Stop::Refused(Refusal::Unexpected)),
             None => Ok(()),
         }
@@ -69,13 +68,13 @@ impl<'src, X: Expander> Parser<'_, 'src, X> {
         ensures moved { IsMoved numerator.old numerator.new (identifiers (map significant_of (state_of X.answer self.old).left)) }
     {
         if let Some(_newline) = self.accept(TokenKind::Eol) {
-            push(items, Item::Newline)?;
+            push_item(items, Item::Newline)?;
             return Ok(());
         }
         let item = self.parse_item(numerator)?;
         let has_body = item.has_body();
-        push(items, item)?;
-        self.parse_ended(has_body, items)?;
+        push_item(items, item)?;
+        self.parse_item_end(has_body, items)?;
         Ok(())
     }
 
@@ -88,9 +87,9 @@ impl<'src, X: Expander> Parser<'_, 'src, X> {
         ensures unmoved { OnErr result (numerator.new ≡ numerator.old) }
     {
         if let Some(comment) = self.accept(TokenKind::Comment) {
-            return Ok(comment_item(*comment.token));
+            return Ok(make_comment(*comment.token));
         }
-        if self.next_are(&[TokenKind::Identifier, TokenKind::ColonEquals]) {
+        if self.peek_kinds(&[TokenKind::Identifier, TokenKind::ColonEquals]) {
             let assignment = self.parse_assignment(numerator)?;
             return Ok(Item::Assignment(assignment));
         }
@@ -112,7 +111,7 @@ impl<'src, X: Expander> Parser<'_, 'src, X> {
         let name = self.expect(TokenKind::Identifier)?;
         self.expect(TokenKind::ColonEquals)?;
         let value = self.parse_expression()?;
-        let number = next_binding(numerator)?;
+        let number = draw_binding(numerator)?;
         Ok(Binding {
             file_depth: self.file_depth,
             name: Name::from_identifier(*name.token),
@@ -125,28 +124,32 @@ impl<'src, X: Expander> Parser<'_, 'src, X> {
 
     /// What ends an item: after a body a line starts, and the line end before it is made.
     #[tactic(auto, using(crate::proofs::Lines::ended_body, crate::proofs::Lines::ended_behind))]
-    fn parse_ended(&mut self, has_body: bool, items: &mut Vec<Item<'src>>) -> Result<(), Stop<'src>>
+    fn parse_item_end(
+        &mut self,
+        has_body: bool,
+        items: &mut Vec<Item<'src>>,
+    ) -> Result<(), Stop<'src>>
         ensures reads { Reads (λ _. map item_tree items.new.items) result (state_of X.answer self.new)
             (after (map item_tree items.old.items) (reader.ended has_body (state_of X.answer self.old))) }
         ensures progress { OnOk result (left self.new ≤ left self.old) }
     {
         if has_body {
-            push(items, Item::Newline)?;
+            push_item(items, Item::Newline)?;
             return Ok(());
         }
-        self.parse_behind(items)
+        self.parse_after_item(items)
     }
 
     /// What stands after an item without a body: a comment that trails it, and the end of the line.
     #[tactic(auto, using(crate::proofs::Lines::behind_comment, crate::proofs::Lines::behind_bare))]
-    fn parse_behind(&mut self, items: &mut Vec<Item<'src>>) -> Result<(), Stop<'src>>
+    fn parse_after_item(&mut self, items: &mut Vec<Item<'src>>) -> Result<(), Stop<'src>>
         ensures reads { Reads (λ _. map item_tree items.new.items) result (state_of X.answer self.new)
             (after (map item_tree items.old.items) (reader.behind (state_of X.answer self.old))) }
         ensures progress { OnOk result (left self.new ≤ left self.old) }
     {
         match self.accept(TokenKind::Comment) {
             Some(comment) => {
-                push(items, comment_item(*comment.token))?;
+                push_item(items, make_comment(*comment.token))?;
                 self.parse_line_end(items)
             }
             None => self.parse_line_end(items),
@@ -164,14 +167,14 @@ impl<'src, X: Expander> Parser<'_, 'src, X> {
             return Ok(());
         }
         self.expect(TokenKind::Eol)?;
-        push(items, Item::Newline)?;
+        push_item(items, Item::Newline)?;
         Ok(())
     }
 }
 
 /// The number of the next binding.
 #[tactic(auto, unfolding(justfile_model::specs::Reader::draw_binding, crate::specs::Reader::leaves))]
-fn next_binding<'src>(numerator: &mut Numerator) -> Result<Number, Stop<'src>>
+fn draw_binding<'src>(numerator: &mut Numerator) -> Result<Number, Stop<'src>>
     ensures reads { (s : State) → ReadsNumbered (λ number. number.0) result numerator.new s
         (reader.draw_binding (counters_of numerator.old) s) }
     ensures unmoved { OnErr result (numerator.new ≡ numerator.old) }
@@ -190,15 +193,15 @@ pub(crate) fn is_private(name: &[u8]) -> bool
 }
 
 /// A comment, without the white space at its end.
-fn comment_item<'src>(comment: Token<'src>) -> Item<'src>
+fn make_comment<'src>(comment: Token<'src>) -> Item<'src>
     ensures { item_tree result ≡ tree.Comment (trim_end (lexeme_of comment.entry)) }
 {
     Item::Comment(comment.lexeme().trim_end())
 }
 
-fn push<'src>(items: &mut Vec<Item<'src>>, item: Item<'src>) -> Result<(), Stop<'src>>
-    ensures tree { OnOk result (map item_tree items.new.items ≡ map item_tree items.old.items ++ item_tree item.entry ∷ []) }
-    ensures memory { IfErr result (λ stop. stop ≡ stops.Memory) }
+fn push_item<'src>(items: &mut Vec<Item<'src>>, item: Item<'src>) -> Result<(), Stop<'src>>
+    ensures { UnlessMemory result
+        (λ done. map item_tree items.new.items ≡ map item_tree items.old.items ++ item_tree item.entry ∷ []) }
 {
     items.push(item)?;
     Ok(())

@@ -1,15 +1,15 @@
-ghost use Rattle.std.specs.Prelude.{◌≡◌, ◌<◌, IsTrue, IfOk, IfNone, OnSome, option_map};
+ghost use Rattle.std.specs.Prelude.{◌≡◌, IsTrue, IfOk, option_map};
 ghost use Rattle.justfile_base.specs.StringKind.{kind_of};
 ghost use Rattle.justfile_base.specs.Token.{lexeme_of};
 ghost use Rattle.justfile_base.specs.declared.token_kind.TokenKind.TheVariants as kinds;
 ghost use Rattle.justfile_cook.specs.Literal.{is_part};
 ghost use Rattle.justfile_parse.specs.Fault.{IsLiteralFault};
-ghost use Rattle.justfile_parse.specs.Literal.{is_sound};
+ghost use Rattle.justfile_parse.specs.Literal.{IsOf};
 ghost use Rattle.justfile_parse.specs.Reader as reader;
 ghost use Rattle.justfile_parse.specs.Reading.{Reads, TextStops};
 ghost use Rattle.justfile_parse.specs.Tree.{Literal, literal_of, tree_of};
 
-use crate::expression::format_string;
+use crate::expression::make_format_string;
 use crate::parser::Parser;
 use crate::significant::TableEntry;
 use crate::stop::{LiteralRefusal, Stop};
@@ -21,81 +21,85 @@ use justfile_tree::Expression;
 use std::alloc::Global;
 
 impl<'run, 'src, X: Expander> Parser<'run, 'src, X> {
-    ghost use Rattle.justfile_parse.specs.View.{left, state_of};
+    ghost use Rattle.justfile_parse.specs.View.{Moves, state_of};
 
     /// A literal, if one stands next.
     #[tactic(auto, unfolding(justfile_model::specs::ExpressionReader::literal))]
-    pub(crate) fn literal(&mut self) -> Result<Option<Box<Expression<'src>>>, Stop<'src>>
+    pub(crate) fn parse_literal(&mut self) -> Result<Option<Box<Expression<'src>>>, Stop<'src>>
         ensures reads { Reads (option_map (λ e. tree_of e.value)) result (state_of X.answer self.new)
             (reader.literal (state_of X.answer self.old)) }
-        ensures progress { IfOk result (λ found. OnSome found (left self.new < left self.old)) }
-        ensures unmoved { IfOk result (λ found. IfNone found (self.new ≡ self.old)) }
+        ensures moves { IfOk result (λ found. Moves found self.old self.new) }
     {
         if let Some(entry) = self.accept(TokenKind::StringToken) {
-            return Ok(Some(self.string(entry, false)?));
+            return Ok(Some(self.cook_string(entry, false)?));
         }
         if let Some(entry) = self.accept_marked(Keyword::X, TokenKind::StringToken) {
-            return Ok(Some(self.string(entry, true)?));
+            return Ok(Some(self.cook_string(entry, true)?));
         }
         if let Some(entry) = self.accept_marked(Keyword::F, TokenKind::StringToken) {
-            return Ok(Some(self.single(entry)?));
+            return Ok(Some(self.cook_single(entry)?));
         }
         match self.accept(TokenKind::Backtick) {
-            Some(entry) => Ok(Some(self.backtick(entry)?)),
+            Some(entry) => Ok(Some(self.cook_backtick(entry)?)),
             None => Ok(None),
         }
     }
 
     /// The literal that a string is.
     #[tactic(auto, using(crate::proofs::Cooked::quoted_string, crate::proofs::Cooked::string_given, crate::proofs::Cooked::string_refused, crate::proofs::Cooked::is_literal))]
-    fn string(
+    fn cook_string(
         &self,
         entry: TableEntry<'run, 'src>,
         expand: bool,
     ) -> Result<Box<Expression<'src>>, Stop<'src>>
-        requires kind { entry.token.now.kind ≡ kinds.StringToken }
-        requires sound { IsTrue (is_sound entry) }
+        requires { IsOf kinds.StringToken entry }
         ensures reads { Reads (λ e. tree_of e.value) result (state_of X.answer self.now)
             (reader.string expand (entry.entry, state_of X.answer self.now)) }
     {
         match string_literal(self.alloc, *entry.token, expand, self.expander) {
-            Ok(string_literal) => Ok(self.node(Expression::StringLiteral { string_literal })?),
-            Err(fault) => Err(stop(self.alloc, fault)),
+            Ok(string_literal) => Ok(self.box_expression(Expression::StringLiteral {
+                string_literal,
+            })?),
+            Err(fault) => Err(make_stop(self.alloc, fault)),
         }
     }
 
     /// The command that a backtick is.
     #[tactic(auto, using(crate::proofs::Cooked::quoted_command, crate::proofs::Cooked::command_given, crate::proofs::Cooked::command_refused, crate::proofs::Cooked::command_is_literal))]
-    fn backtick(&self, entry: TableEntry<'run, 'src>) -> Result<Box<Expression<'src>>, Stop<'src>>
-        requires kind { entry.token.now.kind ≡ kinds.Backtick }
-        requires sound { IsTrue (is_sound entry) }
+    fn cook_backtick(
+        &self,
+        entry: TableEntry<'run, 'src>,
+    ) -> Result<Box<Expression<'src>>, Stop<'src>>
+        requires { IsOf kinds.Backtick entry }
         ensures reads { Reads (λ e. tree_of e.value) result (state_of X.answer self.now)
             (reader.backtick (entry.entry, state_of X.answer self.now)) }
     {
         match command(self.alloc, *entry.token) {
-            Ok(contents) => Ok(self.node(Expression::Backtick {
+            Ok(contents) => Ok(self.box_expression(Expression::Backtick {
                 contents,
                 token: *entry.token,
             })?),
-            Err(fault) => Err(stop(self.alloc, fault)),
+            Err(fault) => Err(make_stop(self.alloc, fault)),
         }
     }
 
     /// A format string with nothing to fill in.
     #[tactic(auto, using(crate::proofs::Cooked::framed_single, crate::proofs::Rules::single_is))]
-    fn single(&self, entry: TableEntry<'run, 'src>) -> Result<Box<Expression<'src>>, Stop<'src>>
-        requires kind { entry.token.now.kind ≡ kinds.StringToken }
-        requires sound { IsTrue (is_sound entry) }
+    fn cook_single(
+        &self,
+        entry: TableEntry<'run, 'src>,
+    ) -> Result<Box<Expression<'src>>, Stop<'src>>
+        requires { IsOf kinds.StringToken entry }
         ensures reads { Reads (λ e. tree_of e.value) result (state_of X.answer self.now)
             (reader.single (entry.entry, state_of X.answer self.now)) }
     {
-        let literal = self.part(entry, kind_of(entry), FormatStringPart::Single)?;
-        self.node(format_string(literal, Vec::new(self.alloc)))
+        let literal = self.cook_part(entry, find_kind(entry), FormatStringPart::Single)?;
+        self.box_expression(make_format_string(literal, Vec::new(self.alloc)))
     }
 
     /// A part of a format string of this kind.
     #[tactic(auto, using(crate::proofs::Cooked::part_given, crate::proofs::Cooked::part_refused, crate::proofs::Cooked::is_literal))]
-    pub(crate) fn part(
+    pub(crate) fn cook_part(
         &self,
         entry: TableEntry<'run, 'src>,
         kind: StringKind,
@@ -107,20 +111,20 @@ impl<'run, 'src, X: Expander> Parser<'run, 'src, X> {
     {
         match format_part(self.alloc, *entry.token, kind, part) {
             Ok(literal) => Ok(literal),
-            Err(fault) => Err(stop(self.alloc, fault)),
+            Err(fault) => Err(make_stop(self.alloc, fault)),
         }
     }
 }
 
 /// How the literal is delimited.
-pub(crate) fn kind_of(entry: TableEntry<'_, '_>) -> StringKind
+pub(crate) fn find_kind(entry: TableEntry<'_, '_>) -> StringKind
     ensures { result ≡ kind_of (lexeme_of entry.entry.token.now) }
 {
     StringKind::of_opening(entry.token.lexeme().as_bytes())
 }
 
 /// Why a literal has no text.
-fn stop<'src>(alloc: Global, fault: Fault<'src>) -> Stop<'src>
+fn make_stop<'src>(alloc: Global, fault: Fault<'src>) -> Stop<'src>
     requires { IsLiteralFault fault }
     ensures { TextStops result fault.entry }
 {

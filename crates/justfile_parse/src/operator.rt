@@ -9,7 +9,7 @@ use justfile_model::{Level, Operator};
 use justfile_tree::{ConditionalOperator, Expression, ListFeature};
 
 /// What stands to the left of the operators of a level.
-pub(crate) fn operand_level(level: Level) -> Level
+pub(crate) fn find_left_level(level: Level) -> Level
     requires { IsTrue (is_binary level) }
     ensures is { result ≡ operators.operand level }
     ensures tighter { rank result < rank level }
@@ -23,9 +23,9 @@ pub(crate) fn operand_level(level: Level) -> Level
 }
 
 /// What stands to the right of them.
-pub(crate) fn right_level(level: Level) -> Level
+pub(crate) fn find_right_level(level: Level) -> Level
     ensures is { result ≡ operators.right level }
-    ensures few { rank result ≤ 4 }
+    ensures binary { IsTrue (is_binary level) → IsTrue (is_binary result) }
 {
     match level {
         Level::Compared => Level::Conjunct,
@@ -34,7 +34,7 @@ pub(crate) fn right_level(level: Level) -> Level
 }
 
 /// The operator that a token of this kind is, if it is one.
-pub(crate) fn operator_of(kind: TokenKind) -> Option<Operator>
+pub(crate) fn find_operator(kind: TokenKind) -> Option<Operator>
     ensures { result ≡ operators.operator_of kind }
 {
     match kind {
@@ -65,7 +65,7 @@ pub(crate) fn is_at(level: Level, operator: Operator) -> bool
 }
 
 /// The feature that an operator is. The comparison that a condition begins with is none.
-pub(crate) fn feature_of(operator: Operator, condition: bool) -> Option<ListFeature>
+pub(crate) fn find_feature(operator: Operator, condition: bool) -> Option<ListFeature>
     ensures { result ≡ operators.feature_of operator condition }
 {
     match operator {
@@ -83,7 +83,7 @@ pub(crate) fn feature_of(operator: Operator, condition: bool) -> Option<ListFeat
 }
 
 /// An operator between two expressions.
-pub(crate) fn binary<'src>(
+pub(crate) fn make_operation<'src>(
     lhs: Box<Expression<'src>>,
     operator: Operator,
     token: Token<'src>,

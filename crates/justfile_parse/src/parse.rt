@@ -1,20 +1,18 @@
 //! Files from tokens, and from texts: the public calls, and how a file is begun.
-ghost use Rattle.std.specs.Prelude.{◌≡◌, ◌<◌, ◌≤◌, List, length, map, Contains, IfOk, IfErr, IsTrue, string_bytes};
-ghost use Rattle.std.specs.List.{list_all};
+ghost use Rattle.std.specs.Prelude.{◌≡◌, ◌<◌, ◌≤◌, List, length, map, Contains, IfOk, IfErr, string_bytes};
 ghost use Rattle.justfile_base.specs.Modulepath.{module_names, names_of};
 ghost use Rattle.justfile_base.specs.Numerator.{constants_of};
 ghost use Rattle.justfile_model.specs.Lexed.{Lexed};
 ghost use Rattle.justfile_model.specs.SignificantTokens.{identifiers, significant_tokens};
 ghost use Rattle.justfile_model.specs.Tok.{Tok, tok_of};
-ghost use Rattle.justfile_parse.specs.Parsing.{HasNoTree, IsOneLex, IsParsed, IsParsedText, IsUnparsed, version_numbers};
-ghost use Rattle.justfile_cook.specs.Literal.{answers_by};
-ghost use Rattle.justfile_parse.specs.Formats.{AreEnded};
+ghost use Rattle.justfile_parse.specs.Parsing.{HasNoTree, IsOneLex, IsParsed, IsParsedText, IsUnparsed};
+ghost use Rattle.justfile_parse.specs.Conditions.{conditions_of};
+ghost use Rattle.justfile_parse.specs.Formats.{IsTable};
 ghost use Rattle.justfile_parse.specs.Given.{IsInTable};
-ghost use Rattle.justfile_parse.specs.Literal.{is_sound};
 ghost use Rattle.justfile_parse.specs.Reader as reader;
 ghost use Rattle.justfile_parse.specs.Reader.{after_mark};
 ghost use Rattle.justfile_parse.specs.WantsNumber.{counters_of};
-ghost use Rattle.justfile_parse.specs.Reading.{IsFaultOf, IsKindAt, IsMoved, IsPlace, IsRead, IsUnread, ReadsNumbered};
+ghost use Rattle.justfile_parse.specs.Reading.{IsErrorAt, IsFaultOf, IsMoved, IsPlace, IsRead, IsUnread, ReadsNumbered};
 ghost use Rattle.justfile_parse.specs.Significant.{significant_of};
 ghost use Rattle.justfile_parse.specs.Tree.{item_tree};
 
@@ -53,16 +51,14 @@ impl<'run, 'src, X: Expander> Parser<'run, 'src, X> {
         current: Version,
     ) -> CompileResult<'src, Ast<'src>>
         requires { IsOneLex tokens.now }
-        ensures parsed { IfOk result (IsParsed (answers_by X.answer expander.now) (version_numbers current) (map tok_of tokens.now)
+        ensures parsed { IfOk result (IsParsed (conditions_of X.answer expander.now current) (map tok_of tokens.now)
             (Contains tokens.now) file_depth import_offsets.now numerator.old numerator.new) }
         ensures module_path { IfOk result (λ ast. names_of ast.module_path ≡ module_names module_namepath.entry) }
         ensures working_directory { IfOk result (λ ast. string_bytes ast.working_directory ≡ working_directory.now) }
-        ensures unparsed { IfErr result (IsUnparsed (answers_by X.answer expander.now) (version_numbers current) (map tok_of tokens.now)
+        ensures unparsed { IfErr result (IsUnparsed (conditions_of X.answer expander.now current) (map tok_of tokens.now)
             (Contains tokens.now) numerator.old numerator.new) }
         ensures moved { IsMoved numerator.old numerator.new (identifiers (significant_tokens (map tok_of tokens.now))) }
     {
-        // nothing that is parsed yet asks for the version
-        let _ = current;
         let table = significant(alloc, tokens)?;
         let (items, list_features) = Parser::parse_table(
             alloc,
@@ -71,6 +67,7 @@ impl<'run, 'src, X: Expander> Parser<'run, 'src, X> {
             numerator,
             table.as_slice(),
             expander,
+            current,
         )?;
         Ok(Ast {
             items,
@@ -96,12 +93,12 @@ impl<'run, 'src, X: Expander> Parser<'run, 'src, X> {
         expander: &X,
         current: Version,
     ) -> CompileResult<'src, Ast<'src>>
-        ensures parsed { IfOk result (IsParsedText (answers_by X.answer expander.now) (version_numbers current) path.now src.now
+        ensures parsed { IfOk result (IsParsedText (conditions_of X.answer expander.now current) path.now src.now
             source.now.file_depth source.now.import_offsets.now numerator.old numerator.new) }
         ensures module_path { IfOk result (λ ast. names_of ast.module_path ≡ module_names source.now.namepath) }
         ensures working_directory { IfOk result (λ ast. string_bytes ast.working_directory ≡ source.now.working_directory.now) }
         ensures no_tree { IfErr result
-            (HasNoTree (answers_by X.answer expander.now) (version_numbers current) path.now src.now numerator.old numerator.new) }
+            (HasNoTree (conditions_of X.answer expander.now current) path.now src.now numerator.old numerator.new) }
         ensures moved { (tokens : List Tok) → Lexed src.now tokens → IsMoved numerator.old numerator.new
             (identifiers (significant_tokens tokens)) }
         ensures unmoved { ((tokens : List Tok) → Lexed src.now tokens → ⊥) → numerator.new ≡ numerator.old }
@@ -129,18 +126,18 @@ impl<'run, 'src, X: Expander> Parser<'run, 'src, X> {
         numerator: &mut Numerator,
         tokens: &'run [TableEntry<'run, 'src>],
         expander: &'run X,
+        current: Version,
     ) -> CompileResult<'src, (Vec<Item<'src>>, Vec<(ListFeature, Token<'src>)>)>
-        requires nonempty { 0 < length tokens.now }
-        requires sound { IsTrue (list_all is_sound tokens.now) }
-        requires ended { AreEnded (map significant_of tokens.now) }
-        ensures ok { IfOk result (λ x. IsRead (answers_by X.answer expander.now) tokens.now file_depth import_offsets.now
+        requires { IsTable tokens.now }
+        ensures ok { IfOk result (λ x. IsRead (conditions_of X.answer expander.now current) tokens.now file_depth import_offsets.now
             (map significant_of tokens.now) numerator.old numerator.new (x.0.items, x.1.items)) }
-        ensures err { IfErr result (IsUnread (answers_by X.answer expander.now) (map significant_of tokens.now) (IsInTable tokens.now)
-            numerator.old numerator.new) }
+        ensures err { IfErr result (IsUnread (conditions_of X.answer expander.now current) (map significant_of tokens.now)
+            (IsInTable tokens.now) numerator.old numerator.new) }
         ensures moved { IsMoved numerator.old numerator.new (identifiers (map significant_of tokens.now)) }
     {
         let mut parser = Parser {
             alloc,
+            current,
             depth: 0,
             expander,
             file_depth,
@@ -151,7 +148,7 @@ impl<'run, 'src, X: Expander> Parser<'run, 'src, X> {
         };
         match parser.parse_file(numerator) {
             Ok(items) => Ok((items, parser.list_features)),
-            Err(stop) => Err(fault(alloc, tokens, parser.first(), stop)),
+            Err(stop) => Err(make_fault(alloc, tokens, parser.peek_front(), stop)),
         }
     }
 
@@ -176,7 +173,7 @@ impl<'run, 'src, X: Expander> Parser<'run, 'src, X> {
 }
 
 /// The fault for which reading stopped, where this token is next.
-fn fault<'src>(
+fn make_fault<'src>(
     alloc: Global,
     tokens: &[TableEntry<'_, 'src>],
     next: Option<TableEntry<'_, 'src>>,
@@ -186,7 +183,11 @@ fn fault<'src>(
     ensures { IsFaultOf tokens.now next.entry stop.entry result }
 {
     match stop {
-        Stop::Refused(refusal) => Fault::Compile(error(alloc, place(tokens, next), refusal)),
+        Stop::Refused(refusal) => Fault::Compile(make_error(
+            alloc,
+            find_place(tokens, next),
+            refusal,
+        )),
         Stop::Literal(refused) => Fault::Compile(Box::into_inner(refused).error),
         Stop::Memory => Fault::Memory,
         Stop::Numbers => Fault::Numbers,
@@ -194,9 +195,8 @@ fn fault<'src>(
 }
 
 /// The error of a refusal at a token.
-fn error<'src>(alloc: Global, token: Token<'src>, refusal: Refusal) -> CompileError<'src>
-    ensures kind { IsKindAt refusal result.kind result.token }
-    ensures token { result.token ≡ token.entry }
+fn make_error<'src>(alloc: Global, token: Token<'src>, refusal: Refusal) -> CompileError<'src>
+    ensures { IsErrorAt refusal token.entry result }
 {
     token.error(match refusal {
         Refusal::Unexpected => CompileErrorKind::UnexpectedToken {
@@ -209,7 +209,10 @@ fn error<'src>(alloc: Global, token: Token<'src>, refusal: Refusal) -> CompileEr
 
 /// Where a refusal stands: at the next token, or at the last where none is left.
 #[tactic(auto, using(crate::proofs::Rest::in_table, crate::proofs::Rest::last_at))]
-fn place<'src>(tokens: &[TableEntry<'_, 'src>], next: Option<TableEntry<'_, 'src>>) -> Token<'src>
+fn find_place<'src>(
+    tokens: &[TableEntry<'_, 'src>],
+    next: Option<TableEntry<'_, 'src>>,
+) -> Token<'src>
     requires { 0 < length tokens.now }
     ensures { IsPlace tokens.now next.entry result }
 {

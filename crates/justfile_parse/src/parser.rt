@@ -1,26 +1,33 @@
 //! The parser, and how it takes tokens.
-ghost use Rattle.std.specs.Prelude.{◌≡◌, ◌<◌, ◌≤◌, ◌+◌, [], drop, length, map, IsTrue, IfErr, IfOk, OnOk, OnSome, IfSome, IfNone, Some, None};
+ghost use Rattle.std.specs.Prelude.{◌≡◌, ◌<◌, ◌≤◌, ◌+◌, drop, length, map, IsTrue, IfOk, OnOk, OnSome, IfSome};
 ghost use Rattle.std.specs.List.{list_all};
 ghost use Rattle.justfile_base.specs.Keyword.{keyword_text};
 ghost use Rattle.justfile_base.specs.declared.token_kind.TokenKind.TheVariants as kinds;
-ghost use Rattle.justfile_model.specs.Expressions.{depth_limit, front};
+ghost use Rattle.justfile_model.specs.Expressions.{front};
+ghost use Rattle.justfile_parse.specs.Conditions.{depth_limit};
 ghost use Rattle.justfile_parse.specs.Formats.{AreEnded, prop_ended};
-ghost use Rattle.justfile_parse.specs.Literal.{is_sound};
-ghost use Rattle.justfile_model.specs.Reading.{at, before, is_word, marks};
+ghost use Rattle.justfile_parse.specs.Literal.{IsOf, is_sound};
+ghost use Rattle.justfile_model.specs.Reading.{at, is_word, marks};
 ghost use Rattle.justfile_parse.specs.Reader as reader;
-ghost use Rattle.justfile_parse.specs.Reading.{Reads};
+ghost use Rattle.justfile_parse.specs.Reading.{Peeks, Reads, Takes};
 ghost use Rattle.justfile_parse.specs.Significant.{significant_of};
 
 use crate::significant::TableEntry;
 use crate::stop::{Refusal, Stop};
-use justfile_base::{Expander, Keyword, Token, TokenKind};
+use justfile_base::{Expander, Keyword, Token, TokenKind, Version};
 use justfile_tree::ListFeature;
 use std::alloc::Global;
 
 /// Reads a table of significant tokens from left to right.
+///
+/// A method's name says what it does with the tokens that come next: `peek_` looks at them and takes none,
+/// `accept_` takes what it names if that is there, `expect_` refuses what is anything else, and `parse_`
+/// reads a construct, or says why there is none.
 #[derive(Drop)]
 pub struct Parser<'run, 'src, X> {
     pub(crate) alloc: Global,
+    /// The running version.
+    pub(crate) current: Version,
     /// How many expressions are open.
     pub(crate) depth: usize,
     pub(crate) expander: &'run X,
@@ -41,15 +48,13 @@ pub struct Parser<'run, 'src, X> {
 }
 
 impl<'run, 'src, X: Expander> Parser<'run, 'src, X> {
-    ghost use Rattle.justfile_parse.specs.View.{left, state_from, state_of};
+    ghost use Rattle.justfile_parse.specs.View.{Moves, left, state_from, state_of};
 
     /// The next token; it is not taken yet.
     #[tactic(auto, using(crate::proofs::Rest::peeked, crate::proofs::Rest::ended, crate::proofs::Rest::sound_at))]
     pub(crate) fn peek(&self) -> Option<TableEntry<'run, 'src>>
         ensures within { OnSome result (self.now.next < length self.now.tokens.now) }
-        ensures some { IfSome result
-            (λ entry. state_of X.answer self.now ≡ before entry (state_from X.answer self.now (self.now.next + 1))) }
-        ensures none { IfNone result ((state_of X.answer self.now).left ≡ []) }
+        ensures peeks { Peeks result (state_of X.answer self.now) (state_from X.answer self.now (self.now.next + 1)) }
         ensures sound { IfSome result (λ entry. IsTrue (is_sound entry)) }
     {
         if self.next < self.tokens.len() {
@@ -60,7 +65,7 @@ impl<'run, 'src, X: Expander> Parser<'run, 'src, X> {
     }
 
     /// The next token, if there is one.
-    pub(crate) fn first(&self) -> Option<TableEntry<'run, 'src>>
+    pub(crate) fn peek_front(&self) -> Option<TableEntry<'run, 'src>>
         ensures { result ≡ front (state_of X.answer self.now).left }
     {
         self.peek()
@@ -70,11 +75,8 @@ impl<'run, 'src, X: Expander> Parser<'run, 'src, X> {
     #[tactic(auto, unfolding(crate::specs::Reader::leaves, justfile_model::specs::Reading::accept, justfile_model::specs::Reading::same_kind))]
     pub(crate) fn peek_if(&self, kind: TokenKind) -> Option<TableEntry<'run, 'src>>
         ensures within { OnSome result (self.now.next < length self.now.tokens.now) }
-        ensures some { IfSome result
-            (λ entry. reader.accept kind (state_of X.answer self.now) ≡ Some (entry, state_from X.answer self.now (self.now.next + 1))) }
-        ensures none { IfNone result (reader.accept kind (state_of X.answer self.now) ≡ None) }
-        ensures kind { IfSome result (λ entry. entry.token.now.kind ≡ kind) }
-        ensures sound { IfSome result (λ entry. IsTrue (is_sound entry)) }
+        ensures takes { Takes result (state_from X.answer self.now (self.now.next + 1)) (reader.accept kind (state_of X.answer self.now)) }
+        ensures entry { IfSome result (λ entry. IsOf kind entry) }
     {
         match self.peek() {
             Some(entry) if entry.token.kind == kind => Some(entry),
@@ -85,13 +87,9 @@ impl<'run, 'src, X: Expander> Parser<'run, 'src, X> {
     /// Takes the next token if it is of this kind.
     #[tactic(auto, unfolding(crate::specs::View::state_of, crate::specs::View::left))]
     pub(crate) fn accept(&mut self, kind: TokenKind) -> Option<TableEntry<'run, 'src>>
-        ensures some { IfSome result (λ entry. reader.accept kind (state_of X.answer self.old)
-            ≡ Some (entry, state_of X.answer self.new)) }
-        ensures none { IfNone result (reader.accept kind (state_of X.answer self.old) ≡ None) }
-        ensures unmoved { IfNone result (self.new ≡ self.old) }
-        ensures progress { OnSome result (left self.new < left self.old) }
-        ensures kind { IfSome result (λ entry. entry.token.now.kind ≡ kind) }
-        ensures sound { IfSome result (λ entry. IsTrue (is_sound entry)) }
+        ensures takes { Takes result (state_of X.answer self.new) (reader.accept kind (state_of X.answer self.old)) }
+        ensures moves { Moves result self.old self.new }
+        ensures entry { IfSome result (λ entry. IsOf kind entry) }
     {
         let entry = self.peek_if(kind)?;
         self.next += 1;
@@ -101,11 +99,9 @@ impl<'run, 'src, X: Expander> Parser<'run, 'src, X> {
     /// Takes the next token if it is this keyword.
     #[tactic(auto, unfolding(crate::specs::Reader::leaves, justfile_model::specs::Reading::accept_word, crate::specs::View::state_of, crate::specs::View::left))]
     pub(crate) fn accept_keyword(&mut self, keyword: Keyword) -> Option<TableEntry<'run, 'src>>
-        ensures some { IfSome result (λ entry. reader.accept_word (keyword_text keyword) (state_of X.answer self.old)
-            ≡ Some (entry, state_of X.answer self.new)) }
-        ensures none { IfNone result (reader.accept_word (keyword_text keyword) (state_of X.answer self.old) ≡ None) }
-        ensures unmoved { IfNone result (self.new ≡ self.old) }
-        ensures progress { OnSome result (left self.new < left self.old) }
+        ensures takes { Takes result (state_of X.answer self.new)
+            (reader.accept_word (keyword_text keyword) (state_of X.answer self.old)) }
+        ensures moves { Moves result self.old self.new }
         ensures kind { IfSome result (λ entry. entry.token.now.kind ≡ kinds.Identifier) }
     {
         let entry = self.peek()?;
@@ -125,13 +121,10 @@ impl<'run, 'src, X: Expander> Parser<'run, 'src, X> {
         mark: Keyword,
         kind: TokenKind,
     ) -> Option<TableEntry<'run, 'src>>
-        ensures some { IfSome result (λ entry. reader.accept_marked (keyword_text mark) kind (state_of X.answer self.old)
-            ≡ Some (entry, state_of X.answer self.new)) }
-        ensures none { IfNone result (reader.accept_marked (keyword_text mark) kind (state_of X.answer self.old) ≡ None) }
-        ensures unmoved { IfNone result (self.new ≡ self.old) }
-        ensures progress { OnSome result (left self.new < left self.old) }
-        ensures kind { IfSome result (λ entry. entry.token.now.kind ≡ kind) }
-        ensures sound { IfSome result (λ entry. IsTrue (is_sound entry)) }
+        ensures takes { Takes result (state_of X.answer self.new)
+            (reader.accept_marked (keyword_text mark) kind (state_of X.answer self.old)) }
+        ensures moves { Moves result self.old self.new }
+        ensures entry { IfSome result (λ entry. IsOf kind entry) }
     {
         if self.tokens.len() - self.next < 2 {
             return None;
@@ -160,7 +153,7 @@ impl<'run, 'src, X: Expander> Parser<'run, 'src, X> {
     }
 
     /// Whether the next tokens are of these kinds; none is taken yet.
-    pub(crate) fn next_are(&self, kinds: &[TokenKind]) -> bool
+    pub(crate) fn peek_kinds(&self, kinds: &[TokenKind]) -> bool
         ensures is { result ≡ reader.next_are kinds.now (state_of X.answer self.now) }
         ensures within { IsTrue result → length kinds.now ≤ left self.now }
     {

@@ -27,9 +27,9 @@ impl<'src, X: Expander> Parser<'_, 'src, X> {
     {
         let name = self.expect(TokenKind::Identifier)?;
         self.expect(TokenKind::Colon)?;
-        let body = self.parse_body_behind()?;
+        let body = self.parse_body_after_header()?;
         let import_offsets = self.import_offsets.to_vec(self.alloc)?;
-        let number = next_recipe(numerator)?;
+        let number = draw_recipe(numerator)?;
         let shebang = has_shebang(body.as_slice());
         Ok(UnresolvedRecipe {
             body,
@@ -45,7 +45,7 @@ impl<'src, X: Expander> Parser<'_, 'src, X> {
 
 /// The number of the next recipe.
 #[tactic(auto, unfolding(justfile_model::specs::Reader::draw_recipe, crate::specs::Reader::leaves))]
-fn next_recipe<'src>(numerator: &mut Numerator) -> Result<Number, Stop<'src>>
+fn draw_recipe<'src>(numerator: &mut Numerator) -> Result<Number, Stop<'src>>
     ensures reads { (s : State) → ReadsNumbered (λ number. number.0) result numerator.new s
         (reader.draw_recipe (counters_of numerator.old) s) }
     ensures unmoved { OnErr result (numerator.new ≡ numerator.old) }

@@ -28,7 +28,7 @@ pub fn significant<'run, 'src>(
         if is_whitespace(token.kind) {
             glued = false;
         } else {
-            add(&mut table, token, glued)?;
+            push_entry(&mut table, token, glued)?;
             glued = true;
         }
     }
@@ -42,7 +42,7 @@ fn is_whitespace(kind: TokenKind) -> bool
 }
 
 /// Adds an entry to the table.
-fn add<'run, 'src>(
+fn push_entry<'run, 'src>(
     table: &mut Vec<TableEntry<'run, 'src>>,
     token: &'run Token<'src>,
     glued: bool,

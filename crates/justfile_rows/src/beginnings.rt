@@ -1,28 +1,30 @@
 //! That each beginning of a text is answered, and settles once it is printed.
 
-use crate::answer::Answer;
 use crate::expansion::Expansion;
 use crate::fields::indentation_of;
 use crate::files::parse;
 use crate::printing::settles;
 use crate::refusal::push_fault;
-use crate::text::Text;
 use justfile_syntax::ast::Ast;
 use justfile_syntax::compile_error_kind::CompileErrorKind;
 use justfile_syntax::fault::Fault;
+use justfile_syntax::indentation::Indentation;
+use row_notation::{Answer, Text};
+
+/// The indentations at which what is printed is to settle.
+const INDENTATIONS: [&str; 3] = ["    ", "  ", "\t"];
 
 /// Says of a file that can be printed where what is printed does not settle.
 fn settles_everywhere(answer: &mut Answer, ast: &Ast<'_>) {
     if ast.printable() {
-        settles_at(answer, ast, "    ");
-        settles_at(answer, ast, "  ");
-        settles_at(answer, ast, "\t");
+        for blanks in INDENTATIONS {
+            settles_at(answer, ast, indentation_of(blanks));
+        }
     }
 }
 
 /// Says where what is printed of a file at an indentation does not settle.
-fn settles_at(answer: &mut Answer, ast: &Ast<'_>, blanks: &str) {
-    let indentation = indentation_of(blanks);
+fn settles_at(answer: &mut Answer, ast: &Ast<'_>, indentation: Indentation) {
     match ast.print(answer.alloc(), indentation) {
         Ok(printed) => settles(answer, indentation, printed.as_str()),
         Err(_) => answer.fail(),

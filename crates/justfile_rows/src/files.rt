@@ -1,14 +1,12 @@
 //! Rows of texts that are parsed.
 
-use crate::answer::Answer;
 use crate::beginnings::beginnings;
 use crate::expansion::Expansion;
-use crate::fields::{field, indentation_of, number};
-use crate::items::{FILE_DEPTH, IMPORT_OFFSETS, WORKING_DIRECTORY, features, items};
+use crate::fields::indentation_of;
+use crate::items::{FILE_DEPTH, IMPORT_OFFSETS, WORKING_DIRECTORY, features, file};
 use crate::printing::{copies, prints, prints_item};
 use crate::recipes::push_of_recipe;
 use crate::refusal::push_fault;
-use crate::text::Text;
 use crate::values::push_of_value;
 use crate::word::Word;
 use justfile_syntax::ast::Ast;
@@ -18,6 +16,7 @@ use justfile_syntax::numerator::{Number, Numerator};
 use justfile_syntax::parser::Parser;
 use justfile_syntax::source::Source;
 use justfile_syntax::version::Version;
+use row_notation::{Answer, Text, field, number};
 use std::alloc::Global;
 
 /// The version of the language.
@@ -58,10 +57,12 @@ pub(crate) fn parse<'src>(
 fn push_file(answer: &mut Answer, word: Word, fields: &[String], ast: &Ast<'_>) {
     match word {
         Word::Refused => answer.push("taken"),
-        Word::Features => features(answer, ast),
-        Word::Items | Word::Numbers => items(answer, ast),
-        Word::Line | Word::Recipe | Word::Sigils => push_of_recipe(answer, word, fields, ast),
-        Word::Expands | Word::Literal | Word::Value => push_of_value(answer, word, ast),
+        Word::Features => features(answer, &ast.list_features),
+        Word::Items | Word::Numbers => file(answer, ast),
+        Word::Line | Word::Recipe | Word::Sigils => {
+            push_of_recipe(answer, word, fields, &ast.items)
+        }
+        Word::Expands | Word::Literal | Word::Value => push_of_value(answer, word, &ast.items),
         _ => push_printed(answer, word, indentation_for(word, fields), ast),
     }
 }
@@ -71,7 +72,7 @@ fn push_printed(answer: &mut Answer, word: Word, indentation: Indentation, ast: 
     match word {
         Word::Copies => copies(answer, ast, indentation),
         Word::ExpandsTo => push_value_and_text(answer, ast),
-        Word::PrintsItem => prints_item(answer, ast, indentation),
+        Word::PrintsItem => prints_item(answer, &ast.items, indentation),
         _ => prints(answer, ast, indentation),
     }
 }
@@ -86,7 +87,7 @@ fn indentation_for(word: Word, fields: &[String]) -> Indentation {
 
 /// What the first value of a file is made of, and what the file is printed as.
 fn push_value_and_text(answer: &mut Answer, ast: &Ast<'_>) {
-    push_of_value(answer, Word::Value, ast);
+    push_of_value(answer, Word::Value, &ast.items);
     copies(answer, ast, Indentation::default());
 }
 
@@ -97,20 +98,17 @@ fn push_file_and_copy(answer: &mut Answer, word: Word, fields: &[String], ast: &
     push_file(&mut found, word, fields, ast);
     answer.push_all(&found);
     if !matches!(word, Word::Canonical | Word::Prints | Word::PrintsAt) {
-        push_copied(answer, word, fields, ast, &found);
+        let mut copied = Answer::new(answer.alloc());
+        push_copy(&mut copied, word, fields, ast);
+        answer.push_unless("copied", &copied, &found);
     }
 }
 
-/// What a row's word asks of a copy, if that is not this.
-fn push_copied(answer: &mut Answer, word: Word, fields: &[String], ast: &Ast<'_>, found: &Answer) {
-    let Ok(copy) = ast.clone(answer.alloc()) else {
-        return answer.fail();
-    };
-    let mut copied = Answer::new(answer.alloc());
-    push_file(&mut copied, word, fields, &copy);
-    if !copied.is_same(found) {
-        answer.push("copied");
-        answer.push_all(&copied);
+/// What a row's word asks of a copy of a file.
+fn push_copy(answer: &mut Answer, word: Word, fields: &[String], ast: &Ast<'_>) {
+    match ast.clone(answer.alloc()) {
+        Ok(copy) => push_file(answer, word, fields, &copy),
+        Err(_) => answer.fail(),
     }
 }
 

@@ -1,15 +1,16 @@
 //! What is seen of the items of a file.
 
-use crate::answer::Answer;
-use crate::text::Text;
 use justfile_syntax::assignment::Assignment;
 use justfile_syntax::ast::Ast;
 use justfile_syntax::expression::Expression;
 use justfile_syntax::fragment::Fragment;
 use justfile_syntax::item::Item;
 use justfile_syntax::line::Line;
+use justfile_syntax::list_feature::ListFeature;
 use justfile_syntax::name::Name;
 use justfile_syntax::recipe::UnresolvedRecipe;
+use justfile_syntax::token::Token;
+use row_notation::{Answer, Text};
 
 /// What is handed in for each file.
 pub(crate) const FILE_DEPTH: u32 = 2;
@@ -112,12 +113,17 @@ fn push_item(answer: &mut Answer, item: &Item<'_>) {
     answer.push_text(shown);
 }
 
-/// What is seen of a file: a field for each item, and for each thing besides that is not as it was
-/// handed in.
-pub(crate) fn items(answer: &mut Answer, ast: &Ast<'_>) {
-    for item in &ast.items {
+/// What is seen of the items of a file.
+fn push_items(answer: &mut Answer, items: &[Item<'_>]) {
+    for item in items {
         push_item(answer, item);
     }
+}
+
+/// What is seen of a file: a field for each item, and for each thing besides that is not as it was
+/// handed in.
+pub(crate) fn file(answer: &mut Answer, ast: &Ast<'_>) {
+    push_items(answer, &ast.items);
     answer.push_if(
         "directory",
         ast.working_directory.as_str() != WORKING_DIRECTORY,
@@ -126,15 +132,19 @@ pub(crate) fn items(answer: &mut Answer, ast: &Ast<'_>) {
     answer.push_if("indentation", ast.indentation().is_some());
 }
 
-/// The features of a file that the setting for lists allows, each with the offset of its token and
-/// in ‹› its lexeme.
-pub(crate) fn features(answer: &mut Answer, ast: &Ast<'_>) {
-    for (feature, token) in &ast.list_features {
-        let mut shown = Text::new(answer.alloc());
-        shown.put_made(format!(in answer.alloc(); "{feature:?}"));
-        shown.put("@");
-        shown.put_number(token.offset);
-        put_marked(&mut shown, "", token.lexeme());
-        answer.push_text(shown);
+/// The features of a file that need the setting for lists, each with the offset of its token and in
+/// ‹› its lexeme.
+pub(crate) fn features(answer: &mut Answer, features: &[(ListFeature, Token<'_>)]) {
+    for (feature, token) in features {
+        push_feature(answer, *feature, token);
     }
+}
+
+fn push_feature(answer: &mut Answer, feature: ListFeature, token: &Token<'_>) {
+    let mut shown = Text::new(answer.alloc());
+    shown.put_made(format!(in answer.alloc(); "{feature:?}"));
+    shown.put("@");
+    shown.put_number(token.offset);
+    put_marked(&mut shown, "", token.lexeme());
+    answer.push_text(shown);
 }

@@ -1,12 +1,12 @@
 //! Does what rows say, and compares.
 
-use crate::answer::Answer;
-use crate::fields::{are_readable, field};
+use crate::fields::are_readable;
 use crate::files::push_fields;
 use crate::lexing::lex;
 use crate::program::{formats, runs};
 use crate::texts::{class, cooks, indentation, keyword, opens, unindents, version};
 use crate::word::Word;
+use row_notation::{Answer, field};
 use std::alloc::{AllocError, Global};
 
 /// What became of a row.
@@ -46,6 +46,7 @@ fn found(alloc: Global, word: Word, fields: &[String]) -> Answer {
     let mut answer = Answer::new(alloc);
     let text = field(fields, 0);
     match word {
+        Word::Breaks | Word::Run => runs(&mut answer, word, fields),
         Word::Class => class(&mut answer, text),
         Word::Cooks => cooks(&mut answer, text),
         Word::Formats => formats(&mut answer, text),
@@ -55,7 +56,6 @@ fn found(alloc: Global, word: Word, fields: &[String]) -> Answer {
             lex(&mut answer, word, text);
         }
         Word::Opens => opens(&mut answer, text),
-        Word::Run => runs(&mut answer, text, field(fields, 1)),
         Word::Unindents => unindents(&mut answer, text),
         Word::Version => version(&mut answer, text),
         _ => push_fields(&mut answer, word, fields),

@@ -1,8 +1,6 @@
 //! What texts are lexed to.
 
-use crate::answer::Answer;
 use crate::refusal::{kind_of, place_after, push_fault};
-use crate::text::Text;
 use crate::word::Word;
 use justfile_syntax::compile_error::CompileError;
 use justfile_syntax::fault::Fault;
@@ -11,6 +9,7 @@ use justfile_syntax::parser::{TableEntry, significant};
 use justfile_syntax::string_kind::StringKind;
 use justfile_syntax::token::Token;
 use justfile_syntax::token_kind::TokenKind;
+use row_notation::{Answer, Text};
 
 /// The lexemes that an answer leaves out.
 static USUAL_LEXEMES: &[(TokenKind, &str)] = &[

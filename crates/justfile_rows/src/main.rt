@@ -9,10 +9,8 @@
 //! status is 0 if the files could be read. `docs/ROWS.md` has the notation and the words.
 #![tactic(auto)]
 
-mod answer;
 mod beginnings;
 mod expansion;
-mod field_reader;
 mod fields;
 mod files;
 mod items;
@@ -22,14 +20,13 @@ mod printing;
 mod program;
 mod recipes;
 mod refusal;
-mod row;
-mod text;
+mod stream;
 mod texts;
 mod values;
 mod word;
 
 use crate::judge::{Outcome, outcome_of};
-use crate::row::{Row, rows_of};
+use row_notation::{Row, rows_of};
 use std::{env, fs, io};
 
 /// How many rows hold, fail and can't be read.

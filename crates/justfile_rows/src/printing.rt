@@ -1,21 +1,20 @@
 //! What files are printed as.
 
-use crate::answer::Answer;
 use crate::expansion::Expansion;
 use crate::files::parse;
 use crate::refusal::push_fault;
 use justfile_syntax::ast::Ast;
 use justfile_syntax::indentation::Indentation;
 use justfile_syntax::item::Item;
+use row_notation::Answer;
 
 /// What a file is printed as at an indentation.
 pub(crate) fn copies(answer: &mut Answer, ast: &Ast<'_>, indentation: Indentation) {
     answer.push_made(ast.print(answer.alloc(), indentation));
 }
 
-/// What a file is printed as at an indentation. Behind it stands `unprintable` if the file says that
-/// this would not parse back; else what keeps the printed text from being a file that says that it
-/// can be printed and prints as itself.
+/// What a file is printed as at an indentation. After it stands `unprintable` if the file says that
+/// this would not parse back; else what the printed text is if it does not settle.
 pub(crate) fn prints(answer: &mut Answer, ast: &Ast<'_>, indentation: Indentation) {
     let Ok(printed) = ast.print(answer.alloc(), indentation) else {
         return answer.fail();
@@ -28,30 +27,29 @@ pub(crate) fn prints(answer: &mut Answer, ast: &Ast<'_>, indentation: Indentatio
     }
 }
 
-/// Says what a printed text prints as, if that is another text, or why it is no file.
+/// Says that a printed text is no file that can be printed and prints as this text, and what it is
+/// instead.
 pub(crate) fn settles(answer: &mut Answer, indentation: Indentation, printed: &str) {
+    let mut again = Answer::new(answer.alloc());
     match parse(answer.alloc(), &Expansion::Unchanged, printed) {
-        Ok(ast) => prints_as(answer, &ast, indentation, printed),
-        Err(fault) => push_fault(answer, printed, &fault),
+        Ok(ast) => prints_once(&mut again, &ast, indentation),
+        Err(fault) => push_fault(&mut again, printed, &fault),
     }
+    let mut expected = Answer::new(answer.alloc());
+    expected.push(printed);
+    answer.push_unless("unsettled", &again, &expected);
 }
 
-/// Says whether a file can't be printed, and what it prints as if that is not this.
-fn prints_as(answer: &mut Answer, ast: &Ast<'_>, indentation: Indentation, printed: &str) {
+/// What a file is printed as at an indentation, and whether it says that this would not parse back.
+fn prints_once(answer: &mut Answer, ast: &Ast<'_>, indentation: Indentation) {
+    copies(answer, ast, indentation);
     answer.push_if("unprintable", !ast.printable());
-    let Ok(again) = ast.print(answer.alloc(), indentation) else {
-        return answer.fail();
-    };
-    if again.as_str() != printed {
-        answer.push("unsettled");
-        answer.push(again.as_str());
-    }
 }
 
-/// Whether the first item of a file has a body, and what it is printed as alone at an indentation.
-/// Behind that stands what an assignment is written as.
-pub(crate) fn prints_item(answer: &mut Answer, ast: &Ast<'_>, indentation: Indentation) {
-    match ast.items.first() {
+/// Whether the first of a file's items has a body, and what it is printed as alone at an indentation.
+/// After that stands what an assignment is written as.
+pub(crate) fn prints_item(answer: &mut Answer, items: &[Item<'_>], indentation: Indentation) {
+    match items.first() {
         Some(item) => push_item(answer, item, indentation),
         None => answer.push("none"),
     }

@@ -1,16 +1,51 @@
 //! Runs of the program `justfmt`.
 
-use crate::answer::Answer;
+use crate::stream::Stream;
+use crate::word::Word;
 use justfile_format::run::run;
+use row_notation::{Answer, field, number};
 use std::alloc::{AllocError, Global};
 use std::str;
 
-/// What a run leaves behind.
+/// The streams of a run.
 #[derive(Drop)]
-struct Outcome {
-    status: u8,
-    output: Vec<u8>,
-    errors: Vec<u8>,
+struct Streams<'row> {
+    input: Stream<'row>,
+    output: Stream<'row>,
+    errors: Stream<'row>,
+}
+
+impl<'row> Streams<'row> {
+    /// Streams of a run whose standard input is this.
+    fn new(alloc: Global, input: &'row [u8]) -> Self {
+        Streams {
+            input: Stream::new(alloc, input),
+            output: Stream::new(alloc, b""),
+            errors: Stream::new(alloc, b""),
+        }
+    }
+
+    /// Makes what a row names fail after so many calls.
+    fn fail(&mut self, name: &str, calls: u32) {
+        match name {
+            "reading" => self.input.calls = calls,
+            "writing" => self.output.calls = calls,
+            "flushing" => self.output.fails_at_flush = true,
+            "reporting" => self.errors.calls = calls,
+            _ => {}
+        }
+    }
+
+    /// Runs the program, and answers its status.
+    fn run(&mut self, alloc: Global, arguments: &[String]) -> u8 {
+        run(
+            alloc,
+            arguments,
+            &mut self.input,
+            &mut self.output,
+            &mut self.errors,
+        )
+    }
 }
 
 /// The text that bytes are, or `not UTF-8`.
@@ -27,61 +62,66 @@ fn arguments(alloc: Global, argument: &str) -> Result<Vec<String>, AllocError> {
     Ok(arguments)
 }
 
-/// Runs the program with these arguments over a text.
-fn run_over(alloc: Global, arguments: &[String], source: &str) -> Outcome {
-    let mut reader = source.as_bytes();
-    let mut output = Vec::new(alloc);
-    let mut errors = Vec::new(alloc);
-    let status = run(alloc, arguments, &mut reader, &mut output, &mut errors);
-    Outcome {
-        status,
-        output,
-        errors,
+/// Runs the program with one argument, or none where it is empty, and answers its status.
+fn run_over(answer: &mut Answer, argument: &str, streams: &mut Streams<'_>) -> u8 {
+    match arguments(answer.alloc(), argument) {
+        Ok(arguments) => streams.run(answer.alloc(), arguments.as_slice()),
+        Err(_) => {
+            answer.fail();
+            0
+        }
     }
 }
 
 /// The status of a run, its output, and what it wrote to standard error.
-pub(crate) fn runs(answer: &mut Answer, argument: &str, source: &str) {
-    match arguments(answer.alloc(), argument) {
-        Ok(arguments) => push_run(answer, arguments.as_slice(), source),
-        Err(_) => answer.fail(),
-    }
+fn push_run(answer: &mut Answer, argument: &str, streams: &mut Streams<'_>) {
+    let status = run_over(answer, argument, streams);
+    answer.push_number(status as usize);
+    answer.push(text_of(&streams.output.written));
+    answer.push(text_of(&streams.errors.written));
 }
 
-fn push_run(answer: &mut Answer, arguments: &[String], source: &str) {
-    let outcome = run_over(answer.alloc(), arguments, source);
-    answer.push_number(outcome.status as usize);
-    answer.push(text_of(&outcome.output));
-    answer.push(text_of(&outcome.errors));
+/// The run of a row, in which the input, a stream or nothing fails.
+pub(crate) fn runs(answer: &mut Answer, word: Word, fields: &[String]) {
+    let is_plain = word == Word::Run;
+    let name = if is_plain { "" } else { field(fields, 0) };
+    let argument_place = if is_plain { 0 } else { 2 };
+    let input = if name == "encoding" {
+        b"\xff"
+    } else {
+        field(fields, argument_place + 1).as_bytes()
+    };
+    let mut streams = Streams::new(answer.alloc(), input);
+    streams.fail(name, number(fields, 1));
+    push_run(answer, field(fields, argument_place), &mut streams);
 }
 
 /// What a text is formatted to. After it stands what else the run leaves behind, and what a run
 /// over the formatted text and one that checks it do otherwise.
 pub(crate) fn formats(answer: &mut Answer, source: &str) {
-    let outcome = run_over(answer.alloc(), &[], source);
-    let formatted = text_of(&outcome.output);
+    let mut streams = Streams::new(answer.alloc(), source.as_bytes());
+    let status = run_over(answer, "", &mut streams);
+    let formatted = text_of(&streams.output.written);
     answer.push(formatted);
-    push_rest(answer, &outcome);
-    let again = run_over(answer.alloc(), &[], formatted);
-    answer.push_if("unsettled", text_of(&again.output) != formatted);
-    push_rest(answer, &again);
-    match arguments(answer.alloc(), "--check") {
-        Ok(arguments) => push_check(answer, arguments.as_slice(), formatted),
-        Err(_) => answer.fail(),
-    }
+    push_rest(answer, status, &streams);
+    push_again(answer, "", formatted, formatted);
+    push_again(answer, "--check", formatted, "");
 }
 
-/// What a run that checks a text leaves behind, if it is something.
-fn push_check(answer: &mut Answer, arguments: &[String], formatted: &str) {
-    let checked = run_over(answer.alloc(), arguments, formatted);
-    answer.push_if("output", !checked.output.is_empty());
-    push_rest(answer, &checked);
+/// What a run over a formatted text does but for writing what is expected.
+fn push_again(answer: &mut Answer, argument: &str, formatted: &str, expected: &str) {
+    let mut streams = Streams::new(answer.alloc(), formatted.as_bytes());
+    let status = run_over(answer, argument, &mut streams);
+    let written = text_of(&streams.output.written);
+    answer.push_if("unsettled", written != expected);
+    push_rest(answer, status, &streams);
 }
 
 /// The status of a run if it is not 0, and what it wrote to standard error if it wrote something.
-fn push_rest(answer: &mut Answer, outcome: &Outcome) {
-    if outcome.status != 0 {
-        answer.push_number(outcome.status as usize);
+fn push_rest(answer: &mut Answer, status: u8, streams: &Streams<'_>) {
+    if status != 0 {
+        answer.push_number(status as usize);
     }
-    answer.push_if(text_of(&outcome.errors), !outcome.errors.is_empty());
+    let errors = text_of(&streams.errors.written);
+    answer.push_if(errors, !errors.is_empty());
 }

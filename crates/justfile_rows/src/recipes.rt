@@ -1,17 +1,15 @@
 //! What is seen of the first recipe of a file and of the lines of its body.
 
-use crate::answer::Answer;
-use crate::fields::{field, number};
 use crate::items::{FILE_DEPTH, IMPORT_OFFSETS};
 use crate::word::Word;
-use justfile_syntax::ast::Ast;
 use justfile_syntax::item::Item;
 use justfile_syntax::line::Line;
 use justfile_syntax::recipe::UnresolvedRecipe;
+use row_notation::{Answer, field, number};
 
-/// The first recipe of a file.
-fn first_recipe<'ast, 'src>(ast: &'ast Ast<'src>) -> Option<&'ast UnresolvedRecipe<'src>> {
-    for item in &ast.items {
+/// The first recipe of a file's items.
+fn first_recipe<'ast, 'src>(items: &'ast [Item<'src>]) -> Option<&'ast UnresolvedRecipe<'src>> {
+    for item in items {
         if let Item::Recipe(recipe) = item {
             return Some(recipe);
         }
@@ -19,9 +17,14 @@ fn first_recipe<'ast, 'src>(ast: &'ast Ast<'src>) -> Option<&'ast UnresolvedReci
     None
 }
 
-/// What a row's word asks of the first recipe of a file.
-pub(crate) fn push_of_recipe(answer: &mut Answer, word: Word, fields: &[String], ast: &Ast<'_>) {
-    match first_recipe(ast) {
+/// What a row's word asks of the first recipe of a file's items.
+pub(crate) fn push_of_recipe(
+    answer: &mut Answer,
+    word: Word,
+    fields: &[String],
+    items: &[Item<'_>],
+) {
+    match first_recipe(items) {
         Some(recipe) if word == Word::Recipe => push_recipe(answer, recipe),
         Some(recipe) => push_of_body(answer, word, fields, recipe.body.as_slice()),
         None => answer.push("none"),

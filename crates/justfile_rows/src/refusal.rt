@@ -1,9 +1,9 @@
 //! Why texts are refused, and where.
 
-use crate::answer::Answer;
 use justfile_syntax::compile_error::CompileError;
 use justfile_syntax::compile_error_kind::CompileErrorKind;
 use justfile_syntax::fault::Fault;
+use row_notation::Answer;
 use std::alloc::{AllocError, Global};
 
 /// The line and the column after the text's beginning `before`. The last newline of a text begins

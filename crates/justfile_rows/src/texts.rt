@@ -1,6 +1,5 @@
 //! Texts that are no justfiles: literals, versions, indentations, keywords, bytes.
 
-use crate::answer::Answer;
 use crate::lexing::push_string_kind;
 use crate::refusal::push_fault;
 use justfile_syntax::byte_class::byte_class;
@@ -12,6 +11,7 @@ use justfile_syntax::token::Token;
 use justfile_syntax::token_kind::TokenKind;
 use justfile_syntax::unindent::unindent;
 use justfile_syntax::version::Version;
+use row_notation::Answer;
 
 /// The token at which texts with bad escapes are refused.
 const LITERAL: Token<'static> = Token {

@@ -4,6 +4,7 @@
 #[derive(Clone, Copy, PartialEq, Eq)]
 pub(crate) enum Word {
     Beginnings,
+    Breaks,
     Canonical,
     Class,
     Cooks,
@@ -38,6 +39,7 @@ pub(crate) enum Word {
 /// The words as they are written, with the number of fields that a row has at least.
 static WORDS: &[(&str, Word, usize)] = &[
     ("beginnings", Word::Beginnings, 2),
+    ("breaks", Word::Breaks, 4),
     ("canonical", Word::Canonical, 1),
     ("class", Word::Class, 1),
     ("cooks", Word::Cooks, 1),

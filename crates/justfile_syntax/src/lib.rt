@@ -80,6 +80,10 @@ pub mod laws {
         answer_for_all, eof_is_last, in_order, lines_start_at_column_0, offsets_rise, one_answer,
         tiling,
     };
+    pub use justfile_model::lexing_laws::{
+        bodies_follow_colons, levels_close_before_blank_lines, literals_end_at_first_end,
+        open_is_unclosed, reads_up_to_first_end,
+    };
 }
 
 pub mod lexer {

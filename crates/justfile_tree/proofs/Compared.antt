@@ -12,7 +12,8 @@ use Rattle.justfile_base.specs.declared.string_literal.StringLiteral.{StringLite
 use Rattle.justfile_tree.specs.Key.{Key, node, end, next, token_key, literal_key, row, keys_of, key_cmp, keys_cmp}
 use Rattle.justfile_tree.specs.KeyLaws.{then_end}
 use Rattle.justfile_tree.specs.Order.{key, part_key, row_keys, row_parts}
-use Rattle.justfile_tree.specs.declared.expression.Expression.{Expression, Call, Call', FormatString, FormatString', List as List_of, List', Row_of-Expression, end_of-Expression, more_of-Expression, Row_of-Expression-FormatString-1-2, end_of-Expression-FormatString-1-2, more_of-Expression-FormatString-1-2, items-the_row-Expression, items-the_row-Expression-FormatString-1-2, items_hidden-the_row-Expression-0, items_hidden-the_row-Expression-FormatString-1-2-1}
+use Rattle.justfile_tree.specs.declared.expression.Expression.{Expression, Call, FormatString, List as List_of, Row_of-Expression, end_of-Expression, more_of-Expression, Row_of-Expression-FormatString-1-2, end_of-Expression-FormatString-1-2, more_of-Expression-FormatString-1-2, items-the_row-Expression, items-the_row-Expression-FormatString-1-2, items_hidden-the_row-Expression-0, items_hidden-the_row-Expression-FormatString-1-2-1}
+use Rattle.justfile_tree.proofs.ExpressionRows.{row_of, part_row_of}
 
 module _ {X : Type 0} (R : X → X → Ordering) where
   shift : (a b : ℕ) → nat_cmp a b ≡ nat_cmp (suc a) (suc b)
@@ -45,15 +46,6 @@ row_is n (more_of-Expression e others) = ap (next (key e)) (row_is _ others)
 parts_are : (n : Count) (items : Row_of-Expression-FormatString-1-2 n) → row_parts items ≡ keys_of part_key (items-the_row-Expression-FormatString-1-2 n items)
 parts_are n end_of-Expression-FormatString-1-2 = refl
 parts_are n (more_of-Expression-FormatString-1-2 e part others) = ap (next (part_key (e, part))) (parts_are _ others)
-
-abbrev row_of : Expression → (n : Count) × Row_of-Expression n
-row_of (Call' name _ items) = (_, items)
-row_of (List' _ items opener) = (_, items)
-row_of _ = (_, end_of-Expression)
-
-abbrev part_row_of : Expression → (n : Count) × Row_of-Expression-FormatString-1-2 n
-part_row_of (FormatString' start _ items) = (_, items)
-part_row_of _ = (_, end_of-Expression-FormatString-1-2)
 
 abbrev call_key : Name → List Expression → Key
 call_key name arguments = node 3 (next (token_key name.token) (next (row (keys_of key arguments)) end))

@@ -10,7 +10,8 @@ use Rattle.justfile_base.specs.declared.token.Token.{Token}
 use Rattle.justfile_base.specs.declared.string_literal.StringLiteral.{StringLiteral}
 use Rattle.justfile_base.specs.StringLiteral.{IsSameLiteral}
 use Rattle.justfile_tree.specs.Copies.{IsSameExpression, AreSameExpressions, IsSamePart, AreSameParts}
-use Rattle.justfile_tree.specs.declared.expression.Expression.{Expression, Call, Call', FormatString, FormatString', List as List_of, List', Row_of-Expression, end_of-Expression, more_of-Expression, Row_of-Expression-FormatString-1-2, end_of-Expression-FormatString-1-2, more_of-Expression-FormatString-1-2, items-the_row-Expression, items-the_row-Expression-FormatString-1-2, items_hidden-the_row-Expression-0, items_hidden-the_row-Expression-FormatString-1-2-1}
+use Rattle.justfile_tree.specs.declared.expression.Expression.{Expression, Call, FormatString, List as List_of, Row_of-Expression, end_of-Expression, more_of-Expression, Row_of-Expression-FormatString-1-2, end_of-Expression-FormatString-1-2, more_of-Expression-FormatString-1-2, items-the_row-Expression, items-the_row-Expression-FormatString-1-2, items_hidden-the_row-Expression-0, items_hidden-the_row-Expression-FormatString-1-2-1}
+use Rattle.justfile_tree.proofs.ExpressionRows.{row_of, part_row_of}
 
 -- one more copy, of one more original
 pub one_more : {X : Type 0} (R : X → X → Type 0) (copies all later : List X) (i : ℕ) (copy original : X) → i < length all → original ≡ get_or all i original
@@ -34,15 +35,6 @@ same_parts m n end_of-Expression-FormatString-1-2 end_of-Expression-FormatString
 same_parts m n end_of-Expression-FormatString-1-2 (more_of-Expression-FormatString-1-2 original part' originals) same = same
 same_parts m n (more_of-Expression-FormatString-1-2 copy part copies) end_of-Expression-FormatString-1-2 same = same
 same_parts m n (more_of-Expression-FormatString-1-2 copy part copies) (more_of-Expression-FormatString-1-2 original part' originals) same = (same.0.0, same.0.1, same_parts _ _ copies originals same.1)
-
-abbrev row_of : Expression → (n : Count) × Row_of-Expression n
-row_of (Call' name _ row) = (_, row)
-row_of (List' _ row opener) = (_, row)
-row_of _ = (_, end_of-Expression)
-
-abbrev part_row_of : Expression → (n : Count) × Row_of-Expression-FormatString-1-2 n
-part_row_of (FormatString' start _ row) = (_, row)
-part_row_of _ = (_, end_of-Expression-FormatString-1-2)
 
 same_items : (v w : Vec Expression) (name : Name) → AllZip IsSameExpression v.items w.items → AreSameExpressions (row_of (Call name v)).1 (row_of (Call name w)).1
 same_items v w name same =

@@ -5,9 +5,9 @@ use Rattle.justfile_base.specs.declared.string_literal.StringLiteral as literals
 use Rattle.justfile_base.specs.StringLiteral.{format_mark, literal_marks}
 use Rattle.justfile_base.specs.Token.{lexeme_of}
 use Rattle.justfile_model.specs.Printing.{piece, is_conditional, mark_text, other_text}
-use Rattle.justfile_tree.specs.Children.{Child, ended, then_text, format_children, start, children, opener, before_other, after_other}
+use Rattle.justfile_tree.specs.Children.{Child, row_children, then_text, format_children, start_texts, children, opening_text, before_other, after_other}
 use Rattle.justfile_tree.specs.Expression.{expr_shape}
-use Rattle.justfile_tree.specs.Text.{text_of, separated, part_text}
+use Rattle.justfile_tree.specs.Text.{text_of, separated, format_part_text}
 use Rattle.justfile_tree.specs.Texts.{texts_joined}
 use Rattle.justfile_tree.proofs.Rows.{separated_row, format_row}
 use Rattle.justfile_tree.specs.declared.expression.Expression.{Expression, And', Assert', Backtick, Call', Comparison', Concatenation', Conditional', FormatString', Group', Join', List', ListConcatenation', Not', Or', StringLiteral, Variable, None', Some', items-the_row-Expression, items-the_row-Expression-FormatString-1-2}
@@ -16,13 +16,13 @@ abbrev pub child_text : Child → List ℕ
 child_text c = text_of c.0 ++ texts_joined c.1
 
 -- elements with what closes their row
-closed : (closing : List ℕ) (e : Expression) (es : List Expression) → flat_map child_text (ended (then_text (codes ", ")) (then_text closing) (e ∷ es)) ≡ separated (map text_of (e ∷ es)) ++ closing
+closed : (closing : List ℕ) (e : Expression) (es : List Expression) → flat_map child_text (row_children (then_text (codes ", ")) (then_text closing) (e ∷ es)) ≡ separated (map text_of (e ∷ es)) ++ closing
 unfolding piece
 closed closing e [] = simp append-nil
 closed closing e (next ∷ es) = ap (λ t. (text_of e ++ codes ", ") ++ t) (closed closing next es) ∙ simp append_assoc
 
 bracketed : (opening closing both name : List ℕ) (es : List Expression) → both ≡ opening ++ closing
-    → (name ++ opener both opening es) ++ flat_map child_text (ended (then_text (codes ", ")) (then_text closing) es) ≡ ((name ++ opening) ++ separated (map text_of es)) ++ closing
+    → (name ++ opening_text both opening es) ++ flat_map child_text (row_children (then_text (codes ", ")) (then_text closing) es) ≡ ((name ++ opening) ++ separated (map text_of es)) ++ closing
 bracketed opening closing both name [] e = rw e (simp (append_assoc, append-nil))
 bracketed opening closing both name (e ∷ es) is = ap (λ t. (name ++ opening) ++ t) (closed closing e es) ∙ simp append_assoc
 
@@ -32,15 +32,15 @@ last_part s t m l = simp (append_assoc, append-nil)
 inner_part : (s t m l more : List ℕ) → s ++ ((t ++ (s ++ (m ++ (l ++ s)))) ++ more) ≡ ((((s ++ t) ++ s) ++ (m ++ l)) ++ (s ++ more))
 inner_part s t m l more = simp append_assoc
 
-filled : (p : Expression × literals.StringLiteral) (ps : List (Expression × literals.StringLiteral)) → codes " " ++ flat_map child_text (format_children (p ∷ ps)) ≡ flat_map part_text (p ∷ ps)
+filled : (p : Expression × literals.StringLiteral) (ps : List (Expression × literals.StringLiteral)) → codes " " ++ flat_map child_text (format_children (p ∷ ps)) ≡ flat_map format_part_text (p ∷ ps)
 unfolding piece
 filled p [] = last_part (codes " ") (text_of p.0) (literal_marks p.1) (lexeme_of p.1.token)
 filled p (next ∷ ps) =
     inner_part (codes " ") (text_of p.0) (literal_marks p.1) (lexeme_of p.1.token) (flat_map child_text (format_children (next ∷ ps)))
-    ∙ ap (λ t. part_text p ++ t) (filled next ps)
+    ∙ ap (λ t. format_part_text p ++ t) (filled next ps)
 
 format_closed : (token : List ℕ) (ps : List (Expression × literals.StringLiteral))
-    → (codes "f" ++ (token ++ opener [] (codes " ") ps)) ++ flat_map child_text (format_children ps) ≡ (codes "f" ++ token) ++ flat_map part_text ps
+    → (codes "f" ++ (token ++ opening_text [] (codes " ") ps)) ++ flat_map child_text (format_children ps) ≡ (codes "f" ++ token) ++ flat_map format_part_text ps
 format_closed token [] = append-nil _ ∙ ap (λ l. codes "f" ++ l) (append-nil token) ∙ sym (append-nil _)
 format_closed token (p ∷ ps) =
     ap (λ l. l ++ flat_map child_text (format_children (p ∷ ps))) (sym (append_assoc (codes "f") token (codes " ")))
@@ -67,7 +67,7 @@ unfolding piece
 marked true m l = marked_by (codes "x") m l
 marked false m l = marked_by [] m l
 
-pub joined : (e : Expression) → texts_joined (start e) ++ flat_map child_text (children e) ≡ text_of e
+pub joined : (e : Expression) → texts_joined (start_texts e) ++ flat_map child_text (children e) ≡ text_of e
 unfolding piece
 joined (And' p lhs q rhs) = simp (append_assoc, append-nil)
 joined (Assert' p condition None' name) = simp (append_assoc, append-nil)

@@ -2,6 +2,7 @@ mod Compared
 mod Conditionals
 mod Copied
 mod Ended
+mod ExpressionRows
 mod Joined
 mod Loops
 mod Nodes

@@ -3,7 +3,7 @@ use mathlib.Core.Former.{Count}
 use Rattle.std.proofs.Common.{◌≡◌, ℕ, ◌+◌, ◌<◌, zero, suc, Some, List, [], ◌∷◌, arith, subst}
 use Rattle.std.specs.List.{slice_get}
 use Rattle.justfile_base.specs.declared.string_literal.StringLiteral as literals
-use Rattle.justfile_tree.specs.Children.{Child, children, ended, then_text, then_part}
+use Rattle.justfile_tree.specs.Children.{Child, children, row_children, then_text, then_part}
 use Rattle.justfile_tree.specs.declared.expression.Expression.{Expression, And', Assert', Backtick, Call', Comparison', Concatenation', Conditional', FormatString', Group', Join', List', ListConcatenation', Not', Or', StringLiteral, Variable, Held-Expression-Assert-1, None', Some', Row_of-Expression, end_of-Expression, more_of-Expression, Row_of-Expression-FormatString-1-2, end_of-Expression-FormatString-1-2, more_of-Expression-FormatString-1-2, items-the_row-Expression, items-the_row-Expression-FormatString-1-2}
 
 abbrev mutual
@@ -37,7 +37,7 @@ abbrev mutual
   part_nodes end_of-Expression-FormatString-1-2 = 0
   part_nodes (more_of-Expression-FormatString-1-2 e literal others) = nodes e + part_nodes others
 
--- it holds of each element
+-- each element of a list has the property
 abbrev Each : {X : Type 0} → (X → Type 0) → List X → Type 0
 Each P [] = Unit {0}
 Each P (x ∷ xs) = P x × Each P xs
@@ -49,7 +49,7 @@ each_at P (y ∷ ys) (suc i) x h e = each_at P ys i x h.1 e
 
 module _ {X : Type 0} (inner last : X → Child) (n : ℕ) where
   -- a row's children are below a number if its elements are, however they end
-  ended_below : (xs : List X) → Each (λ x. (nodes (inner x).0 < n) × (nodes (last x).0 < n)) xs → Each (λ (c : Child). nodes c.0 < n) (ended inner last xs)
+  ended_below : (xs : List X) → Each (λ x. (nodes (inner x).0 < n) × (nodes (last x).0 < n)) xs → Each (λ (c : Child). nodes c.0 < n) (row_children inner last xs)
   ended_below [] h = tt
   ended_below (x ∷ []) h = (h.0.1, tt)
   ended_below (x ∷ y ∷ xs) h = (h.0.0, ended_below (y ∷ xs) h.1)

@@ -11,7 +11,8 @@ use Rattle.justfile_base.specs.Token.{lexeme_of}
 use Rattle.justfile_model.specs.Tok.{Tok, tok_of}
 use Rattle.justfile_model.specs.Tree as tree
 use Rattle.justfile_tree.specs.Expression.{expr_of, exprs_of, exprs_of_row, parts_of, parts_of_row, format_of, format_tree, part_tok, expr_cooked, exprs_cooked, parts_cooked}
-use Rattle.justfile_tree.specs.declared.expression.Expression.{Expression, Call, Call', FormatString, FormatString', List as List_of, List', Row_of-Expression, end_of-Expression, more_of-Expression, Row_of-Expression-FormatString-1-2, end_of-Expression-FormatString-1-2, more_of-Expression-FormatString-1-2, items-the_row-Expression, items-the_row-Expression-FormatString-1-2, items_hidden-the_row-Expression-0, items_hidden-the_row-Expression-FormatString-1-2-1}
+use Rattle.justfile_tree.specs.declared.expression.Expression.{Expression, Call, FormatString, List as List_of, Row_of-Expression, end_of-Expression, more_of-Expression, Row_of-Expression-FormatString-1-2, end_of-Expression-FormatString-1-2, more_of-Expression-FormatString-1-2, items-the_row-Expression, items-the_row-Expression-FormatString-1-2, items_hidden-the_row-Expression-0, items_hidden-the_row-Expression-FormatString-1-2-1}
+use Rattle.justfile_tree.proofs.ExpressionRows.{row_of, part_row_of}
 
 exprs_row : (n : Count) (row : Row_of-Expression n) → exprs_of_row row ≡ exprs_of (items-the_row-Expression n row)
 exprs_row n end_of-Expression = refl
@@ -38,15 +39,6 @@ cooked_parts n end_of-Expression-FormatString-1-2 = refl
 cooked_parts n (more_of-Expression-FormatString-1-2 e literal others) =
     ap (λ ts. expr_cooked e ++ string_bytes literal.cooked ∷ ts) (cooked_parts _ others)
     ∙ sym (append_assoc (expr_cooked e) (string_bytes literal.cooked ∷ []) (flat_map part_cooked (items-the_row-Expression-FormatString-1-2 _ others)))
-
-abbrev row_of : Expression → (n : Count) × Row_of-Expression n
-row_of (Call' name _ row) = (_, row)
-row_of (List' _ row opener) = (_, row)
-row_of _ = (_, end_of-Expression)
-
-abbrev part_row_of : Expression → (n : Count) × Row_of-Expression-FormatString-1-2 n
-part_row_of (FormatString' start _ row) = (_, row)
-part_row_of _ = (_, end_of-Expression-FormatString-1-2)
 
 pub tree_call : (name : Name) (v : Vec Expression) → expr_of (Call name v) ≡ tree.Call (tok_of name.token) (exprs_of v.items)
 tree_call name v =

@@ -6,7 +6,7 @@ use Rattle.justfile_base.specs.StringLiteral.{IsSameLiteral}
 use Rattle.justfile_tree.specs.declared.expression.Expression.{Expression, And', Assert', Backtick, Call', Comparison', Concatenation', Conditional', FormatString', Group', Join', List', ListConcatenation', Not', Or', StringLiteral, Variable, Held-Expression-Assert-1, None', Some', Row_of-Expression, end_of-Expression, more_of-Expression, Row_of-Expression-FormatString-1-2, end_of-Expression-FormatString-1-2, more_of-Expression-FormatString-1-2}
 
 abbrev mutual
-  -- the same case with the same fields, wherever they lie in memory
+  -- two expressions of one case whose fields are equal, wherever they lie in memory
   pub IsSameExpression : (copy original : Expression) → Type 0
   IsSameExpression (And' p lhs q rhs) (And' p' lhs' q' rhs') = IsSameExpression lhs lhs' × IsSameExpression rhs rhs'
   IsSameExpression (Assert' p condition message name) (Assert' p' condition' message' name') = IsSameExpression condition condition' × IsSameHeld message message' × (name ≡ name')
@@ -42,7 +42,7 @@ abbrev mutual
   AreSameParts (more_of-Expression-FormatString-1-2 copy part copies) (more_of-Expression-FormatString-1-2 original part' originals) = IsSameExpression copy original × IsSameLiteral part part' × AreSameParts copies originals
   AreSameParts _ _ = ⊥
 
--- the same where it may be absent
+-- a copy of an expression that may be absent
 abbrev pub IsSameOption : (copy original : Option (Box Expression)) → Type 0
 IsSameOption None None = Unit {0}
 IsSameOption (Some copy) (Some original) = IsSameExpression copy.value original.value

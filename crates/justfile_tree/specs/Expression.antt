@@ -17,7 +17,7 @@ abbrev pub part_tok : literals.StringLiteral → Tok
 part_tok literal = record (tok_of literal.token) { lexeme = literal_text literal }
 
 abbrev mutual
-  -- its tree
+  -- the tree of an expression
   pub expr_of : Expression → Expr Tok Tok
   expr_of (And' p lhs q rhs) = tree.And (expr_of lhs) (expr_of rhs)
   expr_of (Assert' p condition message name) = assert_of (tok_of name.token) (expr_of condition) message
@@ -77,7 +77,7 @@ abbrev pub format_tree : (start : Tok) → List (Expression × literals.StringLi
 format_tree start [] = tree.FormatLiteral start
 format_tree start (x ∷ xs) = tree.FormatString start (expr_of x.0) (parts_of (part_tok x.1) xs)
 
--- its tree without places
+-- the tree of an expression without places
 abbrev pub expr_shape : Expression → Expr (List ℕ) (Unit {0})
 expr_shape e = over_expr lexeme nothing (expr_of e)
 

@@ -7,11 +7,11 @@ use Rattle.justfile_base.specs.declared.number.Number.{Number}
 use Rattle.justfile_base.specs.declared.token.Token.{Token}
 use Rattle.justfile_base.specs.declared.string_literal.StringLiteral.{StringLiteral}
 use Rattle.justfile_model.specs.declared.conditional_operator.ConditionalOperator.{ConditionalOperator}
-use Rattle.justfile_tree.specs.Leaf.{Leaf, token, literal, operator, number, text, leaf_cmp}
+use Rattle.justfile_tree.specs.Leaf.{KeyLeaf, token, literal, operator, number, text, leaf_cmp}
 
 mutual
   pub data Key : Type 0 where
-    leaf : Leaf → Key
+    leaf : KeyLeaf → Key
     node : (label : ℕ) (parts : Keys) → Key
 
   pub data Keys : Type 0 where
@@ -60,9 +60,9 @@ abbrev pub keys_of : {X : Type 0} → (X → Key) → List X → Keys
 keys_of key_of [] = end
 keys_of key_of (x ∷ xs) = next (key_of x) (keys_of key_of xs)
 
--- none comes before some
-abbrev pub nothing : Key
-nothing = node 0 end
+-- the key of what may be absent: none comes before some
+abbrev pub absent_key : Key
+absent_key = node 0 end
 
-abbrev pub some : Key → Key
-some k = node 1 (next k end)
+abbrev pub present_key : Key → Key
+present_key k = node 1 (next k end)

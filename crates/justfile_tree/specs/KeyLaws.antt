@@ -16,7 +16,7 @@ use Rattle.justfile_base.specs.contracts.string_literal.StringLiteralOrd.TheImpl
 use Rattle.justfile_model.specs.declared.conditional_operator.ConditionalOperator.{ConditionalOperator}
 use Rattle.justfile_model.specs.contracts.conditional_operator.ConditionalOperatorOrd.TheImpl.Laws.{total-law as operator_total}
 use Rattle.justfile_tree.specs.Key.{Key, Keys, leaf, node, end, next, key_cmp, keys_cmp}
-use Rattle.justfile_tree.specs.Leaf.{Leaf, token, literal, operator, number, text, place, leaf_cmp, token_cmp, literal_cmp, operator_cmp, number_cmp, text_cmp}
+use Rattle.justfile_tree.specs.Leaf.{KeyLeaf, token, literal, operator, number, text, place, leaf_cmp, token_cmp, literal_cmp, operator_cmp, number_cmp, text_cmp}
 
 -- ---- one comparison and then another
 
@@ -60,30 +60,30 @@ chain Greater b c p q s t l r f h k = greater_not_less h
 
 -- ---- the leaves
 
-abbrev token_in : Leaf → Option Token
+abbrev token_in : KeyLeaf → Option Token
 token_in (token x) = Some x
 token_in _ = None
 
-abbrev literal_in : Leaf → Option StringLiteral
+abbrev literal_in : KeyLeaf → Option StringLiteral
 literal_in (literal x) = Some x
 literal_in _ = None
 
-abbrev operator_in : Leaf → Option ConditionalOperator
+abbrev operator_in : KeyLeaf → Option ConditionalOperator
 operator_in (operator x) = Some x
 operator_in _ = None
 
-abbrev number_in : Leaf → Option (Option Number)
+abbrev number_in : KeyLeaf → Option (Option Number)
 number_in (number x) = Some x
 number_in _ = None
 
-abbrev text_in : Leaf → Option (List ℕ)
+abbrev text_in : KeyLeaf → Option (List ℕ)
 text_in (text x) = Some x
 text_in _ = None
 
-abbrev by_kind : Leaf → Leaf → Ordering
+abbrev by_kind : KeyLeaf → KeyLeaf → Ordering
 by_kind x y = ordering_then (nat_cmp (place x) (place y)) (ordering_then (option_cmp token_cmp (token_in x) (token_in y)) (ordering_then (option_cmp literal_cmp (literal_in x) (literal_in y)) (ordering_then (option_cmp operator_cmp (operator_in x) (operator_in y)) (ordering_then (option_cmp number_cmp (number_in x) (number_in y)) (option_cmp text_cmp (text_in x) (text_in y))))))
 
-same : (x y : Leaf) → by_kind x y ≡ leaf_cmp x y
+same : (x y : KeyLeaf) → by_kind x y ≡ leaf_cmp x y
 same (token a) (token b) = then_end _
 same (token a) (literal b) = refl
 same (token a) (operator b) = refl

@@ -45,22 +45,22 @@ operator_cmp = operators.cmp-value.it
 abbrev pub number_cmp : Option Number → Option Number → Ordering
 number_cmp = option_cmp (λ m n. nat_cmp m.0 n.0)
 
-pub data Leaf : Type 0 where
-  token : Token → Leaf
-  literal : StringLiteral → Leaf
-  operator : ConditionalOperator → Leaf
-  number : Option Number → Leaf
-  text : List ℕ → Leaf
+pub data KeyLeaf : Type 0 where
+  token : Token → KeyLeaf
+  literal : StringLiteral → KeyLeaf
+  operator : ConditionalOperator → KeyLeaf
+  number : Option Number → KeyLeaf
+  text : List ℕ → KeyLeaf
 
 -- the place of its kind of leaf
-abbrev pub place : Leaf → ℕ
+abbrev pub place : KeyLeaf → ℕ
 place (token t) = 0
 place (literal l) = 1
 place (operator o) = 2
 place (number n) = 3
 place (text bytes) = 4
 
-abbrev pub leaf_cmp : Leaf → Leaf → Ordering
+abbrev pub leaf_cmp : KeyLeaf → KeyLeaf → Ordering
 leaf_cmp (token s) (token t) = token_cmp s t
 leaf_cmp (literal k) (literal l) = literal_cmp k l
 leaf_cmp (operator o) (operator p) = operator_cmp o p

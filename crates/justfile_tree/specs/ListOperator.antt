@@ -4,10 +4,10 @@ use Rattle.justfile_tree.specs.declared.list_operator.ListOperator.{ListOperator
 use Rattle.justfile_tree.specs.declared.list_operator.ListOperator.TheVariants.{Concatenate, Join}
 
 -- what stands between two elements
-abbrev pub operator_separator : ListOperator → List ℕ
-operator_separator Concatenate = []
-operator_separator Join = codes "/"
+abbrev pub list_operator_separator : ListOperator → List ℕ
+list_operator_separator Concatenate = []
+list_operator_separator Join = codes "/"
 
-abbrev pub operator_sign : ListOperator → List ℕ
-operator_sign Concatenate = codes "+"
-operator_sign Join = codes "/"
+abbrev pub list_operator_sign : ListOperator → List ℕ
+list_operator_sign Concatenate = codes "+"
+list_operator_sign Join = codes "/"

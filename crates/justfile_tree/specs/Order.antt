@@ -3,7 +3,8 @@ use Rattle.std.specs.Prelude.{Option, Some, None, string_bytes}
 use Rattle.std.specs.Global.{Box}
 use Rattle.std.specs.declared.cmp.Ordering.{Ordering}
 use Rattle.justfile_base.specs.declared.string_literal.StringLiteral as literals
-use Rattle.justfile_tree.specs.Key.{Key, Keys, node, end, next, token_key, literal_key, operator_key, number_key, text_key, row, nothing, some, key_cmp}
+use Rattle.justfile_base.specs.declared.token.Token.{Token}
+use Rattle.justfile_tree.specs.Key.{Key, Keys, node, end, next, token_key, literal_key, operator_key, number_key, text_key, row, absent_key, present_key, key_cmp}
 use Rattle.justfile_tree.specs.declared.expression.Expression.{Expression, And', Assert', Backtick, Call', Comparison', Concatenation', Conditional', FormatString', Group', Join', List', ListConcatenation', Not', Or', StringLiteral, Variable, Held-Expression-Assert-1, None', Some', Row_of-Expression, end_of-Expression, more_of-Expression, Row_of-Expression-FormatString-1-2, end_of-Expression-FormatString-1-2, more_of-Expression-FormatString-1-2}
 
 abbrev mutual
@@ -27,8 +28,8 @@ abbrev mutual
 
   -- an expression that may be absent
   pub held_key : Held-Expression-Assert-1 → Key
-  held_key None' = nothing
-  held_key (Some' p e) = some (key e)
+  held_key None' = absent_key
+  held_key (Some' p e) = present_key (key e)
 
   pub row_keys : {m : _} → Row_of-Expression m → Keys
   row_keys end_of-Expression = end
@@ -38,14 +39,18 @@ abbrev mutual
   row_parts end_of-Expression-FormatString-1-2 = end
   row_parts (more_of-Expression-FormatString-1-2 e l others) = next (row (next (key e) (next (literal_key l) end))) (row_parts others)
 
+-- the fields of an operation
+abbrev pub operation_keys : (lhs : Expression) (operator : Token) (rhs : Expression) → Keys
+operation_keys lhs operator rhs = next (key lhs) (next (token_key operator) (next (key rhs) end))
+
 -- an expression of a format string, and the part after it
 abbrev pub part_key : Expression × literals.StringLiteral → Key
 part_key x = row (next (key x.0) (next (literal_key x.1) end))
 
 -- where it may be absent
 abbrev pub option_key : Option (Box Expression) → Key
-option_key None = nothing
-option_key (Some e) = some (key e.value)
+option_key None = absent_key
+option_key (Some e) = present_key (key e.value)
 
 -- how two expressions compare
 abbrev pub expression_cmp : Expression → Expression → Ordering

@@ -17,5 +17,5 @@ separated [] = []
 separated (text ∷ texts) = text ++ flat_map (λ t. piece (codes ", ") ++ t) texts
 
 -- an expression of a format string, and the part after it
-abbrev pub part_text : Expression × literals.StringLiteral → List ℕ
-part_text p = piece (codes " ") ++ text_of p.0 ++ piece (codes " ") ++ literal_text p.1
+abbrev pub format_part_text : Expression × literals.StringLiteral → List ℕ
+format_part_text p = piece (codes " ") ++ text_of p.0 ++ piece (codes " ") ++ literal_text p.1

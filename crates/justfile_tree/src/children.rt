@@ -5,7 +5,7 @@ ghost use Rattle.justfile_base.specs.Token.{lexeme_of};
 ghost use Rattle.justfile_model.specs.Printing.{is_conditional, operator_text};
 ghost use Rattle.justfile_tree.specs.Expression.{expr_shape};
 ghost use Rattle.justfile_tree.specs.Texts.{text_alone, texts_of};
-ghost use Rattle.justfile_tree.specs.Children.{assert_children, call_start, child_of, children, conditional_children, elements_to, format_children, format_start, join_children, join_start, list_start, of_option, start, then_text, two};
+ghost use Rattle.justfile_tree.specs.Children.{assert_children, call_start, child_of, children, conditional_children, elements_to, format_children, format_start, join_children, join_start, list_start, of_option, start_texts, then_text, two_children};
 
 use crate::expression::Expression;
 use crate::words::Words;
@@ -14,30 +14,30 @@ use justfile_model::ConditionalOperator;
 
 /// What stands before the first child of an expression, or all of one that has no child.
 pub fn start<'src>(expression: &Expression<'src>) -> Words<'src>
-    ensures { texts_of result ≡ start expression.now }
+    ensures { texts_of result ≡ start_texts expression.now }
 {
     match expression {
-        Expression::And { lhs, rhs } => before(lhs, ""),
-        Expression::Assert { condition, .. } => before(condition, "assert("),
+        Expression::And { lhs, rhs } => words_before(lhs, ""),
+        Expression::Assert { condition, .. } => words_before(condition, "assert("),
         Expression::Backtick { token, .. } => Words::token(token),
         Expression::Call { name, arguments } => call_start(name, arguments),
-        Expression::Comparison { lhs, .. } => before(lhs, ""),
-        Expression::Concatenation { lhs, .. } => before(lhs, ""),
-        Expression::Conditional { condition, .. } => before(condition, "if "),
+        Expression::Comparison { lhs, .. } => words_before(lhs, ""),
+        Expression::Concatenation { lhs, .. } => words_before(lhs, ""),
+        Expression::Conditional { condition, .. } => words_before(condition, "if "),
         Expression::FormatString { start, expressions } => format_start(start, expressions),
-        Expression::Group { contents } => before(contents, "("),
+        Expression::Group { contents } => words_before(contents, "("),
         Expression::Join { lhs, .. } => join_start(lhs),
         Expression::List { elements, .. } => list_start(elements),
-        Expression::ListConcatenation { lhs, .. } => before(lhs, ""),
-        Expression::Not { operand } => before(operand, "!"),
-        Expression::Or { lhs, .. } => before(lhs, ""),
+        Expression::ListConcatenation { lhs, .. } => words_before(lhs, ""),
+        Expression::Not { operand } => words_before(operand, "!"),
+        Expression::Or { lhs, .. } => words_before(lhs, ""),
         Expression::StringLiteral { string_literal } => Words::literal(string_literal),
         Expression::Variable { name, .. } => Words::name(name),
     }
 }
 
 /// A piece before the first child, which gives the words their lifetime.
-fn before<'src>(_child: &Expression<'src>, piece: &'static str) -> Words<'src>
+fn words_before<'src>(_child: &Expression<'src>, piece: &'static str) -> Words<'src>
     ensures { texts_of result ≡ text_alone piece.now }
 {
     Words::piece(piece)
@@ -96,40 +96,40 @@ pub fn child<'a, 'src>(
     ensures bounded { IsSome result → place < usize.MAX }
 {
     match expression {
-        Expression::And { lhs, rhs } => either(lhs, " && ", rhs, "", place),
+        Expression::And { lhs, rhs } => either_child(lhs, " && ", rhs, "", place),
         Expression::Assert {
             condition,
             message,
             ..
         } => assert_child(condition, message, place),
         Expression::Backtick { .. } => None,
-        Expression::Call { arguments, .. } => element(arguments, ")", place),
+        Expression::Call { arguments, .. } => element_child(arguments, ")", place),
         Expression::Comparison {
             lhs,
             operator,
             rhs,
             ..
-        } => either(lhs, operator_piece(*operator), rhs, "", place),
-        Expression::Concatenation { lhs, rhs, .. } => either(lhs, " + ", rhs, "", place),
+        } => either_child(lhs, operator_piece(*operator), rhs, "", place),
+        Expression::Concatenation { lhs, rhs, .. } => either_child(lhs, " + ", rhs, "", place),
         Expression::Conditional {
             condition,
             then: branch,
             otherwise,
         } => conditional_child(condition, branch, otherwise, place),
         Expression::FormatString { expressions, .. } => format_child(expressions, place),
-        Expression::Group { contents } => only(contents, ")", place),
+        Expression::Group { contents } => only_child(contents, ")", place),
         Expression::Join { lhs, rhs, .. } => join_child(lhs, rhs, place),
-        Expression::List { elements, .. } => element(elements, "]", place),
-        Expression::ListConcatenation { lhs, rhs, .. } => either(lhs, " ++ ", rhs, "", place),
-        Expression::Not { operand } => only(operand, "", place),
-        Expression::Or { lhs, rhs } => either(lhs, " || ", rhs, "", place),
+        Expression::List { elements, .. } => element_child(elements, "]", place),
+        Expression::ListConcatenation { lhs, rhs, .. } => either_child(lhs, " ++ ", rhs, "", place),
+        Expression::Not { operand } => only_child(operand, "", place),
+        Expression::Or { lhs, rhs } => either_child(lhs, " || ", rhs, "", place),
         Expression::StringLiteral { .. } => None,
         Expression::Variable { .. } => None,
     }
 }
 
 /// The one child of an expression, at the first place, with this piece after it.
-fn only<'a, 'src>(
+fn only_child<'a, 'src>(
     expression: &'a Expression<'src>,
     closing: &'static str,
     place: usize,
@@ -145,20 +145,20 @@ fn only<'a, 'src>(
 }
 
 /// Either of two children, with a piece between them and a piece after the second.
-fn either<'a, 'src>(
+fn either_child<'a, 'src>(
     lhs: &'a Expression<'src>,
     between: &'static str,
     rhs: &'a Expression<'src>,
     closing: &'static str,
     place: usize,
 ) -> Option<(&'a Expression<'src>, Words<'src>)>
-    ensures child { child_of result ≡ slice_get (two lhs.now between.now rhs.now closing.now) place }
+    ensures child { child_of result ≡ slice_get (two_children lhs.now between.now rhs.now closing.now) place }
     ensures bounded { IsSome result → place < usize.MAX }
 {
     if place == 0 {
         Some((lhs, Words::piece(between)))
     } else {
-        only(rhs, closing, place - 1)
+        only_child(rhs, closing, place - 1)
     }
 }
 
@@ -172,8 +172,8 @@ fn assert_child<'a, 'src>(
     ensures bounded { IsSome result → place < usize.MAX }
 {
     match message {
-        None => only(condition, ")", place),
-        Some(message) => either(condition, ", ", message, ")", place),
+        None => only_child(condition, ")", place),
+        Some(message) => either_child(condition, ", ", message, ")", place),
     }
 }
 
@@ -189,15 +189,15 @@ fn conditional_child<'a, 'src>(
     ensures bounded { IsSome result → place < usize.MAX }
 {
     match otherwise {
-        None => either(condition, " { ", branch, " }", place),
+        None => either_child(condition, " { ", branch, " }", place),
         Some(other) => {
             if place == 0 {
                 return Some((condition, Words::piece(" { ")));
             }
             if is_conditional(other) {
-                either(branch, " } else ", other, "", place - 1)
+                either_child(branch, " } else ", other, "", place - 1)
             } else {
-                either(branch, " } else { ", other, " }", place - 1)
+                either_child(branch, " } else { ", other, " }", place - 1)
             }
         }
     }
@@ -213,13 +213,13 @@ fn join_child<'a, 'src>(
     ensures bounded { IsSome result → place < usize.MAX }
 {
     match lhs {
-        None => only(rhs, "", place),
-        Some(lhs) => either(lhs, " / ", rhs, "", place),
+        None => only_child(rhs, "", place),
+        Some(lhs) => either_child(lhs, " / ", rhs, "", place),
     }
 }
 
 /// The element at a place, with a comma after it unless it is the last.
-fn element<'a, 'src>(
+fn element_child<'a, 'src>(
     expressions: &'a Vec<Expression<'src>>,
     closing: &'static str,
     place: usize,

@@ -108,7 +108,7 @@ impl<'src> Expression<'src> {
     {
         match self {
             Expression::And { lhs, rhs } => {
-                let (lhs, rhs) = both(alloc, lhs, rhs)?;
+                let (lhs, rhs) = copy_pair(alloc, lhs, rhs)?;
                 Ok(Expression::And { lhs, rhs })
             }
             Expression::Assert {
@@ -116,8 +116,8 @@ impl<'src> Expression<'src> {
                 message,
                 name,
             } => Ok(Expression::Assert {
-                condition: boxed(alloc, condition)?,
-                message: held(alloc, message)?,
+                condition: copy_boxed(alloc, condition)?,
+                message: copy_option(alloc, message)?,
                 name: *name,
             }),
             Expression::Backtick { contents, token } => Ok(Expression::Backtick {
@@ -126,7 +126,7 @@ impl<'src> Expression<'src> {
             }),
             Expression::Call { name, arguments } => Ok(Expression::Call {
                 name: *name,
-                arguments: copied(alloc, arguments)?,
+                arguments: copy_all(alloc, arguments)?,
             }),
             Expression::Comparison {
                 lhs,
@@ -134,7 +134,7 @@ impl<'src> Expression<'src> {
                 rhs,
                 token,
             } => {
-                let (lhs, rhs) = both(alloc, lhs, rhs)?;
+                let (lhs, rhs) = copy_pair(alloc, lhs, rhs)?;
                 Ok(Expression::Comparison {
                     lhs,
                     operator: *operator,
@@ -143,7 +143,7 @@ impl<'src> Expression<'src> {
                 })
             }
             Expression::Concatenation { lhs, operator, rhs } => {
-                let (lhs, rhs) = both(alloc, lhs, rhs)?;
+                let (lhs, rhs) = copy_pair(alloc, lhs, rhs)?;
                 Ok(Expression::Concatenation {
                     lhs,
                     operator: *operator,
@@ -155,31 +155,31 @@ impl<'src> Expression<'src> {
                 then: branch,
                 otherwise,
             } => {
-                let (condition, branch) = both(alloc, condition, branch)?;
+                let (condition, branch) = copy_pair(alloc, condition, branch)?;
                 Ok(Expression::Conditional {
                     condition,
                     then: branch,
-                    otherwise: held(alloc, otherwise)?,
+                    otherwise: copy_option(alloc, otherwise)?,
                 })
             }
             Expression::FormatString { start, expressions } => Ok(Expression::FormatString {
                 start: start.clone(alloc)?,
-                expressions: copied_parts(alloc, expressions)?,
+                expressions: copy_parts(alloc, expressions)?,
             }),
             Expression::Group { contents } => Ok(Expression::Group {
-                contents: boxed(alloc, contents)?,
+                contents: copy_boxed(alloc, contents)?,
             }),
             Expression::Join { lhs, operator, rhs } => Ok(Expression::Join {
-                lhs: held(alloc, lhs)?,
+                lhs: copy_option(alloc, lhs)?,
                 operator: *operator,
-                rhs: boxed(alloc, rhs)?,
+                rhs: copy_boxed(alloc, rhs)?,
             }),
             Expression::List { elements, opener } => Ok(Expression::List {
-                elements: copied(alloc, elements)?,
+                elements: copy_all(alloc, elements)?,
                 opener: *opener,
             }),
             Expression::ListConcatenation { lhs, operator, rhs } => {
-                let (lhs, rhs) = both(alloc, lhs, rhs)?;
+                let (lhs, rhs) = copy_pair(alloc, lhs, rhs)?;
                 Ok(Expression::ListConcatenation {
                     lhs,
                     operator: *operator,
@@ -187,10 +187,10 @@ impl<'src> Expression<'src> {
                 })
             }
             Expression::Not { operand } => Ok(Expression::Not {
-                operand: boxed(alloc, operand)?,
+                operand: copy_boxed(alloc, operand)?,
             }),
             Expression::Or { lhs, rhs } => {
-                let (lhs, rhs) = both(alloc, lhs, rhs)?;
+                let (lhs, rhs) = copy_pair(alloc, lhs, rhs)?;
                 Ok(Expression::Or { lhs, rhs })
             }
             Expression::StringLiteral { string_literal } => Ok(Expression::StringLiteral {
@@ -206,20 +206,20 @@ impl<'src> Expression<'src> {
 
 /// Copies of two expressions, each in a box of its own.
 #[cycle(copy)]
-fn both<'src>(
+fn copy_pair<'src>(
     alloc: Global,
     lhs: &Expression<'src>,
     rhs: &Expression<'src>,
 ) -> Result<(Box<Expression<'src>>, Box<Expression<'src>>), AllocError>
     ensures { IfOk result (λ copies. IsSameExpression copies.0.value lhs.now × IsSameExpression copies.1.value rhs.now) }
 {
-    let copy = boxed(alloc, lhs)?;
-    Ok((copy, boxed(alloc, rhs)?))
+    let copy = copy_boxed(alloc, lhs)?;
+    Ok((copy, copy_boxed(alloc, rhs)?))
 }
 
 /// A copy of an expression that may be absent.
 #[cycle(copy)]
-fn held<'src>(
+fn copy_option<'src>(
     alloc: Global,
     expression: &Option<Box<Expression<'src>>>,
 ) -> Result<Option<Box<Expression<'src>>>, AllocError>
@@ -227,13 +227,13 @@ fn held<'src>(
 {
     match expression {
         None => Ok(None),
-        Some(expression) => Ok(Some(boxed(alloc, expression)?)),
+        Some(expression) => Ok(Some(copy_boxed(alloc, expression)?)),
     }
 }
 
 /// A copy of an expression, in a box of its own.
 #[cycle(copy)]
-fn boxed<'src>(
+fn copy_boxed<'src>(
     alloc: Global,
     expression: &Expression<'src>,
 ) -> Result<Box<Expression<'src>>, AllocError>
@@ -245,7 +245,7 @@ fn boxed<'src>(
 
 /// Copies of expressions.
 #[cycle(copy)]
-fn copied<'src>(
+fn copy_all<'src>(
     alloc: Global,
     expressions: &Vec<Expression<'src>>,
 ) -> Result<Vec<Expression<'src>>, AllocError>
@@ -261,7 +261,7 @@ fn copied<'src>(
 
 /// Copies of the expressions of a format string, each with a copy of the part after it.
 #[cycle(copy)]
-fn copied_parts<'src>(
+fn copy_parts<'src>(
     alloc: Global,
     expressions: &Vec<(Expression<'src>, StringLiteral<'src>)>,
 ) -> Result<Vec<(Expression<'src>, StringLiteral<'src>)>, AllocError>
@@ -269,7 +269,7 @@ fn copied_parts<'src>(
 {
     let mut parts = Vec::new(alloc);
     for (expression, literal) in expressions {
-        let part = copied_part(alloc, expression, literal)?;
+        let part = copy_part(alloc, expression, literal)?;
         parts.push(part)?;
     }
     Ok(parts)
@@ -277,7 +277,7 @@ fn copied_parts<'src>(
 
 /// A copy of an expression of a format string, with a copy of the part after it.
 #[cycle(copy)]
-fn copied_part<'src>(
+fn copy_part<'src>(
     alloc: Global,
     expression: &Expression<'src>,
     literal: &StringLiteral<'src>,

@@ -10,6 +10,7 @@ pub mod sink;
 mod sinks;
 mod words;
 
+pub use crate::children::child;
 pub use crate::expression::Expression;
 pub use crate::list_operator::ListOperator;
 pub use crate::print::{put_piece, write_expression};

@@ -1,5 +1,5 @@
 ghost use Rattle.std.specs.Prelude.{◌≡◌};
-ghost use Rattle.justfile_tree.specs.ListOperator.{operator_separator, operator_sign};
+ghost use Rattle.justfile_tree.specs.ListOperator.{list_operator_separator, list_operator_sign};
 
 use std::fmt;
 
@@ -13,7 +13,7 @@ pub enum ListOperator {
 impl ListOperator {
     /// What stands between two elements.
     pub fn separator(self) -> &'static str
-        ensures { result.now ≡ operator_separator self }
+        ensures { result.now ≡ list_operator_separator self }
     {
         match self {
             ListOperator::Concatenate => "",
@@ -23,7 +23,7 @@ impl ListOperator {
 
     /// Its sign.
     fn sign(self) -> &'static str
-        ensures { result.now ≡ operator_sign self }
+        ensures { result.now ≡ list_operator_sign self }
     {
         match self {
             ListOperator::Concatenate => "+",
@@ -36,9 +36,9 @@ impl ListOperator {
 impl fmt::Display for ListOperator {
     ghost use Rattle.std.specs.Prelude.{Some};
 
-    ghost output = { λ operator. Some (operator_sign operator) };
+    ghost output = { λ operator. Some (list_operator_sign operator) };
 
-    ghost styled_output = { λ operator spec. Some (operator_sign operator) };
+    ghost styled_output = { λ operator spec. Some (list_operator_sign operator) };
 
     fn fmt<W: fmt::Write>(&self, f: &mut fmt::Formatter<W>) -> fmt::Result {
         f.write_str(self.sign())

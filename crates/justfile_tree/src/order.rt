@@ -5,8 +5,8 @@ ghost use Rattle.std.proofs.Common.{refl};
 ghost use Rattle.std.specs.Cmp.{eq_by_cmp_equiv, on_total, partial_equiv_from_equiv, partial_order_from_total};
 ghost use Rattle.std.specs.Cmp.Lexicographic.{slice_cmp};
 ghost use Rattle.std.specs.Ordering.{eq_by_cmp, on};
-ghost use Rattle.justfile_tree.specs.Key.{label, node, end, next, token_key, literal_key, operator_key, number_key, text_key, row, keys_of, key_cmp};
-ghost use Rattle.justfile_tree.specs.Order.{expression_cmp, key, option_key, part_key};
+ghost use Rattle.justfile_tree.specs.Key.{label, node, end, next, token_key, literal_key, operator_key, number_key, text_key, row, keys_of, key_cmp, keys_cmp};
+ghost use Rattle.justfile_tree.specs.Order.{expression_cmp, key, operation_keys, option_key, part_key};
 ghost use Rattle.justfile_tree.specs.KeyLaws.{key_total};
 
 use crate::expression::Expression;
@@ -14,8 +14,8 @@ use justfile_base::{Name, Number, StringLiteral, Token};
 use justfile_model::ConditionalOperator;
 use std::cmp::Ordering;
 
-/// The place of an expression's case among the cases of the type.
-fn case(expression: &Expression<'_>) -> u8
+/// The index of an expression's case among the cases of the type.
+fn case_index(expression: &Expression<'_>) -> u8
     ensures { result ≡ label (key expression.now) }
 {
     match expression {
@@ -90,7 +90,7 @@ fn compare<'src>(expression: &Expression<'src>, other: &Expression<'src>) -> Ord
 
 /// Compares two expressions that may be absent: an absent one comes first.
 #[cycle(order)]
-fn compare_held<'src>(
+fn compare_options<'src>(
     expression: &Option<Box<Expression<'src>>>,
     other: &Option<Box<Expression<'src>>>,
 ) -> Ordering
@@ -150,6 +150,24 @@ fn compare_parts<'src>(
     expressions.len().cmp(&others.len())
 }
 
+/// Compares two operations of one case: their left sides, then their operators, then their right
+/// sides.
+#[cycle(order)]
+fn compare_operations<'src>(
+    lhs: &Expression<'src>,
+    operator: &Token<'src>,
+    rhs: &Expression<'src>,
+    other_lhs: &Expression<'src>,
+    other_operator: &Token<'src>,
+    other_rhs: &Expression<'src>,
+) -> Ordering
+    ensures { result ≡ keys_cmp (operation_keys lhs.now operator.now rhs.now) (operation_keys other_lhs.now other_operator.now other_rhs.now) }
+{
+    compare(lhs, other_lhs)
+        .then(operator.cmp(other_operator))
+        .then(compare(rhs, other_rhs))
+}
+
 /// Compares a conjunction with these fields to another expression.
 #[cycle(order)]
 fn compare_and<'src>(
@@ -164,7 +182,7 @@ fn compare_and<'src>(
             lhs: other_lhs,
             rhs: other_rhs,
         } => compare(lhs, other_lhs).then(compare(rhs, other_rhs)),
-        _ => 0.cmp(&case(other)),
+        _ => 0.cmp(&case_index(other)),
     }
 }
 
@@ -184,9 +202,9 @@ fn compare_assert<'src>(
             message: other_message,
             name: other_name,
         } => compare(condition, other_condition)
-            .then(compare_held(message, other_message))
+            .then(compare_options(message, other_message))
             .then(name.token.cmp(&other_name.token)),
-        _ => 1.cmp(&case(other)),
+        _ => 1.cmp(&case_index(other)),
     }
 }
 
@@ -206,7 +224,7 @@ fn compare_backtick<'src>(
             .as_str()
             .cmp(other_contents.as_str())
             .then(token.cmp(other_token)),
-        _ => 2.cmp(&case(other)),
+        _ => 2.cmp(&case_index(other)),
     }
 }
 
@@ -227,7 +245,7 @@ fn compare_call<'src>(
             .token
             .cmp(&other_name.token)
             .then(compare_all(arguments, other_arguments)),
-        _ => 3.cmp(&case(other)),
+        _ => 3.cmp(&case_index(other)),
     }
 }
 
@@ -252,7 +270,7 @@ fn compare_comparison<'src>(
             .then(operator.cmp(other_operator))
             .then(compare(rhs, other_rhs))
             .then(token.cmp(other_token)),
-        _ => 4.cmp(&case(other)),
+        _ => 4.cmp(&case_index(other)),
     }
 }
 
@@ -264,17 +282,15 @@ fn compare_concatenation<'src>(
     rhs: &Expression<'src>,
     other: &Expression<'src>,
 ) -> Ordering
-    ensures { result ≡ key_cmp (node 5 (next (key lhs.now) (next (token_key operator.now) (next (key rhs.now) end)))) (key other.now) }
+    ensures { result ≡ key_cmp (node 5 (operation_keys lhs.now operator.now rhs.now)) (key other.now) }
 {
     match other {
         Expression::Concatenation {
             lhs: other_lhs,
             operator: other_operator,
             rhs: other_rhs,
-        } => compare(lhs, other_lhs)
-            .then(operator.cmp(other_operator))
-            .then(compare(rhs, other_rhs)),
-        _ => 5.cmp(&case(other)),
+        } => compare_operations(lhs, operator, rhs, other_lhs, other_operator, other_rhs),
+        _ => 5.cmp(&case_index(other)),
     }
 }
 
@@ -295,8 +311,8 @@ fn compare_conditional<'src>(
             otherwise: other_otherwise,
         } => compare(condition, other_condition)
             .then(compare(branch, other_branch))
-            .then(compare_held(otherwise, other_otherwise)),
-        _ => 6.cmp(&case(other)),
+            .then(compare_options(otherwise, other_otherwise)),
+        _ => 6.cmp(&case_index(other)),
     }
 }
 
@@ -316,7 +332,7 @@ fn compare_format_string<'src>(
         } => start
             .cmp(other_start)
             .then(compare_parts(expressions, other_expressions)),
-        _ => 7.cmp(&case(other)),
+        _ => 7.cmp(&case_index(other)),
     }
 }
 
@@ -329,7 +345,7 @@ fn compare_group<'src>(contents: &Expression<'src>, other: &Expression<'src>) ->
         Expression::Group {
             contents: other_contents,
         } => compare(contents, other_contents),
-        _ => 8.cmp(&case(other)),
+        _ => 8.cmp(&case_index(other)),
     }
 }
 
@@ -348,10 +364,10 @@ fn compare_join<'src>(
             lhs: other_lhs,
             operator: other_operator,
             rhs: other_rhs,
-        } => compare_held(lhs, other_lhs)
+        } => compare_options(lhs, other_lhs)
             .then(operator.cmp(other_operator))
             .then(compare(rhs, other_rhs)),
-        _ => 9.cmp(&case(other)),
+        _ => 9.cmp(&case_index(other)),
     }
 }
 
@@ -369,7 +385,7 @@ fn compare_list<'src>(
             elements: other_elements,
             opener: other_opener,
         } => compare_all(elements, other_elements).then(opener.cmp(other_opener)),
-        _ => 10.cmp(&case(other)),
+        _ => 10.cmp(&case_index(other)),
     }
 }
 
@@ -381,17 +397,15 @@ fn compare_list_concatenation<'src>(
     rhs: &Expression<'src>,
     other: &Expression<'src>,
 ) -> Ordering
-    ensures { result ≡ key_cmp (node 11 (next (key lhs.now) (next (token_key operator.now) (next (key rhs.now) end)))) (key other.now) }
+    ensures { result ≡ key_cmp (node 11 (operation_keys lhs.now operator.now rhs.now)) (key other.now) }
 {
     match other {
         Expression::ListConcatenation {
             lhs: other_lhs,
             operator: other_operator,
             rhs: other_rhs,
-        } => compare(lhs, other_lhs)
-            .then(operator.cmp(other_operator))
-            .then(compare(rhs, other_rhs)),
-        _ => 11.cmp(&case(other)),
+        } => compare_operations(lhs, operator, rhs, other_lhs, other_operator, other_rhs),
+        _ => 11.cmp(&case_index(other)),
     }
 }
 
@@ -404,7 +418,7 @@ fn compare_not<'src>(operand: &Expression<'src>, other: &Expression<'src>) -> Or
         Expression::Not {
             operand: other_operand,
         } => compare(operand, other_operand),
-        _ => 12.cmp(&case(other)),
+        _ => 12.cmp(&case_index(other)),
     }
 }
 
@@ -422,7 +436,7 @@ fn compare_or<'src>(
             lhs: other_lhs,
             rhs: other_rhs,
         } => compare(lhs, other_lhs).then(compare(rhs, other_rhs)),
-        _ => 13.cmp(&case(other)),
+        _ => 13.cmp(&case_index(other)),
     }
 }
 
@@ -437,7 +451,7 @@ fn compare_string_literal<'src>(
         Expression::StringLiteral {
             string_literal: other_string_literal,
         } => string_literal.cmp(other_string_literal),
-        _ => 14.cmp(&case(other)),
+        _ => 14.cmp(&case_index(other)),
     }
 }
 
@@ -457,7 +471,7 @@ fn compare_variable<'src>(
             .token
             .cmp(&other_name.token)
             .then(number.cmp(other_number)),
-        _ => 15.cmp(&case(other)),
+        _ => 15.cmp(&case_index(other)),
     }
 }
 

@@ -1,16 +1,13 @@
 //! Formats the justfile on standard input.
 #![tactic(auto)]
 
-#[cfg(test)]
-mod tests;
-
 use justfile_format::failure::{self, Failure};
 use justfile_format::run::run;
 use std::env;
 use std::io::{self, ErrorKind};
 use std::process::ExitCode;
 
-/// The arguments behind the program's name. An argument that isn't UTF-8 makes them `?`, which is
+/// The arguments after the program's name. An argument that isn't UTF-8 makes them `?`, which is
 /// no argument of the program.
 fn arguments(rt: &HostRuntime) -> io::Result<Vec<String>> {
     let alloc = rt.alloc();

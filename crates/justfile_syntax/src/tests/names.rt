@@ -40,7 +40,7 @@ fn compare(rt: &impl Abort, alloc: Global, path: &Namepath<'_>, names: &[Name<'_
     same(rt, text, &path.components(), &names.len());
     holds(rt, text, path.iter().eq(names.iter()));
     let (last, modules) = path.split_last();
-    holds(rt, text, modules.iter().chain(Some(last)).eq(names.iter()));
+    holds(rt, text, names.split_last() == Some((last, modules)));
     holds(rt, text, path.last() == last);
 }
 
@@ -132,8 +132,13 @@ fn parsed<'src>(
 fn compare_file(rt: &impl Abort, alloc: Global, ast: &Ast<'_>) {
     compare_written(rt, alloc, &ast.module_path, "m::n");
     same_text(rt, "a file", ast.working_directory.as_str(), "/home/m");
-    assert!(rt; ast.items.len() == 2);
-    match ast.items.first() {
+    compare_items(rt, &ast.items);
+}
+
+/// Sees that the items of this file are an assignment and the end of its line.
+fn compare_items(rt: &impl Abort, items: &[Item<'_>]) {
+    same(rt, "items", &items.len(), &2);
+    match items.first() {
         Some(Item::Assignment(assignment)) => compare_assignment(rt, assignment),
         _ => panic!(rt; "no assignment"),
     }

@@ -4,398 +4,388 @@ use crate::conditional_operator::ConditionalOperator;
 use crate::expression::Expression;
 use crate::name::Name;
 use crate::numerator::Number;
-use crate::string_kind::{StringDelimiter, StringKind};
+use crate::string_kind::StringKind;
 use crate::string_literal::{FormatStringPart, StringLiteral};
 use crate::tests::support::names;
 use std::alloc::Global;
 use std::process::Abort;
 
-/// The kind of a literal in double quotes.
-const QUOTED: StringKind = StringKind {
-    delimiter: StringDelimiter::QuoteDouble,
-    indented: false,
-};
+/// Expressions of which each is less than the next: the case of each, and its fields in the order
+/// in which they are declared. `b` and `c` are names, of which `b` is less. A name stands for a
+/// part, for a token or for a text, and `-` for what is absent.
+static ASCENDING: &[&str] = &[
+    "And b b",
+    "And b c",
+    "And c b",
+    "And c c",
+    "Assert b - b",
+    "Assert b - c",
+    "Assert b b b",
+    "Assert b c b",
+    "Assert c - b",
+    "Backtick - c",
+    "Backtick b b",
+    "Backtick b c",
+    "Backtick bb b",
+    "Backtick c b",
+    "Call b",
+    "Call b b",
+    "Call b b b",
+    "Call b c",
+    "Call c",
+    "Comparison b == b b",
+    "Comparison b == b c",
+    "Comparison b == c b",
+    "Comparison b != b b",
+    "Comparison b =~ b b",
+    "Comparison b !~ b b",
+    "Comparison c == b b",
+    "Concatenation b b b",
+    "Concatenation b b c",
+    "Concatenation b c b",
+    "Concatenation c b b",
+    "Conditional b b -",
+    "Conditional b b b",
+    "Conditional b b c",
+    "Conditional b c -",
+    "Conditional c b -",
+    "FormatString b",
+    "FormatString b b b",
+    "FormatString b b b b b",
+    "FormatString b b c",
+    "FormatString b c b",
+    "FormatString c",
+    "Group b",
+    "Group c",
+    "Join - b b",
+    "Join - b c",
+    "Join - c b",
+    "Join b b b",
+    "Join c b b",
+    "List b",
+    "List c",
+    "List b b",
+    "List b b b",
+    "List c b",
+    "ListConcatenation b b b",
+    "ListConcatenation b b c",
+    "ListConcatenation b c b",
+    "ListConcatenation c b b",
+    "Not b",
+    "Not c",
+    "Or b b",
+    "Or b c",
+    "Or c b",
+    "Or c c",
+    "StringLiteral b - \" - b",
+    "StringLiteral b - \" - c",
+    "StringLiteral b - \" Continue b",
+    "StringLiteral b - \" End b",
+    "StringLiteral b - \" Single b",
+    "StringLiteral b - \" Start b",
+    "StringLiteral b - \"\"\" - b",
+    "StringLiteral b - ' - b",
+    "StringLiteral b x \" - b",
+    "StringLiteral c - \" - b",
+    "Variable b -",
+    "Variable b 0",
+    "Variable b 1",
+    "Variable c -",
+];
 
-/// Expressions of which each is less than the next, made of two names of which the first is less.
-#[derive(Drop)]
-struct Ascending<'src> {
+/// The same where `b` and `c` are the same text at two places.
+static ASCENDING_PLACES: &[&str] = &[
+    "StringLiteral b - \" - b",
+    "StringLiteral b - \" - c",
+    "Variable b -",
+    "Variable b 0",
+    "Variable b 1",
+    "Variable c -",
+];
+
+/// The fields of a row, and the names that `b` and `c` are.
+#[derive(Clone, Copy)]
+struct Row<'row, 'src> {
     alloc: Global,
     less: Name<'src>,
     greater: Name<'src>,
-    values: Vec<Expression<'src>>,
+    fields: &'row [&'static str],
 }
 
-impl<'src> Ascending<'src> {
-    /// Both names.
-    fn names(&self) -> [Name<'src>; 2] {
-        [self.less, self.greater]
-    }
-
-    /// A part that is a name.
-    fn part(&self, rt: &impl Abort, name: Name<'src>) -> Box<Expression<'src>> {
-        let part = Expression::Variable { name, number: None };
-        Box::new(self.alloc, part).expect(rt, "no memory")
-    }
-
-    /// The same, where the part may be missing.
-    fn part_if(&self, rt: &impl Abort, name: Option<Name<'src>>) -> Option<Box<Expression<'src>>> {
-        match name {
-            Some(name) => Some(self.part(rt, name)),
-            None => None,
+impl<'src> Row<'_, 'src> {
+    /// The field at a place.
+    fn field(&self, rt: &impl Abort, place: usize) -> &'static str {
+        match self.fields.get(place) {
+            Some(field) => field,
+            None => panic!(rt; "no field {place}"),
         }
     }
 
-    /// A row of parts that are names.
-    fn row(&self, rt: &impl Abort, names: &[Name<'src>]) -> Vec<Expression<'src>> {
-        let mut row = Vec::new(self.alloc);
-        for name in names {
-            let part = Expression::Variable {
-                name: *name,
-                number: None,
-            };
-            row.push(part).expect(rt, "no memory");
+    /// The name at a place.
+    fn name(&self, rt: &impl Abort, place: usize) -> Name<'src> {
+        match self.field(rt, place) {
+            "c" => self.greater,
+            _ => self.less,
         }
-        row
     }
 
-    /// A literal at a name that stands for this text.
-    fn literal_at(&self, rt: &impl Abort, text: &str, name: Name<'src>) -> StringLiteral<'src> {
+    /// The part at a place.
+    fn part(&self, rt: &impl Abort, place: usize) -> Box<Expression<'src>> {
+        Box::new(self.alloc, variable(self.name(rt, place), None)).expect(rt, "no memory")
+    }
+
+    /// The part at a place, if there is one.
+    fn part_if(&self, rt: &impl Abort, place: usize) -> Option<Box<Expression<'src>>> {
+        match self.field(rt, place) {
+            "-" => None,
+            _ => Some(self.part(rt, place)),
+        }
+    }
+
+    /// The parts from a place up to another.
+    fn parts(&self, rt: &impl Abort, from: usize, to: usize) -> Vec<Expression<'src>> {
+        let mut parts = Vec::new(self.alloc);
+        for place in from..to {
+            push(rt, &mut parts, variable(self.name(rt, place), None));
+        }
+        parts
+    }
+
+    /// The text at a place.
+    fn text(&self, rt: &impl Abort, place: usize) -> String {
+        let text = match self.field(rt, place) {
+            "-" => "",
+            text => text,
+        };
+        text.to_string(self.alloc).expect(rt, "no memory")
+    }
+
+    /// A literal at the name at the last place, whose text is at the first one.
+    fn literal(&self, rt: &impl Abort, text: usize, token: usize) -> StringLiteral<'src> {
         StringLiteral {
-            cooked: text.to_string(self.alloc).expect(rt, "no memory"),
+            cooked: self.text(rt, text),
             expand: false,
-            kind: QUOTED,
+            kind: StringKind::of_opening(b"\""),
             part: None,
-            token: *name,
+            token: *self.name(rt, token),
         }
     }
 
-    /// A literal at the first name that stands for this text.
-    fn literal(&self, rt: &impl Abort, text: &str) -> StringLiteral<'src> {
-        self.literal_at(rt, text, self.less)
-    }
-
-    /// Puts an expression behind the others.
-    fn push(&mut self, rt: &impl Abort, value: Expression<'src>) {
-        self.values.push(value).expect(rt, "no memory");
-    }
-
-    fn conjunctions(&mut self, rt: &impl Abort) {
-        let [b, c] = self.names();
-        for (lhs, rhs) in [(b, b), (b, c), (c, b), (c, c)] {
-            let lhs = self.part(rt, lhs);
-            let rhs = self.part(rt, rhs);
-            self.push(rt, Expression::And { lhs, rhs });
+    /// The expression.
+    fn expression(&self, rt: &impl Abort) -> Expression<'src> {
+        match self.field(rt, 0) {
+            "And" => self.conjunction(rt),
+            "Assert" => self.assertion(rt),
+            "Backtick" => self.command(rt),
+            "Call" => self.call(rt),
+            "Comparison" => self.comparison(rt),
+            "Concatenation" => self.concatenation(rt),
+            "Conditional" => self.conditional(rt),
+            "FormatString" => self.format_string(rt),
+            "Group" => self.group(rt),
+            "Join" => self.join(rt),
+            "List" => self.list(rt),
+            "ListConcatenation" => self.list_concatenation(rt),
+            "Not" => self.negation(rt),
+            "Or" => self.disjunction(rt),
+            "StringLiteral" => self.string_literal(rt),
+            _ => variable(self.name(rt, 1), number_of(self.field(rt, 2))),
         }
     }
 
-    fn assertions(&mut self, rt: &impl Abort) {
-        let [b, c] = self.names();
-        for (condition, message, name) in [
-            (b, None, b),
-            (b, None, c),
-            (b, Some(b), b),
-            (b, Some(c), b),
-            (c, None, b),
-        ] {
-            let condition = self.part(rt, condition);
-            let message = self.part_if(rt, message);
-            self.push(
-                rt,
-                Expression::Assert {
-                    condition,
-                    message,
-                    name,
-                },
-            );
+    fn conjunction(&self, rt: &impl Abort) -> Expression<'src> {
+        Expression::And {
+            lhs: self.part(rt, 1),
+            rhs: self.part(rt, 2),
         }
     }
 
-    fn commands(&mut self, rt: &impl Abort) {
-        let [b, c] = self.names();
-        for (contents, token) in [("", c), ("b", b), ("b", c), ("bb", b), ("c", b)] {
-            let contents = contents.to_string(self.alloc).expect(rt, "no memory");
-            self.push(
-                rt,
-                Expression::Backtick {
-                    contents,
-                    token: *token,
-                },
-            );
+    fn assertion(&self, rt: &impl Abort) -> Expression<'src> {
+        Expression::Assert {
+            condition: self.part(rt, 1),
+            message: self.part_if(rt, 2),
+            name: self.name(rt, 3),
         }
     }
 
-    fn calls(&mut self, rt: &impl Abort) {
-        let [b, c] = self.names();
-        let rows: [(Name<'src>, &[Name<'src>]); 5] = [
-            (b, &[]),
-            (b, &[b]),
-            (b, &[b, b]),
-            (b, &[c]),
-            (c, &[]),
-        ];
-        for (name, arguments) in rows {
-            let arguments = self.row(rt, arguments);
-            self.push(rt, Expression::Call { name, arguments });
+    fn command(&self, rt: &impl Abort) -> Expression<'src> {
+        Expression::Backtick {
+            contents: self.text(rt, 1),
+            token: *self.name(rt, 2),
         }
     }
 
-    fn comparisons(&mut self, rt: &impl Abort) {
-        let [b, c] = self.names();
-        for (lhs, operator, rhs, token) in [
-            (b, ConditionalOperator::Equality, b, b),
-            (b, ConditionalOperator::Equality, b, c),
-            (b, ConditionalOperator::Equality, c, b),
-            (b, ConditionalOperator::Inequality, b, b),
-            (b, ConditionalOperator::RegexMatch, b, b),
-            (b, ConditionalOperator::RegexMismatch, b, b),
-            (c, ConditionalOperator::Equality, b, b),
-        ] {
-            let lhs = self.part(rt, lhs);
-            let rhs = self.part(rt, rhs);
-            self.push(
-                rt,
-                Expression::Comparison {
-                    lhs,
-                    operator,
-                    rhs,
-                    token: *token,
-                },
-            );
+    fn call(&self, rt: &impl Abort) -> Expression<'src> {
+        Expression::Call {
+            name: self.name(rt, 1),
+            arguments: self.parts(rt, 2, self.fields.len()),
         }
     }
 
-    fn concatenations(&mut self, rt: &impl Abort) {
-        let [b, c] = self.names();
-        for (lhs, operator, rhs) in [(b, b, b), (b, b, c), (b, c, b), (c, b, b)] {
-            let lhs = self.part(rt, lhs);
-            let operator = *operator;
-            let rhs = self.part(rt, rhs);
-            self.push(rt, Expression::Concatenation { lhs, operator, rhs });
+    fn comparison(&self, rt: &impl Abort) -> Expression<'src> {
+        Expression::Comparison {
+            lhs: self.part(rt, 1),
+            operator: operator_of(self.field(rt, 2)),
+            rhs: self.part(rt, 3),
+            token: *self.name(rt, 4),
         }
     }
 
-    fn conditionals(&mut self, rt: &impl Abort) {
-        let [b, c] = self.names();
-        for (condition, then, otherwise) in [
-            (b, b, None),
-            (b, b, Some(b)),
-            (b, b, Some(c)),
-            (b, c, None),
-            (c, b, None),
-        ] {
-            let condition = self.part(rt, condition);
-            let then = self.part(rt, then);
-            let otherwise = self.part_if(rt, otherwise);
-            self.push(
-                rt,
-                Expression::Conditional {
-                    condition,
-                    then,
-                    otherwise,
-                },
-            );
+    fn concatenation(&self, rt: &impl Abort) -> Expression<'src> {
+        Expression::Concatenation {
+            lhs: self.part(rt, 1),
+            operator: *self.name(rt, 2),
+            rhs: self.part(rt, 3),
         }
     }
 
-    fn format_strings(&mut self, rt: &impl Abort) {
-        let [b, c] = self.names();
-        let rows: [(&str, &[(Name<'src>, &str)]); 6] = [
-            ("b", &[]),
-            ("b", &[(b, "b")]),
-            ("b", &[(b, "b"), (b, "b")]),
-            ("b", &[(b, "c")]),
-            ("b", &[(c, "b")]),
-            ("c", &[]),
-        ];
-        for (start, behind) in rows {
-            let start = self.literal(rt, start);
-            let expressions = self.filled(rt, behind);
-            self.push(rt, Expression::FormatString { start, expressions });
+    fn conditional(&self, rt: &impl Abort) -> Expression<'src> {
+        Expression::Conditional {
+            condition: self.part(rt, 1),
+            then: self.part(rt, 2),
+            otherwise: self.part_if(rt, 3),
         }
     }
 
-    /// What stands behind the start of a format string.
-    fn filled(
-        &self,
-        rt: &impl Abort,
-        parts: &[(Name<'src>, &str)],
-    ) -> Vec<(Expression<'src>, StringLiteral<'src>)> {
+    fn format_string(&self, rt: &impl Abort) -> Expression<'src> {
         let mut expressions = Vec::new(self.alloc);
-        for (name, text) in parts {
-            let literal = self.literal(rt, text);
-            let name = *name;
-            expressions
-                .push((Expression::Variable { name, number: None }, literal))
-                .expect(rt, "no memory");
+        for place in (2..self.fields.len()).step_by(2) {
+            let expression = variable(self.name(rt, place), None);
+            let literal = self.literal(rt, place.saturating_add(1), 0);
+            push(rt, &mut expressions, (expression, literal));
         }
-        expressions
-    }
-
-    fn groups(&mut self, rt: &impl Abort) {
-        for contents in self.names() {
-            let contents = self.part(rt, contents);
-            self.push(rt, Expression::Group { contents });
+        Expression::FormatString {
+            start: self.literal(rt, 1, 0),
+            expressions,
         }
     }
 
-    fn joins(&mut self, rt: &impl Abort) {
-        let [b, c] = self.names();
-        for (lhs, operator, rhs) in [
-            (None, b, b),
-            (None, b, c),
-            (None, c, b),
-            (Some(b), b, b),
-            (Some(c), b, b),
-        ] {
-            let lhs = self.part_if(rt, lhs);
-            let operator = *operator;
-            let rhs = self.part(rt, rhs);
-            self.push(rt, Expression::Join { lhs, operator, rhs });
+    fn group(&self, rt: &impl Abort) -> Expression<'src> {
+        Expression::Group {
+            contents: self.part(rt, 1),
         }
     }
 
-    fn lists(&mut self, rt: &impl Abort) {
-        let [b, c] = self.names();
-        let rows: [(&[Name<'src>], Name<'src>); 5] = [
-            (&[], b),
-            (&[], c),
-            (&[b], b),
-            (&[b, b], b),
-            (&[c], b),
-        ];
-        for (elements, opener) in rows {
-            let elements = self.row(rt, elements);
-            let opener = *opener;
-            self.push(rt, Expression::List { elements, opener });
+    fn join(&self, rt: &impl Abort) -> Expression<'src> {
+        Expression::Join {
+            lhs: self.part_if(rt, 1),
+            operator: *self.name(rt, 2),
+            rhs: self.part(rt, 3),
         }
     }
 
-    fn list_concatenations(&mut self, rt: &impl Abort) {
-        let [b, c] = self.names();
-        for (lhs, operator, rhs) in [(b, b, b), (b, b, c), (b, c, b), (c, b, b)] {
-            let lhs = self.part(rt, lhs);
-            let operator = *operator;
-            let rhs = self.part(rt, rhs);
-            self.push(rt, Expression::ListConcatenation { lhs, operator, rhs });
+    fn list(&self, rt: &impl Abort) -> Expression<'src> {
+        let last = self.fields.len().saturating_sub(1);
+        Expression::List {
+            elements: self.parts(rt, 1, last),
+            opener: *self.name(rt, last),
         }
     }
 
-    fn negations(&mut self, rt: &impl Abort) {
-        for operand in self.names() {
-            let operand = self.part(rt, operand);
-            self.push(rt, Expression::Not { operand });
+    fn list_concatenation(&self, rt: &impl Abort) -> Expression<'src> {
+        Expression::ListConcatenation {
+            lhs: self.part(rt, 1),
+            operator: *self.name(rt, 2),
+            rhs: self.part(rt, 3),
         }
     }
 
-    fn disjunctions(&mut self, rt: &impl Abort) {
-        let [b, c] = self.names();
-        for (lhs, rhs) in [(b, b), (b, c), (c, b), (c, c)] {
-            let lhs = self.part(rt, lhs);
-            let rhs = self.part(rt, rhs);
-            self.push(rt, Expression::Or { lhs, rhs });
+    fn negation(&self, rt: &impl Abort) -> Expression<'src> {
+        Expression::Not {
+            operand: self.part(rt, 1),
         }
     }
 
-    fn literals(&mut self, rt: &impl Abort) {
-        let [b, c] = self.names();
-        let single = StringDelimiter::QuoteSingle;
-        let double = StringDelimiter::QuoteDouble;
-        for (cooked, expand, (delimiter, indented), part, token) in [
-            ("b", false, (double, false), None, b),
-            ("b", false, (double, false), None, c),
-            (
-                "b",
-                false,
-                (double, false),
-                Some(FormatStringPart::Continue),
-                b,
-            ),
-            ("b", false, (double, false), Some(FormatStringPart::End), b),
-            (
-                "b",
-                false,
-                (double, false),
-                Some(FormatStringPart::Single),
-                b,
-            ),
-            (
-                "b",
-                false,
-                (double, false),
-                Some(FormatStringPart::Start),
-                b,
-            ),
-            ("b", false, (double, true), None, b),
-            ("b", false, (single, false), None, b),
-            ("b", true, (double, false), None, b),
-            ("c", false, (double, false), None, b),
-        ] {
-            let string_literal = StringLiteral {
-                cooked: cooked.to_string(self.alloc).expect(rt, "no memory"),
-                expand,
-                kind: StringKind {
-                    delimiter,
-                    indented,
-                },
-                part,
-                token: *token,
-            };
-            self.push(rt, Expression::StringLiteral { string_literal });
+    fn disjunction(&self, rt: &impl Abort) -> Expression<'src> {
+        Expression::Or {
+            lhs: self.part(rt, 1),
+            rhs: self.part(rt, 2),
         }
     }
 
-    /// A literal of one text at each name.
-    fn equal_literals(&mut self, rt: &impl Abort) {
-        for name in self.names() {
-            let string_literal = self.literal_at(rt, "b", name);
-            self.push(rt, Expression::StringLiteral { string_literal });
-        }
-    }
-
-    fn variables(&mut self, rt: &impl Abort) {
-        let [b, c] = self.names();
-        for (name, number) in [
-            (b, None),
-            (b, Some(Number(0))),
-            (b, Some(Number(1))),
-            (c, None),
-        ] {
-            self.push(rt, Expression::Variable { name, number });
+    fn string_literal(&self, rt: &impl Abort) -> Expression<'src> {
+        let opening = self.field(rt, 3);
+        Expression::StringLiteral {
+            string_literal: StringLiteral {
+                cooked: self.text(rt, 1),
+                expand: self.field(rt, 2) == "x",
+                kind: StringKind::of_opening(opening.as_bytes()),
+                part: part_of(self.field(rt, 4)),
+                token: *self.name(rt, 5),
+            },
         }
     }
 }
 
-/// No expressions yet, and the two names of a text.
-fn none_yet(rt: &impl Abort, alloc: Global, text: &'static str) -> Ascending<'static> {
+fn variable(name: Name<'_>, number: Option<Number>) -> Expression<'_> {
+    Expression::Variable { name, number }
+}
+
+/// Puts a value after the others.
+fn push<T: Drop>(rt: &impl Abort, values: &mut Vec<T>, value: T) {
+    values.push(value).expect(rt, "no memory");
+}
+
+fn number_of(field: &str) -> Option<Number> {
+    match field {
+        "0" => Some(Number(0)),
+        "1" => Some(Number(1)),
+        _ => None,
+    }
+}
+
+fn operator_of(field: &str) -> ConditionalOperator {
+    match field {
+        "==" => ConditionalOperator::Equality,
+        "!=" => ConditionalOperator::Inequality,
+        "=~" => ConditionalOperator::RegexMatch,
+        _ => ConditionalOperator::RegexMismatch,
+    }
+}
+
+fn part_of(field: &str) -> Option<FormatStringPart> {
+    match field {
+        "Continue" => Some(FormatStringPart::Continue),
+        "End" => Some(FormatStringPart::End),
+        "Single" => Some(FormatStringPart::Single),
+        "Start" => Some(FormatStringPart::Start),
+        _ => None,
+    }
+}
+
+/// The expression of a row, where the names are those of a text.
+fn expression(
+    rt: &impl Abort,
+    alloc: Global,
+    text: &'static str,
+    row: &'static str,
+) -> Expression<'static> {
     let names = names(rt, alloc, text);
-    Ascending {
+    let mut fields = Vec::new(alloc);
+    for field in row.split(' ') {
+        fields.push(field).expect(rt, "no memory");
+    }
+    let row = Row {
         alloc,
         less: *names.first().expect(rt, "no name"),
         greater: *names.last().expect(rt, "no name"),
-        values: Vec::new(alloc),
-    }
+        fields: &fields,
+    };
+    row.expression(rt)
 }
 
-/// Expressions of each form of which each is less than the next.
-fn in_order(rt: &impl Abort, alloc: Global) -> Vec<Expression<'static>> {
-    let mut ascending = none_yet(rt, alloc, "b c");
-    ascending.conjunctions(rt);
-    ascending.assertions(rt);
-    ascending.commands(rt);
-    ascending.calls(rt);
-    ascending.comparisons(rt);
-    ascending.concatenations(rt);
-    ascending.conditionals(rt);
-    ascending.format_strings(rt);
-    ascending.groups(rt);
-    ascending.joins(rt);
-    ascending.lists(rt);
-    ascending.list_concatenations(rt);
-    ascending.negations(rt);
-    ascending.disjunctions(rt);
-    ascending.literals(rt);
-    ascending.variables(rt);
-    ascending.values
+/// The expressions of rows, where the names are those of a text.
+fn expressions(
+    rt: &impl Abort,
+    alloc: Global,
+    text: &'static str,
+    rows: &[&'static str],
+) -> Vec<Expression<'static>> {
+    let mut expressions = Vec::new(alloc);
+    for row in rows {
+        push(rt, &mut expressions, expression(rt, alloc, text, row));
+    }
+    expressions
 }
 
 /// Sees that two expressions are ordered as their places are, by each way to compare them.
@@ -407,22 +397,14 @@ fn compare<'src>(
     right: &Expression<'src>,
 ) {
     let order = place.cmp(&other_place);
-    let found = (
-        left.cmp(right),
-        left.partial_cmp(right),
-        left == right,
-        left < right,
-    );
-    let wanted = (
-        order,
-        Some(order),
-        place == other_place,
-        place < other_place,
-    );
-    assert_eq!(rt; found, wanted, "{place} and {other_place}");
+    let is_so = left.cmp(right) == order
+        && left.partial_cmp(right) == Some(order)
+        && (left == right) == (place == other_place)
+        && (left < right) == (place < other_place);
+    assert!(rt; is_so, "{place} and {other_place}");
 }
 
-/// Sees that an expression is less than what stands behind its place among these, equal to what
+/// Sees that an expression is less than what stands after its place among these, equal to what
 /// stands there, and greater than what stands before.
 fn compare_with_all<'src>(
     rt: &impl Abort,
@@ -442,37 +424,34 @@ fn compare_all<'src>(rt: &impl Abort, values: &[Expression<'src>], others: &[Exp
     }
 }
 
+/// Copies of expressions.
+fn copies<'src>(
+    rt: &impl Abort,
+    alloc: Global,
+    values: &[Expression<'src>],
+) -> Vec<Expression<'src>> {
+    let mut copies = Vec::new(alloc);
+    for value in values {
+        push(rt, &mut copies, value.clone(alloc).expect(rt, "no memory"));
+    }
+    copies
+}
+
+/// Sees that the expressions of rows are ordered as they stand, also beside others that are made
+/// alike and beside copies, where the names are those of a text.
+fn compare_rows(rt: &impl Abort, alloc: Global, text: &'static str, rows: &[&'static str]) {
+    let values = expressions(rt, alloc, text, rows);
+    compare_all(rt, &values, &expressions(rt, alloc, text, rows));
+    compare_all(rt, &values, &copies(rt, alloc, &values));
+}
+
 #[test]
 fn expressions_are_ordered_by_their_form_and_then_by_their_parts(rt: HostRuntime) {
-    let values = in_order(&rt, rt.alloc());
-    let others = in_order(&rt, rt.alloc());
-    assert!(rt; values.len() == 77);
-    compare_all(&rt, values.as_slice(), others.as_slice());
+    assert!(rt; ASCENDING.len() == 77);
+    compare_rows(&rt, rt.alloc(), "b c", ASCENDING);
 }
 
 #[test]
 fn equal_texts_at_other_places_are_other_expressions(rt: HostRuntime) {
-    let mut ascending = none_yet(&rt, rt.alloc(), "b b");
-    ascending.equal_literals(&rt);
-    ascending.variables(&rt);
-    compare_all(
-        &rt,
-        ascending.values.as_slice(),
-        ascending.values.as_slice(),
-    );
-}
-
-/// Sees that a copy of an expression is equal, by each way to compare them.
-fn compare_copy(rt: &impl Abort, alloc: Global, value: &Expression<'_>) {
-    match value.clone(alloc) {
-        Ok(copy) => compare(rt, 0, &copy, 0, value),
-        Err(_) => panic!(rt; "no memory"),
-    }
-}
-
-#[test]
-fn copies_of_expressions_are_equal(rt: HostRuntime) {
-    for value in &in_order(&rt, rt.alloc()) {
-        compare_copy(&rt, rt.alloc(), value);
-    }
+    compare_rows(&rt, rt.alloc(), "b b", ASCENDING_PLACES);
 }

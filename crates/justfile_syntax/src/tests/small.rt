@@ -2,6 +2,7 @@
 
 use crate::conditional_operator::ConditionalOperator;
 use crate::delimiter::Delimiter;
+use crate::lexer::Lexer;
 use crate::list_feature::ListFeature;
 use crate::list_operator::ListOperator;
 use crate::string_kind::StringKind;
@@ -146,6 +147,13 @@ fn delimiters_open_and_close(rt: HostRuntime) {
     compare_delimiter(&rt, Delimiter::Brace, "{", "}");
     compare_delimiter(&rt, Delimiter::Bracket, "[", "]");
     compare_delimiter(&rt, Delimiter::Paren, "(", ")");
+}
+
+#[test]
+fn interpolations_stand_in_braces(rt: HostRuntime) {
+    same_text(&rt, "start", Lexer::INTERPOLATION_START, "{{");
+    same_text(&rt, "end", Lexer::INTERPOLATION_END, "}}");
+    same_text(&rt, "escape", Lexer::INTERPOLATION_ESCAPE, "{{{{");
 }
 
 /// The version that a text is.

@@ -3,7 +3,7 @@ use Rattle.std.proofs.lemmas.Simd.{map-map}
 use Rattle.justfile_base.specs.Indentation.{indentation_text}
 use Rattle.justfile_model.specs.NormalShape.{normal}
 use Rattle.justfile_model.specs.Printing.{text}
-use Rattle.justfile_model.specs.Tree.{over_item, lexeme, nothing}
+use Rattle.justfile_model.specs.Tree.{item_shape_of}
 use Rattle.justfile_file.specs.declared.item.Item.{Item}
 use Rattle.justfile_file.specs.declared.gap.Gap.TheVariants.{Start}
 use Rattle.justfile_file.specs.Gap.{front_text, end_text}
@@ -14,12 +14,12 @@ use Rattle.justfile_file.proofs.ast.write_ast.Goals as goal
 
 -- what the walk writes is the text of the normal shape
 written : (items all others : List Item) (indentation : List ℕ) → items ≡ all → others ≡ all
-    → front_text indentation Start (map item_shape items) ++ end_text (map item_shape others) ≡ text (normal (map (over_item lexeme nothing nothing) (map item_of all))) indentation
+    → front_text indentation Start (map item_shape items) ++ end_text (map item_shape others) ≡ text (normal (map item_shape_of (map item_of all))) indentation
 written items all others indentation e f =
     ap (λ (l : List Item). front_text indentation Start (map item_shape l) ++ end_text (map item_shape others)) e
     ∙ ap (λ (l : List Item). front_text indentation Start (map item_shape all) ++ end_text (map item_shape l)) f
     ∙ normal_text indentation (map item_shape all)
-    ∙ ap (λ s. text (normal s) indentation) (sym (map-map (over_item lexeme nothing nothing) item_of all))
+    ∙ ap (λ s. text (normal s) indentation) (sym (map-map item_shape_of item_of all))
 
 pub returns-in_err-write_items-clause-err : goal.returns-in_err-write_items-clause-err
 returns-in_err-write_items-clause-err g c =

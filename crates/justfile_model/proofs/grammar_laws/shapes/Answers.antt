@@ -4,4 +4,4 @@ use Rattle.justfile_model.proofs.Leaves.{file_forgets, file_lifts, one_shape}
 use Rattle.justfile_model.proofs.grammar_laws.shapes.Goals as goal
 
 pub returns : goal.returns
-returns c = record { forget = file_forgets; lift = file_lifts; one = λ E V ts. one_shape E V ts (one_tree E V ts); texts = same_texts }
+returns c = record { forget = file_forgets; lift = file_lifts; one = λ C ts. one_shape C ts (one_tree C ts); texts = same_texts }

@@ -3,7 +3,7 @@ use Rattle.std.specs.declared.alloc.Global.{Global}
 use Rattle.justfile_parse.specs.declared.significant.TableEntry.{TableEntry}
 use Rattle.justfile_parse.proofs.SignificantLemmas.{skips, takes, same_table}
 use Rattle.justfile_parse.proofs.significant.significant.Goals as goal
-use Rattle.justfile_parse.proofs.significant.significant.Goals.{then-is_whitespace, else-is_whitespace+in_ok-add}
+use Rattle.justfile_parse.proofs.significant.significant.Goals.{then-is_whitespace, else-is_whitespace+in_ok-push_entry}
 
 pub loop-token-preserved : goal.loop-token-preserved
 loop-token-preserved c =
@@ -11,7 +11,7 @@ loop-token-preserved c =
       | then-is_whitespace w ↦
           same_table _ _ _ _ _ c.loop-token.table.items w.glued-is (cc)
           (skips _ _ _ _ c.token-item.result c.loop-token.invariant c.loop-token-test.true c.token-item.is (sym c.is_whitespace.ensures ∙ w.if-is_whitespace.true))
-      | else-is_whitespace+in_ok-add w ↦
-          same_table _ _ _ _ _ _ w.glued-is (ap (λ (v : Vec TableEntry Global). v.items) w.table-is ∙ w.in_ok-add.ensures)
+      | else-is_whitespace+in_ok-push_entry w ↦
+          same_table _ _ _ _ _ _ w.glued-is (ap (λ (v : Vec TableEntry Global). v.items) w.table-is ∙ w.in_ok-push_entry.ensures)
           (takes _ _ _ _ _ c.loop-token.invariant c.loop-token-test.true c.token-item.is (sym c.is_whitespace.ensures ∙ w.if-is_whitespace.false))
     ]

@@ -10,14 +10,17 @@ use Rattle.justfile_tree.proofs.order.+order.Given as goal
 abbrev pub decreases-compare : goal.decreases-compare
 decreases-compare l = 5 * size-Expression l.expression.now
 
-abbrev pub decreases-compare_held : goal.decreases-compare_held
-decreases-compare_held l = 5 * goal.size-compare_held l + 1
+abbrev pub decreases-compare_options : goal.decreases-compare_options
+decreases-compare_options l = 5 * goal.size-compare_options l + 1
 
 abbrev pub decreases-compare_all : goal.decreases-compare_all
 decreases-compare_all l = 5 * goal.size-compare_all l + 1
 
 abbrev pub decreases-compare_parts : goal.decreases-compare_parts
 decreases-compare_parts l = 5 * goal.size-compare_parts l + 1
+
+abbrev pub decreases-compare_operations : goal.decreases-compare_operations
+decreases-compare_operations l = 5 * max (size-Expression l.lhs.now) (size-Expression l.rhs.now) + 1
 
 abbrev pub decreases-compare_and : goal.decreases-compare_and
 decreases-compare_and l = 5 * max (size-Expression l.lhs.now) (size-Expression l.rhs.now) + 2

@@ -47,14 +47,14 @@ pub tokens-preserved : goal.tokens-preserved
 tokens-preserved c =
     let old = c.tokens.lexer in
     let new = c.push.new.self in
-    let run = c.next.new.run in
+    let run = c.scan_token.new.run in
     let pushes = c.in_ok-push-in-Ok.ensures in
     let ne : c.in-Ok.kind ≢ Eof = search (rules, c.if-eq.ensures) in
-    let behind = run_on (drop old.offset old.src.now) run c.in-Ok.length (subst (λ bs. IsRunOf bs run) c.rest.ensures c.in-Ok.ensures.run) in
+    let run_after = run_on (drop old.offset old.src.now) run c.in-Ok.length (subst (λ bs. IsRunOf bs run) c.rest.ensures c.in-Ok.ensures.run) in
     let there = drop-drop c.in-Ok.length old.offset old.src.now ∙ (λ i. drop (sym pushes.offset_is i) (sym pushes.src_is i).now) in
     record {
       lexing = lexes_on old new c.in-Ok.kind c.in-Ok.length c.tokens.invariant.lexing pushes ne;
-      run = subst (λ bs. IsRunOf bs run) there behind;
+      run = subst (λ bs. IsRunOf bs run) there run_after;
       path_is = ap (λ (p : _). p.now) pushes.path_is ∙ c.tokens.invariant.path_is;
       src_is = ap (λ (s : _). s.now) pushes.src_is ∙ c.tokens.invariant.src_is;
     }

@@ -75,8 +75,8 @@ parse_pair-parse_part-requires g t c =
 pub parse_format-parse_format_string-requires : goal.parse_format-parse_format_string-requires
 parse_format-parse_format_string-requires g t c κs within =
     let start = c.in-Some.start in
-    let ended = behind_start g.X.Expander.answer c.args.self.now _ start (state_of g.X.Expander.answer c.accept_marked.new.self) c.in-Some.ensures.some c.in-Some.ensures.kind in
-    (first_of (grind (arith, common_steps), search rules), (search rules, (search rules, (search rules, ended))))
+    let ended = behind_start g.X.Expander.answer c.args.self.now _ start (state_of g.X.Expander.answer c.accept_marked.new.self) c.in-Some.ensures.takes c.in-Some.ensures.entry.0 in
+    (first_of (grind (arith, common_steps), search rules), (search rules, (c.in-Some.ensures.entry, ended)))
 
 pub parse_parts-returns-in_err-expression-clause-reads : goal.parse_parts-returns-in_err-expression-clause-reads
 parse_parts-returns-in_err-expression-clause-reads g t c =

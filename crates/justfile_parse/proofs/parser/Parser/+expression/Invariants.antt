@@ -10,10 +10,16 @@ use Rattle.justfile_parse.proofs.Parts as parts
 use Rattle.justfile_parse.proofs.parser.Parser.+expression.Given as goal
 
 abbrev pub decreases-parse_level : goal.decreases-parse_level
-decreases-parse_level g l = 32 * left l.self.now + 2 * rank l.level + 12
+decreases-parse_level g l = 32 * left l.self.now + 13
 
-abbrev pub decreases-parse_binary : goal.decreases-parse_binary
-decreases-parse_binary g l = 32 * left l.self.now + 2 * rank l.level + 11
+abbrev pub decreases-parse_conjunct : goal.decreases-parse_conjunct
+decreases-parse_conjunct g l = 32 * left l.self.now + 12
+
+abbrev pub decreases-parse_operations : goal.decreases-parse_operations
+decreases-parse_operations g l = 32 * left l.self.now + rank l.level + 1
+
+abbrev pub decreases-parse_operation : goal.decreases-parse_operation
+decreases-parse_operation g l = 32 * left l.self.now
 
 abbrev pub decreases-parse_value : goal.decreases-parse_value
 decreases-parse_value g l = 32 * left l.self.now + 11

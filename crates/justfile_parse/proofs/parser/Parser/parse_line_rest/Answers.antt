@@ -21,7 +21,7 @@ returns-in_err-fragment-clause-reads g c =
     let p = err_from_is_err_and c.from_residual.result c.from_residual.ensures.1 in
     let P : Parser _ → Type 0 = λ q. after (map fragment_tree done) (line_rest (state_of A q)) ≡ line_rest (state_of A c.args.self.now) in
     let Q : Parser _ → Type 0 = λ q. accept kinds.Eol (state_of A q) ≡ None in
-    let here = sym c.in_default.ensures.unmoved in
+    let here = sym c.in_default.ensures.moves in
     rw (p.1, p.2)
-    (line_stops (state_of A c.args.self.now) (state_of A c.accept.new.self) done (subst P here c.fragments.invariant.value) (subst Q here c.in_default.ensures.none) (sym c.if-next_are.ensures.is)
+    (line_stops (state_of A c.args.self.now) (state_of A c.accept.new.self) done (subst P here c.fragments.invariant.value) (subst Q here c.in_default.ensures.takes) (sym c.if-peek_kinds.ensures.is)
     c.in_err-fragment.field-0.0 (state_of A c.parse_fragment.new.self) c.in_err-fragment.ensures.reads)

@@ -23,10 +23,10 @@ lines-smaller g c =
     let Q : Parser _ → Type 0 = λ p. accept kinds.Dedent (state_of A p) ≡ None in
     omega (
       arith,
-      line_shrinks (state_of A q) c.in_ok-line.line (state_of A b) (subst Q (sym c.in_default.ensures.unmoved) c.in_default.ensures.none) c.in_ok-line.ensures.reads,
+      line_shrinks (state_of A q) c.in_ok-line.line (state_of A b) (subst Q (sym c.in_default.ensures.moves) c.in_default.ensures.takes) c.in_ok-line.ensures.reads,
       left_is A q,
       left_is A b,
-      ap (λ (p : Parser _). left p) c.in_default.ensures.unmoved,
+      ap (λ (p : Parser _). left p) c.in_default.ensures.moves,
     )
 
 pub returns-in_err-line-clause-reads : goal.returns-in_err-line-clause-reads
@@ -36,7 +36,7 @@ returns-in_err-line-clause-reads g c =
     let p = err_from_is_err_and c.from_residual.result c.from_residual.ensures.1 in
     let P : Parser _ → Type 0 = λ q. after (map line_tree done) (lines (state_of A q)) ≡ lines (state_of A c.args.self.now) in
     let Q : Parser _ → Type 0 = λ q. accept kinds.Dedent (state_of A q) ≡ None in
-    let here = sym c.in_default.ensures.unmoved in
+    let here = sym c.in_default.ensures.moves in
     rw (p.1, p.2)
-    (lines_stop (state_of A c.args.self.now) (state_of A c.accept.new.self) done (subst P here c.lines.invariant.value) (subst Q here c.in_default.ensures.none)
+    (lines_stop (state_of A c.args.self.now) (state_of A c.accept.new.self) done (subst P here c.lines.invariant.value) (subst Q here c.in_default.ensures.takes)
     c.in_err-line.field-0.0 (state_of A c.parse_body_line.new.self) c.in_err-line.ensures.reads)

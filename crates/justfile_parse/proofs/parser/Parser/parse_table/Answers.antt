@@ -1,7 +1,7 @@
 use Rattle.std.proofs.Common.{◌≡◌, refl, subst, map, Ok, Err, Option}
 use Rattle.justfile_model.specs.Reading.{NoNumber}
 use Rattle.justfile_model.specs.SignificantTokens.{identifiers}
-use Rattle.justfile_cook.specs.Literal.{answers_by}
+use Rattle.justfile_parse.specs.Conditions.{conditions_of}
 use Rattle.justfile_parse.specs.Reader as reader
 use Rattle.justfile_parse.specs.Reader.{Run, State}
 use Rattle.justfile_parse.specs.Reading.{IsFaultOf, IsMoved, StopsAt}
@@ -23,9 +23,9 @@ unfolding state_of
 returns-in-Ok-clause-ok g c =
     let A = g.X.Expander.answer in
     let p = c.parse_file.new.self in
-    let run : Run = record { expander = answers_by A c.args.expander.now; table = c.args.tokens.now; file_depth = c.args.file_depth; import_offsets = c.args.import_offsets.now } in
+    let run : Run = record { conditions = conditions_of A c.args.expander.now c.args.current; table = c.args.tokens.now; file_depth = c.args.file_depth; import_offsets = c.args.import_offsets.now } in
     let P : State → Type 0 = λ s. reader.file (counters_of c.args.numerator.now) s ≡ Ok ((map item_tree c.in-Ok.items.items, counters_of c.parse_file.new.numerator), state_of A p) in
-    read_of run.expander run.table run.file_depth run.import_offsets c.args.numerator.now c.parse_file.new.numerator c.in-Ok.items.items p.list_features.items (state_of A p)
+    read_of run.conditions run.table run.file_depth run.import_offsets c.args.numerator.now c.parse_file.new.numerator c.in-Ok.items.items p.list_features.items (state_of A p)
     (subst P (begin_is run c.new.result.items c.new.ensures.items) c.in-Ok.ensures.reads) (noted_is A p)
 
 pub returns-clause-err : goal.returns-clause-err
@@ -35,17 +35,17 @@ returns-clause-err g c =
     let p = c.parse_file.new.self in
     let n = counters_of c.args.numerator.now in
     let m = counters_of c.parse_file.new.numerator in
-    let run : Run = record { expander = answers_by A c.args.expander.now; table = c.args.tokens.now; file_depth = c.args.file_depth; import_offsets = c.args.import_offsets.now } in
+    let run : Run = record { conditions = conditions_of A c.args.expander.now c.args.current; table = c.args.tokens.now; file_depth = c.args.file_depth; import_offsets = c.args.import_offsets.now } in
     let P : State → Type 0 = λ s. StopsAt c.in-Err.stop (state_of A p) (reader.file n s ≡ Err (NoNumber m)) (reader.file n s) in
-    let Q : Option TableEntry → Type 0 = λ next. IsFaultOf c.args.tokens.now next c.in-Err.stop c.fault.result in
-    unread_of run.expander run.table run.file_depth run.import_offsets c.args.numerator.now c.parse_file.new.numerator (state_of A p) c.in-Err.stop c.fault.result
-    (subst P (begin_is run c.new.result.items c.new.ensures.items) c.in-Err.ensures.reads) (subst Q c.first.ensures c.fault.ensures)
+    let Q : Option TableEntry → Type 0 = λ next. IsFaultOf c.args.tokens.now next c.in-Err.stop c.make_fault.result in
+    unread_of run.conditions run.table run.file_depth run.import_offsets c.args.numerator.now c.parse_file.new.numerator (state_of A p) c.in-Err.stop c.make_fault.result
+    (subst P (begin_is run c.new.result.items c.new.ensures.items) c.in-Err.ensures.reads) (subst Q c.peek_front.ensures c.make_fault.ensures)
 
 pub returns-in-Ok-clause-moved : goal.returns-in-Ok-clause-moved
 unfolding state_of
 returns-in-Ok-clause-moved g c =
     let A = g.X.Expander.answer in
-    let run : Run = record { expander = answers_by A c.args.expander.now; table = c.args.tokens.now; file_depth = c.args.file_depth; import_offsets = c.args.import_offsets.now } in
+    let run : Run = record { conditions = conditions_of A c.args.expander.now c.args.current; table = c.args.tokens.now; file_depth = c.args.file_depth; import_offsets = c.args.import_offsets.now } in
     let P : State → Type 0 = λ s. IsMoved c.args.numerator.now c.parse_file.new.numerator (identifiers (map significant_of s.left)) in
     subst P (begin_is run c.new.result.items c.new.ensures.items) c.parse_file.ensures.moved
 
@@ -53,6 +53,6 @@ pub returns-clause-moved : goal.returns-clause-moved
 unfolding state_of
 returns-clause-moved g c =
     let A = g.X.Expander.answer in
-    let run : Run = record { expander = answers_by A c.args.expander.now; table = c.args.tokens.now; file_depth = c.args.file_depth; import_offsets = c.args.import_offsets.now } in
+    let run : Run = record { conditions = conditions_of A c.args.expander.now c.args.current; table = c.args.tokens.now; file_depth = c.args.file_depth; import_offsets = c.args.import_offsets.now } in
     let P : State → Type 0 = λ s. IsMoved c.args.numerator.now c.parse_file.new.numerator (identifiers (map significant_of s.left)) in
     subst P (begin_is run c.new.result.items c.new.ensures.items) c.parse_file.ensures.moved

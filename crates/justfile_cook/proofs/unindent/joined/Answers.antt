@@ -1,7 +1,0 @@
-use Rattle.std.proofs.Common.{List, Bor, ℕ}
-use Rattle.std.proofs.lemmas.List.Elements.{All-rest}
-use Rattle.justfile_model.specs.Unindent.{IsIndented}
-use Rattle.justfile_cook.proofs.unindent.joined.Goals as goal
-
-pub push_behind-requires : goal.push_behind-requires
-push_behind-requires c = All-rest (λ (line : Bor (List ℕ)). IsIndented c.args.run.now line.now) _ _ _ c.in-Some.ensures.cases.0 c.requires

@@ -1,0 +1,29 @@
+-- What the scanners answer, as the definitions say it.
+use Rattle.std.specs.Prelude.{ℕ, [], ◌∷◌, Result, Ok, Err}
+use Rattle.justfile_base.specs.declared.token_kind.TokenKind.{TokenKind}
+use Rattle.justfile_lex.specs.declared.refusal.Refusal.{Refusal as CodeRefusal}
+use Rattle.justfile_lex.specs.declared.lexical_fault.LexicalFault.{LexicalFault as CodeFault}
+use Rattle.justfile_lex.specs.declared.lexical_fault.LexicalFault.TheVariants as faults
+use Rattle.justfile_model.specs.LexicalFault.{LexicalFault, EscapeEndOfFile, InconsistentLeadingWhitespace, InvalidEscapeSequence, MismatchedClosingDelimiter, MixedLeadingWhitespace, UnexpectedCharacter, UnexpectedClosingDelimiter, UnexpectedEndOfToken, UnknownStartOfToken, UnpairedCarriageReturn, UnterminatedBacktick, UnterminatedString, Refusal, Here}
+use Rattle.justfile_model.specs.Next.{Found}
+
+abbrev pub scan_fault : CodeFault → LexicalFault
+scan_fault faults.EscapeEndOfFile = EscapeEndOfFile
+scan_fault (faults.InconsistentLeadingWhitespace expected found) = InconsistentLeadingWhitespace expected.now found.now
+scan_fault (faults.InvalidEscapeSequence character) = InvalidEscapeSequence character
+scan_fault (faults.MismatchedClosingDelimiter close line opener) = MismatchedClosingDelimiter close line opener
+scan_fault (faults.MixedLeadingWhitespace whitespace) = MixedLeadingWhitespace whitespace.now
+scan_fault (faults.UnexpectedCharacter expected) = UnexpectedCharacter (expected ∷ [])
+scan_fault (faults.UnexpectedClosingDelimiter close) = UnexpectedClosingDelimiter close
+scan_fault (faults.UnexpectedEndOfToken expected) = UnexpectedEndOfToken (expected ∷ [])
+scan_fault (faults.UnknownStartOfToken start) = UnknownStartOfToken start
+scan_fault faults.UnpairedCarriageReturn = UnpairedCarriageReturn
+scan_fault faults.UnterminatedBacktick = UnterminatedBacktick
+scan_fault faults.UnterminatedString = UnterminatedString
+
+abbrev pub scan_refusal : CodeRefusal → Refusal
+scan_refusal r = Here (scan_fault r.fault) r.skip r.length
+
+abbrev pub scan_answer : Result (TokenKind × ℕ) CodeRefusal → Found
+scan_answer (Ok x) = Ok x
+scan_answer (Err r) = Err (scan_refusal r)

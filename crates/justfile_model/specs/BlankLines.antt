@@ -1,0 +1,46 @@
+-- Before which blank lines levels close.
+use Rattle.std.specs.Prelude.{◌≡◌, ℕ, Bool, IsTrue, false, ◌||◌, ◌==◌, ◌⊎◌, List, [], ◌∷◌, ◌++◌, None}
+use Rattle.std.specs.List.{All, AllPass}
+use Rattle.justfile_base.specs.declared.token_kind.TokenKind.TheVariants.{Dedent}
+use Rattle.justfile_model.specs.Bytes.{is_line_end}
+use Rattle.justfile_model.specs.Lexed.{Begins}
+use Rattle.justfile_model.specs.Modes.{Mode, mode}
+use Rattle.justfile_model.specs.Tok.{Tok}
+
+-- a line starts, and no delimiter and no interpolation is open
+pub record IsAtLineStart (m : Mode) : Type 0 where
+  pub line_start : IsTrue m.line_start
+  pub no_delimiter : m.openers ≡ []
+  pub no_interpolation : m.interpolation ≡ None
+
+-- a space or a tab
+abbrev pub is_space_or_tab : ℕ → Bool
+is_space_or_tab b = b == 32 || b == 9
+
+-- a space, a tab, a carriage return or a line feed
+abbrev pub is_white : ℕ → Bool
+is_white b = b == 32 || b == 9 || b == 13 || b == 10
+
+-- the text begins with a blank line: spaces and tabs, and then a line end or the end of the text
+pub record BeginsWithBlankLine (text : List ℕ) : Type 0 where
+  pub blanks : List ℕ
+  pub follows : List ℕ
+  pub are : text ≡ blanks ++ follows
+  pub are_blanks : AllPass is_space_or_tab blanks
+  pub ends : IsTrue (is_line_end follows) ⊎ (follows ≡ [])
+
+-- the longest run of white bytes that the text begins with ends in a line feed, and another byte follows it
+pub record BeginsWithWhiteLines (text : List ℕ) : Type 0 where
+  pub run : List ℕ
+  pub next : ℕ
+  pub follows : List ℕ
+  pub are : text ≡ run ++ (10 ∷ (next ∷ follows))
+  pub is_run : AllPass is_white run
+  pub run_ends : is_white next ≡ false
+
+-- dedents come next, until no level is open
+pub record LevelsClose (text : List ℕ) (earlier : List Tok) : Type 0 where
+  pub dedents : List Tok
+  pub are_dedents : All (λ t. t.kind ≡ Dedent) dedents
+  pub begins : Begins text (dedents ++ earlier)
+  pub none_open : (mode (dedents ++ earlier)).levels ≡ []

@@ -1,0 +1,19 @@
+-- What a file is read under.
+use Rattle.std.specs.Prelude.{ℕ}
+use Rattle.justfile_model.specs.Literals.{Answers}
+
+-- a version of the program: three numbers
+pub record VersionNumbers : Type 0 where
+  pub major : ℕ
+  pub minor : ℕ
+  pub patch : ℕ
+
+-- how many expressions may be open, what an expander answers, and the running version
+pub record Conditions : Type 0 where
+  pub limit : ℕ
+  pub expander : Answers
+  pub current : VersionNumbers
+
+-- the same limit and version, with another expander
+abbrev pub with_expander : Answers → Conditions → Conditions
+with_expander expander conditions = record { limit = conditions.limit; expander = expander; current = conditions.current }

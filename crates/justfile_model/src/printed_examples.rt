@@ -1,0 +1,48 @@
+//! What is printed of headers and constructs, computed by the checker.
+ghost use Rattle.std.specs.Prelude.{◌≡◌, false, true, [], ◌∷◌, None, Some, codes};
+ghost use Rattle.justfile_model.specs.Printing.{content_text, header_text, item_text};
+ghost use Rattle.justfile_model.specs.Tree.{Assignment, Construct, ListOf, Recipe, Root, StringLiteral, Variable, more, none, plain_header, plain_recipe};
+ghost use Rattle.justfile_model.specs.declared.parameter_kind.ParameterKind.TheVariants.{Plus, Singular, Star};
+
+/// A header has its parameters before the colon, and its dependencies after it.
+pub fn headers()
+    ensures bare { header_text (plain_header (codes "foo")) ≡ codes "foo:" }
+    ensures whole { header_text (record {
+      quiet = true;
+      name = codes "_build";
+      parameters = record { kind = Singular; export = true; name = codes "mode"; default = Some (StringLiteral false (codes "'a'")) }
+          ∷ record { kind = Star; export = false; name = codes "args"; default = None } ∷ [];
+      priors = record { star = None; path = codes "dep" ∷ []; arguments = [] }
+          ∷ record {
+            star = Some tt;
+            path = codes "x" ∷ [];
+            arguments = record {
+              star = Some tt;
+              value = ListOf tt (more (Variable (codes "a")) (more (Variable (codes "b")) none));
+            } ∷ [];
+          } ∷ [];
+      subsequents = record { star = None; path = codes "z" ∷ codes "y" ∷ []; arguments = [] } ∷ [];
+    }) ≡ codes "@_build $mode='a' *args: dep *(x *[a, b]) && z::y" }
+    // Arguments stand side by side, a blank between.
+    ensures arguments { header_text (record {
+      quiet = false;
+      name = codes "foo";
+      parameters = record { kind = Plus; export = false; name = codes "n"; default = None } ∷ [];
+      priors = record {
+        star = Some tt;
+        path = codes "b" ∷ [];
+        arguments = record { star = Some tt; value = Variable (codes "x") }
+            ∷ record { star = None; value = Root tt (Variable (codes "y")) } ∷ [];
+      } ∷ [];
+      subsequents = [];
+    }) ≡ codes "foo +n: *(b *x / y)" }
+{}
+
+/// The words before an assignment, and the doc of a recipe.
+pub fn constructs()
+    ensures exported { content_text (Assignment (record { eager = false; export = true; name = codes "a"; value = Variable (codes "b") })) []
+        ≡ codes "export a := b" }
+    ensures doc { item_text (Construct [] (Recipe (record { doc = Some (codes "bar"); header = plain_header (codes "foo"); body = [] }))) []
+        ≡ codes "# bar\nfoo:" }
+    ensures no_doc { item_text (Construct [] (Recipe (plain_recipe (codes "foo") []))) [] ≡ codes "foo:" }
+{}

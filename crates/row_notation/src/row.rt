@@ -1,0 +1,55 @@
+//! Reads the rows of a file.
+
+use crate::field_reader::FieldReader;
+use std::alloc::{AllocError, Global};
+
+/// A row: the number of its first line, from 1, and its fields, if they can be read.
+#[derive(Drop)]
+pub struct Row {
+    pub line: usize,
+    reader: FieldReader,
+}
+
+impl Row {
+    /// The row's fields, the first of which is its word, or none if they can't be read.
+    ///
+    /// # Errors
+    ///
+    /// If memory was wanting.
+    pub fn fields(self) -> Result<Option<Vec<String>>, AllocError> {
+        let Row { line: _, reader } = self;
+        reader.finish()
+    }
+}
+
+/// The rows of a file, in order.
+pub fn rows_of(alloc: Global, text: &str) -> Result<Vec<Row>, AllocError> {
+    let mut rows = Vec::new(alloc);
+    for (index, line) in text.lines().enumerate() {
+        read_line(alloc, &mut rows, index, line)?;
+    }
+    Ok(rows)
+}
+
+/// Reads a line: one that begins with a blank goes on with the row before it.
+fn read_line(
+    alloc: Global,
+    rows: &mut Vec<Row>,
+    index: usize,
+    line: &str,
+) -> Result<(), AllocError> {
+    if line.is_empty() || line.starts_with('#') {
+        return Ok(());
+    }
+    if !line.starts_with(' ') {
+        let reader = FieldReader::new(alloc);
+        rows.push(Row {
+            line: index.saturating_add(1),
+            reader,
+        })?;
+    }
+    if let Some(row) = rows.last_mut() {
+        row.reader.read(line);
+    }
+    Ok(())
+}
