@@ -33,50 +33,50 @@ pub enum ByteClass {
 
 /// The class of each byte, in rows of sixteen.
 static CLASSES: [ByteClass; 256] = [
-    // 00 to 0F: control characters, among them the tab, the line feed and the carriage return.
+    // 0x00 to 0x0F: control characters, among them the tab, the line feed and the carriage return.
     Other, Other, Other, Other, Other, Other, Other, Other, Other, Blank, LineFeed, Other, Other,
     Return, Other, Other,
-    // 10 to 1F: control characters.
+    // 0x10 to 0x1F: control characters.
     Other, Other, Other, Other, Other, Other, Other, Other, Other, Other, Other, Other, Other,
     Other, Other, Other,
-    // 20 to 2F: the space and `! " # $ % & ' ( ) * + , - . /`.
+    // 0x20 to 0x2F: the space and `! " # $ % & ' ( ) * + , - . /`.
     Blank, Fixed, Quote, Other, Fixed, Other, Fixed, Quote, Opener, Closer, Fixed, Fixed, Fixed,
     Continue, Other, Fixed,
-    // 30 to 3F: the digits and `: ; < = > ?`.
+    // 0x30 to 0x3F: the digits and `: ; < = > ?`.
     Continue, Continue, Continue, Continue, Continue, Continue, Continue, Continue, Continue,
     Continue, Fixed, Other, Other, Fixed, Other, Fixed,
-    // 40 to 4F: `@` and the capitals `A` to `O`.
+    // 0x40 to 0x4F: `@` and the capitals `A` to `O`.
     Fixed, Start, Start, Start, Start, Start, Start, Start, Start, Start, Start, Start, Start,
     Start, Start, Start,
-    // 50 to 5F: the capitals `P` to `Z` and `[ \ ] ^ _`.
+    // 0x50 to 0x5F: the capitals `P` to `Z` and `[ \ ] ^ _`.
     Start, Start, Start, Start, Start, Start, Start, Start, Start, Start, Start, Opener, Other,
     Closer, Other, Start,
-    // 60 to 6F: the backtick and the letters `a` to `o`.
+    // 0x60 to 0x6F: the backtick and the letters `a` to `o`.
     Quote, Start, Start, Start, Start, Start, Start, Start, Start, Start, Start, Start, Start,
     Start, Start, Start,
-    // 70 to 7F: the letters `p` to `z`, `{ | } ~` and the last control character.
+    // 0x70 to 0x7F: the letters `p` to `z`, `{ | } ~` and the last control character.
     Start, Start, Start, Start, Start, Start, Start, Start, Start, Start, Start, Opener, Fixed,
     Closer, Other, Other,
-    // 80 to 8F: later bytes of a character of several bytes.
+    // 0x80 to 0x8F: later bytes of a character of several bytes.
     Other, Other, Other, Other, Other, Other, Other, Other, Other, Other, Other, Other, Other,
     Other, Other, Other,
-    // 90 to 9F: later bytes of a character of several bytes.
+    // 0x90 to 0x9F: later bytes of a character of several bytes.
     Other, Other, Other, Other, Other, Other, Other, Other, Other, Other, Other, Other, Other,
     Other, Other, Other,
-    // A0 to AF: later bytes of a character of several bytes.
+    // 0xA0 to 0xAF: later bytes of a character of several bytes.
     Other, Other, Other, Other, Other, Other, Other, Other, Other, Other, Other, Other, Other,
     Other, Other, Other,
-    // B0 to BF: later bytes of a character of several bytes.
+    // 0xB0 to 0xBF: later bytes of a character of several bytes.
     Other, Other, Other, Other, Other, Other, Other, Other, Other, Other, Other, Other, Other,
     Other, Other, Other,
-    // C0 to CF: `C0` and `C1`, which stand in no text, and first bytes of characters of two bytes.
+    // 0xC0 to 0xCF: 0xC0 and 0xC1, which stand in no text, and first bytes of characters of two bytes.
     Other, Other, Lead, Lead, Lead, Lead, Lead, Lead, Lead, Lead, Lead, Lead, Lead, Lead, Lead,
     Lead,
-    // D0 to DF: first bytes of characters of two bytes.
+    // 0xD0 to 0xDF: first bytes of characters of two bytes.
     Lead, Lead, Lead, Lead, Lead, Lead, Lead, Lead, Lead, Lead, Lead, Lead, Lead, Lead, Lead, Lead,
-    // E0 to EF: first bytes of characters of three bytes.
+    // 0xE0 to 0xEF: first bytes of characters of three bytes.
     Lead, Lead, Lead, Lead, Lead, Lead, Lead, Lead, Lead, Lead, Lead, Lead, Lead, Lead, Lead, Lead,
-    // F0 to FF: first bytes of characters of four bytes, and from `F5` on bytes that stand in no text.
+    // 0xF0 to 0xFF: first bytes of characters of four bytes, and from 0xF5 on bytes that stand in no text.
     Lead, Lead, Lead, Lead, Lead, Other, Other, Other, Other, Other, Other, Other, Other, Other,
     Other, Other,
 ];

@@ -3,13 +3,13 @@ use Rattle.std.proofs.Common.{◌≡◌, ℕ, ◌+◌, ◌<◌, List, [], ◌∷
 use Rattle.std.proofs.lemmas.List.{take_more, map-append, take-append-drop}
 use Rattle.justfile_model.specs.Tree as tree
 use Rattle.justfile_model.specs.Tree.{Shape}
-use Rattle.justfile_model.specs.NormalShape.{behind_newline, normal_rest, normal}
-use Rattle.justfile_model.specs.Printing.{piece, item_text, item_end, text}
+use Rattle.justfile_model.specs.NormalShape.{after_newline, normal_rest, normal}
+use Rattle.justfile_model.specs.Printing.{fixed_text, item_text, item_end, text}
 use Rattle.justfile_file.specs.declared.gap.Gap.{Gap}
 use Rattle.justfile_file.specs.declared.gap.Gap.TheVariants.{Start, Item, Line, Blank}
 use Rattle.justfile_file.specs.Gap.{ItemShape, gap_text, next_gap, step_text, front_text, last_gap, end_text}
 
-thrice : (s : Shape) → behind_newline (behind_newline (behind_newline s)) ≡ behind_newline (behind_newline s)
+thrice : (s : Shape) → after_newline (after_newline (after_newline s)) ≡ after_newline (after_newline s)
 thrice [] = refl
 thrice (tree.Newline ∷ []) = refl
 thrice (tree.Newline ∷ tree.Newline ∷ s) = refl
@@ -24,12 +24,12 @@ Standing tree.Newline = ⊥
 Standing _ = Unit {0}
 
 -- nothing is printed between another item and a line end
-behind_standing : (i : ItemShape) → Standing i → (s : Shape) → item_end i (tree.Newline ∷ s) ≡ []
-behind_standing (tree.Comment t) h s = refl
-behind_standing (tree.Construct d c) h s = refl
-behind_standing tree.Newline h s = absurd h
+after_standing : (i : ItemShape) → Standing i → (s : Shape) → item_end i (tree.Newline ∷ s) ≡ []
+after_standing (tree.Comment t) h s = refl
+after_standing (tree.Construct d c) h s = refl
+after_standing tree.Newline h s = absurd h
 
-newline_first : (s : Shape) → (r : Shape) × (behind_newline s ≡ tree.Newline ∷ r)
+newline_first : (s : Shape) → (r : Shape) × (after_newline s ≡ tree.Newline ∷ r)
 newline_first [] = ([], refl)
 newline_first (tree.Newline ∷ []) = ([], refl)
 newline_first (tree.Newline ∷ tree.Newline ∷ s) = (tree.Newline ∷ s, refl)
@@ -38,11 +38,11 @@ newline_first (tree.Newline ∷ tree.Construct d c ∷ s) = (tree.Newline ∷ tr
 newline_first (tree.Comment t ∷ s) = (tree.Comment t ∷ s, refl)
 newline_first (tree.Construct d c ∷ s) = (tree.Construct d c ∷ s, refl)
 
-nothing_before : (i : ItemShape) → Standing i → (s : Shape) → item_end i (behind_newline s) ≡ []
-nothing_before i h s = let first = newline_first s in ap (item_end i) first.1 ∙ behind_standing i h first.0
+nothing_before : (i : ItemShape) → Standing i → (s : Shape) → item_end i (after_newline s) ≡ []
+nothing_before i h s = let first = newline_first s in ap (item_end i) first.1 ∙ after_standing i h first.0
 
 before_standing : (j i : ItemShape) (s : Shape) → Standing j → Standing i → item_end j (i ∷ s) ≡ codes " "
-unfolding piece
+unfolding fixed_text
 before_standing (tree.Comment t) (tree.Comment u) s h g = refl
 before_standing (tree.Comment t) (tree.Construct d c) s h g = refl
 before_standing (tree.Construct d c) (tree.Comment t) s h g = refl
@@ -61,12 +61,12 @@ module _ (indentation : List ℕ) where
   -- after the items that stand before: the normal rest, with no line end, one or two before it
   record Tails (s : Shape) : Type 0 where
     start : text (normal_rest s) indentation ≡ tail_text Start s
-    behind : (i : ItemShape) → Standing i → item_end i (normal_rest s) ++ text (normal_rest s) indentation ≡ tail_text Item s
-    line : text (behind_newline (normal_rest s)) indentation ≡ tail_text Line s
-    blank : text (behind_newline (behind_newline (normal_rest s))) indentation ≡ tail_text Blank s
+    following : (i : ItemShape) → Standing i → item_end i (normal_rest s) ++ text (normal_rest s) indentation ≡ tail_text Item s
+    line : text (after_newline (normal_rest s)) indentation ≡ tail_text Line s
+    blank : text (after_newline (after_newline (normal_rest s))) indentation ≡ tail_text Blank s
 
   standing_text : (i : ItemShape) (s : Shape) → Standing i → Tails s → text (i ∷ normal_rest s) indentation ≡ item_text i indentation ++ tail_text Item s
-  standing_text i s h t = append_assoc (item_text i indentation) _ _ ∙ ap (λ l. item_text i indentation ++ l) (t.behind i h)
+  standing_text i s h t = append_assoc (item_text i indentation) _ _ ∙ ap (λ l. item_text i indentation ++ l) (t.following i h)
 
   -- a standing item at the front, from a gap on
   abbrev from : Gap → ItemShape → Shape → List ℕ
@@ -74,34 +74,34 @@ module _ (indentation : List ℕ) where
 
   record Stands (i : ItemShape) (s : Shape) : Type 0 where
     start : text (i ∷ normal_rest s) indentation ≡ from Start i s
-    behind : (j : ItemShape) → Standing j → item_end j (i ∷ normal_rest s) ++ text (i ∷ normal_rest s) indentation ≡ from Item i s
+    following : (j : ItemShape) → Standing j → item_end j (i ∷ normal_rest s) ++ text (i ∷ normal_rest s) indentation ≡ from Item i s
     line : text (tree.Newline ∷ i ∷ normal_rest s) indentation ≡ from Line i s
     blank : text (tree.Newline ∷ tree.Newline ∷ i ∷ normal_rest s) indentation ≡ from Blank i s
 
   stands : (i : ItemShape) (s : Shape) → Standing i → Tails s → Stands i s
-  unfolding piece
+  unfolding fixed_text
   stands i s h t =
       let x = item_text i indentation in
       let f = front_text indentation Item s in
       let e : text (i ∷ normal_rest s) indentation ≡ x ++ (f ++ codes "\n") = standing_text i s h t in
       record {
         start = e ∙ spread [] x f;
-        behind = λ j g. ap (λ l. l ++ text (i ∷ normal_rest s) indentation) (before_standing j i (normal_rest s) g h) ∙ ap (λ l. codes " " ++ l) e ∙ spread (codes " ") x f;
+        following = λ j g. ap (λ l. l ++ text (i ∷ normal_rest s) indentation) (before_standing j i (normal_rest s) g h) ∙ ap (λ l. codes " " ++ l) e ∙ spread (codes " ") x f;
         line = ap (λ l. codes "\n" ++ l) e ∙ spread (codes "\n") x f;
         blank = ap (λ l. codes "\n\n" ++ l) e ∙ spread (codes "\n\n") x f;
       }
 
   tails : (s : Shape) → Tails s
-  unfolding piece
-  tails [] = record { start = refl; behind = λ i h. ap (λ l. l ++ codes "\n") (behind_standing i h []); line = refl; blank = refl }
+  unfolding fixed_text
+  tails [] = record { start = refl; following = λ i h. ap (λ l. l ++ codes "\n") (after_standing i h []); line = refl; blank = refl }
   tails (tree.Newline ∷ s) = let t = tails s in record {
     start = t.line;
-    behind = λ i h. ap (λ l. l ++ text (behind_newline (normal_rest s)) indentation) (nothing_before i h (normal_rest s)) ∙ t.line;
+    following = λ i h. ap (λ l. l ++ text (after_newline (normal_rest s)) indentation) (nothing_before i h (normal_rest s)) ∙ t.line;
     line = t.blank;
     blank = ap (λ l. text l indentation) (thrice (normal_rest s)) ∙ t.blank;
   }
-  tails (tree.Comment c ∷ s) = let t = stands (tree.Comment c) s tt (tails s) in record { start = t.start; behind = t.behind; line = t.line; blank = t.blank }
-  tails (tree.Construct d c ∷ s) = let t = stands (tree.Construct d c) s tt (tails s) in record { start = t.start; behind = t.behind; line = t.line; blank = t.blank }
+  tails (tree.Comment c ∷ s) = let t = stands (tree.Comment c) s tt (tails s) in record { start = t.start; following = t.following; line = t.line; blank = t.blank }
+  tails (tree.Construct d c ∷ s) = let t = stands (tree.Construct d c) s tt (tails s) in record { start = t.start; following = t.following; line = t.line; blank = t.blank }
 
   -- the text of the normal shape, from left to right
   pub normal_text : (s : Shape) → front_text indentation Start s ++ end_text s ≡ text (normal s) indentation
@@ -162,5 +162,5 @@ module _ (indentation : List ℕ) {X : Type 0} (v : X → ItemShape) (xs : List 
         (ap (λ t. t ++ front_text indentation (gap_at (i + 1)) (map v (drop (i + 1) xs))) step_is ∙ whole_text_is)
         (before a c _ _ (later a b c _ _ p q))
 
-    pub gap_next : (behind : Gap) → behind ≡ next_gap gap (v x) → behind ≡ gap_at (i + 1)
-    gap_next behind e = e ∙ ap (λ (y : Gap). next_gap y (v x)) at ∙ sym next_gap_is
+    pub gap_next : (following : Gap) → following ≡ next_gap gap (v x) → following ≡ gap_at (i + 1)
+    gap_next following e = e ∙ ap (λ (y : Gap). next_gap y (v x)) at ∙ sym next_gap_is

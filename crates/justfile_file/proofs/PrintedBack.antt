@@ -4,8 +4,8 @@ use Rattle.justfile_base.specs.Indentation.{IsIndentation}
 use Rattle.justfile_model.specs.Tree.{Shape, shape_of}
 use Rattle.justfile_model.specs.NormalShape.{normal}
 use Rattle.justfile_model.specs.Printing.{printable}
-use Rattle.justfile_canon.specs.RoundTrip.{ReadsBack, printed}
-use Rattle.justfile_canon.proofs.RoundTrip.{back, apart}
+use Rattle.justfile_round_trip.specs.RoundTrip.{ReadsBack, printed}
+use Rattle.justfile_round_trip.proofs.RoundTrip.{back, apart}
 use Rattle.justfile_file.specs.PrintsBack.{PrintsBack}
 
 pub prints_back : (shape : Shape) (indentation bytes : List ℕ) → IsIndentation indentation → bytes ≡ printed shape indentation → PrintsBack shape indentation bytes

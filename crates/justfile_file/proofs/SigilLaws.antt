@@ -146,8 +146,8 @@ common_front (x ∷ a) (y ∷ b) r t e =
     (common_front a b r t tails)
 
 -- one of different sigils is not among those before it
-fresh_behind : (a u : List Sigil) (x : Sigil) → AllPairs (λ s t. s ≢ t) (a ++ x ∷ u) → Contains a x → ⊥
-fresh_behind a u x different among =
+fresh_after : (a u : List Sigil) (x : Sigil) → AllPairs (λ s t. s ≢ t) (a ++ x ∷ u) → Contains a x → ⊥
+fresh_after a u x different among =
     let long = length-append a (x ∷ u) in
     let lt = among.1 in
     let here : length a + 0 ≡ length a = omega arith in
@@ -156,13 +156,13 @@ fresh_behind a u x different among =
     ∙ sym (sym (ap (λ (k : ℕ). get_or (a ++ x ∷ u) k x) here) ∙ get_or-append-add a (x ∷ u) 0 x))
 
 -- the sigils at the front of the text do not go on where no new sigil stands
-none_behind : (guards : Bool) (text : List ℕ) (i : ℕ) (keys : List Sigil) (g : IsGathered guards text i keys) → IsStopped guards (drop i text) keys
+none_after : (guards : Bool) (text : List ℕ) (i : ℕ) (keys : List Sigil) (g : IsGathered guards text i keys) → IsStopped guards (drop i text) keys
     → (sigils : List Sigil) → BeginsWithSigils guards text sigils → (x : Sigil) (u : List Sigil) (v : List ℕ)
     → sigils ≡ g.sigils ++ x ∷ u → drop i text ≡ byte_of x ∷ v → ⊥
-none_behind guards text i keys g stopped sigils begun x u v longer next =
+none_after guards text i keys g stopped sigils begun x u v longer next =
     let there : Contains sigils x = subst (λ (l : List Sigil). Contains l x) (sym longer) (Contains-append_right g.sigils (x ∷ u) x (0, omega arith, refl)) in
     let is : sigil_of guards (byte_of x) ≡ Some x = sigil_of-byte guards x (λ e. begun.guarded (subst (λ (t : Sigil). Contains sigils t) e there)) in
-    fresh_behind g.sigils u x (subst (λ (l : List Sigil). AllPairs (λ s t. s ≢ t) l) longer begun.different) ((g.keys_same x).0 (stopped x v next is))
+    fresh_after g.sigils u x (subst (λ (l : List Sigil). AllPairs (λ s t. s ≢ t) l) longer begun.different) ((g.keys_same x).0 (stopped x v next is))
 
 -- where no new sigil stands, the keys are those at the front of the text
 all_of : (guards : Bool) (text : List ℕ) (i : ℕ) (keys : List Sigil) → IsGathered guards text i keys → IsStopped guards (drop i text) keys
@@ -172,7 +172,7 @@ all_of guards text i keys g stopped s =
       λ (among : Contains keys s). (g.sigils, record { different = g.different; guarded = g.guarded; rest = drop i text; begins = split }, (g.keys_same s).0 among),
       λ (w : IsSigilOf guards text s). (g.keys_same s).1 (⊎_elim
           (λ (p : (u : List Sigil) × (g.sigils ≡ w.0 ++ u)). subst (λ (l : List Sigil). Contains l s) (sym p.1) (Contains-append_left w.0 p.0 s w.2))
-          (λ p. absurd (none_behind guards text i keys g stopped w.0 w.1 p.0 p.1 p.2 p.3 p.4))
+          (λ p. absurd (none_after guards text i keys g stopped w.0 w.1 p.0 p.1 p.2 p.3 p.4))
           (common_front g.sigils w.0 (drop i text) w.1.rest (sym split ∙ w.1.begins))),
     )
 

@@ -5,5 +5,5 @@ use Rattle.justfile_tree.specs.declared.expression.Expression.{Expression}
 use Rattle.justfile_file.specs.Item.{assignment_shape}
 use Rattle.justfile_file.specs.declared.binding.Binding.{Binding}
 
-abbrev pub assignment_text : Binding Expression → List ℕ
-assignment_text a = printing.assignment_text (assignment_shape a)
+abbrev pub binding_text : Binding Expression → List ℕ
+binding_text a = printing.assignment_text (assignment_shape a)

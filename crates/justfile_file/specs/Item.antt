@@ -21,8 +21,8 @@ fragment_of (Interpolation expression) = tree.Interpolation (expr_of expression)
 fragment_of (Text token) = tree.Text (tok_of token)
 
 -- the tree of a line
-abbrev pub line_of : Line → tree.BodyLine Tok Tok ℕ
-line_of line = tree.Line line.number (map fragment_of line.fragments.items)
+abbrev pub body_line_of : Line → tree.BodyLine Tok Tok ℕ
+body_line_of line = tree.Line line.number (map fragment_of line.fragments.items)
 
 -- the tree of an assignment
 abbrev pub assignment_of : Binding Expression → AssignmentParts Tok Tok
@@ -30,7 +30,7 @@ assignment_of a = plain_assignment (tok_of a.name.token) (expr_of a.value)
 
 -- the tree of a recipe
 abbrev pub recipe_of : UnresolvedRecipe → RecipeParts Tok Tok ℕ (Unit {0})
-recipe_of r = plain_recipe (tok_of r.name.token) (map line_of r.body.items)
+recipe_of r = plain_recipe (tok_of r.name.token) (map body_line_of r.body.items)
 
 -- the tree of an item; so far no item has attributes
 abbrev pub item_of : Item → OrderedItem Tok Tok ℕ
@@ -53,11 +53,11 @@ fragments_text fragments = flat_map fragment_text (fragment_shapes fragments)
 
 -- the tree of a line without places
 abbrev pub line_shape : Line → tree.BodyLine (List ℕ) (Unit {0}) (Unit {0})
-line_shape line = over_line lexeme nothing nothing (line_of line)
+line_shape line = over_line lexeme nothing nothing (body_line_of line)
 
 -- the trees of lines without places
 abbrev pub line_shapes : List Line → List (tree.BodyLine (List ℕ) (Unit {0}) (Unit {0}))
-line_shapes lines = map (over_line lexeme nothing nothing) (map line_of lines)
+line_shapes lines = map (over_line lexeme nothing nothing) (map body_line_of lines)
 
 -- the tree of an assignment without places
 abbrev pub assignment_shape : Binding Expression → AssignmentParts (List ℕ) (Unit {0})

@@ -10,23 +10,23 @@ use Rattle.justfile_file.specs.declared.sigil.Sigil.{Sigil}
 use Rattle.justfile_file.specs.Sigil.{IsSigilOf}
 
 -- the bytes of a fragment that is a text
-abbrev pub text_of : Fragment → Option (List ℕ)
-text_of (Interpolation expression) = None
-text_of (Text token) = Some (lexeme_of token)
+abbrev pub text_of_fragment : Fragment → Option (List ℕ)
+text_of_fragment (Interpolation expression) = None
+text_of_fragment (Text token) = Some (lexeme_of token)
 
 -- the text that a line begins with, if its first fragment is one
 abbrev pub first_text : Line → Option (List ℕ)
-first_text line = option_and_then text_of (slice_get line.fragments.items 0)
+first_text line = option_and_then text_of_fragment (slice_get line.fragments.items 0)
 
 -- the text that a line ends with, if its last fragment is one
 abbrev pub last_text : Line → Option (List ℕ)
-last_text line = option_and_then text_of (slice_get line.fragments.items (length line.fragments.items - 1))
+last_text line = option_and_then text_of_fragment (slice_get line.fragments.items (length line.fragments.items - 1))
 
--- its first fragment is a text that begins so
+-- the first fragment is a text that begins with these bytes
 abbrev pub BeginsWith : Line → List ℕ → Type 0
 BeginsWith line front = (rest : List ℕ) × (first_text line ≡ Some (front ++ rest))
 
--- its last fragment is a text that ends so
+-- the last fragment is a text that ends in these bytes
 abbrev pub EndsWith : Line → List ℕ → Type 0
 EndsWith line back = (rest : List ℕ) × (last_text line ≡ Some (rest ++ back))
 

@@ -6,11 +6,10 @@ use Rattle.justfile_model.specs.Features.{Noted}
 use Rattle.justfile_model.specs.NormalShape.{normal}
 use Rattle.justfile_model.specs.Printing.{printable}
 use Rattle.justfile_model.specs.Conditions.{Conditions}
-use Rattle.justfile_canon.specs.RoundTrip.{TextDerives, ReadsBack, printed}
+use Rattle.justfile_round_trip.specs.RoundTrip.{TextDerives, ReadsBack, printed}
 
--- Where some text derives the shape, under whatever conditions, and the shape is printable, what is printed of it derives its
--- normal form, with each feature as often, the same texts of literals, as many bindings and as many recipes, and is printed of that again;
--- and of printable shapes only those of the same normal form print as these bytes.
+-- Where a text derives the shape, under any conditions, and the shape is printable, the bytes read back as its normal form. Under the same
+-- conditions, a printable shape of another text prints as these bytes only if its normal form is the same.
 pub record PrintsBack (shape : Shape) (indentation bytes : List ℕ) : Type 0 where
   pub reads_back : (conditions : Conditions) (source : List ℕ) (tree : Tree) (features : List (Noted Tok)) → TextDerives conditions source tree features
       → shape_of tree ≡ shape → printable shape ≡ true

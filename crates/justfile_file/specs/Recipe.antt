@@ -4,5 +4,5 @@ use Rattle.justfile_model.specs.Printing as printing
 use Rattle.justfile_file.specs.Item.{recipe_shape}
 use Rattle.justfile_file.specs.declared.recipe.UnresolvedRecipe.{UnresolvedRecipe}
 
-abbrev pub recipe_text : UnresolvedRecipe → (indentation : List ℕ) → List ℕ
-recipe_text r = printing.recipe_text (recipe_shape r)
+abbrev pub unresolved_recipe_text : UnresolvedRecipe → (indentation : List ℕ) → List ℕ
+unresolved_recipe_text r = printing.recipe_text (recipe_shape r)

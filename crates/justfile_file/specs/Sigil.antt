@@ -24,6 +24,6 @@ pub record BeginsWithSigils (guards : Bool) (text : List ℕ) (sigils : List Sig
   pub rest : List ℕ
   pub begins : text ≡ map byte_of sigils ++ rest
 
--- it is one of the different sigils that a text begins with
+-- the sigil is one of the different sigils that a text begins with
 abbrev pub IsSigilOf : Bool → List ℕ → Sigil → Type 0
 IsSigilOf guards text s = (sigils : List Sigil) × BeginsWithSigils guards text sigils × Contains sigils s

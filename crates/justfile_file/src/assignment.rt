@@ -1,6 +1,6 @@
 ghost use Rattle.std.specs.Prelude.{◌++◌, OnOk, OnErr, IfOk, codes};
 ghost use Rattle.justfile_base.specs.Token.{lexeme_of};
-ghost use Rattle.justfile_file.specs.Assignment.{assignment_text};
+ghost use Rattle.justfile_file.specs.Assignment.{binding_text};
 ghost use Rattle.justfile_file.specs.Copies.{IsSameAssignment};
 
 use crate::binding::Binding;
@@ -32,8 +32,8 @@ pub(crate) fn write_assignment<S: Sink>(
     assignment: &Assignment<'_>,
     sink: &mut S,
 ) -> Result<(), S::Fault>
-    ensures ok { OnOk result (S.took sink.old (assignment_text assignment.now) sink.new) }
-    ensures err { OnErr result (S.failed sink.old (assignment_text assignment.now) sink.new) }
+    ensures ok { OnOk result (S.took sink.old (binding_text assignment.now) sink.new) }
+    ensures err { OnErr result (S.failed sink.old (binding_text assignment.now) sink.new) }
 {
     sink.put(assignment.name.lexeme())?;
     put_piece(" := ", sink)?;
@@ -44,7 +44,7 @@ pub(crate) fn write_assignment<S: Sink>(
 impl<'src> fmt::Display for Binding<'src, Expression<'src>> {
     ghost use Rattle.std.specs.Prelude.{Some};
 
-    ghost output = { λ assignment. Some (assignment_text assignment) };
+    ghost output = { λ assignment. Some (binding_text assignment) };
 
     fn fmt<W: fmt::Write>(&self, f: &mut fmt::Formatter<W>) -> fmt::Result {
         write_assignment(self, f)

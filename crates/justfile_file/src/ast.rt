@@ -69,7 +69,8 @@ impl<'src> Ast<'src> {
     /// The canonical text of the file, with this indentation of the lines of bodies.
     pub fn print(&self, alloc: Global, indentation: Indentation) -> Result<String, AllocError>
         ensures text { IfOk result (λ printed. string_bytes printed ≡ text (normal (ast_shape self.now)) (indentation_text indentation)) }
-        ensures reads_back { IfOk result (λ printed. PrintsBack (ast_shape self.now) (indentation_text indentation) (string_bytes printed)) }
+        ensures reads_back { IfOk result (λ printed. PrintsBack (ast_shape self.now) (indentation_text indentation)
+            (string_bytes printed)) }
     {
         let mut printed = String::new(alloc);
         write_ast(self, indentation, &mut printed)?;

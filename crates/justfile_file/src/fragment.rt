@@ -1,5 +1,5 @@
 ghost use Rattle.std.specs.Prelude.{OnOk, OnErr, ◌++◌, codes};
-ghost use Rattle.justfile_model.specs.Printing.{piece, fragment_text};
+ghost use Rattle.justfile_model.specs.Printing.{fixed_text, fragment_text};
 ghost use Rattle.justfile_file.specs.Item.{fragment_shape};
 
 use crate::copied::Copied;
@@ -21,7 +21,7 @@ impl<'src> Fragment<'src> {
     ghost use Rattle.std.specs.Prelude.{◌≡◌, IfOk};
     ghost use Rattle.std.specs.Option.{option_copied};
     ghost use Rattle.justfile_file.specs.Copies.{IsSameFragment};
-    ghost use Rattle.justfile_file.specs.Line.{text_of};
+    ghost use Rattle.justfile_file.specs.Line.{text_of_fragment};
 
     /// A copy of the fragment.
     pub fn clone(&self, alloc: Global) -> Result<Self, AllocError>
@@ -39,7 +39,7 @@ impl<'src> Fragment<'src> {
 
     /// The text of a fragment that is one.
     pub(crate) fn text(&self) -> Option<&'src str>
-        ensures { option_copied result ≡ text_of self.now }
+        ensures { option_copied result ≡ text_of_fragment self.now }
     {
         match self {
             Fragment::Interpolation { .. } => None,
@@ -68,19 +68,19 @@ fn put_pair<S: Sink>(first: &str, second: &str, sink: &mut S) -> Result<(), S::F
 }
 
 /// Puts the braces before an expression, and a space.
-#[tactic(auto, unfolding(justfile_model::specs::Printing::piece))]
+#[tactic(auto, unfolding(justfile_model::specs::Printing::fixed_text))]
 fn write_interpolation_start<S: Sink>(sink: &mut S) -> Result<(), S::Fault>
-    ensures ok { OnOk result (S.took sink.old (piece (codes "{{ ")) sink.new) }
-    ensures err { OnErr result (S.failed sink.old (piece (codes "{{ ")) sink.new) }
+    ensures ok { OnOk result (S.took sink.old (fixed_text (codes "{{ ")) sink.new) }
+    ensures err { OnErr result (S.failed sink.old (fixed_text (codes "{{ ")) sink.new) }
 {
     put_pair(INTERPOLATION_START, " ", sink)
 }
 
 /// Puts a space, and the braces after an expression.
-#[tactic(auto, unfolding(justfile_model::specs::Printing::piece))]
+#[tactic(auto, unfolding(justfile_model::specs::Printing::fixed_text))]
 fn write_interpolation_end<S: Sink>(sink: &mut S) -> Result<(), S::Fault>
-    ensures ok { OnOk result (S.took sink.old (piece (codes " }}")) sink.new) }
-    ensures err { OnErr result (S.failed sink.old (piece (codes " }}")) sink.new) }
+    ensures ok { OnOk result (S.took sink.old (fixed_text (codes " }}")) sink.new) }
+    ensures err { OnErr result (S.failed sink.old (fixed_text (codes " }}")) sink.new) }
 {
     put_pair(" ", INTERPOLATION_END, sink)
 }

@@ -105,7 +105,7 @@ pub(crate) fn write_step<S: Sink>(
     gap: Gap,
     sink: &mut S,
 ) -> Result<Gap, S::Fault>
-    ensures gap { IfOk result (λ behind. behind ≡ next_gap gap (item_shape item.now)) }
+    ensures gap { IfOk result (λ following. following ≡ next_gap gap (item_shape item.now)) }
     ensures ok { OnOk result (S.took sink.old (step_text (indentation_text indentation) gap (item_shape item.now)) sink.new) }
     ensures err { OnErr result (S.failed sink.old (step_text (indentation_text indentation) gap (item_shape item.now)) sink.new) }
 {

@@ -2,10 +2,10 @@ ghost use Rattle.std.specs.Prelude.{◌≡◌, ◌++◌, OnOk, OnErr, IfOk, code
 ghost use Rattle.std.specs.List.{list_all};
 ghost use Rattle.justfile_base.specs.Indentation.{indentation_text};
 ghost use Rattle.justfile_base.specs.Token.{lexeme_of};
-ghost use Rattle.justfile_model.specs.Printing.{piece, line_text, body_text, printable_fragments, printable_body};
+ghost use Rattle.justfile_model.specs.Printing.{fixed_text, line_text, body_text, printable_fragments, printable_body};
 ghost use Rattle.justfile_file.specs.Copies.{IsSameRecipe};
 ghost use Rattle.justfile_file.specs.Item.{fragment_shapes, line_shape, line_shapes};
-ghost use Rattle.justfile_file.specs.Recipe.{recipe_text};
+ghost use Rattle.justfile_file.specs.Recipe.{unresolved_recipe_text};
 
 use crate::copied::all_copied;
 use crate::line::{Line, write_line};
@@ -70,8 +70,10 @@ fn write_next_line<S: Sink>(
     indentation: Indentation,
     sink: &mut S,
 ) -> Result<(), S::Fault>
-    ensures ok { OnOk result (S.took sink.old (piece (codes "\n") ++ line_text (indentation_text indentation) (line_shape line.now)) sink.new) }
-    ensures err { OnErr result (S.failed sink.old (piece (codes "\n") ++ line_text (indentation_text indentation) (line_shape line.now)) sink.new) }
+    ensures ok { OnOk result (S.took sink.old (fixed_text (codes "\n")
+        ++ line_text (indentation_text indentation) (line_shape line.now)) sink.new) }
+    ensures err { OnErr result (S.failed sink.old (fixed_text (codes "\n")
+        ++ line_text (indentation_text indentation) (line_shape line.now)) sink.new) }
 {
     put_piece("\n", sink)?;
     write_line(line, indentation, sink)?;
@@ -99,8 +101,8 @@ pub(crate) fn write_recipe<S: Sink>(
     indentation: Indentation,
     sink: &mut S,
 ) -> Result<(), S::Fault>
-    ensures ok { OnOk result (S.took sink.old (recipe_text recipe.now (indentation_text indentation)) sink.new) }
-    ensures err { OnErr result (S.failed sink.old (recipe_text recipe.now (indentation_text indentation)) sink.new) }
+    ensures ok { OnOk result (S.took sink.old (unresolved_recipe_text recipe.now (indentation_text indentation)) sink.new) }
+    ensures err { OnErr result (S.failed sink.old (unresolved_recipe_text recipe.now (indentation_text indentation)) sink.new) }
 {
     sink.put(recipe.name.lexeme())?;
     put_piece(":", sink)?;

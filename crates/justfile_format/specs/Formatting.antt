@@ -4,17 +4,17 @@ use Rattle.std.specs.Str.{IsUtf8}
 use Rattle.std.specs.Io.KnownBytes.{Appends}
 use Rattle.justfile_model.specs.Conditions.{Conditions}
 use Rattle.justfile_model.specs.Features.{Noted}
-use Rattle.justfile_model.specs.Literals.{Answers}
+use Rattle.justfile_model.specs.Literals.{Expansions}
 use Rattle.justfile_model.specs.Printing.{printable}
 use Rattle.justfile_model.specs.Tok.{Tok}
 use Rattle.justfile_model.specs.Tree.{Tree, shape_of}
 use Rattle.justfile_file.specs.Ast.{features_of, tree_of}
 use Rattle.justfile_file.specs.declared.ast.Ast.{Ast}
-use Rattle.justfile_canon.specs.RoundTrip.{TextDerives, printed}
+use Rattle.justfile_round_trip.specs.RoundTrip.{TextDerives, printed}
 use Rattle.justfile_parse.specs.Conditions.{depth_limit}
 
 -- the expander that leaves each text as it is
-abbrev pub unchanged : Answers
+abbrev pub unchanged : Expansions
 unchanged text = Some (Ok text)
 
 -- the limit of depth, that expander, and the version of the language
@@ -30,7 +30,7 @@ pub record IsFormatted (source canonical : List ℕ) : Type 0 where
   pub is : canonical ≡ printed (shape_of tree) (codes "    ")
 
 -- the bytes are a text that is no justfile
-pub record IsRefused (source : List ℕ) : Type 0 where
+pub record IsRefusedText (source : List ℕ) : Type 0 where
   pub utf8 : IsUtf8 source
   pub derives_none : (tree : Tree) (features : List (Noted Tok)) → TextDerives conditions source tree features → ⊥
 
@@ -43,7 +43,7 @@ pub record IsUnprintable (source : List ℕ) : Type 0 where
 
 -- why bytes that are a text have no canonical text
 pub data HasNone (source : List ℕ) : Type 0 where
-  refused : IsRefused source → HasNone source
+  refused : IsRefusedText source → HasNone source
   unprintable : IsUnprintable source → HasNone source
 
 -- the canonical text was written after what was written before

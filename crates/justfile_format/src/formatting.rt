@@ -1,7 +1,7 @@
 ghost use Rattle.std.specs.Prelude.{◌≡◌, Err, IfErr, IfOk, string_bytes};
 ghost use Rattle.justfile_format.specs.declared.failure.Failure.TheVariants as failures;
 ghost use Rattle.justfile_format.specs.Failure.{IsOfText};
-ghost use Rattle.justfile_format.specs.Formatting.{IsFileOf, IsFormatted, IsRefused, IsUnprintable};
+ghost use Rattle.justfile_format.specs.Formatting.{IsFileOf, IsFormatted, IsRefusedText, IsUnprintable};
 
 use crate::failure::Failure;
 use crate::unchanged::Unchanged;
@@ -24,7 +24,7 @@ const CURRENT: Version = Version {
 /// Parses a text as the root file `justfile`.
 fn parse(alloc: Global, source: &str) -> Result<Ast<'_>, Failure>
     ensures ok { IfOk result (IsFileOf source.now) }
-    ensures refused { result ≡ Err failures.Refused → IsRefused source.now }
+    ensures refused { result ≡ Err failures.Refused → IsRefusedText source.now }
     ensures printable { result ≡ Err failures.NotPrintable → ⊥ }
     ensures err { IfErr result IsOfText }
 {
@@ -56,7 +56,7 @@ fn parse(alloc: Global, source: &str) -> Result<Ast<'_>, Failure>
 /// the time.
 pub fn format_text(alloc: Global, source: &str) -> Result<String, Failure>
     ensures ok { IfOk result (λ text. IsFormatted source.now (string_bytes text)) }
-    ensures refused { result ≡ Err failures.Refused → IsRefused source.now }
+    ensures refused { result ≡ Err failures.Refused → IsRefusedText source.now }
     ensures unprintable { result ≡ Err failures.NotPrintable → IsUnprintable source.now }
     ensures err { IfErr result IsOfText }
 {

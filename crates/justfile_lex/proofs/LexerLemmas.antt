@@ -8,9 +8,9 @@ use Rattle.justfile_base.specs.declared.token_kind.TokenKind.TheVariants.{Eof, D
 use Rattle.justfile_model.proofs.NextLaws.{Moves}
 use Rattle.justfile_lex.specs.declared.lexer.Lexer.{Lexer}
 use Rattle.justfile_base.specs.Slice.{slice_of}
-use Rattle.justfile_model.specs.Places.{line_at, column_at}
+use Rattle.justfile_model.specs.Places.{line_of_offset, column_at}
 use Rattle.justfile_model.specs.Tok.{Tok, tok_of}
-use Rattle.justfile_model.specs.Modes.{Mode, mode, after, tail_of}
+use Rattle.justfile_model.specs.Modes.{Mode, mode, mode_after, tail_of}
 use Rattle.justfile_model.specs.Answers.{IsFrom}
 use Rattle.justfile_lex.specs.Modes.{mode_of, interpolation_start_by}
 use Rattle.justfile_model.specs.LexicalFault.{Unclosed, UnterminatedInterpolation}
@@ -29,7 +29,7 @@ module _ (l : Lexer) (kind : TokenKind) (len : ℕ) (t : Tok) (at : IsLexerToken
   stands_at end = record {
     offset_is = at.offset_is ∙ end.offset_is;
     lexeme_is = at.lexeme_is ∙ (λ i. slice_of l.src.now (sym at.offset_is i) (sym lexeme_len i));
-    line_is = at.line_is ∙ end.place.line_is ∙ ap (line_at l.src.now) (sym at.offset_is);
+    line_is = at.line_is ∙ end.place.line_is ∙ ap (line_of_offset l.src.now) (sym at.offset_is);
     column_is = at.column_is ∙ end.place.column_is ∙ ap (column_at l.src.now) (sym at.offset_is);
   }
 
@@ -38,7 +38,7 @@ tail_le : {A : Type 0} (xs : List A) → length (tail_of xs) ≤ length xs + 1
 tail_le [] = omega arith
 tail_le (x ∷ xs) = omega arith
 
-levels_after : (k : TokenKind) (t : Tok) (m : Mode) → length (after k t m).levels ≤ length m.levels + 1
+levels_after : (k : TokenKind) (t : Tok) (m : Mode) → length (mode_after k t m).levels ≤ length m.levels + 1
 levels_after Indent t m = omega arith
 levels_after Dedent t m = tail_le m.levels
 levels_after _ t m = omega arith
@@ -59,7 +59,7 @@ lexes_on old new kind len h p ne = record {
   at_end = p.at_end;
   sources = p.sources;
   interpolation_is = p.interpolation_is;
-  mode_is = p.mode_is ∙ ap (after p.token.kind p.token) h.mode_is ∙ sym (ap mode p.joined);
+  mode_is = p.mode_is ∙ ap (mode_after p.token.kind p.token) h.mode_is ∙ sym (ap mode p.joined);
   begins =
       let begins : Begins old.src.now (p.token ∷ earlier old) = (h.begins, p.is_next, λ e. ne (sym p.kind_is ∙ e)) in
       subst (λ s. Begins s (earlier new)) (ap (λ (s : _). s.now) (sym p.src_is)) (subst (Begins old.src.now) (sym p.joined) begins);
@@ -72,13 +72,13 @@ left l = 2 * (length l.src.now - l.offset) + length (mode_of l.mode).levels
 pub goes_down : (old new : Lexer) (kind : TokenKind) (len : ℕ) → Pushes old new kind len → old.offset + len ≤ length old.src.now → Moves (mode_of old.mode) kind len → kind ≢ Eof → left new < left old
 goes_down old new kind len p end moves ne =
     let src : length new.src.now ≡ length old.src.now = ap (λ (s : _). length s.now) p.src_is in
-    let levels : length (mode_of new.mode).levels ≡ length (after p.token.kind p.token (mode_of old.mode)).levels = ap (λ m. length m.levels) p.mode_is in
+    let levels : length (mode_of new.mode).levels ≡ length (mode_after p.token.kind p.token (mode_of old.mode)).levels = ap (λ m. length m.levels) p.mode_is in
     let offset = p.offset_is in
     ⊎_elim
     (λ more. omega (arith, src, levels, offset, end, more, levels_after p.token.kind p.token (mode_of old.mode)))
     (λ none. ⊎_elim (λ eof. absurd (ne eof)) (λ dedent.
     let is : p.token.kind ≡ Dedent = p.kind_is ∙ dedent.0 in
-    let fewer = subst (λ k. length (after k p.token (mode_of old.mode)).levels < length (mode_of old.mode).levels) (sym is) (tail_less (mode_of old.mode).levels dedent.1) in
+    let fewer = subst (λ k. length (mode_after k p.token (mode_of old.mode)).levels < length (mode_of old.mode).levels) (sym is) (tail_less (mode_of old.mode).levels dedent.1) in
     omega (arith, src, levels, offset, end, fewer)) none)
     moves
 

@@ -5,10 +5,10 @@ use Rattle.justfile_base.specs.declared.token_kind.TokenKind.TheVariants.{Indent
 use Rattle.justfile_model.specs.Bytes.{is_mixed}
 use Rattle.justfile_model.specs.LexicalFault.{Here, InconsistentLeadingWhitespace, MixedLeadingWhitespace}
 use Rattle.justfile_model.specs.Modes.{Mode, innermost}
-use Rattle.justfile_model.specs.Next.{Found, tested_blanks}
+use Rattle.justfile_model.specs.Next.{NextToken, tested_blanks}
 
 -- blanks that are no level and do not go on with a body
-abbrev pub indent : Mode → List ℕ → Found
+abbrev pub indent : Mode → List ℕ → NextToken
 indent m found =
     if is_mixed (tested_blanks m found) then Err (Here (MixedLeadingWhitespace (tested_blanks m found)) 0 (length (tested_blanks m found)))
     else if not (starts_with nat_eq found (innermost m)) then Err (Here (InconsistentLeadingWhitespace (innermost m) found) 0 (length found))

@@ -6,7 +6,7 @@ use Rattle.justfile_lex.specs.declared.lexer.Lexer.{Lexer}
 use Rattle.justfile_base.specs.Slice.{slice_of}
 use Rattle.justfile_model.specs.Places.{IsPlace}
 use Rattle.justfile_model.specs.Tok.{Tok, tok_of}
-use Rattle.justfile_model.specs.Modes.{mode, after}
+use Rattle.justfile_model.specs.Modes.{mode, mode_after}
 use Rattle.justfile_model.specs.Answers.{IsFrom}
 use Rattle.justfile_lex.specs.Modes.{mode_of}
 use Rattle.justfile_model.specs.Lexed.{end_of, IsNext, Begins}
@@ -43,7 +43,7 @@ pub record Pushes (old new : Lexer) (kind : TokenKind) (len : ℕ) : Type 0 wher
   pub kind_is : token.kind ≡ kind
   pub is_next : IsNext old.src.now (earlier old) token
   pub joined : earlier new ≡ token ∷ earlier old
-  pub mode_is : mode_of new.mode ≡ after token.kind token (mode_of old.mode)
+  pub mode_is : mode_of new.mode ≡ mode_after token.kind token (mode_of old.mode)
   pub sources : All (IsFrom new.path.now new.src.now) new.tokens.items
   pub interpolation_is : IfSome new.mode.interpolation (IsFrom new.path.now new.src.now)
   pub path_is : new.path ≡ old.path

@@ -15,7 +15,7 @@ mode_of m = record {
   in_body = m.in_body;
   interpolation = option_map tok_of m.interpolation;
   line_start = m.line_start;
-  behind_f = m.after_f;
+  after_f = m.after_f;
 }
 
 -- the start of the open interpolation after the next token

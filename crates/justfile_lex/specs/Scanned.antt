@@ -4,8 +4,8 @@ use Rattle.justfile_base.specs.declared.token_kind.TokenKind.{TokenKind}
 use Rattle.justfile_lex.specs.declared.refusal.Refusal.{Refusal as CodeRefusal}
 use Rattle.justfile_lex.specs.declared.lexical_fault.LexicalFault.{LexicalFault as CodeFault}
 use Rattle.justfile_lex.specs.declared.lexical_fault.LexicalFault.TheVariants as faults
-use Rattle.justfile_model.specs.LexicalFault.{LexicalFault, EscapeEndOfFile, InconsistentLeadingWhitespace, InvalidEscapeSequence, MismatchedClosingDelimiter, MixedLeadingWhitespace, UnexpectedCharacter, UnexpectedClosingDelimiter, UnexpectedEndOfToken, UnknownStartOfToken, UnpairedCarriageReturn, UnterminatedBacktick, UnterminatedString, Refusal, Here}
-use Rattle.justfile_model.specs.Next.{Found}
+use Rattle.justfile_model.specs.LexicalFault.{LexicalFault, EscapeEndOfFile, InconsistentLeadingWhitespace, InvalidEscapeSequence, MismatchedClosingDelimiter, MixedLeadingWhitespace, UnexpectedCharacter, UnexpectedClosingDelimiter, UnexpectedEndOfToken, UnknownStartOfToken, UnpairedCarriageReturn, UnterminatedBacktick, UnterminatedString, LexicalRefusal, Here}
+use Rattle.justfile_model.specs.Next.{NextToken}
 
 abbrev pub scan_fault : CodeFault → LexicalFault
 scan_fault faults.EscapeEndOfFile = EscapeEndOfFile
@@ -21,9 +21,9 @@ scan_fault faults.UnpairedCarriageReturn = UnpairedCarriageReturn
 scan_fault faults.UnterminatedBacktick = UnterminatedBacktick
 scan_fault faults.UnterminatedString = UnterminatedString
 
-abbrev pub scan_refusal : CodeRefusal → Refusal
+abbrev pub scan_refusal : CodeRefusal → LexicalRefusal
 scan_refusal r = Here (scan_fault r.fault) r.skip r.length
 
-abbrev pub scan_answer : Result (TokenKind × ℕ) CodeRefusal → Found
+abbrev pub scan_answer : Result (TokenKind × ℕ) CodeRefusal → NextToken
 scan_answer (Ok x) = Ok x
 scan_answer (Err r) = Err (scan_refusal r)

@@ -3,6 +3,6 @@ use Rattle.std.specs.Prelude.{◌≡◌, ◌<◌, ℕ, List, length, drop, false
 use Rattle.justfile_model.specs.Bytes.{closes_levels}
 use Rattle.justfile_lex.specs.declared.white_run.WhiteRun.{WhiteRun}
 
--- wherever more than the bytes after the run are left, levels close before a blank line just where the run says so
+-- at each place before the run's end, levels close before a blank line exactly if `closes` says so
 abbrev pub IsRunOf : List ℕ → WhiteRun → Type 0
 IsRunOf text run = (i : ℕ) → run.rest_len < length (drop i text) → closes_levels false (drop i text) ≡ run.closes

@@ -1,7 +1,7 @@
 ghost use Rattle.std.specs.Prelude.{◌≡◌, ◌<◌, ◌&&◌, nat_eq, length, None};
 ghost use Rattle.std.specs.List.{starts_with};
 ghost use Rattle.justfile_model.specs.Bytes.{blank_len};
-ghost use Rattle.justfile_model.specs.Next.{at_end, blanks_or, tested_blanks, is_blank_line, layout, at_line_start, next};
+ghost use Rattle.justfile_model.specs.Next.{end_token, blanks_or, tested_blanks, begins_blank_line, layout, at_line_start, next};
 ghost use Rattle.justfile_lex.specs.Layouts.{indent};
 ghost use Rattle.justfile_lex.specs.Modes.{mode_of};
 ghost use Rattle.justfile_lex.specs.Scanned.{scan_answer};
@@ -18,7 +18,7 @@ use justfile_base::TokenKind;
 /// The token at the end of the text, where no interpolation is open.
 fn scan_end<'src>(mode: &Mode<'src>) -> Scanned<'src>
     requires { (mode_of mode.now).interpolation ≡ None }
-    ensures { scan_answer result ≡ at_end (mode_of mode.now) }
+    ensures { scan_answer result ≡ end_token (mode_of mode.now) }
 {
     if mode.no_level() {
         Ok((TokenKind::Eof, 0))
@@ -53,7 +53,7 @@ fn take_tested_blanks<'src>(mode: &Mode<'src>, found: &'src str) -> &'src str
 
 /// Whether a line end or the end of the text is at the front.
 fn is_blank_line(rest: &[u8]) -> bool
-    ensures { result ≡ is_blank_line rest.now }
+    ensures { result ≡ begins_blank_line rest.now }
 {
     is_line_end(rest) || rest.is_empty()
 }

@@ -121,7 +121,8 @@ impl<'src> Lexer<'src> {
     /// The start of the interpolation that is open at the end of the text.
     fn unclosed_interpolation(&self) -> Option<Token<'src>>
         requires { IsCharBoundary self.now.src.now self.now.offset }
-        ensures { MatchOption result (length (drop self.now.offset self.now.src.now) ≡ 0 → self.now.mode.interpolation ≡ None) (λ t. (length (drop self.now.offset self.now.src.now) ≡ 0) × (self.now.mode.interpolation ≡ Some t)) }
+        ensures { MatchOption result (length (drop self.now.offset self.now.src.now) ≡ 0 → self.now.mode.interpolation ≡ None)
+            (λ t. (length (drop self.now.offset self.now.src.now) ≡ 0) × (self.now.mode.interpolation ≡ Some t)) }
     {
         if self.rest().is_empty() {
             self.mode.interpolation

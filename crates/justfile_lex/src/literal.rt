@@ -1,6 +1,6 @@
 ghost use Rattle.std.specs.Prelude.{◌≡◌, ◌≤◌, ◌<◌, length};
 ghost use Rattle.justfile_base.specs.StringKind.{delimiter_len, kind_of};
-ghost use Rattle.justfile_model.specs.Next.{unterminated, is_backtick, literal_part, literal, is_same, close, format_of, format_kind, brace_by, closing};
+ghost use Rattle.justfile_model.specs.Next.{unterminated, is_backtick, literal_part, literal_token, is_same, closing_delimiter, format_string_kind, format_kind, brace_by, closing};
 ghost use Rattle.justfile_lex.specs.Modes.{mode_of};
 ghost use Rattle.justfile_lex.specs.Scanned.{scan_fault, scan_answer};
 
@@ -64,7 +64,7 @@ fn scan_literal_part<'src>(
 /// A string, a backtick, or the start of a format string.
 pub(crate) fn scan_literal<'src>(mode: &Mode<'src>, rest: &[u8]) -> Scanned<'src>
     requires { delimiter_len (kind_of rest.now) ≤ length rest.now }
-    ensures { scan_answer result ≡ literal (mode_of mode.now) rest.now }
+    ensures { scan_answer result ≡ literal_token (mode_of mode.now) rest.now }
 {
     let kind = StringKind::of_opening(rest);
     let format = mode.after_f && !is_backtick(kind.delimiter);
@@ -96,7 +96,7 @@ fn close_delimiter<'src>(
     delimiter: Delimiter,
     kind: TokenKind,
 ) -> Scanned<'src>
-    ensures { scan_answer result ≡ close last delimiter kind }
+    ensures { scan_answer result ≡ closing_delimiter last delimiter kind }
 {
     match last {
         None => refuse(
@@ -124,7 +124,7 @@ fn close_delimiter<'src>(
 
 /// The kind of the literal that a format string is.
 fn format_of(delimiter: Delimiter) -> Option<StringKind>
-    ensures { result ≡ format_of delimiter }
+    ensures { result ≡ format_string_kind delimiter }
 {
     match delimiter {
         Delimiter::FormatString(kind) => Some(kind),

@@ -52,7 +52,7 @@ fn ends_in_newline(bytes: &[u8]) -> bool
 }
 
 impl<'src> Mode<'src> {
-    ghost use Rattle.justfile_model.specs.Modes.{mode, after, innermost, nested, start, is_empty, head_of, tail_of, opener};
+    ghost use Rattle.justfile_model.specs.Modes.{mode, mode_after, innermost, nested, start_mode, is_empty, head_of, tail_of, opener};
     ghost use Rattle.justfile_model.specs.Next.{is_level};
     ghost use Rattle.justfile_model.specs.Tok.{tok_of};
     ghost use Rattle.justfile_lex.specs.Modes.{mode_of, interpolation_after};
@@ -60,7 +60,7 @@ impl<'src> Mode<'src> {
 
     /// The mode at the start of a text.
     pub(crate) fn new(alloc: Global) -> Self
-        ensures mode { mode_of result ≡ start }
+        ensures mode { mode_of result ≡ start_mode }
         ensures interpolation { result.interpolation ≡ None }
     {
         Mode {
@@ -124,7 +124,8 @@ impl<'src> Mode<'src> {
 
     /// Opens a delimiter that stands on the line.
     fn open(&mut self, delimiter: Delimiter, line: usize) -> Result<(), AllocError>
-        ensures mode { OnOk result (mode_of self.new ≡ record (mode_of self.old) { openers = opener delimiter line ∷ (mode_of self.old).openers }) }
+        ensures mode { OnOk result (mode_of self.new ≡ record
+            (mode_of self.old) { openers = opener delimiter line ∷ (mode_of self.old).openers }) }
         ensures interpolation { self.new.interpolation ≡ self.old.interpolation }
     {
         self.openers.push(OpenDelimiter { delimiter, line })?;
@@ -141,7 +142,12 @@ impl<'src> Mode<'src> {
 
     /// Opens a level, which is a body after a colon.
     fn indent(&mut self, level: &'src str) -> Result<(), AllocError>
-        ensures mode { OnOk result (mode_of self.new ≡ record (mode_of self.old) { levels = level.now ∷ (mode_of self.old).levels; in_body = (mode_of self.old).in_body || (mode_of self.old).colon }) }
+        ensures mode { OnOk result (mode_of self.new ≡ record
+            (mode_of self.old) {
+              levels = level.now ∷ (mode_of self.old).levels;
+              in_body = (mode_of self.old).in_body ||
+                  (mode_of self.old).colon;
+            }) }
         ensures interpolation { self.new.interpolation ≡ self.old.interpolation }
     {
         self.levels.push(level)?;
@@ -151,7 +157,12 @@ impl<'src> Mode<'src> {
 
     /// Closes the innermost level.
     fn dedent(&mut self)
-        ensures mode { mode_of self.new ≡ record (mode_of self.old) { levels = tail_of (mode_of self.old).levels; colon = false; in_body = false } }
+        ensures mode { mode_of self.new ≡ record (mode_of self.old) {
+          levels = tail_of
+              (mode_of self.old).levels;
+          colon = false;
+          in_body = false;
+        } }
         ensures interpolation { self.new.interpolation ≡ self.old.interpolation }
     {
         let _ = self.levels.pop();
@@ -162,7 +173,7 @@ impl<'src> Mode<'src> {
     /// Takes note of the next token.
     pub(crate) fn note(&mut self, token: Token<'src>) -> Result<(), AllocError>
         requires { token.line ≤ token.offset }
-        ensures mode { OnOk result (mode_of self.new ≡ after token.entry.kind (tok_of token.entry) (mode_of self.old)) }
+        ensures mode { OnOk result (mode_of self.new ≡ mode_after token.entry.kind (tok_of token.entry) (mode_of self.old)) }
         ensures interpolation { OnOk result (self.new.interpolation ≡ interpolation_after token.entry self.old.interpolation) }
     {
         let line_start = self.line_start;

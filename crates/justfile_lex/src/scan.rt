@@ -1,7 +1,7 @@
 ghost use Rattle.std.specs.Prelude.{◌≡◌, ◌+◌, ◌<◌, ◌≤◌, length, slice_index};
 ghost use Rattle.std.specs.Str.{IsCharBoundary};
 ghost use Rattle.justfile_base.specs.ByteClass.{class_of};
-ghost use Rattle.justfile_model.specs.Next.{twice, fixed, opening, line_end, unknown, escape, lead, other, inline, normal, body, interpolated, inside};
+ghost use Rattle.justfile_model.specs.Next.{doubled_token, fixed_token, opening, line_end_token, unknown, escaped_line_end, multibyte_token, other_token, token_by_class, token_outside_text, body_token, interpolated, token_within_line};
 ghost use Rattle.justfile_lex.specs.Modes.{mode_of};
 ghost use Rattle.justfile_lex.specs.Scanned.{scan_answer};
 
@@ -23,7 +23,7 @@ const BYTE_ORDER_MARK: char = '\u{feff}';
 /// A token of two equal bytes, of which the first is known.
 fn scan_doubled<'src>(byte: u8, kind: TokenKind, rest: &'src str) -> Scanned<'src>
     requires { IsCharBoundary rest.now 1 }
-    ensures { scan_answer result ≡ twice byte kind rest.now }
+    ensures { scan_answer result ≡ doubled_token byte kind rest.now }
 {
     if byte_at(rest.as_bytes(), 1) == byte {
         return Ok((kind, 2));
@@ -40,10 +40,10 @@ fn scan_doubled<'src>(byte: u8, kind: TokenKind, rest: &'src str) -> Scanned<'sr
 }
 
 /// A fixed token, but for delimiters.
-#[tactic(auto, unfolding(justfile_model::specs::Next::fixed))]
+#[tactic(auto, unfolding(justfile_model::specs::Next::fixed_token))]
 fn scan_fixed<'src>(byte: u8, rest: &'src str) -> Scanned<'src>
     requires { IsCharBoundary rest.now 1 }
-    ensures { scan_answer result ≡ fixed byte rest.now }
+    ensures { scan_answer result ≡ fixed_token byte rest.now }
 {
     let second = byte_at(rest.as_bytes(), 1);
     match byte {
@@ -90,7 +90,7 @@ fn scan_opener<'src>(byte: u8) -> Scanned<'src>
 
 /// A line end, which is whitespace while a delimiter or an interpolation is open.
 fn scan_line_end<'src>(mode: &Mode<'src>, length: usize) -> Scanned<'src>
-    ensures { scan_answer result ≡ line_end (mode_of mode.now) length }
+    ensures { scan_answer result ≡ line_end_token (mode_of mode.now) length }
 {
     if mode.is_nested() {
         Ok((TokenKind::Whitespace, length))
@@ -117,7 +117,7 @@ fn refuse_character<'src>(rest: &str) -> Scanned<'src>
 /// A backslash, which only a line end may follow.
 fn scan_escaped_line_end<'src>(rest: &str) -> Scanned<'src>
     requires { IsCharBoundary rest.now 1 }
-    ensures { scan_answer result ≡ escape rest.now }
+    ensures { scan_answer result ≡ escaped_line_end rest.now }
 {
     let bytes = rest.as_bytes();
     match byte_at(bytes, 1) {
@@ -139,7 +139,7 @@ fn scan_escaped_line_end<'src>(rest: &str) -> Scanned<'src>
 /// A byte order mark, or no token.
 fn scan_multibyte<'src>(rest: &str) -> Scanned<'src>
     requires { 0 < length rest.now }
-    ensures { scan_answer result ≡ lead rest.now }
+    ensures { scan_answer result ≡ multibyte_token rest.now }
 {
     match first_char(rest) {
         Some(BYTE_ORDER_MARK) => Ok((TokenKind::ByteOrderMark, BYTE_ORDER_MARK.len_utf8())),
@@ -150,7 +150,7 @@ fn scan_multibyte<'src>(rest: &str) -> Scanned<'src>
 /// A comment, a backslash, or no token.
 fn scan_other<'src>(rest: &'src str) -> Scanned<'src>
     requires { 0 < length rest.now }
-    ensures { scan_answer result ≡ other rest.now }
+    ensures { scan_answer result ≡ other_token rest.now }
 {
     let bytes = rest.as_bytes();
     match byte_at(bytes, 0) {
@@ -161,11 +161,11 @@ fn scan_other<'src>(rest: &'src str) -> Scanned<'src>
 }
 
 /// The next token outside body text, by the class of its first byte.
-#[tactic(auto, unfolding(justfile_model::specs::Next::inline))]
+#[tactic(auto, unfolding(justfile_model::specs::Next::token_by_class))]
 fn scan_by_class<'src>(mode: &Mode<'src>, class: ByteClass, rest: &'src str) -> Scanned<'src>
     requires some { 0 < length rest.now }
     requires class { class ≡ class_of (slice_index rest.now 0) }
-    ensures { scan_answer result ≡ inline (mode_of mode.now) class rest.now }
+    ensures { scan_answer result ≡ token_by_class (mode_of mode.now) class rest.now }
 {
     let bytes = rest.as_bytes();
     let first = byte_at(bytes, 0);
@@ -193,15 +193,15 @@ fn scan_by_class<'src>(mode: &Mode<'src>, class: ByteClass, rest: &'src str) -> 
 /// The next token outside body text.
 fn scan_outside_text<'src>(mode: &Mode<'src>, rest: &'src str) -> Scanned<'src>
     requires { 0 < length rest.now }
-    ensures { scan_answer result ≡ normal (mode_of mode.now) rest.now }
+    ensures { scan_answer result ≡ token_outside_text (mode_of mode.now) rest.now }
 {
     scan_by_class(mode, byte_class(byte_at(rest.as_bytes(), 0)), rest)
 }
 
 /// The next token of a body, outside interpolations.
-#[tactic(auto, unfolding(justfile_model::specs::Next::body))]
+#[tactic(auto, unfolding(justfile_model::specs::Next::body_token))]
 fn scan_body<'src>(bytes: &[u8]) -> Scanned<'src>
-    ensures { scan_answer result ≡ body bytes.now }
+    ensures { scan_answer result ≡ body_token bytes.now }
 {
     let length = raw_len(RawText::Body, bytes);
     if length > 0 {
@@ -228,10 +228,10 @@ fn scan_interpolation<'src>(mode: &Mode<'src>, rest: &'src str) -> Scanned<'src>
 }
 
 /// The next token, layout aside.
-#[tactic(auto, unfolding(justfile_model::specs::Next::inside))]
+#[tactic(auto, unfolding(justfile_model::specs::Next::token_within_line))]
 pub(crate) fn scan_within_line<'src>(mode: &Mode<'src>, rest: &'src str) -> Scanned<'src>
     requires { 0 < length rest.now }
-    ensures { scan_answer result ≡ inside (mode_of mode.now) rest.now }
+    ensures { scan_answer result ≡ token_within_line (mode_of mode.now) rest.now }
 {
     match mode.interpolation {
         Some(_) => scan_interpolation(mode, rest),

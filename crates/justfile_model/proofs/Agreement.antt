@@ -10,7 +10,7 @@ use Rattle.justfile_model.specs.Grammar.{File}
 use Rattle.justfile_model.specs.Literals.{Literal}
 use Rattle.justfile_model.specs.Files.{FileDerives, FileTree, Obeys, all_literals, keeps_tokens, ordered}
 use Rattle.justfile_model.specs.Reading.{TooDeep}
-use Rattle.justfile_model.specs.TreeReader.{Refusal, file}
+use Rattle.justfile_model.specs.TreeReader.{Refusal, tree_of_tokens}
 use Rattle.justfile_model.specs.Refusals.{IsDue}
 use Rattle.justfile_model.proofs.CookedTexts.{AllCook, all_cook, texts_of}
 use Rattle.justfile_model.proofs.Complete.{file_reached}
@@ -43,27 +43,26 @@ module _ (conditions : Conditions) where
   is_due Hit written r (inr h) = inr (inl h)
 
   module _ (tokens : Tokens) where
-    pub sound : (written : WrittenTree) (features : List (Noted Tok)) → file conditions tokens ≡ Ok (written, features) → (tree : Tree) × (ordered written ≡ Some tree) × FileDerives conditions tokens tree features
-    sound written features is =
+    -- what is read derives, and obeys
+    pub read_derives : (written : WrittenTree) (features : List (Noted Tok)) → tree_of_tokens conditions tokens ≡ Ok (written, features) → File keeps_tokens (Under conditions.limit) written features tokens × Obeys conditions written
+    read_derives written features is =
         let found = file_at conditions tokens (written, features) is in
         let texts = texts_of conditions.expander (all_literals written) found.cooks in
-        let meaning = file_ordered keeps_tokens (Under conditions.limit) found.derives in (
-          plainly written,
-          meaning,
-          record {
-            written = written;
-            derives = found.derives;
-            obeys = record { cooked = texts.0; cooks = texts.1; unbroken = refl };
-            ordered_is = meaning;
-          },
-        )
+        (found.derives, record { cooked = texts.0; cooks = texts.1; unbroken = refl })
 
-    reached : (written : WrittenTree) (features : List (Noted Tok)) → File keeps_tokens (Under conditions.limit) written features tokens → Obeys conditions written → file conditions tokens ≡ Ok (written, features)
+    pub sound : (written : WrittenTree) (features : List (Noted Tok)) → tree_of_tokens conditions tokens ≡ Ok (written, features) → (tree : Tree) × (ordered written ≡ Some tree) × FileDerives conditions tokens tree features
+    sound written features is =
+        let found = read_derives written features is in
+        let meaning = file_ordered keeps_tokens (Under conditions.limit) found.0 in
+        (plainly written, meaning, record { written = written; derives = found.0; obeys = found.1; ordered_is = meaning })
+
+    -- what derives and obeys is read
+    pub reached : (written : WrittenTree) (features : List (Noted Tok)) → File keeps_tokens (Under conditions.limit) written features tokens → Obeys conditions written → tree_of_tokens conditions tokens ≡ Ok (written, features)
     reached written features h obeys =
         only_read conditions (all_cook conditions.expander (all_literals written) obeys.cooked obeys.cooks)
         (file_reached conditions (λ at. ⊥) (file_loosened (Under conditions.limit) (Waived conditions.limit (λ at. ⊥)) (kept conditions.limit) keeps_tokens h))
 
-    pub complete : (tree : Tree) (features : List (Noted Tok)) → FileDerives conditions tokens tree features → (written : WrittenTree) × (ordered written ≡ Some tree) × (file conditions tokens ≡ Ok (written, features))
+    pub complete : (tree : Tree) (features : List (Noted Tok)) → FileDerives conditions tokens tree features → (written : WrittenTree) × (ordered written ≡ Some tree) × (tree_of_tokens conditions tokens ≡ Ok (written, features))
     complete tree features h = (h.written, h.ordered_is, reached h.written features h.derives h.obeys)
 
     pub one_tree : (tree other : Tree) (features others : List (Noted Tok)) → FileDerives conditions tokens tree features → FileDerives conditions tokens other others → (tree ≡ other) × (features ≡ others)
@@ -74,26 +73,26 @@ module _ (conditions : Conditions) where
   module _ (tokens : Tokens) (written : WrittenTree) (features : List (Noted Tok)) where
     -- where the limit is waived at some tokens
     module _ (Hit : Option SignificantToken → Bool) (h : File keeps_tokens (Waived conditions.limit (λ at. IsTrue (Hit at))) written features tokens) where
-      pub deep : Obeys conditions written → (file conditions tokens ≡ Ok (written, features)) ⊎ ((at : Option SignificantToken) × IsTrue (Hit at) × (file conditions tokens ≡ Err (TooDeep at)))
+      pub deep : Obeys conditions written → (tree_of_tokens conditions tokens ≡ Ok (written, features)) ⊎ ((at : Option SignificantToken) × IsTrue (Hit at) × (tree_of_tokens conditions tokens ≡ Err (TooDeep at)))
       deep obeys =
-          read_or_deep (λ at. IsTrue (Hit at)) (file conditions tokens) (written, features) (all_literals written) (all_cook conditions.expander (all_literals written) obeys.cooked obeys.cooks)
+          read_or_deep (λ at. IsTrue (Hit at)) (tree_of_tokens conditions tokens) (written, features) (all_literals written) (all_cook conditions.expander (all_literals written) obeys.cooked obeys.cooks)
           (file_reached conditions (λ at. IsTrue (Hit at)) h)
 
-      pub due : (r : Refusal) → file conditions tokens ≡ Err r → IsDue conditions (λ at. IsTrue (Hit at)) written r
+      pub due : (r : Refusal) → tree_of_tokens conditions tokens ≡ Err r → IsDue conditions (λ at. IsTrue (Hit at)) written r
       due r is = is_due (λ at. IsTrue (Hit at)) written r (only_due conditions (λ at. IsTrue (Hit at)) is (file_reached conditions (λ at. IsTrue (Hit at)) h))
 
     -- without a limit
-    free_found : FileTree tokens written features → Reaches conditions (λ at. Unit {0}) (file conditions tokens) (written, features) (all_literals written)
+    free_found : FileTree tokens written features → Reaches conditions (λ at. Unit {0}) (tree_of_tokens conditions tokens) (written, features) (all_literals written)
     free_found h = file_reached conditions (λ at. Unit {0}) (file_loosened Free (Waived conditions.limit (λ at. Unit {0})) (dropped conditions.limit) keeps_tokens h)
 
-    pub free : FileTree tokens written features → Obeys conditions written → (file conditions tokens ≡ Ok (written, features)) ⊎ ((at : Option SignificantToken) × (file conditions tokens ≡ Err (TooDeep at)))
+    pub free : FileTree tokens written features → Obeys conditions written → (tree_of_tokens conditions tokens ≡ Ok (written, features)) ⊎ ((at : Option SignificantToken) × (tree_of_tokens conditions tokens ≡ Err (TooDeep at)))
     free h obeys =
-        without (read_or_deep (λ at. Unit {0}) (file conditions tokens) (written, features) (all_literals written) (all_cook conditions.expander (all_literals written) obeys.cooked obeys.cooks) (free_found h))
+        without (read_or_deep (λ at. Unit {0}) (tree_of_tokens conditions tokens) (written, features) (all_literals written) (all_cook conditions.expander (all_literals written) obeys.cooked obeys.cooks) (free_found h))
       where
-        without : (file conditions tokens ≡ Ok (written, features)) ⊎ ((at : Option SignificantToken) × Unit {0} × (file conditions tokens ≡ Err (TooDeep at)))
-            → (file conditions tokens ≡ Ok (written, features)) ⊎ ((at : Option SignificantToken) × (file conditions tokens ≡ Err (TooDeep at)))
+        without : (tree_of_tokens conditions tokens ≡ Ok (written, features)) ⊎ ((at : Option SignificantToken) × Unit {0} × (tree_of_tokens conditions tokens ≡ Err (TooDeep at)))
+            → (tree_of_tokens conditions tokens ≡ Ok (written, features)) ⊎ ((at : Option SignificantToken) × (tree_of_tokens conditions tokens ≡ Err (TooDeep at)))
         without (inl is) = inl is
         without (inr x) = inr (x.0, x.2)
 
-    pub refused : FileTree tokens written features → (r : Refusal) → file conditions tokens ≡ Err r → IsDue conditions (λ at. Unit {0}) written r
+    pub refused : FileTree tokens written features → (r : Refusal) → tree_of_tokens conditions tokens ≡ Err r → IsDue conditions (λ at. Unit {0}) written r
     refused h r is = is_due (λ at. Unit {0}) written r (only_due conditions (λ at. Unit {0}) is (free_found h))

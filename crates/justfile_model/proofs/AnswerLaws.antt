@@ -8,10 +8,10 @@ use Rattle.justfile_base.specs.declared.token_kind.TokenKind.{TokenKind}
 use Rattle.justfile_base.specs.declared.token_kind.TokenKind.TheVariants.{Dedent, Eof, Indent, Unspecified}
 use Rattle.justfile_base.specs.Slice.{slice_of}
 use Rattle.justfile_model.specs.Tok.{Tok}
-use Rattle.justfile_model.specs.Modes.{Mode, after, mode, tail_of}
-use Rattle.justfile_model.specs.Places.{line_at, column_at}
-use Rattle.justfile_model.specs.LexicalFault.{LexicalFault, UnterminatedInterpolation, Refusal, Here, Unclosed}
-use Rattle.justfile_model.specs.Next.{Found}
+use Rattle.justfile_model.specs.Modes.{Mode, mode_after, mode, tail_of}
+use Rattle.justfile_model.specs.Places.{line_of_offset, column_at}
+use Rattle.justfile_model.specs.LexicalFault.{LexicalFault, UnterminatedInterpolation, LexicalRefusal, Here, Unclosed}
+use Rattle.justfile_model.specs.Next.{NextToken}
 use Rattle.justfile_model.specs.Lexed.{Begins, IsAnswered, IsFault, IsNext, IsSpan, Lexed, StandsAt, end_of, next_of}
 use Rattle.justfile_model.proofs.NextLaws.{fault_cut, token_cut}
 use Rattle.justfile_model.proofs.LexedLaws.{end_cuts}
@@ -30,7 +30,7 @@ unfolding is_eof
 not_eof k h e = cc (ap is_eof e)
 
 -- a token opens one level at most
-levels_after : (k : TokenKind) (t : Tok) (m : Mode) → length (after k t m).levels ≤ suc (length m.levels)
+levels_after : (k : TokenKind) (t : Tok) (m : Mode) → length (mode_after k t m).levels ≤ suc (length m.levels)
 levels_after Indent t m = omega arith
 levels_after Dedent t m = go m.levels
   where
@@ -43,13 +43,13 @@ levels_dedent : (ls : List (List ℕ)) → 0 < length ls → suc (length (tail_o
 levels_dedent [] l = absurd (omega arith)
 levels_dedent (x ∷ ls) l = refl
 
-unfoldable pub fault_of : Refusal → LexicalFault
+unfoldable pub fault_of : LexicalRefusal → LexicalFault
 fault_of (Here p skip n) = p
 fault_of (Unclosed t) = UnterminatedInterpolation
 
 module _ (text : List ℕ) where
   unfoldable pub at : TokenKind → ℕ → ℕ → Tok
-  at k offset n = record { kind = k; lexeme = slice_of text offset n; offset = offset; line = line_at text offset; column = column_at text offset }
+  at k offset n = record { kind = k; lexeme = slice_of text offset n; offset = offset; line = line_of_offset text offset; column = column_at text offset }
 
   long : (k : TokenKind) (offset n : ℕ) → offset + n ≤ length text → length (at k offset n).lexeme ≡ n
   unfolding at
@@ -62,17 +62,17 @@ module _ (text : List ℕ) where
   -- the next token
   pub next_at : (e : List Tok) (k : TokenKind) (n : ℕ) → end_of e + n ≤ length text → next_of text e ≡ Ok (k, n) → IsNext text e (at k (end_of e) n)
   unfolding at
-  next_at e k n l found = record { stands = stands_at k (end_of e) n l; found = found ∙ ap (λ i. let x : Found = Ok (k, i) in x) (sym (long k (end_of e) n l)) }
+  next_at e k n l found = record { stands = stands_at k (end_of e) n l; found = found ∙ ap (λ i. let x : NextToken = Ok (k, i) in x) (sym (long k (end_of e) n l)) }
 
-  unfoldable pub span_of : List Tok → Refusal → Tok
+  unfoldable pub span_of : List Tok → LexicalRefusal → Tok
   span_of e (Here p skip n) = at Unspecified (end_of e + skip) n
   span_of e (Unclosed t) = t
 
-  pub refused_at : (e : List Tok) → Begins text e → IsUtf8 text → (r : Refusal) → next_of text e ≡ Err r → IsFault text (fault_of r) (span_of e r)
+  pub refused_at : (e : List Tok) → Begins text e → IsUtf8 text → (r : LexicalRefusal) → next_of text e ≡ Err r → IsFault text (fault_of r) (span_of e r)
   unfolding at fault_of span_of
   refused_at e b u r refused = record { earlier = e; begins = b; refusal = r; refused = refused; spans = spans r refused }
     where
-      spans : (r : Refusal) → next_of text e ≡ Err r → IsSpan text e r (fault_of r) (span_of e r)
+      spans : (r : LexicalRefusal) → next_of text e ≡ Err r → IsSpan text e r (fault_of r) (span_of e r)
       spans (Unclosed t) refused = (refl, refl)
       spans (Here p skip n) refused =
           let cut = end_cuts text e u b in
@@ -114,7 +114,7 @@ module _ (text : List ℕ) where
       (λ none. ⊎_elim
       (λ eof. absurd (not_eof k f eof))
       (λ dedent.
-      let fewer : length (after k t (mode e)).levels ≡ length (tail_of (mode e).levels) = ap (λ k. length (after k t (mode e)).levels) dedent.0 in
+      let fewer : length (mode_after k t (mode e)).levels ≡ length (tail_of (mode e).levels) = ap (λ k. length (mode_after k t (mode e)).levels) dedent.0 in
       omega (arith, fewer, levels_dedent (mode e).levels dedent.1))
       none)
       found.1
@@ -124,7 +124,7 @@ module _ (text : List ℕ) where
   answered_from zero e u b l = absurd (omega arith)
   answered_from (suc fuel) e u b l = go (answered_from fuel) (next_of text e) refl
     where
-      go : ((e : List Tok) → IsUtf8 text → Begins text e → 2 * (length text - end_of e) + length (mode e).levels < fuel → IsAnswered text) → (found : Found) → next_of text e ≡ found → IsAnswered text
+      go : ((e : List Tok) → IsUtf8 text → Begins text e → 2 * (length text - end_of e) + length (mode e).levels < fuel → IsAnswered text) → (found : NextToken) → next_of text e ≡ found → IsAnswered text
       go more (Err r) h = inr (fault_of r, span_of e r, refused_at e b u r h)
       go more (Ok x) h = goes (is_eof x.0) refl
         where

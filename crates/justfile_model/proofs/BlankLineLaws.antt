@@ -9,14 +9,15 @@ use Rattle.justfile_base.specs.declared.byte_class.ByteClass.{ByteClass}
 use Rattle.justfile_base.specs.declared.byte_class.ByteClass.TheVariants as classes
 use Rattle.std.specs.Char.{is_ascii_alphabetic, is_ascii_digit}
 use Rattle.justfile_base.specs.ByteClass.{begins_fixed, class_of}
-use Rattle.justfile_model.specs.BlankLines.{BeginsWithBlankLine, BeginsWithWhiteLines, IsAtLineStart, LevelsClose, is_space_or_tab, is_white}
+use Rattle.justfile_model.specs.BlankLines.{BeginsWithBlankLine, BeginsWithWhiteLines, IsAtLineStart, LevelsClose, is_blank_or_line_end}
+use Rattle.justfile_base.specs.Indentation.{is_space_or_tab}
 use Rattle.justfile_base.specs.declared.token_kind.TokenKind.TheVariants as kinds
 use Rattle.justfile_base.specs.declared.token_kind.TokenKind.{TokenKind}
 use Rattle.justfile_model.specs.Bytes.{blank, blank_len, closes_levels, is_blank, is_line_end, line_feed, white}
 use Rattle.justfile_model.specs.declared.raw_text.RawText.TheVariants as raw_texts
 use Rattle.justfile_model.specs.LiteralText.{raw_len}
 use Rattle.justfile_model.specs.Modes.{Mode, mode, tail_of, is_empty, nested}
-use Rattle.justfile_model.specs.Next.{Found, at_line_start, blanks_or, body, inline, inside, is_blank_line, layout, line_end, next, normal, region_by, text_or, token_in_region}
+use Rattle.justfile_model.specs.Next.{NextToken, at_line_start, blanks_or, body_token, token_by_class, token_within_line, begins_blank_line, layout, line_end_token, next, token_outside_text, region_by, text_or, token_in_region}
 use Rattle.justfile_model.specs.Lexed.{Begins, end_of, next_of}
 use Rattle.justfile_model.specs.Tok.{Tok}
 use Rattle.justfile_model.proofs.AnswerLaws.{at, next_at}
@@ -25,22 +26,22 @@ use Rattle.justfile_model.proofs.CutLemmas.{eq_from, is_line_feed}
 -- blanks and white bytes are classes
 record IsClassed (b : ℕ) (k : ByteClass) : Type 0 where
   is_blank : is_space_or_tab b ≡ blank k
-  is_white' : is_white b ≡ white k
+  is_white' : is_blank_or_line_end b ≡ white k
 
 class_if : (b : ℕ) (t : Bool) {x y : ByteClass} → (t ≡ true → IsClassed b x) → (t ≡ false → IsClassed b y) → IsClassed b (cond t x y)
 class_if b true f g = f refl
 class_if b false f g = g refl
 
-white_blank : (b : ℕ) → (eqb b 32 || eqb b 9) ≡ true → is_white b ≡ true
+white_blank : (b : ℕ) → (eqb b 32 || eqb b 9) ≡ true → is_blank_or_line_end b ≡ true
 white_blank b h = grind (arith, nat_tests)
 
-white_feed : (b : ℕ) → eqb b 10 ≡ true → is_white b ≡ true
+white_feed : (b : ℕ) → eqb b 10 ≡ true → is_blank_or_line_end b ≡ true
 white_feed b h = grind (arith, nat_tests)
 
-white_return : (b : ℕ) → eqb b 13 ≡ true → is_white b ≡ true
+white_return : (b : ℕ) → eqb b 13 ≡ true → is_blank_or_line_end b ≡ true
 white_return b h = grind (arith, nat_tests)
 
-not_white : (b : ℕ) → (eqb b 32 || eqb b 9) ≡ false → eqb b 10 ≡ false → eqb b 13 ≡ false → is_white b ≡ false
+not_white : (b : ℕ) → (eqb b 32 || eqb b 9) ≡ false → eqb b 10 ≡ false → eqb b 13 ≡ false → is_blank_or_line_end b ≡ false
 not_white b h f g = grind (arith, nat_tests)
 
 classed : (b : ℕ) → IsClassed b (class_of b)
@@ -49,7 +50,7 @@ classed b =
     class_if b (eqb b 32 || eqb b 9) {x = classes.Blank} (λ h. record { is_blank = h; is_white' = white_blank b h }) (λ none.
     class_if b (eqb b 10) {x = classes.LineFeed} (λ h. record { is_blank = none; is_white' = white_feed b h }) (λ no_feed.
     class_if b (eqb b 13) {x = classes.CarriageReturn} (λ h. record { is_blank = none; is_white' = white_return b h }) (λ no_return.
-    let white : is_white b ≡ false = not_white b none no_feed no_return in
+    let white : is_blank_or_line_end b ≡ false = not_white b none no_feed no_return in
     class_if b (is_ascii_alphabetic b || eqb b 95) {x = classes.IdentifierStart} (λ _. record { is_blank = none; is_white' = white }) (λ _.
     class_if b (is_ascii_digit b || eqb b 45) {x = classes.IdentifierContinue} (λ _. record { is_blank = none; is_white' = white }) (λ _.
     class_if b (eqb b 39 || eqb b 34 || eqb b 96) {x = classes.Quote} (λ _. record { is_blank = none; is_white' = white }) (λ _.
@@ -66,7 +67,7 @@ record StopsAfterFeed (last : Bool) (bs : List ℕ) : Type 0 where
   next : ℕ
   follows : List ℕ
   are : bs ≡ next ∷ follows
-  run_ends : is_white next ≡ false
+  run_ends : is_blank_or_line_end next ≡ false
 
 feed_is : (b : ℕ) → line_feed (class_of b) ≡ true → b ≡ 10
 feed_is b h = eq_from b 10 (is_line_feed b (class_of b) refl ∙ h)
@@ -76,20 +77,20 @@ unfolding closes_levels
 white_lines last [] h = cc
 white_lines last (b ∷ bs) h = by (white (class_of b)) refl h (white_lines (line_feed (class_of b)) bs)
   where
-    pushed : is_white b ≡ true → StopsAfterFeed (line_feed (class_of b)) bs ⊎ BeginsWithWhiteLines bs → BeginsWithWhiteLines (b ∷ bs)
-    pushed w (inl s) = record { run = []; next = s.next; follows = s.follows; are = (λ i. feed_is b s.feed i ∷ s.are i); is_run = All-nil (λ b. is_white b ≡ true); run_ends = s.run_ends }
-    pushed w (inr l) = record { run = b ∷ l.run; next = l.next; follows = l.follows; are = ap (λ bs. b ∷ bs) l.are; is_run = All-cons (λ b. is_white b ≡ true) b l.run w l.is_run; run_ends = l.run_ends }
+    pushed : is_blank_or_line_end b ≡ true → StopsAfterFeed (line_feed (class_of b)) bs ⊎ BeginsWithWhiteLines bs → BeginsWithWhiteLines (b ∷ bs)
+    pushed w (inl s) = record { run = []; next = s.next; follows = s.follows; are = (λ i. feed_is b s.feed i ∷ s.are i); is_run = All-nil (λ b. is_blank_or_line_end b ≡ true); run_ends = s.run_ends }
+    pushed w (inr l) = record { run = b ∷ l.run; next = l.next; follows = l.follows; are = ap (λ bs. b ∷ bs) l.are; is_run = All-cons (λ b. is_blank_or_line_end b ≡ true) b l.run w l.is_run; run_ends = l.run_ends }
 
     by : (w : Bool) → white (class_of b) ≡ w → cond w (closes_levels (line_feed (class_of b)) bs) last ≡ true → (closes_levels (line_feed (class_of b)) bs ≡ true → StopsAfterFeed (line_feed (class_of b)) bs ⊎ BeginsWithWhiteLines bs) → StopsAfterFeed last (b ∷ bs) ⊎ BeginsWithWhiteLines (b ∷ bs)
     by true w h more = inr (pushed ((classed b).is_white' ∙ w) (more h))
     by false w h more = inl (record { feed = h; next = b; follows = bs; are = refl; run_ends = (classed b).is_white' ∙ w })
 
-closes_by : (run : List ℕ) → AllPass is_white run → (next : ℕ) (follows : List ℕ) → is_white next ≡ false → (last : Bool) → closes_levels last (run ++ (10 ∷ (next ∷ follows))) ≡ true
+closes_by : (run : List ℕ) → AllPass is_blank_or_line_end run → (next : ℕ) (follows : List ℕ) → is_blank_or_line_end next ≡ false → (last : Bool) → closes_levels last (run ++ (10 ∷ (next ∷ follows))) ≡ true
 unfolding closes_levels class_of
 closes_by [] all next follows stops last = let no_white : white (class_of next) ≡ false = sym (classed next).is_white' ∙ stops in rw no_white refl
 closes_by (b ∷ run) all next follows stops last =
-    let is_white' : white (class_of b) ≡ true = sym (classed b).is_white' ∙ All-head (λ b. is_white b ≡ true) b run all in
-    rw is_white' (closes_by run (All-tail (λ b. is_white b ≡ true) b run all) next follows stops (line_feed (class_of b)))
+    let is_white' : white (class_of b) ≡ true = sym (classed b).is_white' ∙ All-head (λ b. is_blank_or_line_end b ≡ true) b run all in
+    rw is_white' (closes_by run (All-tail (λ b. is_blank_or_line_end b ≡ true) b run all) next follows stops (line_feed (class_of b)))
 
 closes_law : (text : List ℕ) → (closes_levels false text ≡ true) ↔ BeginsWithWhiteLines text
 closes_law text = (λ h. by (white_lines false text h), λ l. ap (closes_levels false) l.are ∙ closes_by l.run l.is_run l.next l.follows l.run_ends false)
@@ -115,14 +116,14 @@ blanks_first (b ∷ bs) follows all none =
     rw first (omega (arith, blanks_first bs follows (All-tail (λ b. is_space_or_tab b ≡ true) b bs all) none))
 
 -- at a line end no other token is a dedent
-abbrev OtherBy : Found → Type 0
+abbrev OtherBy : NextToken → Type 0
 OtherBy (Ok x) = x.0 ≢ kinds.Dedent
 OtherBy (Err r) = Unit {0}
 
-record Other (found : Found) : Type 0 where
+record Other (found : NextToken) : Type 0 where
   other : OtherBy found
 
-other_if : (b : Bool) (x y : Found) → Other x → Other y → Other (cond b x y)
+other_if : (b : Bool) (x y : NextToken) → Other x → Other y → Other (cond b x y)
 other_if true x y f g = f
 other_if false x y f g = g
 
@@ -133,23 +134,23 @@ text_other : (n b : ℕ) → Other (text_or n b)
 text_other (suc n) b = token _ _ (λ e. cc)
 text_other zero b = other_if (eqb b 10) _ _ (token _ _ (λ e. cc)) (other_if (eqb b 13) _ _ (token _ _ (λ e. cc)) (token _ _ (λ e. cc)))
 
-line_end_other : (m : Mode) (n : ℕ) → Other (line_end m n)
+line_end_other : (m : Mode) (n : ℕ) → Other (line_end_token m n)
 line_end_other m n = other_if (nested m) _ _ (token _ _ (λ e. cc)) (token _ _ (λ e. cc))
 
-normal_other : (m : Mode) (rest : List ℕ) → is_line_end rest ≡ true → Other (normal m rest)
-unfolding inline class_of
+normal_other : (m : Mode) (rest : List ℕ) → is_line_end rest ≡ true → Other (token_outside_text m rest)
+unfolding token_by_class class_of
 normal_other m [] h = cc
 normal_other m (b ∷ bs) h = by (eqb b 10) refl
   where
     return : (b c : ℕ) → (eqb b 10 || eqb b 13 && eqb c 10) ≡ true → eqb b 10 ≡ false → eqb b 13 ≡ true
     return b c h e = grind (arith, nat_tests)
 
-    by : (s : Bool) → eqb b 10 ≡ s → Other (normal m (b ∷ bs))
-    by true is = subst (λ b. Other (normal m (b ∷ bs))) (sym (eq_from b 10 is)) (line_end_other m 1)
-    by false is = subst (λ b. Other (normal m (b ∷ bs))) (sym (eq_from b 13 (return b (get_or bs 0 0) h is))) (other_if (eqb (get_or bs 0 0) 10) _ _ (line_end_other m 2) (record { other = tt }))
+    by : (s : Bool) → eqb b 10 ≡ s → Other (token_outside_text m (b ∷ bs))
+    by true is = subst (λ b. Other (token_outside_text m (b ∷ bs))) (sym (eq_from b 10 is)) (line_end_other m 1)
+    by false is = subst (λ b. Other (token_outside_text m (b ∷ bs))) (sym (eq_from b 13 (return b (get_or bs 0 0) h is))) (other_if (eqb (get_or bs 0 0) 10) _ _ (line_end_other m 2) (record { other = tt }))
 
-inside_other : (m : Mode) (rest : List ℕ) → is_line_end rest ≡ true → m.interpolation ≡ None → Other (inside m rest)
-unfolding inside body
+inside_other : (m : Mode) (rest : List ℕ) → is_line_end rest ≡ true → m.interpolation ≡ None → Other (token_within_line m rest)
+unfolding token_within_line body_token
 inside_other m rest h none = by m.in_body m.interpolation none
   where
     by : (b : Bool) (o : Option Tok) → o ≡ None → Other (token_in_region (region_by b o) m rest)
@@ -157,7 +158,7 @@ inside_other m rest h none = by m.in_body m.interpolation none
     by true None none = text_other (raw_len raw_texts.Body rest) (get_or rest 0 0)
     by false None none = normal_other m rest h
 
-no_dedent : (found : Found) → Other found → found ≡ Ok (kinds.Dedent, 0) → ⊥
+no_dedent : (found : NextToken) → Other found → found ≡ Ok (kinds.Dedent, 0) → ⊥
 no_dedent found o e = (subst Other e o).other refl
 
 -- so many blanks, and then a line end or the end of the text
@@ -183,13 +184,13 @@ module _ (m : Mode) (place : IsAtLineStart m) (levels : m.levels ≢ []) where
       by [] some = absurd (some refl)
       by (l ∷ ls) some = refl
 
-  layout_is : (found follows rest : List ℕ) → is_blank_line follows ≡ true → layout m found follows rest ≡ cond (closes_levels false rest) (Ok (kinds.Dedent, 0)) (blanks_or (length found) m rest)
+  layout_is : (found follows rest : List ℕ) → begins_blank_line follows ≡ true → layout m found follows rest ≡ cond (closes_levels false rest) (Ok (kinds.Dedent, 0)) (blanks_or (length found) m rest)
   unfolding layout
   layout_is found follows rest ends = rw (not_nested, ends, some_level) refl
 
-  blank_line_is : (follows : List ℕ) → (is_line_end follows ≡ true) ⊎ (follows ≡ []) → is_blank_line follows ≡ true
+  blank_line_is : (follows : List ℕ) → (is_line_end follows ≡ true) ⊎ (follows ≡ []) → begins_blank_line follows ≡ true
   blank_line_is follows (inl ends) = ap (λ b. b || is_empty follows) ends
-  blank_line_is follows (inr nil) = subst (λ follows. is_blank_line follows ≡ true) (sym nil) refl
+  blank_line_is follows (inr nil) = subst (λ follows. begins_blank_line follows ≡ true) (sym nil) refl
 
   blanks_len : (blanks follows : List ℕ) → AllPass is_space_or_tab blanks → (is_line_end follows ≡ true) ⊎ (follows ≡ []) → blank_len (blanks ++ follows) ≡ length blanks
   blanks_len blanks follows all (inl ends) = blanks_first blanks follows all (line_end_first follows ends)

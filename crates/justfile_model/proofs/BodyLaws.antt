@@ -7,7 +7,7 @@ use Rattle.std.proofs.lemmas.List.Elements.{All-nil, All-push, recursion_from_Al
 use Rattle.justfile_base.specs.declared.token_kind.TokenKind.{TokenKind}
 use Rattle.justfile_base.specs.declared.token_kind.TokenKind.TheVariants as kinds
 use Rattle.justfile_model.specs.Bodies.{IsAfterColon, IsInBody}
-use Rattle.justfile_model.specs.Modes.{Mode, after, mode}
+use Rattle.justfile_model.specs.Modes.{Mode, mode_after, mode}
 use Rattle.justfile_model.specs.Tok.{Tok}
 use Rattle.justfile_model.proofs.UnclosedLaws.{reverse_at, reverse_more}
 
@@ -16,7 +16,7 @@ NotDedent t = t.kind ≢ kinds.Dedent
 
 -- ---- from the tokens to the mode
 
-colon_step : (k : TokenKind) (t : Tok) (m : Mode) → k ≢ kinds.Dedent → m.colon ≡ true → (after k t m).colon ≡ true
+colon_step : (k : TokenKind) (t : Tok) (m : Mode) → k ≢ kinds.Dedent → m.colon ≡ true → (mode_after k t m).colon ≡ true
 colon_step kinds.Dedent t m n c = absurd (n refl)
 colon_step kinds.Colon t m n c = refl
 colon_step k t m n c = c
@@ -25,7 +25,7 @@ colon_stays : (ts e : List Tok) → AllByRecursion NotDedent ts → (mode e).col
 colon_stays [] e n c = c
 colon_stays (t ∷ ts) e n c = subst (λ e. (mode e).colon ≡ true) (sym (reverse_more t ts e)) (colon_stays ts (t ∷ e) n.1 (colon_step t.kind t (mode e) n.0 c))
 
-body_step : (k : TokenKind) (t : Tok) (m : Mode) → k ≢ kinds.Dedent → m.in_body ≡ true → (after k t m).in_body ≡ true
+body_step : (k : TokenKind) (t : Tok) (m : Mode) → k ≢ kinds.Dedent → m.in_body ≡ true → (mode_after k t m).in_body ≡ true
 body_step kinds.Dedent t m n c = absurd (n refl)
 body_step kinds.Indent t m n c = ap (λ b. b || m.colon) c
 body_step k t m n c = c
@@ -37,7 +37,7 @@ body_stays (t ∷ ts) e n c = subst (λ e. (mode e).in_body ≡ true) (sym (reve
 after_colon : (ts : List Tok) → IsAfterColon ts → (mode (reverse ts)).colon ≡ true
 after_colon ts h =
     let same : reverse ts ≡ reverse h.since ++ (h.colon ∷ reverse h.before) = ap reverse h.are ∙ reverse_at h.before h.colon h.since in
-    let here : (mode (h.colon ∷ reverse h.before)).colon ≡ true = subst (λ k. (after k h.colon (mode (reverse h.before))).colon ≡ true) (sym h.is_colon) refl in
+    let here : (mode (h.colon ∷ reverse h.before)).colon ≡ true = subst (λ k. (mode_after k h.colon (mode (reverse h.before))).colon ≡ true) (sym h.is_colon) refl in
     subst (λ e. (mode e).colon ≡ true) (sym same) (colon_stays h.since (h.colon ∷ reverse h.before) (recursion_from_All NotDedent h.since h.no_dedent) here)
 
 or_true : (a b : Bool) → b ≡ true → (a || b) ≡ true
@@ -48,7 +48,7 @@ in_body : (ts : List Tok) → IsInBody ts → (mode (reverse ts)).in_body ≡ tr
 in_body ts h =
     let m : Mode = mode (reverse h.before) in
     let same : reverse ts ≡ reverse h.since ++ (h.indent ∷ reverse h.before) = ap reverse h.are ∙ reverse_at h.before h.indent h.since in
-    let here : (mode (h.indent ∷ reverse h.before)).in_body ≡ true = subst (λ k. (after k h.indent m).in_body ≡ true) (sym h.is_indent) (or_true m.in_body m.colon (after_colon h.before h.after_colon)) in
+    let here : (mode (h.indent ∷ reverse h.before)).in_body ≡ true = subst (λ k. (mode_after k h.indent m).in_body ≡ true) (sym h.is_indent) (or_true m.in_body m.colon (after_colon h.before h.after_colon)) in
     subst (λ e. (mode e).in_body ≡ true) (sym same) (body_stays h.since (h.indent ∷ reverse h.before) (recursion_from_All NotDedent h.since h.no_dedent) here)
 
 -- ---- from the mode to the tokens
@@ -72,7 +72,7 @@ colon_found : (e : List Tok) → (mode e).colon ≡ true → IsAfterColon (rever
 colon_found [] c = cc
 colon_found (t ∷ e) c = subst IsAfterColon (sym (reverse-append (t ∷ []) e)) (by t.kind refl c (colon_found e))
   where
-    by : (k : TokenKind) → t.kind ≡ k → (after k t (mode e)).colon ≡ true → ((mode e).colon ≡ true → IsAfterColon (reverse e)) → IsAfterColon (reverse e ++ (t ∷ []))
+    by : (k : TokenKind) → t.kind ≡ k → (mode_after k t (mode e)).colon ≡ true → ((mode e).colon ≡ true → IsAfterColon (reverse e)) → IsAfterColon (reverse e ++ (t ∷ []))
     by kinds.Dedent is c more = cc
     by kinds.Colon is c more = colon_here (reverse e) t is
     by _ is c more = colon_more (reverse e) t (λ n. cc) (more c)
@@ -89,7 +89,7 @@ body_found (t ∷ e) c = subst IsInBody (sym (reverse-append (t ∷ []) e)) (by 
     indented is (inl b) more = body_more (reverse e) t (λ n. cc) (more b)
     indented is (inr c) more = body_here (reverse e) t is (colon_found e c)
 
-    by : (k : TokenKind) → t.kind ≡ k → (after k t (mode e)).in_body ≡ true → ((mode e).in_body ≡ true → IsInBody (reverse e)) → IsInBody (reverse e ++ (t ∷ []))
+    by : (k : TokenKind) → t.kind ≡ k → (mode_after k t (mode e)).in_body ≡ true → ((mode e).in_body ≡ true → IsInBody (reverse e)) → IsInBody (reverse e ++ (t ∷ []))
     by kinds.Dedent is c more = cc
     by kinds.Indent is c more = indented is (or_cases (mode e).in_body (mode e).colon c) more
     by _ is c more = body_more (reverse e) t (λ n. cc) (more c)

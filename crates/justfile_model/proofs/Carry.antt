@@ -5,11 +5,11 @@ use Rattle.justfile_base.specs.declared.token_kind.TokenKind.{TokenKind}
 use Rattle.justfile_model.specs.Tok.{Tok}
 use Rattle.justfile_model.specs.SignificantTokens.{SignificantToken}
 use Rattle.justfile_model.specs.Tree as tree
-use Rattle.justfile_model.specs.Tree.{Expr, Fragment, BodyLine, Line, Content, Construct, WrittenItem, before, plain_assignment, plain_recipe, trimmed, over_expr, over_fragment, over_line, over_written, over_content, over_item}
+use Rattle.justfile_model.specs.Tree.{Expr, Fragment, BodyLine, Line, Content, Construct, WrittenItem, line_before, plain_assignment, plain_recipe, trimmed, over_expr, over_fragment, over_line, over_written_attribute, over_content, over_item}
 use Rattle.justfile_model.specs.Features.{Noted, over_noted}
 use Rattle.justfile_model.specs.Expressions.{Tokens, front, IsKind, Expression}
 use Rattle.justfile_model.specs.Grammar as g
-use Rattle.justfile_model.specs.Grammar.{Kept, LineRest, BeforeBody, NotEmpty, BodyLines, OnLine, Block, Items, Behind, LineEnd, File}
+use Rattle.justfile_model.specs.Grammar.{Kept, LineRest, BeforeBody, NotEmpty, BodyLines, OnLine, Block, Items, ItemRest, LineEnd, File}
 use Rattle.justfile_model.proofs.CarryExpressions as expressions
 use Rattle.justfile_model.proofs.CarryExpressions.{Same, Pairs, nil, cons, first, same_kind_of, both_alike, Carried}
 
@@ -22,7 +22,7 @@ pub record Maps (A B C S D E F G : Type 0) : Type 0 where
 
 -- written items with what they keep replaced
 abbrev pub over_items : {A B C S D E F G : Type 0} → Maps A B C S D E F G → List (WrittenItem A B C S) → List (WrittenItem D E F G)
-over_items m = map (over_item m.leaf m.spot m.number m.star (map (over_written m.leaf m.spot)))
+over_items m = map (over_item m.leaf m.spot m.number m.star (map (over_written_attribute m.leaf m.spot)))
 
 -- what is kept of related tokens becomes the same
 pub record Alike {A B C S A' B' C' S' D E F G : Type 0} (kept : Kept A B C S) (m : Maps A B C S D E F G) (kept' : Kept A' B' C' S') (m' : Maps A' B' C' S' D E F G)
@@ -54,14 +54,14 @@ not_empty_before m (x ∷ xs) n = tt
 -- ---- empty lines at the end are the same over other leaves
 
 module _ {A B C D E F : Type 0} (f : A → D) (h : B → E) (k : C → F) where
-  before_over : (l : BodyLine A B C) (ls : List (BodyLine A B C)) → before (over_line f h k l) (map (over_line f h k) ls) ≡ map (over_line f h k) (before l ls)
+  before_over : (l : BodyLine A B C) (ls : List (BodyLine A B C)) → line_before (over_line f h k l) (map (over_line f h k) ls) ≡ map (over_line f h k) (line_before l ls)
   before_over (Line number []) [] = refl
   before_over (Line number []) (l ∷ ls) = refl
   before_over (Line number (x ∷ fragments)) ls = refl
 
   pub trimmed_over : (ls : List (BodyLine A B C)) → trimmed (map (over_line f h k) ls) ≡ map (over_line f h k) (trimmed ls)
   trimmed_over [] = refl
-  trimmed_over (l ∷ ls) = ap (before (over_line f h k l)) (trimmed_over ls) ∙ before_over l (trimmed ls)
+  trimmed_over (l ∷ ls) = ap (line_before (over_line f h k l)) (trimmed_over ls) ∙ before_over l (trimmed ls)
 
 -- ---- derivations
 
@@ -228,11 +228,11 @@ module _ {A B C S A' B' C' S' D E F G : Type 0} (kept : Kept A B C S) (Open : �
         let x = items more _ ss in
         record { tree = tree.Newline ∷ x.tree; features = x.features; derives = g.blank (kind_of s kind) x.derives; alike = λ i. tree.Newline ∷ x.alike i; noted_alike = x.noted_alike }
     items (g.comment {token = t} kind b) us (cons {u = u} s ss) =
-        let x = behind b _ ss in
+        let x = following b _ ss in
         record { tree = tree.Comment (trim_end u.tok.lexeme) ∷ x.tree; features = x.features; derives = g.comment (kind_of s kind) x.derives; alike = λ i. tree.Comment (comment_of t u s i) ∷ x.alike i; noted_alike = x.noted_alike }
     items (g.on_line {cs = cs} {fs = fs} o b) us s =
         let x = on_line o us s in
-        let y = behind b x.after x.same in
+        let y = following b x.after x.same in
         record {
           tree = Construct [] x.tree ∷ y.tree;
           features = x.features ++ y.features;
@@ -251,11 +251,11 @@ module _ {A B C S A' B' C' S' D E F G : Type 0} (kept : Kept A B C S) (Open : �
           noted_alike = both cs fs x.features y.features x.noted_alike y.noted_alike;
         }
 
-    pub behind : {all : List (WrittenItem A B C S)} {fs : List (Noted B)} {ts : Tokens} → Behind kept Open all fs ts → (us : Tokens) → Pairs Rel ts us → ItemsOf (λ x n. Behind kept' Open' x n us) all fs
-    behind (g.trailing {token = t} kind e) us (cons {u = u} s ss) =
+    pub following : {all : List (WrittenItem A B C S)} {fs : List (Noted B)} {ts : Tokens} → ItemRest kept Open all fs ts → (us : Tokens) → Pairs Rel ts us → ItemsOf (λ x n. ItemRest kept' Open' x n us) all fs
+    following (g.trailing {token = t} kind e) us (cons {u = u} s ss) =
         let x = line_end e _ ss in
         record { tree = tree.Comment (trim_end u.tok.lexeme) ∷ x.tree; features = x.features; derives = g.trailing (kind_of s kind) x.derives; alike = λ i. tree.Comment (comment_of t u s i) ∷ x.alike i; noted_alike = x.noted_alike }
-    behind (g.bare e) us s =
+    following (g.bare e) us s =
         let x = line_end e us s in
         record { tree = x.tree; features = x.features; derives = g.bare x.derives; alike = x.alike; noted_alike = x.noted_alike }
 

@@ -13,7 +13,7 @@ use Rattle.justfile_model.specs.Features.{Noted, over_noted, noted, compared, un
 use Rattle.justfile_model.specs.Expressions as g
 use Rattle.justfile_model.specs.Expressions.{Tokens, front, IsKind, NotNext, IsWord, NotWord, IsMarked, NotMarked, Unmarked, NotCompared, NotJoined, ends_open, Expression, Disjunct, Compared, Conjunct, Condition, Braced, Conditional, Value, Sequence, FormatParts}
 
--- the same but for the place
+-- two tokens that differ in their places alone
 pub record Same (t u : SignificantToken) : Type 0 where
   pub kind : t.tok.kind ≡ u.tok.kind
   pub lexeme : t.tok.lexeme ≡ u.tok.lexeme
@@ -91,7 +91,7 @@ pub record Carried {X X' Y B B' D : Type 0} (Rel : SignificantToken → Signific
   pub noted_alike : map (over_noted h') features ≡ map (over_noted h) fs
   pub same : Pairs Rel rest after
 
--- the same before a token
+-- what is derived before a token is derived before a like token
 record Until {X X' Y B B' D : Type 0} (Rel : SignificantToken → SignificantToken → Type 0) (m : X → Y) (m' : X' → Y) (h : B → D) (h' : B' → D)
     (R : X' → List (Noted B') → Tokens → Type 0) (e : X) (fs : List (Noted B)) (t : SignificantToken) (rest : Tokens) : Type 0 where
   tree : X'

@@ -9,8 +9,8 @@ use Rattle.justfile_base.specs.declared.token_kind.TokenKind.{TokenKind}
 use Rattle.justfile_base.specs.declared.token_kind.TokenKind.TheVariants.{Dedent, Eof, Eol, Whitespace}
 use Rattle.std.proofs.lemmas.List.Sums.{prefix_len-le-length}
 use Rattle.justfile_model.specs.Tok.{Tok}
-use Rattle.justfile_model.specs.Modes.{Mode, after, mode}
-use Rattle.justfile_model.specs.Places.{is_newline, before, last_line_start, column_at}
+use Rattle.justfile_model.specs.Modes.{Mode, mode_after, mode}
+use Rattle.justfile_model.specs.Places.{is_newline, text_before, last_line_start, column_at}
 use Rattle.justfile_model.specs.Lexed.{Begins, end_of}
 use Rattle.justfile_model.proofs.NextLaws.{EndsAt, ends_line, token_cut}
 use Rattle.justfile_model.proofs.LexedLaws.{end_cuts}
@@ -28,10 +28,10 @@ run_fits : (bs : List ℕ) → run bs ≤ length bs
 unfolding run
 run_fits bs = omega (arith, prefix_len-le-length (λ b. not (is_newline b)) (reverse bs), length-reverse bs)
 
-column_is : (text : List ℕ) (n : ℕ) → n < length text → column_at text n ≡ run (before text n)
+column_is : (text : List ℕ) (n : ℕ) → n < length text → column_at text n ≡ run (text_before text n)
 unfolding column_at last_line_start run
 column_is text n l =
-    omega (arith, run_fits (before text n), length-take n (take (length text - 1) text), length-take (length text - 1) text)
+    omega (arith, run_fits (text_before text n), length-take n (take (length text - 1) text), length-take (length text - 1) text)
 
 first_of_run : (bs : List ℕ) → 0 < length bs → eqb (prefix_len (λ b. not (is_newline b)) bs) 0 ≡ eqb (get_or bs 0 0) 10
 first_of_run [] l = absurd (omega arith)
@@ -45,7 +45,7 @@ column_zero : (text : List ℕ) (n : ℕ) → n < length text → eqb (column_at
 unfolding run
 column_zero text zero l = ap (λ k. eqb k 0) (column_is text 0 l)
 column_zero text (suc n) l =
-    let bs = before text (suc n) in
+    let bs = text_before text (suc n) in
     let long : length bs ≡ suc n = omega (arith, length-take (suc n) (take (length text - 1) text), length-take (length text - 1) text) in
     let at : get_or bs n 0 ≡ get_or text n 0 = get_or-take (suc n) (take (length text - 1) text) n 0 (omega arith) ∙ get_or-take (length text - 1) text n 0 (omega arith) in
     let last : get_or (reverse bs) 0 0 ≡ get_or bs n 0 = get_or-reverse bs 0 0 (omega arith) ∙ ap (λ k. get_or bs k 0) (let e : length bs - 1 - 0 ≡ n = omega arith in e) in
@@ -57,7 +57,7 @@ end_column text l = omega (arith, length-take (length text) (take (length text -
 
 module _ (text : List ℕ) (u : IsUtf8 text) where
   -- a token that takes bytes
-  line_start_after : (k : TokenKind) (t : Tok) (m : Mode) (rest : List ℕ) → get_or t.lexeme (length t.lexeme - 1) 0 ≡ get_or rest (length t.lexeme - 1) 0 → EndsAt rest k (length t.lexeme) → k ≢ Eof → 0 < length t.lexeme → (after k t m).line_start ≡ ends_line rest (length t.lexeme)
+  line_start_after : (k : TokenKind) (t : Tok) (m : Mode) (rest : List ℕ) → get_or t.lexeme (length t.lexeme - 1) 0 ≡ get_or rest (length t.lexeme - 1) 0 → EndsAt rest k (length t.lexeme) → k ≢ Eof → 0 < length t.lexeme → (mode_after k t m).line_start ≡ ends_line rest (length t.lexeme)
   line_start_after Eof t m rest e ends more l = absurd (more refl)
   line_start_after Dedent t m rest e ends more l = absurd (omega arith)
   line_start_after Eol t m rest e ends more l = sym ends
@@ -85,7 +85,7 @@ module _ (text : List ℕ) (u : IsUtf8 text) where
       (λ dedent.
       let ends : n ≡ 0 = subst (λ k. EndsAt rest k n) dedent.0 cut.2 in
       let same : end_of (t ∷ e) ≡ end_of e = omega (arith, ends, offset) in
-      ap (λ k. (after k t (mode e)).line_start) dedent.0 ∙ line_start_is e b.0 (omega (arith, same, l)) ∙ ap (starts_line text) (sym same))
+      ap (λ k. (mode_after k t (mode e)).line_start) dedent.0 ∙ line_start_is e b.0 (omega (arith, same, l)) ∙ ap (starts_line text) (sym same))
       none)
       cut.1
 

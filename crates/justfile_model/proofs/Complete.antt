@@ -11,13 +11,13 @@ use Rattle.justfile_model.specs.Tree.{BodyLine, Construct, Content, Fragment, Wr
 use Rattle.justfile_model.specs.Features.{Noted}
 use Rattle.justfile_model.specs.Expressions.{Tokens, IsKind, NotNext, Waived}
 use Rattle.justfile_model.specs.Grammar as g
-use Rattle.justfile_model.specs.Grammar.{LineRest, BeforeBody, BodyLines, OnLine, Block, Items, Behind, LineEnd, File, NotEmpty}
+use Rattle.justfile_model.specs.Grammar.{LineRest, BeforeBody, BodyLines, OnLine, Block, Items, ItemRest, LineEnd, File, NotEmpty}
 use Rattle.justfile_model.specs.Literals.{Literal}
 use Rattle.justfile_model.specs.Files.{all_literals, body_literals, fragments_literals, item_literals, keeps_tokens, written_literals}
-use Rattle.justfile_model.specs.Reading.{Counters, ◌>>=◌, after}
+use Rattle.justfile_model.specs.Reading.{Counters, ◌>>=◌, prepend}
 use Rattle.justfile_model.specs.Reader as reader
-use Rattle.justfile_model.specs.Reader.{after_numbered, assignment, at_end, behind, body, body_behind, body_line, comment_item, draw_binding, draw_recipe, ended, fragment, has_body, items, items_rule, line, line_end, line_rest, line_rest_rule, lines, lines_rule, on_line, recipe, some_lines}
-use Rattle.justfile_model.specs.TreeReader.{Read, State, file, start, token_leaves, unnumbered}
+use Rattle.justfile_model.specs.Reader.{after_numbered, assignment, at_end, item_rest, body, optional_body, body_line, comment_item, draw_binding, draw_recipe, ended, fragment, has_body, items, items_rule, line, line_end, line_rest, line_rest_rule, lines, lines_rule, on_line, recipe, some_lines}
+use Rattle.justfile_model.specs.TreeReader.{Read, State, tree_of_tokens, start_state, token_leaves, unnumbered}
 use Rattle.justfile_model.proofs.CookedTexts.{trimmed_literals}
 use Rattle.justfile_model.proofs.Counters.{count, counted}
 use Rattle.justfile_model.proofs.ExpressionDeep.{expression_deep}
@@ -87,16 +87,16 @@ module _ {Open : ℕ → Option SignificantToken → Type 0} where
   no_body_ends (g.line_end {rest = rest} kind more) = record { at_once = λ h. not_there kinds.Indent rest (no_indent more) h.1; commented = λ h. cc }
   no_body_ends (g.file_end kind) = record { at_once = λ h. cc; commented = λ h. cc }
 
-  no_body_behind : {items : WrittenTree} {fs : List (Noted Tok)} {ts : Tokens} → Behind keeps_tokens Open items fs ts → NoBody ts
-  no_body_behind (g.trailing {rest = rest} kind e) = record { at_once = λ h. cc; commented = λ h. (no_body_ends e).at_once h.1 }
-  no_body_behind (g.bare e) = no_body_ends e
+  no_body_after : {items : WrittenTree} {fs : List (Noted Tok)} {ts : Tokens} → ItemRest keeps_tokens Open items fs ts → NoBody ts
+  no_body_after (g.trailing {rest = rest} kind e) = record { at_once = λ h. cc; commented = λ h. (no_body_ends e).at_once h.1 }
+  no_body_after (g.bare e) = no_body_ends e
 
 module _ (conditions : Conditions) (Hit : Option SignificantToken → Type 0) where
   -- ---- the reader goes on as the derivation does
 
   fragments_reached : (ns : List (Noted Tok)) {fragments : List (Fragment Tok Tok)} {fs : List (Noted Tok)} {ts rest : Tokens} → LineRest itself itself (Waived conditions.limit Hit) fragments fs ts rest
       → Reaches conditions Hit (line_rest token_leaves (input conditions 0 ts ns)) (fragments, input conditions 0 rest (ns ++ fs)) (fragments_literals fragments)
-  unfolding line_rest_rule fragment after
+  unfolding line_rest_rule fragment prepend
   fragments_reached ns (g.line_ends {token = t} {rest = rest} kind) =
       renoted conditions Hit (sym (append-nil ns)) (is_read tt (line_rest_is token_leaves (input conditions 0 (t ∷ rest) ns) ∙ rw (accept_taken kinds.Eol t rest conditions 0 ns kind) refl))
   fragments_reached ns (g.body_ends {token = t} {rest = rest} kind) =
@@ -118,7 +118,7 @@ module _ (conditions : Conditions) (Hit : Option SignificantToken → Type 0) wh
 
   lines_reached : (ns : List (Noted Tok)) {ls : List (BodyLine Tok Tok ℕ)} {fs : List (Noted Tok)} {ts rest : Tokens} → BodyLines keeps_tokens (Waived conditions.limit Hit) ls fs ts rest
       → Reaches conditions Hit (lines token_leaves (input conditions 0 ts ns)) (ls, input conditions 0 rest (ns ++ fs)) (body_literals ls)
-  unfolding lines_rule body_line after
+  unfolding lines_rule body_line prepend
   lines_reached ns (g.no_line {token = t} {rest = rest} kind) =
       renoted conditions Hit (sym (append-nil ns)) (is_read tt (lines_is token_leaves (input conditions 0 (t ∷ rest) ns) ∙ rw (accept_taken kinds.Dedent t rest conditions 0 ns kind) refl))
   lines_reached ns (g.empty_line {token = t} {tokens = ts} kind h) =
@@ -142,19 +142,19 @@ module _ (conditions : Conditions) (Hit : Option SignificantToken → Type 0) wh
   unfolding body
   body_reached ns {ls = ls} {fs = fs} {rest = rest} h some = rw (trimmed_literals ls) (pass conditions Hit _ (lines_reached ns h) (some_read (trimmed ls) (input conditions 0 rest (ns ++ fs)) some))
 
-  body_behind_reached : (ns : List (Noted Tok)) {ls : List (BodyLine Tok Tok ℕ)} {fs : List (Noted Tok)} {comment : Option (List ℕ)} {ts between rest : Tokens} → BeforeBody comment ts between → BodyLines keeps_tokens (Waived conditions.limit Hit) ls fs between rest
-      → NotEmpty (trimmed ls) → BodyReached (body_behind token_leaves) (trimmed ls) (input conditions 0 ts ns) (input conditions 0 rest (ns ++ fs))
-  unfolding body_behind
-  body_behind_reached ns (g.at_once {newline = t} {indent = u} {rest = between} kind kind2) h some =
+  optional_body_reached : (ns : List (Noted Tok)) {ls : List (BodyLine Tok Tok ℕ)} {fs : List (Noted Tok)} {comment : Option (List ℕ)} {ts between rest : Tokens} → BeforeBody comment ts between → BodyLines keeps_tokens (Waived conditions.limit Hit) ls fs between rest
+      → NotEmpty (trimmed ls) → BodyReached (optional_body token_leaves) (trimmed ls) (input conditions 0 ts ns) (input conditions 0 rest (ns ++ fs))
+  unfolding optional_body
+  optional_body_reached ns (g.at_once {newline = t} {indent = u} {rest = between} kind kind2) h some =
       rw (next_taken (kinds.Eol ∷ kinds.Indent ∷ []) (input conditions 0 (t ∷ u ∷ between) ns) (kind, (kind2, tt))) (body_reached ns h some)
-  body_behind_reached ns (g.commented {comment = c} {newline = t} {indent = u} {rest = between} kind kind2 kind3) h some =
+  optional_body_reached ns (g.commented {comment = c} {newline = t} {indent = u} {rest = between} kind kind2 kind3) h some =
       rw (
         next_left (kinds.Eol ∷ kinds.Indent ∷ []) (input conditions 0 (c ∷ t ∷ u ∷ between) ns) (λ h. cc),
         next_taken (kinds.Comment ∷ kinds.Eol ∷ kinds.Indent ∷ []) (input conditions 0 (c ∷ t ∷ u ∷ between) ns) (kind, (kind2, (kind3, tt))),
       ) (body_reached ns h some)
 
-  no_body_read : (s : State) → NoBody s.left → body_behind token_leaves s ≡ Ok ([], s)
-  unfolding body_behind
+  no_body_read : (s : State) → NoBody s.left → optional_body token_leaves s ≡ Ok ([], s)
+  unfolding optional_body
   no_body_read s none = rw (next_left (kinds.Eol ∷ kinds.Indent ∷ []) s none.at_once, next_left (kinds.Comment ∷ kinds.Eol ∷ kinds.Indent ∷ []) s none.commented) refl
 
   -- ---- items, where what follows begins no body
@@ -172,7 +172,7 @@ module _ (conditions : Conditions) (Hit : Option SignificantToken → Type 0) wh
   ItemReached i s rest = (n : Counters) → Reaches conditions Hit (on_line token_leaves n s) ((i, count n i), rest) (item_literals written_literals i)
 
   recipe_reached : (name colon : SignificantToken) (ts : Tokens) (ns : List (Noted Tok)) (rest : State) (ls : List (BodyLine Tok Tok ℕ)) → IsKind kinds.Identifier name → IsKind kinds.Colon colon
-      → BodyReached (body_behind token_leaves) ls (input conditions 0 ts ns) rest → ItemReached (recipe_item name.tok ls) (input conditions 0 (name ∷ colon ∷ ts) ns) rest
+      → BodyReached (optional_body token_leaves) ls (input conditions 0 ts ns) rest → ItemReached (recipe_item name.tok ls) (input conditions 0 (name ∷ colon ∷ ts) ns) rest
   unfolding recipe draw_recipe
   recipe_reached name colon ts ns rest ls kind kind2 h n =
       by conditions Hit (headed n name colon ts ns kind kind2) (rw (expect_taken kinds.Identifier name (colon ∷ ts) conditions 0 ns kind, expect_taken kinds.Colon colon ts conditions 0 ns kind2) (pass conditions Hit _ h refl))
@@ -196,16 +196,16 @@ module _ (conditions : Conditions) (Hit : Option SignificantToken → Type 0) wh
   abbrev AllReached : (n : Counters) → Read (WrittenTree × Counters) → WrittenTree → List (Noted Tok) → Type 0
   AllReached n found all noted = Reaches conditions Hit found ((all, counted n all), input conditions 0 [] noted) (all_literals all)
 
-  -- a part of the line is read, and the items behind it are reached
+  -- a part of the line is read, and the items after it are reached
   record Continued (rule : State → Read WrittenTree) (all : WrittenTree) (fs : List (Noted Tok)) (ts : Tokens) (ns : List (Noted Tok)) : Type 0 where
     first : WrittenTree
     rest : Tokens
     first_read : rule (input conditions 0 ts ns) ≡ Ok (first, input conditions 0 rest ns)
     goes_on : (n : Counters) → AllReached n (after_numbered first (items token_leaves n (input conditions 0 rest ns))) all (ns ++ fs)
 
-  ended_behind : (i : WrittenItem Tok Tok ℕ Tok) (s : State) → has_body i ≡ false → ended token_leaves (has_body i) s ≡ behind token_leaves s
+  ended_after : (i : WrittenItem Tok Tok ℕ Tok) (s : State) → has_body i ≡ false → ended token_leaves (has_body i) s ≡ item_rest token_leaves s
   unfolding ended
-  ended_behind i s none = rw none refl
+  ended_after i s none = rw none refl
 
   front_is : (i : WrittenItem Tok Tok ℕ Tok) (l : WrittenTree) (found : Read (WrittenTree × Counters)) → after_numbered (i ∷ l) found ≡ (after_numbered l found >>= (λ q. Ok ((i ∷ q.0.0, q.0.1), q.1)))
   unfolding after_numbered
@@ -218,12 +218,12 @@ module _ (conditions : Conditions) (Hit : Option SignificantToken → Type 0) wh
 
   line_reached : (n : Counters) (ns : List (Noted Tok)) (i : WrittenItem Tok Tok ℕ Tok) (all : WrittenTree) (is fs : List (Noted Tok)) (ts rest : Tokens) → Stands (Waived conditions.limit Hit) i is ts rest
       → ItemReached i (input conditions 0 ts ns) (input conditions 0 rest (ns ++ is))
-      → Continued (behind token_leaves) all fs rest (ns ++ is) → AllReached n (items token_leaves n (input conditions 0 ts ns)) (i ∷ all) (ns ++ (is ++ fs))
+      → Continued (item_rest token_leaves) all fs rest (ns ++ is) → AllReached n (items token_leaves n (input conditions 0 ts ns)) (i ∷ all) (ns ++ (is ++ fs))
   unfolding items_rule line
   line_reached n ns i all is fs ts rest o h c =
       renoted conditions Hit (append_assoc ns is fs) (by conditions Hit (items_is token_leaves n (input conditions 0 ts ns))
       (rw (accept_left kinds.Eof ts conditions 0 ns (no_end_of_file o), accept_left kinds.Eol ts conditions 0 ns (no_end_of_line o))
-      (then conditions Hit _ (pass conditions Hit _ (h n) (rw (ended_behind i (input conditions 0 rest (ns ++ is)) (has_none o), c.first_read) refl))
+      (then conditions Hit _ (pass conditions Hit _ (h n) (rw (ended_after i (input conditions 0 rest (ns ++ is)) (has_none o), c.first_read) refl))
       (front_more i c.first all (counted (count n i) all) ((ns ++ is) ++ fs) (items token_leaves (count n i) (input conditions 0 c.rest (ns ++ is))) (c.goes_on (count n i))))))
 
   some_body : (name : SignificantToken) (ls : List (BodyLine Tok Tok ℕ)) (s : State) → NotEmpty ls → ended token_leaves (has_body (recipe_item name.tok ls)) s ≡ Ok (tree.Newline ∷ [], s)
@@ -241,11 +241,11 @@ module _ (conditions : Conditions) (Hit : Option SignificantToken → Type 0) wh
       renoted conditions Hit (append_assoc ns is fs) (by conditions Hit (items_is token_leaves n (input conditions 0 start ns))
       (rw (accept_left kinds.Eof start conditions 0 ns (λ e. cc), accept_left kinds.Eol start conditions 0 ns (λ e. cc))
       (then conditions Hit {x = ((i ∷ tree.Newline ∷ [], count n i), end)} _
-      (pass conditions Hit _ (recipe_reached name colon ts ns end (trimmed ls) kind kind2 (body_behind_reached ns b h some) n) (rw (some_body name (trimmed ls) end some) refl))
+      (pass conditions Hit _ (recipe_reached name colon ts ns end (trimmed ls) kind kind2 (optional_body_reached ns b h some) n) (rw (some_body name (trimmed ls) end some) refl))
       (pass conditions Hit _ (more (count n i)) refl))))
 
   mutual
-    unfolding items_rule line behind line_end after_numbered at_end
+    unfolding items_rule line item_rest line_end after_numbered at_end
 
     pub items_reached : (n : Counters) (ns : List (Noted Tok)) {all : WrittenTree} {fs : List (Noted Tok)} {ts : Tokens} → Items keeps_tokens (Waived conditions.limit Hit) all fs ts → AllReached n (items token_leaves n (input conditions 0 ts ns)) all (ns ++ fs)
     items_reached n ns (g.end {token = t} kind) =
@@ -254,13 +254,13 @@ module _ (conditions : Conditions) (Hit : Option SignificantToken → Type 0) wh
         by conditions Hit (items_is token_leaves n (input conditions 0 (t ∷ rest) ns))
         (rw (accept_left kinds.Eof (t ∷ rest) conditions 0 ns (λ e. cc), accept_taken kinds.Eol t rest conditions 0 ns kind) (pass conditions Hit _ (items_reached n ns h) refl))
     items_reached n ns (g.comment {items = more} {fs = fs} {token = t} {rest = rest} kind b) =
-        line_reached n ns (comment_item token_leaves t) more [] fs (t ∷ rest) rest (of_comment kind) (on_line_reached ns (of_comment kind) (no_body_behind b)) (behind_reached (ns ++ []) b)
+        line_reached n ns (comment_item token_leaves t) more [] fs (t ∷ rest) rest (of_comment kind) (on_line_reached ns (of_comment kind) (no_body_after b)) (item_rest_reached (ns ++ []) b)
     items_reached n ns (g.on_line {c = c} {items = more} {cs = is} {fs = fs} {tokens = ts} {rest = rest} o b) =
-        line_reached n ns (Construct [] c) more is fs ts rest (of_line o) (on_line_reached ns (of_line o) (no_body_behind b)) (behind_reached (ns ++ is) b)
+        line_reached n ns (Construct [] c) more is fs ts rest (of_line o) (on_line_reached ns (of_line o) (no_body_after b)) (item_rest_reached (ns ++ is) b)
     items_reached n ns (g.block {items = more} {cs = is} {fs = fs} o h) = block_reached n ns more fs o (λ m. items_reached m (ns ++ is) h)
 
-    behind_reached : (ns : List (Noted Tok)) {all : WrittenTree} {fs : List (Noted Tok)} {ts : Tokens} → Behind keeps_tokens (Waived conditions.limit Hit) all fs ts → Continued (behind token_leaves) all fs ts ns
-    behind_reached ns (g.trailing {items = more} {fs = fs} {token = t} {rest = rest} kind e) =
+    item_rest_reached : (ns : List (Noted Tok)) {all : WrittenTree} {fs : List (Noted Tok)} {ts : Tokens} → ItemRest keeps_tokens (Waived conditions.limit Hit) all fs ts → Continued (item_rest token_leaves) all fs ts ns
+    item_rest_reached ns (g.trailing {items = more} {fs = fs} {token = t} {rest = rest} kind e) =
         let c = line_end_reached ns e in
         record {
           first = _ ∷ c.first;
@@ -268,7 +268,7 @@ module _ (conditions : Conditions) (Hit : Option SignificantToken → Type 0) wh
           first_read = rw (accept_taken kinds.Comment t rest conditions 0 ns kind, c.first_read) refl;
           goes_on = λ n. front_more _ c.first more (counted n more) (ns ++ fs) (items token_leaves n (input conditions 0 c.rest ns)) (c.goes_on n);
         }
-    behind_reached ns (g.bare {tokens = ts} e) =
+    item_rest_reached ns (g.bare {tokens = ts} e) =
         let c = line_end_reached ns e in
         record { first = c.first; rest = c.rest; first_read = rw (accept_left kinds.Comment ts conditions 0 ns (no_comment e)) c.first_read; goes_on = c.goes_on }
 
@@ -288,7 +288,7 @@ module _ (conditions : Conditions) (Hit : Option SignificantToken → Type 0) wh
           goes_on = λ n. renoted conditions Hit (sym (append-nil ns)) (is_read tt (rw (items_is token_leaves n (input conditions 0 (t ∷ []) ns), accept_taken kinds.Eof t [] conditions 0 ns kind) refl));
         }
 
-  pub file_reached : {all : WrittenTree} {fs : List (Noted Tok)} {ts : Tokens} → File keeps_tokens (Waived conditions.limit Hit) all fs ts → Reaches conditions Hit (file conditions ts) (all, fs) (all_literals all)
-  unfolding file reader.file
+  pub file_reached : {all : WrittenTree} {fs : List (Noted Tok)} {ts : Tokens} → File keeps_tokens (Waived conditions.limit Hit) all fs ts → Reaches conditions Hit (tree_of_tokens conditions ts) (all, fs) (all_literals all)
+  unfolding tree_of_tokens reader.file
   file_reached (g.marked {token = t} {rest = rest} kind h) = rw (accept_taken kinds.ByteOrderMark t rest conditions 0 [] kind) (pass conditions Hit _ (items_reached unnumbered [] h) refl)
   file_reached (g.unmarked {tokens = ts} h) = rw (accept_left kinds.ByteOrderMark ts conditions 0 [] (no_mark h)) (pass conditions Hit _ (items_reached unnumbered [] h) refl)

@@ -5,7 +5,7 @@ use Rattle.std.specs.Str.{IsUtf8, is_utf8}
 use Rattle.std.proofs.lemmas.Str.{IsUtf8-from_is_utf8}
 use Rattle.justfile_model.specs.Tok.{Tok}
 use Rattle.justfile_model.specs.LexicalFault.{LexicalFault}
-use Rattle.justfile_model.specs.Next.{Found}
+use Rattle.justfile_model.specs.Next.{NextToken}
 use Rattle.justfile_model.specs.Lexed.{Begins, IsFault, Lexed, end_of, next_of}
 use Rattle.justfile_model.proofs.AnswerLaws.{at, begun_at, fault_of, is_eof, last_at, refused_at, span_of}
 
@@ -20,11 +20,11 @@ abbrev go_on : (List Tok → Option Answer) → List Tok → Tok → Bool → Op
 go_on more e t true = Some (Ok (reverse (t ∷ e)))
 go_on more e t false = more (t ∷ e)
 
-abbrev step : List ℕ → (List Tok → Option Answer) → List Tok → Found → Option Answer
+abbrev step : List ℕ → (List Tok → Option Answer) → List Tok → NextToken → Option Answer
 step text more e (Err r) = Some (Err (fault_of r, span_of text e r))
 step text more e (Ok x) = go_on more e (at text x.0 (end_of e) x.1) (is_eof x.0)
 
--- the tokens or the fault behind the earlier tokens, if so many steps suffice
+-- the tokens or the fault after the earlier tokens, if so many steps suffice
 unfoldable pub answer : List ℕ → ℕ → List Tok → Option Answer
 answer text zero e = None
 answer text (suc fuel) e = step text (answer text fuel) e (next_of text e)
@@ -36,7 +36,7 @@ module _ (text : List ℕ) (u : IsUtf8 text) where
   abbrev Sound : ℕ → Type 0
   Sound fuel = (e : List Tok) → Begins text e → (r : Answer) → answer text fuel e ≡ Some r → Means text r
 
-  sound_step : (fuel : ℕ) → Sound fuel → (e : List Tok) → Begins text e → (r : Answer) (found : Found) → next_of text e ≡ found → step text (answer text fuel) e found ≡ Some r → Means text r
+  sound_step : (fuel : ℕ) → Sound fuel → (e : List Tok) → Begins text e → (r : Answer) (found : NextToken) → next_of text e ≡ found → step text (answer text fuel) e found ≡ Some r → Means text r
   sound_step fuel more e b r (Err x) n h = subst (Means text) (some_inside (Err (fault_of x, span_of text e x)) r h) (refused_at text e b u x n)
   sound_step fuel more e b r (Ok x) n h = goes (is_eof x.0) refl h
     where

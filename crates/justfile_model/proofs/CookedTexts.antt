@@ -2,17 +2,17 @@
 use Rattle.std.proofs.Common.{◌≡◌, ℕ, List, [], ◌∷◌, ◌++◌, map, Result, Ok, refl, sym, subst, ap, ◌∙◌}
 use Rattle.std.proofs.lemmas.List.{append_assoc}
 use Rattle.justfile_model.specs.Tok.{Tok}
-use Rattle.justfile_model.specs.Tree.{Fragment, Text, Interpolation, BodyLine, Line, WrittenItem, before, trimmed, lexeme}
-use Rattle.justfile_model.specs.Literals.{Literal, over_literal, LiteralFault, Answers, cooked_text, Cooks}
+use Rattle.justfile_model.specs.Tree.{Fragment, Text, Interpolation, BodyLine, Line, WrittenItem, line_before, trimmed, lexeme}
+use Rattle.justfile_model.specs.Literals.{Literal, over_literal, LiteralFault, Expansions, cooked_text, AreCookedTexts}
 use Rattle.justfile_model.specs.Files.{expr_literals, fragments_literals, body_literals, written_literals, item_literals, all_literals}
 
 -- the literal has a text
-pub record HasText (expander : Answers) (l : Literal Tok) : Type 0 where
+pub record HasText (expander : Expansions) (l : Literal Tok) : Type 0 where
   pub text : List ℕ
   pub is : cooked_text expander (over_literal lexeme l) ≡ Ok text
 
 -- each of the literals has a text
-abbrev pub AllCook : Answers → List (Literal Tok) → Type 0
+abbrev pub AllCook : Expansions → List (Literal Tok) → Type 0
 AllCook expander [] = Unit {0}
 AllCook expander (l ∷ ls) = HasText expander l × AllCook expander ls
 
@@ -21,7 +21,7 @@ literals_append [] js = refl
 literals_append (i ∷ is) js =
     ap (λ l. item_literals written_literals i ++ l) (literals_append is js) ∙ sym (append_assoc (item_literals written_literals i) (all_literals is) (all_literals js))
 
-before_literals : {A B C : Type 0} (l : BodyLine A B C) (ls : List (BodyLine A B C)) → body_literals (before l ls) ≡ body_literals (l ∷ ls)
+before_literals : {A B C : Type 0} (l : BodyLine A B C) (ls : List (BodyLine A B C)) → body_literals (line_before l ls) ≡ body_literals (l ∷ ls)
 before_literals (Line number []) [] = refl
 before_literals (Line number []) (l ∷ ls) = refl
 before_literals (Line number (f ∷ fragments)) ls = refl
@@ -31,7 +31,7 @@ pub trimmed_literals : {A B C : Type 0} (ls : List (BodyLine A B C)) → body_li
 trimmed_literals [] = refl
 trimmed_literals (Line number fragments ∷ ls) = before_literals (Line number fragments) (trimmed ls) ∙ ap (λ l. fragments_literals fragments ++ l) (trimmed_literals ls)
 
-module _ (expander : Answers) where
+module _ (expander : Expansions) where
   pub both_cook : (ls ms : List (Literal Tok)) → AllCook expander ls → AllCook expander ms → AllCook expander (ls ++ ms)
   both_cook [] ms a b = b
   both_cook (l ∷ ls) ms a b = (a.0, both_cook ls ms a.1 b)
@@ -58,13 +58,13 @@ module _ (expander : Answers) where
   items_cook is js a b = subst (AllCook expander) (sym (literals_append is js)) (both_cook (all_literals is) (all_literals js) a b)
 
   -- literals that all have texts have these
-  pub texts_of : (ls : List (Literal Tok)) → AllCook expander ls → (texts : List (List ℕ)) × Cooks expander (map (over_literal lexeme) ls) texts
+  pub texts_of : (ls : List (Literal Tok)) → AllCook expander ls → (texts : List (List ℕ)) × AreCookedTexts expander (map (over_literal lexeme) ls) texts
   texts_of [] a = ([], tt)
   texts_of (l ∷ ls) a =
       let more = texts_of ls a.1 in
       (a.0.text ∷ more.0, (a.0.is, more.1))
 
-  pub all_cook : (ls : List (Literal Tok)) (texts : List (List ℕ)) → Cooks expander (map (over_literal lexeme) ls) texts → AllCook expander ls
+  pub all_cook : (ls : List (Literal Tok)) (texts : List (List ℕ)) → AreCookedTexts expander (map (over_literal lexeme) ls) texts → AllCook expander ls
   all_cook [] texts c = tt
   all_cook (l ∷ ls) [] c = absurd c
   all_cook (l ∷ ls) (text ∷ texts) c = (record { text = text; is = c.0 }, all_cook ls texts c.1)
@@ -72,8 +72,8 @@ module _ (expander : Answers) where
   ok_inside : (a b : List ℕ) → ◌≡◌ {A = Result (List ℕ) LiteralFault} (Ok a) (Ok b) → a ≡ b
   ok_inside a b h = cc
 
-  -- the same literals have the same texts
-  pub same_texts : (ls : List (Literal (List ℕ))) (texts others : List (List ℕ)) → Cooks expander ls texts → Cooks expander ls others → texts ≡ others
+  -- equal literals have equal texts
+  pub same_texts : (ls : List (Literal (List ℕ))) (texts others : List (List ℕ)) → AreCookedTexts expander ls texts → AreCookedTexts expander ls others → texts ≡ others
   same_texts [] [] [] c d = refl
   same_texts [] [] (x ∷ others) c d = absurd d
   same_texts [] (x ∷ texts) others c d = absurd c

@@ -2,7 +2,7 @@
 use Rattle.std.proofs.Common.{◌≡◌, ℕ, ◌+◌, Bool, true, false, cond, List, [], ◌∷◌, ◌++◌, length, Some, None, Ok, Err, IfOk, refl, sym, ap, ◌∙◌, arith}
 use Rattle.justfile_base.specs.declared.token_kind.TokenKind.TheVariants as kinds
 use Rattle.justfile_model.specs.Files.{bindings, item_bindings, item_recipes, recipes}
-use Rattle.justfile_model.specs.Reader.{Start, after_numbered, assigned, assignment, at_end, behind, body_behind, draw_binding, draw_recipe, ended, expression, has_body, headed, items, items_from, items_rule, line, line_end, nothing_behind, on_line, recipe, stop, with_bindings, with_recipes}
+use Rattle.justfile_model.specs.Reader.{Start, after_numbered, assigned, assignment, at_end, item_rest, optional_body, draw_binding, draw_recipe, ended, expression, has_body, headed, items, items_from, items_rule, line, line_end, end_of_tokens, on_line, recipe, no_items, with_bindings, with_recipes}
 use Rattle.justfile_model.specs.Reading.{Counters, ◌>>=◌, Leaves, NoNumber, Read, State, Taken, accept, choose, expect, next_are}
 use Rattle.justfile_model.specs.Tree as tree
 use Rattle.justfile_model.specs.Tree.{BodyLine, Construct, Content, Expr, Item, Parameter}
@@ -122,7 +122,7 @@ module _ {R T A B S D : Type 0} (leaves : Leaves R T A B S D) where
   unfolding recipe
   recipe_counts n s =
       let Q : Item A B ℕ S D × Counters → Type 0 = λ x. x.1 ≡ count n x.0 in
-      after_all (expect leaves kinds.Identifier s) _ Q (λ name _. after_all (expect leaves kinds.Colon name.1) _ Q (λ colon _. after_all (body_behind leaves colon.1) _ Q (λ b _. recipe_counted n b.1 name.0 b.0)))
+      after_all (expect leaves kinds.Identifier s) _ Q (λ name _. after_all (expect leaves kinds.Colon name.1) _ Q (λ colon _. after_all (optional_body leaves colon.1) _ Q (λ b _. recipe_counted n b.1 name.0 b.0)))
 
   pub on_line_counts : (n : Counters) (s : State R T B) → ItemCounted n (on_line leaves n s)
   unfolding on_line
@@ -138,16 +138,16 @@ module _ {R T A B S D : Type 0} (leaves : Leaves R T A B S D) where
       let Q : List (Item A B ℕ S D) → Type 0 = λ x. (n : Counters) → counted n x ≡ n in
       after_choice (accept leaves kinds.Eof s) _ _ Q (after_all (expect leaves kinds.Eol s) _ Q (λ newline _ n. refl)) (λ x n. refl)
 
-  pub behind_counts : (s : State R T B) → Uncounted (behind leaves s)
-  unfolding behind
-  behind_counts s =
+  pub item_rest_counts : (s : State R T B) → Uncounted (item_rest leaves s)
+  unfolding item_rest
+  item_rest_counts s =
       let Q : List (Item A B ℕ S D) → Type 0 = λ x. (n : Counters) → counted n x ≡ n in
       after_choice (accept leaves kinds.Comment s) _ _ Q (line_end_counts s)
       (λ c. after_all (line_end leaves c.1) _ Q (λ end is. known end (λ x. Q x.0) is (line_end_counts c.1)))
 
   pub ended_counts : (b : Bool) (s : State R T B) → Uncounted (ended leaves b s)
   unfolding ended
-  ended_counts b s = after_test b _ _ Uncounted (λ _ n. refl) (λ _. behind_counts s)
+  ended_counts b s = after_test b _ _ Uncounted (λ _ n. refl) (λ _. item_rest_counts s)
 
   pub line_counts : (n : Counters) (s : State R T B) → Counted n (line leaves n s)
   unfolding line
@@ -158,7 +158,7 @@ module _ {R T A B S D : Type 0} (leaves : Leaves R T A B S D) where
       known i (λ x. x.0.1 ≡ count n x.0.0) is (on_line_counts n s) ∙ sym (known b (λ x. (n : Counters) → counted n x.0 ≡ n) is2 (ended_counts (has_body i.0.0) i.1) (count n i.0.0)))))
       (λ newline. refl)
 
-  end_counts : (n : Counters) (s : State R T B) (l : List T) → Counted n (nothing_behind leaves n s l)
+  end_counts : (n : Counters) (s : State R T B) (l : List T) → Counted n (end_of_tokens leaves n s l)
   end_counts n s [] = refl
   end_counts n s (t ∷ ts) = tt
 
@@ -175,4 +175,4 @@ module _ {R T A B S D : Type 0} (leaves : Leaves R T A B S D) where
 
   pub items_count : (n : Counters) (s : State R T B) → Counted n (items leaves n s)
   unfolding items_from
-  items_count n s = recursive_keeps (λ x. length x.1.left) (stop leaves) (items_rule leaves) (λ x found. Counted x.0 found) (λ x. tt) rule_counts (n, s)
+  items_count n s = recursive_keeps (λ x. length x.1.left) (no_items leaves) (items_rule leaves) (λ x found. Counted x.0 found) (λ x. tt) rule_counts (n, s)

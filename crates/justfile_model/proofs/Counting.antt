@@ -8,12 +8,12 @@ use Rattle.justfile_model.specs.Tree.{Fragment, BodyLine, Content, Item, Written
 use Rattle.justfile_model.specs.Features.{Noted}
 use Rattle.justfile_model.specs.Expressions.{Tokens, Under}
 use Rattle.justfile_model.specs.Grammar as g
-use Rattle.justfile_model.specs.Grammar.{Kept, LineRest, BeforeBody, BodyLines, OnLine, Block, Items, Behind, LineEnd, File}
+use Rattle.justfile_model.specs.Grammar.{Kept, LineRest, BeforeBody, BodyLines, OnLine, Block, Items, ItemRest, LineEnd, File}
 use Rattle.justfile_model.specs.Conditions.{Conditions}
 use Rattle.justfile_model.specs.Files.{content_bindings, bindings, content_recipes, recipes, keeps_tokens}
 use Rattle.justfile_model.specs.Reading.{Counters}
 use Rattle.justfile_model.specs.Reader.{items}
-use Rattle.justfile_model.specs.TreeReader.{State, file, token_leaves}
+use Rattle.justfile_model.specs.TreeReader.{State, tree_of_tokens, token_leaves}
 use Rattle.justfile_model.proofs.Counters.{counted, counted_bindings, counted_constants, counted_recipes, items_count}
 use Rattle.justfile_model.proofs.ExpressionProgress.{expression_counts}
 use Rattle.justfile_model.proofs.ReadingSteps.{known}
@@ -61,13 +61,13 @@ module _ {A B C S : Type 0} (kept : Kept A B C S) (Open : ℕ → Option Signifi
     pub all_count : {all : List (WrittenItem A B C S)} {fs : List (Noted B)} {ts : Tokens} → Items kept Open all fs ts → bindings all + recipes all ≤ identifiers ts
     all_count (g.end kind) = omega arith
     all_count (g.blank kind h) = omega (arith, all_count h)
-    all_count (g.comment kind h) = omega (arith, behind_counts h)
-    all_count (g.on_line o b) = omega (arith, on_line_counts o, behind_counts b)
+    all_count (g.comment kind h) = omega (arith, item_rest_counts h)
+    all_count (g.on_line o b) = omega (arith, on_line_counts o, item_rest_counts b)
     all_count (g.block o h) = omega (arith, block_counts o, all_count h)
 
-    behind_counts : {all : List (WrittenItem A B C S)} {fs : List (Noted B)} {ts : Tokens} → Behind kept Open all fs ts → bindings all + recipes all ≤ identifiers ts
-    behind_counts (g.trailing kind e) = omega (arith, line_end_counts e)
-    behind_counts (g.bare e) = line_end_counts e
+    item_rest_counts : {all : List (WrittenItem A B C S)} {fs : List (Noted B)} {ts : Tokens} → ItemRest kept Open all fs ts → bindings all + recipes all ≤ identifiers ts
+    item_rest_counts (g.trailing kind e) = omega (arith, line_end_counts e)
+    item_rest_counts (g.bare e) = line_end_counts e
 
     line_end_counts : {all : List (WrittenItem A B C S)} {fs : List (Noted B)} {ts : Tokens} → LineEnd kept Open all fs ts → bindings all + recipes all ≤ identifiers ts
     line_end_counts (g.line_end kind h) = omega (arith, all_count h)
@@ -80,7 +80,7 @@ module _ {A B C S : Type 0} (kept : Kept A B C S) (Open : ℕ → Option Signifi
 -- ---- what is read
 
 -- a tree has at most as many bindings and recipes as its tokens have identifiers
-pub file_numbers : (conditions : Conditions) (ts : Tokens) (x : WrittenTree × List (Noted Tok)) → file conditions ts ≡ Ok x → bindings x.0 + recipes x.0 ≤ identifiers ts
+pub file_numbers : (conditions : Conditions) (ts : Tokens) (x : WrittenTree × List (Noted Tok)) → tree_of_tokens conditions ts ≡ Ok x → bindings x.0 + recipes x.0 ≤ identifiers ts
 file_numbers conditions ts x is = file_counts keeps_tokens (Under conditions.limit) (file_at conditions ts x is).derives
 
 -- counters grow by what the tree holds

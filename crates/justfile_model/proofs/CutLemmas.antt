@@ -18,7 +18,7 @@ use Rattle.justfile_base.specs.declared.string_kind.StringKind.{StringKind}
 use Rattle.justfile_model.specs.declared.raw_text.RawText.{RawText}
 use Rattle.justfile_model.specs.declared.raw_text.RawText.TheVariants.{Comment, Body, Literal}
 use Rattle.justfile_base.specs.ByteClass.{begins_fixed, class_of}
-use Rattle.justfile_model.specs.Bytes.{in_word, line_feed, is_blank, is_word, is_line_end, is_interpolation_start, is_interpolation_escape, first_char}
+use Rattle.justfile_model.specs.Bytes.{in_word, line_feed, is_blank, is_name_byte, is_line_end, is_interpolation_start, is_interpolation_escape, first_char}
 use Rattle.justfile_base.specs.StringKind.{delimiter_len, kind_of, quote_of}
 use Rattle.justfile_model.specs.LiteralText.{pieces_len, is_delimiter, hides, ends, raw_len}
 
@@ -111,7 +111,7 @@ blank_no_newline b h = (is_newline b).same ∙ go (class_of b) h
     go LineFeed h = cc
     go _ h = refl
 
-pub word_no_newline : (b : ℕ) → is_word b ≡ true → eqb b 10 ≡ false
+pub word_no_newline : (b : ℕ) → is_name_byte b ≡ true → eqb b 10 ≡ false
 word_no_newline b h = (is_newline b).same ∙ go (class_of b) h
   where
     go : (k : ByteClass) → in_word k ≡ true → line_feed k ≡ false
@@ -143,7 +143,7 @@ blank_ascii b h = go (class_of b) (is_class b).fact h
     go Blank f h = f.1
     go _ f h = cc
 
-pub word_ascii : (b : ℕ) → is_word b ≡ true → b < 128
+pub word_ascii : (b : ℕ) → is_name_byte b ≡ true → b < 128
 word_ascii b h = go (class_of b) (is_class b).fact h
   where
     go : (k : ByteClass) → ClassFact b k → in_word k ≡ true → b < 128

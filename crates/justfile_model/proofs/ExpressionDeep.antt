@@ -19,7 +19,7 @@ use Rattle.justfile_model.specs.Literals.{Literal}
 use Rattle.justfile_model.specs.Files.{expr_literals, exprs_literals, parts_literals}
 use Rattle.justfile_model.specs.Reading.{shallower}
 use Rattle.justfile_model.specs.ExpressionReader as r
-use Rattle.justfile_model.specs.ExpressionReader.{assert_rule, backtick, binary_rule, braced_rule, condition_rule, conditional_rule, conjunct_rule, element_rule, ended_by, format_rest_rule, format_rule, format_string_rule, group_rule, list_rule, name_rule, otherwise_rule, part, parts_rule, read, sequence_rule, single, string, value_rule}
+use Rattle.justfile_model.specs.ExpressionReader.{assert_rule, backtick, binary_rule, braced_rule, condition_rule, conditional_rule, conjunct_rule, element_rule, ended_by, format_rest_rule, format_rule, format_string_rule, group_rule, list_rule, name_rule, otherwise_rule, part, parts_rule, read, sequence_rule, whole_format_string, literal_string, value_rule}
 use Rattle.justfile_model.specs.TreeReader.{State, token_leaves}
 use Rattle.justfile_model.proofs.ExpressionReading.{conditional_is, level_is, parts_is, sequence_is}
 use Rattle.justfile_model.proofs.ExpressionSound.{ReadExpr, compared_is}
@@ -180,13 +180,13 @@ module _ (conditions : Conditions) (Hit : Option SignificantToken → Type 0) wh
       rw (accept_taken kinds.FormatStringContinue token rest conditions d ns kind) (cooked conditions Hit (λ l. (l, false)) (literal.Continue start.lexeme) (literal.Continue start token.tok) token refl refl)
 
   mutual
-    unfolding binary_rule conjunct_rule condition_rule braced_rule conditional_rule value_rule r.literal string single backtick format_rule format_string_rule format_rest_rule assert_rule name_rule group_rule list_rule sequence_rule parts_rule
+    unfolding binary_rule conjunct_rule condition_rule braced_rule conditional_rule value_rule r.literal literal_string whole_format_string backtick format_rule format_string_rule format_rest_rule assert_rule name_rule group_rule list_rule sequence_rule parts_rule
 
     pub expression_deep : (ns : List (Noted Tok)) (c : Bool) {d : ℕ} (within : d ≤ conditions.limit) {e : Expr Tok Tok} {fs : List (Noted Tok)} {ts rest : Tokens} → Expression itself itself (Waived conditions.limit Hit) c d e fs ts rest
         → Reaches conditions Hit (read token_leaves (r.At levels.Expression c (input conditions d ts ns))) (e, input conditions d rest (ns ++ fs)) (expr_literals e)
-    expression_deep ns c {d} within {ts = ts} {rest = rest} (g.or {l = l'} {r = r'} {ls = ls} {rs = rs} {operator = op} {behind = behind} o l kind q) =
+    expression_deep ns c {d} within {ts = ts} {rest = rest} (g.or {l = l'} {r = r'} {ls = ls} {rs = rs} {operator = op} {following = following} o l kind q) =
         renoted conditions Hit (three ns ls (noted features.LogicalOperator op.tok) rs) (by conditions Hit (level_is token_leaves levels.Expression c (input conditions d ts ns))
-        (entered conditions Hit d (input conditions d ts ns) within o (λ lt. then conditions Hit _ (disjunct_deep ns c (one_more lt) l) (rw (operator_taken levels.Expression operators.Or op behind conditions (d + 1) (ns ++ ls) refl kind)
+        (entered conditions Hit d (input conditions d ts ns) within o (λ lt. then conditions Hit _ (disjunct_deep ns c (one_more lt) l) (rw (operator_taken levels.Expression operators.Or op following conditions (d + 1) (ns ++ ls) refl kind)
         (pass conditions Hit _ (expression_deep ((ns ++ ls) ++ noted features.LogicalOperator op.tok) false (one_more lt) q) (closed_is (tree.Or l' r') d rest (((ns ++ ls) ++ noted features.LogicalOperator op.tok) ++ rs)))))))
     expression_deep ns c {d} within {e = e'} {fs = fs} {ts = ts} {rest = rest} (g.disjunct o l nx) =
         by conditions Hit (level_is token_leaves levels.Expression c (input conditions d ts ns))
@@ -195,18 +195,18 @@ module _ (conditions : Conditions) (Hit : Option SignificantToken → Type 0) wh
 
     pub disjunct_deep : (ns : List (Noted Tok)) (c : Bool) {d : ℕ} (within : d ≤ conditions.limit) {e : Expr Tok Tok} {fs : List (Noted Tok)} {ts rest : Tokens} → Disjunct itself itself (Waived conditions.limit Hit) c d e fs ts rest
         → Reaches conditions Hit (read token_leaves (r.At levels.Disjunct c (input conditions d ts ns))) (e, input conditions d rest (ns ++ fs)) (expr_literals e)
-    disjunct_deep ns c {d} within {ts = ts} (g.and {ls = ls} {rs = rs} {operator = op} {behind = behind} l kind q) =
+    disjunct_deep ns c {d} within {ts = ts} (g.and {ls = ls} {rs = rs} {operator = op} {following = following} l kind q) =
         renoted conditions Hit (three ns ls (noted features.LogicalOperator op.tok) rs) (by conditions Hit (level_is token_leaves levels.Disjunct c (input conditions d ts ns))
-        (then conditions Hit _ (compared_deep ns c within l) (rw (operator_taken levels.Disjunct operators.And op behind conditions d (ns ++ ls) refl kind)
+        (then conditions Hit _ (compared_deep ns c within l) (rw (operator_taken levels.Disjunct operators.And op following conditions d (ns ++ ls) refl kind)
         (pass conditions Hit _ (disjunct_deep ((ns ++ ls) ++ noted features.LogicalOperator op.tok) false within q) refl))))
     disjunct_deep ns c {d} within {fs = fs} {ts = ts} {rest = rest} (g.comparison l nx) =
         by conditions Hit (level_is token_leaves levels.Disjunct c (input conditions d ts ns)) (pass conditions Hit _ (compared_deep ns c within l) (rw (operator_left levels.Disjunct rest conditions d (ns ++ fs) (no_and rest nx)) refl))
 
     pub compared_deep : (ns : List (Noted Tok)) (c : Bool) {d : ℕ} (within : d ≤ conditions.limit) {e : Expr Tok Tok} {fs : List (Noted Tok)} {ts rest : Tokens} → Compared itself itself (Waived conditions.limit Hit) c d e fs ts rest
         → Reaches conditions Hit (read token_leaves (r.At levels.Compared c (input conditions d ts ns))) (e, input conditions d rest (ns ++ fs)) (expr_literals e)
-    compared_deep ns c {d} within {ts = ts} (g.compare {ls = ls} {rs = rs} {operator = op} {behind = behind} by_operator l kind q) =
+    compared_deep ns c {d} within {ts = ts} (g.compare {ls = ls} {rs = rs} {operator = op} {following = following} by_operator l kind q) =
         renoted conditions Hit (three ns ls (compared c op.tok) rs) (by conditions Hit (level_is token_leaves levels.Compared c (input conditions d ts ns))
-        (then conditions Hit _ (conjunct_deep ns c within l) (rw (operator_taken levels.Compared (operators.Compare by_operator) op behind conditions d (ns ++ ls) refl kind, compared_is conditions by_operator c op.tok)
+        (then conditions Hit _ (conjunct_deep ns c within l) (rw (operator_taken levels.Compared (operators.Compare by_operator) op following conditions d (ns ++ ls) refl kind, compared_is conditions by_operator c op.tok)
         (pass conditions Hit _ (conjunct_deep ((ns ++ ls) ++ compared c op.tok) false within q) refl))))
     compared_deep ns c {d} within {fs = fs} {ts = ts} {rest = rest} (g.conjunct l nx) =
         by conditions Hit (level_is token_leaves levels.Compared c (input conditions d ts ns)) (pass conditions Hit _ (conjunct_deep ns c within l) (rw (operator_left levels.Compared rest conditions d (ns ++ fs) (no_comparison rest nx)) refl))
@@ -218,20 +218,20 @@ module _ (conditions : Conditions) (Hit : Option SignificantToken → Type 0) wh
     conjunct_deep ns c {d} within {ts = ts} (g.root {operator = op} {tokens = tokens} kind q) =
         by conditions Hit (level_is token_leaves levels.Conjunct c (input conditions d ts ns))
         (rw (word_left (codes "if") ts conditions d ns (no_word (codes "if") op kind (λ e. cc)), accept_taken kinds.Slash op tokens conditions d ns kind) (pass conditions Hit _ (conjunct_deep ns false within q) refl))
-    conjunct_deep ns c {d} within {ts = ts} (g.join {ls = ls} {rs = rs} {operator = op} {behind = behind} nx l kind q) =
+    conjunct_deep ns c {d} within {ts = ts} (g.join {ls = ls} {rs = rs} {operator = op} {following = following} nx l kind q) =
         renoted conditions Hit (append_assoc ns ls rs) (by conditions Hit (level_is token_leaves levels.Conjunct c (input conditions d ts ns))
         (rw (word_left (codes "if") ts conditions d ns nx, accept_left kinds.Slash ts conditions d ns (no_slash (Waived conditions.limit Hit) l))
-        (then conditions Hit _ (value_deep ns c within l) (rw (operator_taken levels.Conjunct operators.Join op behind conditions d (ns ++ ls) refl kind, append-nil (ns ++ ls))
+        (then conditions Hit _ (value_deep ns c within l) (rw (operator_taken levels.Conjunct operators.Join op following conditions d (ns ++ ls) refl kind, append-nil (ns ++ ls))
         (pass conditions Hit _ (conjunct_deep (ns ++ ls) false within q) refl)))))
-    conjunct_deep ns c {d} within {ts = ts} (g.list_concatenation {ls = ls} {rs = rs} {operator = op} {behind = behind} nx l kind q) =
+    conjunct_deep ns c {d} within {ts = ts} (g.list_concatenation {ls = ls} {rs = rs} {operator = op} {following = following} nx l kind q) =
         renoted conditions Hit (three ns ls (noted features.ListConcatenationOperator op.tok) rs) (by conditions Hit (level_is token_leaves levels.Conjunct c (input conditions d ts ns))
         (rw (word_left (codes "if") ts conditions d ns nx, accept_left kinds.Slash ts conditions d ns (no_slash (Waived conditions.limit Hit) l))
-        (then conditions Hit _ (value_deep ns c within l) (rw (operator_taken levels.Conjunct operators.ListConcatenation op behind conditions d (ns ++ ls) refl kind)
+        (then conditions Hit _ (value_deep ns c within l) (rw (operator_taken levels.Conjunct operators.ListConcatenation op following conditions d (ns ++ ls) refl kind)
         (pass conditions Hit _ (conjunct_deep ((ns ++ ls) ++ noted features.ListConcatenationOperator op.tok) false within q) refl)))))
-    conjunct_deep ns c {d} within {ts = ts} (g.concatenation {ls = ls} {rs = rs} {operator = op} {behind = behind} nx l kind q) =
+    conjunct_deep ns c {d} within {ts = ts} (g.concatenation {ls = ls} {rs = rs} {operator = op} {following = following} nx l kind q) =
         renoted conditions Hit (append_assoc ns ls rs) (by conditions Hit (level_is token_leaves levels.Conjunct c (input conditions d ts ns))
         (rw (word_left (codes "if") ts conditions d ns nx, accept_left kinds.Slash ts conditions d ns (no_slash (Waived conditions.limit Hit) l))
-        (then conditions Hit _ (value_deep ns c within l) (rw (operator_taken levels.Conjunct operators.Concatenation op behind conditions d (ns ++ ls) refl kind, append-nil (ns ++ ls))
+        (then conditions Hit _ (value_deep ns c within l) (rw (operator_taken levels.Conjunct operators.Concatenation op following conditions d (ns ++ ls) refl kind, append-nil (ns ++ ls))
         (pass conditions Hit _ (conjunct_deep (ns ++ ls) false within q) refl)))))
     conjunct_deep ns c {d} within {fs = fs} {ts = ts} {rest = rest} (g.value nx l nj) =
         by conditions Hit (level_is token_leaves levels.Conjunct c (input conditions d ts ns))
@@ -245,8 +245,8 @@ module _ (conditions : Conditions) (Hit : Option SignificantToken → Type 0) wh
 
     pub braced_deep : (ns : List (Noted Tok)) {d : ℕ} (within : d ≤ conditions.limit) {e : Expr Tok Tok} {fs : List (Noted Tok)} {ts rest : Tokens} → Braced itself itself (Waived conditions.limit Hit) d e fs ts rest
         → Reaches conditions Hit (braced_rule token_leaves (read token_leaves) (input conditions d ts ns)) (e, input conditions d rest (ns ++ fs)) (expr_literals e)
-    braced_deep ns {d} within {fs = fs} {rest = rest} (g.braces {opener = opener} {closer = closer} {behind = behind} kind q kind2) =
-        rw (expect_taken kinds.BraceL opener behind conditions d ns kind) (pass conditions Hit _ (expression_deep ns false within q) (rw (expect_taken kinds.BraceR closer rest conditions d (ns ++ fs) kind2) refl))
+    braced_deep ns {d} within {fs = fs} {rest = rest} (g.braces {opener = opener} {closer = closer} {following = following} kind q kind2) =
+        rw (expect_taken kinds.BraceL opener following conditions d ns kind) (pass conditions Hit _ (expression_deep ns false within q) (rw (expect_taken kinds.BraceR closer rest conditions d (ns ++ fs) kind2) refl))
 
     pub conditional_deep : (ns : List (Noted Tok)) {d : ℕ} (within : d ≤ conditions.limit) {w : SignificantToken} {e : Expr Tok Tok} {fs : List (Noted Tok)} {ts rest : Tokens} → Conditional itself itself (Waived conditions.limit Hit) d w e fs ts rest
         → Reaches conditions Hit (read token_leaves (r.Conditional w (input conditions d ts ns))) (e, input conditions d rest (ns ++ fs)) (expr_literals e)
@@ -315,10 +315,10 @@ module _ (conditions : Conditions) (Hit : Option SignificantToken → Type 0) wh
         by conditions Hit (value_past condition d ts ns (named w opener tokens is.is_name (λ e. cc) (λ e. cc)))
         (rw (word_taken (codes "assert") w (opener ∷ tokens) conditions d ns is, expect_taken kinds.ParenL opener tokens conditions d ns kind)
         (pass conditions Hit _ (condition_deep ns within c) (rw (accept_left kinds.Comma (closer ∷ rest) conditions d (ns ++ fs) (λ e. cc), expect_taken kinds.ParenR closer rest conditions d (ns ++ fs) kind2) refl)))
-    value_deep ns condition {d} within {ts = ts} {rest = rest} (g.assert_message {fs = fs} {gs = gs} {word = w} {opener = opener} {comma = comma} {closer = closer} {tokens = tokens} {behind = behind} is kind c kind2 m kind3) =
+    value_deep ns condition {d} within {ts = ts} {rest = rest} (g.assert_message {fs = fs} {gs = gs} {word = w} {opener = opener} {comma = comma} {closer = closer} {tokens = tokens} {following = following} is kind c kind2 m kind3) =
         renoted conditions Hit (append_assoc ns fs gs) (by conditions Hit (value_past condition d ts ns (named w opener tokens is.is_name (λ e. cc) (λ e. cc)))
         (rw (word_taken (codes "assert") w (opener ∷ tokens) conditions d ns is, expect_taken kinds.ParenL opener tokens conditions d ns kind)
-        (then conditions Hit _ (condition_deep ns within c) (rw (accept_taken kinds.Comma comma behind conditions d (ns ++ fs) kind2)
+        (then conditions Hit _ (condition_deep ns within c) (rw (accept_taken kinds.Comma comma following conditions d (ns ++ fs) kind2)
         (pass conditions Hit _ (expression_deep (ns ++ fs) false within m) (rw (expect_taken kinds.ParenR closer rest conditions d ((ns ++ fs) ++ gs) kind3) refl))))))
     value_deep ns condition {d} within {ts = ts} {rest = rest} (g.variable {name = name} kind na un nx) =
         renoted conditions Hit (sym (append-nil ns)) (by conditions Hit (value_past condition d ts ns (record { bang = λ e. cc; string = λ e. cc; expanded = un.expanded; single = un.literal; format = un.format; backtick = λ e. cc }))
@@ -327,9 +327,9 @@ module _ (conditions : Conditions) (Hit : Option SignificantToken → Type 0) wh
         renoted conditions Hit (append_assoc ns fs (called name.tok.lexeme name.tok)) (by conditions Hit (value_past condition d ts ns (named name opener tokens kind (λ e. cc) (λ e. cc)))
         (rw (word_left (codes "assert") ts conditions d ns na, accept_taken kinds.Identifier name (opener ∷ tokens) conditions d ns kind, accept_taken kinds.ParenL opener tokens conditions d ns kind2)
         (pass conditions Hit _ (sequence_deep ns within (λ e. cc) s) refl)))
-    value_deep ns condition {d} within {fs = fs} {rest = rest} (g.group {opener = opener} {closer = closer} {behind = behind} kind q kind2) =
-        by conditions Hit (past_names condition d opener behind ns (record { bang = λ e. cc; string = λ e. cc; backtick = λ e. cc; name = λ e. cc }))
-        (rw (accept_taken kinds.ParenL opener behind conditions d ns kind) (pass conditions Hit _ (expression_deep ns false within q) (rw (expect_taken kinds.ParenR closer rest conditions d (ns ++ fs) kind2) refl)))
+    value_deep ns condition {d} within {fs = fs} {rest = rest} (g.group {opener = opener} {closer = closer} {following = following} kind q kind2) =
+        by conditions Hit (past_names condition d opener following ns (record { bang = λ e. cc; string = λ e. cc; backtick = λ e. cc; name = λ e. cc }))
+        (rw (accept_taken kinds.ParenL opener following conditions d ns kind) (pass conditions Hit _ (expression_deep ns false within q) (rw (expect_taken kinds.ParenR closer rest conditions d (ns ++ fs) kind2) refl)))
     value_deep ns condition {d} within {ts = ts} (g.list {fs = fs} {opener = opener} {tokens = tokens} kind s) =
         renoted conditions Hit (append_assoc ns (noted features.ListLiteral opener.tok) fs)
         (by conditions Hit (past_names condition d opener tokens ns (record { bang = λ e. cc; string = λ e. cc; backtick = λ e. cc; name = λ e. cc }))
@@ -344,9 +344,9 @@ module _ (conditions : Conditions) (Hit : Option SignificantToken → Type 0) wh
     sequence_deep ns {k} {d} within {fs = fs} {ts = ts} {rest = rest} nc (g.last {e = e} {closer = closer} nx q kind) =
         by conditions Hit (sequence_is token_leaves k (input conditions d ts ns)) (rw (accept_left k ts conditions d ns nx)
         (then conditions Hit _ (last_reached k d (input conditions d ts ns) e closer rest (ns ++ fs) nc kind (expression_deep ns false within q)) (is_read tt refl)))
-    sequence_deep ns {k} {d} within {ts = ts} {rest = rest} nc (g.more {e = e} {fs = fs} {gs = gs} {comma = comma} {behind = behind} nx q kind s) =
+    sequence_deep ns {k} {d} within {ts = ts} {rest = rest} nc (g.more {e = e} {fs = fs} {gs = gs} {comma = comma} {following = following} nx q kind s) =
         renoted conditions Hit (append_assoc ns fs gs) (by conditions Hit (sequence_is token_leaves k (input conditions d ts ns)) (rw (accept_left k ts conditions d ns nx)
-        (then conditions Hit _ (element_reached k d (input conditions d ts ns) e comma behind (ns ++ fs) kind (expression_deep ns false within q)) (pass conditions Hit _ (sequence_deep (ns ++ fs) within nc s) refl))))
+        (then conditions Hit _ (element_reached k d (input conditions d ts ns) e comma following (ns ++ fs) kind (expression_deep ns false within q)) (pass conditions Hit _ (sequence_deep (ns ++ fs) within nc s) refl))))
 
     pub parts_deep : (ns : List (Noted Tok)) (start : Tok) {d : ℕ} (within : d ≤ conditions.limit) {e : Parts Tok Tok} {fs : List (Noted Tok)} {ts rest : Tokens} → FormatParts itself itself (Waived conditions.limit Hit) d e fs ts rest
         → Reaches conditions Hit (read token_leaves (r.FormatParts start.lexeme (input conditions d ts ns))) (e, input conditions d rest (ns ++ fs)) (parts_literals start e)

@@ -8,14 +8,14 @@ use Rattle.justfile_model.specs.declared.list_feature.ListFeature.TheVariants as
 use Rattle.justfile_model.specs.declared.operator.Operator.{Operator}
 use Rattle.justfile_model.specs.Expressions.{ends_open}
 use Rattle.justfile_model.specs.ExpressionReader as r
-use Rattle.justfile_model.specs.ExpressionReader.{Met, Out, Place, ReadExpr, accept_operator, assert_rule, binary_rule, braced_rule, closed, condition_rule, conditional_rule, conjunct_rule, cooked, element_rule, format_rest_rule, format_rule, format_string_rule, group_rule, is_within, list_rule, literal, name_rule, opened, otherwise_rule, part, parts_rule, read, rule, sequence_rule, size, stop, value_rule}
+use Rattle.justfile_model.specs.ExpressionReader.{Met, Out, Place, ReadExpr, accept_operator, assert_rule, binary_rule, braced_rule, closed, condition_rule, conditional_rule, conjunct_rule, cooked, element_rule, format_rest_rule, format_rule, format_string_rule, group_rule, is_within, list_rule, literal, name_rule, opened, otherwise_rule, part, parts_rule, read, rule, sequence_rule, size, stop_expression, value_rule}
 use Rattle.justfile_model.specs.Features.{noted_if}
 use Rattle.justfile_model.specs.Literals as literals
 use Rattle.justfile_model.specs.Operators.{binary, feature_of, operand, rank, right}
 use Rattle.justfile_model.specs.Reading.{◌>>=◌, Leaves, Read, State, accept, accept_marked, accept_word, expect, note, with}
 use Rattle.justfile_model.specs.Recursive.{below}
 use Rattle.justfile_model.specs.Tree.{Expr}
-use Rattle.justfile_model.proofs.ReadingSteps.{Behind, Found, Goes, Keeps, Past, accepts, accepts_marked, accepts_word, after_test, behind, bind_alike, choose_alike, cooks, either, either_goes, expects, finds, first, first_alike, found_behind, from_there, goes_behind, keeps, known, mapped, operators, parts_go, past, past_then, test_alike, then, then_goes, there, weaken}
+use Rattle.justfile_model.proofs.ReadingSteps.{ItemRest, Found, Goes, Keeps, Past, accepts, accepts_marked, accepts_word, after_test, following, bind_alike, choose_alike, cooks, either, either_goes, expects, finds, first, first_alike, found_after, from_there, goes_after, keeps, known, mapped, operators, parts_go, past, past_then, test_alike, then, then_goes, there, weaken}
 use Rattle.justfile_model.proofs.Turns.{below_smaller, recursive_is, recursive_keeps}
 
 module _ {R T B : Type 0} where
@@ -51,9 +51,9 @@ module _ {R T A B S D : Type 0} (leaves : Leaves R T A B S D) where
   Advances (r.FormatParts l s) found = Goes s found
 
   -- a note takes nothing
-  noted_behind : (e : Expr A B) (from : List T) (s : State R T B) → Behind s (r.note_uncompared leaves e from s)
-  noted_behind e [] s = there s
-  noted_behind e (t ∷ from) s = there s
+  noted_after : (e : Expr A B) (from : List T) (s : State R T B) → ItemRest s (r.note_uncompared leaves e from s)
+  noted_after e [] s = there s
+  noted_after e (t ∷ from) s = there s
 
   ended_keeps : (b : Bool) (e : Expr A B) (s : State R T B) → Keeps s (r.ended_by leaves b e s)
   ended_keeps false e s = there s
@@ -87,7 +87,7 @@ module _ {R T A B S D : Type 0} (leaves : Leaves R T A B S D) where
 
     condition_goes : (s : State R T B) → Goes s (condition_rule leaves f s)
     unfolding condition_rule
-    condition_goes s = first s (f (r.At levels.Expression true s)) _ (h (r.At levels.Expression true s)) (λ e. noted_behind e.0 s.left e.1)
+    condition_goes s = first s (f (r.At levels.Expression true s)) _ (h (r.At levels.Expression true s)) (λ e. noted_after e.0 s.left e.1)
 
     braced_goes : (s : State R T B) → Goes s (braced_rule leaves f s)
     unfolding braced_rule
@@ -176,7 +176,7 @@ module _ {R T A B S D : Type 0} (leaves : Leaves R T A B S D) where
 
     or_goes : (s : State R T B) (o : Option (Expr A B)) (t : State R T B) → Found leaves s o t → Goes s (r.literal_or leaves f o t)
     or_goes s (Some e) t h = h
-    or_goes s None t h = goes_behind s t _ h (format_goes t)
+    or_goes s None t h = goes_after s t _ h (format_goes t)
 
     value_goes : (s : State R T B) → Goes s (value_rule leaves f s)
     unfolding value_rule
@@ -201,7 +201,7 @@ module _ {R T A B S D : Type 0} (leaves : Leaves R T A B S D) where
     rule_goes (r.Sequence k s) = sequence_goes k s
     rule_goes (r.FormatParts l s) = parts_rule_goes l s
 
-  stop_goes : (x : Place R T B) → Advances x (stop leaves x)
+  stop_goes : (x : Place R T B) → Advances x (stop_expression leaves x)
   stop_goes (r.At k c s) = tt
   stop_goes (r.Conditional w s) = tt
   stop_goes (r.Sequence c s) = tt
@@ -210,7 +210,7 @@ module _ {R T A B S D : Type 0} (leaves : Leaves R T A B S D) where
   -- what is read is past where reading began, in the same run and at the same depth
   pub advances : (x : Place R T B) → Advances x (read leaves x)
   unfolding read
-  advances x = recursive_keeps size (stop leaves) (rule leaves) Advances stop_goes rule_goes x
+  advances x = recursive_keeps size (stop_expression leaves) (rule leaves) Advances stop_goes rule_goes x
 
   pub condition_past : (s : State R T B) → Goes s (condition_rule leaves (read leaves) s)
   condition_past = condition_goes (read leaves) advances
@@ -224,15 +224,15 @@ module _ {R T A B S D : Type 0} (leaves : Leaves R T A B S D) where
   -- ---- the calls inside are the reader
 
   inside : Place R T B → (y : Place R T B) → Out leaves y
-  inside x = below size (stop leaves) (rule leaves) x (read leaves)
+  inside x = below size (stop_expression leaves) (rule leaves) x (read leaves)
 
   unfolded : (x : Place R T B) → read leaves x ≡ rule leaves (inside x) x
   unfolding read inside
-  unfolded x = recursive_is size (stop leaves) (rule leaves) x
+  unfolded x = recursive_is size (stop_expression leaves) (rule leaves) x
 
   inside_is : (x y : Place R T B) → size y < size x → inside x y ≡ read leaves y
   unfolding inside
-  inside_is x y h = below_smaller size (stop leaves) (rule leaves) x (read leaves) y h
+  inside_is x y h = below_smaller size (stop_expression leaves) (rule leaves) x (read leaves) y h
 
   tail_alike : (x : Place R T B) (k : Level) (c : Bool) (l : Expr A B × State R T B) (o : Met R T B)
       → ((op : Operator × T × State R T B) → o ≡ Some op → 8 * length op.2.left + 4 < size x) → r.binary_tail leaves (inside x) k c l o ≡ r.binary_tail leaves (read leaves) k c l o
@@ -356,7 +356,7 @@ module _ {R T A B S D : Type 0} (leaves : Leaves R T A B S D) where
     unfolding format_string_rule
     string_alike y less =
         bind_alike (cooked leaves (λ l. l) literals.Start y) _ _ (λ start is.
-        rest_alike start.0 (leaves.see y.0).tok.lexeme start.1 (omega (arith, less, (behind y.1 _ start (cooks leaves (λ l. l) literals.Start y) is).0)))
+        rest_alike start.0 (leaves.see y.0).tok.lexeme start.1 (omega (arith, less, (following y.1 _ start (cooks leaves (λ l. l) literals.Start y) is).0)))
 
     format_alike : format_rule leaves (inside x) s ≡ format_rule leaves (read leaves) s
     unfolding format_rule
@@ -373,7 +373,7 @@ module _ {R T A B S D : Type 0} (leaves : Leaves R T A B S D) where
   value_alike c s =
       let x = r.At levels.Value c s in
       choose_alike (accept leaves kinds.Bang s) _ _ _ _
-      (λ _. bind_alike (literal leaves s) _ _ (λ l is. or_alike x l.1 (omega (arith, (found_behind leaves s l.0 l.1 (known l (λ y. Found leaves s y.0 y.1) is (finds leaves s))).0)) l.0))
+      (λ _. bind_alike (literal leaves s) _ _ (λ l is. or_alike x l.1 (omega (arith, (found_after leaves s l.0 l.1 (known l (λ y. Found leaves s y.0 y.1) is (finds leaves s))).0)) l.0))
       (λ b e. first_alike _ _ _ (inside_is x (r.At levels.Value false (note leaves features.NegationOperator b.0 b.1)) (omega (arith, (accepts leaves kinds.Bang s b e).0))))
 
   at_alike : (k : Level) (c : Bool) (s : State R T B) → r.at_rule leaves (inside (r.At k c s)) k c s ≡ r.at_rule leaves (read leaves) k c s

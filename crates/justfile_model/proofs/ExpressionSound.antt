@@ -22,7 +22,7 @@ use Rattle.justfile_model.specs.Files.{expr_literals, exprs_literals, parts_lite
 use Rattle.justfile_model.specs.Operators.{feature_of}
 use Rattle.justfile_model.specs.Reading.{◌>>=◌, NotCooked, at, deeper, note, shallower, with}
 use Rattle.justfile_model.specs.ExpressionReader as r
-use Rattle.justfile_model.specs.ExpressionReader.{Out, Place, accept_operator, assert_rule, backtick, binary_rule, braced_rule, by_text, condition_rule, conditional_rule, conjunct_rule, cooked, element_rule, ended_by, format_rest_rule, format_rule, format_string_rule, found, group_rule, list_rule, literal_or, name_rule, note_uncompared, otherwise_rule, part, parts_rule, read, rule, sequence_rule, single, stop, string, value_rule}
+use Rattle.justfile_model.specs.ExpressionReader.{Out, Place, accept_operator, assert_rule, backtick, binary_rule, braced_rule, by_text, condition_rule, conditional_rule, conjunct_rule, cooked, element_rule, ended_by, format_rest_rule, format_rule, format_string_rule, found, group_rule, list_rule, literal_or, name_rule, note_uncompared, otherwise_rule, part, parts_rule, read, rule, sequence_rule, whole_format_string, stop_expression, literal_string, value_rule}
 use Rattle.justfile_model.specs.TreeReader.{Read, Refusal, State, token_leaves}
 use Rattle.justfile_model.proofs.ExpressionProgress.{LeftOf, none_left, expression_left}
 use Rattle.justfile_model.proofs.Meets.{Met, nothing_met, literal_met, features_met, unnoted_met, all_met, both_met, noted_met}
@@ -78,16 +78,16 @@ module _ (conditions : Conditions) where
     branch : {e : Expr Tok Tok} {fs : List (Noted Tok)} {ts rest : Tokens} → Braced d e fs ts rest → (ends_open e ≡ true → NotWord (codes "else") rest) → Otherwise d e fs ts rest
     again : {e : Expr Tok Tok} {fs : List (Noted Tok)} {word : SignificantToken} {ts rest : Tokens} → IsWord (codes "if") word → Conditional d word e fs ts rest → Otherwise d e fs (word ∷ ts) rest
 
-  with_otherwise : {d : ℕ} {w : SignificantToken} {c b o : Expr Tok Tok} {cs bs os : List (Noted Tok)} {word : SignificantToken} {ts behind other rest : Tokens}
-      → Condition d c cs ts behind → Braced d b bs behind (word ∷ other) → IsWord (codes "else") word → Otherwise d o os other rest → Conditional d w (tree.IfElse c b o) (cs ++ bs ++ os) ts rest
+  with_otherwise : {d : ℕ} {w : SignificantToken} {c b o : Expr Tok Tok} {cs bs os : List (Noted Tok)} {word : SignificantToken} {ts following other rest : Tokens}
+      → Condition d c cs ts following → Braced d b bs following (word ∷ other) → IsWord (codes "else") word → Otherwise d o os other rest → Conditional d w (tree.IfElse c b o) (cs ++ bs ++ os) ts rest
   with_otherwise c b is (branch o closed) = g.if_else c b is o closed
   with_otherwise c b is (again is_if o) = g.else_if c b is is_if o
 
   -- an element of a sequence, and the token after it: the sequence is closed there, or goes on
   pub record Element (k : TokenKind) (d : ℕ) (e : Expr Tok Tok) (is_closed : Bool) (fs : List (Noted Tok)) (ts rest : Tokens) : Type 0 where
-    pub behind : SignificantToken
-    pub kind : IsKind (cond is_closed k kinds.Comma) behind
-    pub derives : Expression false d e fs ts (behind ∷ rest)
+    pub following : SignificantToken
+    pub kind : IsKind (cond is_closed k kinds.Comma) following
+    pub derives : Expression false d e fs ts (following ∷ rest)
 
   pub compared_is : (by : ConditionalOperator) (c : Bool) (token : Tok) → noted_if (feature_of (operators.Compare by) c) token ≡ compared c token
   compared_is by true token = refl
@@ -306,10 +306,10 @@ module _ (conditions : Conditions) where
         after_expect kinds.BraceL s _ P (λ e. tt) (λ opener rest split kind.
         after_bind (f (r.At levels.Expression false (at s rest))) _ P (λ e. tt) (λ x is.
         let E = expression_at d (at s rest) x is here in
-        after_expect kinds.BraceR x.1 _ P (λ e. tt) (λ closer behind split2 kind2.
+        after_expect kinds.BraceR x.1 _ P (λ e. tt) (λ closer following split2 kind2.
         record {
           features = E.features;
-          derives = subst (λ (ts : Tokens). Braced d x.0 E.features ts behind) (sym split) (g.braces kind (subst (λ (ts : Tokens). Expression false d x.0 E.features rest ts) split2 E.derives) kind2);
+          derives = subst (λ (ts : Tokens). Braced d x.0 E.features ts following) (sym split) (g.braces kind (subst (λ (ts : Tokens). Expression false d x.0 E.features rest ts) split2 E.derives) kind2);
           met = E.met;
           stays = E.stays;
         })))
@@ -384,10 +384,10 @@ module _ (conditions : Conditions) where
         after_choose kinds.ParenL s _ _ P (λ _. list_keeps d s here)
         (λ opener rest split kind. after_bind (f (r.At levels.Expression false (at s rest))) _ P (λ e. tt) (λ x is.
         let E = expression_at d (at s rest) x is here in
-        after_expect kinds.ParenR x.1 _ P (λ e. tt) (λ closer behind split2 kind2.
+        after_expect kinds.ParenR x.1 _ P (λ e. tt) (λ closer following split2 kind2.
         record {
           features = E.features;
-          derives = subst (λ (ts : Tokens). Value d (tree.Group x.0) E.features ts behind) (sym split) (g.group kind (subst (λ (ts : Tokens). Expression false d x.0 E.features rest ts) split2 E.derives) kind2);
+          derives = subst (λ (ts : Tokens). Value d (tree.Group x.0) E.features ts following) (sym split) (g.group kind (subst (λ (ts : Tokens). Expression false d x.0 E.features rest ts) split2 E.derives) kind2);
           met = E.met;
           stays = E.stays;
         })))
@@ -419,8 +419,8 @@ module _ (conditions : Conditions) where
           met = nothing_met;
           stays = here;
         })
-        (λ opener behind split2 kind2. after_bind (f (r.Sequence kinds.ParenR (at s behind))) _ P (λ e. tt) (λ x is.
-        let S = sequence_at kinds.ParenR d (at s behind) x is here in
+        (λ opener following split2 kind2. after_bind (f (r.Sequence kinds.ParenR (at s following))) _ P (λ e. tt) (λ x is.
+        let S = sequence_at kinds.ParenR d (at s following) x is here in
         let V : Tokens → Type 0 = λ ts. Value d (tree.Call name.tok x.0) (S.features ++ called name.tok.lexeme name.tok) ts x.1.left in
         record {
           features = S.features ++ called name.tok.lexeme name.tok;
@@ -479,7 +479,7 @@ module _ (conditions : Conditions) where
 
     -- a value that is a literal, or another
     literal_keeps : (d : ℕ) (s : State) → Here d s → IfOk (r.literal token_leaves s >>= λ l. literal_or token_leaves f l.0 l.1) (Derives (Value d) d s)
-    unfolding r.literal string single backtick
+    unfolding r.literal literal_string whole_format_string backtick
     literal_keeps d s here =
         let P : ReadExpr → Type 0 = λ o. IfOk o (Derives (Value d) d s) in
         let Q : Read (Option (Expr Tok Tok)) → Type 0 = λ o. P (o >>= λ l. literal_or token_leaves f l.0 l.1) in
@@ -543,8 +543,8 @@ module _ (conditions : Conditions) where
         let T : Tokens → Type 0 = λ ts. Expression false d x.0 E.features s.left ts in
         after_choose kinds.Comma x.1 _ _ P
         (λ no_comma. after_expect k x.1 _ P (λ e. tt) (λ closer rest split kind.
-        record { features = E.features; derives = record { behind = closer; kind = kind; derives = subst T split E.derives }; met = E.met; stays = E.stays }))
-        (λ comma rest split kind. record { features = E.features; derives = record { behind = comma; kind = kind; derives = subst T split E.derives }; met = E.met; stays = E.stays }))
+        record { features = E.features; derives = record { following = closer; kind = kind; derives = subst T split E.derives }; met = E.met; stays = E.stays }))
+        (λ comma rest split kind. record { features = E.features; derives = record { following = comma; kind = kind; derives = subst T split E.derives }; met = E.met; stays = E.stays }))
 
     element_at : (k : TokenKind) (d : ℕ) (s : State) (x : (Expr Tok Tok × Bool) × State) → element_rule token_leaves f k s ≡ Ok x → Here d s → DerivesElement k d s x
     element_at k d s x is here = known x (DerivesElement k d s) is (element_keeps k d s here)
@@ -608,7 +608,7 @@ module _ (conditions : Conditions) where
   rule_keeps f h (r.Sequence k s) = λ d. sequence_keeps f h k d s
   rule_keeps f h (r.FormatParts start s) = λ d. parts_keeps f h start d s
 
-  stops_sound : (x : Place Conditions SignificantToken Tok) → IsSound x (stop token_leaves x)
+  stops_sound : (x : Place Conditions SignificantToken Tok) → IsSound x (stop_expression token_leaves x)
   stops_sound (r.At k c s) = λ d here. tt
   stops_sound (r.Conditional w s) = λ d here. tt
   stops_sound (r.Sequence k s) = λ d here. tt
@@ -616,7 +616,7 @@ module _ (conditions : Conditions) where
 
   pub sound : (x : Place Conditions SignificantToken Tok) → IsSound x (read token_leaves x)
   unfolding read
-  sound = recursive_keeps r.size (stop token_leaves) (rule token_leaves) IsSound stops_sound rule_keeps
+  sound = recursive_keeps r.size (stop_expression token_leaves) (rule token_leaves) IsSound stops_sound rule_keeps
 
   -- what is read derives
   pub expression_derives : (c : Bool) (d : ℕ) (s : State) (x : Expr Tok Tok × State) → read token_leaves (r.At levels.Expression c s) ≡ Ok x → Here d s → Derives (Expression c d) d s x

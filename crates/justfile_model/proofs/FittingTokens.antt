@@ -17,10 +17,10 @@ use Rattle.justfile_base.specs.StringKind.{kind_of, token_kind_of}
 use Rattle.justfile_model.specs.declared.open_delimiter.OpenDelimiter.{OpenDelimiter}
 use Rattle.justfile_model.specs.declared.raw_text.RawText.TheVariants as raw_texts
 use Rattle.justfile_model.specs.Bytes.{is_interpolation_start, is_interpolation_end, is_mixed, closes_levels, first_char}
-use Rattle.justfile_model.specs.LexicalFault.{Refusal}
+use Rattle.justfile_model.specs.LexicalFault.{LexicalRefusal}
 use Rattle.justfile_model.specs.LiteralText.{raw_len}
 use Rattle.justfile_model.specs.Modes.{Mode, head_of, innermost, innermost_of, is_empty, nested}
-use Rattle.justfile_model.specs.Next.{Found, at_end_by, blanks_or, body, brace_by, close, closing, escape, fixed, format_kind, format_of, inline, inside, is_blank_line, is_level, is_same, layout, line_end, literal, literal_part, next, next_by, opening, region_by, tested_blanks, text_or, token_in_region, twice}
+use Rattle.justfile_model.specs.Next.{NextToken, at_end_by, blanks_or, body_token, brace_by, closing_delimiter, closing, escaped_line_end, fixed_token, format_kind, format_string_kind, token_by_class, token_within_line, begins_blank_line, is_level, is_same, layout, line_end_token, literal_token, literal_part, next, next_by, opening, region_by, tested_blanks, text_or, token_in_region, doubled_token}
 use Rattle.justfile_model.specs.Tok.{Tok}
 use Rattle.justfile_model.specs.Unclosed.{delimiter_closer}
 
@@ -40,29 +40,29 @@ Fits m InterpolationStart = m.interpolation ≡ None
 Fits m InterpolationEnd = is_some m.interpolation ≡ true
 Fits m _ = Unit {0}
 
-abbrev FitsBy : Mode → Found → Type 0
+abbrev FitsBy : Mode → NextToken → Type 0
 FitsBy m (Ok x) = Fits m x.0
 FitsBy m (Err r) = Unit {0}
 
-record Finds (m : Mode) (found : Found) : Type 0 where
+record Finds (m : Mode) (found : NextToken) : Type 0 where
   fits : FitsBy m found
 
 module _ (m : Mode) (rest : List ℕ) where
-  choose : (b : Bool) {x y : Found} → (b ≡ true → Finds m x) → (b ≡ false → Finds m y) → Finds m (cond b x y)
+  choose : (b : Bool) {x y : NextToken} → (b ≡ true → Finds m x) → (b ≡ false → Finds m y) → Finds m (cond b x y)
   choose true f g = f refl
   choose false f g = g refl
 
   token : (k : TokenKind) (n : ℕ) → Fits m k → Finds m (Ok (k, n))
   token k n f = record { fits = f }
 
-  refused : {r : Refusal} → Finds m (Err r)
+  refused : {r : LexicalRefusal} → Finds m (Err r)
   refused = record { fits = tt }
 
-  twice_fits : (b : ℕ) (k : TokenKind) → Fits m k → Finds m (twice b k rest)
+  twice_fits : (b : ℕ) (k : TokenKind) → Fits m k → Finds m (doubled_token b k rest)
   twice_fits b k f = choose (eqb (get_or rest 1 0) b) (λ _. token k 2 f) (λ _. choose (eqb (length (drop 1 rest)) 0) (λ _. refused) (λ _. refused))
 
-  fixed_fits : (b : ℕ) → Finds m (fixed b rest)
-  unfolding fixed
+  fixed_fits : (b : ℕ) → Finds m (fixed_token b rest)
+  unfolding fixed_token
   fixed_fits b =
       let c = get_or rest 1 0 in
       choose (eqb b 33) (λ _. choose (eqb c 61) (λ _. token _ _ tt) (λ _. choose (eqb c 126) (λ _. token _ _ tt) (λ _. token _ _ tt))) (λ _.
@@ -87,7 +87,7 @@ module _ (m : Mode) (rest : List ℕ) where
       let len = raw_len (raw_texts.Literal k format) after in
       choose (eqb len (length after)) (λ _. refused) (λ _. choose (format && is_interpolation_start (drop len after)) (λ _. token more _ f) (λ _. token whole _ g))
 
-  literal_fits : Finds m (literal m rest)
+  literal_fits : Finds m (literal_token m rest)
   literal_fits = part_fits (kind_of rest) _ _ _ _ tt (whole (kind_of rest).delimiter)
     where
       whole : (d : StringDelimiter) → Fits m (token_kind_of d)
@@ -101,11 +101,11 @@ module _ (m : Mode) (rest : List ℕ) where
   is_closer Paren Paren h = refl
   is_closer _ _ h = cc
 
-  close_fits : (os : List OpenDelimiter) (d : Delimiter) (k : TokenKind) → (ClosesFirst os (delimiter_closer d) → Fits m k) → Finds m (close (head_of os) d k)
+  close_fits : (os : List OpenDelimiter) (d : Delimiter) (k : TokenKind) → (ClosesFirst os (delimiter_closer d) → Fits m k) → Finds m (closing_delimiter (head_of os) d k)
   close_fits [] d k f = refused
   close_fits (o ∷ os) d k f = choose (is_same o.delimiter d) (λ h. token k 1 (f (is_closer o.delimiter d h))) (λ _. refused)
 
-  ends_format : (d : Delimiter) (k : StringKind) → format_of d ≡ Some k → delimiter_closer d ≡ FormatStringEnd
+  ends_format : (d : Delimiter) (k : StringKind) → format_string_kind d ≡ Some k → delimiter_closer d ≡ FormatStringEnd
   ends_format (FormatString j) k h = refl
   ends_format _ k h = cc
 
@@ -122,17 +122,17 @@ module _ (m : Mode) (rest : List ℕ) where
       choose (eqb b 41) (λ _. close_fits m.openers Paren ParenR (λ h. h)) (λ _.
       choose (eqb b 93) (λ _. close_fits m.openers Bracket BracketR (λ h. h)) (λ _. brace_fits m.openers refl (format_kind (head_of m.openers)) refl))
 
-  line_end_fits : (n : ℕ) → Finds m (line_end m n)
+  line_end_fits : (n : ℕ) → Finds m (line_end_token m n)
   line_end_fits n = choose (nested m) (λ _. token _ n tt) (λ _. token _ n tt)
 
-  escape_fits : Finds m (escape rest)
+  escape_fits : Finds m (escaped_line_end rest)
   escape_fits =
       choose (eqb (get_or rest 1 0) 10) (λ _. token _ _ tt) (λ _.
       choose (eqb (get_or rest 1 0) 13) (λ _. choose (eqb (get_or rest 2 0) 10) (λ _. token _ _ tt) (λ _. refused)) (λ _.
       choose (eqb (length (drop 1 rest)) 0) (λ _. refused) (λ _. refused)))
 
-  inline_fits : (k : ByteClass) → Finds m (inline m k rest)
-  unfolding inline
+  inline_fits : (k : ByteClass) → Finds m (token_by_class m k rest)
+  unfolding token_by_class
   inline_fits classes.Blank = token _ _ tt
   inline_fits classes.LineFeed = line_end_fits 1
   inline_fits classes.CarriageReturn = choose (eqb (get_or rest 1 0) 10) (λ _. line_end_fits 2) (λ _. refused)
@@ -145,16 +145,16 @@ module _ (m : Mode) (rest : List ℕ) where
   inline_fits classes.Lead = choose (eqb (first_char rest) 65279) (λ _. token _ 3 tt) (λ _. refused)
   inline_fits classes.Other = choose (eqb (get_or rest 0 0) 35) (λ _. token _ _ tt) (λ _. choose (eqb (get_or rest 0 0) 92) (λ _. escape_fits) (λ _. refused))
 
-  body_fits : m.interpolation ≡ None → Finds m (body rest)
-  unfolding body
+  body_fits : m.interpolation ≡ None → Finds m (body_token rest)
+  unfolding body_token
   body_fits none = by (raw_len raw_texts.Body rest)
     where
       by : (n : ℕ) → Finds m (text_or n (get_or rest 0 0))
       by (suc n) = token _ _ tt
       by zero = choose (eqb (get_or rest 0 0) 10) (λ _. token _ 1 tt) (λ _. choose (eqb (get_or rest 0 0) 13) (λ _. token _ 2 tt) (λ _. token _ 2 none))
 
-  inside_fits : Finds m (inside m rest)
-  unfolding inside
+  inside_fits : Finds m (token_within_line m rest)
+  unfolding token_within_line
   inside_fits = by m.in_body m.interpolation refl
     where
       by : (b : Bool) (o : Option Tok) → o ≡ m.interpolation → Finds m (token_in_region (region_by b o) m rest)
@@ -181,7 +181,7 @@ module _ (m : Mode) (rest : List ℕ) where
   layout_fits found after =
       let blanks = blanks_fit (length found) in
       choose (nested m) (λ _. blanks) (λ _.
-      choose (is_blank_line after) (λ _. choose (not (is_empty m.levels) && closes_levels false rest) (λ e. token _ 0 (some_level m.levels _ e)) (λ _. blanks)) (λ _.
+      choose (begins_blank_line after) (λ _. choose (not (is_empty m.levels) && closes_levels false rest) (λ e. token _ 0 (some_level m.levels _ e)) (λ _. blanks)) (λ _.
       choose (bytes_eq found (innermost m)) (λ _. blanks) (λ other.
       choose (is_level m.levels found) (λ e. token _ 0 (has_level m.levels found other e)) (λ _.
       choose (m.in_body && starts_with nat_eq found (innermost m)) (λ _. blanks_fit (length (innermost m))) (λ _.

@@ -7,12 +7,12 @@ use Rattle.justfile_model.specs.Tok.{Tok}
 use Rattle.justfile_model.specs.SignificantTokens.{SignificantToken}
 use Rattle.justfile_model.specs.Conditions.{Conditions}
 use Rattle.justfile_model.specs.Tree as tree
-use Rattle.justfile_model.specs.Tree.{Expr, Exprs, Parts, Fragment, BodyLine, Line, Argument, Written, Entry, Parameter, DependencyArgument, Dependency, Header, AssignmentParts, Content, Item, WrittenItem, WrittenTree, WrittenShape, Tree, Shape, over_expr, over_exprs, over_parts, over_fragment, over_argument, over_written, over_entry, over_parameter, over_assignment, over_line, over_dependency_argument, over_dependency, over_header, over_content, over_item, lexeme, nothing, shape_of, written_shape_of}
+use Rattle.justfile_model.specs.Tree.{Expr, Exprs, Parts, Fragment, BodyLine, Line, Argument, WrittenAttribute, Entry, Parameter, DependencyArgument, Dependency, Header, AssignmentParts, Content, Item, WrittenItem, WrittenTree, WrittenShape, Tree, Shape, over_expr, over_exprs, over_parts, over_fragment, over_argument, over_written_attribute, over_entry, over_parameter, over_assignment, over_line, over_dependency_argument, over_dependency, over_header, over_content, over_item, lexeme, nothing, shape_of, written_shape_of}
 use Rattle.justfile_model.specs.Features.{Noted, over_noted}
 use Rattle.justfile_model.specs.Expressions.{Tokens, front, Under}
 use Rattle.justfile_model.specs.Grammar.{File}
 use Rattle.justfile_model.specs.Literals as literal
-use Rattle.justfile_model.specs.Literals.{Literal, over_literal, Cooks}
+use Rattle.justfile_model.specs.Literals.{Literal, over_literal, AreCookedTexts}
 use Rattle.justfile_model.specs.Files.{expr_literals, exprs_literals, parts_literals, fragments_literals, body_literals, optional_literals, argument_literals, written_literals, entries_literals, parameter_literals, dependency_literals, header_literals, content_literals, item_literals, items_literals, all_literals, literals, ordered, keeps_tokens, keeps_lexemes, Obeys, FileDerives, ShapeDerives}
 use Rattle.justfile_model.proofs.CarryExpressions.{Same, Pairs, nil, cons}
 use Rattle.justfile_model.proofs.Carry as c
@@ -72,7 +72,7 @@ module _ {A B : Type 0} where
   argument_itself (tree.Bare key) = refl
   argument_itself (tree.Keyed key value) = ap (tree.Keyed key) (expr_itself value)
 
-  written_itself : (w : Written A B) → over_written same_leaf same_leaf w ≡ w
+  written_itself : (w : WrittenAttribute A B) → over_written_attribute same_leaf same_leaf w ≡ w
   written_itself w = λ i. record { name = w.name; arguments = map_same (over_argument same_leaf same_leaf) argument_itself w.arguments i }
 
   parameter_itself : (p : Parameter A B) → over_parameter same_leaf same_leaf p ≡ p
@@ -105,17 +105,17 @@ content_itself : {A B C S : Type 0} (c : Content A B C S) → over_content same_
 content_itself (tree.Assignment parts) = ap tree.Assignment (assignment_itself parts)
 content_itself (tree.Recipe parts) = λ i. tree.Recipe (record { doc = parts.doc; header = header_itself parts.header i; body = body_itself parts.body i })
 
-item_itself : {A B C S : Type 0} (i : WrittenItem A B C S) → over_item same_leaf same_leaf same_leaf same_leaf (map (over_written same_leaf same_leaf)) i ≡ i
+item_itself : {A B C S : Type 0} (i : WrittenItem A B C S) → over_item same_leaf same_leaf same_leaf same_leaf (map (over_written_attribute same_leaf same_leaf)) i ≡ i
 item_itself tree.Newline = refl
 item_itself (tree.Comment text) = refl
-item_itself (tree.Construct attributes content) = λ i. tree.Construct (map_same (over_written same_leaf same_leaf) written_itself attributes i) (content_itself content i)
+item_itself (tree.Construct attributes content) = λ i. tree.Construct (map_same (over_written_attribute same_leaf same_leaf) written_itself attributes i) (content_itself content i)
 
 -- nothing becomes something else
 abbrev pub unchanged : {A B C S : Type 0} → Maps A B C S A B C S
 unchanged = record { leaf = same_leaf; spot = same_leaf; number = same_leaf; star = same_leaf }
 
 pub items_itself : {A B C S : Type 0} (items : List (WrittenItem A B C S)) → over_items unchanged items ≡ items
-items_itself = map_same (over_item same_leaf same_leaf same_leaf same_leaf (map (over_written same_leaf same_leaf))) item_itself
+items_itself = map_same (over_item same_leaf same_leaf same_leaf same_leaf (map (over_written_attribute same_leaf same_leaf))) item_itself
 
 -- ---- the literals over other leaves
 
@@ -170,9 +170,9 @@ module _ {A B D E : Type 0} (f : A → D) (g : B → E) where
   argument_over (tree.Bare key) = refl
   argument_over (tree.Keyed key value) = expr_over value
 
-  written_over : (ws : List (Written A B)) → written_literals (map (over_written f g) ws) ≡ map (over_literal f) (written_literals ws)
+  written_over : (ws : List (WrittenAttribute A B)) → written_literals (map (over_written_attribute f g) ws) ≡ map (over_literal f) (written_literals ws)
   written_over =
-      flat_mapped (λ (w : Written A B). flat_map argument_literals w.arguments) (λ (w : Written D E). flat_map argument_literals w.arguments) (over_written f g) (over_literal f)
+      flat_mapped (λ (w : WrittenAttribute A B). flat_map argument_literals w.arguments) (λ (w : WrittenAttribute D E). flat_map argument_literals w.arguments) (over_written_attribute f g) (over_literal f)
       (λ w. flat_mapped argument_literals argument_literals (over_argument f g) (over_literal f) argument_over w.arguments)
 
   entries_over : (es : List (Entry A B)) → entries_literals (map (over_entry f g) es) ≡ map (over_literal f) (entries_literals es)
@@ -223,7 +223,7 @@ pub lexemes : (t : Tree) → literals (shape_of t) ≡ map (over_literal lexeme)
 lexemes = items_over lexeme nothing nothing (λ star. star) (map (over_entry lexeme nothing)) entries_literals entries_literals (entries_over lexeme nothing)
 
 pub all_lexemes : (w : WrittenTree) → all_literals (written_shape_of w) ≡ map (over_literal lexeme) (all_literals w)
-all_lexemes = items_over lexeme nothing nothing nothing (map (over_written lexeme nothing)) written_literals written_literals (written_over lexeme nothing)
+all_lexemes = items_over lexeme nothing nothing nothing (map (over_written_attribute lexeme nothing)) written_literals written_literals (written_over lexeme nothing)
 
 -- ---- the same tokens
 
@@ -289,7 +289,7 @@ module _ (conditions : Conditions) (tokens : Tokens) where
     written = written_shape_of h.written;
     derives = forget _ h.derives;
     cooked = h.obeys.cooked;
-    cooks = subst (λ l. Cooks conditions.expander l h.obeys.cooked) (sym (all_lexemes h.written)) h.obeys.cooks;
+    cooks = subst (λ l. AreCookedTexts conditions.expander l h.obeys.cooked) (sym (all_lexemes h.written)) h.obeys.cooks;
     unbroken = refl;
     ordered_is = shape_ordered h.written all h.ordered_is;
   }
@@ -301,7 +301,7 @@ module _ (conditions : Conditions) (tokens : Tokens) where
       let t = tree_ordered x.tree shape (ap ordered x.alike ∙ h.ordered_is) in
       let obeys : Obeys conditions x.tree = record {
         cooked = h.cooked;
-        cooks = subst (λ l. Cooks conditions.expander l h.cooked) (ap all_literals (sym x.alike) ∙ all_lexemes x.tree) h.cooks;
+        cooks = subst (λ l. AreCookedTexts conditions.expander l h.cooked) (ap all_literals (sym x.alike) ∙ all_lexemes x.tree) h.cooks;
         unbroken = refl;
       } in
       (t.0, x.features, record { written = x.tree; derives = x.derives; obeys = obeys; ordered_is = t.1 }, t.2, x.noted_alike)

@@ -6,10 +6,10 @@ use Rattle.std.proofs.lemmas.List.{reverse-reverse}
 use Rattle.justfile_base.specs.declared.token_kind.TokenKind.{TokenKind}
 use Rattle.justfile_base.specs.declared.token_kind.TokenKind.TheVariants.{Eof}
 use Rattle.justfile_base.specs.Slice.{slice_of}
-use Rattle.justfile_model.specs.Places.{line_at, column_at}
-use Rattle.justfile_model.specs.Next.{Found}
+use Rattle.justfile_model.specs.Places.{line_of_offset, column_at}
+use Rattle.justfile_model.specs.Next.{NextToken}
 use Rattle.justfile_model.specs.Tok.{Tok}
-use Rattle.justfile_model.specs.LexicalFault.{LexicalFault, Refusal, Here, Unclosed}
+use Rattle.justfile_model.specs.LexicalFault.{LexicalFault, LexicalRefusal, Here, Unclosed}
 use Rattle.std.specs.Str.{IsUtf8, IsCharBoundary}
 use Rattle.std.specs.List.{All, flat_map}
 use Rattle.std.specs.List.Sorted.{IsNonDecreasingBy}
@@ -20,10 +20,10 @@ use Rattle.std.proofs.lemmas.Str.{IsCharBoundary-start, IsCharBoundary-from_rest
 use Rattle.justfile_model.proofs.NextLaws.{token_cut}
 use Rattle.justfile_model.specs.Lexed.{next_of, IsSpan, EndsInEof, Follows, end_of, Stands, StandsAt, IsNext, Begins, Lexed, IsFault}
 
-ok_inside : (x y : TokenKind × ℕ) → ◌≡◌ {A = Found} (Ok x) (Ok y) → x ≡ y
+ok_inside : (x y : TokenKind × ℕ) → ◌≡◌ {A = NextToken} (Ok x) (Ok y) → x ≡ y
 ok_inside x y h = cc
 
-err_inside : (x y : Refusal) → ◌≡◌ {A = Found} (Err x) (Err y) → x ≡ y
+err_inside : (x y : LexicalRefusal) → ◌≡◌ {A = NextToken} (Err x) (Err y) → x ≡ y
 err_inside x y h = cc
 
 module _ (text : List ℕ) where
@@ -32,7 +32,7 @@ module _ (text : List ℕ) where
   same_standing e t u p q kind len =
       let offset = p.offset_is ∙ sym q.offset_is in
       let lexeme = p.lexeme_is ∙ (λ i. slice_of text (offset i) (len i)) ∙ sym q.lexeme_is in
-      let line = p.line_is ∙ ap (line_at text) offset ∙ sym q.line_is in
+      let line = p.line_is ∙ ap (line_of_offset text) offset ∙ sym q.line_is in
       let column = p.column_is ∙ ap (column_at text) offset ∙ sym q.column_is in
       λ i. record { kind = kind i; lexeme = lexeme i; offset = offset i; line = line i; column = column i }
 
@@ -92,7 +92,7 @@ module _ (text : List ℕ) where
       (cases_lt (length q.earlier) (length p.earlier)))
       (cases_lt (length p.earlier) (length q.earlier))
 
-  span_same : (e : List Tok) (r : Refusal) (p q : LexicalFault) (t u : Tok) → IsSpan text e r p t → IsSpan text e r q u → (p ≡ q) × (t ≡ u)
+  span_same : (e : List Tok) (r : LexicalRefusal) (p q : LexicalFault) (t u : Tok) → IsSpan text e r p t → IsSpan text e r q u → (p ≡ q) × (t ≡ u)
   span_same e (Here p skip n) k m t u x y = (x.0 ∙ sym y.0, same_standing (end_of e + skip) t u x.3 y.3 (x.1 ∙ sym y.1) (x.2 ∙ sym y.2))
   span_same e (Unclosed s) k m t u x y = (x.0 ∙ sym y.0, x.1 ∙ sym y.1)
 

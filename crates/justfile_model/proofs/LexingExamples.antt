@@ -18,10 +18,10 @@ use Rattle.justfile_model.specs.Bytes.{closes_levels}
 use Rattle.justfile_model.specs.Lexed.{Begins, Lexed}
 use Rattle.justfile_model.specs.LiteralParts.{IsPart}
 use Rattle.justfile_model.specs.LiteralText.{pieces_len}
-use Rattle.justfile_model.specs.Modes.{Mode, start, tail_of}
-use Rattle.justfile_model.specs.Next.{Found, body, fixed, inline, inside, layout, literal_part, next}
+use Rattle.justfile_model.specs.Modes.{Mode, start_mode, tail_of}
+use Rattle.justfile_model.specs.Next.{NextToken, body_token, fixed_token, token_by_class, token_within_line, layout, literal_part, next}
 use Rattle.justfile_model.specs.Pieces.{HasNoEnd, IsInside}
-use Rattle.justfile_model.specs.Places.{column_at, last_line_start, line_at}
+use Rattle.justfile_model.specs.Places.{column_at, last_line_start, line_of_offset}
 use Rattle.justfile_model.specs.Tok.{Tok, tok}
 use Rattle.justfile_model.specs.Unclosed.{UnclosedDelimiters, UnclosedInterpolations, UnclosedLevels}
 use Rattle.justfile_model.proofs.AnswerLaws.{at, fault_of, is_eof, span_of}
@@ -81,7 +81,7 @@ abbrev after_paren : List Tok
 after_paren = tok Identifier (codes "c") 8 1 5 ∷ tok ParenR (codes ")") 9 1 6 ∷ tok InterpolationEnd (codes "}}") 10 1 7 ∷ tok Eol (codes "\n") 12 1 9 ∷ tok Dedent [] 13 1 10 ∷ tok Eof [] 13 1 10 ∷ []
 
 whole : Lexed recipe (reverse up_to_paren ++ after_paren)
-unfolding answer at fault_of is_eof span_of class_of closes_levels pieces_len body fixed inline inside layout literal_part next column_at last_line_start line_at chars encode_utf8 is_utf8
+unfolding answer at fault_of is_eof span_of class_of closes_levels pieces_len body_token fixed_token token_by_class token_within_line layout literal_part next column_at last_line_start line_of_offset chars encode_utf8 is_utf8
 whole = computed recipe refl
 
 begun : Begins recipe up_to_paren
@@ -102,7 +102,7 @@ in_a_body = (body_law up_to_paren).0 refl
 -- ---- a blank line in a body, before an item or before another line of the body
 
 abbrev in_recipe : Mode
-in_recipe = record start { levels = codes " " ∷ []; colon = true; in_body = true }
+in_recipe = record start_mode { levels = codes " " ∷ []; colon = true; in_body = true }
 
 at_line_start : IsAtLineStart in_recipe
 at_line_start = record { line_start = refl; no_delimiter = refl; no_interpolation = refl }
@@ -111,10 +111,10 @@ before_item : BeginsWithWhiteLines (codes "\n \r\nb:")
 unfolding class_of closes_levels layout next
 before_item = (dedent_law in_recipe at_line_start (λ e. cc) (codes "\n \r\nb:") (λ e. cc) (record { blanks = []; follows = codes "\n \r\nb:"; are = refl; are_blanks = All-nil _; ends = inl refl })).0 refl
 
-another_kind : ◌≡◌ {A = Found} (Ok (Eol, 1)) (Ok (Dedent, 0)) → ⊥
+another_kind : ◌≡◌ {A = NextToken} (Ok (Eol, 1)) (Ok (Dedent, 0)) → ⊥
 another_kind e = apart (ap kind e)
   where
-    kind : Found → TokenKind
+    kind : NextToken → TokenKind
     kind (Ok x) = x.0
     kind (Err r) = Eof
 
@@ -122,6 +122,6 @@ another_kind e = apart (ap kind e)
     apart e = cc
 
 before_line : BeginsWithWhiteLines (codes "\n b") → ⊥
-unfolding class_of closes_levels pieces_len body inside layout next
+unfolding class_of closes_levels pieces_len body_token token_within_line layout next
 before_line w =
     another_kind ((dedent_law in_recipe at_line_start (λ e. cc) (codes "\n b") (λ e. cc) (record { blanks = []; follows = codes "\n b"; are = refl; are_blanks = All-nil _; ends = inl refl })).1 w)

@@ -14,7 +14,7 @@ use Rattle.justfile_model.specs.Bytes.{is_interpolation_start}
 use Rattle.justfile_model.specs.LexicalFault.{Here}
 use Rattle.justfile_model.specs.LiteralParts.{EndsWithBraces, EndsWithDelimiter, IsPart, Unterminated}
 use Rattle.justfile_model.specs.LiteralText.{is_delimiter, raw_len}
-use Rattle.justfile_model.specs.Next.{Found, literal_part, unterminated}
+use Rattle.justfile_model.specs.Next.{NextToken, literal_part, unterminated}
 use Rattle.justfile_model.specs.Pieces.{IsInside}
 use Rattle.justfile_model.proofs.CutLemmas.{eq_from, ne_from, raw_within}
 use Rattle.justfile_model.proofs.PieceLaws.{inside_law, no_end_law}
@@ -99,7 +99,7 @@ some_delimiter k = by k.indented
 
 module _ (k : StringKind) (format : Bool) (more whole : TokenKind) (opener : List ℕ) where
   -- what is found before this text, of which so many bytes come before the first end
-  found_by : List ℕ → ℕ → Found
+  found_by : List ℕ → ℕ → NextToken
   found_by text n =
       cond (eqb n (length text)) (Err (Here (unterminated k.delimiter) 0 (length opener)))
       (cond (format && is_interpolation_start (drop n text)) (Ok (more, length opener + n + 2)) (Ok (whole, length opener + n + delimiter_len k)))
@@ -111,7 +111,7 @@ module _ (k : StringKind) (format : Bool) (more whole : TokenKind) (opener : Lis
   three_lengths : (inside end : List ℕ) (n : ℕ) → length end ≡ n → length opener + length inside + n ≡ length (opener ++ (inside ++ end))
   three_lengths inside end n e = omega (arith, e, length-append opener (inside ++ end), length-append inside end)
 
-  Part : List ℕ → Found → Type 0
+  Part : List ℕ → NextToken → Type 0
   Part = IsPart k format more whole opener
 
   -- ---- what is found is such a part
@@ -186,7 +186,7 @@ module _ (k : StringKind) (format : Bool) (more whole : TokenKind) (opener : Lis
   or_right true b h e = cc
   or_right false b h e = h
 
-  part_found : (text : List ℕ) (found : Found) → Part text found → found_by text (raw_len (Literal k format) text) ≡ found
+  part_found : (text : List ℕ) (found : NextToken) → Part text found → found_by text (raw_len (Literal k format) text) ≡ found
   unfolding found_by Part
   part_found text found (EndsWithDelimiter inside follows is i) =
       ap (λ text. found_by text (raw_len (Literal k format) text)) is ∙ ended inside (delimiter_text k ++ follows) i
@@ -204,6 +204,6 @@ module _ (k : StringKind) (format : Bool) (more whole : TokenKind) (opener : Lis
       all_read : raw_len (Literal k format) text ≡ length text → found_by text (raw_len (Literal k format) text) ≡ Err (Here (unterminated k.delimiter) 0 (length opener))
       all_read h = ap (found_by text) h ∙ rw (same (length text)) refl
 
-  pub part_law : (text : List ℕ) (found : Found) → (literal_part k format (length opener) more whole (opener ++ text) ≡ found) ↔ IsPart k format more whole opener text found
+  pub part_law : (text : List ℕ) (found : NextToken) → (literal_part k format (length opener) more whole (opener ++ text) ≡ found) ↔ IsPart k format more whole opener text found
   unfolding Part
   part_law text found = (λ e. subst (IsPart k format more whole opener text) (sym (part_is text) ∙ e) (found_part text), λ p. part_is text ∙ part_found text found p)

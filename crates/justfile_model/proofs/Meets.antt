@@ -2,15 +2,15 @@
 use Rattle.std.proofs.Common.{◌≡◌, List, [], ◌∷◌, ◌++◌, refl, sym, ap, ◌∙◌, append_assoc, append-nil}
 use Rattle.justfile_model.specs.Tok.{Tok}
 use Rattle.justfile_model.specs.Features.{Noted}
-use Rattle.justfile_model.specs.Literals.{Literal, Answers}
+use Rattle.justfile_model.specs.Literals.{Literal, Expansions}
 use Rattle.justfile_model.proofs.CookedTexts.{HasText, AllCook, both_cook}
 
 -- from the one list of features to the other these were noted, and these literals have texts
-pub record Met (expander : Answers) (features : List (Noted Tok)) (literals : List (Literal Tok)) (before behind : List (Noted Tok)) : Type 0 where
-  pub noted_is : behind ≡ before ++ features
+pub record Met (expander : Expansions) (features : List (Noted Tok)) (literals : List (Literal Tok)) (before following : List (Noted Tok)) : Type 0 where
+  pub noted_is : following ≡ before ++ features
   pub cooks : AllCook expander literals
 
-module _ {expander : Answers} where
+module _ {expander : Expansions} where
   pub nothing_met : {a : List (Noted Tok)} → Met expander [] [] a a
   nothing_met {a} = record { noted_is = sym (append-nil a); cooks = tt }
 
@@ -20,14 +20,14 @@ module _ {expander : Answers} where
   pub features_met : (fs : List (Noted Tok)) {a : List (Noted Tok)} → Met expander fs [] a (a ++ fs)
   features_met fs = record { noted_is = refl; cooks = tt }
 
-  -- one behind the other
+  -- one after the other
   pub both_met : {fs gs : List (Noted Tok)} {ls ms : List (Literal Tok)} {a b c : List (Noted Tok)} → Met expander fs ls a b → Met expander gs ms b c → Met expander (fs ++ gs) (ls ++ ms) a c
   both_met {fs} {gs} {ls} {ms} {a} h k = record {
     noted_is = k.noted_is ∙ ap (λ l. l ++ gs) h.noted_is ∙ append_assoc a fs gs;
     cooks = both_cook expander ls ms h.cooks k.cooks;
   }
 
-  -- and features behind it
+  -- and features after it
   pub noted_met : {fs : List (Noted Tok)} (gs : List (Noted Tok)) {ls : List (Literal Tok)} {a b : List (Noted Tok)} → Met expander fs ls a b → Met expander (fs ++ gs) ls a (b ++ gs)
   noted_met {fs} gs {a = a} h = record { noted_is = ap (λ l. l ++ gs) h.noted_is ∙ append_assoc a fs gs; cooks = h.cooks }
 

@@ -7,9 +7,9 @@ use Rattle.justfile_base.specs.declared.token_kind.TokenKind.{TokenKind}
 use Rattle.justfile_base.specs.declared.token_kind.TokenKind.TheVariants as kinds
 use Rattle.justfile_model.specs.declared.open_delimiter.OpenDelimiter.{OpenDelimiter}
 use Rattle.justfile_model.specs.Lexed.{Begins}
-use Rattle.justfile_model.specs.Modes.{Mode, after, mode, tail_of}
+use Rattle.justfile_model.specs.Modes.{Mode, mode_after, mode, tail_of}
 use Rattle.justfile_model.specs.Tok.{Tok}
-use Rattle.justfile_model.specs.Unclosed.{UnclosedDelimiters, UnclosedInterpolations, UnclosedLevels, delimiter_by, delimiter_closer, delimiter_of, interpolation_by, level_by}
+use Rattle.justfile_model.specs.Unclosed.{UnclosedDelimiters, UnclosedInterpolations, UnclosedLevels, delimiter_by, delimiter_closer, delimiter_of, interpolation_opened, level_by}
 use Rattle.justfile_model.proofs.FittingTokens.{ClosesFirst, Fits, token_fits}
 use Rattle.justfile_model.proofs.UnclosedLaws.{Closes, Opens, Stays, Step, Steps, unclosed_law}
 
@@ -48,7 +48,7 @@ closing : (k : TokenKind) (os : List OpenDelimiter) → ClosesFirst os k → Ste
 closing k [] c = absurd c
 closing k (o ∷ os) c = Closes o c refl
 
-delimiter_step : (k : TokenKind) (t : Tok) (m : Mode) → Fits m k → Step (λ (o : OpenDelimiter). delimiter_closer o.delimiter) (delimiter_by k t) k m.openers (after k t m).openers
+delimiter_step : (k : TokenKind) (t : Tok) (m : Mode) → Fits m k → Step (λ (o : OpenDelimiter). delimiter_closer o.delimiter) (delimiter_by k t) k m.openers (mode_after k t m).openers
 unfolding is_closer
 delimiter_step kinds.BraceL t m fits = Opens _ refl refl
 delimiter_step kinds.BracketL t m fits = Opens _ refl refl
@@ -76,7 +76,7 @@ level_apart t x y o c = by t.kind o c
     by kinds.Indent o c = cc
     by _ o c = cc
 
-level_step : (k : TokenKind) (t : Tok) (m : Mode) → Fits m k → Step (λ (blanks : List ℕ). kinds.Dedent) (level_by k t) k m.levels (after k t m).levels
+level_step : (k : TokenKind) (t : Tok) (m : Mode) → Fits m k → Step (λ (blanks : List ℕ). kinds.Dedent) (level_by k t) k m.levels (mode_after k t m).levels
 level_step kinds.Indent t m fits = Opens _ refl refl
 level_step kinds.Dedent t m fits = by m.levels fits
   where
@@ -94,14 +94,14 @@ levels_law text e b = unclosed_law (λ t. level_by t.kind t) (λ blanks. kinds.D
 
 -- ---- interpolations
 
-interpolation_apart : (t x y : Tok) → interpolation_by t.kind t ≡ Some x → kinds.InterpolationEnd ≡ t.kind → ⊥
+interpolation_apart : (t x y : Tok) → interpolation_opened t.kind t ≡ Some x → kinds.InterpolationEnd ≡ t.kind → ⊥
 interpolation_apart t x y o c = by t.kind o c
   where
-    by : (k : TokenKind) → interpolation_by k t ≡ Some x → kinds.InterpolationEnd ≡ k → ⊥
+    by : (k : TokenKind) → interpolation_opened k t ≡ Some x → kinds.InterpolationEnd ≡ k → ⊥
     by kinds.InterpolationStart o c = cc
     by _ o c = cc
 
-interpolation_step : (k : TokenKind) (t : Tok) (m : Mode) → Fits m k → Step (λ (start : Tok). kinds.InterpolationEnd) (interpolation_by k t) k (option_to_list m.interpolation) (option_to_list (after k t m).interpolation)
+interpolation_step : (k : TokenKind) (t : Tok) (m : Mode) → Fits m k → Step (λ (start : Tok). kinds.InterpolationEnd) (interpolation_opened k t) k (option_to_list m.interpolation) (option_to_list (mode_after k t m).interpolation)
 interpolation_step kinds.InterpolationStart t m fits = Opens t refl (ap (λ o. t ∷ option_to_list o) (sym fits))
 interpolation_step kinds.InterpolationEnd t m fits = by m.interpolation fits
   where
@@ -110,9 +110,9 @@ interpolation_step kinds.InterpolationEnd t m fits = by m.interpolation fits
     by (Some u) some = Closes u refl refl
 interpolation_step k t m fits = Stays refl (λ x e. cc) refl
 
-interpolation_steps : (text : List ℕ) (e : List Tok) → Begins text e → Steps (λ t. interpolation_by t.kind t) (λ start. kinds.InterpolationEnd) interpolation_apart (λ e. option_to_list (mode e).interpolation) e
+interpolation_steps : (text : List ℕ) (e : List Tok) → Begins text e → Steps (λ t. interpolation_opened t.kind t) (λ start. kinds.InterpolationEnd) interpolation_apart (λ e. option_to_list (mode e).interpolation) e
 interpolation_steps text [] b = tt
 interpolation_steps text (t ∷ e) b = (interpolation_step t.kind t (mode e) (token_fits (mode e) _ t.kind _ b.1.found), interpolation_steps text e b.0)
 
 pub interpolations_law : (text : List ℕ) (e : List Tok) → Begins text e → (starts : List Tok) → (option_to_list (mode e).interpolation ≡ starts) ↔ UnclosedInterpolations (reverse e) starts
-interpolations_law text e b = unclosed_law (λ t. interpolation_by t.kind t) (λ start. kinds.InterpolationEnd) interpolation_apart (λ e. option_to_list (mode e).interpolation) refl e (interpolation_steps text e b)
+interpolations_law text e b = unclosed_law (λ t. interpolation_opened t.kind t) (λ start. kinds.InterpolationEnd) interpolation_apart (λ e. option_to_list (mode e).interpolation) refl e (interpolation_steps text e b)

@@ -4,9 +4,9 @@ use Rattle.std.proofs.Common.{◌≡◌, ℕ, zero, suc, ◌+◌, ◌<◌, ◌�
 use Rattle.std.specs.Str.{trim_end}
 use Rattle.justfile_base.specs.declared.token_kind.TokenKind.{TokenKind}
 use Rattle.justfile_base.specs.declared.token_kind.TokenKind.TheVariants as kinds
-use Rattle.justfile_model.specs.Reader.{Start, after_mark, after_numbered, assigned, assignment, at_end, body, body_behind, body_line, draw_binding, draw_recipe, ended, expression, file, fragment, has_body, headed, items, items_from, items_rule, line, line_at, line_end, line_rest, line_rest_rule, lines, lines_rule, no_line_rest, no_lines, nothing_behind, on_line, recipe, some_lines, with_bindings, with_recipes}
+use Rattle.justfile_model.specs.Reader.{Start, after_mark, after_numbered, assigned, assignment, at_end, body, optional_body, body_line, draw_binding, draw_recipe, ended, expression, file, fragment, has_body, headed, items, items_from, items_rule, line, line_at, line_end, line_rest, line_rest_rule, lines, lines_rule, no_line_rest, no_lines, end_of_tokens, on_line, recipe, some_lines, with_bindings, with_recipes}
 use Rattle.justfile_model.specs.Reader as r
-use Rattle.justfile_model.specs.Reading.{◌>>=◌, Counters, Leaves, NoNumber, Read, State, Taken, after, choose, next_are}
+use Rattle.justfile_model.specs.Reading.{◌>>=◌, Counters, Leaves, NoNumber, Read, State, Taken, prepend, choose, next_are}
 use Rattle.justfile_model.specs.SignificantTokens.{SignificantToken}
 use Rattle.justfile_model.specs.Tree as tree
 use Rattle.justfile_model.specs.Tree.{BodyLine, Expr, Fragment, Item, Line, trimmed}
@@ -38,8 +38,8 @@ module _ {R T A B S D R' T' A' B' S' D' : Type 0} (rel : Relations R T A B S D R
       (λ x x' t k. both (a.a_text (agree.text x.0 x'.0 t)) k)
 
   -- what is read after a part
-  after_alike : {X Y : Type 0} {Q : X → Y → Type 0} {xs : List X} {ys : List Y} {found : Read R T B (List X)} {found' : Read R' T' B' (List Y)} → Each Q xs ys → Reads rel (Each Q) found found' → Reads rel (Each Q) (after xs found) (after ys found')
-  unfolding after
+  after_alike : {X Y : Type 0} {Q : X → Y → Type 0} {xs : List X} {ys : List Y} {found : Read R T B (List X)} {found' : Read R' T' B' (List Y)} → Each Q xs ys → Reads rel (Each Q) found found' → Reads rel (Each Q) (prepend xs found) (prepend ys found')
+  unfolding prepend
   after_alike q h = bind rel _ _ h (λ x y k j. both (each_both q k) j)
 
   rest_agrees : (f : State R T B → Read R T B (List (Fragment A B))) (g : State R' T' B' → Read R' T' B' (List (Fragment A' B'))) → ((s : State R T B) (s' : State R' T' B') → States rel s s' → Reads rel (Each (AlikeFragment rel)) (f s) (g s'))
@@ -88,9 +88,9 @@ module _ {R T A B S D R' T' A' B' S' D' : Type 0} (rel : Relations R T A B S D R
   unfolding body
   body_natural {s} {s'} h = bind rel _ _ (lines_natural s s' h) (λ x x' q k. some_alike (trimmed_alike rel q) k)
 
-  pub body_behind_natural : {s : State R T B} {s' : State R' T' B'} → States rel s s' → Reads rel (Each (AlikeLine rel)) (body_behind one s) (body_behind other s')
-  unfolding body_behind
-  body_behind_natural {s} {s'} h =
+  pub optional_body_natural : {s : State R T B} {s' : State R' T' B'} → States rel s s' → Reads rel (Each (AlikeLine rel)) (optional_body one s) (optional_body other s')
+  unfolding optional_body
+  optional_body_natural {s} {s'} h =
       let short : List TokenKind = kinds.Eol ∷ kinds.Indent ∷ [] in
       let long : List TokenKind = kinds.Comment ∷ kinds.Eol ∷ kinds.Indent ∷ [] in
       by_tests rel (next_are one short s) (next_are other short s') (same_next rel one other agree short h) (body_natural (at_alike rel h (dropped 2 h.left)))
@@ -171,7 +171,7 @@ module _ {R T A B S D R' T' A' B' S' D' : Type 0} (rel : Relations R T A B S D R
   unfolding recipe
   recipe_natural n h =
       bind rel _ _ (expected rel one other agree kinds.Identifier h) (λ name name' t k. bind rel _ _ (expected rel one other agree kinds.Colon k) (λ x x' t2 j.
-      bind rel _ _ (body_behind_natural j) (λ b b' ls i. recipe_alike n name.0 name'.0 t ls i)))
+      bind rel _ _ (optional_body_natural j) (λ b b' ls i. recipe_alike n name.0 name'.0 t ls i)))
 
   -- a number is wanting where these counters stand
   abbrev NoItem : Counters → State R' T' B' → Counters → Read R' T' B' (Item A' B' ℕ S' D' × Counters) → Type 0
@@ -204,15 +204,15 @@ module _ {R T A B S D R' T' A' B' S' D' : Type 0} (rel : Relations R T A B S D R
       (bind rel _ _ (expected rel one other agree kinds.Eol h) (λ x x' t k. both (λ n. (an_item a.newline no_item, refl)) k))
       (λ x x' t k. both (λ n. (no_item, refl)) h)
 
-  pub behind_natural : {s : State R T B} {s' : State R' T' B'} → States rel s s' → Reads rel Unnumbered (r.behind one s) (r.behind other s')
-  unfolding r.behind
-  behind_natural h =
+  pub item_rest_natural : {s : State R T B} {s' : State R' T' B'} → States rel s s' → Reads rel Unnumbered (r.item_rest one s) (r.item_rest other s')
+  unfolding r.item_rest
+  item_rest_natural h =
       pick rel _ _ (accepted rel one other agree kinds.Comment h) (line_end_natural h)
       (λ c c' t k. bind rel _ _ (line_end_natural k) (λ x x' q j. both (λ n. (an_item (comment_alike n c.0 c'.0 t) (q n).0, (q n).1)) j))
 
   pub ended_natural : (b b' : Bool) {s : State R T B} {s' : State R' T' B'} → b ≡ b' → States rel s s' → Reads rel Unnumbered (ended one b s) (ended other b' s')
   unfolding ended
-  ended_natural b b' same h = by_tests rel b b' same (both (λ n. (an_item a.newline no_item, refl)) h) (behind_natural h)
+  ended_natural b b' same h = by_tests rel b b' same (both (λ n. (an_item a.newline no_item, refl)) h) (item_rest_natural h)
 
   carried : (n : Counters) (found : Read R' T' B' (Item A' B' ℕ S' D' × Counters)) (f : (Item A' B' ℕ S' D' × Counters) × State R' T' B' → Read R' T' B' (List (Item A' B' ℕ S' D'))) → AllExceed n found → AllExceed n (found >>= λ i. f i >>= λ b. Ok ((i.0.0 ∷ b.0, i.0.1), b.1))
   carried n (Ok i) f h = go (f i)
@@ -253,7 +253,7 @@ module _ {R T A B S D R' T' A' B' S' D' : Type 0} (rel : Relations R T A B S D R
   line_exceeds n (Err e) h = tt
 
   end_alike : (n : Counters) (from : State R' T' B') {s : State R T B} {s' : State R' T' B'} {ts : List T} {ts' : List T'} → States rel s s' → Each rel.token ts ts'
-      → Related rel (AllNumbered n) (NoFile n from) (nothing_behind one n s ts) (nothing_behind other n s' ts')
+      → Related rel (AllNumbered n) (NoFile n from) (end_of_tokens one n s ts) (end_of_tokens other n s' ts')
   end_alike n from h a.nil = both (no_item, refl, refl) h
   end_alike n from h (a.cons t ts) = refused_alike rel one other agree h
 
@@ -266,12 +266,12 @@ module _ {R T A B S D R' T' A' B' S' D' : Type 0} (rel : Relations R T A B S D R
         let inner : Related rel (AllNumbered l.0.1) (NoFile l.0.1 l'.1) (items one l.0.1 l.1) (items other l.0.1 l'.1) = all l.0.1 l.1 l'.1 less k in
         subst (λ (m : Counters). Related rel (AllNumbered n) (NoFile n s') (after_numbered l.0.0 (items one l.0.1 l.1)) (after_numbered l'.0.0 (items other m l'.1))) q.1
         (bind_short rel _ _ inner
-        (λ m w. (later (is' ∙ ap (λ (c : Counters). Ok ((l'.0.0, c), l'.1)) (sym q.1)) w.0, behind m (items other l.0.1 l'.1) w.1))
+        (λ m w. (later (is' ∙ ap (λ (c : Counters). Ok ((l'.0.0, c), l'.1)) (sym q.1)) w.0, following m (items other l.0.1 l'.1) w.1))
         (λ x x' is is2 u j. both (items_both q.0 (subst (λ (c : Counters). AlikeItems rel c x.0.0 x'.0.0) q.2 u.0), u.1, u.2 ∙ ap (λ (c : Counters). counted c x.0.0) q.2 ∙ sym (counted_both n l.0.0 x.0.0)) j))
       where
-        behind : (m : Counters) (found : Read R' T' B' (List (Item A' B' ℕ S' D') × Counters)) → AllExceed m found → AllExceed m (found >>= λ more. Ok ((l'.0.0 ++ more.0.0, more.0.1), more.1))
-        behind m (Ok x) h = h
-        behind m (Err e) h = tt
+        following : (m : Counters) (found : Read R' T' B' (List (Item A' B' ℕ S' D') × Counters)) → AllExceed m found → AllExceed m (found >>= λ more. Ok ((l'.0.0 ++ more.0.0, more.0.1), more.1))
+        following m (Ok x) h = h
+        following m (Err e) h = tt
 
     step : (n : Counters) (s : State R T B) (s' : State R' T' B') → length s.left ≤ most → States rel s s' → Related rel (AllNumbered n) (NoFile n s') (items one n s) (items other n s')
     unfolding items_rule at_end

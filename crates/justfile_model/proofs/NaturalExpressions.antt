@@ -6,7 +6,7 @@ use Rattle.justfile_model.specs.declared.level.Level.{Level}
 use Rattle.justfile_model.specs.declared.level.Level.TheVariants as levels
 use Rattle.justfile_model.specs.declared.list_feature.ListFeature.TheVariants as features
 use Rattle.justfile_model.specs.ExpressionReader as r
-use Rattle.justfile_model.specs.ExpressionReader.{Met, Out, Place, accept_operator, assert_rule, backtick, binary_rule, braced_rule, condition_rule, conditional_rule, conjunct_rule, element_rule, format_rest_rule, format_rule, format_string_rule, found, group_rule, is_within, list_rule, literal, name_rule, note_uncompared, opened, otherwise_rule, part, parts_rule, read, rule, sequence_rule, single, size, stop, string, value_rule}
+use Rattle.justfile_model.specs.ExpressionReader.{Met, Out, Place, accept_operator, assert_rule, backtick, binary_rule, braced_rule, condition_rule, conditional_rule, conjunct_rule, element_rule, format_rest_rule, format_rule, format_string_rule, found, group_rule, is_within, list_rule, literal, name_rule, note_uncompared, opened, otherwise_rule, part, parts_rule, read, rule, sequence_rule, whole_format_string, size, stop_expression, literal_string, value_rule}
 use Rattle.justfile_model.specs.Expressions.{ends_open}
 use Rattle.justfile_model.specs.Features.{function_feature, uncompared_feature}
 use Rattle.justfile_model.specs.Literals as literals
@@ -23,7 +23,7 @@ string_asks true lexeme = refl
 string_asks false lexeme = refl
 
 module _ {R T A B S D R' T' A' B' S' D' : Type 0} (rel : Relations R T A B S D R' T' A' B' S' D') where
-  -- the same is read, where reading stands alike
+  -- two readers that stand alike read alike
   pub data Places : Place R T B → Place R' T' B' → Type 0 where
     at : {level : Level} {c : Bool} {s : State R T B} {s' : State R' T' B'} → States rel s s' → Places (r.At level c s) (r.At level c s')
     conditional : {w : T} {w' : T'} {s : State R T B} {s' : State R' T' B'} → rel.token w w' → States rel s s' → Places (r.Conditional w s) (r.Conditional w' s')
@@ -53,12 +53,12 @@ module _ {R T A B S D R' T' A' B' S' D' : Type 0} (rel : Relations R T A B S D R
 
     -- ---- literals
 
-    string_alike : (expanded : Bool) (x : T × State R T B) (x' : T' × State R' T' B') → rel.token x.0 x'.0 → States rel x.1 x'.1 → Reads (Alike rel) (string one expanded x) (string other expanded x')
-    unfolding string
+    string_alike : (expanded : Bool) (x : T × State R T B) (x' : T' × State R' T' B') → rel.token x.0 x'.0 → States rel x.1 x'.1 → Reads (Alike rel) (literal_string one expanded x) (literal_string other expanded x')
+    unfolding literal_string
     string_alike expanded x x' t h = cooked_alike rel one other agree (Alike rel) _ _ (string_of expanded) (string_asks expanded) x x' t h (λ l l' k. a.string (one.see x.0).tok.lexeme k)
 
-    single_alike : (x : T × State R T B) (x' : T' × State R' T' B') → rel.token x.0 x'.0 → States rel x.1 x'.1 → Reads (Alike rel) (single one x) (single other x')
-    unfolding single
+    single_alike : (x : T × State R T B) (x' : T' × State R' T' B') → rel.token x.0 x'.0 → States rel x.1 x'.1 → Reads (Alike rel) (whole_format_string one x) (whole_format_string other x')
+    unfolding whole_format_string
     single_alike x x' t h = cooked_alike rel one other agree (Alike rel) _ _ literals.Single (λ lexeme. refl) x x' t h (λ l l' k. a.format_literal (one.see x.0).tok.lexeme k)
 
     backtick_alike : (x : T × State R T B) (x' : T' × State R' T' B') → rel.token x.0 x'.0 → States rel x.1 x'.1 → Reads (Alike rel) (backtick one x) (backtick other x')
@@ -187,8 +187,8 @@ module _ {R T A B S D R' T' A' B' S' D' : Type 0} (rel : Relations R T A B S D R
           (bind rel _ _ (element_alike k h) (λ x x' e j. elements_alike k x.0.1 x'.0.1 e.last e.first j))
           (λ c c' t j. both a.none j)
 
-      behind_part : (start : List ℕ) (x : A × Bool) (y : A' × Bool) {s : State R T B} {s' : State R' T' B'} → Part start x y → States rel s s' → Reads (AlikeParts rel start) (r.parts one f start x.0 x.1 s) (r.parts other g start y.0 y.1 s')
-      behind_part start x y {s} {s'} p h = go x.1 y.1 p.last (p.first.1).0 (p.first.1).1
+      after_part : (start : List ℕ) (x : A × Bool) (y : A' × Bool) {s : State R T B} {s' : State R' T' B'} → Part start x y → States rel s s' → Reads (AlikeParts rel start) (r.parts one f start x.0 x.1 s) (r.parts other g start y.0 y.1 s')
+      after_part start x y {s} {s'} p h = go x.1 y.1 p.last (p.first.1).0 (p.first.1).1
         where
           go : (b b' : Bool) → b ≡ b' → (b ≡ true → rel.literal (literals.End start p.first.0) x.0 y.0) → (b ≡ false → rel.literal (literals.Continue start p.first.0) x.0 y.0)
               → Reads (AlikeParts rel start) (r.parts one f start x.0 b s) (r.parts other g start y.0 b' s')
@@ -199,7 +199,7 @@ module _ {R T A B S D R' T' A' B' S' D' : Type 0} (rel : Relations R T A B S D R
 
       parts_alike : (start : List ℕ) {s : State R T B} {s' : State R' T' B'} → States rel s s' → Reads (AlikeParts rel start) (parts_rule one f start s) (parts_rule other g start s')
       unfolding parts_rule
-      parts_alike start h = bind rel _ _ (part_alike start h) (λ x x' p j. behind_part start x.0 x'.0 p j)
+      parts_alike start h = bind rel _ _ (part_alike start h) (λ x x' p j. after_part start x.0 x'.0 p j)
 
       rest_alike : (lexeme : List ℕ) {l : A} {l' : A'} {s : State R T B} {s' : State R' T' B'} → rel.literal (literals.Start lexeme) l l' → States rel s s' → Reads (Alike rel) (format_rest_rule one f l lexeme s) (format_rest_rule other g l' lexeme s')
       unfolding format_rest_rule
@@ -269,7 +269,7 @@ module _ {R T A B S D R' T' A' B' S' D' : Type 0} (rel : Relations R T A B S D R
       rule_agrees x y (sequence {k = k} h) = sequence_alike k h
       rule_agrees x y (format_parts {start = start} h) = parts_alike start h
 
-    stop_agrees : (x : Place R T B) (y : Place R' T' B') → Places x y → Agrees x y (stop one x) (stop other y)
+    stop_agrees : (x : Place R T B) (y : Place R' T' B') → Places x y → Agrees x y (stop_expression one x) (stop_expression other y)
     stop_agrees x y (at h) = neither (unexpected no_next)
     stop_agrees x y (conditional t h) = neither (unexpected no_next)
     stop_agrees x y (sequence h) = neither (unexpected no_next)
@@ -284,7 +284,7 @@ module _ {R T A B S D R' T' A' B' S' D' : Type 0} (rel : Relations R T A B S D R
     -- the law
     pub natural : (x : Place R T B) (y : Place R' T' B') → Places x y → Agrees x y (read one x) (read other y)
     unfolding read
-    natural = both_recur size (stop one) (rule one) size (stop other) (rule other) Places same_size Agrees stop_agrees rule_agrees
+    natural = both_recur size (stop_expression one) (rule one) size (stop_expression other) (rule other) Places same_size Agrees stop_agrees rule_agrees
 
     pub expression_natural : (c : Bool) {s : State R T B} {s' : State R' T' B'} → States rel s s' → Reads (Alike rel) (read one (r.At levels.Expression c s)) (read other (r.At levels.Expression c s'))
     expression_natural c {s} {s'} h = natural (r.At levels.Expression c s) (r.At levels.Expression c s') (at h)

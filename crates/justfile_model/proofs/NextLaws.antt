@@ -20,14 +20,14 @@ use Rattle.justfile_model.specs.declared.raw_text.RawText.TheVariants as raw_tex
 use Rattle.justfile_base.specs.declared.token_kind.TokenKind.{TokenKind}
 use Rattle.justfile_base.specs.declared.token_kind.TokenKind.TheVariants.{BraceR, BracketR, Dedent, Eof, Eol, FormatStringContinue, FormatStringEnd, ParenR, Whitespace}
 use Rattle.justfile_base.specs.ByteClass.{class_of}
-use Rattle.justfile_model.specs.Bytes.{is_blank, is_word, blank_len, is_line_end, is_interpolation_start, is_interpolation_end, is_mixed, closes_levels, first_char}
+use Rattle.justfile_model.specs.Bytes.{is_blank, is_name_byte, blank_len, is_line_end, is_interpolation_start, is_interpolation_end, is_mixed, closes_levels, first_char}
 use Rattle.justfile_base.specs.StringKind.{delimiter_len, kind_of, token_kind_of}
 use Rattle.justfile_model.specs.LiteralText.{raw_len, is_delimiter}
 use Rattle.justfile_model.specs.Tok.{Tok}
 use Rattle.justfile_model.specs.declared.open_delimiter.OpenDelimiter.{OpenDelimiter}
 use Rattle.justfile_model.specs.Modes.{Mode, head_of, is_empty, innermost, innermost_of, nested}
-use Rattle.justfile_model.specs.LexicalFault.{LexicalFault, Refusal, Here, Unclosed}
-use Rattle.justfile_model.specs.Next.{Found, twice, fixed, opening, literal_part, literal, is_same, close, format_kind, brace_by, closing, line_end, unknown, escape, inline, normal, text_or, body, at_end_by, Region, InText, InInterpolation, Inline, region_by, interpolated, token_in_region, inside, blanks_or, tested_blanks, is_level, is_blank_line, layout, at_line_start, next_by, next}
+use Rattle.justfile_model.specs.LexicalFault.{LexicalFault, LexicalRefusal, Here, Unclosed}
+use Rattle.justfile_model.specs.Next.{NextToken, doubled_token, fixed_token, opening, literal_part, literal_token, is_same, closing_delimiter, format_kind, brace_by, closing, line_end_token, unknown, escaped_line_end, token_by_class, token_outside_text, text_or, body_token, at_end_by, Region, InText, InInterpolation, Inline, region_by, interpolated, token_in_region, token_within_line, blanks_or, tested_blanks, is_level, begins_blank_line, layout, at_line_start, next_by, next}
 use Rattle.justfile_model.proofs.CutLemmas.{class_fact, after_byte, run_cuts, run_positive, blank_ascii, word_ascii, first_cuts, ne_from, there, past_byte, raw_cuts, raw_stops, raw_within, delimiter_is, delimiter_last, mark_last, comment_last, body_last, run_last, word_no_newline, blank_no_newline, not_newline, is_line_feed, eq_from}
 
 -- a token takes bytes, or is the end, or closes a level
@@ -46,19 +46,19 @@ EndsAt rest Eol n = ends_line rest n ≡ true
 EndsAt rest Whitespace n = Unit {0}
 EndsAt rest _ n = ends_line rest n ≡ false
 
-abbrev pub RefusedCuts : List ℕ → Refusal → Type 0
+abbrev pub RefusedCuts : List ℕ → LexicalRefusal → Type 0
 RefusedCuts rest (Here p skip n) = IsCharBoundary rest skip × IsCharBoundary rest (skip + n)
 RefusedCuts rest (Unclosed t) = Unit {0}
 
-abbrev pub CutsBy : Mode → List ℕ → Found → Type 0
+abbrev pub CutsBy : Mode → List ℕ → NextToken → Type 0
 CutsBy m rest (Ok x) = IsCharBoundary rest x.1 × Moves m x.0 x.1 × EndsAt rest x.0 x.1
 CutsBy m rest (Err r) = RefusedCuts rest r
 
-pub record Cuts (m : Mode) (rest : List ℕ) (found : Found) : Type 0 where
+pub record Cuts (m : Mode) (rest : List ℕ) (found : NextToken) : Type 0 where
   pub by_case : CutsBy m rest found
 
 module _ (m : Mode) (rest : List ℕ) where
-  if_cuts : (b : Bool) {x y : Found} → (b ≡ true → Cuts m rest x) → (b ≡ false → Cuts m rest y) → Cuts m rest (cond b x y)
+  if_cuts : (b : Bool) {x y : NextToken} → (b ≡ true → Cuts m rest x) → (b ≡ false → Cuts m rest y) → Cuts m rest (cond b x y)
   if_cuts true f g = f refl
   if_cuts false f g = g refl
 
@@ -76,15 +76,15 @@ module _ (m : Mode) (rest : List ℕ) where
     two_cuts : (c : ℕ) (k : TokenKind) → (eqb (get_or rest 1 0) c ≡ true → EndsAt rest k 2) → (ltb 0 c && ltb c 128) ≡ true → eqb (get_or rest 1 0) c ≡ true → Cuts m rest (Ok (k, 2))
     two_cuts c k e small h = token_cuts k 2 (e h) (past_byte rest 1 c 2 u h small (omega arith)) (omega arith)
 
-    twice_cuts : (c : ℕ) (k : TokenKind) → (eqb (get_or rest 1 0) c ≡ true → EndsAt rest k 2) → (ltb 0 c && ltb c 128) ≡ true → 0 < length rest → IsCharBoundary rest 1 → Cuts m rest (twice c k rest)
+    twice_cuts : (c : ℕ) (k : TokenKind) → (eqb (get_or rest 1 0) c ≡ true → EndsAt rest k 2) → (ltb 0 c && ltb c 128) ≡ true → 0 < length rest → IsCharBoundary rest 1 → Cuts m rest (doubled_token c k rest)
     twice_cuts c k e small l b =
         if_cuts (eqb (get_or rest 1 0) c) (two_cuts c k e small) (λ _.
         if_cuts (eqb (length (drop 1 rest)) 0) (λ _. record { by_case = (b, b) }) (λ more.
         let some : 0 < length (drop 1 rest) = omega (arith, length-drop 1 rest, ne_from (length (drop 1 rest)) 0 more) in
         record { by_case = (b, IsCharBoundary-from_rest rest 1 _ l (first_cuts (drop 1 rest) some (IsUtf8-drop rest 1 u b))) }))
 
-    fixed_cuts : 0 < length rest → IsCharBoundary rest 1 → ends_line rest 1 ≡ false → (b : ℕ) → Cuts m rest (fixed b rest)
-    unfolding fixed
+    fixed_cuts : 0 < length rest → IsCharBoundary rest 1 → ends_line rest 1 ≡ false → (b : ℕ) → Cuts m rest (fixed_token b rest)
+    unfolding fixed_token
     fixed_cuts l one clean b =
         let single = λ (k : TokenKind) (e : EndsAt rest k 1). token_cuts k 1 e one (omega arith) in
         let c = get_or rest 1 0 in
@@ -104,9 +104,9 @@ module _ (m : Mode) (rest : List ℕ) where
     delimiter_positive true = omega arith
     delimiter_positive false = omega arith
 
-    -- the last byte of a token whose last bytes are behind others
-    last_behind : (n k i : ℕ) → 0 < i → ends_line (drop k (drop n rest)) i ≡ false → ends_line rest (n + k + i) ≡ false
-    last_behind n k i l h =
+    -- the last byte of a token whose last bytes are after others
+    last_after : (n k i : ℕ) → 0 < i → ends_line (drop k (drop n rest)) i ≡ false → ends_line rest (n + k + i) ≡ false
+    last_after n k i l h =
         let at : n + (k + (i - 1)) ≡ n + k + i - 1 = omega arith in
         subst (λ j. eqb (get_or rest j 0) 10 ≡ false) at (subst (λ (x : ℕ). eqb x 10 ≡ false) (get_or-drop k (drop n rest) (i - 1) 0 ∙ get_or-drop n rest (k + (i - 1)) 0) h)
 
@@ -114,24 +114,24 @@ module _ (m : Mode) (rest : List ℕ) where
     part_cuts : (k : StringKind) (format : Bool) (n : ℕ) (more whole : TokenKind) → ((i : ℕ) → ends_line rest i ≡ false → EndsAt rest more i) → ((i : ℕ) → ends_line rest i ≡ false → EndsAt rest whole i) → IsCharBoundary rest n → 0 < n → Cuts m rest (literal_part k format n more whole rest)
     unfolding literal_part
     part_cuts k format n more whole em ew b p =
-        let behind = drop n rest in
+        let following = drop n rest in
         let s = raw_texts.Literal k format in
-        let len = raw_len s behind in
+        let len = raw_len s following in
         let ub = IsUtf8-drop rest n u b in
-        let cut = raw_cuts s behind in
-        let uc = IsUtf8-drop behind len ub cut in
-        let last = λ (i : ℕ) (l : 0 < i) (h : ends_line (drop len behind) i ≡ false). last_behind n len i l h in
-        let at = λ (i : ℕ) (c : IsCharBoundary (drop len behind) i). IsCharBoundary-from_rest rest n (len + i) b.0 (IsCharBoundary-from_rest behind len i cut.0 c) in
-        if_cuts (eqb len (length behind)) (λ _. here_cuts _ n start b) (λ inside.
-        let l : len < length behind = omega (arith, raw_within s behind, ne_from len (length behind) inside) in
-        let stop = raw_stops s behind l in
-        if_cuts (format && is_interpolation_start (drop len behind))
+        let cut = raw_cuts s following in
+        let uc = IsUtf8-drop following len ub cut in
+        let last = λ (i : ℕ) (l : 0 < i) (h : ends_line (drop len following) i ≡ false). last_after n len i l h in
+        let at = λ (i : ℕ) (c : IsCharBoundary (drop len following) i). IsCharBoundary-from_rest rest n (len + i) b.0 (IsCharBoundary-from_rest following len i cut.0 c) in
+        if_cuts (eqb len (length following)) (λ _. here_cuts _ n start b) (λ inside.
+        let l : len < length following = omega (arith, raw_within s following, ne_from len (length following) inside) in
+        let stop = raw_stops s following l in
+        if_cuts (format && is_interpolation_start (drop len following))
         (λ h.
-        let brace = second (drop len behind) h in
-        token_cuts more _ (em _ (last 2 (omega arith) (not_newline (get_or (drop len behind) 1 0) 123 refl brace))) (subst (IsCharBoundary rest) (omega arith) (at 2 (past_byte (drop len behind) 1 123 2 uc brace refl (omega arith)))) (omega arith))
+        let brace = second (drop len following) h in
+        token_cuts more _ (em _ (last 2 (omega arith) (not_newline (get_or (drop len following) 1 0) 123 refl brace))) (subst (IsCharBoundary rest) (omega arith) (at 2 (past_byte (drop len following) 1 123 2 uc brace refl (omega arith)))) (omega arith))
         (λ h.
-        let delimiter = one_left (is_delimiter k (drop len behind)) (format && is_interpolation_start (drop len behind)) stop h in
-        token_cuts whole _ (ew _ (last (delimiter_len k) (delimiter_positive k.indented) (delimiter_last k (drop len behind) delimiter))) (subst (IsCharBoundary rest) (omega arith) (at (delimiter_len k) (delimiter_is k (drop len behind) delimiter uc))) (omega arith)))
+        let delimiter = one_left (is_delimiter k (drop len following)) (format && is_interpolation_start (drop len following)) stop h in
+        token_cuts whole _ (ew _ (last (delimiter_len k) (delimiter_positive k.indented) (delimiter_last k (drop len following) delimiter))) (subst (IsCharBoundary rest) (omega arith) (at (delimiter_len k) (delimiter_is k (drop len following) delimiter uc))) (omega arith)))
       where
         second : (bs : List ℕ) → (format && is_interpolation_start bs) ≡ true → eqb (get_or bs 1 0) 123 ≡ true
         second bs h = (and_parts (eqb (get_or bs 0 0) 123) (eqb (get_or bs 1 0) 123) (and_parts format _ h).1).1
@@ -140,7 +140,7 @@ module _ (m : Mode) (rest : List ℕ) where
         one_left true b h e = refl
         one_left false b h e = cc
 
-    literal_cuts : 0 < length rest → IsCharBoundary rest 1 → (0 < get_or rest 0 0) × (get_or rest 0 0 < 128) → Cuts m rest (literal m rest)
+    literal_cuts : 0 < length rest → IsCharBoundary rest 1 → (0 < get_or rest 0 0) × (get_or rest 0 0 < 128) → Cuts m rest (literal_token m rest)
     literal_cuts l one small =
         part_cuts k _ (delimiter_len k) _ _ (λ _ h. h) (kinds k.delimiter) opened (delimiter_positive k.indented)
       where
@@ -161,7 +161,7 @@ module _ (m : Mode) (rest : List ℕ) where
         opened : IsCharBoundary rest (delimiter_len k)
         opened = by _ refl
 
-    close_cuts : (os : Option OpenDelimiter) (d : Delimiter) (k : TokenKind) → EndsAt rest k 1 → IsCharBoundary rest 1 → Cuts m rest (close os d k)
+    close_cuts : (os : Option OpenDelimiter) (d : Delimiter) (k : TokenKind) → EndsAt rest k 1 → IsCharBoundary rest 1 → Cuts m rest (closing_delimiter os d k)
     close_cuts None d k e one = here_cuts _ 0 start start
     close_cuts (Some o) d k e one = if_cuts (is_same o.delimiter d) (λ _. token_cuts k 1 e one (omega arith)) (λ _. here_cuts _ 0 start start)
 
@@ -182,22 +182,22 @@ module _ (m : Mode) (rest : List ℕ) where
         if_cuts (eqb b 40) (λ _. token_cuts _ 1 clean one (omega arith)) (λ _.
         if_cuts (eqb b 91) (λ _. token_cuts _ 1 clean one (omega arith)) (λ _. token_cuts _ 1 clean one (omega arith)))
 
-    line_end_cuts : (n : ℕ) → IsCharBoundary rest n → 0 < n → ends_line rest n ≡ true → Cuts m rest (line_end m n)
+    line_end_cuts : (n : ℕ) → IsCharBoundary rest n → 0 < n → ends_line rest n ≡ true → Cuts m rest (line_end_token m n)
     line_end_cuts n b l h = if_cuts (nested m) (λ _. token_cuts Whitespace n tt b l) (λ _. token_cuts Eol n h b l)
 
     unknown_cuts : 0 < length rest → Cuts m rest (unknown rest)
     unknown_cuts l = here_cuts _ _ start (first_cuts rest l u)
 
-    blanks_behind : (n : ℕ) → IsCharBoundary rest n → 0 < n → Cuts m rest (Ok (Whitespace, n + blank_len (drop n rest)))
-    blanks_behind n b l =
-        let behind = drop n rest in
-        token_cuts Whitespace _ tt (IsCharBoundary-from_rest rest n _ b.0 (run_cuts is_blank blank_ascii behind _ (IsUtf8-drop rest n u b) (omega arith))) (omega arith)
+    blanks_after : (n : ℕ) → IsCharBoundary rest n → 0 < n → Cuts m rest (Ok (Whitespace, n + blank_len (drop n rest)))
+    blanks_after n b l =
+        let following = drop n rest in
+        token_cuts Whitespace _ tt (IsCharBoundary-from_rest rest n _ b.0 (run_cuts is_blank blank_ascii following _ (IsUtf8-drop rest n u b) (omega arith))) (omega arith)
 
-    escape_cuts : IsCharBoundary rest 1 → Cuts m rest (escape rest)
+    escape_cuts : IsCharBoundary rest 1 → Cuts m rest (escaped_line_end rest)
     escape_cuts one =
-        if_cuts (eqb (get_or rest 1 0) 10) (λ h. blanks_behind 2 (past_byte rest 1 10 2 u h refl (omega arith)) (omega arith)) (λ _.
+        if_cuts (eqb (get_or rest 1 0) 10) (λ h. blanks_after 2 (past_byte rest 1 10 2 u h refl (omega arith)) (omega arith)) (λ _.
         if_cuts (eqb (get_or rest 1 0) 13) (λ cr.
-        if_cuts (eqb (get_or rest 2 0) 10) (λ h. blanks_behind 3 (past_byte rest 2 10 3 u h refl (omega arith)) (omega arith))
+        if_cuts (eqb (get_or rest 2 0) 10) (λ h. blanks_after 3 (past_byte rest 2 10 3 u h refl (omega arith)) (omega arith))
         (λ _. here_cuts _ 2 start (past_byte rest 1 13 2 u cr refl (omega arith)))) (λ _.
         if_cuts (eqb (length (drop 1 rest)) 0) (λ _. here_cuts _ 1 start one) (λ _. here_cuts _ 1 start one)))
 
@@ -216,15 +216,15 @@ module _ (m : Mode) (rest : List ℕ) where
     mark_cuts : 0 < length rest → eqb (first_char rest) 65279 ≡ true → IsCharBoundary rest 3
     mark_cuts l h = let e : len_utf8 (first_char rest) ≡ 3 = ap len_utf8 (eq_from _ _ h) in subst (IsCharBoundary rest) e (first_cuts rest l u)
 
-    inline_cuts : 0 < length rest → (k : ByteClass) → class_of (get_or rest 0 0) ≡ k → Cuts m rest (inline m k rest)
-    unfolding inline
+    inline_cuts : 0 < length rest → (k : ByteClass) → class_of (get_or rest 0 0) ≡ k → Cuts m rest (token_by_class m k rest)
+    unfolding token_by_class
     inline_cuts l classes.Blank e = token_cuts _ _ tt (run_cuts is_blank blank_ascii rest _ u (omega arith)) (run_positive is_blank rest l (ap Rattle.justfile_model.specs.Bytes.blank e))
     inline_cuts l classes.LineFeed e = line_end_cuts 1 (after_byte rest 0 1 u l (class_fact _ _ e).1 (omega arith)) (omega arith) (is_line_feed _ _ e)
     inline_cuts l classes.CarriageReturn e =
         if_cuts (eqb (get_or rest 1 0) 10) (λ h. line_end_cuts 2 (past_byte rest 1 10 2 u h refl (omega arith)) (omega arith) h) (λ _. here_cuts _ 1 start (after_byte rest 0 1 u l (class_fact _ _ e).1 (omega arith)))
     inline_cuts l classes.IdentifierStart e =
-        let some = run_positive is_word rest l (ap Rattle.justfile_model.specs.Bytes.in_word e) in
-        token_cuts _ _ (run_last is_word word_no_newline rest _ (omega arith) some) (run_cuts is_word word_ascii rest _ u (omega arith)) some
+        let some = run_positive is_name_byte rest l (ap Rattle.justfile_model.specs.Bytes.in_word e) in
+        token_cuts _ _ (run_last is_name_byte word_no_newline rest _ (omega arith) some) (run_cuts is_name_byte word_ascii rest _ u (omega arith)) some
     inline_cuts l classes.IdentifierContinue e = unknown_cuts l
     inline_cuts l classes.Quote e = literal_cuts l (after_byte rest 0 1 u l (class_fact _ _ e).1 (omega arith)) (class_fact _ _ e)
     inline_cuts l classes.Opener e = opening_cuts (get_or rest 0 0) (after_byte rest 0 1 u l (class_fact _ _ e).1 (omega arith)) (is_line_feed _ _ e)
@@ -236,11 +236,11 @@ module _ (m : Mode) (rest : List ℕ) where
         if_cuts (eqb (get_or rest 0 0) 35) (λ h. token_cuts _ _ (comment_last rest (comment_positive l h)) (raw_cuts raw_texts.Comment rest) (comment_positive l h)) (λ _.
         if_cuts (eqb (get_or rest 0 0) 92) (λ h. escape_cuts (past_byte rest 0 92 1 u h refl (omega arith))) (λ _. unknown_cuts l))
 
-    normal_cuts : 0 < length rest → Cuts m rest (normal m rest)
+    normal_cuts : 0 < length rest → Cuts m rest (token_outside_text m rest)
     normal_cuts l = inline_cuts l _ refl
 
-    body_cuts : 0 < length rest → Cuts m rest (body rest)
-    unfolding body
+    body_cuts : 0 < length rest → Cuts m rest (body_token rest)
+    unfolding body_token
     body_cuts l = by (raw_len raw_texts.Body rest) refl
       where
         crlf_second : (bs : List ℕ) → (is_line_end bs || is_interpolation_start bs) ≡ true → eqb (get_or bs 0 0) 13 ≡ true → eqb (get_or bs 1 0) 10 ≡ true
@@ -262,8 +262,8 @@ module _ (m : Mode) (rest : List ℕ) where
     interpolated_cuts l =
         if_cuts (is_empty m.openers && is_interpolation_end rest) (λ h. two_cuts 125 _ (not_newline _ 125 refl) refl (and_parts (eqb (get_or rest 0 0) 125) _ (and_parts (is_empty m.openers) _ h).1).1) (λ _. normal_cuts l)
 
-    inside_cuts : 0 < length rest → Cuts m rest (inside m rest)
-    unfolding inside
+    inside_cuts : 0 < length rest → Cuts m rest (token_within_line m rest)
+    unfolding token_within_line
     inside_cuts l = by (region_by m.in_body m.interpolation)
       where
         by : (p : Region) → Cuts m rest (token_in_region p m rest)
@@ -301,14 +301,14 @@ module _ (m : Mode) (rest : List ℕ) where
     found_positive levels [] h = cc
     found_positive levels (b ∷ bs) h = omega arith
 
-    layout_cuts : 0 < length rest → (found behind : List ℕ) → length found ≤ blank_len rest → Cuts m rest (layout m found behind rest)
+    layout_cuts : 0 < length rest → (found following : List ℕ) → length found ≤ blank_len rest → Cuts m rest (layout m found following rest)
     unfolding layout
-    layout_cuts l found behind h =
+    layout_cuts l found following h =
         let level = innermost m in
         let cut = λ (k : ℕ) (le : k ≤ length found). run_cuts is_blank blank_ascii rest k u (omega (arith, le, h)) in
         let blanks = blanks_cuts l (length found) h in
         if_cuts (nested m) (λ _. blanks) (λ _.
-        if_cuts (is_blank_line behind) (λ _. if_cuts (not (is_empty m.levels) && closes_levels false rest) (λ e. dedent_cuts (some_level m.levels _ e)) (λ _. blanks)) (λ _.
+        if_cuts (begins_blank_line following) (λ _. if_cuts (not (is_empty m.levels) && closes_levels false rest) (λ e. dedent_cuts (some_level m.levels _ e)) (λ _. blanks)) (λ _.
         if_cuts (bytes_eq found level) (λ _. blanks) (λ other.
         if_cuts (is_level m.levels found) (λ e. dedent_cuts (has_level m.levels found other e)) (λ some.
         if_cuts (m.in_body && starts_with nat_eq found level) (λ e. blanks_cuts l (length level) (omega (arith, h, begins_within m.in_body found level e))) (λ _.
@@ -337,5 +337,5 @@ next_cuts m (b ∷ bs) u = next_by_cuts m (b ∷ bs) u (omega arith) m.line_star
 pub token_cut : (m : Mode) (rest : List ℕ) → IsUtf8 rest → (k : TokenKind) (n : ℕ) → next m rest ≡ Ok (k, n) → IsCharBoundary rest n × Moves m k n × EndsAt rest k n
 token_cut m rest u k n e = subst (CutsBy m rest) e (next_cuts m rest u).by_case
 
-pub fault_cut : (m : Mode) (rest : List ℕ) → IsUtf8 rest → (r : Refusal) → next m rest ≡ Err r → RefusedCuts rest r
+pub fault_cut : (m : Mode) (rest : List ℕ) → IsUtf8 rest → (r : LexicalRefusal) → next m rest ≡ Err r → RefusedCuts rest r
 fault_cut m rest u r e = subst (CutsBy m rest) e (next_cuts m rest u).by_case

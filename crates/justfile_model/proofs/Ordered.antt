@@ -3,11 +3,11 @@ use Rattle.std.proofs.Common.{◌≡◌, ℕ, ◌+◌, List, [], ◌∷◌, ◌+
 use Rattle.std.specs.List.{flat_map}
 use Rattle.std.specs.Option.{option_map}
 use Rattle.justfile_model.specs.SignificantTokens.{SignificantToken}
-use Rattle.justfile_model.specs.Tree.{Item, Newline, Comment, Construct, Content, Assignment, Recipe, Header, Dependency, DependencyArgument, WrittenItem, OrderedItem, WrittenTree, Tree, Shape, over_written, over_entry, over_dependency_argument, over_dependency, over_header, over_line, over_content, over_item, starless_argument, starless_dependency, starless_header, starless, shape_of, written_shape_of, lexeme, nothing}
+use Rattle.justfile_model.specs.Tree.{Item, Newline, Comment, Construct, Content, Assignment, Recipe, Header, Dependency, DependencyArgument, WrittenItem, OrderedItem, WrittenTree, Tree, Shape, over_written_attribute, over_entry, over_dependency_argument, over_dependency, over_header, over_line, over_content, over_item, starless_argument, starless_dependency, starless_header, starless, shape_of, written_shape_of, lexeme, nothing}
 use Rattle.justfile_model.specs.Features.{Noted}
 use Rattle.justfile_model.specs.Expressions.{Tokens}
 use Rattle.justfile_model.specs.Grammar as g
-use Rattle.justfile_model.specs.Grammar.{Kept, Items, Behind, LineEnd, File}
+use Rattle.justfile_model.specs.Grammar.{Kept, Items, ItemRest, LineEnd, File}
 use Rattle.justfile_model.specs.Files.{expr_literals, dependency_literals, parameter_literals, header_literals, body_literals, content_literals, all_literals, literals, content_bindings, bindings, content_recipes, recipes, ordered_item, if_both, ordered}
 use Rattle.justfile_model.proofs.Mapped.{map_both, option_both, flat_kept}
 
@@ -71,13 +71,13 @@ module _ {A B C S : Type 0} (kept : Kept A B C S) (Open : ℕ → Option Signifi
     pub items_derived : {items : List (WrittenItem A B C S)} {fs : List (Noted B)} {ts : Tokens} → Items kept Open items fs ts → Unattributed items
     items_derived (g.end kind) = tt
     items_derived (g.blank kind h) = items_derived h
-    items_derived (g.comment kind h) = behind_derived h
-    items_derived (g.on_line o h) = behind_derived h
+    items_derived (g.comment kind h) = after_derived h
+    items_derived (g.on_line o h) = after_derived h
     items_derived (g.block o h) = items_derived h
 
-    behind_derived : {items : List (WrittenItem A B C S)} {fs : List (Noted B)} {ts : Tokens} → Behind kept Open items fs ts → Unattributed items
-    behind_derived (g.trailing kind h) = end_derived h
-    behind_derived (g.bare h) = end_derived h
+    after_derived : {items : List (WrittenItem A B C S)} {fs : List (Noted B)} {ts : Tokens} → ItemRest kept Open items fs ts → Unattributed items
+    after_derived (g.trailing kind h) = end_derived h
+    after_derived (g.bare h) = end_derived h
 
     end_derived : {items : List (WrittenItem A B C S)} {fs : List (Noted B)} {ts : Tokens} → LineEnd kept Open items fs ts → Unattributed items
     end_derived (g.line_end kind h) = items_derived h
@@ -182,12 +182,12 @@ module _ {A B C S A' B' C' S' : Type 0} (f : A → A') (g : B → B') (h : C →
   content_over (Recipe parts) = λ i. Recipe (record { doc = parts.doc; header = header_over f g k parts.header i; body = map (over_line f g h) parts.body })
 
   abbrev over_items : List (WrittenItem A B C S) → List (WrittenItem A' B' C' S')
-  over_items = map (over_item f g h k (map (over_written f g)))
+  over_items = map (over_item f g h k (map (over_written_attribute f g)))
 
   abbrev over_ordered_item : OrderedItem A B C → OrderedItem A' B' C'
   over_ordered_item = over_item f g h same_star (map (over_entry f g))
 
-  item_over : (i : WrittenItem A B C S) → ordered_item (over_item f g h k (map (over_written f g)) i) ≡ option_map over_ordered_item (ordered_item i)
+  item_over : (i : WrittenItem A B C S) → ordered_item (over_item f g h k (map (over_written_attribute f g)) i) ≡ option_map over_ordered_item (ordered_item i)
   item_over Newline = refl
   item_over (Comment text) = refl
   item_over (Construct [] content) = ap (λ c. Some (Construct [] c)) (content_over content)

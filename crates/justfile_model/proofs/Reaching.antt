@@ -8,7 +8,7 @@ use Rattle.justfile_model.specs.SignificantTokens.{SignificantToken}
 use Rattle.justfile_model.specs.Tree.{lexeme}
 use Rattle.justfile_model.specs.Features.{Noted}
 use Rattle.justfile_model.specs.Expressions.{Tokens, front, Under, Free, Waived}
-use Rattle.justfile_model.specs.Literals.{Literal, over_literal, token_of, LiteralFault, Answers, cooked_text}
+use Rattle.justfile_model.specs.Literals.{Literal, over_literal, token_of, LiteralFault, Expansions, cooked_text}
 use Rattle.justfile_model.specs.Reading.{TooDeep, NotCooked, ◌>>=◌, refused}
 use Rattle.justfile_model.specs.ExpressionReader as r
 use Rattle.justfile_model.specs.ExpressionReader.{by_text}
@@ -30,7 +30,7 @@ pub dropped : (limit d : ℕ) (at : Option SignificantToken) → Free d at → W
 dropped limit d at h = λ e. tt
 
 -- the first of the literals that has no text is refused, or too deep an expression
-abbrev pub DueOf : Answers → (Hit : Option SignificantToken → Type 0) → List (Literal Tok) → Refusal → Type 0
+abbrev pub DueOf : Expansions → (Hit : Option SignificantToken → Type 0) → List (Literal Tok) → Refusal → Type 0
 DueOf expander Hit all r = LacksText expander all r ⊎ IsTooDeep Hit r
 
 module _ (conditions : Conditions) where
@@ -104,12 +104,12 @@ module _ (conditions : Conditions) where
     onto ls ms a (is_read b is) = is_read (both_cook conditions.expander ls ms a b) is
     onto ls ms a (is_refused h is) = is_refused (due_then ls ms _ a h) is
 
-    -- a step, and those behind it
+    -- a step, and those after it
     pub then : {X Y : Type 0} {found : Result X Refusal} {x : X} (f : X → Result Y Refusal) {y : Y} {ls ms : List (Literal Tok)} → Reaches found x ls → Reaches (f x) y ms → Reaches (found >>= f) y (ls ++ ms)
     then f {y} {ls} {ms} (is_read a is) go = subst (λ o. Reaches (o >>= f) y (ls ++ ms)) (sym is) (onto ls ms a go)
     then f {y} {ls} {ms} (is_refused h is) go = is_refused (due_first ls ms _ h) (ap (λ o. o >>= f) is)
 
-    -- no literal stands behind the step
+    -- no literal stands after the step
     pub pass : {X Y : Type 0} {found : Result X Refusal} {x : X} (f : X → Result Y Refusal) {y : Y} {ls : List (Literal Tok)} → Reaches found x ls → f x ≡ Ok y → Reaches (found >>= f) y ls
     pass f (is_read a is) goes = is_read a (ap (λ o. o >>= f) is ∙ goes)
     pass f (is_refused h is) goes = is_refused h (ap (λ o. o >>= f) is)

@@ -5,47 +5,47 @@ use Rattle.justfile_base.specs.declared.token_kind.TokenKind.{TokenKind}
 use Rattle.justfile_base.specs.declared.token_kind.TokenKind.TheVariants as kinds
 use Rattle.justfile_model.specs.declared.level.Level.TheVariants.{Expression}
 use Rattle.justfile_model.specs.ExpressionReader as expressions
-use Rattle.justfile_model.specs.Reader.{Start, after_numbered, assignment, at_end, behind, body, body_behind, body_line, draw_binding, draw_recipe, ended, expression, fragment, has_body, items, items_from, items_rule, line, line_end, line_rest, line_rest_rule, lines, lines_rule, no_line_rest, no_lines, on_line, recipe, some_lines, stop}
-use Rattle.justfile_model.specs.Reading.{Counters, Leaves, Read, Refusal, State, Taken, accept, accept_by, after, at, begin_with, choose, expect, next_are, same_kind}
+use Rattle.justfile_model.specs.Reader.{Start, after_numbered, assignment, at_end, item_rest, body, optional_body, body_line, draw_binding, draw_recipe, ended, expression, fragment, has_body, items, items_from, items_rule, line, line_end, line_rest, line_rest_rule, lines, lines_rule, no_line_rest, no_lines, on_line, recipe, some_lines, no_items}
+use Rattle.justfile_model.specs.Reading.{Counters, Leaves, Read, Refusal, State, Taken, accept, accept_by, prepend, at, begin_with, choose, expect, next_are, same_kind}
 use Rattle.justfile_model.specs.Recursive.{below}
 use Rattle.justfile_model.specs.Tree.{Fragment, BodyLine, Item, trimmed}
 use Rattle.justfile_model.proofs.ExpressionReading.{advances}
-use Rattle.justfile_model.proofs.ReadingSteps.{Behind, Goes, Keeps, accepts, after_test, bind_alike, choose_alike, either, either_goes, expects, first, from_there, keeps, past, test_alike, then, then_goes, there}
+use Rattle.justfile_model.proofs.ReadingSteps.{ItemRest, Goes, Keeps, accepts, after_test, bind_alike, choose_alike, either, either_goes, expects, first, from_there, keeps, past, test_alike, then, then_goes, there}
 use Rattle.justfile_model.proofs.Turns.{below_smaller, recursive_is, recursive_keeps}
 
 -- ---- what was read before, and what is read after it
 
 module _ {R T B : Type 0} where
   -- nothing is read yet
-  pub after_begin : {X : Type 0} (found : Read R T B (List X)) → after [] found ≡ found
-  unfolding after
+  pub after_begin : {X : Type 0} (found : Read R T B (List X)) → prepend [] found ≡ found
+  unfolding prepend
   after_begin (Ok x) = refl
   after_begin (Err e) = refl
 
-  pub after_regroups : {X : Type 0} (done more : List X) (found : Read R T B (List X)) → after done (after more found) ≡ after (done ++ more) found
-  unfolding after
+  pub after_regroups : {X : Type 0} (done more : List X) (found : Read R T B (List X)) → prepend done (prepend more found) ≡ prepend (done ++ more) found
+  unfolding prepend
   after_regroups {X} done more (Ok x) = ap (λ (l : List X). Ok (l, x.1)) (sym (append_assoc done more x.0))
   after_regroups done more (Err e) = refl
 
-  pub after_nothing : {X : Type 0} (done : List X) (rest : State R T B) → after done (Ok ([], rest)) ≡ Ok (done, rest)
-  unfolding after
+  pub after_nothing : {X : Type 0} (done : List X) (rest : State R T B) → prepend done (Ok ([], rest)) ≡ Ok (done, rest)
+  unfolding prepend
   after_nothing {X} done rest = ap (λ (l : List X). Ok (l, rest)) (append-nil done)
 
-  pub after_refused : {X : Type 0} (done : List X) (e : Refusal T B) → after {R = R} done (Err e) ≡ Err e
-  unfolding after
+  pub after_refused : {X : Type 0} (done : List X) (e : Refusal T B) → prepend {R = R} done (Err e) ≡ Err e
+  unfolding prepend
   after_refused done e = refl
 
-  after_keeps : {X : Type 0} (done : List X) (s : State R T B) (found : Read R T B (List X)) → Keeps s found → Keeps s (after done found)
-  unfolding after
+  after_keeps : {X : Type 0} (done : List X) (s : State R T B) (found : Read R T B (List X)) → Keeps s found → Keeps s (prepend done found)
+  unfolding prepend
   after_keeps done s (Ok x) h = h
   after_keeps done s (Err e) h = tt
 
-  after_goes : {X : Type 0} (done : List X) (s : State R T B) (found : Read R T B (List X)) → Goes s found → Goes s (after done found)
-  unfolding after
+  after_goes : {X : Type 0} (done : List X) (s : State R T B) (found : Read R T B (List X)) → Goes s found → Goes s (prepend done found)
+  unfolding prepend
   after_goes done s (Ok x) h = h
   after_goes done s (Err e) h = tt
 
-  -- the same with what is drawn for it
+  -- nothing before what is read with its numbers leaves it as it is
   pub numbered_begin : {X : Type 0} (found : Read R T B (List X × Counters)) → after_numbered [] found ≡ found
   unfolding after_numbered
   numbered_begin (Ok x) = refl
@@ -64,7 +64,7 @@ module _ {R T B : Type 0} where
   unfolding after_numbered
   numbered_refused done e = refl
 
-  at_drop : (n : ℕ) (s : State R T B) → Behind s (at s (drop n s.left))
+  at_drop : (n : ℕ) (s : State R T B) → ItemRest s (at s (drop n s.left))
   at_drop n s = (omega (arith, length-drop n s.left), refl, refl)
 
 module _ {R T A B S D : Type 0} (leaves : Leaves R T A B S D) where
@@ -113,7 +113,7 @@ module _ {R T A B S D : Type 0} (leaves : Leaves R T A B S D) where
   line_rest_is s =
       line_unfolded s ∙ choose_alike (accept leaves kinds.Eol s) _ _ _ _
       (λ _. test_alike (next_are leaves (kinds.Dedent ∷ []) s) _ _ _ _ (λ _. refl)
-      (λ _. bind_alike (fragment leaves s) _ _ (λ f is. ap (after (f.0 ∷ [])) (inside_line_is s f.1 (past s _ f (fragment_goes s) is).0))))
+      (λ _. bind_alike (fragment leaves s) _ _ (λ f is. ap (prepend (f.0 ∷ [])) (inside_line_is s f.1 (past s _ f (fragment_goes s) is).0))))
       (λ _ _. refl)
 
   -- a token that comes next is taken
@@ -172,7 +172,7 @@ module _ {R T A B S D : Type 0} (leaves : Leaves R T A B S D) where
   unfolding lines_rule
   lines_is s =
       body_unfolded s ∙ choose_alike (accept leaves kinds.Dedent s) _ _ _ _
-      (λ not. bind_alike (body_line leaves s) _ _ (λ l is. ap (after (l.0 ∷ [])) (inside_body_is s l.1 (past s _ l (body_line_goes s not) is).0)))
+      (λ not. bind_alike (body_line leaves s) _ _ (λ l is. ap (prepend (l.0 ∷ [])) (inside_body_is s l.1 (past s _ l (body_line_goes s not) is).0)))
       (λ _ _. refl)
 
   some_keeps : (ls : List (BodyLine A B ℕ)) (s : State R T B) → Keeps s (some_lines leaves ls s)
@@ -184,9 +184,9 @@ module _ {R T A B S D : Type 0} (leaves : Leaves R T A B S D) where
   body_goes s = first s (lines leaves s) _ (lines_go s) (λ x. some_keeps (trimmed x.0) x.1)
 
   -- a recipe may have no body
-  pub body_behind_keeps : (s : State R T B) → Keeps s (body_behind leaves s)
-  unfolding body_behind
-  body_behind_keeps s =
+  pub optional_body_keeps : (s : State R T B) → Keeps s (optional_body leaves s)
+  unfolding optional_body
+  optional_body_keeps s =
       let K : Read R T B (List (BodyLine A B ℕ)) → Type 0 = Keeps s in
       let short : State R T B = at s (drop 2 s.left) in
       let long : State R T B = at s (drop 3 s.left) in
@@ -220,7 +220,7 @@ module _ {R T A B S D : Type 0} (leaves : Leaves R T A B S D) where
   recipe_goes n s =
       first s (expect leaves kinds.Identifier s) _ (expects leaves kinds.Identifier s) (λ name.
       then name.1 (expect leaves kinds.Colon name.1) _ (keeps name.1 _ (expects leaves kinds.Colon name.1)) (λ colon.
-      then colon.1 (body_behind leaves colon.1) _ (body_behind_keeps colon.1) (λ b.
+      then colon.1 (optional_body leaves colon.1) _ (optional_body_keeps colon.1) (λ b.
       then b.1 (draw_recipe leaves n b.1) _ (recipe_number_keeps n b.1) (λ number. there number.1))))
 
   pub on_line_goes : (n : Counters) (s : State R T B) → Goes s (on_line leaves n s)
@@ -240,15 +240,15 @@ module _ {R T A B S D : Type 0} (leaves : Leaves R T A B S D) where
       ending None x h = h
       ending (Some p) x h = there s
 
-  pub behind_keeps : (s : State R T B) → Keeps s (behind leaves s)
-  unfolding behind
-  behind_keeps s =
+  pub item_rest_keeps : (s : State R T B) → Keeps s (item_rest leaves s)
+  unfolding item_rest
+  item_rest_keeps s =
       either s (accept leaves kinds.Comment s) _ _ (accepts leaves kinds.Comment s) (line_end_keeps s)
       (λ c. then c.1 (line_end leaves c.1) _ (line_end_keeps c.1) (λ end. there end.1))
 
   pub ended_keeps : (b : Bool) (s : State R T B) → Keeps s (ended leaves b s)
   unfolding ended
-  ended_keeps b s = after_test b _ _ (Keeps {X = List (Item A B ℕ S D)} s) (λ _. there s) (λ _. behind_keeps s)
+  ended_keeps b s = after_test b _ _ (Keeps {X = List (Item A B ℕ S D)} s) (λ _. there s) (λ _. item_rest_keeps s)
 
   pub line_goes : (n : Counters) (s : State R T B) → Goes s (line leaves n s)
   unfolding line
@@ -260,15 +260,15 @@ module _ {R T A B S D : Type 0} (leaves : Leaves R T A B S D) where
   -- ---- the rule of items
 
   inside : Start leaves → Start leaves → Read R T B (List (Item A B ℕ S D) × Counters)
-  inside x = below (λ x. length x.1.left) (stop leaves) (items_rule leaves) x (items_from leaves)
+  inside x = below (λ x. length x.1.left) (no_items leaves) (items_rule leaves) x (items_from leaves)
 
   unfolded : (x : Start leaves) → items_from leaves x ≡ items_rule leaves (inside x) x
   unfolding items_from inside
-  unfolded x = recursive_is (λ x. length x.1.left) (stop leaves) (items_rule leaves) x
+  unfolded x = recursive_is (λ x. length x.1.left) (no_items leaves) (items_rule leaves) x
 
   inside_is : (x y : Start leaves) → length y.1.left < length x.1.left → inside x y ≡ items_from leaves y
   unfolding inside
-  inside_is x y h = below_smaller (λ x. length x.1.left) (stop leaves) (items_rule leaves) x (items_from leaves) y h
+  inside_is x y h = below_smaller (λ x. length x.1.left) (no_items leaves) (items_rule leaves) x (items_from leaves) y h
 
   pub items_is : (n : Counters) (s : State R T B) → items leaves n s ≡ items_rule leaves (items_from leaves) (n, s)
   unfolding items_rule
@@ -301,38 +301,38 @@ module _ {R T A B S D : Type 0} (leaves : Leaves R T A B S D) where
   module _ (done : List (Fragment A B)) (s : State R T B) where
     -- a fragment is read
     pub line_rest_go_on : (f : Fragment A B) (rest : State R T B) → accept leaves kinds.Eol s ≡ None → next_are leaves (kinds.Dedent ∷ []) s ≡ false → fragment leaves s ≡ Ok (f, rest)
-        → after done (line_rest leaves s) ≡ after (done ++ f ∷ []) (line_rest leaves rest)
+        → prepend done (line_rest leaves s) ≡ prepend (done ++ f ∷ []) (line_rest leaves rest)
     unfolding line_rest_rule
     line_rest_go_on f rest h1 h2 h3 = rw (line_rest_is s, h1, h2, h3) (after_regroups done (f ∷ []) (line_rest leaves rest))
 
     -- the end of the line is taken
-    pub line_rest_end : (end : T) (rest : State R T B) → accept leaves kinds.Eol s ≡ Some (end, rest) → after done (line_rest leaves s) ≡ Ok (done, rest)
+    pub line_rest_end : (end : T) (rest : State R T B) → accept leaves kinds.Eol s ≡ Some (end, rest) → prepend done (line_rest leaves s) ≡ Ok (done, rest)
     unfolding line_rest_rule
     line_rest_end end rest h = rw (line_rest_is s, h) (after_nothing done rest)
 
     -- that of the body is left
-    pub line_rest_left : accept leaves kinds.Eol s ≡ None → next_are leaves (kinds.Dedent ∷ []) s ≡ true → after done (line_rest leaves s) ≡ Ok (done, s)
+    pub line_rest_left : accept leaves kinds.Eol s ≡ None → next_are leaves (kinds.Dedent ∷ []) s ≡ true → prepend done (line_rest leaves s) ≡ Ok (done, s)
     unfolding line_rest_rule
     line_rest_left h1 h2 = rw (line_rest_is s, h1, h2) (after_nothing done s)
 
     -- a fragment is refused
-    pub line_rest_fail : (e : Refusal T B) → accept leaves kinds.Eol s ≡ None → next_are leaves (kinds.Dedent ∷ []) s ≡ false → fragment leaves s ≡ Err e → after done (line_rest leaves s) ≡ Err e
+    pub line_rest_fail : (e : Refusal T B) → accept leaves kinds.Eol s ≡ None → next_are leaves (kinds.Dedent ∷ []) s ≡ false → fragment leaves s ≡ Err e → prepend done (line_rest leaves s) ≡ Err e
     unfolding line_rest_rule
     line_rest_fail e h1 h2 h3 = rw (line_rest_is s, h1, h2, h3) (after_refused done e)
 
   module _ (done : List (BodyLine A B ℕ)) (s : State R T B) where
     -- a line is read
     pub lines_go_on : (l : BodyLine A B ℕ) (rest : State R T B) → accept leaves kinds.Dedent s ≡ None → body_line leaves s ≡ Ok (l, rest)
-        → after done (lines leaves s) ≡ after (done ++ l ∷ []) (lines leaves rest)
+        → prepend done (lines leaves s) ≡ prepend (done ++ l ∷ []) (lines leaves rest)
     unfolding lines_rule
     lines_go_on l rest h1 h2 = rw (lines_is s, h1, h2) (after_regroups done (l ∷ []) (lines leaves rest))
 
     -- the end of the body is taken
-    pub lines_end : (end : T) (rest : State R T B) → accept leaves kinds.Dedent s ≡ Some (end, rest) → after done (lines leaves s) ≡ Ok (done, rest)
+    pub lines_end : (end : T) (rest : State R T B) → accept leaves kinds.Dedent s ≡ Some (end, rest) → prepend done (lines leaves s) ≡ Ok (done, rest)
     unfolding lines_rule
     lines_end end rest h = rw (lines_is s, h) (after_nothing done rest)
 
     -- a line is refused
-    pub lines_fail : (e : Refusal T B) → accept leaves kinds.Dedent s ≡ None → body_line leaves s ≡ Err e → after done (lines leaves s) ≡ Err e
+    pub lines_fail : (e : Refusal T B) → accept leaves kinds.Dedent s ≡ None → body_line leaves s ≡ Err e → prepend done (lines leaves s) ≡ Err e
     unfolding lines_rule
     lines_fail e h1 h2 = rw (lines_is s, h1, h2) (after_refused done e)

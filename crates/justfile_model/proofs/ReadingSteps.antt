@@ -4,7 +4,7 @@ use Rattle.justfile_base.specs.declared.token_kind.TokenKind.{TokenKind}
 use Rattle.justfile_base.specs.declared.token_kind.TokenKind.TheVariants as kinds
 use Rattle.justfile_model.specs.declared.level.Level.{Level}
 use Rattle.justfile_model.specs.declared.operator.Operator.{Operator}
-use Rattle.justfile_model.specs.ExpressionReader.{Met, accept_operator, backtick, by_text, cooked, found, literal, met_at, operator_by, part, single, string}
+use Rattle.justfile_model.specs.ExpressionReader.{Met, accept_operator, backtick, by_text, cooked, found, literal, met_at, operator_by, part, whole_format_string, literal_string}
 use Rattle.justfile_model.specs.Literals as literals
 use Rattle.justfile_model.specs.Literals.{Literal, LiteralFault, cooked_text, string_of}
 use Rattle.justfile_model.specs.Operators.{is_at, operator_of}
@@ -40,27 +40,27 @@ module _ {R T B : Type 0} where
   -- ---- a state after another, in the same run and at the same depth
 
   -- no more tokens are left
-  abbrev pub Behind : State R T B → State R T B → Type 0
-  Behind s t = (length t.left ≤ length s.left) × (t.depth ≡ s.depth) × (t.run ≡ s.run)
+  abbrev pub ItemRest : State R T B → State R T B → Type 0
+  ItemRest s t = (length t.left ≤ length s.left) × (t.depth ≡ s.depth) × (t.run ≡ s.run)
 
   -- and one or more were taken
   abbrev pub Past : State R T B → State R T B → Type 0
   Past s t = (length t.left < length s.left) × (t.depth ≡ s.depth) × (t.run ≡ s.run)
 
-  pub there : (s : State R T B) → Behind s s
+  pub there : (s : State R T B) → ItemRest s s
   there s = (omega arith, refl, refl)
 
-  pub weaken : (s t : State R T B) → Past s t → Behind s t
+  pub weaken : (s t : State R T B) → Past s t → ItemRest s t
   weaken s t h = (omega (arith, h.0), h.1, h.2)
 
-  pub past_then : (s t u : State R T B) → Past s t → Behind t u → Past s u
+  pub past_then : (s t u : State R T B) → Past s t → ItemRest t u → Past s u
   past_then s t u h k = (omega (arith, h.0, k.0), k.1 ∙ h.1, k.2 ∙ h.2)
 
-  pub then_past : (s t u : State R T B) → Behind s t → Past t u → Past s u
+  pub then_past : (s t u : State R T B) → ItemRest s t → Past t u → Past s u
   then_past s t u h k = (omega (arith, h.0, k.0), k.1 ∙ h.1, k.2 ∙ h.2)
 
-  pub behind_then : (s t u : State R T B) → Behind s t → Behind t u → Behind s u
-  behind_then s t u h k = (omega (arith, h.0, k.0), k.1 ∙ h.1, k.2 ∙ h.2)
+  pub after_then : (s t u : State R T B) → ItemRest s t → ItemRest t u → ItemRest s u
+  after_then s t u h k = (omega (arith, h.0, k.0), k.1 ∙ h.1, k.2 ∙ h.2)
 
   -- ---- answers
 
@@ -68,7 +68,7 @@ module _ {R T B : Type 0} where
   Goes s found = IfOk found (λ x. Past s x.1)
 
   abbrev pub Keeps : {X : Type 0} → State R T B → Read R T B X → Type 0
-  Keeps s found = IfOk found (λ x. Behind s x.1)
+  Keeps s found = IfOk found (λ x. ItemRest s x.1)
 
   abbrev pub Takes : State R T B → Taken R T B → Type 0
   Takes s o = (p : T × State R T B) → o ≡ Some p → Past s p.1
@@ -76,8 +76,8 @@ module _ {R T B : Type 0} where
   pub past : {X : Type 0} (s : State R T B) (found : Read R T B X) (x : X × State R T B) → Goes s found → found ≡ Ok x → Past s x.1
   past s found x h e = known x (λ x. Past s x.1) e h
 
-  pub behind : {X : Type 0} (s : State R T B) (found : Read R T B X) (x : X × State R T B) → Keeps s found → found ≡ Ok x → Behind s x.1
-  behind s found x h e = known x (λ x. Behind s x.1) e h
+  pub following : {X : Type 0} (s : State R T B) (found : Read R T B X) (x : X × State R T B) → Keeps s found → found ≡ Ok x → ItemRest s x.1
+  following s found x h e = known x (λ x. ItemRest s x.1) e h
 
   pub keeps : {X : Type 0} (s : State R T B) (found : Read R T B X) → Goes s found → Keeps s found
   keeps s (Ok x) h = weaken s x.1 h
@@ -87,13 +87,13 @@ module _ {R T B : Type 0} where
   from s t (Ok x) h k = past_then s t x.1 h k
   from s t (Err e) h k = tt
 
-  pub from_there : {X : Type 0} (s t : State R T B) (found : Read R T B X) → Behind s t → Keeps t found → Keeps s found
-  from_there s t (Ok x) h k = behind_then s t x.1 h k
+  pub from_there : {X : Type 0} (s t : State R T B) (found : Read R T B X) → ItemRest s t → Keeps t found → Keeps s found
+  from_there s t (Ok x) h k = after_then s t x.1 h k
   from_there s t (Err e) h k = tt
 
-  pub goes_behind : {X : Type 0} (s t : State R T B) (found : Read R T B X) → Behind s t → Goes t found → Goes s found
-  goes_behind s t (Ok x) h k = then_past s t x.1 h k
-  goes_behind s t (Err e) h k = tt
+  pub goes_after : {X : Type 0} (s t : State R T B) (found : Read R T B X) → ItemRest s t → Goes t found → Goes s found
+  goes_after s t (Ok x) h k = then_past s t x.1 h k
+  goes_after s t (Err e) h k = tt
 
   -- first a step, then others
   pub first : {X Y : Type 0} (s : State R T B) (found : Read R T B X) (f : X × State R T B → Read R T B Y) → Goes s found → ((x : X × State R T B) → Keeps x.1 (f x)) → Goes s (found >>= f)
@@ -105,7 +105,7 @@ module _ {R T B : Type 0} where
   then s (Err e) f h g = tt
 
   pub then_goes : {X Y : Type 0} (s : State R T B) (found : Read R T B X) (f : X × State R T B → Read R T B Y) → Keeps s found → ((x : X × State R T B) → Goes x.1 (f x)) → Goes s (found >>= f)
-  then_goes s (Ok x) f h g = goes_behind s x.1 (f x) h (g x)
+  then_goes s (Ok x) f h g = goes_after s x.1 (f x) h (g x)
   then_goes s (Err e) f h g = tt
 
   pub mapped : {X Y : Type 0} (s : State R T B) (found : Read R T B X) (g : X → Y) → Goes s found → Keeps s (found >>= λ x. Ok (g x.0, x.1))
@@ -196,17 +196,17 @@ module _ {R T A B S D : Type 0} (leaves : Leaves R T A B S D) where
   -- after a literal that was found, or where none was
   abbrev pub Found : State R T B → Option (Expr A B) → State R T B → Type 0
   Found s (Some e) t = Past s t
-  Found s None t = Behind s t
+  Found s None t = ItemRest s t
 
-  pub found_behind : (s : State R T B) (o : Option (Expr A B)) (t : State R T B) → Found s o t → Behind s t
-  found_behind s (Some e) t h = weaken s t h
-  found_behind s None t h = h
+  pub found_after : (s : State R T B) (o : Option (Expr A B)) (t : State R T B) → Found s o t → ItemRest s t
+  found_after s (Some e) t h = weaken s t h
+  found_after s None t h = h
 
   abbrev Finds : State R T B → Read R T B (Option (Expr A B)) → Type 0
   Finds s x = IfOk x (λ x. Found s x.0 x.1)
 
   pub finds : (s : State R T B) → Finds s (literal leaves s)
-  unfolding literal string single backtick
+  unfolding literal literal_string whole_format_string backtick
   finds s =
       pick (accept leaves kinds.StringToken s) _ _ (accepts kinds.StringToken s)
       (pick (accept_marked leaves (codes "x") kinds.StringToken s) _ _ (accepts_marked (codes "x") kinds.StringToken s)

@@ -13,13 +13,13 @@ use Rattle.justfile_model.specs.ExpressionReader.{Met, accept_operator, by_text,
 use Rattle.justfile_model.specs.Expressions.{ends_open, front}
 use Rattle.justfile_model.specs.Features.{Noted, noted_if, uncompared_feature}
 use Rattle.justfile_model.specs.Literals as literals
-use Rattle.justfile_model.specs.Literals.{Answers, Literal, LiteralFault, cooked_text, string_of, token_of}
+use Rattle.justfile_model.specs.Literals.{Expansions, Literal, LiteralFault, cooked_text, string_of, token_of}
 use Rattle.justfile_model.specs.Operators.{binary, is_at, operator_of}
 use Rattle.justfile_model.specs.Reader.{has_body}
 use Rattle.justfile_model.specs.Reading.{◌>>=◌, Counters, Leaves, NoNumber, NotCooked, Read, Refusal, State, Taken, TooDeep, Unexpected, accept, accept_by, accept_marked, accept_word, at, begin_with, choose, expect, is_word, marked_by, marks, next_are, refused, same_kind, with}
 use Rattle.justfile_model.specs.SignificantTokens.{SignificantToken}
 use Rattle.justfile_model.specs.Tree as tree
-use Rattle.justfile_model.specs.Tree.{BodyLine, Construct, Expr, Exprs, Fragment, Item, Line, Parts, before, plain_assignment, plain_recipe, trimmed}
+use Rattle.justfile_model.specs.Tree.{BodyLine, Construct, Expr, Exprs, Fragment, Item, Line, Parts, line_before, plain_assignment, plain_recipe, trimmed}
 use Rattle.justfile_model.proofs.Counters.{count}
 
 -- what is related of two readers' runs, tokens, leaves and places
@@ -164,7 +164,7 @@ module _ {R T A B S D R' T' A' B' S' D' : Type 0} (rel : Relations R T A B S D R
   same_body (recipe d a nil) = refl
   same_body (recipe d a (cons l ls)) = refl
 
-  before_alike : {l : BodyLine A B ℕ} {l' : BodyLine A' B' ℕ} {ls : List (BodyLine A B ℕ)} {ls' : List (BodyLine A' B' ℕ)} → AlikeLine l l' → Each AlikeLine ls ls' → Each AlikeLine (before l ls) (before l' ls')
+  before_alike : {l : BodyLine A B ℕ} {l' : BodyLine A' B' ℕ} {ls : List (BodyLine A B ℕ)} {ls' : List (BodyLine A' B' ℕ)} → AlikeLine l l' → Each AlikeLine ls ls' → Each AlikeLine (line_before l ls) (line_before l' ls')
   before_alike (line nil) nil = nil
   before_alike (line nil) (cons k ks) = cons (line nil) (cons k ks)
   before_alike (line (cons f fs)) ks = cons (line (cons f fs)) ks
@@ -263,7 +263,7 @@ module _ {R T A B S D R' T' A' B' S' D' : Type 0} (rel : Relations R T A B S D R
   bind f f' (neither h) k = neither h
   bind f f' (short h) k = absurd h
 
-  -- the same where numbers are drawn in it
+  -- steps one after another are alike, also where numbers are drawn in the first
   pub bind_short : {X X' Y Y' : Type 0} {Q : X → X' → Type 0} {P : Y → Y' → Type 0} {First : Counters → Read R' T' B' X' → Type 0} {Short : Counters → Read R' T' B' Y' → Type 0} {found : Read R T B X} {found' : Read R' T' B' X'}
       (f : X × State R T B → Read R T B Y) (f' : X' × State R' T' B' → Read R' T' B' Y')
       → Related Q First found found' → ((n : Counters) → First n found' → Short n (found' >>= f')) → ((x : X × State R T B) (y : X' × State R' T' B') → found ≡ Ok x → found' ≡ Ok y → Q x.0 y.0 → States x.1 y.1 → Related P Short (f x) (f' y))
@@ -397,7 +397,7 @@ module _ {R T A B S D R' T' A' B' S' D' : Type 0} (rel : Relations R T A B S D R
     cooked_alike Q make make' ask asks x x' t h made =
         let lexeme = (one.see x.0).tok.lexeme in
         let l = ask lexeme in
-        let go : (lexeme' : List ℕ) → lexeme ≡ lexeme' → (E : Answers) → (one.conditions x.1.run).expander ≡ E
+        let go : (lexeme' : List ℕ) → lexeme ≡ lexeme' → (E : Expansions) → (one.conditions x.1.run).expander ≡ E
         → Related Q Never (by_text one (λ text. make (one.literal x.0 l text)) x (cooked_text (one.conditions x.1.run).expander l)) (by_text other (λ text. make' (other.literal x'.0 (ask lexeme') text)) x' (cooked_text E (ask lexeme'))) =
         λ lexeme' e E f. subst (λ k. Related Q Never (by_text one (λ text. make (one.literal x.0 l text)) x (cooked_text (one.conditions x.1.run).expander l)) (by_text other (λ text. make' (other.literal x'.0 (ask k) text)) x' (cooked_text E (ask k)))) e
         (subst (λ F. Related Q Never (by_text one (λ text. make (one.literal x.0 l text)) x (cooked_text (one.conditions x.1.run).expander l)) (by_text other (λ text. make' (other.literal x'.0 l text)) x' (cooked_text F l))) f

@@ -2,17 +2,17 @@
 use Rattle.std.proofs.Common.{◌≡◌, Bool, true, false, cond, List, [], ◌∷◌, length, Some, None, Result, Ok, Err, refl}
 use Rattle.justfile_base.specs.declared.token_kind.TokenKind.TheVariants as kinds
 use Rattle.justfile_model.specs.Reader as reader
-use Rattle.justfile_model.specs.Reader.{Start, after_mark, after_numbered, assignment, at_end, body_behind, draw_binding, draw_recipe, ended, expression, has_body, items, items_from, items_rule, line, nothing_behind, on_line, recipe, stop}
+use Rattle.justfile_model.specs.Reader.{Start, after_mark, after_numbered, assignment, at_end, optional_body, draw_binding, draw_recipe, ended, expression, has_body, items, items_from, items_rule, line, end_of_tokens, on_line, recipe, no_items}
 use Rattle.justfile_model.specs.Conditions.{Conditions}
 use Rattle.justfile_model.specs.Features.{Noted}
 use Rattle.justfile_model.specs.Reading.{◌>>=◌, Counters, accept, choose, expect, next_are}
 use Rattle.justfile_model.specs.SignificantTokens.{SignificantToken}
 use Rattle.justfile_model.specs.Tok.{Tok}
 use Rattle.justfile_model.specs.Tree.{WrittenTree}
-use Rattle.justfile_model.specs.TreeReader.{Read, Refusal, State, Taken, file, start, token_leaves, unnumbered}
+use Rattle.justfile_model.specs.TreeReader.{Read, Refusal, State, Taken, tree_of_tokens, start_state, token_leaves, unnumbered}
 use Rattle.justfile_model.proofs.Turns.{both_recur}
 
--- the same is read, but for the counters
+-- two readings that find one thing, but for the counters
 data Alike {X : Type 0} : Read (X × Counters) → Read (X × Counters) → Type 0 where
   both : {x : X} {n m : Counters} {s : State} → Alike (Ok ((x, n), s)) (Ok ((x, m), s))
   neither : {e : Refusal} → Alike (Err e) (Err e)
@@ -41,7 +41,7 @@ assignments n m s =
 recipes : (n m : Counters) (s : State) → Alike (recipe token_leaves n s) (recipe token_leaves m s)
 unfolding recipe draw_recipe
 recipes n m s =
-    bind (expect token_leaves kinds.Identifier s) _ _ (λ name. bind (expect token_leaves kinds.Colon name.1) _ _ (λ colon. bind (body_behind token_leaves colon.1) _ _ (λ b. both)))
+    bind (expect token_leaves kinds.Identifier s) _ _ (λ name. bind (expect token_leaves kinds.Colon name.1) _ _ (λ colon. bind (optional_body token_leaves colon.1) _ _ (λ b. both)))
 
 on_lines : (n m : Counters) (s : State) → Alike (on_line token_leaves n s) (on_line token_leaves m s)
 unfolding on_line
@@ -61,7 +61,7 @@ lines n m s =
 data Begins : Start token_leaves → Start token_leaves → Type 0 where
   begins : (n m : Counters) (s : State) → Begins (n, s) (m, s)
 
-ends : (n m : Counters) (s : State) (ts : List SignificantToken) → Alike (nothing_behind token_leaves n s ts) (nothing_behind token_leaves m s ts)
+ends : (n m : Counters) (s : State) (ts : List SignificantToken) → Alike (end_of_tokens token_leaves n s ts) (end_of_tokens token_leaves m s ts)
 ends n m s [] = both
 ends n m s (t ∷ ts) = neither
 
@@ -79,7 +79,7 @@ rules f g alike x y (begins n m s) =
 all_items : (n m : Counters) (s : State) → Alike (items token_leaves n s) (items token_leaves m s)
 unfolding items_from
 all_items n m s =
-    both_recur (λ x. length x.1.left) (stop token_leaves) (items_rule token_leaves) (λ x. length x.1.left) (stop token_leaves) (items_rule token_leaves)
+    both_recur (λ x. length x.1.left) (no_items token_leaves) (items_rule token_leaves) (λ x. length x.1.left) (no_items token_leaves) (items_rule token_leaves)
     Begins same_size (λ x y found found'. Alike found found') (λ x y h. neither) rules (n, s) (m, s) (begins n m s)
   where
     same_size : (x y : Start token_leaves) → Begins x y → length x.1.left ≡ length y.1.left
@@ -94,6 +94,6 @@ same_whole both = refl
 same_whole neither = refl
 
 -- a file is read alike wherever the counters stand
-pub file_by : (n : Counters) (conditions : Conditions) (tokens : List SignificantToken) → whole (reader.file token_leaves n (start conditions tokens)) ≡ file conditions tokens
-unfolding reader.file file
-file_by n conditions tokens = same_whole (all_items n unnumbered (after_mark token_leaves (start conditions tokens)))
+pub file_by : (n : Counters) (conditions : Conditions) (tokens : List SignificantToken) → whole (reader.file token_leaves n (start_state conditions tokens)) ≡ tree_of_tokens conditions tokens
+unfolding reader.file tree_of_tokens
+file_by n conditions tokens = same_whole (all_items n unnumbered (after_mark token_leaves (start_state conditions tokens)))

@@ -13,10 +13,10 @@ use Rattle.justfile_model.specs.Grammar as g
 use Rattle.justfile_model.specs.Grammar.{BeforeBody, NotEmpty}
 use Rattle.justfile_model.specs.Literals.{Literal}
 use Rattle.justfile_model.specs.Files.{all_literals, body_literals, fragments_literals, item_literals, keeps_tokens, written_literals}
-use Rattle.justfile_model.specs.Reading.{Counters, at, next_are, after}
+use Rattle.justfile_model.specs.Reading.{Counters, at, next_are, prepend}
 use Rattle.justfile_model.specs.Reader as reader
-use Rattle.justfile_model.specs.Reader.{Start, after_numbered, assignment, at_end, behind, body, body_behind, body_line, comment_item, draw_binding, draw_recipe, ended, expression, fragment, has_body, items, items_from, items_rule, line, line_at, line_end, line_rest, line_rest_rule, lines, lines_rule, no_line_rest, no_lines, on_line, recipe, some_lines, stop}
-use Rattle.justfile_model.specs.TreeReader.{Read, State, file, start, token_leaves, unnumbered}
+use Rattle.justfile_model.specs.Reader.{Start, after_numbered, assignment, at_end, item_rest, body, optional_body, body_line, comment_item, draw_binding, draw_recipe, ended, expression, fragment, has_body, items, items_from, items_rule, line, line_at, line_end, line_rest, line_rest_rule, lines, lines_rule, no_line_rest, no_lines, on_line, recipe, some_lines, no_items}
+use Rattle.justfile_model.specs.TreeReader.{Read, State, tree_of_tokens, start_state, token_leaves, unnumbered}
 use Rattle.justfile_model.proofs.ReadingSteps.{after_test, known}
 use Rattle.justfile_model.proofs.Turns.{recursive_keeps}
 use Rattle.justfile_model.proofs.Steps.{AreNext, are_next, after_bind, after_choose, after_expect}
@@ -42,8 +42,8 @@ module _ (conditions : Conditions) where
   abbrev pub Items : WrittenTree → List (Noted Tok) → Tokens → Type 0
   Items = g.Items keeps_tokens (Under conditions.limit)
 
-  abbrev pub Behind : WrittenTree → List (Noted Tok) → Tokens → Type 0
-  Behind = g.Behind keeps_tokens (Under conditions.limit)
+  abbrev pub ItemRest : WrittenTree → List (Noted Tok) → Tokens → Type 0
+  ItemRest = g.ItemRest keeps_tokens (Under conditions.limit)
 
   abbrev pub LineEnd : WrittenTree → List (Noted Tok) → Tokens → Type 0
   LineEnd = g.LineEnd keeps_tokens (Under conditions.limit)
@@ -104,7 +104,7 @@ module _ (conditions : Conditions) where
   starts_block name fs ts rest [] b some = absurd some
   starts_block name fs ts rest (l ∷ ls) b some = of_block b
 
-  -- one behind the other, with all their literals
+  -- one after the other, with all their literals
   joined : {fs gs : List (Noted Tok)} {ls ms all : List (Literal Tok)} {a b c : List (Noted Tok)} → Met conditions.expander fs ls a b → Met conditions.expander gs ms b c → AllCook conditions.expander all → Met conditions.expander (fs ++ gs) all a c
   joined h k cooks = record { noted_is = (both_met h k).noted_is; cooks = cooks }
 
@@ -138,10 +138,10 @@ module _ (conditions : Conditions) where
     pub met : Met conditions.expander features (body_literals x.0) s.noted x.1.noted
     pub stays : Here conditions 0 x.1
 
-  -- a body behind a header, or none
-  pub data IsBodyBehind (s : State) : List (BodyLine Tok Tok ℕ) × State → Type 0 where
-    no_body : IsBodyBehind s ([], s)
-    a_body : {comment : Option (List ℕ)} {first : Tokens} {x : List (BodyLine Tok Tok ℕ) × State} → BeforeBody comment s.left first → IsBody (at s first) x → IsBodyBehind s x
+  -- a body after a header, or none
+  pub data IsOptionalBody (s : State) : List (BodyLine Tok Tok ℕ) × State → Type 0 where
+    no_body : IsOptionalBody s ([], s)
+    a_body : {comment : Option (List ℕ)} {first : Tokens} {x : List (BodyLine Tok Tok ℕ) × State} → BeforeBody comment s.left first → IsBody (at s first) x → IsOptionalBody s x
 
   abbrev pub IsOnLine : State → (WrittenItem Tok Tok ℕ Tok × Counters) × State → Type 0
   IsOnLine s x = Derived conditions (Starts (has_body x.0.0) x.0.0) (item_literals written_literals x.0.0) 0 s x.1
@@ -150,7 +150,7 @@ module _ (conditions : Conditions) where
   abbrev pub Leads : (WrittenTree → List (Noted Tok) → Tokens → Type 0) → State → WrittenTree × State → Type 0
   Leads Rule s x = Derived conditions (λ fs ts between. (more : WrittenTree) (gs : List (Noted Tok)) → Items more gs between → Rule (x.0 ++ more) (fs ++ gs) ts) (all_literals x.0) 0 s x.1
 
-  -- the same with what was drawn for them
+  -- items that were read and numbered, before any that may follow
   abbrev pub LeadsNumbered : State → (WrittenTree × Counters) × State → Type 0
   LeadsNumbered s x = Leads Items s (x.0.0, x.1)
 
@@ -208,7 +208,7 @@ module _ (conditions : Conditions) where
   fragment_at s x is here = known x (IsFragment s) is (fragment_sound s here)
 
   line_rest_keeps : (f : State → Read (List (Fragment Tok Tok))) → ((s : State) → Here conditions 0 s → IfOk (f s) (IsLineRest s)) → (s : State) → Here conditions 0 s → IfOk (line_rest_rule token_leaves f s) (IsLineRest s)
-  unfolding line_rest_rule after
+  unfolding line_rest_rule prepend
   line_rest_keeps f h s here =
       let P : Read (List (Fragment Tok Tok)) → Type 0 = λ o. IfOk o (IsLineRest s) in
       after_choose kinds.Eol s _ _ P
@@ -244,7 +244,7 @@ module _ (conditions : Conditions) where
   body_line_at s x is here = known x (IsBodyLine s) is (body_line_sound s here)
 
   lines_keep : (f : State → Read (List (BodyLine Tok Tok ℕ))) → ((s : State) → Here conditions 0 s → IfOk (f s) (IsLines s)) → (s : State) → Here conditions 0 s → IfOk (lines_rule token_leaves f s) (IsLines s)
-  unfolding lines_rule after
+  unfolding lines_rule prepend
   lines_keep f h s here =
       let P : Read (List (BodyLine Tok Tok ℕ)) → Type 0 = λ o. IfOk o (IsLines s) in
       after_choose kinds.Dedent s _ _ P
@@ -284,28 +284,28 @@ module _ (conditions : Conditions) where
   body_sound s here =
       after_bind (lines token_leaves s) _ (λ o. IfOk o (IsBody s)) (λ e. tt) (λ x is. some_left s x.1 x.0 (trimmed x.0) (lines_at s x is here) refl)
 
-  body_is_behind : (s : State) (first : Tokens) → (comment : Option (List ℕ)) × BeforeBody comment s.left first → (found : Read (List (BodyLine Tok Tok ℕ))) → IfOk found (IsBody (at s first)) → IfOk found (IsBodyBehind s)
-  body_is_behind s first b (Ok x) h = a_body b.1 h
-  body_is_behind s first b (Err e) h = tt
+  body_is_after : (s : State) (first : Tokens) → (comment : Option (List ℕ)) × BeforeBody comment s.left first → (found : Read (List (BodyLine Tok Tok ℕ))) → IfOk found (IsBody (at s first)) → IfOk found (IsOptionalBody s)
+  body_is_after s first b (Ok x) h = a_body b.1 h
+  body_is_after s first b (Err e) h = tt
 
-  pub body_behind_sound : (s : State) → Here conditions 0 s → IfOk (body_behind token_leaves s) (IsBodyBehind s)
-  unfolding body_behind
-  body_behind_sound s here =
-      let P : Read (List (BodyLine Tok Tok ℕ)) → Type 0 = λ o. IfOk o (IsBodyBehind s) in
+  pub optional_body_sound : (s : State) → Here conditions 0 s → IfOk (optional_body token_leaves s) (IsOptionalBody s)
+  unfolding optional_body
+  optional_body_sound s here =
+      let P : Read (List (BodyLine Tok Tok ℕ)) → Type 0 = λ o. IfOk o (IsOptionalBody s) in
       let short : State = at s (drop 2 s.left) in
       let long : State = at s (drop 3 s.left) in
       after_test (next_are token_leaves (kinds.Eol ∷ kinds.Indent ∷ []) s) _ _ P
-      (λ h. body_is_behind s short.left (None, starts_at_once s.left (are_next (kinds.Eol ∷ kinds.Indent ∷ []) s h)) (body token_leaves short) (body_sound short here))
+      (λ h. body_is_after s short.left (None, starts_at_once s.left (are_next (kinds.Eol ∷ kinds.Indent ∷ []) s h)) (body token_leaves short) (body_sound short here))
       (λ _. after_test (next_are token_leaves (kinds.Comment ∷ kinds.Eol ∷ kinds.Indent ∷ []) s) _ _ P
-      (λ h. body_is_behind s long.left (starts_commented s.left (are_next (kinds.Comment ∷ kinds.Eol ∷ kinds.Indent ∷ []) s h)) (body token_leaves long) (body_sound long here))
+      (λ h. body_is_after s long.left (starts_commented s.left (are_next (kinds.Comment ∷ kinds.Eol ∷ kinds.Indent ∷ []) s h)) (body token_leaves long) (body_sound long here))
       (λ _. no_body))
 
-  pub body_behind_at : (s : State) (x : List (BodyLine Tok Tok ℕ) × State) → body_behind token_leaves s ≡ Ok x → Here conditions 0 s → IsBodyBehind s x
-  body_behind_at s x is here = known x (IsBodyBehind s) is (body_behind_sound s here)
+  pub optional_body_at : (s : State) (x : List (BodyLine Tok Tok ℕ) × State) → optional_body token_leaves s ≡ Ok x → Here conditions 0 s → IsOptionalBody s x
+  optional_body_at s x is here = known x (IsOptionalBody s) is (optional_body_sound s here)
 
   -- ---- items
 
-  headed : (n : Counters) (name colon : SignificantToken) (s : State) (x : List (BodyLine Tok Tok ℕ) × State) → Here conditions 0 s → IsKind kinds.Identifier name → IsKind kinds.Colon colon → IsBodyBehind s x
+  headed : (n : Counters) (name colon : SignificantToken) (s : State) (x : List (BodyLine Tok Tok ℕ) × State) → Here conditions 0 s → IsKind kinds.Identifier name → IsKind kinds.Colon colon → IsOptionalBody s x
       → IsOnLine (at s (name ∷ colon ∷ s.left)) ((recipe_item name x.0, n), x.1)
   headed n name colon s x here kind kind2 no_body = record { features = []; derives = of_line (g.header kind kind2); met = nothing_met; stays = here }
   headed n name colon s x here kind kind2 (a_body b h) =
@@ -324,8 +324,8 @@ module _ (conditions : Conditions) where
       let P : Read (WrittenItem Tok Tok ℕ Tok × Counters) → Type 0 = λ o. IfOk o (IsOnLine s) in
       after_expect kinds.Identifier s _ P (λ e. tt) (λ name t1 split kind.
       after_expect kinds.Colon (at s t1) _ P (λ e. tt) (λ colon t2 split2 kind2.
-      after_bind (body_behind token_leaves (at s t2)) _ P (λ e. tt) (λ b is.
-      let found = headed n name colon (at s t2) b here kind kind2 (body_behind_at (at s t2) b is here) in
+      after_bind (optional_body token_leaves (at s t2)) _ P (λ e. tt) (λ b is.
+      let found = headed n name colon (at s t2) b here kind kind2 (optional_body_at (at s t2) b is here) in
       let i = recipe_item name b.0 in
       let R : Tokens → Type 0 = λ ts. Starts (has_body i) i found.features ts b.1.left in
       record { features = found.features; derives = subst R (sym split) (subst (λ (ts : Tokens). R (name ∷ ts)) (sym split2) found.derives); met = found.met; stays = found.stays })))
@@ -358,21 +358,21 @@ module _ (conditions : Conditions) where
   pub line_end_at : (s : State) (x : WrittenTree × State) → line_end token_leaves s ≡ Ok x → Here conditions 0 s → Leads LineEnd s x
   line_end_at s x is here = known x (Leads LineEnd s) is (line_end_sound s here)
 
-  bare_end : (s : State) (found : Read WrittenTree) → IfOk found (Leads LineEnd s) → IfOk found (Leads Behind s)
+  bare_end : (s : State) (found : Read WrittenTree) → IfOk found (Leads LineEnd s) → IfOk found (Leads ItemRest s)
   bare_end s (Ok x) h = record { features = h.features; derives = λ more gs i. g.bare (h.derives more gs i); met = h.met; stays = h.stays }
   bare_end s (Err e) h = tt
 
-  pub behind_sound : (s : State) → Here conditions 0 s → IfOk (behind token_leaves s) (Leads Behind s)
-  unfolding behind
-  behind_sound s here =
-      let P : Read WrittenTree → Type 0 = λ o. IfOk o (Leads Behind s) in
+  pub item_rest_sound : (s : State) → Here conditions 0 s → IfOk (item_rest token_leaves s) (Leads ItemRest s)
+  unfolding item_rest
+  item_rest_sound s here =
+      let P : Read WrittenTree → Type 0 = λ o. IfOk o (Leads ItemRest s) in
       after_choose kinds.Comment s _ _ P
       (λ _. bare_end s (line_end token_leaves s) (line_end_sound s here))
       (λ c rest split kind. after_bind (line_end token_leaves (at s rest)) _ P (λ e. tt) (λ x is.
       let found = line_end_at (at s rest) x is here in
       record {
         features = found.features;
-        derives = λ more gs i. subst (Behind (comment_item token_leaves c ∷ (x.0 ++ more)) (found.features ++ gs)) (sym split) (g.trailing kind (found.derives more gs i));
+        derives = λ more gs i. subst (ItemRest (comment_item token_leaves c ∷ (x.0 ++ more)) (found.features ++ gs)) (sym split) (g.trailing kind (found.derives more gs i));
         met = found.met;
         stays = found.stays;
       }))
@@ -382,7 +382,7 @@ module _ (conditions : Conditions) where
   Ends i is ts s x = Derived conditions (λ fs between end. (more : WrittenTree) (gs : List (Noted Tok)) → Items more gs end → Items (i ∷ (x.0 ++ more)) (is ++ (fs ++ gs)) ts) (all_literals x.0) 0 s x.1
 
   -- an item without a body
-  stands : {i : WrittenItem Tok Tok ℕ Tok} {items : WrittenTree} {is fs : List (Noted Tok)} {ts rest : Tokens} → Starts false i is ts rest → Behind items fs rest → Items (i ∷ items) (is ++ fs) ts
+  stands : {i : WrittenItem Tok Tok ℕ Tok} {items : WrittenTree} {is fs : List (Noted Tok)} {ts rest : Tokens} → Starts false i is ts rest → ItemRest items fs rest → Items (i ∷ items) (is ++ fs) ts
   stands (of_comment kind) h = g.comment kind h
   stands (of_line o) h = g.on_line o h
 
@@ -390,13 +390,13 @@ module _ (conditions : Conditions) where
   blocks : {i : WrittenItem Tok Tok ℕ Tok} {items : WrittenTree} {is fs : List (Noted Tok)} {ts rest : Tokens} → Starts true i is ts rest → Items items fs rest → Items (i ∷ tree.Newline ∷ items) (is ++ fs) ts
   blocks (of_block b) h = g.block b h
 
-  ends_line : (i : WrittenItem Tok Tok ℕ Tok) (is : List (Noted Tok)) (ts : Tokens) (s : State) → Starts false i is ts s.left → (found : Read WrittenTree) → IfOk found (Leads Behind s) → IfOk found (Ends i is ts s)
+  ends_line : (i : WrittenItem Tok Tok ℕ Tok) (is : List (Noted Tok)) (ts : Tokens) (s : State) → Starts false i is ts s.left → (found : Read WrittenTree) → IfOk found (Leads ItemRest s) → IfOk found (Ends i is ts s)
   ends_line i is ts s o (Ok x) h = record { features = h.features; derives = λ more gs m. stands o (h.derives more gs m); met = h.met; stays = h.stays }
   ends_line i is ts s o (Err e) h = tt
 
-  ends_by : (i : WrittenItem Tok Tok ℕ Tok) (is : List (Noted Tok)) (ts : Tokens) (s : State) (b : Bool) → Here conditions 0 s → Starts b i is ts s.left → IfOk (cond b (Ok (tree.Newline ∷ [], s)) (behind token_leaves s)) (Ends i is ts s)
+  ends_by : (i : WrittenItem Tok Tok ℕ Tok) (is : List (Noted Tok)) (ts : Tokens) (s : State) (b : Bool) → Here conditions 0 s → Starts b i is ts s.left → IfOk (cond b (Ok (tree.Newline ∷ [], s)) (item_rest token_leaves s)) (Ends i is ts s)
   ends_by i is ts s true here h = record { features = []; derives = λ more gs m. blocks h m; met = nothing_met; stays = here }
-  ends_by i is ts s false here h = ends_line i is ts s h (behind token_leaves s) (behind_sound s here)
+  ends_by i is ts s false here h = ends_line i is ts s h (item_rest token_leaves s) (item_rest_sound s here)
 
   ended_sound : (i : WrittenItem Tok Tok ℕ Tok) (is : List (Noted Tok)) (ts : Tokens) (s : State) → Here conditions 0 s → Starts (has_body i) i is ts s.left → IfOk (ended token_leaves (has_body i) s) (Ends i is ts s)
   unfolding ended
@@ -448,7 +448,7 @@ module _ (conditions : Conditions) where
 
   pub items_sound : (n : Counters) (s : State) → Here conditions 0 s → IfOk (items token_leaves n s) (IsWhole Items s)
   unfolding items_from
-  items_sound n s = recursive_keeps (λ x. length x.1.left) (stop token_leaves) (items_rule token_leaves) AllRead (λ x here. tt) rule_keeps (n, s)
+  items_sound n s = recursive_keeps (λ x. length x.1.left) (no_items token_leaves) (items_rule token_leaves) AllRead (λ x here. tt) rule_keeps (n, s)
 
   unmarked_file : (s : State) (found : Read (WrittenTree × Counters)) → IfOk found (IsWhole Items s) → IfOk found (IsWhole File s)
   unmarked_file s (Ok x) h = record { features = h.features; derives = g.unmarked h.derives; met = h.met; stays = h.stays }
@@ -458,21 +458,21 @@ module _ (conditions : Conditions) where
   marked_file s rest t split kind (Ok x) h = record { features = h.features; derives = subst (File x.0.0 h.features) (sym split) (g.marked kind h.derives); met = h.met; stays = h.stays }
   marked_file s rest t split kind (Err e) h = tt
 
-  whole_file : (ts : Tokens) → IfOk (reader.file token_leaves unnumbered (start conditions ts)) (IsWhole File (start conditions ts))
+  whole_file : (ts : Tokens) → IfOk (reader.file token_leaves unnumbered (start_state conditions ts)) (IsWhole File (start_state conditions ts))
   unfolding reader.file
   whole_file ts =
-      let s : State = start conditions ts in
+      let s : State = start_state conditions ts in
       let P : Read (WrittenTree × Counters) → Type 0 = λ o. IfOk o (IsWhole File s) in
       after_choose kinds.ByteOrderMark s s (λ mark. mark.1) (λ (t : State). P (items token_leaves unnumbered t))
       (λ _. unmarked_file s (items token_leaves unnumbered s) (items_sound unnumbered s (refl, refl)))
       (λ t rest split kind. marked_file s rest t split kind (items token_leaves unnumbered (at s rest)) (items_sound unnumbered (at s rest) (refl, refl)))
 
-  pub file_sound : (ts : Tokens) → IfOk (file conditions ts) (IsFile ts)
-  unfolding file
+  pub file_sound : (ts : Tokens) → IfOk (tree_of_tokens conditions ts) (IsFile ts)
+  unfolding tree_of_tokens
   file_sound ts =
-      after_bind (reader.file token_leaves unnumbered (start conditions ts)) _ (λ o. IfOk o (IsFile ts)) (λ e. tt) (λ x is.
-      let found = known x (IsWhole File (start conditions ts)) is (whole_file ts) in
+      after_bind (reader.file token_leaves unnumbered (start_state conditions ts)) _ (λ o. IfOk o (IsFile ts)) (λ e. tt) (λ x is.
+      let found = known x (IsWhole File (start_state conditions ts)) is (whole_file ts) in
       record { derives = subst (λ (fs : List (Noted Tok)). File x.0.0 fs ts) (sym found.met.noted_is) found.derives; cooks = found.met.cooks })
 
-  pub file_at : (ts : Tokens) (x : WrittenTree × List (Noted Tok)) → file conditions ts ≡ Ok x → IsFile ts x
+  pub file_at : (ts : Tokens) (x : WrittenTree × List (Noted Tok)) → tree_of_tokens conditions ts ≡ Ok x → IsFile ts x
   file_at ts x is = known x (IsFile ts) is (file_sound ts)

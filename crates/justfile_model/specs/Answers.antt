@@ -20,7 +20,7 @@ pub record IsLexicalError (path src : List ℕ) (e : CompileError) : Type 0 wher
   pub is_fault : IsFault src fault (tok_of e.token)
   pub from : IsFrom path src e.token
 
--- want of memory says nothing of the text
+-- running out of memory says nothing of the text
 abbrev pub IsLexerFault : (path src : List ℕ) → Fault → Type 0
 IsLexerFault path src (Compile e) = IsLexicalError path src e
 IsLexerFault path src Memory = Unit {0}

@@ -6,6 +6,7 @@ use Rattle.justfile_model.specs.Bytes.{is_line_end}
 use Rattle.justfile_model.specs.Lexed.{Begins}
 use Rattle.justfile_model.specs.Modes.{Mode, mode}
 use Rattle.justfile_model.specs.Tok.{Tok}
+use Rattle.justfile_base.specs.Indentation.{is_space_or_tab}
 
 -- a line starts, and no delimiter and no interpolation is open
 pub record IsAtLineStart (m : Mode) : Type 0 where
@@ -13,13 +14,9 @@ pub record IsAtLineStart (m : Mode) : Type 0 where
   pub no_delimiter : m.openers ≡ []
   pub no_interpolation : m.interpolation ≡ None
 
--- a space or a tab
-abbrev pub is_space_or_tab : ℕ → Bool
-is_space_or_tab b = b == 32 || b == 9
-
 -- a space, a tab, a carriage return or a line feed
-abbrev pub is_white : ℕ → Bool
-is_white b = b == 32 || b == 9 || b == 13 || b == 10
+abbrev pub is_blank_or_line_end : ℕ → Bool
+is_blank_or_line_end b = b == 32 || b == 9 || b == 13 || b == 10
 
 -- the text begins with a blank line: spaces and tabs, and then a line end or the end of the text
 pub record BeginsWithBlankLine (text : List ℕ) : Type 0 where
@@ -35,8 +32,8 @@ pub record BeginsWithWhiteLines (text : List ℕ) : Type 0 where
   pub next : ℕ
   pub follows : List ℕ
   pub are : text ≡ run ++ (10 ∷ (next ∷ follows))
-  pub is_run : AllPass is_white run
-  pub run_ends : is_white next ≡ false
+  pub is_run : AllPass is_blank_or_line_end run
+  pub run_ends : is_blank_or_line_end next ≡ false
 
 -- dedents come next, until no level is open
 pub record LevelsClose (text : List ℕ) (earlier : List Tok) : Type 0 where

@@ -23,18 +23,18 @@ white CarriageReturn = true
 white LineFeed = true
 white _ = false
 
--- LF, alone or behind a CR
+-- LF, alone or after a CR
 abbrev pub line_feed : ByteClass → Bool
 line_feed LineFeed = true
 line_feed _ = false
 
--- the same of a byte
+-- a space or a tab, by the class of the byte
 abbrev pub is_blank : ℕ → Bool
 is_blank b = blank (class_of b)
 
 -- a letter, a digit, `_` or `-`
-abbrev pub is_word : ℕ → Bool
-is_word b = in_word (class_of b)
+abbrev pub is_name_byte : ℕ → Bool
+is_name_byte b = in_word (class_of b)
 
 -- how many blanks are at the front
 abbrev pub blank_len : List ℕ → ℕ
@@ -42,7 +42,7 @@ blank_len = prefix_len is_blank
 
 -- how many bytes of a name are at the front
 abbrev pub word_len : List ℕ → ℕ
-word_len = prefix_len is_word
+word_len = prefix_len is_name_byte
 
 -- a line end is at the front: LF, or CR and LF
 abbrev pub is_line_end : List ℕ → Bool

@@ -1,6 +1,6 @@
 -- What a file is read under.
 use Rattle.std.specs.Prelude.{ℕ}
-use Rattle.justfile_model.specs.Literals.{Answers}
+use Rattle.justfile_model.specs.Literals.{Expansions}
 
 -- a version of the program: three numbers
 pub record VersionNumbers : Type 0 where
@@ -11,9 +11,9 @@ pub record VersionNumbers : Type 0 where
 -- how many expressions may be open, what an expander answers, and the running version
 pub record Conditions : Type 0 where
   pub limit : ℕ
-  pub expander : Answers
+  pub expander : Expansions
   pub current : VersionNumbers
 
--- the same limit and version, with another expander
-abbrev pub with_expander : Answers → Conditions → Conditions
+-- conditions with another expander, and with the limit and the version that they had
+abbrev pub with_expander : Expansions → Conditions → Conditions
 with_expander expander conditions = record { limit = conditions.limit; expander = expander; current = conditions.current }

@@ -65,17 +65,17 @@ IsPiece (Unicode hex) = AreHex hex × (0 < length hex) × (length hex ≤ 6) × 
 pub data BadPiece : Type 0 where
   -- a backslash and a character that is no escape
   Unknown : (character : ℕ) → BadPiece
-  -- a backslash and `u`, and no brace behind them
+  -- a backslash and `u`, and no brace after them
   Unopened : (character : ℕ) → BadPiece
   -- no digit in the braces
   Empty : BadPiece
   -- a character that is neither a digit nor the closing brace
   NoDigit : (hex : List ℕ) (character : ℕ) → BadPiece
-  -- a seventh digit, whatever comes behind it
+  -- a seventh digit, whatever comes after it
   TooLong : (hex : List ℕ) → BadPiece
   -- the number of no character
   OutOfRange : (hex : List ℕ) → BadPiece
-  -- the text ends behind the backslash, behind the `u`, or behind the brace and some digits
+  -- the text ends after the backslash, after the `u`, or after the brace and some digits
   EndsAtBackslash : BadPiece
   EndsAtU : BadPiece
   EndsInBraces : (hex : List ℕ) → BadPiece
@@ -92,17 +92,17 @@ bad_text EndsAtBackslash = codes "\\"
 bad_text EndsAtU = codes "\\u"
 bad_text (EndsInBraces hex) = codes "\\u{" ++ hex
 
--- it is bad where this stands behind it
+-- the piece is bad where this text follows it
 abbrev pub IsBad : BadPiece → List ℕ → Type 0
-IsBad (Unknown character) behind = (named character ≡ None) × (character ≢ 10) × (character ≢ 117) × (character ≡ 13 → slice_index behind 0 ≢ 10)
-IsBad (Unopened character) behind = character ≢ 123
-IsBad Empty behind = Unit {0}
-IsBad (NoDigit hex character) behind = AreHex hex × (length hex ≤ 6) × (is_ascii_hexdigit character ≡ false) × (character ≢ 125)
-IsBad (TooLong hex) behind = AreHex hex × (length hex ≡ 7)
-IsBad (OutOfRange hex) behind = AreHex hex × (0 < length hex) × (length hex ≤ 6) × (IsScalar (digits_value 16 hex) → ⊥)
-IsBad EndsAtBackslash behind = behind ≡ []
-IsBad EndsAtU behind = behind ≡ []
-IsBad (EndsInBraces hex) behind = AreHex hex × (length hex ≤ 6) × (behind ≡ [])
+IsBad (Unknown character) following = (named character ≡ None) × (character ≢ 10) × (character ≢ 117) × (character ≡ 13 → slice_index following 0 ≢ 10)
+IsBad (Unopened character) following = character ≢ 123
+IsBad Empty following = Unit {0}
+IsBad (NoDigit hex character) following = AreHex hex × (length hex ≤ 6) × (is_ascii_hexdigit character ≡ false) × (character ≢ 125)
+IsBad (TooLong hex) following = AreHex hex × (length hex ≡ 7)
+IsBad (OutOfRange hex) following = AreHex hex × (0 < length hex) × (length hex ≤ 6) × (IsScalar (digits_value 16 hex) → ⊥)
+IsBad EndsAtBackslash following = following ≡ []
+IsBad EndsAtU following = following ≡ []
+IsBad (EndsInBraces hex) following = AreHex hex × (length hex ≤ 6) × (following ≡ [])
 
 abbrev pub fault_of : BadPiece → EscapeFault
 fault_of (Unknown character) = InvalidEscapeSequence character
@@ -115,24 +115,24 @@ fault_of EndsAtBackslash = UnicodeEscapeUnterminated
 fault_of EndsAtU = UnicodeEscapeUnterminated
 fault_of (EndsInBraces hex) = UnicodeEscapeUnterminated
 
-abbrev pub ArePieces : List Piece → Type 0
-ArePieces = AllByRecursion IsPiece
+abbrev pub AreEscapedPieces : List Piece → Type 0
+AreEscapedPieces = AllByRecursion IsPiece
 
 -- the text is made of pieces, and their values, joined, are its cooked text
 pub record Cooks (text cooked : List ℕ) : Type 0 where
   pub pieces : List Piece
-  pub good : ArePieces pieces
+  pub good : AreEscapedPieces pieces
   pub text_is : encode_utf8_all (flat_map raw_of pieces) ≡ text
   pub cooked_is : encode_utf8_all (flat_map value_of pieces) ≡ cooked
 
--- behind some pieces comes a bad one, which has this fault
+-- after some pieces comes a bad one, which has this fault
 pub record Refused (text : List ℕ) (fault : EscapeFault) : Type 0 where
   pub pieces : List Piece
   pub bad : BadPiece
-  pub behind : List ℕ
-  pub good : ArePieces pieces
-  pub is_bad : IsBad bad behind
-  pub text_is : encode_utf8_all (flat_map raw_of pieces ++ (bad_text bad ++ behind)) ≡ text
+  pub following : List ℕ
+  pub good : AreEscapedPieces pieces
+  pub is_bad : IsBad bad following
+  pub text_is : encode_utf8_all (flat_map raw_of pieces ++ (bad_text bad ++ following)) ≡ text
   pub fault_is : fault_of bad ≡ fault
 
 -- the error says why the text is refused, and stands at the token
@@ -142,7 +142,7 @@ pub record IsCookError (text : List ℕ) (token : Token) (error : CompileError) 
   pub kind_is : escape_fault_of error.kind ≡ Some fault
   pub token_is : error.token ≡ token
 
--- want of memory says nothing of the text
+-- running out of memory says nothing of the text
 abbrev pub IsCookFault : List ℕ → Token → Fault → Type 0
 IsCookFault text token (Compile error) = IsCookError text token error
 IsCookFault text token Memory = Unit {0}

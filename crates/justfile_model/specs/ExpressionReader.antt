@@ -71,16 +71,16 @@ module _ {R T A B S D : Type 0} (leaves : Leaves R T A B S D) where
   abbrev pub cooked_by : {X : Type 0} → (A → X) → T × State R T B → Literal (List ℕ) → Read R T B X
   cooked_by make x literal = by_text (λ text. make (leaves.literal x.0 literal text)) x (cooked_text (leaves.conditions x.1.run).expander literal)
 
-  -- the same of a token, which is such a literal
+  -- what is made of the leaf of a token, which is a literal of the given form
   unfoldable pub cooked : {X : Type 0} → (A → X) → (List ℕ → Literal (List ℕ)) → T × State R T B → Read R T B X
   cooked make literal x = cooked_by make x (literal (leaves.see x.0).tok.lexeme)
 
-  unfoldable pub string : (expanded : Bool) → T × State R T B → ReadExpr
-  string expanded = cooked (t.StringLiteral expanded) (string_of expanded)
+  unfoldable pub literal_string : (expanded : Bool) → T × State R T B → ReadExpr
+  literal_string expanded = cooked (t.StringLiteral expanded) (string_of expanded)
 
   -- a format string with nothing to fill in
-  unfoldable pub single : T × State R T B → ReadExpr
-  single = cooked t.FormatLiteral literals.Single
+  unfoldable pub whole_format_string : T × State R T B → ReadExpr
+  whole_format_string = cooked t.FormatLiteral literals.Single
 
   unfoldable pub backtick : T × State R T B → ReadExpr
   backtick = cooked t.Backtick literals.Command
@@ -97,9 +97,9 @@ module _ {R T A B S D : Type 0} (leaves : Leaves R T A B S D) where
       (choose (accept_marked leaves (codes "f") kinds.StringToken s)
       (choose (accept leaves kinds.Backtick s) (Ok (None, s))
       (λ x. backtick x >>= found))
-      (λ x. single x >>= found))
-      (λ x. string true x >>= found))
-      (λ x. string false x >>= found)
+      (λ x. whole_format_string x >>= found))
+      (λ x. literal_string true x >>= found))
+      (λ x. literal_string false x >>= found)
 
   -- the part of a format string after an expression, and whether it is the last
   unfoldable pub part : (start : List ℕ) → State R T B → Read R T B (A × Bool)
@@ -275,7 +275,7 @@ module _ {R T A B S D : Type 0} (leaves : Leaves R T A B S D) where
             p ← expect leaves kinds.ParenR m.1
             Ok (t.AssertMessage (leaves.spot w.0) c.0 m.0, p.1)))
 
-    -- a value that is no literal
+    -- a format string with something to fill in, or a value that is no literal
     unfoldable pub format_rule : State R T B → ReadExpr
     format_rule s = choose (accept_marked leaves (codes "f") kinds.FormatStringStart s) (assert_rule s) format_string_rule
 
@@ -303,14 +303,14 @@ module _ {R T A B S D : Type 0} (leaves : Leaves R T A B S D) where
     rule (Sequence c s) = sequence_rule c s
     rule (FormatParts l s) = parts_rule l s
 
-  abbrev pub stop : (x : Place R T B) → Out x
-  stop (At level c s) = Err (Unexpected None)
-  stop (Conditional w s) = Err (Unexpected None)
-  stop (Sequence c s) = Err (Unexpected None)
-  stop (FormatParts l s) = Err (Unexpected None)
+  abbrev pub stop_expression : (x : Place R T B) → Out x
+  stop_expression (At level c s) = Err (Unexpected None)
+  stop_expression (Conditional w s) = Err (Unexpected None)
+  stop_expression (Sequence c s) = Err (Unexpected None)
+  stop_expression (FormatParts l s) = Err (Unexpected None)
 
   unfoldable pub read : (x : Place R T B) → Out x
-  read = recursive size stop rule
+  read = recursive size stop_expression rule
 
   -- the rules, whose calls are the reader's
   abbrev pub binary_from : Level → Bool → State R T B → ReadExpr

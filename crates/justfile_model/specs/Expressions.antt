@@ -40,7 +40,7 @@ abbrev pub NotWord : List ℕ → Tokens → Type 0
 NotWord word [] = Unit {0}
 NotWord word (t ∷ ts) = IsWord word t → ⊥
 
--- a string directly behind the name that marks it
+-- a string directly after the name that marks it
 pub record IsMarked (word : List ℕ) (kind : TokenKind) (mark token : SignificantToken) : Type 0 where
   pub marks : IsWord word mark
   pub is_string : IsKind kind token
@@ -50,7 +50,7 @@ abbrev pub NotMarked : List ℕ → TokenKind → SignificantToken → Tokens �
 NotMarked word kind mark [] = Unit {0}
 NotMarked word kind mark (t ∷ ts) = IsMarked word kind mark t → ⊥
 
--- the name is no mark of what is behind it
+-- the name is no mark of what is after it
 pub record Unmarked (name : SignificantToken) (rest : Tokens) : Type 0 where
   pub expanded : NotMarked (codes "x") kinds.StringToken name rest
   pub literal : NotMarked (codes "f") kinds.StringToken name rest
@@ -85,9 +85,9 @@ module _ {A B : Type 0} (leaf : Tok → A) (spot : Tok → B) (Open : ℕ → Op
   mutual
     -- `||`, to the right; a condition's first comparison is not noted
     pub data Expression : (condition : Bool) → ℕ → Expr A B → List (Noted B) → Tokens → Tokens → Type 0 where
-      or : {condition : Bool} {depth : ℕ} {l r : Expr A B} {ls rs : List (Noted B)} {operator : SignificantToken} {tokens behind rest : Tokens}
-          → Open depth (front tokens) → Disjunct condition (depth + 1) l ls tokens (operator ∷ behind) → IsKind kinds.BarBar operator
-          → Expression false (depth + 1) r rs behind rest
+      or : {condition : Bool} {depth : ℕ} {l r : Expr A B} {ls rs : List (Noted B)} {operator : SignificantToken} {tokens following rest : Tokens}
+          → Open depth (front tokens) → Disjunct condition (depth + 1) l ls tokens (operator ∷ following) → IsKind kinds.BarBar operator
+          → Expression false (depth + 1) r rs following rest
           → Expression condition depth (tree.Or l r) (ls ++ noted features.LogicalOperator (spot operator.tok) ++ rs) tokens rest
       disjunct : {condition : Bool} {depth : ℕ} {e : Expr A B} {fs : List (Noted B)} {tokens rest : Tokens} → Open depth (front tokens)
           → Disjunct condition (depth + 1) e fs tokens rest → NotNext kinds.BarBar rest
@@ -95,9 +95,9 @@ module _ {A B : Type 0} (leaf : Tok → A) (spot : Tok → B) (Open : ℕ → Op
 
     -- `&&`, to the right
     pub data Disjunct : (condition : Bool) → ℕ → Expr A B → List (Noted B) → Tokens → Tokens → Type 0 where
-      and : {condition : Bool} {depth : ℕ} {l r : Expr A B} {ls rs : List (Noted B)} {operator : SignificantToken} {tokens behind rest : Tokens}
-          → Compared condition depth l ls tokens (operator ∷ behind) → IsKind kinds.AmpersandAmpersand operator
-          → Disjunct false depth r rs behind rest
+      and : {condition : Bool} {depth : ℕ} {l r : Expr A B} {ls rs : List (Noted B)} {operator : SignificantToken} {tokens following rest : Tokens}
+          → Compared condition depth l ls tokens (operator ∷ following) → IsKind kinds.AmpersandAmpersand operator
+          → Disjunct false depth r rs following rest
           → Disjunct condition depth (tree.And l r) (ls ++ noted features.LogicalOperator (spot operator.tok) ++ rs) tokens rest
       comparison : {condition : Bool} {depth : ℕ} {e : Expr A B} {fs : List (Noted B)} {tokens rest : Tokens}
           → Compared condition depth e fs tokens rest → NotNext kinds.AmpersandAmpersand rest
@@ -105,9 +105,9 @@ module _ {A B : Type 0} (leaf : Tok → A) (spot : Tok → B) (Open : ℕ → Op
 
     -- one comparison at most
     pub data Compared : (condition : Bool) → ℕ → Expr A B → List (Noted B) → Tokens → Tokens → Type 0 where
-      compare : {condition : Bool} {depth : ℕ} {l r : Expr A B} {ls rs : List (Noted B)} {operator : SignificantToken} {tokens behind rest : Tokens}
-          (by : ConditionalOperator) → Conjunct depth l ls tokens (operator ∷ behind) → IsKind (operator_kind by) operator
-          → Conjunct depth r rs behind rest
+      compare : {condition : Bool} {depth : ℕ} {l r : Expr A B} {ls rs : List (Noted B)} {operator : SignificantToken} {tokens following rest : Tokens}
+          (by : ConditionalOperator) → Conjunct depth l ls tokens (operator ∷ following) → IsKind (operator_kind by) operator
+          → Conjunct depth r rs following rest
           → Compared condition depth (tree.Comparison l by (spot operator.tok) r) (ls ++ compared condition (spot operator.tok) ++ rs) tokens rest
       conjunct : {condition : Bool} {depth : ℕ} {e : Expr A B} {fs : List (Noted B)} {tokens rest : Tokens} → Conjunct depth e fs tokens rest
           → NotCompared rest
@@ -121,17 +121,17 @@ module _ {A B : Type 0} (leaf : Tok → A) (spot : Tok → B) (Open : ℕ → Op
       root : {depth : ℕ} {r : Expr A B} {rs : List (Noted B)} {operator : SignificantToken} {tokens rest : Tokens} → IsKind kinds.Slash operator
           → Conjunct depth r rs tokens rest
           → Conjunct depth (tree.Root (spot operator.tok) r) rs (operator ∷ tokens) rest
-      join : {depth : ℕ} {l r : Expr A B} {ls rs : List (Noted B)} {operator : SignificantToken} {tokens behind rest : Tokens} → NotWord (codes "if") tokens
-          → Value depth l ls tokens (operator ∷ behind) → IsKind kinds.Slash operator → Conjunct depth r rs behind rest
+      join : {depth : ℕ} {l r : Expr A B} {ls rs : List (Noted B)} {operator : SignificantToken} {tokens following rest : Tokens} → NotWord (codes "if") tokens
+          → Value depth l ls tokens (operator ∷ following) → IsKind kinds.Slash operator → Conjunct depth r rs following rest
           → Conjunct depth (tree.Join l (spot operator.tok) r) (ls ++ rs) tokens rest
-      list_concatenation : {depth : ℕ} {l r : Expr A B} {ls rs : List (Noted B)} {operator : SignificantToken} {tokens behind rest : Tokens}
-          → NotWord (codes "if") tokens → Value depth l ls tokens (operator ∷ behind) → IsKind kinds.PlusPlus operator
-          → Conjunct depth r rs behind rest
+      list_concatenation : {depth : ℕ} {l r : Expr A B} {ls rs : List (Noted B)} {operator : SignificantToken} {tokens following rest : Tokens}
+          → NotWord (codes "if") tokens → Value depth l ls tokens (operator ∷ following) → IsKind kinds.PlusPlus operator
+          → Conjunct depth r rs following rest
           → Conjunct depth (tree.ListConcatenation l (spot operator.tok) r)
           (ls ++ noted features.ListConcatenationOperator (spot operator.tok) ++ rs) tokens rest
-      concatenation : {depth : ℕ} {l r : Expr A B} {ls rs : List (Noted B)} {operator : SignificantToken} {tokens behind rest : Tokens}
-          → NotWord (codes "if") tokens → Value depth l ls tokens (operator ∷ behind) → IsKind kinds.Plus operator
-          → Conjunct depth r rs behind rest
+      concatenation : {depth : ℕ} {l r : Expr A B} {ls rs : List (Noted B)} {operator : SignificantToken} {tokens following rest : Tokens}
+          → NotWord (codes "if") tokens → Value depth l ls tokens (operator ∷ following) → IsKind kinds.Plus operator
+          → Conjunct depth r rs following rest
           → Conjunct depth (tree.Concatenation l (spot operator.tok) r) (ls ++ rs) tokens rest
       value : {depth : ℕ} {e : Expr A B} {fs : List (Noted B)} {tokens rest : Tokens} → NotWord (codes "if") tokens
           → Value depth e fs tokens rest → NotJoined rest
@@ -145,21 +145,21 @@ module _ {A B : Type 0} (leaf : Tok → A) (spot : Tok → B) (Open : ℕ → Op
 
     -- an expression in braces
     pub data Braced : ℕ → Expr A B → List (Noted B) → Tokens → Tokens → Type 0 where
-      braces : {depth : ℕ} {e : Expr A B} {fs : List (Noted B)} {opener closer : SignificantToken} {behind rest : Tokens} → IsKind kinds.BraceL opener
-          → Expression false depth e fs behind (closer ∷ rest) → IsKind kinds.BraceR closer
-          → Braced depth e fs (opener ∷ behind) rest
+      braces : {depth : ℕ} {e : Expr A B} {fs : List (Noted B)} {opener closer : SignificantToken} {following rest : Tokens} → IsKind kinds.BraceL opener
+          → Expression false depth e fs following (closer ∷ rest) → IsKind kinds.BraceR closer
+          → Braced depth e fs (opener ∷ following) rest
 
-    -- from behind the `if`, which is the word; behind a branch that is open an `else` would belong to that
+    -- what follows the `if`, which is the word; after a branch that is open an `else` would belong to that
     pub data Conditional : ℕ → (word : SignificantToken) → Expr A B → List (Noted B) → Tokens → Tokens → Type 0 where
-      if_only : {depth : ℕ} {word : SignificantToken} {c b : Expr A B} {cs bs : List (Noted B)} {tokens behind rest : Tokens}
-          → Condition depth c cs tokens behind → Braced depth b bs behind rest → NotWord (codes "else") rest
+      if_only : {depth : ℕ} {word : SignificantToken} {c b : Expr A B} {cs bs : List (Noted B)} {tokens following rest : Tokens}
+          → Condition depth c cs tokens following → Braced depth b bs following rest → NotWord (codes "else") rest
           → Conditional depth word (tree.If c b) (cs ++ bs ++ noted features.IfWithoutElse (spot word.tok)) tokens rest
-      if_else : {depth : ℕ} {word : SignificantToken} {c b o : Expr A B} {cs bs os : List (Noted B)} {otherwise : SignificantToken} {tokens behind other rest : Tokens}
-          → Condition depth c cs tokens behind → Braced depth b bs behind (otherwise ∷ other) → IsWord (codes "else") otherwise
+      if_else : {depth : ℕ} {word : SignificantToken} {c b o : Expr A B} {cs bs os : List (Noted B)} {otherwise : SignificantToken} {tokens following other rest : Tokens}
+          → Condition depth c cs tokens following → Braced depth b bs following (otherwise ∷ other) → IsWord (codes "else") otherwise
           → Braced depth o os other rest → (ends_open o ≡ true → NotWord (codes "else") rest)
           → Conditional depth word (tree.IfElse c b o) (cs ++ bs ++ os) tokens rest
-      else_if : {depth : ℕ} {word : SignificantToken} {c b o : Expr A B} {cs bs os : List (Noted B)} {otherwise again : SignificantToken} {tokens behind other rest : Tokens}
-          → Condition depth c cs tokens behind → Braced depth b bs behind (otherwise ∷ again ∷ other) → IsWord (codes "else") otherwise
+      else_if : {depth : ℕ} {word : SignificantToken} {c b o : Expr A B} {cs bs os : List (Noted B)} {otherwise again : SignificantToken} {tokens following other rest : Tokens}
+          → Condition depth c cs tokens following → Braced depth b bs following (otherwise ∷ again ∷ other) → IsWord (codes "else") otherwise
           → IsWord (codes "if") again → Conditional depth again o os other rest
           → Conditional depth word (tree.IfElse c b o) (cs ++ bs ++ os) tokens rest
 
@@ -174,18 +174,18 @@ module _ {A B : Type 0} (leaf : Tok → A) (spot : Tok → B) (Open : ℕ → Op
           → Value depth (tree.StringLiteral true (leaf token.tok)) [] (mark ∷ token ∷ rest) rest
       format_literal : {depth : ℕ} {mark token : SignificantToken} {rest : Tokens} → IsMarked (codes "f") kinds.StringToken mark token
           → Value depth (tree.FormatLiteral (leaf token.tok)) [] (mark ∷ token ∷ rest) rest
-      format_string : {depth : ℕ} {e : Expr A B} {ps : Parts A B} {fs gs : List (Noted B)} {mark start : SignificantToken} {tokens behind rest : Tokens}
-          → IsMarked (codes "f") kinds.FormatStringStart mark start → Expression false depth e fs tokens behind
-          → FormatParts depth ps gs behind rest
+      format_string : {depth : ℕ} {e : Expr A B} {ps : Parts A B} {fs gs : List (Noted B)} {mark start : SignificantToken} {tokens following rest : Tokens}
+          → IsMarked (codes "f") kinds.FormatStringStart mark start → Expression false depth e fs tokens following
+          → FormatParts depth ps gs following rest
           → Value depth (tree.FormatString (leaf start.tok) e ps) (fs ++ gs) (mark ∷ start ∷ tokens) rest
       backtick : {depth : ℕ} {token : SignificantToken} {rest : Tokens} → IsKind kinds.Backtick token
           → Value depth (tree.Backtick (leaf token.tok)) [] (token ∷ rest) rest
       assert : {depth : ℕ} {c : Expr A B} {fs : List (Noted B)} {word opener closer : SignificantToken} {tokens rest : Tokens} → IsWord (codes "assert") word
           → IsKind kinds.ParenL opener → Condition depth c fs tokens (closer ∷ rest) → IsKind kinds.ParenR closer
           → Value depth (tree.Assert (spot word.tok) c) fs (word ∷ opener ∷ tokens) rest
-      assert_message : {depth : ℕ} {c m : Expr A B} {fs gs : List (Noted B)} {word opener comma closer : SignificantToken} {tokens behind rest : Tokens}
-          → IsWord (codes "assert") word → IsKind kinds.ParenL opener → Condition depth c fs tokens (comma ∷ behind) → IsKind kinds.Comma comma
-          → Expression false depth m gs behind (closer ∷ rest) → IsKind kinds.ParenR closer
+      assert_message : {depth : ℕ} {c m : Expr A B} {fs gs : List (Noted B)} {word opener comma closer : SignificantToken} {tokens following rest : Tokens}
+          → IsWord (codes "assert") word → IsKind kinds.ParenL opener → Condition depth c fs tokens (comma ∷ following) → IsKind kinds.Comma comma
+          → Expression false depth m gs following (closer ∷ rest) → IsKind kinds.ParenR closer
           → Value depth (tree.AssertMessage (spot word.tok) c m) (fs ++ gs) (word ∷ opener ∷ tokens) rest
       variable : {depth : ℕ} {name : SignificantToken} {rest : Tokens} → IsKind kinds.Identifier name → (IsWord (codes "assert") name → ⊥)
           → Unmarked name rest → NotNext kinds.ParenL rest
@@ -193,9 +193,9 @@ module _ {A B : Type 0} (leaf : Tok → A) (spot : Tok → B) (Open : ℕ → Op
       call : {depth : ℕ} {arguments : Exprs A B} {fs : List (Noted B)} {name opener : SignificantToken} {tokens rest : Tokens} → IsKind kinds.Identifier name
           → (IsWord (codes "assert") name → ⊥) → IsKind kinds.ParenL opener → Sequence kinds.ParenR depth arguments fs tokens rest
           → Value depth (tree.Call (leaf name.tok) arguments) (fs ++ called name.tok.lexeme (spot name.tok)) (name ∷ opener ∷ tokens) rest
-      group : {depth : ℕ} {e : Expr A B} {fs : List (Noted B)} {opener closer : SignificantToken} {behind rest : Tokens} → IsKind kinds.ParenL opener
-          → Expression false depth e fs behind (closer ∷ rest) → IsKind kinds.ParenR closer
-          → Value depth (tree.Group e) fs (opener ∷ behind) rest
+      group : {depth : ℕ} {e : Expr A B} {fs : List (Noted B)} {opener closer : SignificantToken} {following rest : Tokens} → IsKind kinds.ParenL opener
+          → Expression false depth e fs following (closer ∷ rest) → IsKind kinds.ParenR closer
+          → Value depth (tree.Group e) fs (opener ∷ following) rest
       list : {depth : ℕ} {elements : Exprs A B} {fs : List (Noted B)} {opener : SignificantToken} {tokens rest : Tokens} → IsKind kinds.BracketL opener
           → Sequence kinds.BracketR depth elements fs tokens rest
           → Value depth (tree.ListOf (spot opener.tok) elements) (noted features.ListLiteral (spot opener.tok) ++ fs) (opener ∷ tokens) rest
@@ -207,17 +207,17 @@ module _ {A B : Type 0} (leaf : Tok → A) (spot : Tok → B) (Open : ℕ → Op
       last : {closing : TokenKind} {depth : ℕ} {e : Expr A B} {fs : List (Noted B)} {closer : SignificantToken} {tokens rest : Tokens} → NotNext closing tokens
           → Expression false depth e fs tokens (closer ∷ rest) → IsKind closing closer
           → Sequence closing depth (tree.more e tree.none) fs tokens rest
-      more : {closing : TokenKind} {depth : ℕ} {e : Expr A B} {es : Exprs A B} {fs gs : List (Noted B)} {comma : SignificantToken} {tokens behind rest : Tokens}
-          → NotNext closing tokens → Expression false depth e fs tokens (comma ∷ behind) → IsKind kinds.Comma comma
-          → Sequence closing depth es gs behind rest
+      more : {closing : TokenKind} {depth : ℕ} {e : Expr A B} {es : Exprs A B} {fs gs : List (Noted B)} {comma : SignificantToken} {tokens following rest : Tokens}
+          → NotNext closing tokens → Expression false depth e fs tokens (comma ∷ following) → IsKind kinds.Comma comma
+          → Sequence closing depth es gs following rest
           → Sequence closing depth (tree.more e es) (fs ++ gs) tokens rest
 
-    -- from behind an expression in a format string to the string's end
+    -- what follows an expression in a format string, up to the string's end
     pub data FormatParts : ℕ → Parts A B → List (Noted B) → Tokens → Tokens → Type 0 where
       end : {depth : ℕ} {token : SignificantToken} {rest : Tokens} → IsKind kinds.FormatStringEnd token
           → FormatParts depth (tree.Last (leaf token.tok)) [] (token ∷ rest) rest
-      next : {depth : ℕ} {e : Expr A B} {ps : Parts A B} {fs gs : List (Noted B)} {token : SignificantToken} {tokens behind rest : Tokens}
-          → IsKind kinds.FormatStringContinue token → Expression false depth e fs tokens behind → FormatParts depth ps gs behind rest
+      next : {depth : ℕ} {e : Expr A B} {ps : Parts A B} {fs gs : List (Noted B)} {token : SignificantToken} {tokens following rest : Tokens}
+          → IsKind kinds.FormatStringContinue token → Expression false depth e fs tokens following → FormatParts depth ps gs following rest
           → FormatParts depth (tree.Continue (leaf token.tok) e ps) (fs ++ gs) (token ∷ tokens) rest
 
 -- fewer expressions than the limit are open

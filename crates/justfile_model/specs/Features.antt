@@ -41,7 +41,7 @@ abbrev pub uncompared_feature : {A B : Type 0} → Expr A B → Option ListFeatu
 uncompared_feature (Comparison l operator token r) = None
 uncompared_feature _ = Some features.NonComparisonCondition
 
--- such a condition, noted at its first token
+-- a condition that is no comparison, noted at its first token
 abbrev pub uncompared : {A B : Type 0} → Expr A B → B → List (Noted B)
 uncompared e at = noted_if (uncompared_feature e) at
 

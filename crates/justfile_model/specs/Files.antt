@@ -2,15 +2,15 @@
 use Rattle.std.specs.Prelude.{◌≡◌, ℕ, ◌+◌, ◌-◌, ◌^◌, ◌≤◌, List, [], ◌∷◌, ◌++◌, map, length, Option, Some, None}
 use Rattle.std.specs.List.{flat_map}
 use Rattle.justfile_model.specs.SignificantTokens.{SignificantToken}
-use Rattle.justfile_model.specs.Tree.{Expr, Or, And, Comparison, Concatenation, ListConcatenation, Join, Root, If, IfElse, Not, StringLiteral, FormatLiteral, FormatString, Backtick, Assert, AssertMessage, Variable, Call, Group, ListOf, Exprs, none, more, Parts, Last, Continue, Fragment, Text, Interpolation, BodyLine, Line, Argument, Positional, Bare, Keyed, Written, Entry, Parameter, Dependency, Header, Content, Assignment, Recipe, Item, Newline, Comment, Construct, WrittenItem, OrderedItem, WrittenTree, WrittenShape, Tree, Shape, starless, lexeme, nothing, itself, line_of}
+use Rattle.justfile_model.specs.Tree.{Expr, Or, And, Comparison, Concatenation, ListConcatenation, Join, Root, If, IfElse, Not, StringLiteral, FormatLiteral, FormatString, Backtick, Assert, AssertMessage, Variable, Call, Group, ListOf, Exprs, none, more, Parts, Last, Continue, Fragment, Text, Interpolation, BodyLine, Line, Argument, Positional, Bare, Keyed, WrittenAttribute, Entry, Parameter, Dependency, Header, Content, Assignment, Recipe, Item, Newline, Comment, Construct, WrittenItem, OrderedItem, WrittenTree, WrittenShape, Tree, Shape, starless, lexeme, nothing, itself, line_of}
 use Rattle.justfile_model.specs.Tok.{Tok}
 use Rattle.justfile_model.specs.Features.{Noted}
 use Rattle.justfile_model.specs.Conditions.{Conditions}
 use Rattle.justfile_model.specs.Expressions.{Free, Under}
 use Rattle.justfile_model.specs.Grammar.{File, Kept}
 use Rattle.justfile_model.specs.Literals as literal
-use Rattle.justfile_model.specs.Literals.{Literal, over_literal, Cooks}
-use Rattle.justfile_model.specs.Rules.{Broken, broken}
+use Rattle.justfile_model.specs.Literals.{Literal, over_literal, AreCookedTexts}
+use Rattle.justfile_model.specs.Rules.{broken}
 
 abbrev mutual
   -- the literals of an expression, in order
@@ -40,7 +40,7 @@ abbrev mutual
   exprs_literals none = []
   exprs_literals (more e others) = expr_literals e ++ exprs_literals others
 
-  -- those after an expression of a format string that began so
+  -- the literals after an expression of a format string that begins with `start`
   pub parts_literals : {A B : Type 0} → (start : A) → Parts A B → List (Literal A)
   parts_literals start (Last token) = literal.End start token ∷ []
   parts_literals start (Continue token e parts) = literal.Continue start token ∷ expr_literals e ++ parts_literals start parts
@@ -65,7 +65,7 @@ argument_literals (Bare key) = []
 argument_literals (Keyed key value) = expr_literals value
 
 -- the literals of attributes as they are written
-abbrev pub written_literals : {A B : Type 0} → List (Written A B) → List (Literal A)
+abbrev pub written_literals : {A B : Type 0} → List (WrittenAttribute A B) → List (Literal A)
 written_literals ws = flat_map (λ w. flat_map argument_literals w.arguments) ws
 
 -- the literals of attributes by what they mean; so far no attribute has a meaning
@@ -85,7 +85,7 @@ abbrev pub content_literals : {A B C S : Type 0} → Content A B C S → List (L
 content_literals (Assignment parts) = expr_literals parts.value
 content_literals (Recipe parts) = header_literals parts.header ++ body_literals parts.body
 
--- of an item with attributes that have these literals
+-- the literals of items, where `literals_of` gives those of attributes
 module _ {A B C S D : Type 0} (literals_of : D → List (Literal A)) where
   abbrev pub item_literals : Item A B C S D → List (Literal A)
   item_literals Newline = []
@@ -143,7 +143,7 @@ pub record NumbersSuffice {A B C S D : Type 0} (binding recipe : ℕ) (items : L
   pub recipes_suffice : recipe + recipes items ≤ 2 ^ 32 - 1
 
 -- what attributes mean, in the order of their content; none where they break a rule. So far no attribute has a meaning.
-abbrev pub entries_of : {A B : Type 0} → List (Written A B) → Option (List (Entry A B))
+abbrev pub entries_of : {A B : Type 0} → List (WrittenAttribute A B) → Option (List (Entry A B))
 entries_of [] = Some []
 entries_of (w ∷ ws) = None
 
@@ -183,8 +183,8 @@ FileTree tokens written features = File keeps_tokens Free written features token
 -- a written tree under the conditions: its literals have texts, and no rule is broken
 pub record Obeys (conditions : Conditions) (written : WrittenTree) : Type 0 where
   pub cooked : List (List ℕ)
-  pub cooks : Cooks conditions.expander (map (over_literal lexeme) (all_literals written)) cooked
-  pub unbroken : ◌≡◌ {A = List (Broken Tok)} (broken conditions written) []
+  pub cooks : AreCookedTexts conditions.expander (map (over_literal lexeme) (all_literals written)) cooked
+  pub unbroken : broken conditions written ≡ []
 
 -- the tree of a file's tokens, and its features
 pub record FileDerives (conditions : Conditions) (tokens : List SignificantToken) (tree : Tree) (features : List (Noted Tok)) : Type 0 where
@@ -198,6 +198,6 @@ pub record ShapeDerives (conditions : Conditions) (tokens : List SignificantToke
   pub written : WrittenShape
   pub derives : File keeps_lexemes (Under conditions.limit) written features tokens
   pub cooked : List (List ℕ)
-  pub cooks : Cooks conditions.expander (all_literals written) cooked
-  pub unbroken : ◌≡◌ {A = List (Broken (Unit {0}))} (broken conditions written) []
+  pub cooks : AreCookedTexts conditions.expander (all_literals written) cooked
+  pub unbroken : broken conditions written ≡ []
   pub ordered_is : ordered written ≡ Some shape

@@ -7,59 +7,59 @@ use Rattle.std.specs.Str.Parse.{digits_value}
 use Rattle.justfile_model.specs.Cook.{named}
 use Rattle.justfile_model.specs.EscapeFault.{EscapeFault, InvalidEscapeSequence, UnicodeEscapeCharacter, UnicodeEscapeDelimiter, UnicodeEscapeEmpty, UnicodeEscapeLength, UnicodeEscapeRange, UnicodeEscapeUnterminated}
 
--- the character that a piece stands for, if it stands for one, and what is behind it; or the fault
-abbrev pub Found : Type 0
-Found = Result (Option ℕ × List ℕ) EscapeFault
+-- the character that a piece stands for, if it stands for one, and what follows it; or the fault
+abbrev pub PieceRead : Type 0
+PieceRead = Result (Option ℕ × List ℕ) EscapeFault
 
 -- the digits at the front, seven at most
 abbrev pub hex_len : List ℕ → ℕ
 hex_len cs = prefix_len is_ascii_hexdigit (take 7 cs)
 
--- behind the closing brace
-abbrev pub number : List ℕ → List ℕ → Found
+-- after the closing brace
+abbrev pub number : List ℕ → List ℕ → PieceRead
 number hex rest =
     if length hex == 0 then Err UnicodeEscapeEmpty
     else if scalar (digits_value 16 hex) then Ok (Some (digits_value 16 hex), rest)
     else Err (UnicodeEscapeRange hex)
 
--- behind the digits
-abbrev pub close : List ℕ → List ℕ → Found
-close hex [] = Err UnicodeEscapeUnterminated
-close hex (c ∷ rest) = if c == 125 then number hex rest else Err (UnicodeEscapeCharacter c)
+-- after the digits
+abbrev pub closing_brace : List ℕ → List ℕ → PieceRead
+closing_brace hex [] = Err UnicodeEscapeUnterminated
+closing_brace hex (c ∷ rest) = if c == 125 then number hex rest else Err (UnicodeEscapeCharacter c)
 
--- behind the opening brace
-abbrev pub digits : List ℕ → Found
+-- after the opening brace
+abbrev pub digits : List ℕ → PieceRead
 digits cs =
     if nat_lt 6 (hex_len cs) then Err (UnicodeEscapeLength (take (hex_len cs) cs))
-    else close (take (hex_len cs) cs) (drop (hex_len cs) cs)
+    else closing_brace (take (hex_len cs) cs) (drop (hex_len cs) cs)
 
--- behind the `u`
-abbrev pub unicode : List ℕ → Found
+-- after the `u`
+abbrev pub unicode : List ℕ → PieceRead
 unicode [] = Err UnicodeEscapeUnterminated
 unicode (c ∷ rest) = if c == 123 then digits rest else Err (UnicodeEscapeDelimiter c)
 
--- behind a carriage return
-abbrev pub line_feed : List ℕ → Found
-line_feed [] = Err (InvalidEscapeSequence 13)
-line_feed (c ∷ rest) = if c == 10 then Ok (None, rest) else Err (InvalidEscapeSequence 13)
+-- after a carriage return
+abbrev pub line_feed_piece : List ℕ → PieceRead
+line_feed_piece [] = Err (InvalidEscapeSequence 13)
+line_feed_piece (c ∷ rest) = if c == 10 then Ok (None, rest) else Err (InvalidEscapeSequence 13)
 
 -- with the character that is named
-abbrev pub known : ℕ → Option ℕ → List ℕ → Found
+abbrev pub known : ℕ → Option ℕ → List ℕ → PieceRead
 known c None rest = Err (InvalidEscapeSequence c)
 known c (Some value) rest = Ok (Some value, rest)
 
--- behind a backslash
-abbrev pub escape : List ℕ → Found
-escape [] = Err UnicodeEscapeUnterminated
-escape (c ∷ rest) =
+-- after a backslash
+abbrev pub escape_piece : List ℕ → PieceRead
+escape_piece [] = Err UnicodeEscapeUnterminated
+escape_piece (c ∷ rest) =
     if c == 117 then unicode rest
-    else if c == 13 then line_feed rest
+    else if c == 13 then line_feed_piece rest
     else if c == 10 then Ok (None, rest)
     else known c (named c) rest
 
 -- the piece that begins with this character
-abbrev pub piece : ℕ → List ℕ → Found
-piece c rest = if c == 92 then escape rest else Ok (Some c, rest)
+abbrev pub first_escaped_piece : ℕ → List ℕ → PieceRead
+first_escaped_piece c rest = if c == 92 then escape_piece rest else Ok (Some c, rest)
 
 abbrev pub Cooked : Type 0
 Cooked = Result (List ℕ) EscapeFault
@@ -69,8 +69,8 @@ abbrev pub with_value : Option ℕ → Cooked → Cooked
 with_value value (Ok cooked) = Ok (option_to_list value ++ cooked)
 with_value value (Err fault) = Err fault
 
--- behind the first piece
-abbrev pub go_on : (List ℕ → Cooked) → Found → Cooked
+-- after the first piece
+abbrev pub go_on : (List ℕ → Cooked) → PieceRead → Cooked
 go_on more (Ok x) = with_value x.0 (more x.1)
 go_on more (Err fault) = Err fault
 
@@ -78,7 +78,7 @@ go_on more (Err fault) = Err fault
 unfoldable pub cook_within : ℕ → List ℕ → Cooked
 cook_within most [] = Ok []
 cook_within zero (c ∷ cs) = Ok []
-cook_within (suc most) (c ∷ cs) = go_on (cook_within most) (piece c cs)
+cook_within (suc most) (c ∷ cs) = go_on (cook_within most) (first_escaped_piece c cs)
 
 -- the characters of the cooked text, or the fault
 abbrev pub cook : List ℕ → Cooked
@@ -89,5 +89,5 @@ as_text (Ok cooked) = Ok (encode_utf8_all cooked)
 as_text (Err fault) = Err fault
 
 -- the cooked text of a text, or the fault
-abbrev pub cooked_text : List ℕ → Cooked
-cooked_text text = as_text (cook (chars text))
+abbrev pub cooked_from_left : List ℕ → Cooked
+cooked_from_left text = as_text (cook (chars text))

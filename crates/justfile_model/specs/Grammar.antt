@@ -88,11 +88,11 @@ module _ {A B C S : Type 0} (kept : Kept A B C S) (Open : ℕ → Option Signifi
           → Items items fs rest
           → Items (tree.Newline ∷ items) fs (token ∷ rest)
       comment : {items : List (WrittenItem A B C S)} {fs : List (Noted B)} {token : SignificantToken} {rest : List SignificantToken} → IsKind kinds.Comment token
-          → Behind items fs rest
+          → ItemRest items fs rest
           → Items (tree.Comment (trim_end token.tok.lexeme) ∷ items) fs (token ∷ rest)
       -- so far no construct has attributes
       on_line : {c : Content A B C S} {items : List (WrittenItem A B C S)} {cs fs : List (Noted B)} {tokens rest : List SignificantToken} → OnLine c cs tokens rest
-          → Behind items fs rest
+          → ItemRest items fs rest
           → Items (Construct [] c ∷ items) (cs ++ fs) tokens
       -- after a body a line starts, and a line end is made
       block : {c : Content A B C S} {items : List (WrittenItem A B C S)} {cs fs : List (Noted B)} {tokens rest : List SignificantToken} → Block c cs tokens rest
@@ -100,12 +100,12 @@ module _ {A B C S : Type 0} (kept : Kept A B C S) (Open : ℕ → Option Signifi
           → Items (Construct [] c ∷ tree.Newline ∷ items) (cs ++ fs) tokens
 
     -- after an item a comment may trail it, which is an item of its own
-    pub data Behind : List (WrittenItem A B C S) → List (Noted B) → List SignificantToken → Type 0 where
+    pub data ItemRest : List (WrittenItem A B C S) → List (Noted B) → List SignificantToken → Type 0 where
       trailing : {items : List (WrittenItem A B C S)} {fs : List (Noted B)} {token : SignificantToken} {rest : List SignificantToken} → IsKind kinds.Comment token
           → LineEnd items fs rest
-          → Behind (tree.Comment (trim_end token.tok.lexeme) ∷ items) fs (token ∷ rest)
+          → ItemRest (tree.Comment (trim_end token.tok.lexeme) ∷ items) fs (token ∷ rest)
       bare : {items : List (WrittenItem A B C S)} {fs : List (Noted B)} {tokens : List SignificantToken} → LineEnd items fs tokens
-          → Behind items fs tokens
+          → ItemRest items fs tokens
 
     -- then the line ends, or the file does
     pub data LineEnd : List (WrittenItem A B C S) → List (Noted B) → List SignificantToken → Type 0 where

@@ -5,9 +5,9 @@ use Rattle.justfile_base.specs.declared.token_kind.TokenKind.TheVariants.{Eof, U
 use Rattle.justfile_base.specs.Slice.{slice_of}
 use Rattle.justfile_model.specs.Tok.{Tok}
 use Rattle.justfile_model.specs.Modes.{mode}
-use Rattle.justfile_model.specs.Places.{line_at, column_at}
-use Rattle.justfile_model.specs.LexicalFault.{LexicalFault, UnterminatedInterpolation, Refusal, Here, Unclosed}
-use Rattle.justfile_model.specs.Next.{Found, next}
+use Rattle.justfile_model.specs.Places.{line_of_offset, column_at}
+use Rattle.justfile_model.specs.LexicalFault.{LexicalFault, UnterminatedInterpolation, LexicalRefusal, Here, Unclosed}
+use Rattle.justfile_model.specs.Next.{NextToken, next}
 
 -- where the earlier tokens end; in their list the last one comes first
 abbrev pub end_of : List Tok → ℕ
@@ -15,17 +15,17 @@ end_of [] = 0
 end_of (t ∷ earlier) = t.offset + length t.lexeme
 
 -- what comes after the earlier tokens
-abbrev pub next_of : List ℕ → List Tok → Found
+abbrev pub next_of : List ℕ → List Tok → NextToken
 next_of text earlier = next (mode earlier) (drop (end_of earlier) text)
 
 -- the token begins at the offset, and has its place in the text
 pub record StandsAt (text : List ℕ) (offset : ℕ) (t : Tok) : Type 0 where
   pub offset_is : t.offset ≡ offset
   pub lexeme_is : t.lexeme ≡ slice_of text t.offset (length t.lexeme)
-  pub line_is : t.line ≡ line_at text t.offset
+  pub line_is : t.line ≡ line_of_offset text t.offset
   pub column_is : t.column ≡ column_at text t.offset
 
--- it begins where the earlier ones end
+-- the token begins where the earlier ones end, and has its place in the text
 abbrev pub Stands : List ℕ → List Tok → Tok → Type 0
 Stands text earlier t = StandsAt text (end_of earlier) t
 
@@ -58,14 +58,14 @@ pub record EndsInEof (text : List ℕ) (tokens : List Tok) : Type 0 where
   pub offset_is : last.offset ≡ length text
   pub only_there : All (λ t. t.kind ≢ Eof) front
 
--- the same from the first token on: these tokens, and no others, follow the earlier ones
+-- these tokens, and no others, follow the earlier ones, up to Eof
 abbrev pub Follows : List ℕ → List Tok → List Tok → Type 0
 Follows text earlier [] = ⊥
 Follows text earlier (t ∷ []) = IsNext text earlier t × (t.kind ≡ Eof)
 Follows text earlier (t ∷ u ∷ ts) = IsNext text earlier t × (t.kind ≢ Eof) × Follows text (t ∷ earlier) (u ∷ ts)
 
 -- the error that a refusal is, and the part of the text to which it points
-abbrev pub IsSpan : List ℕ → List Tok → Refusal → LexicalFault → Tok → Type 0
+abbrev pub IsSpan : List ℕ → List Tok → LexicalRefusal → LexicalFault → Tok → Type 0
 IsSpan text earlier (Here p skip n) fault span = (fault ≡ p) × (span.kind ≡ Unspecified) × (length span.lexeme ≡ n) × StandsAt text (end_of earlier + skip) span
 IsSpan text earlier (Unclosed t) fault span = (fault ≡ UnterminatedInterpolation) × (span ≡ t)
 
@@ -73,7 +73,7 @@ IsSpan text earlier (Unclosed t) fault span = (fault ≡ UnterminatedInterpolati
 pub record IsFault (text : List ℕ) (fault : LexicalFault) (span : Tok) : Type 0 where
   pub earlier : List Tok
   pub begins : Begins text earlier
-  pub refusal : Refusal
+  pub refusal : LexicalRefusal
   pub refused : next_of text earlier ≡ Err refusal
   pub spans : IsSpan text earlier refusal fault span
 

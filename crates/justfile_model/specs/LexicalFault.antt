@@ -41,8 +41,8 @@ lexical_fault_of kinds.UnterminatedString = UnterminatedString
 lexical_fault_of _ = NotLexical
 
 -- a fault, and where it points to
-pub data Refusal : Type 0 where
-  -- a fault, whose span begins so many bytes behind the earlier tokens and is so many bytes long
-  Here : (fault : LexicalFault) (skip span : ℕ) → Refusal
+pub data LexicalRefusal : Type 0 where
+  -- a fault, whose span begins so many bytes after the earlier tokens and is so many bytes long
+  Here : (fault : LexicalFault) (skip span : ℕ) → LexicalRefusal
   -- the interpolation that begins with this token has no end
-  Unclosed : Tok → Refusal
+  Unclosed : Tok → LexicalRefusal

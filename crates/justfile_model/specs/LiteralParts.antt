@@ -5,12 +5,12 @@ use Rattle.justfile_base.specs.declared.token_kind.TokenKind.{TokenKind}
 use Rattle.justfile_base.specs.StringKind.{delimiter_text}
 use Rattle.justfile_model.specs.declared.raw_text.RawText.TheVariants.{Literal}
 use Rattle.justfile_model.specs.LexicalFault.{Here}
-use Rattle.justfile_model.specs.Next.{Found, unterminated}
+use Rattle.justfile_model.specs.Next.{NextToken, unterminated}
 use Rattle.justfile_model.specs.Pieces.{HasNoEnd, IsInside}
 
 -- What is found of an opener and the text after it. A part that ends with the delimiter is of the kind `whole`, and one that ends with
 -- `{{`, which is an end in a format string alone, of the kind `more`.
-pub data IsPart (k : StringKind) (format : Bool) (more whole : TokenKind) (opener text : List ℕ) : Found → Type 0 where
+pub data IsPart (k : StringKind) (format : Bool) (more whole : TokenKind) (opener text : List ℕ) : NextToken → Type 0 where
   EndsWithDelimiter : (inside follows : List ℕ) → text ≡ inside ++ (delimiter_text k ++ follows)
       → IsInside (Literal k format) inside (delimiter_text k ++ follows)
       → IsPart k format more whole opener text (Ok (whole, length (opener ++ (inside ++ delimiter_text k))))

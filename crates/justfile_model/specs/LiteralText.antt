@@ -6,7 +6,7 @@ use Rattle.justfile_model.specs.declared.raw_text.RawText.TheVariants.{Comment, 
 use Rattle.justfile_base.specs.StringKind.{quote_of, escapes}
 use Rattle.justfile_model.specs.Bytes.{is_line_end, is_interpolation_start, is_interpolation_escape}
 
--- how many bytes are before the first end; a byte may hide so many bytes behind it, and no end is looked for at it nor at those
+-- how many bytes are before the first end; a byte may hide so many bytes after it, and no end is looked for at it nor at those
 module _ (hides : List ℕ → ℕ) (ends : List ℕ → Bool) where
   unfoldable pub pieces_len : ℕ → List ℕ → ℕ
   pieces_len hidden [] = 0

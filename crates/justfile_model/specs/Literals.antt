@@ -62,11 +62,11 @@ pub data LiteralFault : Type 0 where
   Shebang : LiteralFault
 
 -- what an expander answers for a text: the expanded text, or the text of its refusal; none for a text that it was not asked for
-abbrev pub Answers : Type 0
-Answers = List ℕ → Option (Result (List ℕ) (List ℕ))
+abbrev pub Expansions : Type 0
+Expansions = List ℕ → Option (Result (List ℕ) (List ℕ))
 
 -- the one answers what the other does, or not at all
-abbrev pub Within : Answers → Answers → Type 0
+abbrev pub Within : Expansions → Expansions → Type 0
 Within some all = (text : List ℕ) → (some text ≡ None) ⊎ (some text ≡ all text)
 
 -- what stands between so many bytes at the front and so many at the end
@@ -85,14 +85,14 @@ abbrev pub by_escapes : Result (List ℕ) EscapeFault → Result (List ℕ) Lite
 by_escapes (Ok text) = Ok text
 by_escapes (Err e) = Err (Escape e)
 
--- with its escapes replaced, in double quotes
+-- a text with its escapes replaced, if its quotes are double
 abbrev pub escaped : StringKind → List ℕ → Result (List ℕ) LiteralFault
-escaped kind text = if escapes kind.delimiter then by_escapes (pieces.cooked_text text) else Ok text
+escaped kind text = if escapes kind.delimiter then by_escapes (pieces.cooked_from_left text) else Ok text
 
 abbrev pub string_text : List ℕ → Result (List ℕ) LiteralFault
 string_text lexeme = escaped (kind_of lexeme) (flush_text lexeme)
 
--- with two braces for each four, from the left; so many bytes at the front are left out
+-- a text without so many bytes at its front, with `{{` for each `{{{{` from the left
 abbrev pub unescaped_from : ℕ → List ℕ → List ℕ
 unescaped_from skipped [] = []
 unescaped_from (suc skipped) (b ∷ bs) = unescaped_from skipped bs
@@ -113,7 +113,7 @@ front_len kind parts.End = 2
 front_len kind parts.Single = delimiter_len kind
 front_len kind parts.Start = delimiter_len kind
 
--- and behind it: the delimiter, or `{{`
+-- how many bytes stand after the text of a part: the string's delimiter, or `{{`
 abbrev pub end_len : StringKind → FormatStringPart → ℕ
 end_len kind parts.Continue = 2
 end_len kind parts.End = delimiter_len kind
@@ -129,13 +129,13 @@ by_answer None = Err Unasked
 by_answer (Some (Ok text)) = Ok text
 by_answer (Some (Err reason)) = Err (Refused reason)
 
--- expanded
-abbrev pub expanded_text : Answers → Result (List ℕ) LiteralFault → Result (List ℕ) LiteralFault
+-- what the expander makes of a text
+abbrev pub expanded_text : Expansions → Result (List ℕ) LiteralFault → Result (List ℕ) LiteralFault
 expanded_text expander (Ok text) = by_answer (expander text)
 expanded_text expander (Err fault) = Err fault
 
 -- the text of a literal
-abbrev pub cooked_text : Answers → Literal (List ℕ) → Result (List ℕ) LiteralFault
+abbrev pub cooked_text : Expansions → Literal (List ℕ) → Result (List ℕ) LiteralFault
 cooked_text expander (Plain lexeme) = string_text lexeme
 cooked_text expander (Expanded lexeme) = expanded_text expander (string_text lexeme)
 cooked_text expander (Command lexeme) = if starts_with nat_eq (flush_text lexeme) (codes "#!") then Err Shebang else Ok (flush_text lexeme)
@@ -145,7 +145,7 @@ cooked_text expander (Continue start lexeme) = format_text (kind_of start) parts
 cooked_text expander (End start lexeme) = format_text (kind_of start) parts.End lexeme
 
 -- these are the texts of the literals, in order
-abbrev pub Cooks : Answers → List (Literal (List ℕ)) → List (List ℕ) → Type 0
-Cooks expander [] [] = Unit {0}
-Cooks expander (l ∷ literals) (text ∷ texts) = (cooked_text expander l ≡ Ok text) × Cooks expander literals texts
-Cooks expander _ _ = ⊥
+abbrev pub AreCookedTexts : Expansions → List (Literal (List ℕ)) → List (List ℕ) → Type 0
+AreCookedTexts expander [] [] = Unit {0}
+AreCookedTexts expander (l ∷ literals) (text ∷ texts) = (cooked_text expander l ≡ Ok text) × AreCookedTexts expander literals texts
+AreCookedTexts expander _ _ = ⊥

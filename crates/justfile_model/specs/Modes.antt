@@ -19,14 +19,14 @@ pub record Mode : Type 0 where
   pub levels : List (List ℕ)
   -- a colon came since the last dedent
   pub colon : Bool
-  -- an indent came behind such a colon
+  -- an indent came after such a colon
   pub in_body : Bool
   -- the start of the open interpolation
   pub interpolation : Option Tok
   -- the next token is at column 0, if text is left
   pub line_start : Bool
   -- the last token is the identifier `f`
-  pub behind_f : Bool
+  pub after_f : Bool
 
 -- all but the first
 abbrev pub tail_of : {A : Type 0} → List A → List A
@@ -52,33 +52,33 @@ abbrev pub opener : Delimiter → ℕ → OpenDelimiter
 opener d n = record { delimiter = d; line = n }
 
 -- what a token changes
-abbrev pub after : TokenKind → Tok → Mode → Mode
-after BraceL t m = record m { openers = opener Brace t.line ∷ m.openers; line_start = false; behind_f = false }
-after BracketL t m = record m { openers = opener Bracket t.line ∷ m.openers; line_start = false; behind_f = false }
-after ParenL t m = record m { openers = opener Paren t.line ∷ m.openers; line_start = false; behind_f = false }
-after FormatStringStart t m = record m { openers = opener (FormatString (kind_of t.lexeme)) (t.line + count_by is_newline t.lexeme) ∷ m.openers; line_start = false; behind_f = false }
-after BraceR t m = record m { openers = tail_of m.openers; line_start = false; behind_f = false }
-after BracketR t m = record m { openers = tail_of m.openers; line_start = false; behind_f = false }
-after ParenR t m = record m { openers = tail_of m.openers; line_start = false; behind_f = false }
-after FormatStringEnd t m = record m { openers = tail_of m.openers; line_start = false; behind_f = false }
-after Colon t m = record m { colon = true; line_start = false; behind_f = false }
-after Indent t m = record m { levels = t.lexeme ∷ m.levels; in_body = m.in_body || m.colon; line_start = false; behind_f = false }
-after Dedent t m = record m { levels = tail_of m.levels; colon = false; in_body = false; behind_f = false }
-after InterpolationStart t m = record m { interpolation = Some t; line_start = false; behind_f = false }
-after InterpolationEnd t m = record m { interpolation = None; line_start = false; behind_f = false }
-after Eol t m = record m { line_start = true; behind_f = false }
-after Whitespace t m = record m { line_start = ends_in_newline t.lexeme; behind_f = false }
-after Identifier t m = record m { line_start = false; behind_f = bytes_eq t.lexeme (102 ∷ []) }
-after _ t m = record m { line_start = false; behind_f = false }
+abbrev pub mode_after : TokenKind → Tok → Mode → Mode
+mode_after BraceL t m = record m { openers = opener Brace t.line ∷ m.openers; line_start = false; after_f = false }
+mode_after BracketL t m = record m { openers = opener Bracket t.line ∷ m.openers; line_start = false; after_f = false }
+mode_after ParenL t m = record m { openers = opener Paren t.line ∷ m.openers; line_start = false; after_f = false }
+mode_after FormatStringStart t m = record m { openers = opener (FormatString (kind_of t.lexeme)) (t.line + count_by is_newline t.lexeme) ∷ m.openers; line_start = false; after_f = false }
+mode_after BraceR t m = record m { openers = tail_of m.openers; line_start = false; after_f = false }
+mode_after BracketR t m = record m { openers = tail_of m.openers; line_start = false; after_f = false }
+mode_after ParenR t m = record m { openers = tail_of m.openers; line_start = false; after_f = false }
+mode_after FormatStringEnd t m = record m { openers = tail_of m.openers; line_start = false; after_f = false }
+mode_after Colon t m = record m { colon = true; line_start = false; after_f = false }
+mode_after Indent t m = record m { levels = t.lexeme ∷ m.levels; in_body = m.in_body || m.colon; line_start = false; after_f = false }
+mode_after Dedent t m = record m { levels = tail_of m.levels; colon = false; in_body = false; after_f = false }
+mode_after InterpolationStart t m = record m { interpolation = Some t; line_start = false; after_f = false }
+mode_after InterpolationEnd t m = record m { interpolation = None; line_start = false; after_f = false }
+mode_after Eol t m = record m { line_start = true; after_f = false }
+mode_after Whitespace t m = record m { line_start = ends_in_newline t.lexeme; after_f = false }
+mode_after Identifier t m = record m { line_start = false; after_f = bytes_eq t.lexeme (102 ∷ []) }
+mode_after _ t m = record m { line_start = false; after_f = false }
 
 -- before the first token
-abbrev pub start : Mode
-start = record { openers = []; levels = []; colon = false; in_body = false; interpolation = None; line_start = true; behind_f = false }
+abbrev pub start_mode : Mode
+start_mode = record { openers = []; levels = []; colon = false; in_body = false; interpolation = None; line_start = true; after_f = false }
 
 -- what the earlier tokens leave
 abbrev pub mode : List Tok → Mode
-mode [] = start
-mode (t ∷ earlier) = after t.kind t (mode earlier)
+mode [] = start_mode
+mode (t ∷ earlier) = mode_after t.kind t (mode earlier)
 
 -- the current level: the innermost one, or the empty one
 abbrev pub innermost_of : List (List ℕ) → List ℕ

@@ -20,48 +20,48 @@ use Rattle.justfile_model.specs.LiteralText.{raw_len}
 use Rattle.justfile_model.specs.Tok.{Tok}
 use Rattle.justfile_model.specs.declared.open_delimiter.OpenDelimiter.{OpenDelimiter}
 use Rattle.justfile_model.specs.Modes.{Mode, head_of, is_empty, innermost, nested}
-use Rattle.justfile_model.specs.LexicalFault.{LexicalFault, EscapeEndOfFile, InconsistentLeadingWhitespace, InvalidEscapeSequence, MismatchedClosingDelimiter, MixedLeadingWhitespace, UnexpectedCharacter, UnexpectedClosingDelimiter, UnexpectedEndOfToken, UnknownStartOfToken, UnpairedCarriageReturn, UnterminatedBacktick, UnterminatedString, Refusal, Here, Unclosed}
+use Rattle.justfile_model.specs.LexicalFault.{LexicalFault, EscapeEndOfFile, InconsistentLeadingWhitespace, InvalidEscapeSequence, MismatchedClosingDelimiter, MixedLeadingWhitespace, UnexpectedCharacter, UnexpectedClosingDelimiter, UnexpectedEndOfToken, UnknownStartOfToken, UnpairedCarriageReturn, UnterminatedBacktick, UnterminatedString, LexicalRefusal, Here, Unclosed}
 
 -- the kind of the next token and its length in bytes, or why there is none
-abbrev pub Found : Type 0
-Found = Result (TokenKind × ℕ) Refusal
+abbrev pub NextToken : Type 0
+NextToken = Result (TokenKind × ℕ) LexicalRefusal
 
 -- Fixed tokens, by the first byte and the second.
 -- a token of one byte
-abbrev pub one : TokenKind → Found
-one kind = Ok (kind, 1)
+abbrev pub one_byte : TokenKind → NextToken
+one_byte kind = Ok (kind, 1)
 
 -- a token of two bytes
-abbrev pub two : TokenKind → Found
-two kind = Ok (kind, 2)
+abbrev pub two_bytes : TokenKind → NextToken
+two_bytes kind = Ok (kind, 2)
 
 -- a byte that has to come twice: where another character follows, or the text ends, it is refused there
-abbrev pub twice : ℕ → TokenKind → List ℕ → Found
-twice b kind rest =
-    if slice_index rest 1 == b then two kind
+abbrev pub doubled_token : ℕ → TokenKind → List ℕ → NextToken
+doubled_token b kind rest =
+    if slice_index rest 1 == b then two_bytes kind
     else if length (drop 1 rest) == 0 then Err (Here (UnexpectedEndOfToken (b ∷ [])) 1 0)
     else Err (Here (UnexpectedCharacter (b ∷ [])) 1 (len_utf8 (first_char (drop 1 rest))))
 
 -- the longest fixed token that begins with this byte
-unfoldable pub fixed : ℕ → List ℕ → Found
-fixed b rest =
+unfoldable pub fixed_token : ℕ → List ℕ → NextToken
+fixed_token b rest =
     let c = slice_index rest 1 in
-    if b == 33 then (if c == 61 then two BangEquals else if c == 126 then two BangTilde else one Bang)
-    else if b == 38 then twice 38 AmpersandAmpersand rest
-    else if b == 124 then twice 124 BarBar rest
-    else if b == 43 then (if c == 43 then two PlusPlus else one Plus)
-    else if b == 61 then (if c == 61 then two EqualsEquals else if c == 126 then two EqualsTilde else one Equals)
-    else if b == 58 then (if c == 61 then two ColonEquals else if c == 58 then two ColonColon else one Colon)
-    else if b == 36 then one Dollar
-    else if b == 42 then one Asterisk
-    else if b == 44 then one Comma
-    else if b == 47 then one Slash
-    else if b == 63 then one QuestionMark
-    else one At
+    if b == 33 then (if c == 61 then two_bytes BangEquals else if c == 126 then two_bytes BangTilde else one_byte Bang)
+    else if b == 38 then doubled_token 38 AmpersandAmpersand rest
+    else if b == 124 then doubled_token 124 BarBar rest
+    else if b == 43 then (if c == 43 then two_bytes PlusPlus else one_byte Plus)
+    else if b == 61 then (if c == 61 then two_bytes EqualsEquals else if c == 126 then two_bytes EqualsTilde else one_byte Equals)
+    else if b == 58 then (if c == 61 then two_bytes ColonEquals else if c == 58 then two_bytes ColonColon else one_byte Colon)
+    else if b == 36 then one_byte Dollar
+    else if b == 42 then one_byte Asterisk
+    else if b == 44 then one_byte Comma
+    else if b == 47 then one_byte Slash
+    else if b == 63 then one_byte QuestionMark
+    else one_byte At
 
 -- an opening delimiter
-abbrev pub opening : ℕ → Found
-opening b = if b == 40 then one ParenL else if b == 91 then one BracketL else one BraceL
+abbrev pub opening : ℕ → NextToken
+opening b = if b == 40 then one_byte ParenL else if b == 91 then one_byte BracketL else one_byte BraceL
 
 -- Literals.
 -- the fault of a literal without an end
@@ -76,21 +76,21 @@ is_backtick _ = false
 
 -- a literal, or a part of a format string, whose opener is so many bytes long and whose inside is so many: it has no end,
 -- or it ends with `{{` and more follows, or with the delimiter
-abbrev pub literal_part_by : StringKind → (format : Bool) → (opener inside : ℕ) → (more whole : TokenKind) → List ℕ → Found
+abbrev pub literal_part_by : StringKind → (format : Bool) → (opener inside : ℕ) → (more whole : TokenKind) → List ℕ → NextToken
 literal_part_by k format opener inside more whole rest =
     if inside == length (drop opener rest) then Err (Here (unterminated k.delimiter) 0 opener)
     else if format && is_interpolation_start (drop inside (drop opener rest)) then Ok (more, opener + inside + 2)
     else Ok (whole, opener + inside + delimiter_len k)
 
--- the same, with the inside read up to its first end
-unfoldable pub literal_part : StringKind → (format : Bool) → (opener : ℕ) → (more whole : TokenKind) → List ℕ → Found
+-- a literal, or a part of a format string, with the inside read up to its first end
+unfoldable pub literal_part : StringKind → (format : Bool) → (opener : ℕ) → (more whole : TokenKind) → List ℕ → NextToken
 literal_part k format opener more whole rest = literal_part_by k format opener (raw_len (raw_texts.Literal k format) (drop opener rest)) more whole rest
 
--- a literal; right behind the identifier `f` quotes open a format string, and a backtick never does
-abbrev pub literal : Mode → List ℕ → Found
-literal m rest =
+-- a literal; right after the identifier `f` quotes open a format string, and a backtick never does
+abbrev pub literal_token : Mode → List ℕ → NextToken
+literal_token m rest =
     let k = kind_of rest in
-    literal_part k (m.behind_f && not (is_backtick k.delimiter)) (delimiter_len k) FormatStringStart (token_kind_of k.delimiter) rest
+    literal_part k (m.after_f && not (is_backtick k.delimiter)) (delimiter_len k) FormatStringStart (token_kind_of k.delimiter) rest
 
 -- Closing delimiters: one has to match the innermost open one.
 -- two delimiters are the same; a format string has no closing one
@@ -101,43 +101,43 @@ is_same Paren Paren = true
 is_same _ _ = false
 
 -- a closing delimiter, where this is the innermost open one
-abbrev pub close : Option OpenDelimiter → Delimiter → TokenKind → Found
-close None delimiter kind = Err (Here (UnexpectedClosingDelimiter delimiter) 0 0)
-close (Some o) delimiter kind = if is_same o.delimiter delimiter then one kind else Err (Here (MismatchedClosingDelimiter delimiter o.line o.delimiter) 0 0)
+abbrev pub closing_delimiter : Option OpenDelimiter → Delimiter → TokenKind → NextToken
+closing_delimiter None delimiter kind = Err (Here (UnexpectedClosingDelimiter delimiter) 0 0)
+closing_delimiter (Some o) delimiter kind = if is_same o.delimiter delimiter then one_byte kind else Err (Here (MismatchedClosingDelimiter delimiter o.line o.delimiter) 0 0)
 
 -- the kind of literal of a format string
-abbrev pub format_of : Delimiter → Option StringKind
-format_of (FormatString k) = Some k
-format_of _ = None
+abbrev pub format_string_kind : Delimiter → Option StringKind
+format_string_kind (FormatString k) = Some k
+format_string_kind _ = None
 
--- the same of the innermost open delimiter, if it is a format string
+-- the kind of literal of the innermost open delimiter, if it is a format string
 abbrev pub format_kind : Option OpenDelimiter → Option StringKind
 format_kind None = None
-format_kind (Some o) = format_of o.delimiter
+format_kind (Some o) = format_string_kind o.delimiter
 
 -- a closing brace; `}}` goes on with the innermost format string
-abbrev pub brace_by : Option StringKind → Option OpenDelimiter → List ℕ → Found
-brace_by None last rest = close last Brace BraceR
-brace_by (Some k) last rest = if is_interpolation_end rest then literal_part k true 2 FormatStringContinue FormatStringEnd rest else close last Brace BraceR
+abbrev pub brace_by : Option StringKind → Option OpenDelimiter → List ℕ → NextToken
+brace_by None last rest = closing_delimiter last Brace BraceR
+brace_by (Some k) last rest = if is_interpolation_end rest then literal_part k true 2 FormatStringContinue FormatStringEnd rest else closing_delimiter last Brace BraceR
 
 -- `)`, `]` or `}`
-abbrev pub closing : Option OpenDelimiter → ℕ → List ℕ → Found
+abbrev pub closing : Option OpenDelimiter → ℕ → List ℕ → NextToken
 closing last b rest =
-    if b == 41 then close last Paren ParenR
-    else if b == 93 then close last Bracket BracketR
+    if b == 41 then closing_delimiter last Paren ParenR
+    else if b == 93 then closing_delimiter last Bracket BracketR
     else brace_by (format_kind last) last rest
 
 -- a line end of so many bytes: whitespace while a delimiter or an interpolation is open
-abbrev pub line_end : Mode → ℕ → Found
-line_end m n = if nested m then Ok (Whitespace, n) else Ok (Eol, n)
+abbrev pub line_end_token : Mode → ℕ → NextToken
+line_end_token m n = if nested m then Ok (Whitespace, n) else Ok (Eol, n)
 
 -- a character that begins no token
-abbrev pub unknown : List ℕ → Found
+abbrev pub unknown : List ℕ → NextToken
 unknown rest = Err (Here (UnknownStartOfToken (first_char rest)) 0 (len_utf8 (first_char rest)))
 
--- a backslash, which only a line end may follow: it is whitespace with the blanks behind the line end
-abbrev pub escape : List ℕ → Found
-escape rest =
+-- a backslash, which only a line end may follow: it is whitespace with the blanks after the line end
+abbrev pub escaped_line_end : List ℕ → NextToken
+escaped_line_end rest =
     let c = slice_index rest 1 in
     if c == 10 then Ok (Whitespace, 2 + blank_len (drop 2 rest))
     else if c == 13 then (if slice_index rest 2 == 10 then Ok (Whitespace, 3 + blank_len (drop 3 rest)) else Err (Here UnpairedCarriageReturn 0 2))
@@ -145,55 +145,55 @@ escape rest =
     else Err (Here (InvalidEscapeSequence (first_char (drop 1 rest))) 0 1)
 
 -- the first byte of a character beyond ASCII: the byte order mark alone begins a token
-abbrev pub lead : List ℕ → Found
-lead rest = if first_char rest == 65279 then Ok (ByteOrderMark, 3) else unknown rest
+abbrev pub multibyte_token : List ℕ → NextToken
+multibyte_token rest = if first_char rest == 65279 then Ok (ByteOrderMark, 3) else unknown rest
 
 -- a comment, a backslash, or what begins no token
-abbrev pub other : List ℕ → Found
-other rest =
+abbrev pub other_token : List ℕ → NextToken
+other_token rest =
     if slice_index rest 0 == 35 then Ok (Comment, raw_len raw_texts.Comment rest)
-    else if slice_index rest 0 == 92 then escape rest
+    else if slice_index rest 0 == 92 then escaped_line_end rest
     else unknown rest
 
--- the same by the class of the first byte
-unfoldable pub inline : Mode → ByteClass → List ℕ → Found
-inline m classes.Blank rest = Ok (Whitespace, blank_len rest)
-inline m classes.LineFeed rest = line_end m 1
-inline m classes.CarriageReturn rest = if slice_index rest 1 == 10 then line_end m 2 else Err (Here UnpairedCarriageReturn 0 1)
-inline m classes.IdentifierStart rest = Ok (Identifier, word_len rest)
-inline m classes.IdentifierContinue rest = unknown rest
-inline m classes.Quote rest = literal m rest
-inline m classes.Opener rest = opening (slice_index rest 0)
-inline m classes.Closer rest = closing (head_of m.openers) (slice_index rest 0) rest
-inline m classes.Fixed rest = fixed (slice_index rest 0) rest
-inline m classes.Lead rest = lead rest
-inline m classes.Other rest = other rest
+-- the token at the front, outside body text, by the class of the first byte
+unfoldable pub token_by_class : Mode → ByteClass → List ℕ → NextToken
+token_by_class m classes.Blank rest = Ok (Whitespace, blank_len rest)
+token_by_class m classes.LineFeed rest = line_end_token m 1
+token_by_class m classes.CarriageReturn rest = if slice_index rest 1 == 10 then line_end_token m 2 else Err (Here UnpairedCarriageReturn 0 1)
+token_by_class m classes.IdentifierStart rest = Ok (Identifier, word_len rest)
+token_by_class m classes.IdentifierContinue rest = unknown rest
+token_by_class m classes.Quote rest = literal_token m rest
+token_by_class m classes.Opener rest = opening (slice_index rest 0)
+token_by_class m classes.Closer rest = closing (head_of m.openers) (slice_index rest 0) rest
+token_by_class m classes.Fixed rest = fixed_token (slice_index rest 0) rest
+token_by_class m classes.Lead rest = multibyte_token rest
+token_by_class m classes.Other rest = other_token rest
 
 -- the token at the front of the rest, outside body text
-abbrev pub normal : Mode → List ℕ → Found
-normal m rest = inline m (class_of (slice_index rest 0)) rest
+abbrev pub token_outside_text : Mode → List ℕ → NextToken
+token_outside_text m rest = token_by_class m (class_of (slice_index rest 0)) rest
 
 -- in a body: so many bytes of text, or, where there are none, the line end or `{{` that begins with this byte
-abbrev pub text_or : ℕ → ℕ → Found
+abbrev pub text_or : ℕ → ℕ → NextToken
 text_or zero b = if b == 10 then Ok (Eol, 1) else if b == 13 then Ok (Eol, 2) else Ok (InterpolationStart, 2)
 text_or (suc n) b = Ok (Text, suc n)
 
 -- the token at the front of the rest of a body's line
-unfoldable pub body : List ℕ → Found
-body rest = text_or (raw_len raw_texts.Body rest) (slice_index rest 0)
+unfoldable pub body_token : List ℕ → NextToken
+body_token rest = text_or (raw_len raw_texts.Body rest) (slice_index rest 0)
 
 -- at the end of the text each level is closed, then comes Eof
-abbrev pub levels_end : List (List ℕ) → Found
+abbrev pub levels_end : List (List ℕ) → NextToken
 levels_end levels = if is_empty levels then Ok (Eof, 0) else Ok (Dedent, 0)
 
 -- an open interpolation is refused first; open delimiters are not
-abbrev pub at_end_by : Option Tok → List (List ℕ) → Found
+abbrev pub at_end_by : Option Tok → List (List ℕ) → NextToken
 at_end_by (Some t) levels = Err (Unclosed t)
 at_end_by None levels = levels_end levels
 
 -- at the end of the text
-abbrev pub at_end : Mode → Found
-at_end m = at_end_by m.interpolation m.levels
+abbrev pub end_token : Mode → NextToken
+end_token m = at_end_by m.interpolation m.levels
 
 -- Where no layout token is asked for: in the text of a body, in an interpolation, or elsewhere.
 pub data Region : Type 0 where
@@ -208,23 +208,23 @@ region_by true None = InText
 region_by false None = Inline
 
 -- in an interpolation: `}}` ends it where no delimiter is open
-abbrev pub interpolated : Mode → List ℕ → Found
-interpolated m rest = if is_empty m.openers && is_interpolation_end rest then Ok (InterpolationEnd, 2) else normal m rest
+abbrev pub interpolated : Mode → List ℕ → NextToken
+interpolated m rest = if is_empty m.openers && is_interpolation_end rest then Ok (InterpolationEnd, 2) else token_outside_text m rest
 
 -- the next token of a place
-abbrev pub token_in_region : Region → Mode → List ℕ → Found
-token_in_region InText m rest = body rest
+abbrev pub token_in_region : Region → Mode → List ℕ → NextToken
+token_in_region InText m rest = body_token rest
 token_in_region InInterpolation m rest = interpolated m rest
-token_in_region Inline m rest = normal m rest
+token_in_region Inline m rest = token_outside_text m rest
 
 -- the next token where no layout token is asked for
-unfoldable pub inside : Mode → List ℕ → Found
-inside m rest = token_in_region (region_by m.in_body m.interpolation) m rest
+unfoldable pub token_within_line : Mode → List ℕ → NextToken
+token_within_line m rest = token_in_region (region_by m.in_body m.interpolation) m rest
 
 -- Layout.
 -- so many blanks as whitespace, or, where there are none, the token that follows
-abbrev pub blanks_or : ℕ → Mode → List ℕ → Found
-blanks_or zero m rest = inside m rest
+abbrev pub blanks_or : ℕ → Mode → List ℕ → NextToken
+blanks_or zero m rest = token_within_line m rest
 blanks_or (suc n) m rest = Ok (Whitespace, suc n)
 
 -- the leading blanks that may not mix spaces and tabs: in a body the first ones, as many as the level has, else all
@@ -235,18 +235,18 @@ tested_blanks m found = if m.in_body then take (length (innermost m)) found else
 abbrev pub is_level : List (List ℕ) → List ℕ → Bool
 is_level levels found = is_empty found || list_any (λ l. bytes_eq l found) levels
 
--- the line is blank: a line end or the end of the text is behind its blanks
-abbrev pub is_blank_line : List ℕ → Bool
-is_blank_line behind = is_line_end behind || is_empty behind
+-- the line is blank: after its blanks comes a line end or the end of the text
+abbrev pub begins_blank_line : List ℕ → Bool
+begins_blank_line following = is_line_end following || is_empty following
 
--- The run of blanks that is found at column 0, and what is behind it. The first of these that fits: a delimiter or an
+-- The run of blanks that is found at column 0, and what follows it. The first of these that fits: a delimiter or an
 -- interpolation is open; the line is blank, and levels may close; the blanks are the current level; they are another open
--- level, so that one closes; in a body they go on behind the level; they mix spaces and tabs; they don't begin with the
+-- level, so that one closes; in a body they go on after the level; they mix spaces and tabs; they don't begin with the
 -- level; they are a new level.
-unfoldable pub layout : Mode → (found behind rest : List ℕ) → Found
-layout m found behind rest =
+unfoldable pub layout : Mode → (found following rest : List ℕ) → NextToken
+layout m found following rest =
     if nested m then blanks_or (length found) m rest
-    else if is_blank_line behind then (if not (is_empty m.levels) && closes_levels false rest then Ok (Dedent, 0) else blanks_or (length found) m rest)
+    else if begins_blank_line following then (if not (is_empty m.levels) && closes_levels false rest then Ok (Dedent, 0) else blanks_or (length found) m rest)
     else if bytes_eq found (innermost m) then blanks_or (length found) m rest
     else if is_level m.levels found then Ok (Dedent, 0)
     else if m.in_body && starts_with nat_eq found (innermost m) then blanks_or (length (innermost m)) m rest
@@ -255,15 +255,15 @@ layout m found behind rest =
     else Ok (Indent, length found)
 
 -- the next token at column 0
-abbrev pub at_line_start : Mode → List ℕ → Found
+abbrev pub at_line_start : Mode → List ℕ → NextToken
 at_line_start m rest = layout m (take (blank_len rest) rest) (drop (blank_len rest) rest) rest
 
 -- the next token where text is left
-abbrev pub next_by : Bool → Mode → List ℕ → Found
+abbrev pub next_by : Bool → Mode → List ℕ → NextToken
 next_by true m rest = at_line_start m rest
-next_by false m rest = inside m rest
+next_by false m rest = token_within_line m rest
 
 -- the next token
-unfoldable pub next : Mode → List ℕ → Found
-next m [] = at_end m
+unfoldable pub next : Mode → List ℕ → NextToken
+next m [] = end_token m
 next m (b ∷ bs) = next_by m.line_start m (b ∷ bs)

@@ -32,7 +32,7 @@ operand Compared = Conjunct
 operand Conjunct = Value
 operand Value = Value
 
--- and to the right: all go on to the right but a comparison
+-- what stands to the right of a level's operators: the level itself, but after a comparison a conjunct
 abbrev pub right : Level → Level
 right Compared = Conjunct
 right level = level
@@ -59,7 +59,7 @@ is_at Conjunct ListConcatenation = true
 is_at Conjunct Concatenation = true
 is_at _ _ = false
 
--- the feature that it is; the comparison that a condition begins with is none
+-- the feature that an operator is; the comparison that a condition begins with is none
 abbrev pub feature_of : Operator → (condition : Bool) → Option ListFeature
 feature_of Or condition = Some features.LogicalOperator
 feature_of And condition = Some features.LogicalOperator

@@ -9,66 +9,66 @@ use Rattle.justfile_model.specs.declared.parameter_kind.ParameterKind.TheVariant
 use Rattle.justfile_model.specs.Tree.{Expr, Or, And, Comparison, Concatenation, ListConcatenation, Join, Root, If, IfElse, Not, StringLiteral, FormatLiteral, FormatString, Backtick, Assert, AssertMessage, Variable, Call, Group, ListOf, Exprs, none, more, Parts, Last, Continue, Fragment, Text, Interpolation, BodyLine, Line, Entry, Parameter, DependencyArgument, Dependency, Header, AssignmentParts, RecipeParts, Content, Assignment, Recipe, Item, Newline, Comment, Construct, OrderedItem, Shape}
 
 -- a piece that is the same in every text; kept folded, so that a text stays a row of pieces
-unfoldable pub piece : List ℕ → List ℕ
-piece bytes = bytes
+unfoldable pub fixed_text : List ℕ → List ℕ
+fixed_text bytes = bytes
 
 -- what stands before the quotes of a literal
 abbrev pub mark_text : (expanded : Bool) → List ℕ
-mark_text true = piece (codes "x")
+mark_text true = fixed_text (codes "x")
 mark_text false = []
 
 abbrev pub operator_text : ConditionalOperator → List ℕ
-operator_text Equality = piece (codes " == ")
-operator_text Inequality = piece (codes " != ")
-operator_text RegexMatch = piece (codes " =~ ")
-operator_text RegexMismatch = piece (codes " !~ ")
+operator_text Equality = fixed_text (codes " == ")
+operator_text Inequality = fixed_text (codes " != ")
+operator_text RegexMatch = fixed_text (codes " =~ ")
+operator_text RegexMismatch = fixed_text (codes " !~ ")
 
 abbrev pub is_conditional : {A B : Type 0} → Expr A B → Bool
 is_conditional (If c b) = true
 is_conditional (IfElse c b o) = true
 is_conditional _ = false
 
--- in braces, but for a conditional
+-- the other branch: a conditional as it is, all else in braces
 abbrev pub other_text : (conditional : Bool) → List ℕ → List ℕ
 other_text true text = text
-other_text false text = piece (codes "{ ") ++ text ++ piece (codes " }")
+other_text false text = fixed_text (codes "{ ") ++ text ++ fixed_text (codes " }")
 
 abbrev mutual
   pub expr_text : Expr (List ℕ) (Unit {0}) → List ℕ
-  expr_text (Or l r) = expr_text l ++ piece (codes " || ") ++ expr_text r
-  expr_text (And l r) = expr_text l ++ piece (codes " && ") ++ expr_text r
+  expr_text (Or l r) = expr_text l ++ fixed_text (codes " || ") ++ expr_text r
+  expr_text (And l r) = expr_text l ++ fixed_text (codes " && ") ++ expr_text r
   expr_text (Comparison l operator token r) = expr_text l ++ operator_text operator ++ expr_text r
-  expr_text (Concatenation l operator r) = expr_text l ++ piece (codes " + ") ++ expr_text r
-  expr_text (ListConcatenation l operator r) = expr_text l ++ piece (codes " ++ ") ++ expr_text r
-  expr_text (Join l operator r) = expr_text l ++ piece (codes " / ") ++ expr_text r
-  expr_text (Root operator r) = piece (codes "/ ") ++ expr_text r
-  expr_text (If c b) = piece (codes "if ") ++ expr_text c ++ piece (codes " { ") ++ expr_text b ++ piece (codes " }")
-  expr_text (IfElse c b o) = piece (codes "if ") ++ expr_text c ++ piece (codes " { ") ++ expr_text b ++ piece (codes " } else ") ++ other_text (is_conditional o) (expr_text o)
-  expr_text (Not e) = piece (codes "!") ++ expr_text e
+  expr_text (Concatenation l operator r) = expr_text l ++ fixed_text (codes " + ") ++ expr_text r
+  expr_text (ListConcatenation l operator r) = expr_text l ++ fixed_text (codes " ++ ") ++ expr_text r
+  expr_text (Join l operator r) = expr_text l ++ fixed_text (codes " / ") ++ expr_text r
+  expr_text (Root operator r) = fixed_text (codes "/ ") ++ expr_text r
+  expr_text (If c b) = fixed_text (codes "if ") ++ expr_text c ++ fixed_text (codes " { ") ++ expr_text b ++ fixed_text (codes " }")
+  expr_text (IfElse c b o) = fixed_text (codes "if ") ++ expr_text c ++ fixed_text (codes " { ") ++ expr_text b ++ fixed_text (codes " } else ") ++ other_text (is_conditional o) (expr_text o)
+  expr_text (Not e) = fixed_text (codes "!") ++ expr_text e
   expr_text (StringLiteral expanded lexeme) = mark_text expanded ++ lexeme
-  expr_text (FormatLiteral lexeme) = piece (codes "f") ++ lexeme
-  expr_text (FormatString start e parts) = piece (codes "f") ++ start ++ piece (codes " ") ++ expr_text e ++ piece (codes " ") ++ parts_text parts
+  expr_text (FormatLiteral lexeme) = fixed_text (codes "f") ++ lexeme
+  expr_text (FormatString start e parts) = fixed_text (codes "f") ++ start ++ fixed_text (codes " ") ++ expr_text e ++ fixed_text (codes " ") ++ parts_text parts
   expr_text (Backtick lexeme) = lexeme
-  expr_text (Assert name c) = piece (codes "assert(") ++ expr_text c ++ piece (codes ")")
-  expr_text (AssertMessage name c m) = piece (codes "assert(") ++ expr_text c ++ piece (codes ", ") ++ expr_text m ++ piece (codes ")")
+  expr_text (Assert name c) = fixed_text (codes "assert(") ++ expr_text c ++ fixed_text (codes ")")
+  expr_text (AssertMessage name c m) = fixed_text (codes "assert(") ++ expr_text c ++ fixed_text (codes ", ") ++ expr_text m ++ fixed_text (codes ")")
   expr_text (Variable name) = name
-  expr_text (Call name arguments) = name ++ piece (codes "(") ++ exprs_text arguments ++ piece (codes ")")
-  expr_text (Group e) = piece (codes "(") ++ expr_text e ++ piece (codes ")")
-  expr_text (ListOf opener elements) = piece (codes "[") ++ exprs_text elements ++ piece (codes "]")
+  expr_text (Call name arguments) = name ++ fixed_text (codes "(") ++ exprs_text arguments ++ fixed_text (codes ")")
+  expr_text (Group e) = fixed_text (codes "(") ++ expr_text e ++ fixed_text (codes ")")
+  expr_text (ListOf opener elements) = fixed_text (codes "[") ++ exprs_text elements ++ fixed_text (codes "]")
 
   -- separated by a comma and a space
   pub exprs_text : Exprs (List ℕ) (Unit {0}) → List ℕ
   exprs_text none = []
   exprs_text (more e none) = expr_text e
-  exprs_text (more e others) = expr_text e ++ piece (codes ", ") ++ exprs_text others
+  exprs_text (more e others) = expr_text e ++ fixed_text (codes ", ") ++ exprs_text others
 
   pub parts_text : Parts (List ℕ) (Unit {0}) → List ℕ
   parts_text (Last lexeme) = lexeme
-  parts_text (Continue lexeme e parts) = lexeme ++ piece (codes " ") ++ expr_text e ++ piece (codes " ") ++ parts_text parts
+  parts_text (Continue lexeme e parts) = lexeme ++ fixed_text (codes " ") ++ expr_text e ++ fixed_text (codes " ") ++ parts_text parts
 
 abbrev pub fragment_text : Fragment (List ℕ) (Unit {0}) → List ℕ
 fragment_text (Text lexeme) = lexeme
-fragment_text (Interpolation value) = piece (codes "{{ ") ++ expr_text value ++ piece (codes " }}")
+fragment_text (Interpolation value) = fixed_text (codes "{{ ") ++ expr_text value ++ fixed_text (codes " }}")
 
 -- a line of a body; one that is empty has no indentation
 abbrev pub line_text : (indentation : List ℕ) → BodyLine (List ℕ) (Unit {0}) (Unit {0}) → List ℕ
@@ -77,9 +77,9 @@ line_text indentation (Line number fragments) = indentation ++ flat_map fragment
 
 -- each line of a body on a line of its own, after a newline
 abbrev pub body_text : (indentation : List ℕ) → List (BodyLine (List ℕ) (Unit {0}) (Unit {0})) → List ℕ
-body_text indentation = flat_map (λ line. piece (codes "\n") ++ line_text indentation line)
+body_text indentation = flat_map (λ line. fixed_text (codes "\n") ++ line_text indentation line)
 
--- what follows a value, if there is one
+-- the text of what may be missing
 abbrev pub if_some : {X : Type 0} → (X → List ℕ) → Option X → List ℕ
 if_some f None = []
 if_some f (Some x) = f x
@@ -94,51 +94,52 @@ entries_text = flat_map (λ e. absurd e.attribute)
 
 -- a doc on a line of its own
 abbrev pub doc_line : List ℕ → List ℕ
-doc_line [] = piece (codes "#\n")
-doc_line doc = piece (codes "# ") ++ doc ++ piece (codes "\n")
+doc_line [] = fixed_text (codes "#\n")
+doc_line doc = fixed_text (codes "# ") ++ doc ++ fixed_text (codes "\n")
 
 abbrev pub prefix_text : ParameterKind → List ℕ
-prefix_text Plus = piece (codes "+")
+prefix_text Plus = fixed_text (codes "+")
 prefix_text Singular = []
-prefix_text Star = piece (codes "*")
+prefix_text Star = fixed_text (codes "*")
 
 abbrev pub parameter_text : Parameter (List ℕ) (Unit {0}) → List ℕ
 parameter_text p =
-    prefix_text p.kind ++ if_true p.export (piece (codes "$")) ++ p.name ++ if_some (λ e. piece (codes "=") ++ expr_text e) p.default
+    prefix_text p.kind ++ if_true p.export (fixed_text (codes "$")) ++ p.name ++ if_some (λ e. fixed_text (codes "=") ++ expr_text e) p.default
 
 abbrev pub dependency_argument_text : DependencyArgument (List ℕ) (Unit {0}) (Unit {0}) → List ℕ
-dependency_argument_text a = piece (codes " ") ++ if_some (λ star. piece (codes "*")) a.star ++ expr_text a.value
+dependency_argument_text a = fixed_text (codes " ") ++ if_some (λ star. fixed_text (codes "*")) a.star ++ expr_text a.value
 
 -- a dependency: in parentheses where there are arguments
 abbrev pub parenthesized : (star : Option (Unit {0})) (path : List ℕ) → List (DependencyArgument (List ℕ) (Unit {0}) (Unit {0})) → List ℕ
 parenthesized star path [] = path
 parenthesized star path arguments =
-    if_some (λ s. piece (codes "*")) star ++ piece (codes "(") ++ path ++ flat_map dependency_argument_text arguments ++ piece (codes ")")
+    if_some (λ s. fixed_text (codes "*")) star ++ fixed_text (codes "(") ++ path ++ flat_map dependency_argument_text arguments ++ fixed_text (codes ")")
 
 abbrev pub dependency_text : Dependency (List ℕ) (Unit {0}) (Unit {0}) → List ℕ
 dependency_text d = parenthesized d.star (path_text d.path) d.arguments
 
 abbrev pub subsequents_text : List (Dependency (List ℕ) (Unit {0}) (Unit {0})) → List ℕ
 subsequents_text [] = []
-subsequents_text ds = piece (codes " &&") ++ flat_map (λ d. piece (codes " ") ++ dependency_text d) ds
+subsequents_text ds = fixed_text (codes " &&") ++ flat_map (λ d. fixed_text (codes " ") ++ dependency_text d) ds
 
 abbrev pub header_text : Header (List ℕ) (Unit {0}) (Unit {0}) → List ℕ
 header_text h =
-    if_true h.quiet (piece (codes "@")) ++ h.name ++ flat_map (λ p. piece (codes " ") ++ parameter_text p) h.parameters ++ piece (codes ":")
-    ++ flat_map (λ d. piece (codes " ") ++ dependency_text d) h.priors ++ subsequents_text h.subsequents
+    if_true h.quiet (fixed_text (codes "@")) ++ h.name ++ flat_map (λ p. fixed_text (codes " ") ++ parameter_text p) h.parameters ++ fixed_text (codes ":")
+    ++ flat_map (λ d. fixed_text (codes " ") ++ dependency_text d) h.priors ++ subsequents_text h.subsequents
 
 abbrev pub assignment_text : AssignmentParts (List ℕ) (Unit {0}) → List ℕ
 assignment_text a =
-    if_true a.eager (piece (codes "eager ")) ++ if_true a.export (piece (codes "export ")) ++ a.name ++ piece (codes " := ") ++ expr_text a.value
+    if_true a.eager (fixed_text (codes "eager ")) ++ if_true a.export (fixed_text (codes "export ")) ++ a.name ++ fixed_text (codes " := ") ++ expr_text a.value
 
 abbrev pub recipe_text : RecipeParts (List ℕ) (Unit {0}) (Unit {0}) (Unit {0}) → (indentation : List ℕ) → List ℕ
 recipe_text r indentation = header_text r.header ++ body_text indentation r.body
 
--- a construct after its doc and its attributes
+-- a construct without its doc and its attributes
 abbrev pub content_text : Content (List ℕ) (Unit {0}) (Unit {0}) (Unit {0}) → (indentation : List ℕ) → List ℕ
 content_text (Assignment parts) indentation = assignment_text parts
 content_text (Recipe parts) indentation = recipe_text parts indentation
 
+-- the line of a recipe's doc, if it has one; so far no attribute says it in its place
 abbrev pub content_doc : Content (List ℕ) (Unit {0}) (Unit {0}) (Unit {0}) → List ℕ
 content_doc (Assignment parts) = []
 content_doc (Recipe parts) = if_some doc_line parts.doc
@@ -150,10 +151,10 @@ item_text (Construct entries content) indentation = content_doc content ++ entri
 
 -- what stands after an item: a newline after a line end, a space between two others
 abbrev pub item_end : {A B C S D : Type 0} → Item A B C S D → List (Item A B C S D) → List ℕ
-item_end Newline items = piece (codes "\n")
+item_end Newline items = fixed_text (codes "\n")
 item_end i [] = []
 item_end i (Newline ∷ items) = []
-item_end i (j ∷ items) = piece (codes " ")
+item_end i (j ∷ items) = fixed_text (codes " ")
 
 -- the text of a file; the lines of bodies alone are indented
 abbrev pub text : Shape → (indentation : List ℕ) → List ℕ
@@ -165,7 +166,7 @@ ends_in_return [] = false
 ends_in_return (b ∷ []) = b == 13
 ends_in_return (b ∷ bs) = ends_in_return bs
 
--- its last fragment is no text that ends in a carriage return, which would be read as part of the line's end
+-- the last fragment is no text that ends in a carriage return: such a one would be read as part of the line's end
 abbrev pub printable_fragments : {B : Type 0} → List (Fragment (List ℕ) B) → Bool
 printable_fragments [] = true
 printable_fragments (Text lexeme ∷ []) = not (ends_in_return lexeme)

@@ -8,7 +8,7 @@ use Rattle.justfile_model.specs.Tree as tree
 use Rattle.justfile_model.specs.Tree.{BodyLine, Construct, Content, Expr, Fragment, Item, Line, plain_assignment, plain_recipe, trimmed}
 use Rattle.justfile_model.specs.ExpressionReader as expressions
 use Rattle.justfile_model.specs.Recursive.{recursive}
-use Rattle.justfile_model.specs.Reading.{◌>>=◌, Counters, Leaves, NoNumber, Read, State, Unexpected, accept, after, at, choose, expect, next_are, refused}
+use Rattle.justfile_model.specs.Reading.{◌>>=◌, Counters, Leaves, NoNumber, Read, State, Unexpected, accept, prepend, at, choose, expect, next_are, refused}
 
 abbrev pub with_bindings : ℕ → Counters → Counters
 with_bindings bindings n = record { bindings = bindings; constants = n.constants; recipes = n.recipes }
@@ -78,7 +78,7 @@ module _ {R T A B S D : Type 0} (leaves : Leaves R T A B S D) where
       (if next_are leaves (kinds.Dedent ∷ []) s then Ok ([], s)
       else (do
         f ← fragment s
-        after (f.0 ∷ []) (read f.1)))
+        prepend (f.0 ∷ []) (read f.1)))
       (λ newline. Ok ([], newline.1))
 
   -- what is left of a line of a body; its end is taken, that of the body is left
@@ -98,7 +98,7 @@ module _ {R T A B S D : Type 0} (leaves : Leaves R T A B S D) where
       choose (accept leaves kinds.Dedent s)
       (do
         l ← body_line s
-        after (l.0 ∷ []) (read l.1))
+        prepend (l.0 ∷ []) (read l.1))
       (λ end. Ok ([], end.1))
 
   -- the lines of a body, and its end
@@ -117,8 +117,8 @@ module _ {R T A B S D : Type 0} (leaves : Leaves R T A B S D) where
     some_lines (trimmed ls.0) ls.1
 
   -- the body of a recipe, from the end of its header on, if it has one
-  unfoldable pub body_behind : State R T B → Read R T B (List (BodyLine A B ℕ))
-  body_behind s =
+  unfoldable pub optional_body : State R T B → Read R T B (List (BodyLine A B ℕ))
+  optional_body s =
       if next_are leaves (kinds.Eol ∷ kinds.Indent ∷ []) s then body (at s (drop 2 s.left))
       else if next_are leaves (kinds.Comment ∷ kinds.Eol ∷ kinds.Indent ∷ []) s then body (at s (drop 3 s.left))
       else Ok ([], s)
@@ -150,7 +150,7 @@ module _ {R T A B S D : Type 0} (leaves : Leaves R T A B S D) where
   recipe n s = do
     name ← expect leaves kinds.Identifier s
     colon ← expect leaves kinds.Colon name.1
-    b ← body_behind colon.1
+    b ← optional_body colon.1
     number ← draw_recipe n b.1
     headed name.0 b.0 number
 
@@ -170,8 +170,8 @@ module _ {R T A B S D : Type 0} (leaves : Leaves R T A B S D) where
       (λ x. Ok ([], s))
 
   -- a trailing comment, and the line's end
-  unfoldable pub behind : State R T B → Read R T B (List (Item A B ℕ S D))
-  behind s =
+  unfoldable pub item_rest : State R T B → Read R T B (List (Item A B ℕ S D))
+  item_rest s =
       choose (accept leaves kinds.Comment s)
       (line_end s)
       (λ c. do
@@ -180,7 +180,7 @@ module _ {R T A B S D : Type 0} (leaves : Leaves R T A B S D) where
 
   -- what ends an item, which has a body or not: after a body a line starts, and a line end is made
   unfoldable pub ended : (has_body : Bool) → State R T B → Read R T B (List (Item A B ℕ S D))
-  ended has_body s = if has_body then Ok (tree.Newline ∷ [], s) else behind s
+  ended has_body s = if has_body then Ok (tree.Newline ∷ [], s) else item_rest s
 
   -- the items of a line: none but its end, or an item and what ends it
   unfoldable pub line : Counters → State R T B → Read R T B (List (Item A B ℕ S D) × Counters)
@@ -193,12 +193,12 @@ module _ {R T A B S D : Type 0} (leaves : Leaves R T A B S D) where
       (λ newline. Ok ((tree.Newline ∷ [], n), newline.1))
 
   -- nothing stands after the end of the file
-  abbrev pub nothing_behind : Counters → State R T B → List T → Read R T B (List (Item A B ℕ S D) × Counters)
-  nothing_behind n s [] = Ok (([], n), s)
-  nothing_behind n s (t ∷ ts) = Err (refused Unexpected s)
+  abbrev pub end_of_tokens : Counters → State R T B → List T → Read R T B (List (Item A B ℕ S D) × Counters)
+  end_of_tokens n s [] = Ok (([], n), s)
+  end_of_tokens n s (t ∷ ts) = Err (refused Unexpected s)
 
   unfoldable pub at_end : Counters → State R T B → Read R T B (List (Item A B ℕ S D) × Counters)
-  at_end n s = nothing_behind n s s.left
+  at_end n s = end_of_tokens n s s.left
 
   -- where a line begins: the counters, and what is left
   abbrev pub Start : Type 0
@@ -212,12 +212,12 @@ module _ {R T A B S D : Type 0} (leaves : Leaves R T A B S D) where
         after_numbered l.0.0 (read (l.0.1, l.1)))
       (λ end. at_end x.0 end.1)
 
-  abbrev pub stop : Start → Read R T B (List (Item A B ℕ S D) × Counters)
-  stop x = Err (Unexpected None)
+  abbrev pub no_items : Start → Read R T B (List (Item A B ℕ S D) × Counters)
+  no_items x = Err (Unexpected None)
 
   -- the items up to the end of the file
   unfoldable pub items_from : Start → Read R T B (List (Item A B ℕ S D) × Counters)
-  items_from = recursive (λ x. length x.1.left) stop items_rule
+  items_from = recursive (λ x. length x.1.left) no_items items_rule
 
   abbrev pub items : Counters → State R T B → Read R T B (List (Item A B ℕ S D) × Counters)
   items n s = items_from (n, s)

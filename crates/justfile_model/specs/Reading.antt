@@ -92,7 +92,7 @@ abbrev pub marks : (word : List ℕ) → TokenKind → (mark token : Significant
 marks word kind mark token = is_word word mark && same_kind token.tok.kind kind && token.glued
 
 module _ {R T B : Type 0} where
-  -- with other tokens left
+  -- a state with other tokens left
   abbrev pub at : State R T B → List T → State R T B
   at s left = record { run = s.run; depth = s.depth; left = left; noted = s.noted }
 
@@ -106,13 +106,13 @@ module _ {R T B : Type 0} where
   abbrev pub shallower : State R T B → State R T B
   shallower s = at_depth (s.depth - 1) s
 
-  -- with more features
+  -- a state with more features
   abbrev pub with : List (Noted B) → State R T B → State R T B
   with features s = record { run = s.run; depth = s.depth; left = s.left; noted = s.noted ++ features }
 
-  -- tokens that begin with this one
-  abbrev pub before : T → State R T B → State R T B
-  before t s = at s (t ∷ s.left)
+  -- a state with this token before those that are left
+  abbrev pub with_next : T → State R T B → State R T B
+  with_next t s = at s (t ∷ s.left)
 
   -- the next token is refused
   unfoldable pub refused : (Option T → Refusal T B) → State R T B → Refusal T B
@@ -124,13 +124,13 @@ module _ {R T B : Type 0} where
   choose (Some x) otherwise taken = taken x
 
   -- these, and what is read after them
-  unfoldable pub after : {X : Type 0} → List X → Read R T B (List X) → Read R T B (List X)
-  after done found = do
+  unfoldable pub prepend : {X : Type 0} → List X → Read R T B (List X) → Read R T B (List X)
+  prepend done found = do
     more ← found
     Ok (done ++ more.0, more.1)
 
 module _ {R T A B S D : Type 0} (leaves : Leaves R T A B S D) where
-  -- with a feature at a token
+  -- a state with a feature noted at a token
   abbrev pub note : ListFeature → T → State R T B → State R T B
   note feature t s = with (noted feature (leaves.spot t)) s
 

@@ -5,20 +5,20 @@ use Rattle.justfile_model.specs.Tok.{Tok}
 use Rattle.justfile_model.specs.SignificantTokens.{SignificantToken}
 use Rattle.justfile_model.specs.Tree.{WrittenTree, lexeme}
 use Rattle.justfile_model.specs.Conditions.{Conditions}
-use Rattle.justfile_model.specs.Literals.{Literal, over_literal, token_of, LiteralFault, Answers, cooked_text, Cooks}
+use Rattle.justfile_model.specs.Literals.{Literal, over_literal, token_of, LiteralFault, Expansions, cooked_text, AreCookedTexts}
 use Rattle.justfile_model.specs.Files.{all_literals}
 use Rattle.justfile_model.specs.Reading.{BreaksRule, TooDeep, NotCooked}
 use Rattle.justfile_model.specs.Rules.{Broken, broken}
 use Rattle.justfile_model.specs.TreeReader.{Refusal}
 
 -- the first of the literals that has no text is refused, for its fault, at its token
-pub record LacksText (expander : Answers) (all : List (Literal Tok)) (r : Refusal) : Type 0 where
+pub record LacksText (expander : Expansions) (all : List (Literal Tok)) (r : Refusal) : Type 0 where
   pub before : List (Literal Tok)
   pub literal : Literal Tok
   pub others : List (Literal Tok)
   pub all_is : all ≡ before ++ literal ∷ others
   pub cooked : List (List ℕ)
-  pub cooks : Cooks expander (map (over_literal lexeme) before) cooked
+  pub cooks : AreCookedTexts expander (map (over_literal lexeme) before) cooked
   pub fault : LiteralFault
   pub no_text : cooked_text expander (over_literal lexeme literal) ≡ Err fault
   pub refusal_is : r ≡ NotCooked fault (token_of literal)

@@ -13,6 +13,6 @@ pub record Broken (T : Type 0) : Type 0 where
   pub rule : Rule T
   pub token : T
 
--- all rules that written items break under the conditions, each at its token
-abbrev pub broken : {A B C S T : Type 0} → Conditions → List (WrittenItem A B C S) → List (Broken T)
+-- all rules that written items break under the conditions, each at what is kept of its token
+abbrev pub broken : {A B C S : Type 0} → Conditions → List (WrittenItem A B C S) → List (Broken B)
 broken conditions items = []

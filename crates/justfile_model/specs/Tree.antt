@@ -78,7 +78,7 @@ pub data Argument (A B : Type 0) : Type 0 where
   Keyed : (key : A) (value : Expr A B) → Argument A B
 
 -- an attribute as it is written: its arguments in order
-pub record Written (A B : Type 0) : Type 0 where
+pub record WrittenAttribute (A B : Type 0) : Type 0 where
   pub name : A
   pub arguments : List (Argument A B)
 
@@ -147,7 +147,7 @@ pub data Item (A B C S D : Type 0) : Type 0 where
 
 -- an item as it is written
 abbrev pub WrittenItem : (A B C S : Type 0) → Type 0
-WrittenItem A B C S = Item A B C S (List (Written A B))
+WrittenItem A B C S = Item A B C S (List (WrittenAttribute A B))
 
 -- an item with what its attributes mean, in the order of their content
 abbrev pub OrderedItem : (A B C : Type 0) → Type 0
@@ -174,19 +174,19 @@ plain_assignment name value = record { eager = false; export = false; name = nam
 abbrev pub plain_header : {A B S : Type 0} → A → Header A B S
 plain_header name = record { quiet = false; name = name; parameters = []; priors = []; subsequents = [] }
 
--- a recipe with such a header
+-- a recipe without a doc, whose header is a name
 abbrev pub plain_recipe : {A B C S : Type 0} → A → List (BodyLine A B C) → RecipeParts A B C S
 plain_recipe name body = record { doc = None; header = plain_header name; body = body }
 
--- a line before others that are left once empty lines at the end are left out
-abbrev pub before : {A B C : Type 0} → BodyLine A B C → List (BodyLine A B C) → List (BodyLine A B C)
-before (Line number []) [] = []
-before l ls = l ∷ ls
+-- lines with one more before them; an empty line before none is left out
+abbrev pub line_before : {A B C : Type 0} → BodyLine A B C → List (BodyLine A B C) → List (BodyLine A B C)
+line_before (Line number []) [] = []
+line_before l ls = l ∷ ls
 
 -- lines without the empty ones at the end
 abbrev pub trimmed : {A B C : Type 0} → List (BodyLine A B C) → List (BodyLine A B C)
 trimmed [] = []
-trimmed (l ∷ ls) = before l (trimmed ls)
+trimmed (l ∷ ls) = line_before l (trimmed ls)
 
 -- what is at the leaves replaced
 module _ {A B C D : Type 0} (f : A → C) (g : B → D) where
@@ -230,8 +230,8 @@ module _ {A B C D : Type 0} (f : A → C) (g : B → D) where
   over_argument (Bare key) = Bare (f key)
   over_argument (Keyed key value) = Keyed (f key) (over_expr value)
 
-  abbrev pub over_written : Written A B → Written C D
-  over_written w = record { name = f w.name; arguments = map over_argument w.arguments }
+  abbrev pub over_written_attribute : WrittenAttribute A B → WrittenAttribute C D
+  over_written_attribute w = record { name = f w.name; arguments = map over_argument w.arguments }
 
   abbrev pub over_assignment : AssignmentParts A B → AssignmentParts C D
   over_assignment a = record { eager = a.eager; export = a.export; name = f a.name; value = over_expr a.value }
@@ -316,4 +316,4 @@ shape_of = map item_shape_of
 
 -- the written tree without its places
 abbrev pub written_shape_of : WrittenTree → WrittenShape
-written_shape_of = map (over_item lexeme nothing nothing nothing (map (over_written lexeme nothing)))
+written_shape_of = map (over_item lexeme nothing nothing nothing (map (over_written_attribute lexeme nothing)))

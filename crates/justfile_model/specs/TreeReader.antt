@@ -7,10 +7,10 @@ use Rattle.justfile_model.specs.Reading as reading
 use Rattle.justfile_model.specs.Reading.{Counters, ◌>>=◌, Leaves}
 use Rattle.justfile_model.specs.SignificantTokens.{SignificantToken}
 use Rattle.justfile_model.specs.Tok.{Tok}
-use Rattle.justfile_model.specs.Tree.{Written, WrittenTree}
+use Rattle.justfile_model.specs.Tree.{WrittenAttribute, WrittenTree}
 
--- A written tree keeps its tokens, and no number. So a number is never wanting: which tokens derive a tree does not depend on counters.
-abbrev pub token_leaves : Leaves Conditions SignificantToken Tok Tok Tok (List (Written Tok Tok))
+-- A written tree keeps its tokens, and no number. So numbers never run out: which tokens derive a tree does not depend on counters.
+abbrev pub token_leaves : Leaves Conditions SignificantToken Tok Tok Tok (List (WrittenAttribute Tok Tok))
 token_leaves = record {
   conditions = λ conditions. conditions;
   see = λ t. t;
@@ -43,11 +43,11 @@ abbrev pub unnumbered : Counters
 unnumbered = record { bindings = 0; constants = 0; recipes = 0 }
 
 -- nothing is read yet
-abbrev pub start : Conditions → List SignificantToken → State
-start conditions tokens = record { run = conditions; depth = 0; left = tokens; noted = [] }
+abbrev pub start_state : Conditions → List SignificantToken → State
+start_state conditions tokens = record { run = conditions; depth = 0; left = tokens; noted = [] }
 
 -- a file, and its features
-unfoldable pub file : Conditions → List SignificantToken → Result (WrittenTree × List (Noted Tok)) Refusal
-file conditions tokens = do
-  x ← reader.file token_leaves unnumbered (start conditions tokens)
+unfoldable pub tree_of_tokens : Conditions → List SignificantToken → Result (WrittenTree × List (Noted Tok)) Refusal
+tree_of_tokens conditions tokens = do
+  x ← reader.file token_leaves unnumbered (start_state conditions tokens)
   Ok (x.0.0, x.1.noted)

@@ -35,7 +35,7 @@ delimiter_by kinds.FormatStringStart t =
     Some (record { delimiter = FormatString (kind_of t.lexeme); line = t.line + count_by is_newline t.lexeme })
 delimiter_by _ t = None
 
--- the same by the token alone
+-- the delimiter that a token opens, by the token alone
 abbrev pub delimiter_of : Tok → Option OpenDelimiter
 delimiter_of t = delimiter_by t.kind t
 
@@ -60,10 +60,10 @@ abbrev pub UnclosedLevels : List Tok → List (List ℕ) → Type 0
 UnclosedLevels = Unclosed (λ t. level_by t.kind t) (λ blanks. kinds.Dedent)
 
 -- the interpolation that a token opens, as this token
-abbrev pub interpolation_by : TokenKind → Tok → Option Tok
-interpolation_by kinds.InterpolationStart t = Some t
-interpolation_by _ t = None
+abbrev pub interpolation_opened : TokenKind → Tok → Option Tok
+interpolation_opened kinds.InterpolationStart t = Some t
+interpolation_opened _ t = None
 
 -- the starts of interpolations that have no end
 abbrev pub UnclosedInterpolations : List Tok → List Tok → Type 0
-UnclosedInterpolations = Unclosed (λ t. interpolation_by t.kind t) (λ start. kinds.InterpolationEnd)
+UnclosedInterpolations = Unclosed (λ t. interpolation_opened t.kind t) (λ start. kinds.InterpolationEnd)

@@ -4,9 +4,9 @@ use Rattle.std.specs.List.{All, list_all, onto_first, ends_with}
 use Rattle.justfile_base.specs.Indentation.{is_space_or_tab}
 
 -- the lines, each with its line feed. None is empty
-abbrev pub lines : List ℕ → List (List ℕ)
-lines [] = []
-lines (b ∷ bs) = if b == 10 then (b ∷ []) ∷ lines bs else onto_first b (lines bs)
+abbrev pub lines_of_text : List ℕ → List (List ℕ)
+lines_of_text [] = []
+lines_of_text (b ∷ bs) = if b == 10 then (b ∷ []) ∷ lines_of_text bs else onto_first b (lines_of_text bs)
 
 -- a space, a tab, CR or LF
 abbrev pub is_white : ℕ → Bool
@@ -55,8 +55,8 @@ pub record IsLongestRun (run : List ℕ) (ls : List (List ℕ)) : Type 0 where
   pub none : list_all is_blank_line ls ≡ true → run ≡ []
 
 -- CR and LF if the line ends so, else LF
-abbrev pub line_end : List ℕ → List ℕ
-line_end line = if ends_with nat_eq line (codes "\r\n") then codes "\r\n" else codes "\n"
+abbrev pub kept_line_end : List ℕ → List ℕ
+kept_line_end line = if ends_with nat_eq line (codes "\r\n") then codes "\r\n" else codes "\n"
 
 module _ (run : List ℕ) where
   -- a line without its indentation; of a blank line in the middle of the text its line end stays, of a first or last one nothing
@@ -64,19 +64,19 @@ module _ (run : List ℕ) where
   outer_line line = if is_blank_line line then [] else drop (length run) line
 
   abbrev pub middle_line : List ℕ → List ℕ
-  middle_line line = if is_blank_line line then line_end line else drop (length run) line
+  middle_line line = if is_blank_line line then kept_line_end line else drop (length run) line
 
-  -- the lines behind the first, joined
-  abbrev pub lines_behind : List (List ℕ) → List ℕ
-  lines_behind [] = []
-  lines_behind (last ∷ []) = outer_line last
-  lines_behind (line ∷ next ∷ more) = middle_line line ++ lines_behind (next ∷ more)
+  -- the lines after the first, joined
+  abbrev pub later_lines : List (List ℕ) → List ℕ
+  later_lines [] = []
+  later_lines (last ∷ []) = outer_line last
+  later_lines (line ∷ next ∷ more) = middle_line line ++ later_lines (next ∷ more)
 
   -- all the lines, joined
   abbrev pub joined : List (List ℕ) → List ℕ
   joined [] = []
-  joined (first ∷ behind) = outer_line first ++ lines_behind behind
+  joined (first ∷ following) = outer_line first ++ later_lines following
 
 -- the text without the indentation that its lines share
 unfoldable pub unindented : List ℕ → List ℕ
-unindented text = joined (indentation (lines text)) (lines text)
+unindented text = joined (indentation (lines_of_text text)) (lines_of_text text)

@@ -52,7 +52,8 @@ pub fn refused_indentation()
     ensures longer_than_level { IsFault (codes "a:\n\t0\n \t1\n") (InconsistentLeadingWhitespace (codes "\t") (codes " \t"))
         (tok Unspecified (codes " \t") 6 2 0) }
     ensures mixed { IsFault (codes "a:\n \tb\n") (MixedLeadingWhitespace (codes " \t")) (tok Unspecified (codes " \t") 3 1 0) }
-    ensures mixed_in_body { IsFault (codes "a:\n  b\n \t c\n") (MixedLeadingWhitespace (codes " \t")) (tok Unspecified (codes " \t") 7 2 0) }
+    ensures mixed_in_body { IsFault (codes "a:\n  b\n \t c\n") (MixedLeadingWhitespace (codes " \t"))
+        (tok Unspecified (codes " \t") 7 2 0) }
 {}
 
 /// What has no end points to where it begins, and a continued part of a format string to its `}}`.
@@ -71,11 +72,11 @@ pub fn carriage_returns()
         tok Eol (codes "\n") 4 0 4 ∷ tok Indent (codes "  ") 5 1 0 ∷ tok Text (codes "a") 7 1 2 ∷ tok Eol (codes "\n") 8 1 3 ∷
         tok Eol (codes "\n") 9 2 0 ∷ tok Whitespace (codes "  ") 10 3 0 ∷ tok Text (codes "\r ") 12 3 2 ∷ tok Eol (codes "\n") 14 3 4 ∷
         tok Dedent [] 15 3 5 ∷ tok Eof [] 15 3 5 ∷ []) }
-    ensures behind_body { IsFault (codes "foo:\n  a\n\n  \r \nb:\n") UnpairedCarriageReturn (tok Unspecified (codes "\r") 12 3 2) }
+    ensures after_body { IsFault (codes "foo:\n  a\n\n  \r \nb:\n") UnpairedCarriageReturn (tok Unspecified (codes "\r") 12 3 2) }
 {}
 
 /// An empty line inside a body stays in it. The levels close before the first of the blank lines
-/// behind it.
+/// after it.
 pub fn bodies()
     ensures empty_line { Lexed (codes "a:\n  b\n\n  c\n\n\nd:\n") (tok Identifier (codes "a") 0 0 0 ∷ tok Colon (codes ":") 1 0 1 ∷
         tok Eol (codes "\n") 2 0 2 ∷ tok Indent (codes "  ") 3 1 0 ∷ tok Text (codes "b") 5 1 2 ∷ tok Eol (codes "\n") 6 1 3 ∷
@@ -134,7 +135,7 @@ pub fn line_ends()
     ensures comment { Lexed (codes "#a\rb\n") (tok Comment (codes "#a\rb") 0 0 0 ∷ tok Eol (codes "\n") 4 0 4 ∷ tok Eof [] 5 0 5 ∷ []) }
 {}
 
-/// A backslash and a line end are whitespace with the blanks behind them. With none behind them the
+/// A backslash and a line end are whitespace with the blanks after them. With none after them the
 /// next token is at column 0.
 pub fn escaped_line_ends()
     ensures with_blanks { Lexed (codes "a := \\\n  b\n") (tok Identifier (codes "a") 0 0 0 ∷ tok Whitespace (codes " ") 1 0 1 ∷
@@ -150,7 +151,7 @@ pub fn escaped_line_ends()
     ensures carriage_return { IsFault (codes "\\\ra") UnpairedCarriageReturn (tok Unspecified (codes "\\\r") 0 0 0) }
 {}
 
-/// A quote right behind the identifier `f` opens in format mode, a backtick never does, and four
+/// A quote right after the identifier `f` opens in format mode, a backtick never does, and four
 /// braces are text.
 pub fn format_strings()
     ensures nested { Lexed (codes "x := f'a{{ f\"b{{c}}\" }}d'\n") (tok Identifier (codes "x") 0 0 0 ∷ tok Whitespace (codes " ") 1 0 1 ∷
@@ -173,7 +174,7 @@ pub fn format_strings()
         tok Eof [] 5 0 5 ∷ []) }
 {}
 
-/// In double quotes a backslash hides the character behind it. A delimiter is tripled where it can
+/// In double quotes a backslash hides the character after it. A delimiter is tripled where it can
 /// be.
 pub fn strings()
     ensures hidden { Lexed (codes "\"\\\"\"") (tok StringToken (codes "\"\\\"\"") 0 0 0 ∷ tok Eof [] 4 0 4 ∷ []) }

@@ -1,11 +1,11 @@
 //! Laws of the grammar, each the contract of a function that does nothing.
 ghost use Rattle.std.specs.Prelude.{◌≡◌, ◌<◌, ◌≤◌, ◌⊎◌, ℕ, ◌+◌, Bool, IsTrue, List, length, map, slice_index, Option, Some, Ok, Err};
 ghost use Rattle.justfile_model.specs.Conditions.{Conditions, with_expander};
-ghost use Rattle.justfile_model.specs.Expressions.{Waived};
+ghost use Rattle.justfile_model.specs.Expressions.{Under, Waived};
 ghost use Rattle.justfile_model.specs.Features.{Noted, over_noted};
 ghost use Rattle.justfile_model.specs.Files.{FileTree, FileDerives, NumbersFrom, Obeys, ShapeDerives, keeps_tokens, literals, ordered, bindings, recipes};
 ghost use Rattle.justfile_model.specs.Grammar.{File};
-ghost use Rattle.justfile_model.specs.Literals.{Literal, Answers, Within, Cooks};
+ghost use Rattle.justfile_model.specs.Literals.{Literal, Expansions, Within, AreCookedTexts};
 ghost use Rattle.justfile_model.specs.NormalShape.{normal};
 ghost use Rattle.justfile_model.specs.Printing.{printable, text};
 ghost use Rattle.justfile_model.specs.Reader.{items};
@@ -14,38 +14,51 @@ ghost use Rattle.justfile_model.specs.Refusals.{IsDue};
 ghost use Rattle.justfile_model.specs.SignificantTokens.{SignificantToken, identifiers};
 ghost use Rattle.justfile_model.specs.Tok.{Tok};
 ghost use Rattle.justfile_model.specs.Tree.{Tree, Shape, WrittenTree, nothing, shape_of};
-ghost use Rattle.justfile_model.specs.TreeReader.{Refusal, State, file, token_leaves};
+ghost use Rattle.justfile_model.specs.TreeReader.{Refusal, State, tree_of_tokens, token_leaves};
 
 /// The reader and the grammar agree, and tokens derive at most one tree with its features.
 pub fn reads()
+    // A written tree is read exactly where the grammar derives it under the limit, and it obeys the conditions.
+    ensures derives { (C : Conditions) (ts : List SignificantToken) (written : WrittenTree) (features : List (Noted Tok))
+        → tree_of_tokens C ts ≡ Ok (written, features)
+        → File keeps_tokens (Under C.limit) written features ts × Obeys C written }
+    ensures read { (C : Conditions) (ts : List SignificantToken) (written : WrittenTree) (features : List (Noted Tok))
+        → File keeps_tokens (Under C.limit) written features ts → Obeys C written
+        → tree_of_tokens C ts ≡ Ok (written, features) }
+    // A tree derives exactly where a written tree is read that means it.
     ensures sound { (C : Conditions) (ts : List SignificantToken) (written : WrittenTree) (features : List (Noted Tok))
-        → file C ts ≡ Ok (written, features)
+        → tree_of_tokens C ts ≡ Ok (written, features)
         → (tree : Tree) × (ordered written ≡ Some tree) × FileDerives C ts tree features }
-    ensures complete { (C : Conditions) (ts : List SignificantToken) (tree : Tree) (features : List (Noted Tok)) → FileDerives C ts tree features
-        → (written : WrittenTree) × (ordered written ≡ Some tree) × (file C ts ≡ Ok (written, features)) }
+    ensures complete { (C : Conditions) (ts : List SignificantToken) (tree : Tree) (features : List (Noted Tok))
+        → FileDerives C ts tree features
+        → (written : WrittenTree) × (ordered written ≡ Some tree) × (tree_of_tokens C ts ≡ Ok (written, features)) }
     // Where the expressions that are entered at the limit begin at some tokens, it is read, or too deep at one of them.
-    ensures deep { (C : Conditions) (ts : List SignificantToken) (written : WrittenTree) (features : List (Noted Tok)) (Hit : Option SignificantToken → Bool)
+    ensures deep { (C : Conditions) (ts : List SignificantToken) (written : WrittenTree) (features : List (Noted Tok))
+        (Hit : Option SignificantToken → Bool)
         → File keeps_tokens (Waived C.limit (λ at. IsTrue (Hit at))) written features ts → Obeys C written
-        → (file C ts ≡ Ok (written, features)) ⊎ ((at : Option SignificantToken) × IsTrue (Hit at) × (file C ts ≡ Err (TooDeep at))) }
+        → (tree_of_tokens C ts ≡ Ok (written, features)) ⊎ ((at : Option SignificantToken) × IsTrue (Hit at)
+        × (tree_of_tokens C ts ≡ Err (TooDeep at))) }
     // Without the limit: it is read, or some expression is too deep.
     ensures free { (C : Conditions) (ts : List SignificantToken) (written : WrittenTree) (features : List (Noted Tok))
         → FileTree ts written features → Obeys C written
-        → (file C ts ≡ Ok (written, features)) ⊎ ((at : Option SignificantToken) × (file C ts ≡ Err (TooDeep at))) }
+        → (tree_of_tokens C ts ≡ Ok (written, features)) ⊎ ((at : Option SignificantToken) × (tree_of_tokens C ts ≡ Err (TooDeep at))) }
     // Where they begin at some tokens, it is refused for its first literal without a text, for a rule that it breaks, or as too
     // deep at one of these tokens, and for nothing else.
-    ensures due { (C : Conditions) (ts : List SignificantToken) (written : WrittenTree) (features : List (Noted Tok)) (Hit : Option SignificantToken → Bool)
+    ensures due { (C : Conditions) (ts : List SignificantToken) (written : WrittenTree) (features : List (Noted Tok))
+        (Hit : Option SignificantToken → Bool)
         → File keeps_tokens (Waived C.limit (λ at. IsTrue (Hit at))) written features ts
-        → (r : Refusal) → file C ts ≡ Err r → IsDue C (λ at. IsTrue (Hit at)) written r }
+        → (r : Refusal) → tree_of_tokens C ts ≡ Err r → IsDue C (λ at. IsTrue (Hit at)) written r }
     // Of the grammar alone: for its first literal without a text, for a rule that it breaks, or as too deep somewhere.
-    ensures refused { (C : Conditions) (ts : List SignificantToken) (written : WrittenTree) (features : List (Noted Tok)) → FileTree ts written features
-        → (r : Refusal) → file C ts ≡ Err r → IsDue C (λ at. Unit {0}) written r }
+    ensures refused { (C : Conditions) (ts : List SignificantToken) (written : WrittenTree) (features : List (Noted Tok))
+        → FileTree ts written features
+        → (r : Refusal) → tree_of_tokens C ts ≡ Err r → IsDue C (λ at. Unit {0}) written r }
     ensures one { (C : Conditions) (ts : List SignificantToken) (tree other : Tree) (features others : List (Noted Tok))
         → FileDerives C ts tree features → FileDerives C ts other others → (tree ≡ other) × (features ≡ others) }
 {}
 
 /// A tree has at most as many bindings and recipes as its tokens have identifiers, and counters grow by what the tree holds.
 pub fn counts()
-    ensures whole { (C : Conditions) (ts : List SignificantToken) (x : WrittenTree × List (Noted Tok)) → file C ts ≡ Ok x
+    ensures whole { (C : Conditions) (ts : List SignificantToken) (x : WrittenTree × List (Noted Tok)) → tree_of_tokens C ts ≡ Ok x
         → bindings x.0 + recipes x.0 ≤ identifiers ts }
     ensures bindings { (n : Counters) (s : State) (x : (WrittenTree × Counters) × State) → items token_leaves n s ≡ Ok x
         → x.0.1.bindings ≡ n.bindings + bindings x.0.0 }
@@ -58,15 +71,17 @@ pub fn counts()
 /// A tree derives where its shape does, with features at the same places but for what is kept of them; tokens derive at most
 /// one shape with its features, and literals have one row of texts.
 pub fn shapes()
-    ensures forget { (C : Conditions) (ts : List SignificantToken) (tree : Tree) (features : List (Noted Tok)) → FileDerives C ts tree features
+    ensures forget { (C : Conditions) (ts : List SignificantToken) (tree : Tree) (features : List (Noted Tok))
+        → FileDerives C ts tree features
         → ShapeDerives C ts (shape_of tree) (map (over_noted nothing) features) }
     ensures lift { (C : Conditions) (ts : List SignificantToken) (shape : Shape) (features : List (Noted (Unit {0})))
         → ShapeDerives C ts shape features
-        → (tree : Tree) × (noted : List (Noted Tok)) × FileDerives C ts tree noted × (shape_of tree ≡ shape) × (map (over_noted nothing) noted ≡ features) }
+        → (tree : Tree) × (noted : List (Noted Tok)) × FileDerives C ts tree noted × (shape_of tree ≡ shape)
+        × (map (over_noted nothing) noted ≡ features) }
     ensures one { (C : Conditions) (ts : List SignificantToken) (shape other : Shape) (features others : List (Noted (Unit {0})))
         → ShapeDerives C ts shape features → ShapeDerives C ts other others → (shape ≡ other) × (features ≡ others) }
-    ensures texts { (E : Answers) (literals : List (Literal (List ℕ))) (texts others : List (List ℕ)) → Cooks E literals texts
-        → Cooks E literals others → texts ≡ others }
+    ensures texts { (E : Expansions) (literals : List (Literal (List ℕ))) (texts others : List (List ℕ)) → AreCookedTexts E literals texts
+        → AreCookedTexts E literals others → texts ≡ others }
 {}
 
 /// The normal shape is its own, has the same literals, as many bindings and as many recipes, and is printable where the shape is.
@@ -80,10 +95,10 @@ pub fn normal_twice()
 
 /// What derives where an expander answers less derives where it answers more.
 pub fn expanders()
-    ensures tree { (C : Conditions) (F : Answers) → Within C.expander F
+    ensures tree { (C : Conditions) (F : Expansions) → Within C.expander F
         → (ts : List SignificantToken) (tree : Tree) (features : List (Noted Tok)) → FileDerives C ts tree features
         → FileDerives (with_expander F C) ts tree features }
-    ensures shape { (C : Conditions) (F : Answers) → Within C.expander F
+    ensures shape { (C : Conditions) (F : Expansions) → Within C.expander F
         → (ts : List SignificantToken) (shape : Shape) (features : List (Noted (Unit {0}))) → ShapeDerives C ts shape features
         → ShapeDerives (with_expander F C) ts shape features }
 {}

@@ -40,7 +40,8 @@ pub fn eof_is_last()
 /// the start of the text, and after a token that ends a line. The end of a text that is not empty
 /// is at no column 0.
 pub fn lines_start_at_column_0()
-    ensures text_left { (text : List ℕ) (earlier : List Tok) → IsUtf8 text → Begins text earlier → end_of earlier < length text → (mode earlier).line_start ≡ (column_at text (end_of earlier) == 0) }
+    ensures text_left { (text : List ℕ) (earlier : List Tok) → IsUtf8 text → Begins text earlier → end_of earlier < length text
+        → (mode earlier).line_start ≡ (column_at text (end_of earlier) == 0) }
     ensures no_text_left { (text : List ℕ) → 0 < length text → 0 < column_at text (length text) }
 {}
 

@@ -9,6 +9,6 @@ pub enum Level {
     Compared,
     /// Sides of `/`, `++` and `+`.
     Conjunct,
-    /// What has no operator before or behind it.
+    /// What has no operator before or after it.
     Value,
 }

@@ -11,7 +11,7 @@ ghost use Rattle.justfile_model.specs.Lexed.{Begins, end_of};
 ghost use Rattle.justfile_model.specs.LiteralParts.{IsPart};
 ghost use Rattle.justfile_model.specs.LiteralText.{raw_len};
 ghost use Rattle.justfile_model.specs.Modes.{Mode, mode};
-ghost use Rattle.justfile_model.specs.Next.{Found, literal_part, next};
+ghost use Rattle.justfile_model.specs.Next.{NextToken, literal_part, next};
 ghost use Rattle.justfile_model.specs.Pieces.{HasNoEnd, IsInside};
 ghost use Rattle.justfile_model.specs.Tok.{Tok};
 ghost use Rattle.justfile_model.specs.Unclosed.{UnclosedDelimiters, UnclosedInterpolations, UnclosedLevels};
@@ -27,7 +27,7 @@ pub fn reads_up_to_first_end()
 /// What is found of a literal, or of a part of a format string, is its opener, an inside, and what
 /// ends it; it is refused exactly where no place between pieces is an end.
 pub fn literals_end_at_first_end()
-    ensures { (k : StringKind) (format : Bool) (more whole : TokenKind) (opener text : List ℕ) (found : Found)
+    ensures { (k : StringKind) (format : Bool) (more whole : TokenKind) (opener text : List ℕ) (found : NextToken)
         → (literal_part k format (length opener) more whole (opener ++ text) ≡ found) ↔ IsPart k format more whole opener text found }
 {}
 

@@ -42,7 +42,11 @@ pub fn headers()
 pub fn constructs()
     ensures exported { content_text (Assignment (record { eager = false; export = true; name = codes "a"; value = Variable (codes "b") })) []
         ≡ codes "export a := b" }
+    ensures eager { content_text (Assignment (record { eager = true; export = true; name = codes "a"; value = Variable (codes "b") })) []
+        ≡ codes "eager export a := b" }
     ensures doc { item_text (Construct [] (Recipe (record { doc = Some (codes "bar"); header = plain_header (codes "foo"); body = [] }))) []
         ≡ codes "# bar\nfoo:" }
+    ensures empty_doc { item_text (Construct [] (Recipe (record { doc = Some []; header = plain_header (codes "foo"); body = [] }))) []
+        ≡ codes "#\nfoo:" }
     ensures no_doc { item_text (Construct [] (Recipe (plain_recipe (codes "foo") []))) [] ≡ codes "foo:" }
 {}

@@ -18,7 +18,7 @@ use Rattle.justfile_model.proofs.ExpressionSound.{expression_derives}
 use Rattle.justfile_model.proofs.NaturalExpressions.{expression_natural}
 use Rattle.justfile_model.proofs.Related as a
 use Rattle.justfile_model.proofs.Related.{Each, Never, Related, States}
-use Rattle.justfile_parse.specs.Reader.{At, ReadExpr, Refusal, Run, State, leaves, read}
+use Rattle.justfile_parse.specs.TableReader.{At, ReadExpr, Refusal, Run, State, leaves, read}
 use Rattle.justfile_parse.specs.Significant.{significant_of}
 use Rattle.justfile_parse.specs.Tree.{Leaf}
 use Rattle.justfile_parse.specs.declared.significant.TableEntry.{TableEntry}

@@ -8,9 +8,9 @@ use Rattle.justfile_file.specs.declared.line.Line.{Line}
 use Rattle.justfile_model.specs.Tree as tree
 use Rattle.justfile_model.specs.Tree.{BodyLine, trimmed}
 use Rattle.justfile_model.specs.Reader as files
-use Rattle.justfile_model.specs.Reading.{◌>>=◌, Unexpected, after, at, choose, refused}
-use Rattle.justfile_parse.specs.Reader.{Read, Refusal, State, accept, body, body_behind, body_line, enclosed, expect, fragment, leaves, line_rest, lines, next_are, read, At}
-use Rattle.justfile_parse.specs.Reading.{StopsAt, literal_refusal, refusal_at}
+use Rattle.justfile_model.specs.Reading.{◌>>=◌, Unexpected, prepend, at, choose, refused}
+use Rattle.justfile_parse.specs.TableReader.{Read, Refusal, State, accept, body, optional_body, body_line, enclosed, expect, fragment, leaves, line_rest, lines, next_are, read, At}
+use Rattle.justfile_parse.specs.MethodResults.{StopsAt, literal_refusal, refusal_at}
 use Rattle.justfile_parse.specs.Tree.{Leaf, Text, fragment_tree, line_tree}
 use Rattle.justfile_model.specs.declared.level.Level.TheVariants as levels
 use Rattle.justfile_parse.specs.declared.significant.TableEntry.{TableEntry}
@@ -32,29 +32,29 @@ fragment_is s =
 
 -- ---- parts of any kind: `done` were read from `s` on, and `q` is what is left
 
-module _ {Z T : Type 0} (view : Z → T) (whole : State → Read (List T)) (s q : State) (done : List Z) (so_far : after (map view done) (whole q) ≡ whole s) where
+module _ {Z T : Type 0} (view : Z → T) (whole : State → Read (List T)) (s q : State) (done : List Z) (so_far : prepend (map view done) (whole q) ≡ whole s) where
   -- a part is read
-  goes_on : (z : Z) (new : List Z) (rest : State) → after (map view done) (whole q) ≡ after (map view done ++ view z ∷ []) (whole rest) → new ≡ done ++ z ∷ [] → after (map view new) (whole rest) ≡ whole s
+  goes_on : (z : Z) (new : List Z) (rest : State) → prepend (map view done) (whole q) ≡ prepend (map view done ++ view z ∷ []) (whole rest) → new ≡ done ++ z ∷ [] → prepend (map view new) (whole rest) ≡ whole s
   goes_on z new rest step is =
-      ap (λ (l : List Z). after (map view l) (whole rest)) is
-      ∙ ap (λ (l : List T). after l (whole rest)) (map-append view done (z ∷ []))
+      ap (λ (l : List Z). prepend (map view l) (whole rest)) is
+      ∙ ap (λ (l : List T). prepend l (whole rest)) (map-append view done (z ∷ []))
       ∙ sym step
       ∙ so_far
 
   -- a part is refused
-  stops : (found : Read T) (stop : Stop) (left : State) → ((e : Refusal) → found ≡ Err e → after (map view done) (whole q) ≡ Err e) → StopsAt stop left ⊥ found → StopsAt stop left ⊥ (whole s)
+  stops : (found : Read T) (stop : Stop) (left : State) → ((e : Refusal) → found ≡ Err e → prepend (map view done) (whole q) ≡ Err e) → StopsAt stop left ⊥ found → StopsAt stop left ⊥ (whole s)
   stops found (Refused r) left step h = sym so_far ∙ step (refusal_at r left) h
   stops found (Literal refused) left step h = sym so_far ∙ step (literal_refusal refused.value.error) h
   stops found Memory left step h = tt
   stops found Numbers left step h = h
 
 -- nothing is read yet
-pub begins : {T : Type 0} (found : Read (List T)) → after [] found ≡ found
+pub begins : {T : Type 0} (found : Read (List T)) → prepend [] found ≡ found
 begins found = laws.after_begin found
 
 -- ---- the fragments of a line
 
-module _ (s q : State) (done : List Fragment) (so_far : after (map fragment_tree done) (line_rest q) ≡ line_rest s) where
+module _ (s q : State) (done : List Fragment) (so_far : prepend (map fragment_tree done) (line_rest q) ≡ line_rest s) where
   pub line_ends : (end : TableEntry) (rest : State) → accept kinds.Eol q ≡ Some (end, rest) → line_rest s ≡ Ok (map fragment_tree done, rest)
   line_ends end rest is = sym so_far ∙ laws.line_rest_end leaves (map fragment_tree done) q end rest is
 
@@ -63,7 +63,7 @@ module _ (s q : State) (done : List Fragment) (so_far : after (map fragment_tree
     line_left h = sym so_far ∙ laws.line_rest_left leaves (map fragment_tree done) q none h
 
     module _ (dedent : next_are (kinds.Dedent ∷ []) q ≡ false) where
-      pub line_goes_on : (f : Fragment) (new : List Fragment) (rest : State) → fragment q ≡ Ok (fragment_tree f, rest) → new ≡ done ++ f ∷ [] → after (map fragment_tree new) (line_rest rest) ≡ line_rest s
+      pub line_goes_on : (f : Fragment) (new : List Fragment) (rest : State) → fragment q ≡ Ok (fragment_tree f, rest) → new ≡ done ++ f ∷ [] → prepend (map fragment_tree new) (line_rest rest) ≡ line_rest s
       line_goes_on f new rest value is = goes_on fragment_tree line_rest s q done so_far f new rest (laws.line_rest_go_on leaves (map fragment_tree done) q (fragment_tree f) rest none dedent value) is
 
       pub line_stops : (stop : Stop) (left : State) → StopsAt stop left ⊥ (fragment q) → StopsAt stop left ⊥ (line_rest s)
@@ -71,12 +71,12 @@ module _ (s q : State) (done : List Fragment) (so_far : after (map fragment_tree
 
 -- ---- the lines of a body
 
-module _ (s q : State) (done : List Line) (so_far : after (map line_tree done) (lines q) ≡ lines s) where
+module _ (s q : State) (done : List Line) (so_far : prepend (map line_tree done) (lines q) ≡ lines s) where
   pub lines_end : (end : TableEntry) (rest : State) → accept kinds.Dedent q ≡ Some (end, rest) → lines s ≡ Ok (map line_tree done, rest)
   lines_end end rest is = sym so_far ∙ laws.lines_end leaves (map line_tree done) q end rest is
 
   module _ (none : accept kinds.Dedent q ≡ None) where
-    pub lines_go_on : (l : Line) (new : List Line) (rest : State) → body_line q ≡ Ok (line_tree l, rest) → new ≡ done ++ l ∷ [] → after (map line_tree new) (lines rest) ≡ lines s
+    pub lines_go_on : (l : Line) (new : List Line) (rest : State) → body_line q ≡ Ok (line_tree l, rest) → new ≡ done ++ l ∷ [] → prepend (map line_tree new) (lines rest) ≡ lines s
     lines_go_on l new rest value is = goes_on line_tree lines s q done so_far l new rest (laws.lines_go_on leaves (map line_tree done) q (line_tree l) rest none value) is
 
     pub lines_stop : (stop : Stop) (left : State) → StopsAt stop left ⊥ (body_line q) → StopsAt stop left ⊥ (lines s)
@@ -110,14 +110,14 @@ module _ (s : State) where
   unfolding files.body
   body_none ls rest kept h is none = rw h (ap (λ (l : List (BodyLine Leaf Token ℕ)). files.some_lines leaves l rest) (sym is ∙ ap (map line_tree) none))
 
-  pub body_at_once : next_are (kinds.Eol ∷ kinds.Indent ∷ []) s ≡ true → body_behind s ≡ body (at s (drop 2 s.left))
-  unfolding files.body_behind
+  pub body_at_once : next_are (kinds.Eol ∷ kinds.Indent ∷ []) s ≡ true → optional_body s ≡ body (at s (drop 2 s.left))
+  unfolding files.optional_body
   body_at_once h = rw h refl
 
-  pub body_commented : next_are (kinds.Eol ∷ kinds.Indent ∷ []) s ≡ false → next_are (kinds.Comment ∷ kinds.Eol ∷ kinds.Indent ∷ []) s ≡ true → body_behind s ≡ body (at s (drop 3 s.left))
-  unfolding files.body_behind
+  pub body_commented : next_are (kinds.Eol ∷ kinds.Indent ∷ []) s ≡ false → next_are (kinds.Comment ∷ kinds.Eol ∷ kinds.Indent ∷ []) s ≡ true → optional_body s ≡ body (at s (drop 3 s.left))
+  unfolding files.optional_body
   body_commented h1 h2 = rw (h1, h2) refl
 
-  pub body_missing : next_are (kinds.Eol ∷ kinds.Indent ∷ []) s ≡ false → next_are (kinds.Comment ∷ kinds.Eol ∷ kinds.Indent ∷ []) s ≡ false → body_behind s ≡ Ok ([], s)
-  unfolding files.body_behind
+  pub body_missing : next_are (kinds.Eol ∷ kinds.Indent ∷ []) s ≡ false → next_are (kinds.Comment ∷ kinds.Eol ∷ kinds.Indent ∷ []) s ≡ false → optional_body s ≡ Ok ([], s)
+  unfolding files.optional_body
   body_missing h1 h2 = rw (h1, h2) refl

@@ -13,18 +13,18 @@ use Rattle.justfile_base.specs.declared.string_literal.StringLiteral.{StringLite
 use Rattle.justfile_base.specs.declared.token.Token.{Token}
 use Rattle.justfile_base.specs.declared.token_kind.TokenKind.{TokenKind}
 use Rattle.justfile_base.specs.declared.token_kind.TokenKind.TheVariants as kinds
-use Rattle.justfile_cook.specs.Literal.{IsKindOf, IsPartOf, IsStringOf, IsTextFault, answers_by, is_part, is_quoted, literal_fault_of}
+use Rattle.justfile_literal.specs.Literal.{IsKindOf, IsPartOf, IsStringOf, IsTextFault, answers_by, is_part, is_quoted, literal_fault_of}
 use Rattle.justfile_model.specs.ExpressionReader as expressions
 use Rattle.justfile_model.specs.ExpressionReader.{by_text}
 use Rattle.justfile_model.specs.Reading.{NotCooked}
-use Rattle.justfile_parse.specs.Reader as reader
-use Rattle.justfile_parse.specs.Reader.{Refusal, State, leaves, part_by}
+use Rattle.justfile_parse.specs.TableReader as reader
+use Rattle.justfile_parse.specs.TableReader.{Refusal, State, leaves, part_by}
 use Rattle.justfile_model.specs.Literals as literal
-use Rattle.justfile_model.specs.Literals.{Answers, LiteralFault, Unasked, cooked_text, format_text, string_of}
+use Rattle.justfile_model.specs.Literals.{Expansions, LiteralFault, Unasked, cooked_text, format_text, string_of}
 use Rattle.justfile_model.specs.Tree as tree
 use Rattle.justfile_parse.specs.Fault.{IsLiteralFault, is_literal_kind, literal_fault}
 use Rattle.justfile_parse.specs.Literal.{is_delimited, is_sound}
-use Rattle.justfile_parse.specs.Reading.{StopsAt, TextStops, literal_refusal}
+use Rattle.justfile_parse.specs.MethodResults.{StopsAt, TextStops, literal_refusal}
 use Rattle.justfile_parse.specs.declared.significant.TableEntry.{TableEntry}
 use Rattle.justfile_parse.specs.Tree.{Command, Literal, literal_of}
 use Rattle.justfile_parse.specs.View.{state_at, state_of}
@@ -61,7 +61,7 @@ is_literal text token (faults.Compile error) h = due h.fault error.kind h.kind_i
 is_literal text token faults.Memory h = tt
 is_literal text token faults.Numbers h = absurd h
 
-pub command_is_literal : (expander : Answers) (token : Token) (fault : Fault) → ((expander : Answers) → IsTextFault (cooked_text expander (literal.Command (lexeme_of token))) token fault) → IsLiteralFault fault
+pub command_is_literal : (expander : Expansions) (token : Token) (fault : Fault) → ((expander : Expansions) → IsTextFault (cooked_text expander (literal.Command (lexeme_of token))) token fault) → IsLiteralFault fault
 command_is_literal expander token fault h = is_literal (cooked_text expander (literal.Command (lexeme_of token))) token fault (h expander)
 
 text_refused : {A : Type 0} (make : List ℕ → A) (s : State) (text : Result (List ℕ) LiteralFault) (entry : TableEntry) (fault : Fault) (stop : Stop) → IsTextFault text entry.token.now fault → TextStops stop fault
@@ -95,27 +95,27 @@ framed_continue entry kind e h = subst (λ (k : TokenKind). IsTrue (is_delimited
 -- ---- texts
 
 module _ {X : Type 0} (answer : X → List ℕ → Result (List ℕ) (List ℕ)) (p : Parser X) (entry : TableEntry) where
-  abbrev by : Answers
+  abbrev by : Expansions
   by = answers_by answer p.expander.now
 
   module _ (expand : Bool) where
-    pub string_given : (l : StringLiteral) → IsStringOf by entry.token.now expand l → reader.string expand (entry, state_of answer p) ≡ Ok (tree.StringLiteral l.expand (Literal (literal_of l)), state_of answer p)
-    unfolding expressions.string expressions.cooked leaves state_of state_at
+    pub string_given : (l : StringLiteral) → IsStringOf by entry.token.now expand l → reader.literal_string expand (entry, state_of answer p) ≡ Ok (tree.StringLiteral l.expand (Literal (literal_of l)), state_of answer p)
+    unfolding expressions.literal_string expressions.cooked leaves state_of state_at
     string_given l is = by_expand expand is
       where
-        by_expand : (expand : Bool) → IsStringOf by entry.token.now expand l → reader.string expand (entry, state_of answer p) ≡ Ok (tree.StringLiteral l.expand (Literal (literal_of l)), state_of answer p)
+        by_expand : (expand : Bool) → IsStringOf by entry.token.now expand l → reader.literal_string expand (entry, state_of answer p) ≡ Ok (tree.StringLiteral l.expand (Literal (literal_of l)), state_of answer p)
         by_expand true is = rw (is.cooked, is.expand_is, is.kind, is.part, is.token_is) refl
         by_expand false is = rw (is.cooked, is.expand_is, is.kind, is.part, is.token_is) refl
 
-    pub string_refused : (fault : Fault) (stop : Stop) → IsTextFault (cooked_text by (string_of expand (lexeme_of entry.token.now))) entry.token.now fault → TextStops stop fault → StopsAt stop (state_of answer p) ⊥ (reader.string expand (entry, state_of answer p))
-    unfolding expressions.string expressions.cooked leaves state_of state_at
+    pub string_refused : (fault : Fault) (stop : Stop) → IsTextFault (cooked_text by (string_of expand (lexeme_of entry.token.now))) entry.token.now fault → TextStops stop fault → StopsAt stop (state_of answer p) ⊥ (reader.literal_string expand (entry, state_of answer p))
+    unfolding expressions.literal_string expressions.cooked leaves state_of state_at
     string_refused fault stop h is = text_refused _ (state_of answer p) (cooked_text by (string_of expand (lexeme_of entry.token.now))) entry fault stop h is
 
-  pub command_given : (text : List ℕ) → ((expander : Answers) → cooked_text expander (literal.Command (lexeme_of entry.token.now)) ≡ Ok text) → reader.backtick (entry, state_of answer p) ≡ Ok (tree.Backtick (Command entry.token.now text), state_of answer p)
+  pub command_given : (text : List ℕ) → ((expander : Expansions) → cooked_text expander (literal.Command (lexeme_of entry.token.now)) ≡ Ok text) → reader.backtick (entry, state_of answer p) ≡ Ok (tree.Backtick (Command entry.token.now text), state_of answer p)
   unfolding expressions.backtick expressions.cooked leaves state_of state_at
   command_given text is = rw (is by) refl
 
-  pub command_refused : (fault : Fault) (stop : Stop) → ((expander : Answers) → IsTextFault (cooked_text expander (literal.Command (lexeme_of entry.token.now))) entry.token.now fault) → TextStops stop fault
+  pub command_refused : (fault : Fault) (stop : Stop) → ((expander : Expansions) → IsTextFault (cooked_text expander (literal.Command (lexeme_of entry.token.now))) entry.token.now fault) → TextStops stop fault
       → StopsAt stop (state_of answer p) ⊥ (reader.backtick (entry, state_of answer p))
   unfolding expressions.backtick expressions.cooked leaves state_of state_at
   command_refused fault stop h is = text_refused _ (state_of answer p) (cooked_text by (literal.Command (lexeme_of entry.token.now))) entry fault stop (h by) is

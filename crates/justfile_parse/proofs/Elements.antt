@@ -6,10 +6,10 @@ use Rattle.justfile_model.specs.Tree.{Expr, Exprs, none, more}
 use Rattle.justfile_tree.specs.declared.expression.Expression.{Expression}
 use Rattle.justfile_model.specs.ExpressionReader as expressions
 use Rattle.justfile_model.specs.Reading.{◌>>=◌, choose}
-use Rattle.justfile_parse.specs.Reader as r
-use Rattle.justfile_parse.specs.Reader.{Read, Refusal, State, accept, element, leaves, read}
-use Rattle.justfile_parse.specs.Reading.{StopsAt, literal_refusal, refusal_at}
-use Rattle.justfile_parse.specs.Tree.{Leaf, tree_of, trees_of}
+use Rattle.justfile_parse.specs.TableReader as r
+use Rattle.justfile_parse.specs.TableReader.{Read, Refusal, State, accept, element, leaves, read}
+use Rattle.justfile_parse.specs.MethodResults.{StopsAt, literal_refusal, refusal_at}
+use Rattle.justfile_parse.specs.Tree.{Leaf, leaf_tree_of, trees_of}
 use Rattle.justfile_parse.specs.declared.significant.TableEntry.{TableEntry}
 use Rattle.justfile_parse.specs.declared.stop.Stop.{Stop}
 use Rattle.justfile_parse.specs.declared.stop.Stop.TheVariants.{Refused, Literal, Memory, Numbers}
@@ -18,25 +18,25 @@ use Rattle.justfile_parse.proofs.Rules.{then_made}
 
 abbrev joined : List Expression → Exprs Leaf Token → Exprs Leaf Token
 joined [] t = t
-joined (e ∷ es) t = more (tree_of e) (joined es t)
+joined (e ∷ es) t = more (leaf_tree_of e) (joined es t)
 
 -- what was read before, and what is still read
 abbrev pub with_front : List Expression → Read (Exprs Leaf Token) → Read (Exprs Leaf Token)
 with_front es found = found >>= then_made (joined es)
 
-joined_push : (es : List Expression) (e : Expression) (t : Exprs Leaf Token) → joined (es ++ e ∷ []) t ≡ joined es (more (tree_of e) t)
+joined_push : (es : List Expression) (e : Expression) (t : Exprs Leaf Token) → joined (es ++ e ∷ []) t ≡ joined es (more (leaf_tree_of e) t)
 joined_push [] e t = refl
-joined_push (x ∷ es) e t = ap (more (tree_of x)) (joined_push es e t)
+joined_push (x ∷ es) e t = ap (more (leaf_tree_of x)) (joined_push es e t)
 
 joined_none : (es : List Expression) → joined es none ≡ trees_of es
 joined_none [] = refl
-joined_none (x ∷ es) = ap (more (tree_of x)) (joined_none es)
+joined_none (x ∷ es) = ap (more (leaf_tree_of x)) (joined_none es)
 
-joined_last : (es : List Expression) (e : Expression) → joined es (more (tree_of e) none) ≡ trees_of (es ++ e ∷ [])
+joined_last : (es : List Expression) (e : Expression) → joined es (more (leaf_tree_of e) none) ≡ trees_of (es ++ e ∷ [])
 joined_last [] e = refl
-joined_last (x ∷ es) e = ap (more (tree_of x)) (joined_last es e)
+joined_last (x ∷ es) e = ap (more (leaf_tree_of x)) (joined_last es e)
 
-regroup : (es : List Expression) (e : Expression) (found : Read (Exprs Leaf Token)) → with_front (es ++ e ∷ []) found ≡ with_front es (found >>= then_made (more (tree_of e)))
+regroup : (es : List Expression) (e : Expression) (found : Read (Exprs Leaf Token)) → with_front (es ++ e ∷ []) found ≡ with_front es (found >>= then_made (more (leaf_tree_of e)))
 regroup es e (Ok x) = ap (λ (t : Exprs Leaf Token). Ok (t, x.1)) (joined_push es e x.0)
 regroup es e (Err f) = refl
 
@@ -54,16 +54,16 @@ module _ (c : TokenKind) where
   sequence_by s = sequence_is leaves c s
 
   module _ (s : State) (es : List Expression) where
-    pub goes_on : (e : Expression) (rest : State) → accept c s ≡ None → element c s ≡ Ok ((tree_of e, false), rest)
+    pub goes_on : (e : Expression) (rest : State) → accept c s ≡ None → element c s ≡ Ok ((leaf_tree_of e, false), rest)
         → with_front (es ++ e ∷ []) (read (r.Sequence c rest)) ≡ with_front es (read (r.Sequence c s))
     goes_on e rest h1 h2 =
-        let one : read (r.Sequence c s) ≡ (read (r.Sequence c rest) >>= then_made (more (tree_of e))) = rw (sequence_by s, h1, h2) refl in
+        let one : read (r.Sequence c s) ≡ (read (r.Sequence c rest) >>= then_made (more (leaf_tree_of e))) = rw (sequence_by s, h1, h2) refl in
         regroup es e (read (r.Sequence c rest)) ∙ sym (ap (with_front es) one)
 
     pub closes : (t : TableEntry) (rest : State) → accept c s ≡ Some (t, rest) → with_front es (read (r.Sequence c s)) ≡ Ok (trees_of es, rest)
     closes t rest h = rw (sequence_by s, h) (ap (λ (t : Exprs Leaf Token). Ok (t, rest)) (joined_none es))
 
-    pub closes_last : (e : Expression) (rest : State) → accept c s ≡ None → element c s ≡ Ok ((tree_of e, true), rest) → with_front es (read (r.Sequence c s)) ≡ Ok (trees_of (es ++ e ∷ []), rest)
+    pub closes_last : (e : Expression) (rest : State) → accept c s ≡ None → element c s ≡ Ok ((leaf_tree_of e, true), rest) → with_front es (read (r.Sequence c s)) ≡ Ok (trees_of (es ++ e ∷ []), rest)
     closes_last e rest h1 h2 = rw (sequence_by s, h1, h2) (ap (λ (t : Exprs Leaf Token). Ok (t, rest)) (joined_last es e))
 
     pub fails : (f : Refusal) → accept c s ≡ None → element c s ≡ Err f → with_front es (read (r.Sequence c s)) ≡ Err f

@@ -10,8 +10,8 @@ use Rattle.justfile_base.specs.declared.string_kind.StringKind.{StringKind}
 use Rattle.justfile_base.specs.declared.token_kind.TokenKind.{TokenKind}
 use Rattle.justfile_base.specs.declared.token.Token.{Token}
 use Rattle.justfile_base.specs.declared.token_kind.TokenKind.TheVariants as kinds
-use Rattle.justfile_canon.proofs.FormatParts.{AreInFormat, InFormat, continue_inside, end_inside, expression_inside, lexed_inside}
-use Rattle.justfile_cook.specs.Literal.{is_part}
+use Rattle.justfile_round_trip.proofs.FormatParts.{AreInFormat, InFormat, continue_inside, end_inside, expression_inside, lexed_inside}
+use Rattle.justfile_literal.specs.Literal.{is_part}
 use Rattle.justfile_model.specs.Expressions as grammar
 use Rattle.justfile_model.specs.Expressions.{Free, IsKind, Tokens}
 use Rattle.justfile_model.specs.Features.{Noted}
@@ -19,12 +19,12 @@ use Rattle.justfile_model.specs.Literals.{LiteralFault, format_text}
 use Rattle.justfile_model.specs.SignificantTokens.{SignificantToken, significant_tokens}
 use Rattle.justfile_model.specs.Tok.{Tok, tok_of}
 use Rattle.justfile_model.specs.Tree.{Expr, Parts, Last, Continue, itself}
-use Rattle.justfile_parse.specs.Formats.{AreEnded, IsEnded, IsEndedAt, IsEndedBehind, IsEndedFrom, last_of}
+use Rattle.justfile_parse.specs.Formats.{AreEnded, IsEnded, IsEndedAt, IsEndedPastExpression, IsEndedFrom, last_of}
 use Rattle.justfile_model.specs.ExpressionReader as expressions
 use Rattle.justfile_model.specs.Reading as reading
 use Rattle.justfile_model.specs.Reading.{◌>>=◌, accept_by, at, choose, marked_by, marks, is_word, same_kind}
 use Rattle.justfile_parse.specs.Parsing.{IsOneLex}
-use Rattle.justfile_parse.specs.Reader.{At, Read, ReadExpr, State, accept, accept_marked, expect, leaves, pair, part, part_by, read}
+use Rattle.justfile_parse.specs.TableReader.{At, Read, ReadExpr, State, accept, accept_marked, expect, leaves, pair, part, part_by, read}
 use Rattle.justfile_parse.specs.Significant.{significant_of}
 use Rattle.justfile_parse.specs.Tree.{Leaf}
 use Rattle.justfile_parse.specs.View.{state_at, state_of}
@@ -45,14 +45,14 @@ parts_ended {k} (grammar.end {token = t} {rest = rest} kind) h =
     search (rules, e)
 parts_ended (grammar.next {token = t} {tokens = ts} kind x ps) h = parts_ended ps (expression_inside itself itself Free x (continue_inside t ts kind h).1)
 
-start_inside : (before : Tokens) (start : SignificantToken) (behind : Tokens) → AreInFormat (before ++ start ∷ behind) → IsKind kinds.FormatStringStart start → InFormat (kind_of start.tok.lexeme) behind
-start_inside [] start behind h kind = h.0 kind
-start_inside (t ∷ before) start behind h kind = start_inside before start behind h.1 kind
+start_inside : (before : Tokens) (start : SignificantToken) (following : Tokens) → AreInFormat (before ++ start ∷ following) → IsKind kinds.FormatStringStart start → InFormat (kind_of start.tok.lexeme) following
+start_inside [] start following h kind = h.0 kind
+start_inside (t ∷ before) start following h kind = start_inside before start following h.1 kind
 
 inside_ended : (ts : Tokens) → AreInFormat ts → AreEnded ts
-unfolding AreEnded IsEndedBehind IsEnded
-inside_ended ts h before start behind is kind depth e fs rest x ps gs end parts =
-    parts_ended parts (expression_inside itself itself Free x (start_inside before start behind (subst AreInFormat is h) kind))
+unfolding AreEnded IsEndedPastExpression IsEnded
+inside_ended ts h before start following is kind depth e fs rest x ps gs end parts =
+    parts_ended parts (expression_inside itself itself Free x (start_inside before start following (subst AreInFormat is h) kind))
 
 pub ended_lex : (tokens : List Token) (table : List TableEntry) → IsOneLex tokens → map significant_of table ≡ significant_tokens (map tok_of tokens) → AreEnded (map significant_of table)
 ended_lex tokens table l is = subst AreEnded (sym is) (inside_ended (significant_tokens (map tok_of tokens)) (lexed_inside l.text (map tok_of tokens) l.utf8 l.lexed))
@@ -116,18 +116,18 @@ marked word kind s = go s.left
 -- ---- from a start on
 
 -- after the start of a format string
-pub behind_start : {X : Type 0} (answer : X → List ℕ → Result (List ℕ) (List ℕ)) (p : Parser X) (word : List ℕ) (start : TableEntry) (rest : State) → accept_marked word kinds.FormatStringStart (state_of answer p) ≡ Some (start, rest) → start.token.now.kind ≡ kinds.FormatStringStart
+pub after_start : {X : Type 0} (answer : X → List ℕ → Result (List ℕ) (List ℕ)) (p : Parser X) (word : List ℕ) (start : TableEntry) (rest : State) → accept_marked word kinds.FormatStringStart (state_of answer p) ≡ Some (start, rest) → start.token.now.kind ≡ kinds.FormatStringStart
     → IsEndedFrom (kind_of (lexeme_of start.token.now)) rest
 unfolding state_of state_at IsEndedFrom AreEnded
-behind_start answer p word start rest found kind =
+after_start answer p word start rest found kind =
     let table = p.tokens.now in
     let m = subst (IsMarked (drop p.next table)) found (marked word kinds.FormatStringStart (state_of answer p)) in
     let front = map significant_of (take p.next table) in
-    let behind = map significant_of rest.left in
+    let following = map significant_of rest.left in
     let split : map significant_of table ≡ front ++ map significant_of (drop p.next table) = ap (map significant_of) (sym (take-append-drop p.next table)) ∙ map-append significant_of (take p.next table) (drop p.next table) in
-    let whole : map significant_of table ≡ (front ++ significant_of m.0 ∷ []) ++ significant_of start ∷ behind
-    = split ∙ ap (λ (ts : List TableEntry). front ++ map significant_of ts) m.1 ∙ sym (append_assoc front (significant_of m.0 ∷ []) (significant_of start ∷ behind)) in
-    p.ended (front ++ significant_of m.0 ∷ []) (significant_of start) behind whole kind rest.depth
+    let whole : map significant_of table ≡ (front ++ significant_of m.0 ∷ []) ++ significant_of start ∷ following
+    = split ∙ ap (λ (ts : List TableEntry). front ++ map significant_of ts) m.1 ∙ sym (append_assoc front (significant_of m.0 ∷ []) (significant_of start ∷ following)) in
+    p.ended (front ++ significant_of m.0 ∷ []) (significant_of start) following whole kind rest.depth
 
 -- the part that ends it
 pub last_ended : (k : StringKind) (s : State) (t : TableEntry) (rest : State) → expect kinds.FormatStringEnd s ≡ Ok (t, rest) → IsEndedAt k s → IsTrue (is_part k string_parts.End (lexeme_of t.token.now))
@@ -143,22 +143,22 @@ past s e rest found = (known {X = Expr Leaf Token × State} (e, rest) (λ x. len
 
 module _ (k : StringKind) where
   -- after an expression
-  pub behind_expression : (s : State) (e : Expr Leaf Token) (rest : State) → read (At levels.Expression false s) ≡ Ok (e, rest) → IsEndedFrom k s → IsEndedAt k rest
-  unfolding IsEndedFrom IsEndedAt IsEndedBehind
-  behind_expression s e rest found h =
+  pub after_expression : (s : State) (e : Expr Leaf Token) (rest : State) → read (At levels.Expression false s) ≡ Ok (e, rest) → IsEndedFrom k s → IsEndedAt k rest
+  unfolding IsEndedFrom IsEndedAt IsEndedPastExpression
+  after_expression s e rest found h =
       let x = derives s e rest found in
       let P : ℕ → Type 0 = λ d. IsEnded k d (map significant_of rest.left) in
       subst P (sym (past s e rest found)) (h x.0 x.1 (map significant_of rest.left) x.2)
 
   -- after a part that is not the last
-  behind_continue : (s : State) (t : TableEntry) (rest : State) → s.left ≡ t ∷ rest.left → t.token.now.kind ≡ kinds.FormatStringContinue → IsEndedAt k s → IsEndedBehind k s.depth (map significant_of rest.left)
-  unfolding IsEndedAt IsEndedBehind IsEnded
-  behind_continue s t rest split kind h e fs behind x ps gs end parts =
+  after_continue : (s : State) (t : TableEntry) (rest : State) → s.left ≡ t ∷ rest.left → t.token.now.kind ≡ kinds.FormatStringContinue → IsEndedAt k s → IsEndedPastExpression k s.depth (map significant_of rest.left)
+  unfolding IsEndedAt IsEndedPastExpression IsEnded
+  after_continue s t rest split kind h e fs following x ps gs end parts =
       let ended = subst (λ (ts : List TableEntry). IsEnded k s.depth (map significant_of ts)) split h in
       ended (Continue (tok_of t.token.now) e ps) (fs ++ gs) end (grammar.next kind x parts)
 
   abbrev GoesOn : State → Read (Leaf × Bool) → Type 0
-  GoesOn s found = (x : (Leaf × Bool) × State) → found ≡ Ok x → x.0.1 ≡ false → IsEndedBehind k s.depth (map significant_of x.1.left) × (x.1.depth ≡ s.depth)
+  GoesOn s found = (x : (Leaf × Bool) × State) → found ≡ Ok x → x.0.1 ≡ false → IsEndedPastExpression k s.depth (map significant_of x.1.left) × (x.1.depth ≡ s.depth)
 
   abbrev flagged : Bool → Leaf × State → Read (Leaf × Bool)
   flagged b l = Ok ((l.0, b), l.1)
@@ -181,23 +181,23 @@ module _ (k : StringKind) where
   end_goes start s (Err f) = λ x is more. cc
 
   -- a part is after its entry
-  text_goes : (make : List ℕ → Leaf) (s : State) (x : TableEntry × State) (text : Result (List ℕ) LiteralFault) → IsEndedBehind k s.depth (map significant_of x.1.left) × (x.1.depth ≡ s.depth) → GoesOn s (expressions.by_text leaves make x text >>= flagged false)
+  text_goes : (make : List ℕ → Leaf) (s : State) (x : TableEntry × State) (text : Result (List ℕ) LiteralFault) → IsEndedPastExpression k s.depth (map significant_of x.1.left) × (x.1.depth ≡ s.depth) → GoesOn s (expressions.by_text leaves make x text >>= flagged false)
   text_goes make s x (Ok text) h y is more =
-      let P : State → Type 0 = λ t. IsEndedBehind k s.depth (map significant_of t.left) × (t.depth ≡ s.depth) in
+      let P : State → Type 0 = λ t. IsEndedPastExpression k s.depth (map significant_of t.left) × (t.depth ≡ s.depth) in
       subst P (ap (rest_of s) is) h
   text_goes make s x (Err f) h y is more = cc
 
-  continue_goes : (start : List ℕ) (s : State) (x : TableEntry × State) → IsEndedBehind k s.depth (map significant_of x.1.left) × (x.1.depth ≡ s.depth) → GoesOn s (part_by (kind_of start) string_parts.Continue x >>= flagged false)
+  continue_goes : (start : List ℕ) (s : State) (x : TableEntry × State) → IsEndedPastExpression k s.depth (map significant_of x.1.left) × (x.1.depth ≡ s.depth) → GoesOn s (part_by (kind_of start) string_parts.Continue x >>= flagged false)
   unfolding part_by
   continue_goes start s x = text_goes _ s x (format_text (kind_of start) string_parts.Continue (lexeme_of x.0.token.now))
 
-  behind_part : (start : List ℕ) (s : State) → IsEndedAt k s → GoesOn s (part start s)
-  behind_part start s h = subst (GoesOn s) (sym (part_is start s)) (by_continue (accept kinds.FormatStringContinue s) (accepted kinds.FormatStringContinue s))
+  after_part : (start : List ℕ) (s : State) → IsEndedAt k s → GoesOn s (part start s)
+  after_part start s h = subst (GoesOn s) (sym (part_is start s)) (by_continue (accept kinds.FormatStringContinue s) (accepted kinds.FormatStringContinue s))
     where
       by_continue : (o : Taken) → IsNext kinds.FormatStringContinue s s.left o
           → GoesOn s (choose {X = Read (Leaf × Bool)} o (expect kinds.FormatStringEnd s >>= λ x. part_by (kind_of start) string_parts.End x >>= flagged true) (λ x. part_by (kind_of start) string_parts.Continue x >>= flagged false))
       by_continue None here = end_goes start s (expect kinds.FormatStringEnd s)
-      by_continue (Some x) here = continue_goes start s x (behind_continue s x.0 x.1 here.0 here.1 h, here.2)
+      by_continue (Some x) here = continue_goes start s x (after_continue s x.0 x.1 here.0 here.1 h, here.2)
 
   abbrev paired : Expr Leaf Token → (Leaf × Bool) × State → Read (Expr Leaf Token × Leaf × Bool)
   paired e p = Ok ((e, p.0.0, p.0.1), p.1)
@@ -210,12 +210,12 @@ module _ (k : StringKind) where
   rest_of_pair s (Ok x) = x.1
   rest_of_pair s (Err f) = s
 
-  pub behind_pair : (start : List ℕ) (s : State) (e : Expr Leaf Token) (leaf : Leaf) (rest : State) → pair start s ≡ Ok ((e, leaf, false), rest) → IsEndedFrom k s → IsEndedFrom k rest
+  pub after_pair : (start : List ℕ) (s : State) (e : Expr Leaf Token) (leaf : Leaf) (rest : State) → pair start s ≡ Ok ((e, leaf, false), rest) → IsEndedFrom k s → IsEndedFrom k rest
   unfolding pair IsEndedFrom
-  behind_pair start s e leaf rest found h = by_first (read (At levels.Expression false s)) refl found
+  after_pair start s e leaf rest found h = by_first (read (At levels.Expression false s)) refl found
     where
-      at_depth : (t u : State) → IsEndedBehind k t.depth (map significant_of u.left) × (u.depth ≡ t.depth) → IsEndedFrom k u
-      at_depth t u x = let P : ℕ → Type 0 = λ d. IsEndedBehind k d (map significant_of u.left) in subst P (sym x.1) x.0
+      at_depth : (t u : State) → IsEndedPastExpression k t.depth (map significant_of u.left) × (u.depth ≡ t.depth) → IsEndedFrom k u
+      at_depth t u x = let P : ℕ → Type 0 = λ d. IsEndedPastExpression k d (map significant_of u.left) in subst P (sym x.1) x.0
 
       by_part : (x : Expr Leaf Token × State) (o : Read (Leaf × Bool)) → GoesOn x.1 o → (o >>= paired x.0) ≡ Ok ((e, leaf, false), rest) → IsEndedFrom k rest
       by_part x (Err f) goes found = cc
@@ -223,4 +223,4 @@ module _ (k : StringKind) where
 
       by_first : (o : ReadExpr) → read (At levels.Expression false s) ≡ o → (o >>= λ x. part start x.1 >>= paired x.0) ≡ Ok ((e, leaf, false), rest) → IsEndedFrom k rest
       by_first (Err f) is found = cc
-      by_first (Ok x) is found = by_part x (part start x.1) (behind_part start x.1 (behind_expression s x.0 x.1 is h)) found
+      by_first (Ok x) is found = by_part x (part start x.1) (after_part start x.1 (after_expression s x.0 x.1 is h)) found

@@ -3,7 +3,7 @@ use Rattle.std.proofs.Common.{◌≡◌, ℕ, Bool, true, false, List, [], ◌�
 use Rattle.std.proofs.lemmas.List.{append-nil, append_assoc}
 use Rattle.justfile_base.specs.declared.token.Token.{Token}
 use Rattle.justfile_base.specs.declared.token_kind.TokenKind.TheVariants as kinds
-use Rattle.justfile_file.specs.Item.{item_of, line_of}
+use Rattle.justfile_file.specs.Item.{item_of, body_line_of}
 use Rattle.justfile_file.specs.declared.item.Item as file
 use Rattle.justfile_file.specs.declared.item.Item.TheVariants as items
 use Rattle.justfile_file.specs.declared.line.Line as body
@@ -11,9 +11,9 @@ use Rattle.justfile_model.specs.Tree as tree
 use Rattle.justfile_model.specs.Tree.{OrderedItem}
 use Rattle.justfile_model.specs.Reader as files
 use Rattle.justfile_model.specs.Reader.{after_numbered, comment_item, has_body, some_line}
-use Rattle.justfile_model.specs.Reading.{◌>>=◌, Counters, after}
-use Rattle.justfile_parse.specs.Reader.{Read, ReadItems, Refusal, State, accept, behind, ended, expect, leaves, line, line_end, on_line}
-use Rattle.justfile_parse.specs.Reading.{StopsAt, literal_refusal, refusal_at}
+use Rattle.justfile_model.specs.Reading.{◌>>=◌, Counters, prepend}
+use Rattle.justfile_parse.specs.TableReader.{Read, ReadItems, Refusal, State, accept, item_rest, ended, expect, leaves, line, line_end, on_line}
+use Rattle.justfile_parse.specs.MethodResults.{StopsAt, literal_refusal, refusal_at}
 use Rattle.justfile_parse.specs.Tree.{Leaf, item_tree, line_tree}
 use Rattle.justfile_parse.specs.declared.significant.TableEntry.{TableEntry}
 use Rattle.justfile_parse.specs.declared.stop.Stop.{Stop}
@@ -23,38 +23,38 @@ abbrev Items : Type 0
 Items = List (OrderedItem Leaf Token ℕ)
 
 module _ (done : Items) (s : State) where
-  pub line_end_closes : (end : TableEntry × State) → accept kinds.Eof s ≡ Some end → after done (line_end s) ≡ Ok (done, s)
-  unfolding after files.line_end
+  pub line_end_closes : (end : TableEntry × State) → accept kinds.Eof s ≡ Some end → prepend done (line_end s) ≡ Ok (done, s)
+  unfolding prepend files.line_end
   line_end_closes end h = rw h (ap (λ (l : Items). Ok (l, s)) (append-nil done))
 
-  pub line_end_newline : (t : TableEntry) (rest : State) → accept kinds.Eof s ≡ None → expect kinds.Eol s ≡ Ok (t, rest) → after done (line_end s) ≡ Ok (done ++ tree.Newline ∷ [], rest)
-  unfolding after files.line_end
+  pub line_end_newline : (t : TableEntry) (rest : State) → accept kinds.Eof s ≡ None → expect kinds.Eol s ≡ Ok (t, rest) → prepend done (line_end s) ≡ Ok (done ++ tree.Newline ∷ [], rest)
+  unfolding prepend files.line_end
   line_end_newline t rest h1 h2 = rw (h1, h2) refl
 
-  pub line_end_fails : (e : Refusal) → accept kinds.Eof s ≡ None → expect kinds.Eol s ≡ Err e → after done (line_end s) ≡ Err e
-  unfolding after files.line_end
+  pub line_end_fails : (e : Refusal) → accept kinds.Eof s ≡ None → expect kinds.Eol s ≡ Err e → prepend done (line_end s) ≡ Err e
+  unfolding prepend files.line_end
   line_end_fails e h1 h2 = rw (h1, h2) refl
 
-  pub behind_bare : accept kinds.Comment s ≡ None → after done (behind s) ≡ after done (line_end s)
-  unfolding files.behind
-  behind_bare h = rw h refl
+  pub after_bare : accept kinds.Comment s ≡ None → prepend done (item_rest s) ≡ prepend done (line_end s)
+  unfolding files.item_rest
+  after_bare h = rw h refl
 
-  then_end : (i : OrderedItem Leaf Token ℕ) (found : Read Items) → after done (found >>= λ end. Ok (i ∷ end.0, end.1)) ≡ after (done ++ i ∷ []) found
-  unfolding after
+  then_end : (i : OrderedItem Leaf Token ℕ) (found : Read Items) → prepend done (found >>= λ end. Ok (i ∷ end.0, end.1)) ≡ prepend (done ++ i ∷ []) found
+  unfolding prepend
   then_end i (Ok x) = ap (λ (l : Items). Ok (l, x.1)) (sym (append_assoc done (i ∷ []) x.0))
   then_end i (Err e) = refl
 
-  pub behind_comment : (c : TableEntry) (rest : State) → accept kinds.Comment s ≡ Some (c, rest) → after done (behind s) ≡ after (done ++ comment_item leaves c ∷ []) (line_end rest)
-  unfolding files.behind
-  behind_comment c rest h = rw h (then_end (comment_item leaves c) (line_end rest))
+  pub after_comment : (c : TableEntry) (rest : State) → accept kinds.Comment s ≡ Some (c, rest) → prepend done (item_rest s) ≡ prepend (done ++ comment_item leaves c ∷ []) (line_end rest)
+  unfolding files.item_rest
+  after_comment c rest h = rw h (then_end (comment_item leaves c) (line_end rest))
 
-  pub ended_body : (b : Bool) (new : Items) → b ≡ true → new ≡ done ++ tree.Newline ∷ [] → after done (ended b s) ≡ Ok (new, s)
-  unfolding after files.ended
+  pub ended_body : (b : Bool) (new : Items) → b ≡ true → new ≡ done ++ tree.Newline ∷ [] → prepend done (ended b s) ≡ Ok (new, s)
+  unfolding prepend files.ended
   ended_body b new h is = rw h (ap (λ (l : Items). Ok (l, s)) (sym is))
 
-  pub ended_behind : (b : Bool) → b ≡ false → after done (ended b s) ≡ after done (behind s)
+  pub ended_after : (b : Bool) → b ≡ false → prepend done (ended b s) ≡ prepend done (item_rest s)
   unfolding files.ended
-  ended_behind b h = rw h refl
+  ended_after b h = rw h refl
 
   module _ (n : Counters) where
     pub line_blank : (t : TableEntry) (rest : State) → accept kinds.Eol s ≡ Some (t, rest) → after_numbered done (line n s) ≡ Ok ((done ++ tree.Newline ∷ [], n), rest)
@@ -77,22 +77,22 @@ module _ (done : Items) (s : State) where
       abbrev numbered : Items × State → ReadItems
       numbered x = Ok ((x.0, m), x.1)
 
-      then_ended : (found : Read Items) → after_numbered done (found >>= λ b. Ok ((i ∷ b.0, m), b.1)) ≡ (after (done ++ i ∷ []) found >>= numbered)
-      unfolding after after_numbered
+      then_ended : (found : Read Items) → after_numbered done (found >>= λ b. Ok ((i ∷ b.0, m), b.1)) ≡ (prepend (done ++ i ∷ []) found >>= numbered)
+      unfolding prepend after_numbered
       then_ended (Ok x) = ap (λ (l : Items). Ok ((l, m), x.1)) (sym (append_assoc done (i ∷ []) x.0))
       then_ended (Err e) = refl
 
-      line_is : after_numbered done (line n s) ≡ (after (done ++ i ∷ []) (ended (has_body i) rest) >>= numbered)
+      line_is : after_numbered done (line n s) ≡ (prepend (done ++ i ∷ []) (ended (has_body i) rest) >>= numbered)
       unfolding files.line
       line_is = rw (none, item) (then_ended (ended (has_body i) rest))
 
-      pub line_goes_on : (new : Items) (last : State) → after (done ++ i ∷ []) (ended (has_body i) rest) ≡ Ok (new, last) → after_numbered done (line n s) ≡ Ok ((new, m), last)
+      pub line_goes_on : (new : Items) (last : State) → prepend (done ++ i ∷ []) (ended (has_body i) rest) ≡ Ok (new, last) → after_numbered done (line n s) ≡ Ok ((new, m), last)
       line_goes_on new last h = line_is ∙ ap (λ (f : Read Items). f >>= numbered) h
 
-      pub end_fails : (e : Refusal) → after (done ++ i ∷ []) (ended (has_body i) rest) ≡ Err e → after_numbered done (line n s) ≡ Err e
+      pub end_fails : (e : Refusal) → prepend (done ++ i ∷ []) (ended (has_body i) rest) ≡ Err e → after_numbered done (line n s) ≡ Err e
       end_fails e h = line_is ∙ ap (λ (f : Read Items). f >>= numbered) h
 
-      pub end_stops : (stop : Stop) (left : State) (IsShort : Type 0) → StopsAt stop left ⊥ (after (done ++ i ∷ []) (ended (has_body i) rest)) → StopsAt stop left IsShort (after_numbered done (line n s))
+      pub end_stops : (stop : Stop) (left : State) (IsShort : Type 0) → StopsAt stop left ⊥ (prepend (done ++ i ∷ []) (ended (has_body i) rest)) → StopsAt stop left IsShort (after_numbered done (line n s))
       end_stops (Refused r) left IsShort h = end_fails (refusal_at r left) h
       end_stops (Literal refused) left IsShort h = end_fails (literal_refusal refused.value.error) h
       end_stops Memory left IsShort h = tt
@@ -105,6 +105,6 @@ has_body_is (items.Comment text) = refl
 has_body_is items.Newline = refl
 has_body_is (items.Recipe r) = by_lines r.body.items
   where
-    by_lines : (ls : List body.Line) → some_line (map line_of ls) ≡ some_line (map line_tree ls)
+    by_lines : (ls : List body.Line) → some_line (map body_line_of ls) ≡ some_line (map line_tree ls)
     by_lines [] = refl
     by_lines (l ∷ ls) = refl

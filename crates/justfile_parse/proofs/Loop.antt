@@ -9,10 +9,10 @@ use Rattle.justfile_model.specs.Tree.{OrderedItem}
 use Rattle.justfile_model.specs.Reader as files
 use Rattle.justfile_model.specs.Reader.{after_numbered}
 use Rattle.justfile_model.specs.Reading.{◌>>=◌, Counters}
-use Rattle.justfile_parse.specs.Reader as reader
+use Rattle.justfile_parse.specs.TableReader as reader
 use Rattle.justfile_parse.specs.WantsNumber.{counters_of}
-use Rattle.justfile_parse.specs.Reader.{ReadItems, Refusal, State, accept, after_mark, items, leaves, line, nothing, on_line}
-use Rattle.justfile_parse.specs.Reading.{IsMoved, StopsAt, literal_refusal, refusal_at}
+use Rattle.justfile_parse.specs.TableReader.{ReadItems, Refusal, State, accept, after_mark, items, leaves, line, read_nothing, on_line}
+use Rattle.justfile_parse.specs.MethodResults.{IsMoved, StopsAt, literal_refusal, refusal_at}
 use Rattle.justfile_parse.specs.Tree.{Leaf, item_tree}
 use Rattle.justfile_parse.specs.declared.significant.TableEntry.{TableEntry}
 use Rattle.justfile_parse.specs.declared.stop.Stop.{Stop}
@@ -114,24 +114,24 @@ module _ (s q : State) (first next : Numerator) (done : List file.Item) (so_far 
         }
 
   module _ (end : TableEntry) (rest : State) (is : accept kinds.Eof q ≡ Some (end, rest)) where
-    abbrev behind_end : Unit {0} × State → ReadItems
-    behind_end x = Ok (([], counters_of next), x.1)
+    abbrev item_rest_end : Unit {0} × State → ReadItems
+    item_rest_end x = Ok (([], counters_of next), x.1)
 
-    end_by : (entries : List TableEntry) → files.nothing_behind leaves (counters_of next) rest entries ≡ (reader.nothing_by rest entries >>= behind_end)
+    end_by : (entries : List TableEntry) → files.end_of_tokens leaves (counters_of next) rest entries ≡ (reader.nothing_by rest entries >>= item_rest_end)
     end_by [] = refl
     end_by (t ∷ ts) = refl
 
-    at_end_is : items (counters_of first) s ≡ after_numbered (map item_tree done) (nothing rest >>= behind_end)
-    unfolding files.at_end nothing
+    at_end_is : items (counters_of first) s ≡ after_numbered (map item_tree done) (read_nothing rest >>= item_rest_end)
+    unfolding files.at_end read_nothing
     at_end_is = sym so_far.read ∙ laws.items_at_end leaves (map item_tree done) (counters_of next) q end rest is ∙ ap (after_numbered (map item_tree done)) (end_by rest.left)
 
-    pub ends : nothing rest ≡ Ok (tt, rest) → items (counters_of first) s ≡ Ok ((map item_tree done, counters_of next), rest)
-    ends h = at_end_is ∙ ap (λ (f : reader.Read (Unit {0})). after_numbered (map item_tree done) (f >>= behind_end)) h ∙ laws.numbered_nothing (map item_tree done) (counters_of next) rest
+    pub ends : read_nothing rest ≡ Ok (tt, rest) → items (counters_of first) s ≡ Ok ((map item_tree done, counters_of next), rest)
+    ends h = at_end_is ∙ ap (λ (f : reader.Read (Unit {0})). after_numbered (map item_tree done) (f >>= item_rest_end)) h ∙ laws.numbered_nothing (map item_tree done) (counters_of next) rest
 
-    past : (e : Refusal) → nothing rest ≡ Err e → items (counters_of first) s ≡ Err e
-    past e h = at_end_is ∙ ap (λ (f : reader.Read (Unit {0})). after_numbered (map item_tree done) (f >>= behind_end)) h ∙ laws.numbered_refused (map item_tree done) e
+    past : (e : Refusal) → read_nothing rest ≡ Err e → items (counters_of first) s ≡ Err e
+    past e h = at_end_is ∙ ap (λ (f : reader.Read (Unit {0})). after_numbered (map item_tree done) (f >>= item_rest_end)) h ∙ laws.numbered_refused (map item_tree done) e
 
-    pub goes_past : (stop : Stop) (IsShort : Type 0) → StopsAt stop rest ⊥ (nothing rest) → StopsAt stop rest IsShort (items (counters_of first) s)
+    pub goes_past : (stop : Stop) (IsShort : Type 0) → StopsAt stop rest ⊥ (read_nothing rest) → StopsAt stop rest IsShort (items (counters_of first) s)
     goes_past (Refused r) IsShort h = past (refusal_at r rest) h
     goes_past (Literal refused) IsShort h = past (literal_refusal refused.value.error) h
     goes_past Memory IsShort h = tt

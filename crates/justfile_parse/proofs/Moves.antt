@@ -10,7 +10,7 @@ use Rattle.justfile_model.specs.Files.{item_bindings, item_recipes, keeps_tokens
 use Rattle.justfile_model.specs.Reader as files
 use Rattle.justfile_model.specs.Reader.{has_body}
 use Rattle.justfile_model.specs.Reading as reading
-use Rattle.justfile_model.specs.Reading.{◌>>=◌, Counters, after, choose, refused}
+use Rattle.justfile_model.specs.Reading.{◌>>=◌, Counters, prepend, choose, refused}
 use Rattle.justfile_model.specs.SignificantTokens.{identifiers}
 use Rattle.justfile_model.specs.Tok.{Tok}
 use Rattle.justfile_model.specs.Tree as tree
@@ -24,7 +24,7 @@ use Rattle.justfile_model.proofs.ReadingSteps.{known}
 use Rattle.justfile_model.proofs.Related as a
 use Rattle.justfile_model.proofs.Related.{AlikeItem, Related}
 use Rattle.justfile_model.proofs.Sound.{Starts, of_block, of_comment, of_line, on_line_at}
-use Rattle.justfile_parse.specs.Reader.{after_mark, Read, ReadItem, ReadItems, Refusal, State, accept, behind, ended, expect, leaves, line, line_end, on_line}
+use Rattle.justfile_parse.specs.TableReader.{after_mark, Read, ReadItem, ReadItems, Refusal, State, accept, item_rest, ended, expect, leaves, line, line_end, on_line}
 use Rattle.justfile_parse.specs.Significant.{significant_of}
 use Rattle.justfile_parse.specs.Tree.{Leaf}
 use Rattle.justfile_parse.specs.declared.significant.TableEntry.{TableEntry}
@@ -36,16 +36,16 @@ abbrev pub names : State → ℕ
 names s = identifiers (map significant_of s.left)
 
 -- counters that move up by no more than so many, and constants that stay
-pub record MovesBy (n m : Counters) (before behind : ℕ) : Type 0 where
+pub record MovesBy (n m : Counters) (before following : ℕ) : Type 0 where
   pub least : n.bindings ≤ m.bindings
   pub recipes_least : n.recipes ≤ m.recipes
-  pub most : m.bindings + m.recipes + behind ≤ n.bindings + n.recipes + before
+  pub most : m.bindings + m.recipes + following ≤ n.bindings + n.recipes + before
   pub constants : m.constants ≡ n.constants
 
 -- ---- an item
 
-counts_by : (n : Counters) (i : OrderedItem Leaf Token ℕ) (before behind : ℕ) → item_bindings i + item_recipes i + behind ≤ before → MovesBy n (count n i) before behind
-counts_by n i before behind h = record {
+counts_by : (n : Counters) (i : OrderedItem Leaf Token ℕ) (before following : ℕ) → item_bindings i + item_recipes i + following ≤ before → MovesBy n (count n i) before following
+counts_by n i before following h = record {
   least = omega (arith, counted_bindings n (i ∷ []));
   recipes_least = omega (arith, counted_recipes n (i ∷ []));
   most = omega (arith, h, counted_bindings n (i ∷ []), counted_recipes n (i ∷ []));
@@ -131,16 +131,16 @@ line_end_fewer s = go (accept kinds.Eof s)
     go None = then_fewer {A = TableEntry} {B = Items} s (expect kinds.Eol s) (λ newline. Ok (tree.Newline ∷ [], newline.1)) (expect_fewer kinds.Eol s) (λ x. omega arith)
     go (Some x) = omega arith
 
-behind_fewer : (s : State) → Fewer {A = Items} s (behind s)
-unfolding files.behind
-behind_fewer s =
+item_rest_fewer : (s : State) → Fewer {A = Items} s (item_rest s)
+unfolding files.item_rest
+item_rest_fewer s =
     either_fewer {A = Items} kinds.Comment s _ _ (line_end_fewer s)
     (λ c. then_fewer {A = Items} {B = Items} c.1 (line_end c.1) (λ end. Ok (files.comment_item leaves c.0 ∷ end.0, end.1)) (line_end_fewer c.1) (λ x. omega arith))
 
 ended_fewer : (b : Bool) (s : State) → Fewer {A = Items} s (ended b s)
 unfolding files.ended
 ended_fewer true s = omega arith
-ended_fewer false s = behind_fewer s
+ended_fewer false s = item_rest_fewer s
 
 -- ---- a line
 
@@ -152,13 +152,13 @@ module _ (n : Counters) (s : State) (open_none : s.depth ≡ 0) where
   unfolding files.line
   line_moved = go (accept kinds.Eol s) (accepted kinds.Eol s)
     where
-      behind_item : (i : (OrderedItem Leaf Token ℕ × Counters) × State) → MovesBy n i.0.1 (names s) (names i.1) → (o : Read Items) → Fewer {A = Items} i.1 o
+      after_item : (i : (OrderedItem Leaf Token ℕ × Counters) × State) → MovesBy n i.0.1 (names s) (names i.1) → (o : Read Items) → Fewer {A = Items} i.1 o
           → Moved (o >>= λ b. Ok ((i.0.0 ∷ b.0, i.0.1), b.1))
-      behind_item i h (Ok b) k = record { least = h.least; recipes_least = h.recipes_least; most = omega (arith, h.most, k); constants = h.constants }
-      behind_item i h (Err e) k = tt
+      after_item i h (Ok b) k = record { least = h.least; recipes_least = h.recipes_least; most = omega (arith, h.most, k); constants = h.constants }
+      after_item i h (Err e) k = tt
 
       by_item : (o : ReadItem) → on_line n s ≡ o → Moved (o >>= λ i. ended (has_body i.0.0) i.1 >>= λ b. Ok ((i.0.0 ∷ b.0, i.0.1), b.1))
-      by_item (Ok i) is = behind_item i (on_line_moves n s open_none i.0.0 i.0.1 i.1 is) (ended (has_body i.0.0) i.1) (ended_fewer (has_body i.0.0) i.1)
+      by_item (Ok i) is = after_item i (on_line_moves n s open_none i.0.0 i.0.1 i.1 is) (ended (has_body i.0.0) i.1) (ended_fewer (has_body i.0.0) i.1)
       by_item (Err e) is = tt
 
       go : (o : Taken) → IsNext kinds.Eol s s.left o

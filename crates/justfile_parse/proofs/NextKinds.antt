@@ -8,7 +8,7 @@ use Rattle.justfile_base.specs.declared.token.Token.{Token}
 use Rattle.justfile_base.specs.declared.token_kind.TokenKind.{TokenKind}
 use Rattle.justfile_model.specs.Reading as reading
 use Rattle.justfile_model.specs.Reading.{at, same_kind}
-use Rattle.justfile_parse.specs.Reader.{Run, leaves}
+use Rattle.justfile_parse.specs.TableReader.{Run, leaves}
 use Rattle.justfile_model.specs.declared.list_feature.ListFeature.{ListFeature}
 use Rattle.justfile_parse.specs.declared.significant.TableEntry.{TableEntry}
 use Rattle.justfile_parse.specs.View.{state_at}

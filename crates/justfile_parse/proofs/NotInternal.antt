@@ -18,7 +18,7 @@ use Rattle.justfile_base.specs.declared.string_kind.StringDelimiter.TheVariants 
 use Rattle.justfile_base.specs.declared.string_kind.StringKind.{StringKind}
 use Rattle.justfile_base.specs.declared.token.Token.{Token}
 use Rattle.justfile_base.specs.declared.token_kind.TokenKind.{TokenKind}
-use Rattle.justfile_cook.specs.Literal.{IsKindOf}
+use Rattle.justfile_literal.specs.Literal.{IsKindOf}
 use Rattle.justfile_base.specs.ByteClass.{class_of}
 use Rattle.justfile_model.specs.Lexed.{IsFault, IsSpan}
 use Rattle.justfile_model.specs.Literals as literals
@@ -26,10 +26,10 @@ use Rattle.justfile_model.specs.Reading as reader
 use Rattle.justfile_model.specs.TreeReader as model
 use Rattle.justfile_model.specs.SignificantTokens.{SignificantToken}
 use Rattle.justfile_parse.specs.Errors.{IsErrorOf, IsUnexpected}
-use Rattle.justfile_model.specs.LexicalFault.{LexicalFault, NotLexical, Refusal, Here, Unclosed, lexical_fault_of}
+use Rattle.justfile_model.specs.LexicalFault.{LexicalFault, NotLexical, LexicalRefusal, Here, Unclosed, lexical_fault_of}
 use Rattle.justfile_model.specs.LiteralText.{raw_len}
 use Rattle.justfile_model.specs.Modes.{Mode, head_of, innermost, is_empty, mode, nested}
-use Rattle.justfile_model.specs.Next.{Found, twice, fixed, unterminated, literal_part, close, format_kind, brace_by, closing, escape, inline, text_or, body, at_end_by, Region, InText, InInterpolation, Inline, region_by, token_in_region, inside, blanks_or, layout, next_by, next, is_same, is_backtick, is_blank_line, is_level, tested_blanks}
+use Rattle.justfile_model.specs.Next.{NextToken, doubled_token, fixed_token, unterminated, literal_part, closing_delimiter, format_kind, brace_by, closing, escaped_line_end, token_by_class, text_or, body_token, at_end_by, Region, InText, InInterpolation, Inline, region_by, token_in_region, token_within_line, blanks_or, layout, next_by, next, is_same, is_backtick, begins_blank_line, is_level, tested_blanks}
 use Rattle.justfile_model.specs.Tok.{Tok}
 use Rattle.justfile_model.specs.declared.open_delimiter.OpenDelimiter.{OpenDelimiter}
 use Rattle.justfile_model.specs.declared.raw_text.RawText.TheVariants as raw_texts
@@ -38,14 +38,14 @@ abbrev is_lexical : LexicalFault → Bool
 is_lexical NotLexical = false
 is_lexical _ = true
 
-abbrev lexical_found : Found → Bool
+abbrev lexical_found : NextToken → Bool
 lexical_found (Err (Here fault skip span)) = is_lexical fault
 lexical_found _ = true
 
-record Lexical (found : Found) : Type 0 where
+record Lexical (found : NextToken) : Type 0 where
   is : lexical_found found ≡ true
 
-if_lexical : (b : Bool) {x y : Found} → Lexical x → Lexical y → Lexical (cond b x y)
+if_lexical : (b : Bool) {x y : NextToken} → Lexical x → Lexical y → Lexical (cond b x y)
 if_lexical true l r = l
 if_lexical false l r = r
 
@@ -56,11 +56,11 @@ here : (fault : LexicalFault) (skip span : ℕ) → is_lexical fault ≡ true �
 here fault skip span h = record { is = h }
 
 module _ (rest : List ℕ) where
-  twice_lexical : (b : ℕ) (kind : TokenKind) → Lexical (twice b kind rest)
+  twice_lexical : (b : ℕ) (kind : TokenKind) → Lexical (doubled_token b kind rest)
   twice_lexical b kind = if_lexical (eqb (get_or rest 1 0) b) (token _ _) (if_lexical (eqb (length (drop 1 rest)) 0) (here _ _ _ refl) (here _ _ _ refl))
 
-  fixed_lexical : (b : ℕ) → Lexical (fixed b rest)
-  unfolding fixed
+  fixed_lexical : (b : ℕ) → Lexical (fixed_token b rest)
+  unfolding fixed_token
   fixed_lexical b =
       let c = get_or rest 1 0 in
       if_lexical (eqb b 33) (if_lexical (eqb c 61) (token _ _) (if_lexical (eqb c 126) (token _ _) (token _ _)))
@@ -85,7 +85,7 @@ module _ (rest : List ℕ) where
       let n = raw_len (raw_texts.Literal k format) (drop opener rest) in
       if_lexical (eqb n (length (drop opener rest))) (here _ _ _ (unterminated_lexical k.delimiter)) (if_lexical (format && is_interpolation_start (drop n (drop opener rest))) (token _ _) (token _ _))
 
-  close_lexical : (o : Option OpenDelimiter) (d : Delimiter) (kind : TokenKind) → Lexical (close o d kind)
+  close_lexical : (o : Option OpenDelimiter) (d : Delimiter) (kind : TokenKind) → Lexical (closing_delimiter o d kind)
   close_lexical None d kind = here _ _ _ refl
   close_lexical (Some o) d kind = if_lexical (is_same o.delimiter d) (token _ _) (here _ _ _ refl)
 
@@ -96,21 +96,21 @@ module _ (rest : List ℕ) where
   closing_lexical : (last : Option OpenDelimiter) (b : ℕ) → Lexical (closing last b rest)
   closing_lexical last b = if_lexical (eqb b 41) (close_lexical last _ _) (if_lexical (eqb b 93) (close_lexical last _ _) (brace_lexical (format_kind last) last))
 
-  escape_lexical : Lexical (escape rest)
+  escape_lexical : Lexical (escaped_line_end rest)
   escape_lexical =
       let c = get_or rest 1 0 in
       if_lexical (eqb c 10) (token _ _)
       (if_lexical (eqb c 13) (if_lexical (eqb (get_or rest 2 0) 10) (token _ _) (here _ _ _ refl))
       (if_lexical (eqb (length (drop 1 rest)) 0) (here _ _ _ refl) (here _ _ _ refl)))
 
-  inline_lexical : (m : Mode) (k : ByteClass) → Lexical (inline m k rest)
-  unfolding inline
+  inline_lexical : (m : Mode) (k : ByteClass) → Lexical (token_by_class m k rest)
+  unfolding token_by_class
   inline_lexical m classes.Blank = token _ _
   inline_lexical m classes.LineFeed = if_lexical (nested m) (token _ _) (token _ _)
   inline_lexical m classes.CarriageReturn = if_lexical (eqb (get_or rest 1 0) 10) (if_lexical (nested m) (token _ _) (token _ _)) (here _ _ _ refl)
   inline_lexical m classes.IdentifierStart = token _ _
   inline_lexical m classes.IdentifierContinue = here _ _ _ refl
-  inline_lexical m classes.Quote = let k = kind_of rest in part_lexical k (m.behind_f && not (is_backtick k.delimiter)) (delimiter_len k) FormatStringStart (token_kind_of k.delimiter)
+  inline_lexical m classes.Quote = let k = kind_of rest in part_lexical k (m.after_f && not (is_backtick k.delimiter)) (delimiter_len k) FormatStringStart (token_kind_of k.delimiter)
   inline_lexical m classes.Opener = if_lexical (eqb (get_or rest 0 0) 40) (token _ _) (if_lexical (eqb (get_or rest 0 0) 91) (token _ _) (token _ _))
   inline_lexical m classes.Closer = closing_lexical (head_of m.openers) (get_or rest 0 0)
   inline_lexical m classes.Fixed = fixed_lexical (get_or rest 0 0)
@@ -122,25 +122,25 @@ module _ (rest : List ℕ) where
   text_lexical (suc n) b = token _ _
 
   region_lexical : (p : Region) (m : Mode) → Lexical (token_in_region p m rest)
-  unfolding body
+  unfolding body_token
   region_lexical InText m = text_lexical (raw_len raw_texts.Body rest) (get_or rest 0 0)
   region_lexical InInterpolation m = if_lexical (is_empty m.openers && is_interpolation_end rest) (token _ _) (inline_lexical m (class_of (get_or rest 0 0)))
   region_lexical Inline m = inline_lexical m (class_of (get_or rest 0 0))
 
-  inside_lexical : (m : Mode) → Lexical (inside m rest)
-  unfolding inside
+  inside_lexical : (m : Mode) → Lexical (token_within_line m rest)
+  unfolding token_within_line
   inside_lexical m = region_lexical (region_by m.in_body m.interpolation) m
 
   blanks_lexical : (n : ℕ) (m : Mode) → Lexical (blanks_or n m rest)
   blanks_lexical zero m = inside_lexical m
   blanks_lexical (suc n) m = token _ _
 
-  layout_lexical : (m : Mode) (found behind : List ℕ) → Lexical (layout m found behind rest)
+  layout_lexical : (m : Mode) (found following : List ℕ) → Lexical (layout m found following rest)
   unfolding layout
-  layout_lexical m found behind =
+  layout_lexical m found following =
       let level = innermost m in
       if_lexical (nested m) (blanks_lexical _ m)
-      (if_lexical (is_blank_line behind) (if_lexical (not (is_empty m.levels) && closes_levels false rest) (token _ _) (blanks_lexical _ m))
+      (if_lexical (begins_blank_line following) (if_lexical (not (is_empty m.levels) && closes_levels false rest) (token _ _) (blanks_lexical _ m))
       (if_lexical (bytes_eq found level) (blanks_lexical _ m)
       (if_lexical (is_level m.levels found) (token _ _)
       (if_lexical (m.in_body && starts_with nat_eq found level) (blanks_lexical _ m)
@@ -160,7 +160,7 @@ unfolding next
 next_lexical m [] = end_lexical m.interpolation m.levels
 next_lexical m (b ∷ bs) = next_by_lexical (b ∷ bs) m.line_start m
 
-span_lexical : (text : List ℕ) (earlier : List Tok) (fault : LexicalFault) (t : Tok) (refusal : Refusal) → lexical_found (Err refusal) ≡ true → IsSpan text earlier refusal fault t → is_lexical fault ≡ true
+span_lexical : (text : List ℕ) (earlier : List Tok) (fault : LexicalFault) (t : Tok) (refusal : LexicalRefusal) → lexical_found (Err refusal) ≡ true → IsSpan text earlier refusal fault t → is_lexical fault ≡ true
 span_lexical text earlier fault t (Here p skip n) h s = ap is_lexical s.0 ∙ h
 span_lexical text earlier fault t (Unclosed u) h s = ap is_lexical s.0
 

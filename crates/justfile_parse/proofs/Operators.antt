@@ -13,8 +13,8 @@ use Rattle.justfile_model.specs.declared.level.Level.{Level}
 use Rattle.justfile_model.specs.declared.level.Level.TheVariants.{Expression, Disjunct, Compared, Conjunct, Value}
 use Rattle.justfile_model.specs.declared.list_feature.ListFeature.TheVariants as features
 use Rattle.justfile_model.specs.declared.operator.Operator.{Operator}
-use Rattle.justfile_parse.specs.Reader as r
-use Rattle.justfile_parse.specs.Reader.{At, Read, ReadExpr, Refusal, State, accept, accept_word, enter, front_operator, is_within, leaves, literal, operation, operations, read, value}
+use Rattle.justfile_parse.specs.TableReader as r
+use Rattle.justfile_parse.specs.TableReader.{At, Read, ReadExpr, Refusal, State, accept, accept_word, enter, front_operator, is_within, leaves, literal, operation, operations, read, value}
 use Rattle.justfile_parse.specs.Tree.{Leaf}
 use Rattle.justfile_parse.specs.declared.significant.TableEntry.{TableEntry}
 use Rattle.justfile_model.proofs.ExpressionReading as laws
@@ -29,7 +29,7 @@ regroup (Err e) f g = refl
 
 -- ---- an expression of a level
 
--- the same after an expression was opened, or too many are
+-- whether one more expression may be opened; where too many are open, the refusal
 abbrev allowed : (within : Bool) → State → Refusal → Read (Unit {0})
 allowed within s e = if within then Ok (tt, s) else Err e
 

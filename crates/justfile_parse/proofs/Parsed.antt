@@ -20,9 +20,9 @@ use Rattle.justfile_base.specs.declared.token.Token.{Token}
 use Rattle.justfile_base.specs.declared.token_kind.TokenKind.{TokenKind}
 use Rattle.justfile_base.specs.declared.token_kind.TokenKind.TheVariants as kinds
 use Rattle.std.specs.Str.{IsUtf8}
-use Rattle.justfile_canon.specs.RoundTrip.{TextDerives}
-use Rattle.justfile_canon.proofs.Quoted.{AreFramed, AreQuoted, IsFramed, IsQuoted, lexed_framed, lexed_quoted}
-use Rattle.justfile_file.specs.Item.{fragment_of, fragment_cooked, item_of, item_cooked, line_of, line_cooked}
+use Rattle.justfile_round_trip.specs.RoundTrip.{TextDerives}
+use Rattle.justfile_round_trip.proofs.Quoted.{AreFramed, AreQuoted, IsFramed, IsQuoted, lexed_framed, lexed_quoted}
+use Rattle.justfile_file.specs.Item.{fragment_of, fragment_cooked, item_of, item_cooked, body_line_of, line_cooked}
 use Rattle.justfile_file.specs.Ast.{features_of, tree_of}
 use Rattle.justfile_file.specs.declared.fragment.Fragment.{Fragment}
 use Rattle.justfile_file.specs.declared.fragment.Fragment.TheVariants as fragments
@@ -37,7 +37,7 @@ use Rattle.justfile_model.specs.Lexed.{Lexed, IsFault}
 use Rattle.justfile_model.specs.LexicalFault.{LexicalFault}
 use Rattle.justfile_model.specs.Features.{Noted}
 use Rattle.justfile_model.specs.Literals as lits
-use Rattle.justfile_model.specs.Literals.{Answers, Expanded, Literal, Plain, over_literal, string_of, cooked_text, Cooks}
+use Rattle.justfile_model.specs.Literals.{Expansions, Expanded, Literal, Plain, over_literal, string_of, cooked_text, AreCookedTexts}
 use Rattle.justfile_model.specs.declared.list_feature.ListFeature.{ListFeature}
 use Rattle.justfile_model.specs.TreeReader as model
 use Rattle.justfile_model.specs.SignificantTokens.{SignificantToken, is_whitespace, significant_from, significant_tokens}
@@ -47,18 +47,18 @@ use Rattle.justfile_model.specs.Tree.{Tree, WrittenTree, lexeme}
 use Rattle.justfile_model.proofs.LexedLaws.{one_list, never_both}
 use Rattle.justfile_model.proofs.Agreement.{sound, complete, due, refused}
 use Rattle.justfile_model.proofs.Ordered.{ordered_bindings, ordered_recipes}
-use Rattle.justfile_parse.specs.Given.{AreGivenExpressions, AreGivenParts, IsGivenFragment, IsGivenHeld, IsGivenItem, IsGivenExpression, IsGivenLine, IsGivenPart, IsInTable, first_part, later_part}
-use Rattle.justfile_cook.specs.Literal.{IsPartOf, is_framed, is_quoted}
+use Rattle.justfile_parse.specs.Filled.{AreGivenExpressions, AreGivenParts, IsGivenFragment, IsGivenOptional, IsGivenItem, IsGivenExpression, IsGivenLine, IsGivenPart, IsInTable, first_part, later_part}
+use Rattle.justfile_literal.specs.Literal.{IsPartOf, is_framed, is_quoted}
 use Rattle.justfile_parse.specs.Errors.{IsErrorOf}
 use Rattle.justfile_parse.specs.Literal.{is_delimited, is_sound}
 use Rattle.justfile_parse.specs.Parsing.{HasNoTree, IsOneLex, IsParsed, IsParsedText, IsUnparsed}
-use Rattle.justfile_parse.specs.Reading.{IsRead, IsUnread}
+use Rattle.justfile_parse.specs.MethodResults.{IsRead, IsUnread}
 use Rattle.justfile_parse.specs.Significant.{significant_of}
 use Rattle.justfile_parse.specs.declared.significant.TableEntry.{TableEntry}
 use Rattle.justfile_parse.specs.WantsNumber.{WantsNumber}
 use Rattle.justfile_parse.proofs.NotInternal.{not_internal, refusal_not_internal}
-use Rattle.justfile_tree.specs.Expression.{assert_of, conditional_of, expr_of, expr_cooked, exprs_cooked, exprs_of_row, format_of, held_cooked, join_of, literal_tok, part_tok, parts_cooked, parts_of_row}
-use Rattle.justfile_tree.specs.declared.expression.Expression.{Expression, And', Assert', Backtick, Call', Comparison', Concatenation', Conditional', FormatString', Group', Join', List', ListConcatenation', Not', Or', StringLiteral, Variable, Held-Expression-Assert-1, None', Some', Row_of-Expression, end_of-Expression, more_of-Expression, Row_of-Expression-FormatString-1-2, end_of-Expression-FormatString-1-2, more_of-Expression-FormatString-1-2}
+use Rattle.justfile_tree.specs.Expression.{assert_of, conditional_of, expr_of, expr_cooked, exprs_cooked, exprs_of_row, format_of, optional_cooked, join_of, literal_tok, part_tok, parts_cooked, parts_of_row}
+use Rattle.justfile_tree.specs.declared.expression.Expression.{Expression, And', Assert', Backtick, Call', Comparison', Concatenation', Conditional', FormatString', Group', Join', List', ListConcatenation', Not', Or', StringLiteral, Variable, Held-Expression-Assert-1 as OptionalExpression, None', Some', Row_of-Expression as ExpressionRow, end_of-Expression as row_end, more_of-Expression as row_more, Row_of-Expression-FormatString-1-2 as FormatRow, end_of-Expression-FormatString-1-2 as format_row_end, more_of-Expression-FormatString-1-2 as format_row_more}
 
 ok_is_no_error : (e : model.Refusal) (x : WrittenTree × List (Noted Tok)) (found : Result (WrittenTree × List (Noted Tok)) model.Refusal) → found ≡ Err e → found ≡ Ok x → ⊥
 ok_is_no_error e x found h k = let both : ◌≡◌ {A = Result (WrittenTree × List (Noted Tok)) model.Refusal} (Err e) (Ok x) = sym h ∙ k in cc
@@ -85,13 +85,13 @@ nonempty text ts table l is =
     omega (arith, n, ap (λ (us : List Tok). length (significant_from false us)) (in_front text ts l), ap length is, length-map table significant_of)
 
 framed_by : (front end : ℕ) (bytes : List ℕ) → front + end ≤ length bytes → get_or bytes (front - 1) 0 < 128 → get_or bytes (length bytes - end) 0 < 128 → is_framed front end bytes ≡ true
-framed_by front end bytes long before behind = grind (arith, nat_tests, long, before, behind)
+framed_by front end bytes long before following = grind (arith, nat_tests, long, before, following)
 
 quoted_test : (bytes : List ℕ) → IsQuoted bytes → is_quoted bytes ≡ true
-quoted_test bytes h = framed_by (delimiter_len (kind_of bytes)) (delimiter_len (kind_of bytes)) bytes h.long h.before h.behind
+quoted_test bytes h = framed_by (delimiter_len (kind_of bytes)) (delimiter_len (kind_of bytes)) bytes h.long h.before h.following
 
 pub framed_test : (front end : ℕ) (bytes : List ℕ) → IsFramed front end bytes → is_framed front end bytes ≡ true
-framed_test front end bytes h = framed_by front end bytes h.long h.before h.behind
+framed_test front end bytes h = framed_by front end bytes h.long h.before h.following
 
 -- each literal between delimiters, and each part of a format string but the last, is delimited
 delimited : (kind : TokenKind) (bytes : List ℕ) → (kind ≡ kinds.StringToken → IsQuoted bytes) → (kind ≡ kinds.Backtick → IsQuoted bytes)
@@ -124,19 +124,19 @@ sound_lex tokens table l is =
 in_tokens : (tokens : List Token) (table : List TableEntry) → All (λ entry. Contains tokens entry.token.now) table → (t : Token) → IsInTable table t → Contains tokens t
 in_tokens tokens table all t h = All-contains (λ (entry : TableEntry). Contains tokens entry.token.now) table (record { token = record { ref_ptr = h.ref_ptr; now = t }; glued = h.glued }) all h.among
 
-module _ (expander : Answers) (P Q : Token → Type 0) (weaker : (t : Token) → P t → Q t) where
+module _ (expander : Expansions) (P Q : Token → Type 0) (weaker : (t : Token) → P t → Q t) where
   mutual
     given_expression : (e : Expression) → IsGivenExpression expander P e → IsGivenExpression expander Q e
     given_expression (And' p lhs q rhs) h = (given_expression lhs h.0, given_expression rhs h.1)
-    given_expression (Assert' p condition message name) h = (given_expression condition h.0, given_held message h.1, weaker name.token h.2)
+    given_expression (Assert' p condition message name) h = (given_expression condition h.0, given_optional message h.1, weaker name.token h.2)
     given_expression (Backtick contents token) h = record { among = weaker token h.among; cooked = h.cooked }
     given_expression (Call' name n arguments) h = (weaker name.token h.0, given_row arguments h.1)
     given_expression (Comparison' p lhs operator q rhs token) h = (given_expression lhs h.0, given_expression rhs h.1, weaker token h.2)
     given_expression (Concatenation' p lhs operator q rhs) h = (given_expression lhs h.0, weaker operator h.1, given_expression rhs h.2)
-    given_expression (Conditional' p condition q branch otherwise) h = (given_expression condition h.0, given_expression branch h.1, given_held otherwise h.2)
+    given_expression (Conditional' p condition q branch otherwise) h = (given_expression condition h.0, given_expression branch h.1, given_optional otherwise h.2)
     given_expression (FormatString' start n expressions) h = (record { among = weaker start.token h.0.among; is = h.0.is }, given_parts (kind_of (lexeme_of start.token)) expressions h.1)
     given_expression (Group' p contents) h = given_expression contents h
-    given_expression (Join' lhs operator q rhs) h = (given_held lhs h.0, weaker operator h.1, given_expression rhs h.2)
+    given_expression (Join' lhs operator q rhs) h = (given_optional lhs h.0, weaker operator h.1, given_expression rhs h.2)
     given_expression (List' n elements opener) h = (given_row elements h.0, weaker opener h.1)
     given_expression (ListConcatenation' p lhs operator q rhs) h = (given_expression lhs h.0, weaker operator h.1, given_expression rhs h.2)
     given_expression (Not' p operand) h = given_expression operand h
@@ -144,17 +144,17 @@ module _ (expander : Answers) (P Q : Token → Type 0) (weaker : (t : Token) →
     given_expression (StringLiteral l) h = record { among = weaker l.token h.among; cooked = h.cooked; kind = h.kind; part = h.part }
     given_expression (Variable name number) h = (weaker name.token h.0, h.1)
 
-    given_held : (e : Held-Expression-Assert-1) → IsGivenHeld expander P e → IsGivenHeld expander Q e
-    given_held None' h = tt
-    given_held (Some' p e) h = given_expression e h
+    given_optional : (e : OptionalExpression) → IsGivenOptional expander P e → IsGivenOptional expander Q e
+    given_optional None' h = tt
+    given_optional (Some' p e) h = given_expression e h
 
-    given_row : {n : _} (es : Row_of-Expression n) → AreGivenExpressions expander P es → AreGivenExpressions expander Q es
-    given_row end_of-Expression h = tt
-    given_row (more_of-Expression e others) h = (given_expression e h.0, given_row others h.1)
+    given_row : {n : _} (es : ExpressionRow n) → AreGivenExpressions expander P es → AreGivenExpressions expander Q es
+    given_row row_end h = tt
+    given_row (row_more e others) h = (given_expression e h.0, given_row others h.1)
 
-    given_parts : (kind : StringKind) {n : _} (es : Row_of-Expression-FormatString-1-2 n) → AreGivenParts expander P kind es → AreGivenParts expander Q kind es
-    given_parts kind end_of-Expression-FormatString-1-2 h = tt
-    given_parts kind (more_of-Expression-FormatString-1-2 e literal others) h = (given_expression e h.0, record { among = weaker literal.token h.1.among; is = h.1.is }, given_parts kind others h.2)
+    given_parts : (kind : StringKind) {n : _} (es : FormatRow n) → AreGivenParts expander P kind es → AreGivenParts expander Q kind es
+    given_parts kind format_row_end h = tt
+    given_parts kind (format_row_more e literal others) h = (given_expression e h.0, record { among = weaker literal.token h.1.among; is = h.1.is }, given_parts kind others h.2)
 
   given_fragment : (f : Fragment) → IsGivenFragment expander P f → IsGivenFragment expander Q f
   given_fragment (fragments.Interpolation e) h = given_expression e h
@@ -193,19 +193,19 @@ string_at expand t = tree.StringLiteral expand t
 abbrev lexemes : List (Literal Tok) → List (Literal (List ℕ))
 lexemes = map (over_literal lexeme)
 
-module _ (expander : Answers) where
-  both_cook : (first : List (Literal (List ℕ))) (texts : List (List ℕ)) (others : List (Literal (List ℕ))) (more : List (List ℕ)) → Cooks expander first texts → Cooks expander others more → Cooks expander (first ++ others) (texts ++ more)
+module _ (expander : Expansions) where
+  both_cook : (first : List (Literal (List ℕ))) (texts : List (List ℕ)) (others : List (Literal (List ℕ))) (more : List (List ℕ)) → AreCookedTexts expander first texts → AreCookedTexts expander others more → AreCookedTexts expander (first ++ others) (texts ++ more)
   both_cook [] [] others more h k = k
   both_cook (l ∷ ls) (t ∷ ts) others more h k = (h.0, both_cook ls ts others more h.1 k)
   both_cook [] (t ∷ ts) others more h k = absurd h
   both_cook (l ∷ ls) [] others more h k = absurd h
 
-  joined_cook : (a b : List (Literal Tok)) (texts more : List (List ℕ)) → Cooks expander (lexemes a) texts → Cooks expander (lexemes b) more → Cooks expander (lexemes (a ++ b)) (texts ++ more)
+  joined_cook : (a b : List (Literal Tok)) (texts more : List (List ℕ)) → AreCookedTexts expander (lexemes a) texts → AreCookedTexts expander (lexemes b) more → AreCookedTexts expander (lexemes (a ++ b)) (texts ++ more)
   joined_cook a b texts more h k =
-      let P : List (Literal (List ℕ)) → Type 0 = λ ls. Cooks expander ls (texts ++ more) in
+      let P : List (Literal (List ℕ)) → Type 0 = λ ls. AreCookedTexts expander ls (texts ++ more) in
       subst P (sym (map-append (over_literal lexeme) a b)) (both_cook (lexemes a) texts (lexemes b) more h k)
 
-  string_cooks : (expand : Bool) (t : Tok) (bytes text : List ℕ) → t.lexeme ≡ bytes → cooked_text expander (string_of expand bytes) ≡ Ok text → Cooks expander (lexemes (expr_literals (string_at expand t))) (text ∷ [])
+  string_cooks : (expand : Bool) (t : Tok) (bytes text : List ℕ) → t.lexeme ≡ bytes → cooked_text expander (string_of expand bytes) ≡ Ok text → AreCookedTexts expander (lexemes (expr_literals (string_at expand t))) (text ∷ [])
   string_cooks true t bytes text same h = (ap (λ (b : List ℕ). cooked_text expander (Expanded b)) same ∙ h, tt)
   string_cooks false t bytes text same h = (ap (λ (b : List ℕ). cooked_text expander (Plain b)) same ∙ h, tt)
 
@@ -216,7 +216,7 @@ later_lexeme literal h k = rw (h, k) refl
 string_tok : (literal : literals.StringLiteral) → literal.part ≡ None → literal_tok literal ≡ tok_of literal.token
 string_tok literal p = rw p refl
 
-module _ (expander : Answers) (start : Tok) (bytes : List ℕ) (same : start.lexeme ≡ bytes) (literal : literals.StringLiteral) where
+module _ (expander : Expansions) (start : Tok) (bytes : List ℕ) (same : start.lexeme ≡ bytes) (literal : literals.StringLiteral) where
   part_end : IsPartOf (kind_of bytes) format_parts.End literal.token literal → cooked_text expander (lits.End start.lexeme (part_tok literal).lexeme) ≡ Ok (string_bytes literal.cooked)
   part_end h =
       ap (λ (l : List ℕ). cooked_text expander (lits.End start.lexeme l)) (later_lexeme literal h.expand_is (ap begins_format_string h.part_is))
@@ -229,9 +229,9 @@ module _ (expander : Answers) (start : Tok) (bytes : List ℕ) (same : start.lex
       ∙ ap (λ (b : List ℕ). cooked_text expander (lits.Continue b (lexeme_of literal.token))) same
       ∙ h.cooked
 
-module _ (expander : Answers) (P : Token → Type 0) where
+module _ (expander : Expansions) (P : Token → Type 0) where
   mutual
-    expression_cooks : (e : Expression) → IsGivenExpression expander P e → Cooks expander (lexemes (expr_literals (expr_of e))) (expr_cooked e)
+    expression_cooks : (e : Expression) → IsGivenExpression expander P e → AreCookedTexts expander (lexemes (expr_literals (expr_of e))) (expr_cooked e)
     expression_cooks (And' p lhs q rhs) h = joined_cook expander (expr_literals (expr_of lhs)) _ (expr_cooked lhs) _ (expression_cooks lhs h.0) (expression_cooks rhs h.1)
     expression_cooks (Assert' p condition message name) h = assert_cooks condition message name (expression_cooks condition h.0) h.1
     expression_cooks (Backtick contents token) h = (h.cooked, tt)
@@ -249,63 +249,63 @@ module _ (expander : Answers) (P : Token → Type 0) where
     expression_cooks (StringLiteral l) g = string_cooks expander l.expand (literal_tok l) (lexeme_of l.token) (string_bytes l.cooked) (ap (λ (t : Tok). t.lexeme) (string_tok l g.part)) g.cooked
     expression_cooks (Variable name number) h = tt
 
-    assert_cooks : (condition : Expression) (message : Held-Expression-Assert-1) (name : Name) → Cooks expander (lexemes (expr_literals (expr_of condition))) (expr_cooked condition) → IsGivenHeld expander P message
-        → Cooks expander (lexemes (expr_literals (assert_of (tok_of name.token) (expr_of condition) message))) (expr_cooked condition ++ held_cooked message)
-    assert_cooks condition None' name h k = subst (Cooks expander (lexemes (expr_literals (expr_of condition)))) (sym (append-nil (expr_cooked condition))) h
+    assert_cooks : (condition : Expression) (message : OptionalExpression) (name : Name) → AreCookedTexts expander (lexemes (expr_literals (expr_of condition))) (expr_cooked condition) → IsGivenOptional expander P message
+        → AreCookedTexts expander (lexemes (expr_literals (assert_of (tok_of name.token) (expr_of condition) message))) (expr_cooked condition ++ optional_cooked message)
+    assert_cooks condition None' name h k = subst (AreCookedTexts expander (lexemes (expr_literals (expr_of condition)))) (sym (append-nil (expr_cooked condition))) h
     assert_cooks condition (Some' p message) name h k = joined_cook expander (expr_literals (expr_of condition)) _ (expr_cooked condition) _ h (expression_cooks message k)
 
-    conditional_cooks : (condition branch : Expression) (otherwise : Held-Expression-Assert-1) → Cooks expander (lexemes (expr_literals (expr_of condition))) (expr_cooked condition) → Cooks expander (lexemes (expr_literals (expr_of branch))) (expr_cooked branch) → IsGivenHeld expander P otherwise
-        → Cooks expander (lexemes (expr_literals (conditional_of (expr_of condition) (expr_of branch) otherwise))) (expr_cooked condition ++ expr_cooked branch ++ held_cooked otherwise)
+    conditional_cooks : (condition branch : Expression) (otherwise : OptionalExpression) → AreCookedTexts expander (lexemes (expr_literals (expr_of condition))) (expr_cooked condition) → AreCookedTexts expander (lexemes (expr_literals (expr_of branch))) (expr_cooked branch) → IsGivenOptional expander P otherwise
+        → AreCookedTexts expander (lexemes (expr_literals (conditional_of (expr_of condition) (expr_of branch) otherwise))) (expr_cooked condition ++ expr_cooked branch ++ optional_cooked otherwise)
     conditional_cooks condition branch None' h k m =
-        subst (Cooks expander (lexemes (expr_literals (tree.If (expr_of condition) (expr_of branch))))) (sym (append-nil (expr_cooked condition ++ expr_cooked branch)))
+        subst (AreCookedTexts expander (lexemes (expr_literals (tree.If (expr_of condition) (expr_of branch))))) (sym (append-nil (expr_cooked condition ++ expr_cooked branch)))
         (joined_cook expander (expr_literals (expr_of condition)) _ (expr_cooked condition) _ h k)
     conditional_cooks condition branch (Some' p other) h k m =
         joined_cook expander (expr_literals (expr_of condition) ++ expr_literals (expr_of branch)) _ (expr_cooked condition ++ expr_cooked branch) _
         (joined_cook expander (expr_literals (expr_of condition)) _ (expr_cooked condition) _ h k)
         (expression_cooks other m)
 
-    join_cooks : (lhs : Held-Expression-Assert-1) (operator : Token) (rhs : Expression) → IsGivenHeld expander P lhs → Cooks expander (lexemes (expr_literals (expr_of rhs))) (expr_cooked rhs)
-        → Cooks expander (lexemes (expr_literals (join_of lhs (tok_of operator) (expr_of rhs)))) (held_cooked lhs ++ expr_cooked rhs)
+    join_cooks : (lhs : OptionalExpression) (operator : Token) (rhs : Expression) → IsGivenOptional expander P lhs → AreCookedTexts expander (lexemes (expr_literals (expr_of rhs))) (expr_cooked rhs)
+        → AreCookedTexts expander (lexemes (expr_literals (join_of lhs (tok_of operator) (expr_of rhs)))) (optional_cooked lhs ++ expr_cooked rhs)
     join_cooks None' operator rhs h k = k
     join_cooks (Some' p lhs) operator rhs h k = joined_cook expander (expr_literals (expr_of lhs)) _ (expr_cooked lhs) _ (expression_cooks lhs h) k
 
-    row_cooks : {n : _} (es : Row_of-Expression n) → AreGivenExpressions expander P es → Cooks expander (lexemes (exprs_literals (exprs_of_row es))) (exprs_cooked es)
-    row_cooks end_of-Expression h = tt
-    row_cooks (more_of-Expression e others) h = joined_cook expander (expr_literals (expr_of e)) _ (expr_cooked e) _ (expression_cooks e h.0) (row_cooks others h.1)
+    row_cooks : {n : _} (es : ExpressionRow n) → AreGivenExpressions expander P es → AreCookedTexts expander (lexemes (exprs_literals (exprs_of_row es))) (exprs_cooked es)
+    row_cooks row_end h = tt
+    row_cooks (row_more e others) h = joined_cook expander (expr_literals (expr_of e)) _ (expr_cooked e) _ (expression_cooks e h.0) (row_cooks others h.1)
 
-    format_cooks : (start : literals.StringLiteral) {n : _} (es : Row_of-Expression-FormatString-1-2 n) → IsGivenPart P (kind_of (lexeme_of start.token)) (first_part es) start → AreGivenParts expander P (kind_of (lexeme_of start.token)) es
-        → Cooks expander (lexemes (expr_literals (format_of (tok_of start.token) es))) (string_bytes start.cooked ∷ parts_cooked es)
-    format_cooks start end_of-Expression-FormatString-1-2 h k = (h.is.cooked, tt)
-    format_cooks start (more_of-Expression-FormatString-1-2 e literal others) h k =
+    format_cooks : (start : literals.StringLiteral) {n : _} (es : FormatRow n) → IsGivenPart P (kind_of (lexeme_of start.token)) (first_part es) start → AreGivenParts expander P (kind_of (lexeme_of start.token)) es
+        → AreCookedTexts expander (lexemes (expr_literals (format_of (tok_of start.token) es))) (string_bytes start.cooked ∷ parts_cooked es)
+    format_cooks start format_row_end h k = (h.is.cooked, tt)
+    format_cooks start (format_row_more e literal others) h k =
         (h.is.cooked, joined_cook expander (expr_literals (expr_of e)) _ (expr_cooked e) _ (expression_cooks e k.0) (parts_cook (tok_of start.token) (lexeme_of start.token) refl literal others k.1 k.2))
 
-    parts_cook : (start : Tok) (bytes : List ℕ) → start.lexeme ≡ bytes → (literal : literals.StringLiteral) {n : _} (es : Row_of-Expression-FormatString-1-2 n) → IsGivenPart P (kind_of bytes) (later_part es) literal → AreGivenParts expander P (kind_of bytes) es
-        → Cooks expander (lexemes (parts_literals start (parts_of_row (part_tok literal) es))) (string_bytes literal.cooked ∷ parts_cooked es)
-    parts_cook start bytes same literal end_of-Expression-FormatString-1-2 h k = (part_end expander start bytes same literal h.is, tt)
-    parts_cook start bytes same literal (more_of-Expression-FormatString-1-2 e next others) h k =
+    parts_cook : (start : Tok) (bytes : List ℕ) → start.lexeme ≡ bytes → (literal : literals.StringLiteral) {n : _} (es : FormatRow n) → IsGivenPart P (kind_of bytes) (later_part es) literal → AreGivenParts expander P (kind_of bytes) es
+        → AreCookedTexts expander (lexemes (parts_literals start (parts_of_row (part_tok literal) es))) (string_bytes literal.cooked ∷ parts_cooked es)
+    parts_cook start bytes same literal format_row_end h k = (part_end expander start bytes same literal h.is, tt)
+    parts_cook start bytes same literal (format_row_more e next others) h k =
         (part_continue expander start bytes same literal h.is, joined_cook expander (expr_literals (expr_of e)) _ (expr_cooked e) _ (expression_cooks e k.0) (parts_cook start bytes same next others k.1 k.2))
 
-  fragments_cook : (fs : List Fragment) → All (IsGivenFragment expander P) fs → Cooks expander (lexemes (fragments_literals (map fragment_of fs))) (flat_map fragment_cooked fs)
+  fragments_cook : (fs : List Fragment) → All (IsGivenFragment expander P) fs → AreCookedTexts expander (lexemes (fragments_literals (map fragment_of fs))) (flat_map fragment_cooked fs)
   fragments_cook [] all = tt
   fragments_cook (fragments.Interpolation e ∷ fs) all =
       joined_cook expander (expr_literals (expr_of e)) _ (expr_cooked e) _ (expression_cooks e (All-head (IsGivenFragment expander P) (fragments.Interpolation e) fs all))
       (fragments_cook fs (All-tail (IsGivenFragment expander P) (fragments.Interpolation e) fs all))
   fragments_cook (fragments.Text token ∷ fs) all = fragments_cook fs (All-tail (IsGivenFragment expander P) (fragments.Text token) fs all)
 
-  lines_cook : (ls : List Line) → All (IsGivenLine expander P) ls → Cooks expander (lexemes (body_literals (map line_of ls))) (flat_map line_cooked ls)
+  lines_cook : (ls : List Line) → All (IsGivenLine expander P) ls → AreCookedTexts expander (lexemes (body_literals (map body_line_of ls))) (flat_map line_cooked ls)
   lines_cook [] all = tt
   lines_cook (l ∷ ls) all =
       joined_cook expander (fragments_literals (map fragment_of l.fragments.items)) _ (line_cooked l) _ (fragments_cook l.fragments.items (All-head (IsGivenLine expander P) l ls all))
       (lines_cook ls (All-tail (IsGivenLine expander P) l ls all))
 
-  item_cooks : (file_depth : ℕ) (import_offsets : List ℕ) (i : Item) → IsGivenItem expander P file_depth import_offsets i → Cooks expander (lexemes (item_literals entries_literals (item_of i))) (item_cooked i)
+  item_cooks : (file_depth : ℕ) (import_offsets : List ℕ) (i : Item) → IsGivenItem expander P file_depth import_offsets i → AreCookedTexts expander (lexemes (item_literals entries_literals (item_of i))) (item_cooked i)
   item_cooks file_depth import_offsets (Assignment a) h = expression_cooks a.value h.value
   item_cooks file_depth import_offsets (Comment text) h = tt
   item_cooks file_depth import_offsets Newline h = tt
   item_cooks file_depth import_offsets (Recipe r) h = lines_cook r.body.items h.body
 
 -- the literals' texts are theirs
-pub cooks_of : (expander : Answers) (P : Token → Type 0) (file_depth : ℕ) (import_offsets : List ℕ) (items : List Item) → All (IsGivenItem expander P file_depth import_offsets) items → Cooks expander (lexemes (literals (map item_of items))) (flat_map item_cooked items)
+pub cooks_of : (expander : Expansions) (P : Token → Type 0) (file_depth : ℕ) (import_offsets : List ℕ) (items : List Item) → All (IsGivenItem expander P file_depth import_offsets) items → AreCookedTexts expander (lexemes (literals (map item_of items))) (flat_map item_cooked items)
 cooks_of expander P file_depth import_offsets [] all = tt
 cooks_of expander P file_depth import_offsets (i ∷ items) all =
     joined_cook expander (item_literals entries_literals (item_of i)) _ (item_cooked i) _
@@ -314,7 +314,7 @@ cooks_of expander P file_depth import_offsets (i ∷ items) all =
 
 -- ---- what is read derives
 
-pub given_tokens : (expander : Answers) (tokens : List Token) (table : List TableEntry) (file_depth : ℕ) (import_offsets : List ℕ) (items : List Item) → All (λ entry. Contains tokens entry.token.now) table → All (IsGivenItem expander (IsInTable table) file_depth import_offsets) items
+pub given_tokens : (expander : Expansions) (tokens : List Token) (table : List TableEntry) (file_depth : ℕ) (import_offsets : List ℕ) (items : List Item) → All (λ entry. Contains tokens entry.token.now) table → All (IsGivenItem expander (IsInTable table) file_depth import_offsets) items
     → All (IsGivenItem expander (Contains tokens) file_depth import_offsets) items
 given_tokens expander tokens table file_depth import_offsets items all =
     All-weaker (IsGivenItem expander (IsInTable table) file_depth import_offsets) (IsGivenItem expander (Contains tokens) file_depth import_offsets)
@@ -326,16 +326,16 @@ module _ (conditions : Conditions) (tokens : List Token) (table : List TableEntr
   Derives tree features = FileDerives conditions (significant_tokens (map tok_of tokens)) tree features
 
   abbrev there : Result (WrittenTree × List (Noted Tok)) model.Refusal
-  there = model.file conditions (map significant_of table)
+  there = model.tree_of_tokens conditions (map significant_of table)
 
   found : (tree : Tree) (features : List (Noted Tok)) → Derives tree features → (written : WrittenTree) × (ordered written ≡ Some tree) × (there ≡ Ok (written, features))
   found tree features d =
       let x = complete conditions (significant_tokens (map tok_of tokens)) tree features d in
-      (x.0, x.1, ap (model.file conditions) is ∙ x.2)
+      (x.0, x.1, ap (model.tree_of_tokens conditions) is ∙ x.2)
 
   pub derives_of : (written : WrittenTree) (tree : Tree) (features : List (Noted Tok)) → there ≡ Ok (written, features) → ordered written ≡ Some tree → Derives tree features
   derives_of written tree features h meaning =
-      let x = sound conditions (significant_tokens (map tok_of tokens)) written features (sym (ap (model.file conditions) is) ∙ h) in
+      let x = sound conditions (significant_tokens (map tok_of tokens)) written features (sym (ap (model.tree_of_tokens conditions) is) ∙ h) in
       let e : Some x.0 ≡ Some tree = sym x.1 ∙ meaning in
       let same : x.0 ≡ tree = cc in
       subst (λ (t : Tree). Derives t features) same x.2
@@ -345,7 +345,7 @@ module _ (conditions : Conditions) (tokens : List Token) (table : List TableEntr
       → IsUnparsed conditions (map tok_of tokens) (Contains tokens) old new fault
   unparsed_of all (faults.Compile e) h =
       let ts = significant_tokens (map tok_of tokens) in
-      let read : model.file conditions ts ≡ Err h.refusal = sym (ap (model.file conditions) is) ∙ h.read in
+      let read : model.tree_of_tokens conditions ts ≡ Err h.refusal = sym (ap (model.tree_of_tokens conditions) is) ∙ h.read in
       let error : IsErrorOf ts h.refusal e = subst (λ (us : List SignificantToken). IsErrorOf us h.refusal e) is h.error in
       record {
         derives_none = λ tree features d. let x = found tree features d in ok_is_no_error h.refusal (x.0, features) there h.read x.2;

@@ -7,9 +7,9 @@ use Rattle.justfile_model.specs.Tree.{Expr, Parts}
 use Rattle.justfile_tree.specs.declared.expression.Expression.{Expression}
 use Rattle.justfile_model.specs.ExpressionReader as expressions
 use Rattle.justfile_model.specs.Reading.{◌>>=◌}
-use Rattle.justfile_parse.specs.Reader.{At, Read, ReadExpr, Refusal, State, format_parts, leaves, pair, part, read}
-use Rattle.justfile_parse.specs.Reading.{StopsAt, literal_refusal, refusal_at}
-use Rattle.justfile_parse.specs.Tree.{Leaf, Literal, format_tree, literal_of, parts_of, tree_of}
+use Rattle.justfile_parse.specs.TableReader.{At, Read, ReadExpr, Refusal, State, format_parts, leaves, pair, part, read}
+use Rattle.justfile_parse.specs.MethodResults.{StopsAt, literal_refusal, refusal_at}
+use Rattle.justfile_parse.specs.Tree.{Leaf, Literal, format_string_tree, literal_of, parts_tree, leaf_tree_of}
 use Rattle.justfile_model.specs.declared.level.Level.TheVariants as levels
 use Rattle.justfile_parse.specs.declared.stop.Stop.{Stop}
 use Rattle.justfile_parse.specs.declared.stop.Stop.TheVariants as stops
@@ -25,7 +25,7 @@ leaf_of l = Literal (literal_of l)
 
 abbrev joined : List (Expression × StringLiteral) → Pair → Pair
 joined [] x = x
-joined (p ∷ ps) x = (tree_of p.0, tree.Continue (leaf_of p.1) (joined ps x).0 (joined ps x).1)
+joined (p ∷ ps) x = (leaf_tree_of p.0, tree.Continue (leaf_of p.1) (joined ps x).0 (joined ps x).1)
 
 abbrev begun : Pair → Leaf → Expr Leaf Token
 begun x leaf = tree.FormatString leaf x.0 x.1
@@ -62,19 +62,19 @@ module _ (start : List ℕ) where
       by_first (Ok e) = by_rest e.0 (read (expressions.FormatParts start e.1))
       by_first (Err f) = refl
 
-  joined_push : (ps : List (Expression × StringLiteral)) (e : Expression) (l : StringLiteral) (x : Pair) → joined (ps ++ (e, l) ∷ []) x ≡ joined ps (tree_of e, tree.Continue (leaf_of l) x.0 x.1)
+  joined_push : (ps : List (Expression × StringLiteral)) (e : Expression) (l : StringLiteral) (x : Pair) → joined (ps ++ (e, l) ∷ []) x ≡ joined ps (leaf_tree_of e, tree.Continue (leaf_of l) x.0 x.1)
   joined_push [] e l x = refl
-  joined_push (p ∷ ps) e l x = ap (joining (tree_of p.0) (leaf_of p.1)) (joined_push ps e l x)
+  joined_push (p ∷ ps) e l x = ap (joining (leaf_tree_of p.0) (leaf_of p.1)) (joined_push ps e l x)
 
-  joined_parts : (ps : List (Expression × StringLiteral)) (e : Expression) (l : StringLiteral) (leaf : Leaf) → continued leaf (joined ps (tree_of e, tree.Last (leaf_of l))) ≡ parts_of leaf (ps ++ (e, l) ∷ [])
+  joined_parts : (ps : List (Expression × StringLiteral)) (e : Expression) (l : StringLiteral) (leaf : Leaf) → continued leaf (joined ps (leaf_tree_of e, tree.Last (leaf_of l))) ≡ parts_tree leaf (ps ++ (e, l) ∷ [])
   joined_parts [] e l leaf = refl
-  joined_parts (p ∷ ps) e l leaf = ap (tree.Continue leaf (tree_of p.0)) (joined_parts ps e l (leaf_of p.1))
+  joined_parts (p ∷ ps) e l leaf = ap (tree.Continue leaf (leaf_tree_of p.0)) (joined_parts ps e l (leaf_of p.1))
 
-  joined_last : (ps : List (Expression × StringLiteral)) (e : Expression) (l : StringLiteral) → ◌≡◌ {A = Leaf → Expr Leaf Token} (begun (joined ps (tree_of e, tree.Last (leaf_of l)))) (format_tree (ps ++ (e, l) ∷ []))
+  joined_last : (ps : List (Expression × StringLiteral)) (e : Expression) (l : StringLiteral) → ◌≡◌ {A = Leaf → Expr Leaf Token} (begun (joined ps (leaf_tree_of e, tree.Last (leaf_of l)))) (format_string_tree (ps ++ (e, l) ∷ []))
   joined_last [] e l = refl
-  joined_last (p ∷ ps) e l = ap {B = Leaf → Expr Leaf Token} (λ (x : Parts Leaf Token) (leaf : Leaf). tree.FormatString leaf (tree_of p.0) x) (joined_parts ps e l (leaf_of p.1))
+  joined_last (p ∷ ps) e l = ap {B = Leaf → Expr Leaf Token} (λ (x : Parts Leaf Token) (leaf : Leaf). tree.FormatString leaf (leaf_tree_of p.0) x) (joined_parts ps e l (leaf_of p.1))
 
-  regroup : (ps : List (Expression × StringLiteral)) (e : Expression) (l : StringLiteral) (found : Read Pair) → with_front (ps ++ (e, l) ∷ []) found ≡ with_front ps (found >>= then_made (joining (tree_of e) (leaf_of l)))
+  regroup : (ps : List (Expression × StringLiteral)) (e : Expression) (l : StringLiteral) (found : Read Pair) → with_front (ps ++ (e, l) ∷ []) found ≡ with_front ps (found >>= then_made (joining (leaf_tree_of e) (leaf_of l)))
   regroup ps e l (Ok x) = ap (λ (y : Pair). Ok (begun y, x.1)) (joined_push ps e l x.0)
   regroup ps e l (Err f) = refl
 
@@ -121,13 +121,13 @@ module _ (start : List ℕ) where
       by_first (Err f) = refl
 
   module _ (s : State) (ps : List (Expression × StringLiteral)) where
-    pub goes_on : (e : Expression) (l : StringLiteral) (rest : State) → pair start s ≡ Ok ((tree_of e, leaf_of l, false), rest)
+    pub goes_on : (e : Expression) (l : StringLiteral) (rest : State) → pair start s ≡ Ok ((leaf_tree_of e, leaf_of l, false), rest)
         → with_front (ps ++ (e, l) ∷ []) (pairs start rest) ≡ with_front ps (pairs start s)
     goes_on e l rest h =
-        let one : pairs start s ≡ (pairs start rest >>= then_made (joining (tree_of e) (leaf_of l))) = rw (pair_by s, h) refl in
+        let one : pairs start s ≡ (pairs start rest >>= then_made (joining (leaf_tree_of e) (leaf_of l))) = rw (pair_by s, h) refl in
         regroup ps e l (pairs start rest) ∙ sym (ap (with_front ps) one)
 
-    pub ends : (e : Expression) (l : StringLiteral) (rest : State) → pair start s ≡ Ok ((tree_of e, leaf_of l, true), rest) → with_front ps (pairs start s) ≡ Ok (format_tree (ps ++ (e, l) ∷ []), rest)
+    pub ends : (e : Expression) (l : StringLiteral) (rest : State) → pair start s ≡ Ok ((leaf_tree_of e, leaf_of l, true), rest) → with_front ps (pairs start s) ≡ Ok (format_string_tree (ps ++ (e, l) ∷ []), rest)
     ends e l rest h = rw (pair_by s, h) (ap (λ (t : Leaf → Expr Leaf Token). Ok (t, rest)) (joined_last ps e l))
 
     pub fails : (f : Refusal) → pair start s ≡ Err f → with_front ps (pairs start s) ≡ Err f

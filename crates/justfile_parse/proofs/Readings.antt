@@ -1,7 +1,7 @@
 -- What is read, said otherwise.
 use Rattle.std.proofs.Common.{◌≡◌, Result, subst}
-use Rattle.justfile_parse.specs.Reader.{Read, State}
-use Rattle.justfile_parse.specs.Reading.{Reads}
+use Rattle.justfile_parse.specs.TableReader.{Read, State}
+use Rattle.justfile_parse.specs.MethodResults.{Reads}
 use Rattle.justfile_parse.specs.declared.stop.Stop.{Stop}
 
 pub reads_alike : {X Y : Type 0} (view : X → Y) (result : Result X Stop) (s : State) (found other : Read Y) → found ≡ other → Reads view result s found → Reads view result s other

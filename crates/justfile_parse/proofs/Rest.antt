@@ -10,18 +10,18 @@ use Rattle.justfile_base.specs.declared.token_kind.TokenKind.{TokenKind}
 use Rattle.justfile_model.specs.declared.list_feature.ListFeature.{ListFeature}
 use Rattle.justfile_parse.specs.Literal.{is_sound}
 use Rattle.justfile_parse.specs.declared.significant.TableEntry.{TableEntry}
-use Rattle.justfile_model.specs.Reading.{before, marked_by, marks, with}
+use Rattle.justfile_model.specs.Reading.{with_next, marked_by, marks, with}
 use Rattle.justfile_model.specs.Reading as reading
-use Rattle.justfile_parse.specs.Reader.{Run, State, accept_marked, leaves}
+use Rattle.justfile_parse.specs.TableReader.{Run, State, accept_marked, leaves}
 use Rattle.justfile_model.specs.SignificantTokens.{SignificantToken}
 use Rattle.justfile_model.specs.Tok.{tok_of}
-use Rattle.justfile_parse.specs.Given.{IsInTable}
+use Rattle.justfile_parse.specs.Filled.{IsInTable}
 use Rattle.justfile_parse.specs.Significant.{significant_of}
 use Rattle.justfile_parse.specs.View.{left, run_of, state_at, state_from, state_of}
 use Rattle.justfile_parse.specs.declared.parser.Parser.{Parser}
 
 module _ (run : Run) (depth n : ℕ) (fs : List (ListFeature × Token)) where
-  pub state_here : (d : TableEntry) → n < length run.table → state_at run depth n fs ≡ before (get_or run.table n d) (state_at run depth (n + 1) fs)
+  pub state_here : (d : TableEntry) → n < length run.table → state_at run depth n fs ≡ with_next (get_or run.table n d) (state_at run depth (n + 1) fs)
   unfolding state_at
   state_here d h = rw add-one (ap (λ (l : List TableEntry). record { run = run; depth = depth; left = l; noted = fs }) (drop-cons run.table n d h))
 
@@ -69,7 +69,7 @@ pub with_none : (s : State) → with [] s ≡ s
 with_none s = ap (λ (l : List (ListFeature × Token)). record { run = s.run; depth = s.depth; left = s.left; noted = l }) (append-nil s.noted)
 
 module _ {X : Type 0} (answer : X → List ℕ → Result (List ℕ) (List ℕ)) (p : Parser X) where
-  pub peeked : (d : TableEntry) → p.next < length p.tokens.now → state_of answer p ≡ before (get_or p.tokens.now p.next d) (state_from answer p (p.next + 1))
+  pub peeked : (d : TableEntry) → p.next < length p.tokens.now → state_of answer p ≡ with_next (get_or p.tokens.now p.next d) (state_from answer p (p.next + 1))
   unfolding state_of
   peeked d h = state_here (run_of answer p) p.depth p.next p.list_features.items d h
 

@@ -13,8 +13,8 @@ use Rattle.justfile_model.specs.Tree.{Expr, Parts}
 use Rattle.justfile_model.specs.ExpressionReader as expressions
 use Rattle.justfile_model.specs.ExpressionReader.{by_text}
 use Rattle.justfile_model.specs.Reading.{◌>>=◌, choose}
-use Rattle.justfile_parse.specs.Reader as r
-use Rattle.justfile_parse.specs.Reader.{At, Read, ReadExpr, State, accept, accept_word, assert, braced, condition, enclosed, expect, format_parts, format_string, group, leaves, list, name, note_first, part, part_by, read, single}
+use Rattle.justfile_parse.specs.TableReader as r
+use Rattle.justfile_parse.specs.TableReader.{At, Read, ReadExpr, State, accept, accept_word, assert, braced, condition, enclosed, expect, format_parts, format_string, group, leaves, list, name, note_first, part, part_by, read, whole_format_string}
 use Rattle.justfile_parse.specs.Tree.{Leaf}
 use Rattle.justfile_model.specs.declared.level.Level.TheVariants.{Expression}
 use Rattle.justfile_parse.specs.declared.significant.TableEntry.{TableEntry}
@@ -83,8 +83,8 @@ made_of_text : {A B : Type 0} (make : List ℕ → A) (f : A → B) (x : TableEn
 made_of_text make f x (Ok text) = refl
 made_of_text make f x (Err fault) = refl
 
-pub single_is : (x : TableEntry × State) → single x ≡ (part_by (kind_of (lexeme_of x.0.token.now)) string_parts.Single x >>= then_made t.FormatLiteral)
-unfolding expressions.single expressions.cooked part_by leaves
+pub single_is : (x : TableEntry × State) → whole_format_string x ≡ (part_by (kind_of (lexeme_of x.0.token.now)) string_parts.Single x >>= then_made t.FormatLiteral)
+unfolding expressions.whole_format_string expressions.cooked part_by leaves
 single_is x = made_of_text _ t.FormatLiteral x (format_text (kind_of (lexeme_of x.0.token.now)) string_parts.Single (lexeme_of x.0.token.now))
 
 pub part_is : (start : List ℕ) (s : State) → part start s

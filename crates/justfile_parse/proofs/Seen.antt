@@ -13,7 +13,7 @@ use Rattle.justfile_base.specs.declared.token.Token.{Token}
 use Rattle.std.specs.List.{flat_map}
 use Rattle.std.proofs.lemmas.List.Elements.{All-cons, All-nil}
 use Rattle.justfile_file.specs.Ast.{noted_of}
-use Rattle.justfile_file.specs.Item.{fragment_of, item_numbers, item_of, item_recipe_numbers, line_of}
+use Rattle.justfile_file.specs.Item.{fragment_of, item_numbers, item_of, item_recipe_numbers, body_line_of}
 use Rattle.justfile_file.specs.declared.binding.Binding.{Binding}
 use Rattle.justfile_file.specs.declared.fragment.Fragment.{Fragment}
 use Rattle.justfile_file.specs.declared.fragment.Fragment.TheVariants as fragments
@@ -32,27 +32,27 @@ use Rattle.justfile_model.specs.Literals.{cooked_text, format_text, string_of, t
 use Rattle.justfile_model.specs.SignificantTokens.{SignificantToken}
 use Rattle.justfile_model.specs.Tok.{Tok, tok_of}
 use Rattle.justfile_model.specs.Tree as tree
-use Rattle.justfile_model.specs.Tree.{BodyLine, Content, Entry, Expr, Exprs, Parts, Written, WrittenItem, WrittenTree, plain_assignment, plain_recipe, starless}
+use Rattle.justfile_model.specs.Tree.{BodyLine, Content, Entry, Expr, Exprs, Parts, WrittenAttribute, WrittenItem, WrittenTree, plain_assignment, plain_recipe, starless}
 use Rattle.justfile_model.specs.TreeReader.{token_leaves}
 use Rattle.justfile_model.proofs.Related as a
 use Rattle.justfile_model.proofs.Counters.{count}
 use Rattle.justfile_model.proofs.Related.{Alike, AlikeAll, AlikeFragment, AlikeItem, AlikeItems, AlikeLine, AlikeParts, Each, Relations, Respects}
 use Rattle.justfile_tree.specs.Expression as model
 use Rattle.justfile_tree.specs.Expression.{expr_of, exprs_of_row, literal_tok, part_tok}
-use Rattle.justfile_tree.specs.declared.expression.Expression.{Expression, And', Assert', Backtick, Call', Comparison', Concatenation', Conditional', FormatString', Group', Join', List', ListConcatenation', Not', Or', StringLiteral, Variable, None', Some', Row_of-Expression, end_of-Expression, more_of-Expression, Row_of-Expression-FormatString-1-2, end_of-Expression-FormatString-1-2, more_of-Expression-FormatString-1-2}
-use Rattle.justfile_parse.specs.Given.{is_private, IsGivenFragment, IsGivenItem, IsGivenLine, AreGivenExpressions, AreGivenParts, IsGivenCommand, IsGivenExpression, IsGivenLiteral, IsGivenPart, first_part, later_part}
-use Rattle.justfile_parse.specs.Reader.{Run, assigned, headed, leaves, literal_leaf}
+use Rattle.justfile_tree.specs.declared.expression.Expression.{Expression, And', Assert', Backtick, Call', Comparison', Concatenation', Conditional', FormatString', Group', Join', List', ListConcatenation', Not', Or', StringLiteral, Variable, None', Some', Row_of-Expression as ExpressionRow, end_of-Expression as row_end, more_of-Expression as row_more, Row_of-Expression-FormatString-1-2 as FormatRow, end_of-Expression-FormatString-1-2 as format_row_end, more_of-Expression-FormatString-1-2 as format_row_more}
+use Rattle.justfile_parse.specs.Filled.{is_private, IsGivenFragment, IsGivenItem, IsGivenLine, AreGivenExpressions, AreGivenParts, IsGivenCommand, IsGivenExpression, IsGivenLiteral, IsGivenPart, first_part, later_part}
+use Rattle.justfile_parse.specs.TableReader.{Run, assigned_leaf, headed_leaf, leaves, literal_leaf}
 use Rattle.justfile_parse.specs.Significant.{significant_of}
-use Rattle.justfile_parse.specs.Tree.{AssignmentName, RecipeName, Leaf, LiteralText, Assigned, Headed, Named, Literal, Command, Text, assignment_name, fragment_tree, item_tree, line_tree, format_of, literal_of, parts_of_row, recipe_name, tree_of, trees_of_row}
+use Rattle.justfile_parse.specs.Tree.{AssignmentName, RecipeName, Leaf, LiteralText, Assigned, Headed, Named, Literal, Command, Text, assignment_name, fragment_tree, item_tree, line_tree, format_row_tree, literal_of, parts_row_tree, recipe_name, leaf_tree_of, trees_of_row}
 use Rattle.justfile_parse.specs.declared.significant.TableEntry.{TableEntry}
 
 -- a reader of a table beside one of significant tokens
 abbrev pub Relates : Type 1
-Relates = Relations Run TableEntry Leaf Token (Unit {0}) (List (Entry Leaf Token)) Conditions SignificantToken Tok Tok Tok (List (Written Tok Tok))
+Relates = Relations Run TableEntry Leaf Token (Unit {0}) (List (Entry Leaf Token)) Conditions SignificantToken Tok Tok Tok (List (WrittenAttribute Tok Tok))
 
 -- an item without attributes means itself
-plain_item : (content : Content Tok Tok ℕ Tok) (ws : List (Written Tok Tok)) → ws ≡ [] → ordered_item (tree.Construct ws content) ≡ Some (tree.Construct [] (starless content))
-plain_item content ws e = ap (λ (k : List (Written Tok Tok)). ordered_item (tree.Construct k content)) e
+plain_item : (content : Content Tok Tok ℕ Tok) (ws : List (WrittenAttribute Tok Tok)) → ws ≡ [] → ordered_item (tree.Construct ws content) ≡ Some (tree.Construct [] (starless content))
+plain_item content ws e = ap (λ (k : List (WrittenAttribute Tok Tok)). ordered_item (tree.Construct k content)) e
 
 module _ (conditions : Conditions) (IsToken : Token → Type 0) (file_depth : ℕ) (import_offsets : List ℕ) where
   -- this run
@@ -62,7 +62,7 @@ module _ (conditions : Conditions) (IsToken : Token → Type 0) (file_depth : �
     pub file_depth_is : run.file_depth ≡ file_depth
     pub import_offsets_are : run.import_offsets ≡ import_offsets
 
-  -- such a token
+  -- a token of the table, and the token that the definitions see
   pub record IsSpot (token : Token) (tok : Tok) : Type 0 where
     pub among : IsToken token
     pub is : tok_of token ≡ tok
@@ -92,7 +92,7 @@ module _ (conditions : Conditions) (IsToken : Token → Type 0) (file_depth : �
   in_run = record { conditions = conditions; table = []; file_depth = file_depth; import_offsets = import_offsets }
 
   -- no attribute stands before either
-  abbrev pub AreNone : List (Entry Leaf Token) → List (Written Tok Tok) → Type 0
+  abbrev pub AreNone : List (Entry Leaf Token) → List (WrittenAttribute Tok Tok) → Type 0
   AreNone entries written = (entries ≡ []) × (written ≡ [])
 
   abbrev pub seen : Relates
@@ -105,8 +105,8 @@ module _ (conditions : Conditions) (IsToken : Token → Type 0) (file_depth : �
     text = IsLeaf Text;
     star = λ star tok. Unit {0};
     attributes = AreNone;
-    assignment = λ number. IsLeaf (λ token. assigned in_run token number);
-    recipe = λ number leaf body tok lines. IsLeaf (λ token. headed in_run token number body) leaf tok;
+    assignment = λ number. IsLeaf (λ token. assigned_leaf in_run token number);
+    recipe = λ number leaf body tok lines. IsLeaf (λ token. headed_leaf in_run token number body) leaf tok;
   }
 
   -- ---- what the two make of tokens
@@ -114,10 +114,10 @@ module _ (conditions : Conditions) (IsToken : Token → Type 0) (file_depth : �
   named : (make : Token → Leaf) (entry : TableEntry) (t : SignificantToken) → IsEntry entry t → IsLeaf make (make entry.token.now) t.tok
   named make entry t h = record { token = entry.token.now; among = h.among; is = refl; tok_is = ap (λ (s : SignificantToken). s.tok) (sym h.is) }
 
-  assigned_is : (run : Run) (C : Conditions) → IsRun run C → (token : Token) (number : ℕ) → assigned run token number ≡ assigned in_run token number
+  assigned_is : (run : Run) (C : Conditions) → IsRun run C → (token : Token) (number : ℕ) → assigned_leaf run token number ≡ assigned_leaf in_run token number
   assigned_is run C h token number = rw h.file_depth_is refl
 
-  headed_is : (run : Run) (C : Conditions) → IsRun run C → (token : Token) (number : ℕ) (body : List (BodyLine Leaf Token ℕ)) → headed run token number body ≡ headed in_run token number body
+  headed_is : (run : Run) (C : Conditions) → IsRun run C → (token : Token) (number : ℕ) (body : List (BodyLine Leaf Token ℕ)) → headed_leaf run token number body ≡ headed_leaf in_run token number body
   headed_is run C h token number body = rw (h.file_depth_is, h.import_offsets_are) refl
 
   pub respects : Respects seen leaves token_leaves
@@ -140,9 +140,9 @@ module _ (conditions : Conditions) (IsToken : Token → Type 0) (file_depth : �
     star = λ entry t h. tt;
     no_attributes = (refl, refl);
     assignment = λ run C entry t r h number.
-        subst (λ (leaf : Leaf). IsLeaf (λ token. assigned in_run token number) leaf t.tok) (sym (assigned_is run C r entry.token.now number)) (named (λ token. assigned in_run token number) entry t h);
+        subst (λ (leaf : Leaf). IsLeaf (λ token. assigned_leaf in_run token number) leaf t.tok) (sym (assigned_is run C r entry.token.now number)) (named (λ token. assigned_leaf in_run token number) entry t h);
     recipe = λ run C entry t r h number body lines same.
-        subst (λ (leaf : Leaf). IsLeaf (λ token. headed in_run token number body) leaf t.tok) (sym (headed_is run C r entry.token.now number body)) (named (λ token. headed in_run token number body) entry t h);
+        subst (λ (leaf : Leaf). IsLeaf (λ token. headed_leaf in_run token number body) leaf t.tok) (sym (headed_is run C r entry.token.now number body)) (named (λ token. headed_leaf in_run token number body) entry t h);
     has_number = λ n h. refl;
   }
 
@@ -278,22 +278,22 @@ module _ (conditions : Conditions) (IsToken : Token → Type 0) (file_depth : �
     same : t ≡ expr_of e
     given : IsGivenExpression conditions.expander IsToken e
 
-  record SeenRow {n : _} (row : Row_of-Expression n) (ts : Exprs Tok Tok) : Type 0 where
+  record SeenRow {n : _} (row : ExpressionRow n) (ts : Exprs Tok Tok) : Type 0 where
     same : ts ≡ exprs_of_row row
     given : AreGivenExpressions conditions.expander IsToken row
 
   -- a format string with this start
-  record SeenFormat (start : strings.StringLiteral) {n : _} (row : Row_of-Expression-FormatString-1-2 n) (t : Expr Tok Tok) : Type 0 where
+  record SeenFormat (start : strings.StringLiteral) {n : _} (row : FormatRow n) (t : Expr Tok Tok) : Type 0 where
     same : t ≡ model.format_of (tok_of start.token) row
     given : IsGivenPart IsToken (kind_of (lexeme_of start.token)) (first_part row) start × AreGivenParts conditions.expander IsToken (kind_of (lexeme_of start.token)) row
 
   -- the parts of a format string from this one on
-  record SeenParts (start : List ℕ) (l : strings.StringLiteral) {n : _} (row : Row_of-Expression-FormatString-1-2 n) (ps : Parts Tok Tok) : Type 0 where
+  record SeenParts (start : List ℕ) (l : strings.StringLiteral) {n : _} (row : FormatRow n) (ps : Parts Tok Tok) : Type 0 where
     same : ps ≡ model.parts_of_row (part_tok l) row
     given : IsGivenPart IsToken (kind_of start) (later_part row) l × AreGivenParts conditions.expander IsToken (kind_of start) row
 
   mutual
-    seen_expression : (e : Expression) {t : Expr Tok Tok} → Alike seen (tree_of e) t → Seen e t
+    seen_expression : (e : Expression) {t : Expr Tok Tok} → Alike seen (leaf_tree_of e) t → Seen e t
     seen_expression (And' p lhs q rhs) (a.and l r) =
         let x = seen_expression lhs l in
         let y = seen_expression rhs r in
@@ -357,19 +357,19 @@ module _ (conditions : Conditions) (IsToken : Token → Type 0) (file_depth : �
         let x = variable_seen name.token number tok h in
         record { same = ap (λ (k : Tok). tree.Variable k) x.1; given = (x.0, x.2) }
 
-    seen_row : {n : _} (row : Row_of-Expression n) {ts : Exprs Tok Tok} → AlikeAll seen (trees_of_row row) ts → SeenRow row ts
-    seen_row end_of-Expression a.none = record { same = refl; given = tt }
-    seen_row (more_of-Expression e others) (a.more h hs) =
+    seen_row : {n : _} (row : ExpressionRow n) {ts : Exprs Tok Tok} → AlikeAll seen (trees_of_row row) ts → SeenRow row ts
+    seen_row row_end a.none = record { same = refl; given = tt }
+    seen_row (row_more e others) (a.more h hs) =
         let x = seen_expression e h in
         let y = seen_row others hs in
         record { same = λ i. tree.more (x.same i) (y.same i); given = (x.given, y.given) }
 
     -- a format string with this start
-    seen_format : (start : strings.StringLiteral) {n : _} (row : Row_of-Expression-FormatString-1-2 n) {t : Expr Tok Tok} → Alike seen (format_of (Literal (literal_of start)) row) t → SeenFormat start row t
-    seen_format start end_of-Expression-FormatString-1-2 (a.format_literal lexeme {a' = tok} h) =
+    seen_format : (start : strings.StringLiteral) {n : _} (row : FormatRow n) {t : Expr Tok Tok} → Alike seen (format_row_tree (Literal (literal_of start)) row) t → SeenFormat start row t
+    seen_format start format_row_end (a.format_literal lexeme {a' = tok} h) =
         let x = single_seen lexeme start tok h in
         record { same = ap (λ (k : Tok). tree.FormatLiteral k) x.1; given = (x.0, tt) }
-    seen_format start (more_of-Expression-FormatString-1-2 e literal others) (a.format_string lexeme {a' = tok} h c ps) =
+    seen_format start (format_row_more e literal others) (a.format_string lexeme {a' = tok} h c ps) =
         let x = start_seen lexeme start tok h in
         let y = seen_expression e c in
         let z = seen_parts lexeme literal others ps in
@@ -377,11 +377,11 @@ module _ (conditions : Conditions) (IsToken : Token → Type 0) (file_depth : �
         let w = subst P x.2 z.given in
         record { same = λ i. tree.FormatString (x.1 i) (y.same i) (z.same i); given = (x.0, (y.given, w.0, w.1)) }
 
-    seen_parts : (start : List ℕ) (l : strings.StringLiteral) {n : _} (row : Row_of-Expression-FormatString-1-2 n) {ps : Parts Tok Tok} → AlikeParts seen start (parts_of_row (Literal (literal_of l)) row) ps → SeenParts start l row ps
-    seen_parts start l end_of-Expression-FormatString-1-2 (a.last lexeme {a' = tok} h) =
+    seen_parts : (start : List ℕ) (l : strings.StringLiteral) {n : _} (row : FormatRow n) {ps : Parts Tok Tok} → AlikeParts seen start (parts_row_tree (Literal (literal_of l)) row) ps → SeenParts start l row ps
+    seen_parts start l format_row_end (a.last lexeme {a' = tok} h) =
         let x = end_seen start lexeme l tok h in
         record { same = ap (λ (k : Tok). tree.Last k) x.1; given = (x.0, tt) }
-    seen_parts start l (more_of-Expression-FormatString-1-2 e literal others) (a.continue lexeme {a' = tok} h c ps) =
+    seen_parts start l (format_row_more e literal others) (a.continue lexeme {a' = tok} h c ps) =
         let x = continue_seen start lexeme l tok h in
         let y = seen_expression e c in
         let z = seen_parts start literal others ps in
@@ -403,7 +403,7 @@ module _ (conditions : Conditions) (IsToken : Token → Type 0) (file_depth : �
       let y = all_seen view model_view IsGood one zs hs in
       ((λ i. x.0 i ∷ y.0 i), All-cons IsGood z zs x.1 y.1)
 
-  line_seen : (l : Line) (t : BodyLine Tok Tok ℕ) → AlikeLine seen (line_tree l) t → (t ≡ line_of l) × IsGivenLine conditions.expander IsToken l
+  line_seen : (l : Line) (t : BodyLine Tok Tok ℕ) → AlikeLine seen (line_tree l) t → (t ≡ body_line_of l) × IsGivenLine conditions.expander IsToken l
   line_seen l t (a.line hs) =
       let x = all_seen fragment_tree fragment_of (IsGivenFragment conditions.expander IsToken) fragment_seen l.fragments.items hs in
       (ap (λ (fs : List (tree.Fragment Tok Tok)). tree.Line l.number fs) x.0, x.1)
@@ -425,10 +425,10 @@ module _ (conditions : Conditions) (IsToken : Token → Type 0) (file_depth : �
     numbers : (more : List ℕ) → NumbersFrom (count n (item_tree i)).bindings more → NumbersFrom n.bindings (item_numbers i ++ more)
     recipe_numbers : (more : List ℕ) → NumbersFrom (count n (item_tree i)).recipes more → NumbersFrom n.recipes (item_recipe_numbers i ++ more)
 
-  assignment_seen : (n : Counters) (b : Binding Expression) {ws : List (Written Tok Tok)} {t : Tok} {e : Expr Tok Tok} → ws ≡ [] → IsLeaf (λ token. assigned in_run token n.bindings) (Assigned (assignment_name b)) t → Alike seen (tree_of b.value) e
+  assignment_seen : (n : Counters) (b : Binding Expression) {ws : List (WrittenAttribute Tok Tok)} {t : Tok} {e : Expr Tok Tok} → ws ≡ [] → IsLeaf (λ token. assigned_leaf in_run token n.bindings) (Assigned (assignment_name b)) t → Alike seen (leaf_tree_of b.value) e
       → SeenItem n (items.Assignment b) (tree.Construct ws (tree.Assignment (plain_assignment t e)))
   assignment_seen n b {ws} {t} {e} none h v =
-      let same : assignment_name b ≡ assigned_in (assignment_name b) (assigned in_run h.token n.bindings) = ap (assigned_in (assignment_name b)) h.is in
+      let same : assignment_name b ≡ assigned_in (assignment_name b) (assigned_leaf in_run h.token n.bindings) = ap (assigned_in (assignment_name b)) h.is in
       let token : h.token ≡ b.name.token = ap (λ (x : AssignmentName). x.name) (sym same) in
       let number : b.number.0 ≡ n.bindings = ap (λ (x : AssignmentName). x.number.0) same in
       let x = seen_expression b.value v in
@@ -447,13 +447,13 @@ module _ (conditions : Conditions) (IsToken : Token → Type 0) (file_depth : �
         recipe_numbers = λ more h. h;
       }
 
-  recipe_seen : (n : Counters) (r : UnresolvedRecipe) {ws : List (Written Tok Tok)} {t : Tok} {body : List (BodyLine Tok Tok ℕ)} → ws ≡ [] → IsLeaf (λ token. headed in_run token n.recipes (map line_tree r.body.items)) (Headed (recipe_name r)) t → Each (AlikeLine seen) (map line_tree r.body.items) body
+  recipe_seen : (n : Counters) (r : UnresolvedRecipe) {ws : List (WrittenAttribute Tok Tok)} {t : Tok} {body : List (BodyLine Tok Tok ℕ)} → ws ≡ [] → IsLeaf (λ token. headed_leaf in_run token n.recipes (map line_tree r.body.items)) (Headed (recipe_name r)) t → Each (AlikeLine seen) (map line_tree r.body.items) body
       → SeenItem n (items.Recipe r) (tree.Construct ws (tree.Recipe (plain_recipe t body)))
   recipe_seen n r {ws} {t} {body} none h ls =
-      let same : recipe_name r ≡ headed_in (recipe_name r) (headed in_run h.token n.recipes (map line_tree r.body.items)) = ap (headed_in (recipe_name r)) h.is in
+      let same : recipe_name r ≡ headed_in (recipe_name r) (headed_leaf in_run h.token n.recipes (map line_tree r.body.items)) = ap (headed_in (recipe_name r)) h.is in
       let token : h.token ≡ r.name.token = ap (λ (x : RecipeName). x.name) (sym same) in
       let number : r.number.0 ≡ n.recipes = ap (λ (x : RecipeName). x.number.0) same in
-      let x = all_seen line_tree line_of (IsGivenLine conditions.expander IsToken) line_seen r.body.items ls in
+      let x = all_seen line_tree body_line_of (IsGivenLine conditions.expander IsToken) line_seen r.body.items ls in
       record {
         same =
             plain_item (tree.Recipe (plain_recipe t body)) ws none

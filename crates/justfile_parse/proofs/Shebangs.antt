@@ -6,13 +6,13 @@ use Rattle.std.specs.Option.{option_and_then}
 use Rattle.std.proofs.lemmas.Bool.Decides.{Decides-eqb}
 use Rattle.std.proofs.lemmas.Slice.Eq.{starts_is}
 use Rattle.justfile_base.specs.Token.{lexeme_of}
-use Rattle.justfile_file.specs.Line.{IsShebang, text_of}
+use Rattle.justfile_file.specs.Line.{IsShebang, text_of_fragment}
 use Rattle.justfile_file.specs.declared.fragment.Fragment.{Fragment}
 use Rattle.justfile_file.specs.declared.fragment.Fragment.TheVariants as fragments
 use Rattle.justfile_file.specs.declared.line.Line.{Line}
 use Rattle.justfile_model.specs.Tree as tree
-use Rattle.justfile_parse.specs.Reader.{has_shebang, is_shebang}
-use Rattle.justfile_parse.specs.Given.{HasShebang}
+use Rattle.justfile_parse.specs.TableReader.{has_shebang, is_shebang}
+use Rattle.justfile_parse.specs.Filled.{HasShebang}
 use Rattle.justfile_parse.specs.Tree.{fragment_tree, line_tree}
 
 -- tests of the same
@@ -45,7 +45,7 @@ begins_is text =
 
 -- a line's first text, by its fragments
 abbrev text_by : List Fragment → Option (List ℕ)
-text_by fs = option_and_then text_of (slice_get fs 0)
+text_by fs = option_and_then text_of_fragment (slice_get fs 0)
 
 by_fragments : (number : ℕ) (fs : List Fragment) → IsTrue (is_shebang (tree.Line number (map fragment_tree fs))) ↔ Begins (text_by fs)
 by_fragments number [] = ((λ h. cc), (λ b. cc))

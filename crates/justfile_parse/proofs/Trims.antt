@@ -12,15 +12,15 @@ use Rattle.justfile_parse.specs.Tree.{Leaf, fragment_tree, line_tree}
 use Rattle.justfile_file.specs.declared.fragment.Fragment.{Fragment}
 use Rattle.justfile_file.specs.declared.line.Line as lines
 use Rattle.justfile_model.specs.Tree as tree
-use Rattle.justfile_model.specs.Tree.{BodyLine, Line, before, trimmed}
+use Rattle.justfile_model.specs.Tree.{BodyLine, Line, line_before, trimmed}
 
 module _ {A B C : Type 0} where
   -- an empty line at the end is left out
   pub trimmed_empty : (ls : List (BodyLine A B C)) (n : C) → trimmed (ls ++ Line n [] ∷ []) ≡ trimmed ls
   trimmed_empty [] n = refl
-  trimmed_empty (l ∷ ls) n = ap (before l) (trimmed_empty ls n)
+  trimmed_empty (l ∷ ls) n = ap (line_before l) (trimmed_empty ls n)
 
-  before_some : (l : BodyLine A B C) (ls : List (BodyLine A B C)) (k : BodyLine A B C) → before l (ls ++ k ∷ []) ≡ l ∷ (ls ++ k ∷ [])
+  before_some : (l : BodyLine A B C) (ls : List (BodyLine A B C)) (k : BodyLine A B C) → line_before l (ls ++ k ∷ []) ≡ l ∷ (ls ++ k ∷ [])
   before_some (Line n []) [] k = refl
   before_some (Line n []) (m ∷ ls) k = refl
   before_some (Line n (f ∷ fs)) [] k = refl
@@ -29,7 +29,7 @@ module _ {A B C : Type 0} where
   -- nothing is left out before a line that is not empty
   pub trimmed_some : (ls : List (BodyLine A B C)) (n : C) (f : tree.Fragment A B) (fs : List (tree.Fragment A B)) → trimmed (ls ++ Line n (f ∷ fs) ∷ []) ≡ ls ++ Line n (f ∷ fs) ∷ []
   trimmed_some [] n f fs = refl
-  trimmed_some (l ∷ ls) n f fs = ap (before l) (trimmed_some ls n f fs) ∙ before_some l ls (Line n (f ∷ fs))
+  trimmed_some (l ∷ ls) n f fs = ap (line_before l) (trimmed_some ls n f fs) ∙ before_some l ls (Line n (f ∷ fs))
 
 -- the lines so far, of which empty ones at the end are left out
 pub record IsTrimmedTo (old new : List lines.Line) : Type 0 where

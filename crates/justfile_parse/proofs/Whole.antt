@@ -23,7 +23,7 @@ use Rattle.justfile_model.specs.SignificantTokens.{SignificantToken}
 use Rattle.justfile_model.specs.Tok.{Tok, tok_of}
 use Rattle.justfile_model.specs.Tree.{OrderedItem, WrittenTree}
 use Rattle.justfile_model.specs.TreeReader as model
-use Rattle.justfile_model.specs.TreeReader.{start, token_leaves}
+use Rattle.justfile_model.specs.TreeReader.{start_state, token_leaves}
 use Rattle.justfile_model.specs.declared.list_feature.ListFeature.{ListFeature}
 use Rattle.justfile_model.proofs.Counters.{counted, counted_bindings, counted_recipes, items_count}
 use Rattle.justfile_model.proofs.Natural as natural
@@ -32,10 +32,10 @@ use Rattle.justfile_model.proofs.Related as a
 use Rattle.justfile_model.proofs.Related.{AlikeItems, AlikeNext, Each, Refusals, Related, States}
 use Rattle.justfile_model.proofs.Renumbered.{file_by, whole}
 use Rattle.justfile_parse.specs.Errors.{IsAt, IsErrorOf}
-use Rattle.justfile_parse.specs.Given.{IsInTable}
-use Rattle.justfile_parse.specs.Reader as reader
-use Rattle.justfile_parse.specs.Reader.{ReadItems, Run, State, leaves}
-use Rattle.justfile_parse.specs.Reading.{IsFaultOf, IsKindAt, IsPlace, IsRead, IsUnread, StopsAt, literal_refusal, refusal_at}
+use Rattle.justfile_parse.specs.Filled.{IsInTable}
+use Rattle.justfile_parse.specs.TableReader as reader
+use Rattle.justfile_parse.specs.TableReader.{ReadItems, Run, State, leaves}
+use Rattle.justfile_parse.specs.MethodResults.{IsFaultOf, IsKindAt, IsNextPlace, IsRead, IsUnread, StopsAt, literal_refusal, refusal_at}
 use Rattle.justfile_parse.specs.Significant.{significant_of}
 use Rattle.justfile_parse.specs.Tree.{Leaf, item_tree}
 use Rattle.justfile_parse.specs.WantsNumber.{AreLines, LacksNumber, WantsNumber, binding, counters_of, more, none, recipe_number}
@@ -80,7 +80,7 @@ module _ (conditions : Conditions) (table : List TableEntry) (file_depth : ℕ) 
       let P : TableEntry → Type 0 = λ (e : TableEntry). IsInTable table e.token.now in
       a.cons (record { among = All-head P e es h; is = refl }) (each_entry es (All-tail P e es h))
 
-  begin_alike : States rel begin (start conditions tokens)
+  begin_alike : States rel begin (start_state conditions tokens)
   begin_alike = record { run = record { conditions_are = refl; same = refl; file_depth_is = refl; import_offsets_are = refl }; depth = refl; left = each_entry table (λ k d h. in_table table k d h); noted = a.nil }
 
   module _ (n : Counters) where
@@ -88,16 +88,16 @@ module _ (conditions : Conditions) (table : List TableEntry) (file_depth : ℕ) 
     Found = model.Read (WrittenTree × Counters)
 
     abbrev there : Found
-    there = files.file token_leaves n (start conditions tokens)
+    there = files.file token_leaves n (start_state conditions tokens)
 
     abbrev Q : List (OrderedItem Leaf Token ℕ) × Counters → WrittenTree × Counters → Type 0
     Q = natural.AllNumbered rel leaves token_leaves (respects conditions (IsInTable table) file_depth import_offsets) n
 
     abbrev Short : Counters → Found → Type 0
-    Short = natural.NoFile rel leaves token_leaves (respects conditions (IsInTable table) file_depth import_offsets) n (files.after_mark token_leaves (start conditions tokens))
+    Short = natural.NoFile rel leaves token_leaves (respects conditions (IsInTable table) file_depth import_offsets) n (files.after_mark token_leaves (start_state conditions tokens))
 
     related : Related rel Q Short (reader.file n begin) there
-    related = natural.file_natural rel leaves token_leaves (respects conditions (IsInTable table) file_depth import_offsets) n begin (start conditions tokens) begin_alike
+    related = natural.file_natural rel leaves token_leaves (respects conditions (IsInTable table) file_depth import_offsets) n begin (start_state conditions tokens) begin_alike
 
     abbrev Pair : Type 0
     Pair = (List (OrderedItem Leaf Token ℕ) × Counters) × State
@@ -167,11 +167,11 @@ module _ (conditions : Conditions) (table : List TableEntry) (file_depth : ℕ) 
 
   -- ---- a file that is refused
 
-  place_at : {o : Option TableEntry} {o' : Option SignificantToken} → AlikeNext rel o o' → (token : Token) → IsPlace table o token → IsAt tokens o' token × IsInTable table token
+  place_at : {o : Option TableEntry} {o' : Option SignificantToken} → AlikeNext rel o o' → (token : Token) → IsNextPlace table o token → IsAt tokens o' token × IsInTable table token
   place_at a.no_next token is = (is.1, is.0)
   place_at (a.a_next {t = e} h) token is = (ap tok_of is ∙ ap (λ (t : SignificantToken). t.tok) h.is, subst (IsInTable table) (sym is) h.among)
 
-  error_at : (r : Refusal) (s : State) (e : CompileError) (e' : model.Refusal) → Refusals rel (refusal_at r s) e' → IsKindAt r e.kind e.token → IsPlace table (front s.left) e.token → IsErrorOf tokens e' e × IsInTable table e.token
+  error_at : (r : Refusal) (s : State) (e : CompileError) (e' : model.Refusal) → Refusals rel (refusal_at r s) e' → IsKindAt r e.kind e.token → IsNextPlace table (front s.left) e.token → IsErrorOf tokens e' e × IsInTable table e.token
   unfolding reading.refused
   error_at Unexpected s e e' (a.unexpected h) kind is = let x = place_at h e.token is in ((kind, x.0), x.1)
   error_at TooDeep s e e' (a.too_deep h) kind is = let x = place_at h e.token is in ((kind, x.0), x.1)
@@ -207,7 +207,7 @@ module _ (conditions : Conditions) (table : List TableEntry) (file_depth : ℕ) 
   lines_of (natural.later is wants) = let x = lines_of wants in (x.0, more is x.1, x.2)
 
   module _ (old new : Numerator) where
-    wants_of : natural.Wants rel leaves token_leaves agree (counters_of old) (files.after_mark token_leaves (start conditions tokens)) (counters_of new) → WantsNumber conditions tokens old new
+    wants_of : natural.Wants rel leaves token_leaves agree (counters_of old) (files.after_mark token_leaves (start_state conditions tokens)) (counters_of new) → WantsNumber conditions tokens old new
     wants_of wants = let x = lines_of wants in record { left = x.0; lines = x.1; lacks = lacks_of new x.0 x.2 }
 
     whole_of : (found : Found (counters_of old)) (t : WrittenTree) (fs : List (Noted Tok)) → whole found ≡ Ok (t, fs) → (y : (WrittenTree × Counters) × model.State) × (found ≡ Ok y) × (y.0.0 ≡ t)
@@ -243,12 +243,12 @@ module _ (conditions : Conditions) (table : List TableEntry) (file_depth : ℕ) 
         )
 
     -- no tree has numbers enough
-    never_of : natural.AllExceed rel leaves token_leaves agree (counters_of new) (there (counters_of old)) → (t : WrittenTree) (fs : List (Noted Tok)) → model.file conditions tokens ≡ Ok (t, fs) → NumbersSuffice (bindings_of old) (recipes_of old) t → ⊥
+    never_of : natural.AllExceed rel leaves token_leaves agree (counters_of new) (there (counters_of old)) → (t : WrittenTree) (fs : List (Noted Tok)) → model.tree_of_tokens conditions tokens ≡ Ok (t, fs) → NumbersSuffice (bindings_of old) (recipes_of old) t → ⊥
     unfolding files.file
     never_of exceeds t fs is enough =
         let n = counters_of old in
         let x = whole_of (there n) t fs (file_by n conditions tokens ∙ is) in
-        let counts = known x.0 (λ (y : (WrittenTree × Counters) × model.State). y.0.1 ≡ counted n y.0.0) x.1 (items_count token_leaves n (files.after_mark token_leaves (start conditions tokens))) in
+        let counts = known x.0 (λ (y : (WrittenTree × Counters) × model.State). y.0.1 ≡ counted n y.0.0) x.1 (items_count token_leaves n (files.after_mark token_leaves (start_state conditions tokens))) in
         let over = known x.0 (λ (y : (WrittenTree × Counters) × model.State). natural.Exceeds rel leaves token_leaves agree (counters_of new) y.0.1) x.1 exceeds in
         exceeded x.0 t x.2 counts over enough
 
@@ -259,13 +259,13 @@ module _ (conditions : Conditions) (table : List TableEntry) (file_depth : ℕ) 
     no_refusal e' h = elim h [ ]
 
     wanting_of : Lost (counters_of old) (NoNumber (counters_of new)) (there (counters_of old))
-        → WantsNumber conditions tokens old new × ((t : WrittenTree) (fs : List (Noted Tok)) → model.file conditions tokens ≡ Ok (t, fs) → NumbersSuffice (bindings_of old) (recipes_of old) t → ⊥)
+        → WantsNumber conditions tokens old new × ((t : WrittenTree) (fs : List (Noted Tok)) → model.tree_of_tokens conditions tokens ≡ Ok (t, fs) → NumbersSuffice (bindings_of old) (recipes_of old) t → ⊥)
     wanting_of (refused e' is h) = absurd (no_refusal e' h)
     wanting_of (wanting m is short) =
         let k = subst (λ (c : Counters). Short (counters_of old) c (there (counters_of old))) (same_counters m is) short in
         (wants_of k.0, never_of k.1)
 
-    refused_of : (r : Refusal) (s : State) (e : CompileError) → Lost (counters_of old) (refusal_at r s) (there (counters_of old)) → IsKindAt r e.kind e.token → IsPlace table (front s.left) e.token → IsUnread conditions tokens (IsInTable table) old new (faults.Compile e)
+    refused_of : (r : Refusal) (s : State) (e : CompileError) → Lost (counters_of old) (refusal_at r s) (there (counters_of old)) → IsKindAt r e.kind e.token → IsNextPlace table (front s.left) e.token → IsUnread conditions tokens (IsInTable table) old new (faults.Compile e)
     refused_of r s e (refused e' is h) kind at =
         let x = error_at r s e e' h kind at in
         record { refusal = e'; read = sym (file_by (counters_of old) conditions tokens) ∙ ap (λ (r : Found (counters_of old)). whole r) is; error = x.0; among = x.1 }

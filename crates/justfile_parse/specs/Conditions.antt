@@ -1,7 +1,7 @@
 -- What a file is read under.
 use Rattle.std.specs.Prelude.{ℕ, List, Result}
 use Rattle.justfile_base.specs.declared.version.Version.{Version}
-use Rattle.justfile_cook.specs.Literal.{answers_by}
+use Rattle.justfile_literal.specs.Literal.{answers_by}
 use Rattle.justfile_model.specs.Conditions.{Conditions, VersionNumbers}
 
 -- how many expressions may be open

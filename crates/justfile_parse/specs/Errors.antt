@@ -4,7 +4,7 @@ use Rattle.justfile_base.specs.declared.compile_error.CompileError.{CompileError
 use Rattle.justfile_base.specs.declared.compile_error_kind.CompileErrorKind.{CompileErrorKind}
 use Rattle.justfile_base.specs.declared.compile_error_kind.CompileErrorKind.TheVariants as kinds
 use Rattle.justfile_base.specs.declared.token.Token.{Token}
-use Rattle.justfile_cook.specs.Literal.{IsKindOf}
+use Rattle.justfile_literal.specs.Literal.{IsKindOf}
 use Rattle.justfile_model.specs.Conditions.{Conditions}
 use Rattle.justfile_model.specs.Expressions.{Waived}
 use Rattle.justfile_model.specs.Features.{Noted}
@@ -15,7 +15,7 @@ use Rattle.justfile_model.specs.Refusals.{IsDue}
 use Rattle.justfile_model.specs.SignificantTokens.{SignificantToken}
 use Rattle.justfile_model.specs.Tok.{Tok, tok_of}
 use Rattle.justfile_model.specs.Tree.{WrittenTree}
-use Rattle.justfile_model.specs.TreeReader.{Refusal, file}
+use Rattle.justfile_model.specs.TreeReader.{Refusal, tree_of_tokens}
 
 -- the token is this one, or the last of the tokens where there is none
 abbrev pub IsAt : List SignificantToken → Option SignificantToken → Token → Type 0
@@ -27,7 +27,7 @@ abbrev pub IsUnexpected : CompileErrorKind → Token → Type 0
 IsUnexpected (kinds.UnexpectedToken expected found) token = found ≡ token.kind
 IsUnexpected _ token = ⊥
 
--- The error has the kind and the place of a refusal of these tokens. They are never refused because a number is wanting, nor so far because a
+-- The error has the kind and the place of a refusal of these tokens. They are never refused because numbers ran out; nor, so far, because a
 -- rule is broken: there is none.
 abbrev pub IsErrorOf : List SignificantToken → Refusal → CompileError → Type 0
 IsErrorOf tokens (reading.Unexpected at) e = IsUnexpected e.kind e.token × IsAt tokens at e.token
@@ -41,7 +41,7 @@ IsErrorOf tokens (reading.NoNumber counters) e = ⊥
 -- are entered at the limit begin at some tokens, at one of these.
 pub record IsRefused (conditions : Conditions) (tokens : List SignificantToken) (e : CompileError) : Type 0 where
   pub refusal : Refusal
-  pub read : file conditions tokens ≡ Err refusal
+  pub read : tree_of_tokens conditions tokens ≡ Err refusal
   pub error : IsErrorOf tokens refusal e
   pub breaks : (written : WrittenTree) (features : List (Noted Tok)) → FileTree tokens written features → IsDue conditions (λ at. Unit {0}) written refusal
   pub breaks_at : (written : WrittenTree) (features : List (Noted Tok)) (Hit : Option SignificantToken → Bool)

@@ -1,13 +1,13 @@
 pub mod Conditions
 pub mod Errors
 pub mod Fault
+pub mod Filled
 pub mod Formats
-pub mod Given
 pub mod Literal
+pub mod MethodResults
 pub mod Parsing
-pub mod Reader
-pub mod Reading
 pub mod Significant
+pub mod TableReader
 pub mod Tree
 pub mod View
 pub mod WantsNumber

@@ -5,7 +5,7 @@ use Rattle.justfile_base.specs.Token.{lexeme_of}
 use Rattle.justfile_base.specs.declared.format_string_part.FormatStringPart.TheVariants as parts
 use Rattle.justfile_base.specs.declared.token_kind.TokenKind.{TokenKind}
 use Rattle.justfile_base.specs.declared.token_kind.TokenKind.TheVariants as kinds
-use Rattle.justfile_cook.specs.Literal.{is_quoted, is_part}
+use Rattle.justfile_literal.specs.Literal.{is_quoted, is_part}
 use Rattle.justfile_parse.specs.declared.significant.TableEntry.{TableEntry}
 
 -- a literal is quoted, and a part of a format string framed

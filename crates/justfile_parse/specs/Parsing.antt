@@ -8,7 +8,7 @@ use Rattle.justfile_base.specs.declared.fault.Fault.{Fault}
 use Rattle.justfile_base.specs.declared.fault.Fault.TheVariants as faults
 use Rattle.justfile_base.specs.declared.numerator.Numerator.{Numerator}
 use Rattle.justfile_base.specs.declared.token.Token.{Token}
-use Rattle.justfile_canon.specs.RoundTrip.{TextDerives}
+use Rattle.justfile_round_trip.specs.RoundTrip.{TextDerives}
 use Rattle.justfile_file.specs.Ast.{tree_of, features_of, cooked_texts, binding_numbers, recipe_numbers}
 use Rattle.justfile_file.specs.declared.ast.Ast.{Ast}
 use Rattle.justfile_model.specs.Answers.{IsFrom, IsLexicalError}
@@ -16,13 +16,13 @@ use Rattle.justfile_model.specs.Conditions.{Conditions}
 use Rattle.justfile_model.specs.Features.{Noted}
 use Rattle.justfile_model.specs.Files.{FileDerives, NumbersFrom, NumbersSuffice, bindings, recipes, literals}
 use Rattle.justfile_model.specs.Lexed.{Lexed}
-use Rattle.justfile_model.specs.Literals.{over_literal, Answers, Cooks}
+use Rattle.justfile_model.specs.Literals.{over_literal, Expansions, AreCookedTexts}
 use Rattle.justfile_model.specs.SignificantTokens.{significant_tokens}
 use Rattle.justfile_model.specs.Tok.{Tok, tok_of}
 use Rattle.justfile_model.specs.Tree.{Tree, lexeme}
 use Rattle.justfile_model.specs.declared.list_feature.ListFeature.{ListFeature}
 use Rattle.justfile_parse.specs.Errors.{IsRefused}
-use Rattle.justfile_parse.specs.Given.{IsGivenItem}
+use Rattle.justfile_parse.specs.Filled.{IsGivenItem}
 use Rattle.justfile_parse.specs.WantsNumber.{WantsNumber}
 
 -- the tokens, all of one source, are those of its text
@@ -32,10 +32,10 @@ pub record IsOneLex (tokens : List Token) : Type 0 where
   pub lexed : Lexed text (map tok_of tokens)
   pub source : All (λ t. t.src.now ≡ text) tokens
 
--- What a file has beside its tree: its literals their texts, its bindings and its recipes the numbers from the numerator's next on, its
--- parts what the parser gives them; its features stand at such tokens. It uses nothing unstable.
-pub record IsFilled (expander : Answers) (IsToken : Token → Type 0) (file_depth : ℕ) (import_offsets : List ℕ) (old new : Numerator) (ast : Ast) : Type 0 where
-  pub cooks : Cooks expander (map (over_literal lexeme) (literals (tree_of ast))) (cooked_texts ast)
+-- What a file has beside its tree. Its literals have their texts. Its bindings and its recipes have the numbers from the numerator's next on.
+-- Its parts are what the parser gives them. Its features stand at tokens that `IsToken` allows. It uses nothing unstable.
+pub record IsFilled (expander : Expansions) (IsToken : Token → Type 0) (file_depth : ℕ) (import_offsets : List ℕ) (old new : Numerator) (ast : Ast) : Type 0 where
+  pub cooks : AreCookedTexts expander (map (over_literal lexeme) (literals (tree_of ast))) (cooked_texts ast)
   pub numbered : NumbersFrom (bindings_of old) (binding_numbers ast)
   pub recipes_numbered : NumbersFrom (recipes_of old) (recipe_numbers ast)
   pub counted : bindings_of new ≡ bindings_of old + bindings (tree_of ast)

@@ -3,7 +3,7 @@ use Rattle.std.specs.Prelude.{◌≡◌, ℕ, ◌<◌, ◌-◌, List, Option, So
 use Rattle.justfile_base.specs.declared.token.Token.{Token}
 use Rattle.justfile_model.specs.declared.list_feature.ListFeature.{ListFeature}
 use Rattle.justfile_parse.specs.Conditions.{conditions_of}
-use Rattle.justfile_parse.specs.Reader.{Run, State}
+use Rattle.justfile_parse.specs.TableReader.{Run, State}
 use Rattle.justfile_parse.specs.declared.parser.Parser.{Parser}
 
 unfoldable pub state_at : Run → (depth n : ℕ) → List (ListFeature × Token) → State

@@ -7,7 +7,7 @@ use Rattle.justfile_model.specs.Reader.{after_mark, assignment, line, recipe}
 use Rattle.justfile_model.specs.Reading.{Counters}
 use Rattle.justfile_model.specs.SignificantTokens.{SignificantToken}
 use Rattle.justfile_model.specs.Tree.{WrittenTree}
-use Rattle.justfile_model.specs.TreeReader.{State, start, token_leaves}
+use Rattle.justfile_model.specs.TreeReader.{State, start_state, token_leaves}
 
 -- where the numerator stands
 abbrev pub counters_of : Numerator → Counters
@@ -41,4 +41,4 @@ pub record LinesWantNumber (s : State) (old new : Numerator) : Type 0 where
 
 -- a number is wanted in a file's tokens, and its counter, which counted up from the old numerator to the new, is at its end
 abbrev pub WantsNumber : Conditions → List SignificantToken → (old new : Numerator) → Type 0
-WantsNumber conditions tokens old new = LinesWantNumber (after_mark token_leaves (start conditions tokens)) old new
+WantsNumber conditions tokens old new = LinesWantNumber (after_mark token_leaves (start_state conditions tokens)) old new

@@ -3,8 +3,8 @@ ghost use Rattle.std.specs.Prelude.{◌≡◌, ◌<◌, ◌≤◌, ◌-◌, ◌�
 ghost use Rattle.std.specs.List.{slice_get};
 ghost use Rattle.justfile_file.specs.Line.{IsEmpty};
 ghost use Rattle.justfile_model.specs.Tree.{trimmed};
-ghost use Rattle.justfile_parse.specs.Reader as reader;
-ghost use Rattle.justfile_parse.specs.Reading.{Reads};
+ghost use Rattle.justfile_parse.specs.TableReader as reader;
+ghost use Rattle.justfile_parse.specs.MethodResults.{Reads};
 ghost use Rattle.justfile_parse.specs.Tree.{fragment_tree, line_tree};
 
 use crate::parser::Parser;
@@ -20,7 +20,7 @@ impl<'src, X: Expander> Parser<'_, 'src, X> {
     #[tactic(auto, using(crate::proofs::Bodies::body_at_once, crate::proofs::Bodies::body_commented, crate::proofs::Bodies::body_missing))]
     pub(crate) fn parse_body_after_header(&mut self) -> Result<Vec<Line<'src>>, Stop<'src>>
         ensures reads { Reads (λ lines. map line_tree lines.items) result (state_of X.answer self.new)
-            (reader.body_behind (state_of X.answer self.old)) }
+            (reader.optional_body (state_of X.answer self.old)) }
         ensures progress { OnOk result (left self.new ≤ left self.old) }
     {
         if self.peek_kinds(&[TokenKind::Eol, TokenKind::Indent]) {
@@ -78,7 +78,7 @@ impl<'src, X: Expander> Parser<'_, 'src, X> {
     }
 
     /// The line of the source that the next token begins on, from 0; 0 where no token is left.
-    #[tactic(auto, unfolding(crate::specs::Reader::leaves))]
+    #[tactic(auto, unfolding(crate::specs::TableReader::leaves))]
     fn peek_line(&self) -> usize
         ensures { result ≡ reader.line_at (state_of X.answer self.now).left }
     {

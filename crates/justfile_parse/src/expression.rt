@@ -9,9 +9,9 @@ ghost use Rattle.justfile_parse.specs.Formats.{IsEndedAt, IsEndedFrom};
 ghost use Rattle.justfile_parse.specs.Literal.{IsOf};
 ghost use Rattle.justfile_model.specs.ExpressionReader.{closed};
 ghost use Rattle.justfile_model.specs.Operators.{is_binary};
-ghost use Rattle.justfile_parse.specs.Reader as reader;
-ghost use Rattle.justfile_parse.specs.Reading.{Reads, UnlessMemory};
-ghost use Rattle.justfile_parse.specs.Tree.{Literal, Named, format_tree, literal_of, tree_of, trees_of};
+ghost use Rattle.justfile_parse.specs.TableReader as reader;
+ghost use Rattle.justfile_parse.specs.MethodResults.{Reads, UnlessMemory};
+ghost use Rattle.justfile_parse.specs.Tree.{Literal, Named, format_string_tree, literal_of, leaf_tree_of, trees_of};
 ghost use Rattle.justfile_model.specs.declared.level.Level.TheVariants as levels;
 
 use crate::feature::find_function_feature;
@@ -34,7 +34,7 @@ impl<'run, 'src, X: Expander> Parser<'run, 'src, X> {
 
     /// An expression, in a box of its own.
     pub(crate) fn parse_expression(&mut self) -> Result<Box<Expression<'src>>, Stop<'src>>
-        ensures reads { Reads (λ e. tree_of e.value) result (state_of X.answer self.new)
+        ensures reads { Reads (λ e. leaf_tree_of e.value) result (state_of X.answer self.new)
             (reader.read (reader.At levels.Expression false (state_of X.answer self.old))) }
         ensures progress { OnOk result (left self.new < left self.old) }
     {
@@ -50,7 +50,7 @@ impl<'run, 'src, X: Expander> Parser<'run, 'src, X> {
         condition: bool,
     ) -> Result<Box<Expression<'src>>, Stop<'src>>
         requires { IsTrue (is_binary level) }
-        ensures reads { Reads (λ e. tree_of e.value) result (state_of X.answer self.new)
+        ensures reads { Reads (λ e. leaf_tree_of e.value) result (state_of X.answer self.new)
             (reader.read (reader.At level condition (state_of X.answer self.old))) }
         ensures progress { OnOk result (left self.new < left self.old) }
     {
@@ -63,7 +63,7 @@ impl<'run, 'src, X: Expander> Parser<'run, 'src, X> {
     #[cycle(expression)]
     #[tactic(auto, using(crate::proofs::Operators::conjunct_is))]
     fn parse_conjunct(&mut self, condition: bool) -> Result<Box<Expression<'src>>, Stop<'src>>
-        ensures reads { Reads (λ e. tree_of e.value) result (state_of X.answer self.new)
+        ensures reads { Reads (λ e. leaf_tree_of e.value) result (state_of X.answer self.new)
             (reader.read (reader.At levels.Conjunct condition (state_of X.answer self.old))) }
         ensures progress { OnOk result (left self.new < left self.old) }
     {
@@ -85,15 +85,15 @@ impl<'run, 'src, X: Expander> Parser<'run, 'src, X> {
     /// The operators of the levels from comparisons up to this one, each with its right side, after a
     /// conjunct. Most expressions have none.
     #[cycle(expression)]
-    #[tactic(auto, using(crate::proofs::Operators::operations_end), unfolding(crate::specs::Reader::operations))]
+    #[tactic(auto, using(crate::proofs::Operators::operations_end), unfolding(crate::specs::TableReader::operations))]
     fn parse_operations(
         &mut self,
         lhs: Box<Expression<'src>>,
         level: Level,
         condition: bool,
     ) -> Result<Box<Expression<'src>>, Stop<'src>>
-        ensures reads { Reads (λ e. tree_of e.value) result (state_of X.answer self.new)
-            (reader.operations level condition (tree_of lhs.entry.value, state_of X.answer self.old)) }
+        ensures reads { Reads (λ e. leaf_tree_of e.value) result (state_of X.answer self.new)
+            (reader.operations level condition (leaf_tree_of lhs.entry.value, state_of X.answer self.old)) }
         ensures progress { OnOk result (left self.new ≤ left self.old) }
     {
         let Some(_operator) = self.peek_operator() else {
@@ -112,7 +112,7 @@ impl<'run, 'src, X: Expander> Parser<'run, 'src, X> {
     /// An operator of a level after its left side, and its right side; the left side alone if there is
     /// no such operator.
     #[cycle(expression)]
-    #[tactic(auto, unfolding(crate::specs::Reader::operation, crate::specs::Reader::leaves))]
+    #[tactic(auto, unfolding(crate::specs::TableReader::operation, crate::specs::TableReader::leaves))]
     #[inline(always)]
     fn parse_operation(
         &mut self,
@@ -121,8 +121,8 @@ impl<'run, 'src, X: Expander> Parser<'run, 'src, X> {
         condition: bool,
     ) -> Result<Box<Expression<'src>>, Stop<'src>>
         requires { IsTrue (is_binary level) }
-        ensures reads { Reads (λ e. tree_of e.value) result (state_of X.answer self.new)
-            (reader.operation level condition (tree_of lhs.entry.value, state_of X.answer self.old)) }
+        ensures reads { Reads (λ e. leaf_tree_of e.value) result (state_of X.answer self.new)
+            (reader.operation level condition (leaf_tree_of lhs.entry.value, state_of X.answer self.old)) }
         ensures progress { OnOk result (left self.new ≤ left self.old) }
     {
         let Some((operator, entry)) = self.accept_operator(level) else {
@@ -137,12 +137,12 @@ impl<'run, 'src, X: Expander> Parser<'run, 'src, X> {
 
     /// An expression, and the delimiter after it.
     #[cycle(expression)]
-    #[tactic(auto, unfolding(crate::specs::Reader::enclosed))]
+    #[tactic(auto, unfolding(crate::specs::TableReader::enclosed))]
     pub(crate) fn parse_enclosed(
         &mut self,
         closing: TokenKind,
     ) -> Result<Box<Expression<'src>>, Stop<'src>>
-        ensures reads { Reads (λ e. tree_of e.value) result (state_of X.answer self.new)
+        ensures reads { Reads (λ e. leaf_tree_of e.value) result (state_of X.answer self.new)
             (reader.enclosed closing (state_of X.answer self.old)) }
         ensures progress { OnOk result (left self.new < left self.old) }
     {
@@ -155,7 +155,8 @@ impl<'run, 'src, X: Expander> Parser<'run, 'src, X> {
     #[cycle(expression)]
     #[tactic(auto, using(crate::proofs::Rules::note_is), unfolding(justfile_model::specs::ExpressionReader::condition_rule))]
     fn parse_condition(&mut self) -> Result<Box<Expression<'src>>, Stop<'src>>
-        ensures reads { Reads (λ e. tree_of e.value) result (state_of X.answer self.new) (reader.condition (state_of X.answer self.old)) }
+        ensures reads { Reads (λ e. leaf_tree_of e.value) result (state_of X.answer self.new)
+            (reader.condition (state_of X.answer self.old)) }
         ensures progress { OnOk result (left self.new < left self.old) }
     {
         let first = self.peek_front();
@@ -168,7 +169,7 @@ impl<'run, 'src, X: Expander> Parser<'run, 'src, X> {
     #[cycle(expression)]
     #[tactic(auto, using(crate::proofs::Rules::braced_is))]
     fn parse_braced(&mut self) -> Result<Box<Expression<'src>>, Stop<'src>>
-        ensures reads { Reads (λ e. tree_of e.value) result (state_of X.answer self.new) (reader.braced (state_of X.answer self.old)) }
+        ensures reads { Reads (λ e. leaf_tree_of e.value) result (state_of X.answer self.new) (reader.braced (state_of X.answer self.old)) }
         ensures progress { OnOk result (left self.new < left self.old) }
     {
         self.expect(TokenKind::BraceL)?;
@@ -177,13 +178,13 @@ impl<'run, 'src, X: Expander> Parser<'run, 'src, X> {
 
     /// A conditional, after its `if`.
     #[cycle(expression)]
-    #[tactic(auto, using(crate::proofs::Rules::conditional_is), unfolding(justfile_model::specs::ExpressionReader::conditional_rule, crate::specs::Reader::leaves))]
+    #[tactic(auto, using(crate::proofs::Rules::conditional_is), unfolding(justfile_model::specs::ExpressionReader::conditional_rule, crate::specs::TableReader::leaves))]
     #[inline(never)]
     fn parse_conditional(
         &mut self,
         word: TableEntry<'run, 'src>,
     ) -> Result<Box<Expression<'src>>, Stop<'src>>
-        ensures reads { Reads (λ e. tree_of e.value) result (state_of X.answer self.new)
+        ensures reads { Reads (λ e. leaf_tree_of e.value) result (state_of X.answer self.new)
             (reader.read (reader.Conditional word.entry (state_of X.answer self.old))) }
         ensures progress { OnOk result (left self.new < left self.old) }
     {
@@ -209,7 +210,8 @@ impl<'run, 'src, X: Expander> Parser<'run, 'src, X> {
     #[cycle(expression)]
     #[tactic(auto, unfolding(justfile_model::specs::ExpressionReader::otherwise_rule))]
     fn parse_otherwise(&mut self) -> Result<Box<Expression<'src>>, Stop<'src>>
-        ensures reads { Reads (λ e. tree_of e.value) result (state_of X.answer self.new) (reader.otherwise (state_of X.answer self.old)) }
+        ensures reads { Reads (λ e. leaf_tree_of e.value) result (state_of X.answer self.new)
+            (reader.otherwise (state_of X.answer self.old)) }
         ensures progress { OnOk result (left self.new < left self.old) }
     {
         if let Some(word) = self.accept_keyword(Keyword::If) {
@@ -226,7 +228,7 @@ impl<'run, 'src, X: Expander> Parser<'run, 'src, X> {
     #[tactic(auto, using(crate::proofs::Operators::value_is))]
     #[inline(never)]
     fn parse_value(&mut self) -> Result<Box<Expression<'src>>, Stop<'src>>
-        ensures reads { Reads (λ e. tree_of e.value) result (state_of X.answer self.new) (reader.value (state_of X.answer self.old)) }
+        ensures reads { Reads (λ e. leaf_tree_of e.value) result (state_of X.answer self.new) (reader.value (state_of X.answer self.old)) }
         ensures progress { OnOk result (left self.new < left self.old) }
     {
         if let Some(bang) = self.accept(TokenKind::Bang) {
@@ -245,7 +247,7 @@ impl<'run, 'src, X: Expander> Parser<'run, 'src, X> {
     #[tactic(auto, unfolding(justfile_model::specs::ExpressionReader::format_rule))]
     #[inline(never)]
     fn parse_format(&mut self) -> Result<Box<Expression<'src>>, Stop<'src>>
-        ensures reads { Reads (λ e. tree_of e.value) result (state_of X.answer self.new) (reader.format (state_of X.answer self.old)) }
+        ensures reads { Reads (λ e. leaf_tree_of e.value) result (state_of X.answer self.new) (reader.format (state_of X.answer self.old)) }
         ensures progress { OnOk result (left self.new < left self.old) }
     {
         match self.accept_marked(Keyword::F, TokenKind::FormatStringStart) {
@@ -264,7 +266,7 @@ impl<'run, 'src, X: Expander> Parser<'run, 'src, X> {
     ) -> Result<Box<Expression<'src>>, Stop<'src>>
         requires start { IsOf kinds.FormatStringStart start }
         requires ended { IsEndedFrom (kind_of (lexeme_of start.token.now)) (state_of X.answer self.old) }
-        ensures reads { Reads (λ e. tree_of e.value) result (state_of X.answer self.new)
+        ensures reads { Reads (λ e. leaf_tree_of e.value) result (state_of X.answer self.new)
             (reader.format_string (start.entry, state_of X.answer self.old)) }
         ensures progress { OnOk result (left self.new < left self.old) }
     {
@@ -281,7 +283,7 @@ impl<'run, 'src, X: Expander> Parser<'run, 'src, X> {
         start: TableEntry<'run, 'src>,
     ) -> Result<Vec<(Expression<'src>, StringLiteral<'src>)>, Stop<'src>>
         requires ended { IsEndedFrom (kind_of (lexeme_of start.token.now)) (state_of X.answer self.old) }
-        ensures reads { Reads (λ parts. format_tree parts.items) result (state_of X.answer self.new)
+        ensures reads { Reads (λ parts. format_string_tree parts.items) result (state_of X.answer self.new)
             (reader.format_parts (lexeme_of start.entry.token.now) (state_of X.answer self.old)) }
         ensures progress { OnOk result (left self.new < left self.old) }
     {
@@ -297,13 +299,13 @@ impl<'run, 'src, X: Expander> Parser<'run, 'src, X> {
 
     /// An expression of a format string and the part after it, and whether that is the last.
     #[cycle(expression)]
-    #[tactic(auto, unfolding(crate::specs::Reader::pair))]
+    #[tactic(auto, unfolding(crate::specs::TableReader::pair))]
     fn parse_pair(
         &mut self,
         start: TableEntry<'run, 'src>,
     ) -> Result<(Expression<'src>, StringLiteral<'src>, bool), Stop<'src>>
         requires ended { IsEndedFrom (kind_of (lexeme_of start.token.now)) (state_of X.answer self.old) }
-        ensures reads { Reads (λ x. (tree_of x.0, Literal (literal_of x.1), x.2)) result (state_of X.answer self.new)
+        ensures reads { Reads (λ x. (leaf_tree_of x.0, Literal (literal_of x.1), x.2)) result (state_of X.answer self.new)
             (reader.pair (lexeme_of start.entry.token.now) (state_of X.answer self.old)) }
         ensures progress { OnOk result (left self.new < left self.old) }
     {
@@ -316,7 +318,7 @@ impl<'run, 'src, X: Expander> Parser<'run, 'src, X> {
     #[cycle(expression)]
     #[tactic(auto, using(crate::proofs::Rules::assert_is))]
     fn parse_assert(&mut self) -> Result<Box<Expression<'src>>, Stop<'src>>
-        ensures reads { Reads (λ e. tree_of e.value) result (state_of X.answer self.new) (reader.assert (state_of X.answer self.old)) }
+        ensures reads { Reads (λ e. leaf_tree_of e.value) result (state_of X.answer self.new) (reader.assert (state_of X.answer self.old)) }
         ensures progress { OnOk result (left self.new < left self.old) }
     {
         let Some(word) = self.accept_keyword(Keyword::Assert) else {
@@ -343,9 +345,9 @@ impl<'run, 'src, X: Expander> Parser<'run, 'src, X> {
 
     /// A call or a variable, or another value.
     #[cycle(expression)]
-    #[tactic(auto, unfolding(justfile_model::specs::ExpressionReader::name_rule, crate::specs::Reader::leaves))]
+    #[tactic(auto, unfolding(justfile_model::specs::ExpressionReader::name_rule, crate::specs::TableReader::leaves))]
     fn parse_name(&mut self) -> Result<Box<Expression<'src>>, Stop<'src>>
-        ensures reads { Reads (λ e. tree_of e.value) result (state_of X.answer self.new) (reader.name (state_of X.answer self.old)) }
+        ensures reads { Reads (λ e. leaf_tree_of e.value) result (state_of X.answer self.new) (reader.name (state_of X.answer self.old)) }
         ensures progress { OnOk result (left self.new < left self.old) }
     {
         let Some(entry) = self.accept(TokenKind::Identifier) else {
@@ -364,7 +366,7 @@ impl<'run, 'src, X: Expander> Parser<'run, 'src, X> {
     #[cycle(expression)]
     #[tactic(auto, using(crate::proofs::Rules::group_is))]
     fn parse_group(&mut self) -> Result<Box<Expression<'src>>, Stop<'src>>
-        ensures reads { Reads (λ e. tree_of e.value) result (state_of X.answer self.new) (reader.group (state_of X.answer self.old)) }
+        ensures reads { Reads (λ e. leaf_tree_of e.value) result (state_of X.answer self.new) (reader.group (state_of X.answer self.old)) }
         ensures progress { OnOk result (left self.new < left self.old) }
     {
         let Some(_opening) = self.accept(TokenKind::ParenL) else {
@@ -376,9 +378,9 @@ impl<'run, 'src, X: Expander> Parser<'run, 'src, X> {
 
     /// A list.
     #[cycle(expression)]
-    #[tactic(auto, unfolding(justfile_model::specs::ExpressionReader::list_rule, crate::specs::Reader::leaves))]
+    #[tactic(auto, unfolding(justfile_model::specs::ExpressionReader::list_rule, crate::specs::TableReader::leaves))]
     fn parse_list(&mut self) -> Result<Box<Expression<'src>>, Stop<'src>>
-        ensures reads { Reads (λ e. tree_of e.value) result (state_of X.answer self.new) (reader.list (state_of X.answer self.old)) }
+        ensures reads { Reads (λ e. leaf_tree_of e.value) result (state_of X.answer self.new) (reader.list (state_of X.answer self.old)) }
         ensures progress { OnOk result (left self.new < left self.old) }
     {
         let Some(opener) = self.accept(TokenKind::BracketL) else {
@@ -419,7 +421,7 @@ impl<'run, 'src, X: Expander> Parser<'run, 'src, X> {
         &mut self,
         closing: TokenKind,
     ) -> Result<(Box<Expression<'src>>, bool), Stop<'src>>
-        ensures reads { Reads (λ x. (tree_of x.0.value, x.1)) result (state_of X.answer self.new)
+        ensures reads { Reads (λ x. (leaf_tree_of x.0.value, x.1)) result (state_of X.answer self.new)
             (reader.element closing (state_of X.answer self.old)) }
         ensures progress { OnOk result (left self.new < left self.old) }
     {
@@ -452,7 +454,7 @@ impl<'run, 'src, X: Expander> Parser<'run, 'src, X> {
     }
 
     /// Opens an expression.
-    #[tactic(auto, unfolding(crate::specs::Reader::enter, crate::specs::View::state_at, crate::specs::View::state_of, crate::specs::View::left))]
+    #[tactic(auto, unfolding(crate::specs::TableReader::enter, crate::specs::View::state_at, crate::specs::View::state_of, crate::specs::View::left))]
     fn enter(&mut self, level: Level) -> Result<(), Stop<'src>>
         ensures reads { Reads (λ done. done) result (state_of X.answer self.new) (reader.enter level (state_of X.answer self.old)) }
         ensures stays { left self.new ≡ left self.old }
@@ -489,7 +491,7 @@ impl<'run, 'src, X: Expander> Parser<'run, 'src, X> {
     }
 
     /// Takes the next token if it is an operator of the level.
-    #[tactic(auto, unfolding(justfile_model::specs::ExpressionReader::accept_operator, crate::specs::Reader::leaves, crate::specs::View::state_of, crate::specs::View::left))]
+    #[tactic(auto, unfolding(justfile_model::specs::ExpressionReader::accept_operator, crate::specs::TableReader::leaves, crate::specs::View::state_of, crate::specs::View::left))]
     fn accept_operator(&mut self, level: Level) -> Option<(Operator, TableEntry<'run, 'src>)>
         ensures some { IfSome result
             (λ found. reader.accept_operator level (state_of X.answer self.old) ≡ Some (found.0, found.1, state_of X.answer self.new)) }
@@ -514,10 +516,10 @@ impl<'run, 'src, X: Expander> Parser<'run, 'src, X> {
     }
 
     /// No `else` may stand after a branch that ends in a conditional without one.
-    #[tactic(auto, unfolding(justfile_model::specs::Reading::accept_word, justfile_model::specs::Reading::refused, crate::specs::Reader::leaves))]
+    #[tactic(auto, unfolding(justfile_model::specs::Reading::accept_word, justfile_model::specs::Reading::refused, crate::specs::TableReader::leaves))]
     fn expect_closed(&self, branch: &Expression<'src>) -> Result<(), Stop<'src>>
-        ensures reads { Reads (λ _. tree_of branch.now) result (state_of X.answer self.now)
-            (reader.ended_by (ends_open (tree_of branch.now)) (tree_of branch.now) (state_of X.answer self.now)) }
+        ensures reads { Reads (λ _. leaf_tree_of branch.now) result (state_of X.answer self.now)
+            (reader.ended_by (ends_open (leaf_tree_of branch.now)) (leaf_tree_of branch.now) (state_of X.answer self.now)) }
     {
         if !ends_open(branch) {
             return Ok(());
@@ -535,7 +537,7 @@ impl<'run, 'src, X: Expander> Parser<'run, 'src, X> {
 /// `else`.
 #[tactic(auto, using(crate::proofs::Shapes::assert_ends, crate::proofs::Shapes::format_ends, crate::proofs::Shapes::join_ends))]
 fn ends_open(expression: &Expression<'_>) -> bool
-    ensures { result ≡ ends_open (tree_of expression.now) }
+    ensures { result ≡ ends_open (leaf_tree_of expression.now) }
 {
     match expression {
         Expression::Conditional { otherwise, .. } => match otherwise {
@@ -562,14 +564,14 @@ fn ends_open(expression: &Expression<'_>) -> bool
 
 #[tactic(auto, using(crate::proofs::Rows::call_is))]
 fn make_call<'src>(name: Name<'src>, arguments: Vec<Expression<'src>>) -> Expression<'src>
-    ensures { tree_of result ≡ tree.Call (Named name.entry.token None) (trees_of arguments.entry.items) }
+    ensures { leaf_tree_of result ≡ tree.Call (Named name.entry.token None) (trees_of arguments.entry.items) }
 {
     Expression::Call { name, arguments }
 }
 
 #[tactic(auto, using(crate::proofs::Rows::list_is))]
 fn make_list<'src>(opener: Token<'src>, elements: Vec<Expression<'src>>) -> Expression<'src>
-    ensures { tree_of result ≡ tree.ListOf opener.entry (trees_of elements.entry.items) }
+    ensures { leaf_tree_of result ≡ tree.ListOf opener.entry (trees_of elements.entry.items) }
 {
     Expression::List { elements, opener }
 }
@@ -579,7 +581,7 @@ pub(crate) fn make_format_string<'src>(
     start: StringLiteral<'src>,
     expressions: Vec<(Expression<'src>, StringLiteral<'src>)>,
 ) -> Expression<'src>
-    ensures { tree_of result ≡ format_tree expressions.entry.items (Literal (literal_of start.entry)) }
+    ensures { leaf_tree_of result ≡ format_string_tree expressions.entry.items (Literal (literal_of start.entry)) }
 {
     Expression::FormatString { start, expressions }
 }

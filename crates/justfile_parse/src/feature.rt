@@ -1,9 +1,9 @@
 ghost use Rattle.std.specs.Prelude.{◌≡◌};
 ghost use Rattle.justfile_model.specs.Features.{function_feature, noted, noted_if, uncompared_feature};
 ghost use Rattle.justfile_model.specs.Reading.{with};
-ghost use Rattle.justfile_parse.specs.Reader.{note_first};
-ghost use Rattle.justfile_parse.specs.Tree.{tree_of};
-ghost use Rattle.justfile_parse.specs.Reading.{UnlessMemory};
+ghost use Rattle.justfile_parse.specs.TableReader.{note_first};
+ghost use Rattle.justfile_parse.specs.Tree.{leaf_tree_of};
+ghost use Rattle.justfile_parse.specs.MethodResults.{UnlessMemory};
 
 use crate::parser::Parser;
 use crate::significant::TableEntry;
@@ -53,7 +53,7 @@ impl<'src, X: Expander> Parser<'_, 'src, X> {
         first: Option<TableEntry<'_, 'src>>,
     ) -> Result<(), Stop<'src>>
         ensures notes { UnlessMemory result
-            (λ done. state_of X.answer self.new ≡ note_first (tree_of condition.now) first.entry (state_of X.answer self.old)) }
+            (λ done. state_of X.answer self.new ≡ note_first (leaf_tree_of condition.now) first.entry (state_of X.answer self.old)) }
         ensures stays { left self.new ≡ left self.old }
     {
         match first {
@@ -66,7 +66,7 @@ impl<'src, X: Expander> Parser<'_, 'src, X> {
 /// The feature that a condition is, if it is no comparison.
 #[tactic(auto, using(crate::proofs::Shapes::assert_plain, crate::proofs::Shapes::conditional_plain, crate::proofs::Shapes::format_plain, crate::proofs::Shapes::join_plain))]
 fn find_condition_feature(condition: &Expression<'_>) -> Option<ListFeature>
-    ensures { result ≡ uncompared_feature (tree_of condition.now) }
+    ensures { result ≡ uncompared_feature (leaf_tree_of condition.now) }
 {
     match condition {
         Expression::Comparison { .. } => None,

@@ -4,13 +4,13 @@ ghost use Rattle.std.specs.Str.{trim_end};
 ghost use Rattle.justfile_base.specs.Token.{lexeme_of};
 ghost use Rattle.justfile_model.specs.SignificantTokens.{identifiers};
 ghost use Rattle.justfile_model.specs.Tree as tree;
-ghost use Rattle.justfile_parse.specs.Given.{is_private};
+ghost use Rattle.justfile_parse.specs.Filled.{is_private};
 ghost use Rattle.justfile_parse.specs.WantsNumber.{counters_of};
-ghost use Rattle.justfile_model.specs.Reading.{after};
+ghost use Rattle.justfile_model.specs.Reading.{prepend};
 ghost use Rattle.justfile_model.specs.Reader.{after_numbered};
-ghost use Rattle.justfile_parse.specs.Reader as reader;
-ghost use Rattle.justfile_parse.specs.Reader.{State};
-ghost use Rattle.justfile_parse.specs.Reading.{IsMoved, Reads, ReadsNumbered, UnlessMemory};
+ghost use Rattle.justfile_parse.specs.TableReader as reader;
+ghost use Rattle.justfile_parse.specs.TableReader.{State};
+ghost use Rattle.justfile_parse.specs.MethodResults.{IsMoved, Reads, ReadsNumbered, UnlessMemory};
 ghost use Rattle.justfile_parse.specs.Significant.{significant_of};
 ghost use Rattle.justfile_parse.specs.Tree.{assignment_tree, item_tree};
 
@@ -44,9 +44,9 @@ impl<'src, X: Expander> Parser<'_, 'src, X> {
     }
 
     /// Nothing may stand after the end of the file.
-    #[tactic(auto, unfolding(crate::specs::Reader::nothing, justfile_model::specs::Reading::refused))]
+    #[tactic(auto, unfolding(crate::specs::TableReader::read_nothing, justfile_model::specs::Reading::refused))]
     fn expect_nothing(&self) -> Result<(), Stop<'src>>
-        ensures { Reads (λ nothing. nothing) result (state_of X.answer self.now) (reader.nothing (state_of X.answer self.now)) }
+        ensures { Reads (λ nothing. nothing) result (state_of X.answer self.now) (reader.read_nothing (state_of X.answer self.now)) }
     {
         match self.peek_front() {
             Some(_entry) => Err(Stop::Refused(Refusal::Unexpected)),
@@ -79,7 +79,7 @@ impl<'src, X: Expander> Parser<'_, 'src, X> {
     }
 
     /// What begins a line that is not blank.
-    #[tactic(auto, unfolding(justfile_model::specs::Reader::on_line, crate::specs::Reader::leaves))]
+    #[tactic(auto, unfolding(justfile_model::specs::Reader::on_line, crate::specs::TableReader::leaves))]
     fn parse_item(&mut self, numerator: &mut Numerator) -> Result<Item<'src>, Stop<'src>>
         ensures reads { ReadsNumbered item_tree result numerator.new (state_of X.answer self.new)
             (reader.on_line (counters_of numerator.old) (state_of X.answer self.old)) }
@@ -98,7 +98,7 @@ impl<'src, X: Expander> Parser<'_, 'src, X> {
     }
 
     /// NAME `:=` expression.
-    #[tactic(auto, using(crate::proofs::Rest::file_depth_is), unfolding(justfile_model::specs::Reader::assignment, crate::specs::Reader::leaves))]
+    #[tactic(auto, using(crate::proofs::Rest::file_depth_is), unfolding(justfile_model::specs::Reader::assignment, crate::specs::TableReader::leaves))]
     fn parse_assignment(
         &mut self,
         numerator: &mut Numerator,
@@ -123,14 +123,14 @@ impl<'src, X: Expander> Parser<'_, 'src, X> {
     }
 
     /// What ends an item: after a body a line starts, and the line end before it is made.
-    #[tactic(auto, using(crate::proofs::Lines::ended_body, crate::proofs::Lines::ended_behind))]
+    #[tactic(auto, using(crate::proofs::Lines::ended_body, crate::proofs::Lines::ended_after))]
     fn parse_item_end(
         &mut self,
         has_body: bool,
         items: &mut Vec<Item<'src>>,
     ) -> Result<(), Stop<'src>>
         ensures reads { Reads (λ _. map item_tree items.new.items) result (state_of X.answer self.new)
-            (after (map item_tree items.old.items) (reader.ended has_body (state_of X.answer self.old))) }
+            (prepend (map item_tree items.old.items) (reader.ended has_body (state_of X.answer self.old))) }
         ensures progress { OnOk result (left self.new ≤ left self.old) }
     {
         if has_body {
@@ -141,10 +141,10 @@ impl<'src, X: Expander> Parser<'_, 'src, X> {
     }
 
     /// What stands after an item without a body: a comment that trails it, and the end of the line.
-    #[tactic(auto, using(crate::proofs::Lines::behind_comment, crate::proofs::Lines::behind_bare))]
+    #[tactic(auto, using(crate::proofs::Lines::after_comment, crate::proofs::Lines::after_bare))]
     fn parse_after_item(&mut self, items: &mut Vec<Item<'src>>) -> Result<(), Stop<'src>>
         ensures reads { Reads (λ _. map item_tree items.new.items) result (state_of X.answer self.new)
-            (after (map item_tree items.old.items) (reader.behind (state_of X.answer self.old))) }
+            (prepend (map item_tree items.old.items) (reader.item_rest (state_of X.answer self.old))) }
         ensures progress { OnOk result (left self.new ≤ left self.old) }
     {
         match self.accept(TokenKind::Comment) {
@@ -160,7 +160,7 @@ impl<'src, X: Expander> Parser<'_, 'src, X> {
     #[tactic(auto, using(crate::proofs::Lines::line_end_closes, crate::proofs::Lines::line_end_newline, crate::proofs::Lines::line_end_fails))]
     fn parse_line_end(&mut self, items: &mut Vec<Item<'src>>) -> Result<(), Stop<'src>>
         ensures reads { Reads (λ _. map item_tree items.new.items) result (state_of X.answer self.new)
-            (after (map item_tree items.old.items) (reader.line_end (state_of X.answer self.old))) }
+            (prepend (map item_tree items.old.items) (reader.line_end (state_of X.answer self.old))) }
         ensures progress { OnOk result (left self.new ≤ left self.old) }
     {
         if let Some(_end) = self.peek_if(TokenKind::Eof) {
@@ -173,7 +173,7 @@ impl<'src, X: Expander> Parser<'_, 'src, X> {
 }
 
 /// The number of the next binding.
-#[tactic(auto, unfolding(justfile_model::specs::Reader::draw_binding, crate::specs::Reader::leaves))]
+#[tactic(auto, unfolding(justfile_model::specs::Reader::draw_binding, crate::specs::TableReader::leaves))]
 fn draw_binding<'src>(numerator: &mut Numerator) -> Result<Number, Stop<'src>>
     ensures reads { (s : State) → ReadsNumbered (λ number. number.0) result numerator.new s
         (reader.draw_binding (counters_of numerator.old) s) }

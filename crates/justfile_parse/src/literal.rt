@@ -2,12 +2,12 @@ ghost use Rattle.std.specs.Prelude.{◌≡◌, IsTrue, IfOk, option_map};
 ghost use Rattle.justfile_base.specs.StringKind.{kind_of};
 ghost use Rattle.justfile_base.specs.Token.{lexeme_of};
 ghost use Rattle.justfile_base.specs.declared.token_kind.TokenKind.TheVariants as kinds;
-ghost use Rattle.justfile_cook.specs.Literal.{is_part};
+ghost use Rattle.justfile_literal.specs.Literal.{is_part};
 ghost use Rattle.justfile_parse.specs.Fault.{IsLiteralFault};
 ghost use Rattle.justfile_parse.specs.Literal.{IsOf};
-ghost use Rattle.justfile_parse.specs.Reader as reader;
-ghost use Rattle.justfile_parse.specs.Reading.{Reads, TextStops};
-ghost use Rattle.justfile_parse.specs.Tree.{Literal, literal_of, tree_of};
+ghost use Rattle.justfile_parse.specs.TableReader as reader;
+ghost use Rattle.justfile_parse.specs.MethodResults.{Reads, TextStops};
+ghost use Rattle.justfile_parse.specs.Tree.{Literal, literal_of, leaf_tree_of};
 
 use crate::expression::make_format_string;
 use crate::parser::Parser;
@@ -16,7 +16,7 @@ use crate::stop::{LiteralRefusal, Stop};
 use justfile_base::{
     Expander, Fault, FormatStringPart, Keyword, StringKind, StringLiteral, TokenKind,
 };
-use justfile_cook::{command, format_part, string_literal};
+use justfile_literal::{command, format_part, string_literal};
 use justfile_tree::Expression;
 use std::alloc::Global;
 
@@ -26,7 +26,7 @@ impl<'run, 'src, X: Expander> Parser<'run, 'src, X> {
     /// A literal, if one stands next.
     #[tactic(auto, unfolding(justfile_model::specs::ExpressionReader::literal))]
     pub(crate) fn parse_literal(&mut self) -> Result<Option<Box<Expression<'src>>>, Stop<'src>>
-        ensures reads { Reads (option_map (λ e. tree_of e.value)) result (state_of X.answer self.new)
+        ensures reads { Reads (option_map (λ e. leaf_tree_of e.value)) result (state_of X.answer self.new)
             (reader.literal (state_of X.answer self.old)) }
         ensures moves { IfOk result (λ found. Moves found self.old self.new) }
     {
@@ -53,8 +53,8 @@ impl<'run, 'src, X: Expander> Parser<'run, 'src, X> {
         expand: bool,
     ) -> Result<Box<Expression<'src>>, Stop<'src>>
         requires { IsOf kinds.StringToken entry }
-        ensures reads { Reads (λ e. tree_of e.value) result (state_of X.answer self.now)
-            (reader.string expand (entry.entry, state_of X.answer self.now)) }
+        ensures reads { Reads (λ e. leaf_tree_of e.value) result (state_of X.answer self.now)
+            (reader.literal_string expand (entry.entry, state_of X.answer self.now)) }
     {
         match string_literal(self.alloc, *entry.token, expand, self.expander) {
             Ok(string_literal) => Ok(self.box_expression(Expression::StringLiteral {
@@ -71,7 +71,7 @@ impl<'run, 'src, X: Expander> Parser<'run, 'src, X> {
         entry: TableEntry<'run, 'src>,
     ) -> Result<Box<Expression<'src>>, Stop<'src>>
         requires { IsOf kinds.Backtick entry }
-        ensures reads { Reads (λ e. tree_of e.value) result (state_of X.answer self.now)
+        ensures reads { Reads (λ e. leaf_tree_of e.value) result (state_of X.answer self.now)
             (reader.backtick (entry.entry, state_of X.answer self.now)) }
     {
         match command(self.alloc, *entry.token) {
@@ -90,8 +90,8 @@ impl<'run, 'src, X: Expander> Parser<'run, 'src, X> {
         entry: TableEntry<'run, 'src>,
     ) -> Result<Box<Expression<'src>>, Stop<'src>>
         requires { IsOf kinds.StringToken entry }
-        ensures reads { Reads (λ e. tree_of e.value) result (state_of X.answer self.now)
-            (reader.single (entry.entry, state_of X.answer self.now)) }
+        ensures reads { Reads (λ e. leaf_tree_of e.value) result (state_of X.answer self.now)
+            (reader.whole_format_string (entry.entry, state_of X.answer self.now)) }
     {
         let literal = self.cook_part(entry, find_kind(entry), FormatStringPart::Single)?;
         self.box_expression(make_format_string(literal, Vec::new(self.alloc)))

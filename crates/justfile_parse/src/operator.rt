@@ -2,7 +2,7 @@
 ghost use Rattle.std.specs.Prelude.{◌≡◌, ◌<◌, ◌≤◌, IsTrue};
 ghost use Rattle.justfile_model.specs.Operators as operators;
 ghost use Rattle.justfile_model.specs.Operators.{is_binary, rank};
-ghost use Rattle.justfile_parse.specs.Tree.{tree_of};
+ghost use Rattle.justfile_parse.specs.Tree.{leaf_tree_of};
 
 use justfile_base::{Token, TokenKind};
 use justfile_model::{Level, Operator};
@@ -89,7 +89,7 @@ pub(crate) fn make_operation<'src>(
     token: Token<'src>,
     rhs: Box<Expression<'src>>,
 ) -> Expression<'src>
-    ensures { tree_of result ≡ operators.binary operator (tree_of lhs.entry.value) token.entry (tree_of rhs.entry.value) }
+    ensures { leaf_tree_of result ≡ operators.binary operator (leaf_tree_of lhs.entry.value) token.entry (leaf_tree_of rhs.entry.value) }
 {
     match operator {
         Operator::Or => Expression::Or { lhs, rhs },

@@ -8,11 +8,11 @@ ghost use Rattle.justfile_model.specs.Tok.{Tok, tok_of};
 ghost use Rattle.justfile_parse.specs.Parsing.{HasNoTree, IsOneLex, IsParsed, IsParsedText, IsUnparsed};
 ghost use Rattle.justfile_parse.specs.Conditions.{conditions_of};
 ghost use Rattle.justfile_parse.specs.Formats.{IsTable};
-ghost use Rattle.justfile_parse.specs.Given.{IsInTable};
-ghost use Rattle.justfile_parse.specs.Reader as reader;
-ghost use Rattle.justfile_parse.specs.Reader.{after_mark};
+ghost use Rattle.justfile_parse.specs.Filled.{IsInTable};
+ghost use Rattle.justfile_parse.specs.TableReader as reader;
+ghost use Rattle.justfile_parse.specs.TableReader.{after_mark};
 ghost use Rattle.justfile_parse.specs.WantsNumber.{counters_of};
-ghost use Rattle.justfile_parse.specs.Reading.{IsErrorAt, IsFaultOf, IsMoved, IsPlace, IsRead, IsUnread, ReadsNumbered};
+ghost use Rattle.justfile_parse.specs.MethodResults.{IsErrorAt, IsFaultOf, IsMoved, IsNextPlace, IsRead, IsUnread, ReadsNumbered};
 ghost use Rattle.justfile_parse.specs.Significant.{significant_of};
 ghost use Rattle.justfile_parse.specs.Tree.{item_tree};
 
@@ -37,7 +37,7 @@ impl<'run, 'src, X: Expander> Parser<'run, 'src, X> {
     /// # Errors
     ///
     /// `Compile` if the tokens are no file, at one of them; `Numbers` if more numbers of bindings or
-    /// of recipes are wanted than there are; `Memory` if memory is wanting. The numerator's counters
+    /// of recipes are wanted than there are; `Memory` if memory runs out. The numerator's counters
     /// have then moved up by no more than the number of identifiers.
     pub fn parse(
         alloc: Global,
@@ -214,7 +214,7 @@ fn find_place<'src>(
     next: Option<TableEntry<'_, 'src>>,
 ) -> Token<'src>
     requires { 0 < length tokens.now }
-    ensures { IsPlace tokens.now next.entry result }
+    ensures { IsNextPlace tokens.now next.entry result }
 {
     match next {
         Some(entry) => *entry.token,

@@ -8,8 +8,8 @@ ghost use Rattle.justfile_parse.specs.Conditions.{depth_limit};
 ghost use Rattle.justfile_parse.specs.Formats.{AreEnded, prop_ended};
 ghost use Rattle.justfile_parse.specs.Literal.{IsOf, is_sound};
 ghost use Rattle.justfile_model.specs.Reading.{at, is_word, marks};
-ghost use Rattle.justfile_parse.specs.Reader as reader;
-ghost use Rattle.justfile_parse.specs.Reading.{Peeks, Reads, Takes};
+ghost use Rattle.justfile_parse.specs.TableReader as reader;
+ghost use Rattle.justfile_parse.specs.MethodResults.{Peeks, Reads, Takes};
 ghost use Rattle.justfile_parse.specs.Significant.{significant_of};
 
 use crate::significant::TableEntry;
@@ -72,7 +72,7 @@ impl<'run, 'src, X: Expander> Parser<'run, 'src, X> {
     }
 
     /// The next token if it is of this kind; it is not taken yet.
-    #[tactic(auto, unfolding(crate::specs::Reader::leaves, justfile_model::specs::Reading::accept, justfile_model::specs::Reading::same_kind))]
+    #[tactic(auto, unfolding(crate::specs::TableReader::leaves, justfile_model::specs::Reading::accept, justfile_model::specs::Reading::same_kind))]
     pub(crate) fn peek_if(&self, kind: TokenKind) -> Option<TableEntry<'run, 'src>>
         ensures within { OnSome result (self.now.next < length self.now.tokens.now) }
         ensures takes { Takes result (state_from X.answer self.now (self.now.next + 1)) (reader.accept kind (state_of X.answer self.now)) }
@@ -97,7 +97,7 @@ impl<'run, 'src, X: Expander> Parser<'run, 'src, X> {
     }
 
     /// Takes the next token if it is this keyword.
-    #[tactic(auto, unfolding(crate::specs::Reader::leaves, justfile_model::specs::Reading::accept_word, crate::specs::View::state_of, crate::specs::View::left))]
+    #[tactic(auto, unfolding(crate::specs::TableReader::leaves, justfile_model::specs::Reading::accept_word, crate::specs::View::state_of, crate::specs::View::left))]
     pub(crate) fn accept_keyword(&mut self, keyword: Keyword) -> Option<TableEntry<'run, 'src>>
         ensures takes { Takes result (state_of X.answer self.new)
             (reader.accept_word (keyword_text keyword) (state_of X.answer self.old)) }

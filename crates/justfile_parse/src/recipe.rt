@@ -1,8 +1,8 @@
 ghost use Rattle.std.specs.Prelude.{◌≡◌, ◌<◌, OnErr, OnOk, map};
-ghost use Rattle.justfile_parse.specs.Reader as reader;
+ghost use Rattle.justfile_parse.specs.TableReader as reader;
 ghost use Rattle.justfile_parse.specs.WantsNumber.{counters_of};
-ghost use Rattle.justfile_parse.specs.Reader.{State};
-ghost use Rattle.justfile_parse.specs.Reading.{ReadsNumbered};
+ghost use Rattle.justfile_parse.specs.TableReader.{State};
+ghost use Rattle.justfile_parse.specs.MethodResults.{ReadsNumbered};
 ghost use Rattle.justfile_parse.specs.Tree.{line_tree, recipe_tree};
 
 use crate::items::is_private;
@@ -15,7 +15,7 @@ impl<'src, X: Expander> Parser<'_, 'src, X> {
     ghost use Rattle.justfile_parse.specs.View.{left, state_of};
 
     /// NAME `:`, and the body if it has one. The recipe is numbered after its body.
-    #[tactic(auto, using(crate::proofs::Rest::file_depth_is, crate::proofs::Rest::import_offsets_are), unfolding(justfile_model::specs::Reader::recipe, crate::specs::Reader::leaves))]
+    #[tactic(auto, using(crate::proofs::Rest::file_depth_is, crate::proofs::Rest::import_offsets_are), unfolding(justfile_model::specs::Reader::recipe, crate::specs::TableReader::leaves))]
     pub(crate) fn parse_recipe(
         &mut self,
         numerator: &mut Numerator,
@@ -44,7 +44,7 @@ impl<'src, X: Expander> Parser<'_, 'src, X> {
 }
 
 /// The number of the next recipe.
-#[tactic(auto, unfolding(justfile_model::specs::Reader::draw_recipe, crate::specs::Reader::leaves))]
+#[tactic(auto, unfolding(justfile_model::specs::Reader::draw_recipe, crate::specs::TableReader::leaves))]
 fn draw_recipe<'src>(numerator: &mut Numerator) -> Result<Number, Stop<'src>>
     ensures reads { (s : State) → ReadsNumbered (λ number. number.0) result numerator.new s
         (reader.draw_recipe (counters_of numerator.old) s) }

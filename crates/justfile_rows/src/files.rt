@@ -44,7 +44,7 @@ fn parse_from<'src>(
     )
 }
 
-/// The same, where the first numbers are 0.
+/// What a text is parsed to, where the first numbers are 0.
 pub(crate) fn parse<'src>(
     alloc: Global,
     expansion: &Expansion<'_>,

@@ -68,8 +68,7 @@ pub mod keyword {
 
 pub mod laws {
     pub use justfile_base::laws::{indentation_texts, one_spelling};
-    pub use justfile_canon::{modes_agree, reads_back};
-    pub use justfile_cook::laws::{
+    pub use justfile_literal::laws::{
         answer_for_all as literal_for_all, cooked_is_utf8, indentation_is_longest, lines_joined,
         longest_front, one_answer as one_literal, unindented_already,
     };
@@ -84,6 +83,7 @@ pub mod laws {
         bodies_follow_colons, levels_close_before_blank_lines, literals_end_at_first_end,
         open_is_unclosed, reads_up_to_first_end,
     };
+    pub use justfile_round_trip::{modes_agree, reads_back};
 }
 
 pub mod lexer {
@@ -119,7 +119,7 @@ pub mod numerator {
 }
 
 pub mod parser {
-    pub use justfile_cook::cook_string;
+    pub use justfile_literal::cook_string;
     pub use justfile_parse::Parser;
     pub use justfile_parse::significant::{TableEntry, significant};
 }
@@ -153,7 +153,7 @@ pub mod token_kind {
 }
 
 pub mod unindent {
-    pub use justfile_cook::unindent::unindent;
+    pub use justfile_literal::unindent::unindent;
 }
 
 pub mod unstable_feature {

@@ -12,7 +12,7 @@ use Rattle.justfile_base.specs.declared.string_literal.StringLiteral.{StringLite
 use Rattle.justfile_tree.specs.Key.{Key, node, end, next, token_key, literal_key, row, keys_of, key_cmp, keys_cmp}
 use Rattle.justfile_tree.specs.KeyLaws.{then_end}
 use Rattle.justfile_tree.specs.Order.{key, part_key, row_keys, row_parts}
-use Rattle.justfile_tree.specs.declared.expression.Expression.{Expression, Call, FormatString, List as List_of, Row_of-Expression, end_of-Expression, more_of-Expression, Row_of-Expression-FormatString-1-2, end_of-Expression-FormatString-1-2, more_of-Expression-FormatString-1-2, items-the_row-Expression, items-the_row-Expression-FormatString-1-2, items_hidden-the_row-Expression-0, items_hidden-the_row-Expression-FormatString-1-2-1}
+use Rattle.justfile_tree.specs.declared.expression.Expression.{Expression, Call, FormatString, List as List_of, Row_of-Expression as ExpressionRow, end_of-Expression as row_end, more_of-Expression as row_more, Row_of-Expression-FormatString-1-2 as FormatRow, end_of-Expression-FormatString-1-2 as format_row_end, more_of-Expression-FormatString-1-2 as format_row_more, items-the_row-Expression, items-the_row-Expression-FormatString-1-2, items_hidden-the_row-Expression-0, items_hidden-the_row-Expression-FormatString-1-2-1}
 use Rattle.justfile_tree.proofs.ExpressionRows.{row_of, part_row_of}
 
 module _ {X : Type 0} (R : X → X → Ordering) where
@@ -39,13 +39,13 @@ listed key_of [] (y ∷ ys) = refl
 listed key_of (x ∷ xs) [] = refl
 listed key_of (x ∷ xs) (y ∷ ys) = ap (ordering_then (key_cmp (key_of x) (key_of y))) (listed key_of xs ys)
 
-row_is : (n : Count) (items : Row_of-Expression n) → row_keys items ≡ keys_of key (items-the_row-Expression n items)
-row_is n end_of-Expression = refl
-row_is n (more_of-Expression e others) = ap (next (key e)) (row_is _ others)
+row_is : (n : Count) (items : ExpressionRow n) → row_keys items ≡ keys_of key (items-the_row-Expression n items)
+row_is n row_end = refl
+row_is n (row_more e others) = ap (next (key e)) (row_is _ others)
 
-parts_are : (n : Count) (items : Row_of-Expression-FormatString-1-2 n) → row_parts items ≡ keys_of part_key (items-the_row-Expression-FormatString-1-2 n items)
-parts_are n end_of-Expression-FormatString-1-2 = refl
-parts_are n (more_of-Expression-FormatString-1-2 e part others) = ap (next (part_key (e, part))) (parts_are _ others)
+parts_are : (n : Count) (items : FormatRow n) → row_parts items ≡ keys_of part_key (items-the_row-Expression-FormatString-1-2 n items)
+parts_are n format_row_end = refl
+parts_are n (format_row_more e part others) = ap (next (part_key (e, part))) (parts_are _ others)
 
 abbrev call_key : Name → List Expression → Key
 call_key name arguments = node 3 (next (token_key name.token) (next (row (keys_of key arguments)) end))

@@ -6,11 +6,11 @@ use Rattle.justfile_model.specs.Tok.{Tok, tok_of}
 use Rattle.justfile_model.specs.Tree.{over_expr, lexeme, nothing}
 use Rattle.justfile_model.specs.Printing.{is_conditional}
 use Rattle.justfile_tree.specs.Expression.{expr_shape, format_of}
-use Rattle.justfile_tree.specs.declared.expression.Expression.{Expression, Conditional, And', Assert', Backtick, Call', Comparison', Concatenation', Conditional', FormatString', Group', Join', List', ListConcatenation', Not', Or', StringLiteral, Variable, None', Some', Row_of-Expression-FormatString-1-2, end_of-Expression-FormatString-1-2, more_of-Expression-FormatString-1-2, roll-Expression, out-Expression, roll-out-Expression}
+use Rattle.justfile_tree.specs.declared.expression.Expression.{Expression, Conditional, And', Assert', Backtick, Call', Comparison', Concatenation', Conditional', FormatString', Group', Join', List', ListConcatenation', Not', Or', StringLiteral, Variable, None', Some', Row_of-Expression-FormatString-1-2 as FormatRow, end_of-Expression-FormatString-1-2 as format_row_end, more_of-Expression-FormatString-1-2 as format_row_more, roll-Expression, out-Expression, roll-out-Expression}
 
-format_never : (start : Tok) (n : Count) (row : Row_of-Expression-FormatString-1-2 n) → false ≡ is_conditional (over_expr lexeme nothing (format_of start row))
-format_never start n end_of-Expression-FormatString-1-2 = refl
-format_never start n (more_of-Expression-FormatString-1-2 e literal others) = refl
+format_never : (start : Tok) (n : Count) (row : FormatRow n) → false ≡ is_conditional (over_expr lexeme nothing (format_of start row))
+format_never start n format_row_end = refl
+format_never start n (format_row_more e literal others) = refl
 
 -- one that is none of them
 pub not_conditional : (e : Expression) → ((condition branch : Box Expression) (otherwise : Option (Box Expression)) → e ≡ Conditional condition branch otherwise → ⊥) → false ≡ is_conditional (expr_shape e)

@@ -10,7 +10,7 @@ use Rattle.justfile_base.specs.declared.token.Token.{Token}
 use Rattle.justfile_base.specs.declared.string_literal.StringLiteral.{StringLiteral}
 use Rattle.justfile_base.specs.StringLiteral.{IsSameLiteral}
 use Rattle.justfile_tree.specs.Copies.{IsSameExpression, AreSameExpressions, IsSamePart, AreSameParts}
-use Rattle.justfile_tree.specs.declared.expression.Expression.{Expression, Call, FormatString, List as List_of, Row_of-Expression, end_of-Expression, more_of-Expression, Row_of-Expression-FormatString-1-2, end_of-Expression-FormatString-1-2, more_of-Expression-FormatString-1-2, items-the_row-Expression, items-the_row-Expression-FormatString-1-2, items_hidden-the_row-Expression-0, items_hidden-the_row-Expression-FormatString-1-2-1}
+use Rattle.justfile_tree.specs.declared.expression.Expression.{Expression, Call, FormatString, List as List_of, Row_of-Expression as ExpressionRow, end_of-Expression as row_end, more_of-Expression as row_more, Row_of-Expression-FormatString-1-2 as FormatRow, end_of-Expression-FormatString-1-2 as format_row_end, more_of-Expression-FormatString-1-2 as format_row_more, items-the_row-Expression, items-the_row-Expression-FormatString-1-2, items_hidden-the_row-Expression-0, items_hidden-the_row-Expression-FormatString-1-2-1}
 use Rattle.justfile_tree.proofs.ExpressionRows.{row_of, part_row_of}
 
 -- one more copy, of one more original
@@ -23,18 +23,18 @@ one_more {X} R copies all later i copy original h is so_far same e =
     (ap (λ (x : X). take i all ++ x ∷ []) is ∙ sym (take_more all i original h))
     (AllZip-push R copies (take i all) copy original so_far same))
 
-same_row : (m n : Count) (copies : Row_of-Expression m) (originals : Row_of-Expression n) → AllZip IsSameExpression (items-the_row-Expression m copies) (items-the_row-Expression n originals) → AreSameExpressions copies originals
-same_row m n end_of-Expression end_of-Expression same = tt
-same_row m n end_of-Expression (more_of-Expression original originals) same = same
-same_row m n (more_of-Expression copy copies) end_of-Expression same = same
-same_row m n (more_of-Expression copy copies) (more_of-Expression original originals) same = (same.0, same_row _ _ copies originals same.1)
+same_row : (m n : Count) (copies : ExpressionRow m) (originals : ExpressionRow n) → AllZip IsSameExpression (items-the_row-Expression m copies) (items-the_row-Expression n originals) → AreSameExpressions copies originals
+same_row m n row_end row_end same = tt
+same_row m n row_end (row_more original originals) same = same
+same_row m n (row_more copy copies) row_end same = same
+same_row m n (row_more copy copies) (row_more original originals) same = (same.0, same_row _ _ copies originals same.1)
 
-same_parts : (m n : Count) (copies : Row_of-Expression-FormatString-1-2 m) (originals : Row_of-Expression-FormatString-1-2 n)
+same_parts : (m n : Count) (copies : FormatRow m) (originals : FormatRow n)
     → AllZip IsSamePart (items-the_row-Expression-FormatString-1-2 m copies) (items-the_row-Expression-FormatString-1-2 n originals) → AreSameParts copies originals
-same_parts m n end_of-Expression-FormatString-1-2 end_of-Expression-FormatString-1-2 same = tt
-same_parts m n end_of-Expression-FormatString-1-2 (more_of-Expression-FormatString-1-2 original part' originals) same = same
-same_parts m n (more_of-Expression-FormatString-1-2 copy part copies) end_of-Expression-FormatString-1-2 same = same
-same_parts m n (more_of-Expression-FormatString-1-2 copy part copies) (more_of-Expression-FormatString-1-2 original part' originals) same = (same.0.0, same.0.1, same_parts _ _ copies originals same.1)
+same_parts m n format_row_end format_row_end same = tt
+same_parts m n format_row_end (format_row_more original part' originals) same = same
+same_parts m n (format_row_more copy part copies) format_row_end same = same
+same_parts m n (format_row_more copy part copies) (format_row_more original part' originals) same = (same.0.0, same.0.1, same_parts _ _ copies originals same.1)
 
 same_items : (v w : Vec Expression) (name : Name) → AllZip IsSameExpression v.items w.items → AreSameExpressions (row_of (Call name v)).1 (row_of (Call name w)).1
 same_items v w name same =

@@ -4,7 +4,7 @@ use Rattle.std.specs.List.{flat_map}
 use Rattle.justfile_base.specs.declared.string_literal.StringLiteral as literals
 use Rattle.justfile_base.specs.StringLiteral.{format_mark, literal_marks}
 use Rattle.justfile_base.specs.Token.{lexeme_of}
-use Rattle.justfile_model.specs.Printing.{piece, is_conditional, mark_text, other_text}
+use Rattle.justfile_model.specs.Printing.{fixed_text, is_conditional, mark_text, other_text}
 use Rattle.justfile_tree.specs.Children.{Child, row_children, then_text, format_children, start_texts, children, opening_text, before_other, after_other}
 use Rattle.justfile_tree.specs.Expression.{expr_shape}
 use Rattle.justfile_tree.specs.Text.{text_of, separated, format_part_text}
@@ -17,7 +17,7 @@ child_text c = text_of c.0 ++ texts_joined c.1
 
 -- elements with what closes their row
 closed : (closing : List ℕ) (e : Expression) (es : List Expression) → flat_map child_text (row_children (then_text (codes ", ")) (then_text closing) (e ∷ es)) ≡ separated (map text_of (e ∷ es)) ++ closing
-unfolding piece
+unfolding fixed_text
 closed closing e [] = simp append-nil
 closed closing e (next ∷ es) = ap (λ t. (text_of e ++ codes ", ") ++ t) (closed closing next es) ∙ simp append_assoc
 
@@ -33,7 +33,7 @@ inner_part : (s t m l more : List ℕ) → s ++ ((t ++ (s ++ (m ++ (l ++ s)))) +
 inner_part s t m l more = simp append_assoc
 
 filled : (p : Expression × literals.StringLiteral) (ps : List (Expression × literals.StringLiteral)) → codes " " ++ flat_map child_text (format_children (p ∷ ps)) ≡ flat_map format_part_text (p ∷ ps)
-unfolding piece
+unfolding fixed_text
 filled p [] = last_part (codes " ") (text_of p.0) (literal_marks p.1) (lexeme_of p.1.token)
 filled p (next ∷ ps) =
     inner_part (codes " ") (text_of p.0) (literal_marks p.1) (lexeme_of p.1.token) (flat_map child_text (format_children (next ∷ ps)))
@@ -54,8 +54,8 @@ in_braces i c s b t u o v = simp (append_assoc, append-nil)
 chained : (i c s b t o : List ℕ) → i ++ ((c ++ s) ++ ((b ++ t) ++ ((o ++ []) ++ []))) ≡ ((((i ++ c) ++ s) ++ b) ++ t) ++ o
 chained i c s b t o = simp (append_assoc, append-nil)
 
-branches : (k : Bool) (c b o : List ℕ) → codes "if " ++ ((c ++ codes " { ") ++ ((b ++ before_other k) ++ ((o ++ after_other k) ++ []))) ≡ piece (codes "if ") ++ c ++ piece (codes " { ") ++ b ++ piece (codes " } else ") ++ other_text k o
-unfolding piece
+branches : (k : Bool) (c b o : List ℕ) → codes "if " ++ ((c ++ codes " { ") ++ ((b ++ before_other k) ++ ((o ++ after_other k) ++ []))) ≡ fixed_text (codes "if ") ++ c ++ fixed_text (codes " { ") ++ b ++ fixed_text (codes " } else ") ++ other_text k o
+unfolding fixed_text
 branches true c b o = chained (codes "if ") c (codes " { ") b (codes " } else ") o
 branches false c b o = in_braces (codes "if ") c (codes " { ") b (codes " } else ") (codes "{ ") o (codes " }")
 
@@ -63,12 +63,12 @@ marked_by : (x m l : List ℕ) → ((x ++ m) ++ (l ++ [])) ++ [] ≡ x ++ (m ++ 
 marked_by x m l = simp (append_assoc, append-nil)
 
 marked : (expand : Bool) (m l : List ℕ) → (((if expand then codes "x" else []) ++ m) ++ (l ++ [])) ++ [] ≡ mark_text expand ++ (m ++ l)
-unfolding piece
+unfolding fixed_text
 marked true m l = marked_by (codes "x") m l
 marked false m l = marked_by [] m l
 
 pub joined : (e : Expression) → texts_joined (start_texts e) ++ flat_map child_text (children e) ≡ text_of e
-unfolding piece
+unfolding fixed_text
 joined (And' p lhs q rhs) = simp (append_assoc, append-nil)
 joined (Assert' p condition None' name) = simp (append_assoc, append-nil)
 joined (Assert' p condition (Some' q message) name) = simp (append_assoc, append-nil)

@@ -4,20 +4,20 @@ use Rattle.std.proofs.Common.{◌≡◌, ℕ, ◌+◌, ◌<◌, zero, suc, Some,
 use Rattle.std.specs.List.{slice_get}
 use Rattle.justfile_base.specs.declared.string_literal.StringLiteral as literals
 use Rattle.justfile_tree.specs.Children.{Child, children, row_children, then_text, then_part}
-use Rattle.justfile_tree.specs.declared.expression.Expression.{Expression, And', Assert', Backtick, Call', Comparison', Concatenation', Conditional', FormatString', Group', Join', List', ListConcatenation', Not', Or', StringLiteral, Variable, Held-Expression-Assert-1, None', Some', Row_of-Expression, end_of-Expression, more_of-Expression, Row_of-Expression-FormatString-1-2, end_of-Expression-FormatString-1-2, more_of-Expression-FormatString-1-2, items-the_row-Expression, items-the_row-Expression-FormatString-1-2}
+use Rattle.justfile_tree.specs.declared.expression.Expression.{Expression, And', Assert', Backtick, Call', Comparison', Concatenation', Conditional', FormatString', Group', Join', List', ListConcatenation', Not', Or', StringLiteral, Variable, Held-Expression-Assert-1 as OptionalExpression, None', Some', Row_of-Expression as ExpressionRow, end_of-Expression as row_end, more_of-Expression as row_more, Row_of-Expression-FormatString-1-2 as FormatRow, end_of-Expression-FormatString-1-2 as format_row_end, more_of-Expression-FormatString-1-2 as format_row_more, items-the_row-Expression, items-the_row-Expression-FormatString-1-2}
 
 abbrev mutual
   pub nodes : Expression → ℕ
   nodes (And' p lhs q rhs) = nodes lhs + nodes rhs + 1
-  nodes (Assert' p condition message name) = nodes condition + held_nodes message + 1
+  nodes (Assert' p condition message name) = nodes condition + optional_nodes message + 1
   nodes (Backtick contents token) = 1
   nodes (Call' name n arguments) = row_nodes arguments + 1
   nodes (Comparison' p lhs operator q rhs token) = nodes lhs + nodes rhs + 1
   nodes (Concatenation' p lhs operator q rhs) = nodes lhs + nodes rhs + 1
-  nodes (Conditional' p condition q branch otherwise) = nodes condition + nodes branch + held_nodes otherwise + 1
+  nodes (Conditional' p condition q branch otherwise) = nodes condition + nodes branch + optional_nodes otherwise + 1
   nodes (FormatString' first n expressions) = part_nodes expressions + 1
   nodes (Group' p contents) = nodes contents + 1
-  nodes (Join' lhs operator q rhs) = held_nodes lhs + nodes rhs + 1
+  nodes (Join' lhs operator q rhs) = optional_nodes lhs + nodes rhs + 1
   nodes (List' n elements opener) = row_nodes elements + 1
   nodes (ListConcatenation' p lhs operator q rhs) = nodes lhs + nodes rhs + 1
   nodes (Not' p operand) = nodes operand + 1
@@ -25,17 +25,17 @@ abbrev mutual
   nodes (StringLiteral literal) = 1
   nodes (Variable name number) = 1
 
-  pub held_nodes : Held-Expression-Assert-1 → ℕ
-  held_nodes None' = 0
-  held_nodes (Some' p e) = nodes e
+  pub optional_nodes : OptionalExpression → ℕ
+  optional_nodes None' = 0
+  optional_nodes (Some' p e) = nodes e
 
-  pub row_nodes : {n : _} → Row_of-Expression n → ℕ
-  row_nodes end_of-Expression = 0
-  row_nodes (more_of-Expression e others) = nodes e + row_nodes others
+  pub row_nodes : {n : _} → ExpressionRow n → ℕ
+  row_nodes row_end = 0
+  row_nodes (row_more e others) = nodes e + row_nodes others
 
-  pub part_nodes : {n : _} → Row_of-Expression-FormatString-1-2 n → ℕ
-  part_nodes end_of-Expression-FormatString-1-2 = 0
-  part_nodes (more_of-Expression-FormatString-1-2 e literal others) = nodes e + part_nodes others
+  pub part_nodes : {n : _} → FormatRow n → ℕ
+  part_nodes format_row_end = 0
+  part_nodes (format_row_more e literal others) = nodes e + part_nodes others
 
 -- each element of a list has the property
 abbrev Each : {X : Type 0} → (X → Type 0) → List X → Type 0
@@ -54,14 +54,14 @@ module _ {X : Type 0} (inner last : X → Child) (n : ℕ) where
   ended_below (x ∷ []) h = (h.0.1, tt)
   ended_below (x ∷ y ∷ xs) h = (h.0.0, ended_below (y ∷ xs) h.1)
 
-row_below : (k : ℕ) (n : Count) (row : Row_of-Expression n) → row_nodes row < k → Each (λ e. (nodes e < k) × (nodes e < k)) (items-the_row-Expression n row)
-row_below k n end_of-Expression h = tt
-row_below k n (more_of-Expression e others) h = ((omega arith, omega arith), row_below k _ others (omega arith))
+row_below : (k : ℕ) (n : Count) (row : ExpressionRow n) → row_nodes row < k → Each (λ e. (nodes e < k) × (nodes e < k)) (items-the_row-Expression n row)
+row_below k n row_end h = tt
+row_below k n (row_more e others) h = ((omega arith, omega arith), row_below k _ others (omega arith))
 
-parts_below : (k : ℕ) (n : Count) (row : Row_of-Expression-FormatString-1-2 n) → part_nodes row < k
+parts_below : (k : ℕ) (n : Count) (row : FormatRow n) → part_nodes row < k
     → Each (λ (p : Expression × literals.StringLiteral). (nodes p.0 < k) × (nodes p.0 < k)) (items-the_row-Expression-FormatString-1-2 n row)
-parts_below k n end_of-Expression-FormatString-1-2 h = tt
-parts_below k n (more_of-Expression-FormatString-1-2 e literal others) h = ((omega arith, omega arith), parts_below k _ others (omega arith))
+parts_below k n format_row_end h = tt
+parts_below k n (format_row_more e literal others) h = ((omega arith, omega arith), parts_below k _ others (omega arith))
 
 all_below : (e : Expression) → Each (λ (c : Child). nodes c.0 < nodes e) (children e)
 all_below (And' p lhs q rhs) = (omega arith, (omega arith, tt))

@@ -11,32 +11,32 @@ use Rattle.justfile_base.specs.Token.{lexeme_of}
 use Rattle.justfile_model.specs.Tok.{Tok, tok_of}
 use Rattle.justfile_model.specs.Tree as tree
 use Rattle.justfile_tree.specs.Expression.{expr_of, exprs_of, exprs_of_row, parts_of, parts_of_row, format_of, format_tree, part_tok, expr_cooked, exprs_cooked, parts_cooked}
-use Rattle.justfile_tree.specs.declared.expression.Expression.{Expression, Call, FormatString, List as List_of, Row_of-Expression, end_of-Expression, more_of-Expression, Row_of-Expression-FormatString-1-2, end_of-Expression-FormatString-1-2, more_of-Expression-FormatString-1-2, items-the_row-Expression, items-the_row-Expression-FormatString-1-2, items_hidden-the_row-Expression-0, items_hidden-the_row-Expression-FormatString-1-2-1}
+use Rattle.justfile_tree.specs.declared.expression.Expression.{Expression, Call, FormatString, List as List_of, Row_of-Expression as ExpressionRow, end_of-Expression as row_end, more_of-Expression as row_more, Row_of-Expression-FormatString-1-2 as FormatRow, end_of-Expression-FormatString-1-2 as format_row_end, more_of-Expression-FormatString-1-2 as format_row_more, items-the_row-Expression, items-the_row-Expression-FormatString-1-2, items_hidden-the_row-Expression-0, items_hidden-the_row-Expression-FormatString-1-2-1}
 use Rattle.justfile_tree.proofs.ExpressionRows.{row_of, part_row_of}
 
-exprs_row : (n : Count) (row : Row_of-Expression n) → exprs_of_row row ≡ exprs_of (items-the_row-Expression n row)
-exprs_row n end_of-Expression = refl
-exprs_row n (more_of-Expression e others) = ap (λ es. tree.more (expr_of e) es) (exprs_row _ others)
+exprs_row : (n : Count) (row : ExpressionRow n) → exprs_of_row row ≡ exprs_of (items-the_row-Expression n row)
+exprs_row n row_end = refl
+exprs_row n (row_more e others) = ap (λ es. tree.more (expr_of e) es) (exprs_row _ others)
 
-cooked_row : (n : Count) (row : Row_of-Expression n) → exprs_cooked row ≡ flat_map expr_cooked (items-the_row-Expression n row)
-cooked_row n end_of-Expression = refl
-cooked_row n (more_of-Expression e others) = ap (λ ts. expr_cooked e ++ ts) (cooked_row _ others)
+cooked_row : (n : Count) (row : ExpressionRow n) → exprs_cooked row ≡ flat_map expr_cooked (items-the_row-Expression n row)
+cooked_row n row_end = refl
+cooked_row n (row_more e others) = ap (λ ts. expr_cooked e ++ ts) (cooked_row _ others)
 
-parts_row : (token : Tok) (n : Count) (row : Row_of-Expression-FormatString-1-2 n) → parts_of_row token row ≡ parts_of token (items-the_row-Expression-FormatString-1-2 n row)
-parts_row token n end_of-Expression-FormatString-1-2 = refl
-parts_row token n (more_of-Expression-FormatString-1-2 e literal others) = ap (λ ps. tree.Continue token (expr_of e) ps) (parts_row (part_tok literal) _ others)
+parts_row : (token : Tok) (n : Count) (row : FormatRow n) → parts_of_row token row ≡ parts_of token (items-the_row-Expression-FormatString-1-2 n row)
+parts_row token n format_row_end = refl
+parts_row token n (format_row_more e literal others) = ap (λ ps. tree.Continue token (expr_of e) ps) (parts_row (part_tok literal) _ others)
 
-format_row : (start : Tok) (n : Count) (row : Row_of-Expression-FormatString-1-2 n) → format_of start row ≡ format_tree start (items-the_row-Expression-FormatString-1-2 n row)
-format_row start n end_of-Expression-FormatString-1-2 = refl
-format_row start n (more_of-Expression-FormatString-1-2 e literal others) = ap (λ ps. tree.FormatString start (expr_of e) ps) (parts_row (part_tok literal) _ others)
+format_row : (start : Tok) (n : Count) (row : FormatRow n) → format_of start row ≡ format_tree start (items-the_row-Expression-FormatString-1-2 n row)
+format_row start n format_row_end = refl
+format_row start n (format_row_more e literal others) = ap (λ ps. tree.FormatString start (expr_of e) ps) (parts_row (part_tok literal) _ others)
 
 -- the texts of an expression of a format string, and of the part after it
 abbrev pub part_cooked : Expression × StringLiteral → List (List ℕ)
 part_cooked x = expr_cooked x.0 ++ string_bytes x.1.cooked ∷ []
 
-cooked_parts : (n : Count) (row : Row_of-Expression-FormatString-1-2 n) → parts_cooked row ≡ flat_map part_cooked (items-the_row-Expression-FormatString-1-2 n row)
-cooked_parts n end_of-Expression-FormatString-1-2 = refl
-cooked_parts n (more_of-Expression-FormatString-1-2 e literal others) =
+cooked_parts : (n : Count) (row : FormatRow n) → parts_cooked row ≡ flat_map part_cooked (items-the_row-Expression-FormatString-1-2 n row)
+cooked_parts n format_row_end = refl
+cooked_parts n (format_row_more e literal others) =
     ap (λ ts. expr_cooked e ++ string_bytes literal.cooked ∷ ts) (cooked_parts _ others)
     ∙ sym (append_assoc (expr_cooked e) (string_bytes literal.cooked ∷ []) (flat_map part_cooked (items-the_row-Expression-FormatString-1-2 _ others)))
 

@@ -8,7 +8,7 @@ use Rattle.justfile_model.specs.Printing.{is_conditional, operator_text}
 use Rattle.justfile_tree.specs.Expression.{expr_shape}
 use Rattle.justfile_tree.specs.Texts.{Texts, text_alone, lexeme_alone, literal_texts, part_texts, texts_of}
 use Rattle.justfile_tree.specs.declared.words.Words.{Words}
-use Rattle.justfile_tree.specs.declared.expression.Expression.{Expression, And', Assert', Backtick, Call', Comparison', Concatenation', Conditional', FormatString', Group', Join', List', ListConcatenation', Not', Or', StringLiteral, Variable, Held-Expression-Assert-1, None', Some', items-the_row-Expression, items-the_row-Expression-FormatString-1-2}
+use Rattle.justfile_tree.specs.declared.expression.Expression.{Expression, And', Assert', Backtick, Call', Comparison', Concatenation', Conditional', FormatString', Group', Join', List', ListConcatenation', Not', Or', StringLiteral, Variable, Held-Expression-Assert-1 as OptionalExpression, None', Some', items-the_row-Expression, items-the_row-Expression-FormatString-1-2}
 
 -- one text for no element, another for some
 abbrev pub opening_text : {X : Type 0} → (none some : List ℕ) → List X → List ℕ
@@ -26,9 +26,9 @@ abbrev pub list_start : List Expression → Texts
 list_start elements = text_alone (opening_text (codes "[]") (codes "[") elements)
 
 -- an expression that may be absent
-abbrev pub of_held : Held-Expression-Assert-1 → Option Expression
-of_held None' = None
-of_held (Some' p e) = Some e
+abbrev pub optional_expression : OptionalExpression → Option Expression
+optional_expression None' = None
+optional_expression (Some' p e) = Some e
 
 abbrev pub of_option : Option (Box Expression) → Option Expression
 of_option None = None
@@ -49,7 +49,7 @@ start_texts (Concatenation' p lhs operator q rhs) = text_alone []
 start_texts (Conditional' p condition q branch otherwise) = text_alone (codes "if ")
 start_texts (FormatString' first n expressions) = format_start (lexeme_of first.token) (items-the_row-Expression-FormatString-1-2 _ expressions)
 start_texts (Group' p contents) = text_alone (codes "(")
-start_texts (Join' lhs operator q rhs) = join_start (of_held lhs)
+start_texts (Join' lhs operator q rhs) = join_start (optional_expression lhs)
 start_texts (List' n elements opener) = list_start (items-the_row-Expression _ elements)
 start_texts (ListConcatenation' p lhs operator q rhs) = text_alone []
 start_texts (Not' p operand) = text_alone (codes "!")
@@ -108,15 +108,15 @@ join_children (Some lhs) rhs = two_children lhs (codes " / ") rhs []
 -- the smaller expressions, in the order in which they are written
 abbrev pub children : Expression → List Child
 children (And' p lhs q rhs) = two_children lhs (codes " && ") rhs []
-children (Assert' p condition message name) = assert_children condition (of_held message)
+children (Assert' p condition message name) = assert_children condition (optional_expression message)
 children (Backtick contents token) = []
 children (Call' name n arguments) = elements_to (codes ")") (items-the_row-Expression _ arguments)
 children (Comparison' p lhs operator q rhs token) = two_children lhs (operator_text operator) rhs []
 children (Concatenation' p lhs operator q rhs) = two_children lhs (codes " + ") rhs []
-children (Conditional' p condition q branch otherwise) = conditional_children condition branch (of_held otherwise)
+children (Conditional' p condition q branch otherwise) = conditional_children condition branch (optional_expression otherwise)
 children (FormatString' first n expressions) = format_children (items-the_row-Expression-FormatString-1-2 _ expressions)
 children (Group' p contents) = then_text (codes ")") contents ∷ []
-children (Join' lhs operator q rhs) = join_children (of_held lhs) rhs
+children (Join' lhs operator q rhs) = join_children (optional_expression lhs) rhs
 children (List' n elements opener) = elements_to (codes "]") (items-the_row-Expression _ elements)
 children (ListConcatenation' p lhs operator q rhs) = two_children lhs (codes " ++ ") rhs []
 children (Not' p operand) = then_text [] operand ∷ []

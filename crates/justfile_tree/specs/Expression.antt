@@ -6,7 +6,7 @@ use Rattle.justfile_base.specs.Token.{lexeme_of}
 use Rattle.justfile_model.specs.Tok.{Tok, tok_of}
 use Rattle.justfile_model.specs.Tree as tree
 use Rattle.justfile_model.specs.Tree.{Expr, Exprs, Parts, over_expr, lexeme, nothing}
-use Rattle.justfile_tree.specs.declared.expression.Expression.{Expression, And', Assert', Backtick, Call', Comparison', Concatenation', Conditional', FormatString', Group', Join', List', ListConcatenation', Not', Or', StringLiteral, Variable, Held-Expression-Assert-1, None', Some', Row_of-Expression, end_of-Expression, more_of-Expression, Row_of-Expression-FormatString-1-2, end_of-Expression-FormatString-1-2, more_of-Expression-FormatString-1-2}
+use Rattle.justfile_tree.specs.declared.expression.Expression.{Expression, And', Assert', Backtick, Call', Comparison', Concatenation', Conditional', FormatString', Group', Join', List', ListConcatenation', Not', Or', StringLiteral, Variable, Held-Expression-Assert-1 as OptionalExpression, None', Some', Row_of-Expression as ExpressionRow, end_of-Expression as row_end, more_of-Expression as row_more, Row_of-Expression-FormatString-1-2 as FormatRow, end_of-Expression-FormatString-1-2 as format_row_end, more_of-Expression-FormatString-1-2 as format_row_more}
 
 -- the token of a literal, with the mark of a format string if it begins one
 abbrev pub literal_tok : literals.StringLiteral → Tok
@@ -36,31 +36,31 @@ abbrev mutual
   expr_of (StringLiteral literal) = tree.StringLiteral literal.expand (literal_tok literal)
   expr_of (Variable name number) = tree.Variable (tok_of name.token)
 
-  pub assert_of : (name : Tok) (condition : Expr Tok Tok) → Held-Expression-Assert-1 → Expr Tok Tok
+  pub assert_of : (name : Tok) (condition : Expr Tok Tok) → OptionalExpression → Expr Tok Tok
   assert_of name condition None' = tree.Assert name condition
   assert_of name condition (Some' p message) = tree.AssertMessage name condition (expr_of message)
 
-  pub conditional_of : (condition branch : Expr Tok Tok) → Held-Expression-Assert-1 → Expr Tok Tok
+  pub conditional_of : (condition branch : Expr Tok Tok) → OptionalExpression → Expr Tok Tok
   conditional_of condition branch None' = tree.If condition branch
   conditional_of condition branch (Some' p otherwise) = tree.IfElse condition branch (expr_of otherwise)
 
-  pub join_of : Held-Expression-Assert-1 → (operator : Tok) (rhs : Expr Tok Tok) → Expr Tok Tok
+  pub join_of : OptionalExpression → (operator : Tok) (rhs : Expr Tok Tok) → Expr Tok Tok
   join_of None' operator rhs = tree.Root operator rhs
   join_of (Some' p lhs) operator rhs = tree.Join (expr_of lhs) operator rhs
 
-  pub exprs_of_row : {n : _} → Row_of-Expression n → Exprs Tok Tok
-  exprs_of_row end_of-Expression = tree.none
-  exprs_of_row (more_of-Expression e others) = tree.more (expr_of e) (exprs_of_row others)
+  pub exprs_of_row : {n : _} → ExpressionRow n → Exprs Tok Tok
+  exprs_of_row row_end = tree.none
+  exprs_of_row (row_more e others) = tree.more (expr_of e) (exprs_of_row others)
 
   -- a format string with this start
-  pub format_of : (start : Tok) → {n : _} → Row_of-Expression-FormatString-1-2 n → Expr Tok Tok
-  format_of start end_of-Expression-FormatString-1-2 = tree.FormatLiteral start
-  format_of start (more_of-Expression-FormatString-1-2 e literal others) = tree.FormatString start (expr_of e) (parts_of_row (part_tok literal) others)
+  pub format_of : (start : Tok) → {n : _} → FormatRow n → Expr Tok Tok
+  format_of start format_row_end = tree.FormatLiteral start
+  format_of start (format_row_more e literal others) = tree.FormatString start (expr_of e) (parts_of_row (part_tok literal) others)
 
   -- the parts of a format string from this one on
-  pub parts_of_row : Tok → {n : _} → Row_of-Expression-FormatString-1-2 n → Parts Tok Tok
-  parts_of_row token end_of-Expression-FormatString-1-2 = tree.Last token
-  parts_of_row token (more_of-Expression-FormatString-1-2 e literal others) = tree.Continue token (expr_of e) (parts_of_row (part_tok literal) others)
+  pub parts_of_row : Tok → {n : _} → FormatRow n → Parts Tok Tok
+  parts_of_row token format_row_end = tree.Last token
+  parts_of_row token (format_row_more e literal others) = tree.Continue token (expr_of e) (parts_of_row (part_tok literal) others)
 
 -- the trees of the items of a vector
 abbrev pub exprs_of : List Expression → Exprs Tok Tok
@@ -85,15 +85,15 @@ abbrev mutual
   -- the texts of its literals, in order
   pub expr_cooked : Expression → List (List ℕ)
   expr_cooked (And' p lhs q rhs) = expr_cooked lhs ++ expr_cooked rhs
-  expr_cooked (Assert' p condition message name) = expr_cooked condition ++ held_cooked message
+  expr_cooked (Assert' p condition message name) = expr_cooked condition ++ optional_cooked message
   expr_cooked (Backtick contents token) = string_bytes contents ∷ []
   expr_cooked (Call' name n arguments) = exprs_cooked arguments
   expr_cooked (Comparison' p lhs operator q rhs token) = expr_cooked lhs ++ expr_cooked rhs
   expr_cooked (Concatenation' p lhs operator q rhs) = expr_cooked lhs ++ expr_cooked rhs
-  expr_cooked (Conditional' p condition q branch otherwise) = expr_cooked condition ++ expr_cooked branch ++ held_cooked otherwise
+  expr_cooked (Conditional' p condition q branch otherwise) = expr_cooked condition ++ expr_cooked branch ++ optional_cooked otherwise
   expr_cooked (FormatString' start n expressions) = string_bytes start.cooked ∷ parts_cooked expressions
   expr_cooked (Group' p contents) = expr_cooked contents
-  expr_cooked (Join' lhs operator q rhs) = held_cooked lhs ++ expr_cooked rhs
+  expr_cooked (Join' lhs operator q rhs) = optional_cooked lhs ++ expr_cooked rhs
   expr_cooked (List' n elements opener) = exprs_cooked elements
   expr_cooked (ListConcatenation' p lhs operator q rhs) = expr_cooked lhs ++ expr_cooked rhs
   expr_cooked (Not' p operand) = expr_cooked operand
@@ -101,14 +101,14 @@ abbrev mutual
   expr_cooked (StringLiteral literal) = string_bytes literal.cooked ∷ []
   expr_cooked (Variable name number) = []
 
-  pub held_cooked : Held-Expression-Assert-1 → List (List ℕ)
-  held_cooked None' = []
-  held_cooked (Some' p e) = expr_cooked e
+  pub optional_cooked : OptionalExpression → List (List ℕ)
+  optional_cooked None' = []
+  optional_cooked (Some' p e) = expr_cooked e
 
-  pub exprs_cooked : {n : _} → Row_of-Expression n → List (List ℕ)
-  exprs_cooked end_of-Expression = []
-  exprs_cooked (more_of-Expression e others) = expr_cooked e ++ exprs_cooked others
+  pub exprs_cooked : {n : _} → ExpressionRow n → List (List ℕ)
+  exprs_cooked row_end = []
+  exprs_cooked (row_more e others) = expr_cooked e ++ exprs_cooked others
 
-  pub parts_cooked : {n : _} → Row_of-Expression-FormatString-1-2 n → List (List ℕ)
-  parts_cooked end_of-Expression-FormatString-1-2 = []
-  parts_cooked (more_of-Expression-FormatString-1-2 e literal others) = expr_cooked e ++ string_bytes literal.cooked ∷ parts_cooked others
+  pub parts_cooked : {n : _} → FormatRow n → List (List ℕ)
+  parts_cooked format_row_end = []
+  parts_cooked (format_row_more e literal others) = expr_cooked e ++ string_bytes literal.cooked ∷ parts_cooked others

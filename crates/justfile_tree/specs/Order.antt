@@ -5,20 +5,20 @@ use Rattle.std.specs.declared.cmp.Ordering.{Ordering}
 use Rattle.justfile_base.specs.declared.string_literal.StringLiteral as literals
 use Rattle.justfile_base.specs.declared.token.Token.{Token}
 use Rattle.justfile_tree.specs.Key.{Key, Keys, node, end, next, token_key, literal_key, operator_key, number_key, text_key, row, absent_key, present_key, key_cmp}
-use Rattle.justfile_tree.specs.declared.expression.Expression.{Expression, And', Assert', Backtick, Call', Comparison', Concatenation', Conditional', FormatString', Group', Join', List', ListConcatenation', Not', Or', StringLiteral, Variable, Held-Expression-Assert-1, None', Some', Row_of-Expression, end_of-Expression, more_of-Expression, Row_of-Expression-FormatString-1-2, end_of-Expression-FormatString-1-2, more_of-Expression-FormatString-1-2}
+use Rattle.justfile_tree.specs.declared.expression.Expression.{Expression, And', Assert', Backtick, Call', Comparison', Concatenation', Conditional', FormatString', Group', Join', List', ListConcatenation', Not', Or', StringLiteral, Variable, Held-Expression-Assert-1 as OptionalExpression, None', Some', Row_of-Expression as ExpressionRow, end_of-Expression as row_end, more_of-Expression as row_more, Row_of-Expression-FormatString-1-2 as FormatRow, end_of-Expression-FormatString-1-2 as format_row_end, more_of-Expression-FormatString-1-2 as format_row_more}
 
 abbrev mutual
   pub key : Expression → Key
   key (And' p lhs q rhs) = node 0 (next (key lhs) (next (key rhs) end))
-  key (Assert' p condition message name) = node 1 (next (key condition) (next (held_key message) (next (token_key name.token) end)))
+  key (Assert' p condition message name) = node 1 (next (key condition) (next (optional_key message) (next (token_key name.token) end)))
   key (Backtick contents t) = node 2 (next (text_key (string_bytes contents)) (next (token_key t) end))
   key (Call' name m arguments) = node 3 (next (token_key name.token) (next (row (row_keys arguments)) end))
   key (Comparison' p lhs o q rhs t) = node 4 (next (key lhs) (next (operator_key o) (next (key rhs) (next (token_key t) end))))
   key (Concatenation' p lhs t q rhs) = node 5 (next (key lhs) (next (token_key t) (next (key rhs) end)))
-  key (Conditional' p condition q branch otherwise) = node 6 (next (key condition) (next (key branch) (next (held_key otherwise) end)))
+  key (Conditional' p condition q branch otherwise) = node 6 (next (key condition) (next (key branch) (next (optional_key otherwise) end)))
   key (FormatString' start m expressions) = node 7 (next (literal_key start) (next (row (row_parts expressions)) end))
   key (Group' p contents) = node 8 (next (key contents) end)
-  key (Join' lhs t q rhs) = node 9 (next (held_key lhs) (next (token_key t) (next (key rhs) end)))
+  key (Join' lhs t q rhs) = node 9 (next (optional_key lhs) (next (token_key t) (next (key rhs) end)))
   key (List' m elements opener) = node 10 (next (row (row_keys elements)) (next (token_key opener) end))
   key (ListConcatenation' p lhs t q rhs) = node 11 (next (key lhs) (next (token_key t) (next (key rhs) end)))
   key (Not' p operand) = node 12 (next (key operand) end)
@@ -27,17 +27,17 @@ abbrev mutual
   key (Variable name n) = node 15 (next (token_key name.token) (next (number_key n) end))
 
   -- an expression that may be absent
-  pub held_key : Held-Expression-Assert-1 → Key
-  held_key None' = absent_key
-  held_key (Some' p e) = present_key (key e)
+  pub optional_key : OptionalExpression → Key
+  optional_key None' = absent_key
+  optional_key (Some' p e) = present_key (key e)
 
-  pub row_keys : {m : _} → Row_of-Expression m → Keys
-  row_keys end_of-Expression = end
-  row_keys (more_of-Expression e others) = next (key e) (row_keys others)
+  pub row_keys : {m : _} → ExpressionRow m → Keys
+  row_keys row_end = end
+  row_keys (row_more e others) = next (key e) (row_keys others)
 
-  pub row_parts : {m : _} → Row_of-Expression-FormatString-1-2 m → Keys
-  row_parts end_of-Expression-FormatString-1-2 = end
-  row_parts (more_of-Expression-FormatString-1-2 e l others) = next (row (next (key e) (next (literal_key l) end))) (row_parts others)
+  pub row_parts : {m : _} → FormatRow m → Keys
+  row_parts format_row_end = end
+  row_parts (format_row_more e l others) = next (row (next (key e) (next (literal_key l) end))) (row_parts others)
 
 -- the fields of an operation
 abbrev pub operation_keys : (lhs : Expression) (operator : Token) (rhs : Expression) → Keys

@@ -3,7 +3,7 @@ use Rattle.std.specs.Prelude.{ℕ, List, [], ◌∷◌, ◌++◌, codes}
 use Rattle.std.specs.List.{flat_map}
 use Rattle.justfile_base.specs.declared.string_literal.StringLiteral as literals
 use Rattle.justfile_base.specs.StringLiteral.{literal_text}
-use Rattle.justfile_model.specs.Printing.{piece, expr_text}
+use Rattle.justfile_model.specs.Printing.{fixed_text, expr_text}
 use Rattle.justfile_tree.specs.declared.expression.Expression.{Expression}
 use Rattle.justfile_tree.specs.Expression.{expr_shape}
 
@@ -14,8 +14,8 @@ text_of e = expr_text (expr_shape e)
 -- joined by a comma and a space
 abbrev pub separated : List (List ℕ) → List ℕ
 separated [] = []
-separated (text ∷ texts) = text ++ flat_map (λ t. piece (codes ", ") ++ t) texts
+separated (text ∷ texts) = text ++ flat_map (λ t. fixed_text (codes ", ") ++ t) texts
 
 -- an expression of a format string, and the part after it
 abbrev pub format_part_text : Expression × literals.StringLiteral → List ℕ
-format_part_text p = piece (codes " ") ++ text_of p.0 ++ piece (codes " ") ++ literal_text p.1
+format_part_text p = fixed_text (codes " ") ++ text_of p.0 ++ fixed_text (codes " ") ++ literal_text p.1

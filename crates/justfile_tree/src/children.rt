@@ -258,7 +258,7 @@ fn format_child<'a, 'src>(
 }
 
 /// The operator of a comparison, with the spaces around it.
-#[tactic(auto, unfolding(justfile_model::specs::Printing::piece))]
+#[tactic(auto, unfolding(justfile_model::specs::Printing::fixed_text))]
 fn operator_piece(operator: ConditionalOperator) -> &'static str
     ensures { result.now ≡ operator_text operator }
 {

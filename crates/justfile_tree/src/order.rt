@@ -161,7 +161,8 @@ fn compare_operations<'src>(
     other_operator: &Token<'src>,
     other_rhs: &Expression<'src>,
 ) -> Ordering
-    ensures { result ≡ keys_cmp (operation_keys lhs.now operator.now rhs.now) (operation_keys other_lhs.now other_operator.now other_rhs.now) }
+    ensures { result ≡ keys_cmp (operation_keys lhs.now operator.now rhs.now)
+        (operation_keys other_lhs.now other_operator.now other_rhs.now) }
 {
     compare(lhs, other_lhs)
         .then(operator.cmp(other_operator))
@@ -194,7 +195,8 @@ fn compare_assert<'src>(
     name: &Name<'src>,
     other: &Expression<'src>,
 ) -> Ordering
-    ensures { result ≡ key_cmp (node 1 (next (key condition.now) (next (option_key message.now) (next (token_key name.now.token) end)))) (key other.now) }
+    ensures { result ≡ key_cmp (node 1 (next (key condition.now) (next (option_key message.now) (next (token_key name.now.token) end))))
+        (key other.now) }
 {
     match other {
         Expression::Assert {
@@ -235,7 +237,8 @@ fn compare_call<'src>(
     arguments: &Vec<Expression<'src>>,
     other: &Expression<'src>,
 ) -> Ordering
-    ensures { result ≡ key_cmp (node 3 (next (token_key name.now.token) (next (row (keys_of key arguments.now.items)) end))) (key other.now) }
+    ensures { result ≡ key_cmp (node 3 (next (token_key name.now.token) (next (row (keys_of key arguments.now.items)) end)))
+        (key other.now) }
 {
     match other {
         Expression::Call {
@@ -258,7 +261,8 @@ fn compare_comparison<'src>(
     token: &Token<'src>,
     other: &Expression<'src>,
 ) -> Ordering
-    ensures { result ≡ key_cmp (node 4 (next (key lhs.now) (next (operator_key operator.now) (next (key rhs.now) (next (token_key token.now) end))))) (key other.now) }
+    ensures { result ≡ key_cmp (node 4 (next (key lhs.now) (next (operator_key operator.now)
+        (next (key rhs.now) (next (token_key token.now) end))))) (key other.now) }
 {
     match other {
         Expression::Comparison {
@@ -302,7 +306,8 @@ fn compare_conditional<'src>(
     otherwise: &Option<Box<Expression<'src>>>,
     other: &Expression<'src>,
 ) -> Ordering
-    ensures { result ≡ key_cmp (node 6 (next (key condition.now) (next (key branch.now) (next (option_key otherwise.now) end)))) (key other.now) }
+    ensures { result ≡ key_cmp (node 6 (next (key condition.now) (next (key branch.now) (next (option_key otherwise.now) end))))
+        (key other.now) }
 {
     match other {
         Expression::Conditional {
@@ -323,7 +328,8 @@ fn compare_format_string<'src>(
     expressions: &Vec<(Expression<'src>, StringLiteral<'src>)>,
     other: &Expression<'src>,
 ) -> Ordering
-    ensures { result ≡ key_cmp (node 7 (next (literal_key start.now) (next (row (keys_of part_key expressions.now.items)) end))) (key other.now) }
+    ensures { result ≡ key_cmp (node 7 (next (literal_key start.now) (next (row (keys_of part_key expressions.now.items)) end)))
+        (key other.now) }
 {
     match other {
         Expression::FormatString {
@@ -357,7 +363,8 @@ fn compare_join<'src>(
     rhs: &Expression<'src>,
     other: &Expression<'src>,
 ) -> Ordering
-    ensures { result ≡ key_cmp (node 9 (next (option_key lhs.now) (next (token_key operator.now) (next (key rhs.now) end)))) (key other.now) }
+    ensures { result ≡ key_cmp (node 9 (next (option_key lhs.now) (next (token_key operator.now) (next (key rhs.now) end))))
+        (key other.now) }
 {
     match other {
         Expression::Join {

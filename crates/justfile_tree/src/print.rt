@@ -1,6 +1,6 @@
 //! The walk that prints an expression.
 ghost use Rattle.std.specs.Prelude.{◌≡◌, OnOk, OnErr};
-ghost use Rattle.justfile_model.specs.Printing.{piece};
+ghost use Rattle.justfile_model.specs.Printing.{fixed_text};
 ghost use Rattle.justfile_tree.specs.Text.{text_of};
 
 use crate::children::{child, start};
@@ -10,10 +10,10 @@ use crate::words::write_words;
 use std::fmt;
 
 /// Puts a piece that is the same in every text.
-#[tactic(auto, unfolding(justfile_model::specs::Printing::piece))]
+#[tactic(auto, unfolding(justfile_model::specs::Printing::fixed_text))]
 pub fn put_piece<S: Sink>(bytes: &str, sink: &mut S) -> Result<(), S::Fault>
-    ensures ok { OnOk result (S.took sink.old (piece bytes.now) sink.new) }
-    ensures err { OnErr result (S.failed sink.old (piece bytes.now) sink.new) }
+    ensures ok { OnOk result (S.took sink.old (fixed_text bytes.now) sink.new) }
+    ensures err { OnErr result (S.failed sink.old (fixed_text bytes.now) sink.new) }
 {
     sink.put(bytes)
 }

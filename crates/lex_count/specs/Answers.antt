@@ -13,7 +13,7 @@ pub record IsCount (text : List ℕ) (count : ℕ) : Type 0 where
   pub count_is : length tokens ≡ count
 
 -- the text has a lexical fault at the offset
-pub record IsRefused (text : List ℕ) (offset : ℕ) : Type 0 where
+pub record HasFaultAt (text : List ℕ) (offset : ℕ) : Type 0 where
   pub fault : LexicalFault
   pub span : Tok
   pub is_fault : IsFault text fault span
@@ -21,4 +21,4 @@ pub record IsRefused (text : List ℕ) (offset : ℕ) : Type 0 where
 
 abbrev pub IsAnswer : List ℕ → Answer → Type 0
 IsAnswer text (Tokens count) = IsCount text count
-IsAnswer text (Refused offset) = IsRefused text offset
+IsAnswer text (Refused offset) = HasFaultAt text offset

@@ -101,7 +101,7 @@ impl Answer {
         self.notation.put_text(&other.notation);
     }
 
-    /// Notes that memory was wanting.
+    /// Notes that memory ran out.
     pub fn fail(&mut self) {
         self.notation.fail();
     }

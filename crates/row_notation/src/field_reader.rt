@@ -78,7 +78,7 @@ impl FieldReader {
     ///
     /// # Errors
     ///
-    /// If memory was wanting.
+    /// If memory ran out.
     pub(crate) fn finish(self) -> Result<Option<Vec<String>>, AllocError> {
         let FieldReader {
             alloc: _,

@@ -15,7 +15,7 @@ impl Row {
     ///
     /// # Errors
     ///
-    /// If memory was wanting.
+    /// If memory ran out.
     pub fn fields(self) -> Result<Option<Vec<String>>, AllocError> {
         let Row { line: _, reader } = self;
         reader.finish()

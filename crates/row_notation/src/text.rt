@@ -2,7 +2,7 @@
 
 use std::alloc::{AllocError, Global};
 
-/// A text, and whether memory was wanting for a piece of it. So what writes pieces has no error to
+/// A text, and whether memory ran out for a piece of it. So what writes pieces has no error to
 /// hand on at each.
 #[derive(Drop)]
 pub struct Text {
@@ -66,7 +66,7 @@ impl Text {
         }
     }
 
-    /// Notes that memory was wanting.
+    /// Notes that memory ran out.
     pub fn fail(&mut self) {
         self.is_short = true;
     }

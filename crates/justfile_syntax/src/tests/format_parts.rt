@@ -3,14 +3,14 @@
 ghost use Rattle.std.specs.Prelude.{◌≡◌, IsTrue};
 ghost use Rattle.std.specs.List.{All};
 ghost use Rattle.justfile_base.specs.Token.{lexeme_of};
-ghost use Rattle.justfile_cook.specs.Literal.{is_part};
+ghost use Rattle.justfile_literal.specs.Literal.{is_part};
 
 use crate::string_kind::{StringDelimiter, StringKind};
 use crate::string_literal::FormatStringPart;
 use crate::tests::support::{holds, same, same_text};
 use crate::token::Token;
 use crate::token_kind::TokenKind;
-use justfile_cook::format_part;
+use justfile_literal::format_part;
 use std::alloc::Global;
 use std::process::Abort;
 

@@ -14,7 +14,7 @@ use crate::tests::support::{CURRENT, Unchanged, holds, names, same, same_text};
 use std::alloc::{AllocError, Global};
 use std::process::Abort;
 
-/// The path of a name and those behind it.
+/// The path of a name and those after it.
 fn path_from<'src>(
     alloc: Global,
     first: Name<'src>,
@@ -66,7 +66,7 @@ fn compare_written(rt: &impl Abort, alloc: Global, modules: &Modulepath, text: &
 }
 
 /// Sees that the path of modules of these names is written so, that its copy is equal and stays so,
-/// and that it is written as the other text with another name behind it.
+/// and that it is written as the other text with another name after it.
 fn compare_modules(rt: &impl Abort, alloc: Global, text: &str, (written, longer): (&str, &str)) {
     let namepath = path(rt, alloc, names(rt, alloc, text).as_slice());
     let mut modules = Modulepath::from_namepath(alloc, Some(&namepath)).expect(rt, text);

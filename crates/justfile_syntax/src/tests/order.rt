@@ -93,7 +93,7 @@ static ASCENDING: &[&str] = &[
     "Variable c -",
 ];
 
-/// The same where `b` and `c` are the same text at two places.
+/// The expressions in ascending order, where `b` and `c` are one text at two places.
 static ASCENDING_PLACES: &[&str] = &[
     "StringLiteral b - \" - b",
     "StringLiteral b - \" - c",
@@ -417,7 +417,7 @@ fn compare_with_all<'src>(
     }
 }
 
-/// The same of each expression and its place.
+/// Compares each expression, at its place, with all of the others.
 fn compare_all<'src>(rt: &impl Abort, values: &[Expression<'src>], others: &[Expression<'src>]) {
     for (place, value) in values.iter().enumerate() {
         compare_with_all(rt, place, value, others);

@@ -34,7 +34,7 @@ pub(crate) fn same_text(rt: &impl Abort, of: &str, found: &str, wanted: &str) {
     assert_eq!(rt; found, wanted, "{of:?}");
 }
 
-/// The same of other values.
+/// Sees that a value is the wanted one. A failure names what it was found of.
 pub(crate) fn same<T: Debug + PartialEq>(rt: &impl Abort, of: &str, found: &T, wanted: &T) {
     assert_eq!(rt; found, wanted, "{of:?}");
 }

@@ -4,14 +4,14 @@ use Rattle.std.specs.Str.{chars, is_utf8}
 use Rattle.justfile_base.specs.ByteClass.{class_of}
 use Rattle.justfile_model.specs.Bytes.{closes_levels}
 use Rattle.justfile_model.specs.LiteralText.{pieces_len}
-use Rattle.justfile_model.specs.Next.{body, fixed, inline, inside, layout, literal_part, next}
-use Rattle.justfile_model.specs.Places.{column_at, last_line_start, line_at}
+use Rattle.justfile_model.specs.Next.{body_token, fixed_token, token_by_class, token_within_line, layout, literal_part, next}
+use Rattle.justfile_model.specs.Places.{column_at, last_line_start, line_of_offset}
 use Rattle.justfile_model.proofs.AnswerLaws.{at, fault_of, is_eof, span_of}
 use Rattle.justfile_model.proofs.Computed.{answer, computed}
 use Rattle.justfile_model.proofs.examples.escaped_line_ends.Goals as goal
 
 pub returns : goal.returns
-unfolding answer at fault_of is_eof span_of class_of closes_levels pieces_len body fixed inline inside layout literal_part next column_at last_line_start line_at chars encode_utf8 is_utf8
+unfolding answer at fault_of is_eof span_of class_of closes_levels pieces_len body_token fixed_token token_by_class token_within_line layout literal_part next column_at last_line_start line_of_offset chars encode_utf8 is_utf8
 returns c = record {
   with_blanks = computed (codes "a := \\\n  b\n") refl;
   without = computed (codes "a := \\\r\nb") refl;

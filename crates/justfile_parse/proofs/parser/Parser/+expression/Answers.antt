@@ -4,14 +4,14 @@ use Rattle.justfile_base.specs.declared.token.Token.{Token}
 use Rattle.justfile_model.specs.Tree.{Expr, Exprs}
 use Rattle.justfile_tree.specs.declared.expression.Expression.{Expression}
 use Rattle.std.proofs.lemmas.Result.{err_from_is_err_and}
-use Rattle.justfile_parse.specs.Reader.{Read, Sequence, accept, element, format_parts, pair, read}
+use Rattle.justfile_parse.specs.TableReader.{Read, Sequence, accept, element, format_parts, pair, read}
 use Rattle.justfile_base.specs.StringKind.{kind_of}
 use Rattle.justfile_base.specs.Token.{lexeme_of}
 use Rattle.justfile_base.specs.declared.string_literal.StringLiteral.{StringLiteral}
-use Rattle.justfile_parse.specs.Tree.{Leaf, Literal, format_tree, literal_of, tree_of, trees_of}
+use Rattle.justfile_parse.specs.Tree.{Leaf, Literal, format_string_tree, literal_of, leaf_tree_of, trees_of}
 use Rattle.justfile_parse.specs.View.{state_of}
 use Rattle.justfile_parse.proofs.Elements as elements
-use Rattle.justfile_parse.proofs.Formats.{behind_expression, behind_pair, behind_start}
+use Rattle.justfile_parse.proofs.Formats.{after_expression, after_pair, after_start}
 use Rattle.justfile_parse.proofs.Parts as parts
 use Rattle.justfile_parse.proofs.parser.Parser.+expression.Goals as goal
 
@@ -21,7 +21,7 @@ parse_sequence-returns-then-is_last-clause-reads g t c =
     let rest = state_of g.X.Expander.answer c.parse_element.new.self in
     let e = c.in_ok-element.element.value in
     let none : accept c.args.closing s ≡ None = first_of (grind (arith, common_steps), search rules) in
-    let elem : ◌≡◌ {A = Read (Expr Leaf Token × Bool)} (element c.args.closing s) (Ok ((tree_of e, true), rest)) = first_of (grind (arith, common_steps), search rules) in
+    let elem : ◌≡◌ {A = Read (Expr Leaf Token × Bool)} (element c.args.closing s) (Ok ((leaf_tree_of e, true), rest)) = first_of (grind (arith, common_steps), search rules) in
     let P : List Expression → Read (Exprs Leaf Token) = λ es. Ok (trees_of es, rest) in
     let Q : Expression → List Expression = λ e. c.elements.elements.items ++ e ∷ [] in
     sym c.elements.invariant.value ∙ elements.closes_last c.args.closing s c.elements.elements.items e rest none elem ∙ ap P (sym (c.in_ok-push.ensures.items ∙ ap Q c.into_inner.ensures))
@@ -32,7 +32,7 @@ parse_sequence-elements-preserved g t c =
     let rest = state_of g.X.Expander.answer c.parse_element.new.self in
     let e = c.in_ok-element.element.value in
     let none : accept c.args.closing s ≡ None = first_of (grind (arith, common_steps), search rules) in
-    let elem : ◌≡◌ {A = Read (Expr Leaf Token × Bool)} (element c.args.closing s) (Ok ((tree_of e, false), rest)) = first_of (grind (arith, common_steps), search rules) in
+    let elem : ◌≡◌ {A = Read (Expr Leaf Token × Bool)} (element c.args.closing s) (Ok ((leaf_tree_of e, false), rest)) = first_of (grind (arith, common_steps), search rules) in
     let P : List Expression → Read (Exprs Leaf Token) = λ es. elements.with_front es (read (Sequence c.args.closing rest)) in
     let Q : Expression → List Expression = λ e. c.elements.elements.items ++ e ∷ [] in
     let pushed = c.in_ok-push.ensures.items ∙ ap Q c.into_inner.ensures in
@@ -48,8 +48,8 @@ parse_parts-returns-then-is_last-clause-reads g t c =
     let rest = state_of g.X.Expander.answer c.parse_pair.new.self in
     let e = c.in_ok-expression.expression in
     let l = c.in_ok-expression.literal in
-    let found : ◌≡◌ {A = Read (Expr Leaf Token × Leaf × Bool)} (pair start s) (Ok ((tree_of e, Literal (literal_of l), true), rest)) = first_of (grind (arith, common_steps), search rules) in
-    let P : List (Expression × StringLiteral) → Read (Leaf → Expr Leaf Token) = λ ps. Ok (format_tree ps, rest) in
+    let found : ◌≡◌ {A = Read (Expr Leaf Token × Leaf × Bool)} (pair start s) (Ok ((leaf_tree_of e, Literal (literal_of l), true), rest)) = first_of (grind (arith, common_steps), search rules) in
+    let P : List (Expression × StringLiteral) → Read (Leaf → Expr Leaf Token) = λ ps. Ok (format_string_tree ps, rest) in
     sym c.parts.invariant.value ∙ parts.ends start s c.parts.parts.items e l rest found ∙ ap P (sym c.in_ok-push.ensures.items)
 
 pub parse_parts-parts-preserved : goal.parse_parts-parts-preserved
@@ -59,23 +59,23 @@ parse_parts-parts-preserved g t c =
     let rest = state_of g.X.Expander.answer c.parse_pair.new.self in
     let e = c.in_ok-expression.expression in
     let l = c.in_ok-expression.literal in
-    let found : ◌≡◌ {A = Read (Expr Leaf Token × Leaf × Bool)} (pair start s) (Ok ((tree_of e, Literal (literal_of l), false), rest)) = first_of (grind (arith, common_steps), search rules) in
+    let found : ◌≡◌ {A = Read (Expr Leaf Token × Leaf × Bool)} (pair start s) (Ok ((leaf_tree_of e, Literal (literal_of l), false), rest)) = first_of (grind (arith, common_steps), search rules) in
     let P : List (Expression × StringLiteral) → Read (Leaf → Expr Leaf Token) = λ ps. parts.with_front ps (parts.pairs start rest) in
     record {
       ahead = first_of (grind (arith, common_steps), search rules);
-      ended = behind_pair (kind_of start) start s (tree_of e) (Literal (literal_of l)) rest found c.parts.invariant.ended;
+      ended = after_pair (kind_of start) start s (leaf_tree_of e) (Literal (literal_of l)) rest found c.parts.invariant.ended;
       value = ap P c.in_ok-push.ensures.items ∙ parts.goes_on start s c.parts.parts.items e l rest found ∙ c.parts.invariant.value;
     }
 
 pub parse_pair-parse_part-requires : goal.parse_pair-parse_part-requires
 parse_pair-parse_part-requires g t c =
     let kind = kind_of (lexeme_of c.args.start.token.now) in
-    record { ended = behind_expression kind (state_of g.X.Expander.answer c.args.self.now) (tree_of c.in_ok-expression.expression.value) (state_of g.X.Expander.answer c.parse_level.new.self) c.in_ok-expression.ensures.reads c.requires.ended }
+    record { ended = after_expression kind (state_of g.X.Expander.answer c.args.self.now) (leaf_tree_of c.in_ok-expression.expression.value) (state_of g.X.Expander.answer c.parse_level.new.self) c.in_ok-expression.ensures.reads c.requires.ended }
 
 pub parse_format-parse_format_string-requires : goal.parse_format-parse_format_string-requires
 parse_format-parse_format_string-requires g t c κs within =
     let start = c.in-Some.start in
-    let ended = behind_start g.X.Expander.answer c.args.self.now _ start (state_of g.X.Expander.answer c.accept_marked.new.self) c.in-Some.ensures.takes c.in-Some.ensures.entry.0 in
+    let ended = after_start g.X.Expander.answer c.args.self.now _ start (state_of g.X.Expander.answer c.accept_marked.new.self) c.in-Some.ensures.takes c.in-Some.ensures.entry.0 in
     (first_of (grind (arith, common_steps), search rules), (search rules, (c.in-Some.ensures.entry, ended)))
 
 pub parse_parts-returns-in_err-expression-clause-reads : goal.parse_parts-returns-in_err-expression-clause-reads

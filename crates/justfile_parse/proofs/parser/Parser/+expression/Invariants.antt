@@ -3,7 +3,7 @@ use Rattle.justfile_base.specs.StringKind.{kind_of}
 use Rattle.justfile_base.specs.Token.{lexeme_of}
 use Rattle.justfile_parse.specs.Formats.{IsEndedFrom}
 use Rattle.justfile_model.specs.Operators.{rank}
-use Rattle.justfile_parse.specs.Reader.{Sequence, format_parts, read}
+use Rattle.justfile_parse.specs.TableReader.{Sequence, format_parts, read}
 use Rattle.justfile_parse.specs.View.{left, state_of}
 use Rattle.justfile_parse.proofs.Elements as elements
 use Rattle.justfile_parse.proofs.Parts as parts

@@ -1,5 +1,5 @@
 use Rattle.std.proofs.Common.{rules, ◌≡◌, ◌∙◌, sym, subst, arith, ◌+◌, ℕ, List, true, false, get_or, Some, None}
-use Rattle.justfile_parse.specs.Reader.{accept_marked}
+use Rattle.justfile_parse.specs.TableReader.{accept_marked}
 use Rattle.justfile_parse.specs.View.{run_of, state_from, state_of}
 use Rattle.justfile_parse.proofs.Rest.{marked_taken, marked_left}
 use Rattle.justfile_parse.proofs.parser.Parser.accept_marked.Goals as goal

@@ -1,7 +1,7 @@
 use Rattle.std.proofs.Common.{◌∙◌, sym, ap, Ok}
 use Rattle.justfile_tree.specs.declared.expression.Expression.{Expression}
-use Rattle.justfile_parse.specs.Reader.{ReadExpr}
-use Rattle.justfile_parse.specs.Tree.{tree_of}
+use Rattle.justfile_parse.specs.TableReader.{ReadExpr}
+use Rattle.justfile_parse.specs.Tree.{leaf_tree_of}
 use Rattle.justfile_parse.specs.View.{state_of}
 use Rattle.justfile_parse.proofs.Cooked.{string_given, string_refused}
 use Rattle.justfile_parse.proofs.parser.Parser.cook_string.Goals as goal
@@ -9,7 +9,7 @@ use Rattle.justfile_parse.proofs.parser.Parser.cook_string.Goals as goal
 pub returns-in_ok-box_expression-in-Ok : goal.returns-in_ok-box_expression-in-Ok
 returns-in_ok-box_expression-in-Ok g c =
     let p = c.args.self.now in
-    let P : Expression → ReadExpr = λ e. Ok (tree_of e, state_of g.X.Expander.answer p) in
+    let P : Expression → ReadExpr = λ e. Ok (leaf_tree_of e, state_of g.X.Expander.answer p) in
     record { reads = string_given g.X.Expander.answer p c.args.entry c.args.expand c.in-Ok.string_literal c.in-Ok.ensures.ok ∙ ap P (sym c.in_ok-box_expression-in-Ok.ensures) }
 
 pub returns-in-Err : goal.returns-in-Err

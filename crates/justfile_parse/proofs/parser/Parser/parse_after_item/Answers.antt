@@ -1,11 +1,11 @@
 use Rattle.std.proofs.Common.{ℕ, ◌≡◌, ap, sym, ◌∙◌, List, [], ◌∷◌, ◌++◌, map}
 use Rattle.justfile_base.specs.declared.token.Token.{Token}
 use Rattle.justfile_model.specs.Tree.{OrderedItem}
-use Rattle.justfile_model.specs.Reading.{after}
-use Rattle.justfile_parse.specs.Reader.{leaves, line_end}
+use Rattle.justfile_model.specs.Reading.{prepend}
+use Rattle.justfile_parse.specs.TableReader.{leaves, line_end}
 use Rattle.justfile_parse.specs.Tree.{Leaf, item_tree}
 use Rattle.justfile_parse.specs.View.{state_of}
-use Rattle.justfile_parse.proofs.Lines.{behind_comment}
+use Rattle.justfile_parse.proofs.Lines.{after_comment}
 use Rattle.justfile_parse.proofs.Readings.{reads_alike}
 use Rattle.justfile_parse.proofs.parser.Parser.parse_after_item.Goals as goal
 
@@ -17,6 +17,6 @@ returns-in_ok-push_item-in-Some-clause-reads g c =
     let rest = state_of A c.accept.new.self in
     let more : map item_tree c.push_item.new.items.items ≡ done ++ item_tree c.make_comment.result ∷ [] = c.in_ok-push_item-in-Some.ensures in
     reads_alike _ _ _ _ _
-    (ap (λ (l : List (OrderedItem Leaf Token ℕ)). after l (line_end rest)) (more ∙ ap (λ (i : OrderedItem Leaf Token ℕ). done ++ i ∷ []) c.make_comment.ensures)
-    ∙ sym (behind_comment done (state_of A c.args.self.now) c.in-Some.comment rest c.in-Some.ensures.takes))
+    (ap (λ (l : List (OrderedItem Leaf Token ℕ)). prepend l (line_end rest)) (more ∙ ap (λ (i : OrderedItem Leaf Token ℕ). done ++ i ∷ []) c.make_comment.ensures)
+    ∙ sym (after_comment done (state_of A c.args.self.now) c.in-Some.comment rest c.in-Some.ensures.takes))
     c.parse_line_end.ensures.reads

@@ -1,5 +1,5 @@
 use Rattle.std.proofs.Common.{ap, ◌∙◌, arith}
-use Rattle.justfile_parse.specs.Reader.{State}
+use Rattle.justfile_parse.specs.TableReader.{State}
 use Rattle.justfile_parse.specs.View.{state_of}
 use Rattle.justfile_parse.proofs.Moves.{mark_depth, mark_fewer, names}
 use Rattle.justfile_parse.proofs.parser.Parser.parse_file.Goals as goal

@@ -2,7 +2,7 @@ use Rattle.std.proofs.Common.{◌≡◌, sym, subst, None}
 use Rattle.std.proofs.lemmas.Result.{err_from_is_err_and}
 use Rattle.justfile_base.specs.declared.token_kind.TokenKind.TheVariants as kinds
 use Rattle.justfile_model.specs.Reading as reading
-use Rattle.justfile_parse.specs.Reader.{accept}
+use Rattle.justfile_parse.specs.TableReader.{accept}
 use Rattle.justfile_parse.specs.WantsNumber.{counters_of}
 use Rattle.justfile_parse.specs.View.{state_of}
 use Rattle.justfile_parse.specs.declared.parser.Parser.{Parser}

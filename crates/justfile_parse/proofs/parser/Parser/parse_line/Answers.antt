@@ -4,10 +4,10 @@ use Rattle.justfile_base.specs.declared.token.Token.{Token}
 use Rattle.justfile_model.specs.Tree.{OrderedItem}
 use Rattle.justfile_model.specs.Reader.{has_body}
 use Rattle.justfile_model.specs.Reading as reading
-use Rattle.justfile_model.specs.Reading.{after}
-use Rattle.justfile_parse.specs.Reader.{Read, ended, on_line}
+use Rattle.justfile_model.specs.Reading.{prepend}
+use Rattle.justfile_parse.specs.TableReader.{Read, ended, on_line}
 use Rattle.justfile_parse.specs.WantsNumber.{counters_of}
-use Rattle.justfile_parse.specs.Reading.{StopsAt}
+use Rattle.justfile_parse.specs.MethodResults.{StopsAt}
 use Rattle.justfile_parse.specs.Tree.{Leaf, item_tree}
 use Rattle.justfile_parse.specs.View.{state_of}
 use Rattle.justfile_parse.specs.declared.parser.Parser.{Parser}
@@ -51,11 +51,11 @@ returns-clause-reads g c =
     let done : List (OrderedItem Leaf Token ℕ) = map item_tree c.args.items.now.items in
     let rest = state_of A c.parse_item.new.self in
     let P : Parser _ → Type 0 = λ p. on_line (counters_of c.args.numerator.now) (state_of A p) ≡ Ok ((item_tree c.in_ok-item.item, counters_of c.parse_item.new.numerator), rest) in
-    let found : ◌≡◌ {A = Read (List (OrderedItem Leaf Token ℕ))} (after (map item_tree c.push_item-2.new.items.items) (ended c.has_body-has_body.result rest)) (Ok (map item_tree c.parse_item_end.new.items.items, state_of A c.parse_item_end.new.self)) = c.in_ok-parse_item_end.ensures.reads in
+    let found : ◌≡◌ {A = Read (List (OrderedItem Leaf Token ℕ))} (prepend (map item_tree c.push_item-2.new.items.items) (ended c.has_body-has_body.result rest)) (Ok (map item_tree c.parse_item_end.new.items.items, state_of A c.parse_item_end.new.self)) = c.in_ok-parse_item_end.ensures.reads in
     line_goes_on done (state_of A c.args.self.now) (counters_of c.args.numerator.now) (item_tree c.in_ok-item.item) (counters_of c.parse_item.new.numerator) rest c.in_default.ensures.takes
     (subst P c.in_default.ensures.moves c.in_ok-item.ensures.reads) (map item_tree c.parse_item_end.new.items.items) (state_of A c.parse_item_end.new.self)
-    (ap (λ (l : List (OrderedItem Leaf Token ℕ)). after l (ended (has_body (item_tree c.in_ok-item.item)) rest)) (sym c.in_ok-push_item-2.ensures)
-    ∙ ap (λ (b : Bool). after (map item_tree c.push_item-2.new.items.items) (ended b rest)) (sym (c.has_body-has_body.ensures ∙ has_body_is c.in_ok-item.item))
+    (ap (λ (l : List (OrderedItem Leaf Token ℕ)). prepend l (ended (has_body (item_tree c.in_ok-item.item)) rest)) (sym c.in_ok-push_item-2.ensures)
+    ∙ ap (λ (b : Bool). prepend (map item_tree c.push_item-2.new.items.items) (ended b rest)) (sym (c.has_body-has_body.ensures ∙ has_body_is c.in_ok-item.item))
     ∙ found)
 
 pub returns-in_err-item-clause-reads : goal.returns-in_err-item-clause-reads

@@ -1,8 +1,8 @@
 use Rattle.std.proofs.Common.{◌≡◌, sym, subst, map, None, arith}
 use Rattle.std.proofs.lemmas.Result.{err_from_is_err_and}
 use Rattle.justfile_base.specs.declared.token_kind.TokenKind.TheVariants as kinds
-use Rattle.justfile_model.specs.Reading.{after}
-use Rattle.justfile_parse.specs.Reader.{accept, line_rest}
+use Rattle.justfile_model.specs.Reading.{prepend}
+use Rattle.justfile_parse.specs.TableReader.{accept, line_rest}
 use Rattle.justfile_parse.specs.Tree.{fragment_tree}
 use Rattle.justfile_parse.specs.View.{state_of}
 use Rattle.justfile_parse.specs.declared.parser.Parser.{Parser}
@@ -19,7 +19,7 @@ returns-in_err-fragment-clause-reads g c =
     let A = g.X.Expander.answer in
     let done = c.fragments.fragments.items in
     let p = err_from_is_err_and c.from_residual.result c.from_residual.ensures.1 in
-    let P : Parser _ → Type 0 = λ q. after (map fragment_tree done) (line_rest (state_of A q)) ≡ line_rest (state_of A c.args.self.now) in
+    let P : Parser _ → Type 0 = λ q. prepend (map fragment_tree done) (line_rest (state_of A q)) ≡ line_rest (state_of A c.args.self.now) in
     let Q : Parser _ → Type 0 = λ q. accept kinds.Eol (state_of A q) ≡ None in
     let here = sym c.in_default.ensures.moves in
     rw (p.1, p.2)

@@ -2,9 +2,9 @@ use Rattle.std.proofs.Common.{◌≡◌, refl, subst, map, Ok, Err, Option}
 use Rattle.justfile_model.specs.Reading.{NoNumber}
 use Rattle.justfile_model.specs.SignificantTokens.{identifiers}
 use Rattle.justfile_parse.specs.Conditions.{conditions_of}
-use Rattle.justfile_parse.specs.Reader as reader
-use Rattle.justfile_parse.specs.Reader.{Run, State}
-use Rattle.justfile_parse.specs.Reading.{IsFaultOf, IsMoved, StopsAt}
+use Rattle.justfile_parse.specs.TableReader as reader
+use Rattle.justfile_parse.specs.TableReader.{Run, State}
+use Rattle.justfile_parse.specs.MethodResults.{IsFaultOf, IsMoved, StopsAt}
 use Rattle.justfile_parse.specs.Significant.{significant_of}
 use Rattle.justfile_parse.specs.Tree.{item_tree}
 use Rattle.justfile_parse.specs.View.{state_at, state_of}

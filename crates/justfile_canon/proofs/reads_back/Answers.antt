@@ -1,6 +1,0 @@
-use Rattle.justfile_model.proofs.Normal.{normal_printable}
-use Rattle.justfile_canon.proofs.RoundTrip.{back, apart, alike, fixed}
-use Rattle.justfile_canon.proofs.reads_back.Goals as goal
-
-pub returns : goal.returns
-returns c = record { back = back; apart = apart; alike = alike; fixed = fixed; stays_printable = normal_printable }

@@ -1,5 +1,0 @@
-use Rattle.justfile_cook.proofs.LongestRun.{longest_run}
-use Rattle.justfile_cook.proofs.laws.indentation_is_longest.Goals as goal
-
-pub returns : goal.returns
-returns c = longest_run

@@ -1,5 +1,0 @@
-use Rattle.justfile_cook.proofs.TextLines.{lines_whole}
-use Rattle.justfile_cook.proofs.laws.lines_joined.Goals as goal
-
-pub returns : goal.returns
-returns c = lines_whole

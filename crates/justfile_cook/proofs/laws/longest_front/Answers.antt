@@ -1,5 +1,0 @@
-use Rattle.justfile_cook.proofs.Longest.{longest_front}
-use Rattle.justfile_cook.proofs.laws.longest_front.Goals as goal
-
-pub returns : goal.returns
-returns c = longest_front

@@ -1,5 +1,0 @@
-use Rattle.justfile_cook.proofs.LongestRun.{already}
-use Rattle.justfile_cook.proofs.laws.unindented_already.Goals as goal
-
-pub returns-clause-nothing_shared : goal.returns-clause-nothing_shared
-returns-clause-nothing_shared c = already

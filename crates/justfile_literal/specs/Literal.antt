@@ -1,0 +1,69 @@
+-- What is made of a token that is a literal.
+use Rattle.std.specs.Prelude.{◌≡◌, ℕ, ◌+◌, ◌-◌, Bool, false, ◌&&◌, nat_lt, nat_le, List, length, slice_index, Option, Some, None, Result, Ok, Err, option_map, string_bytes}
+use Rattle.justfile_base.specs.StringKind.{kind_of, delimiter_len}
+use Rattle.justfile_base.specs.Token.{lexeme_of}
+use Rattle.justfile_base.specs.declared.compile_error.CompileError.{CompileError}
+use Rattle.justfile_base.specs.declared.compile_error_kind.CompileErrorKind.{CompileErrorKind}
+use Rattle.justfile_base.specs.declared.compile_error_kind.CompileErrorKind.TheVariants as kinds
+use Rattle.justfile_base.specs.declared.fault.Fault.{Fault}
+use Rattle.justfile_base.specs.declared.fault.Fault.TheVariants.{Compile, Memory, Numbers}
+use Rattle.justfile_base.specs.declared.format_string_part.FormatStringPart.{FormatStringPart}
+use Rattle.justfile_base.specs.declared.string_kind.StringKind.{StringKind}
+use Rattle.justfile_base.specs.declared.string_literal.StringLiteral.{StringLiteral}
+use Rattle.justfile_base.specs.declared.token.Token.{Token}
+use Rattle.justfile_model.specs.EscapeFault.{escape_fault_of}
+use Rattle.justfile_model.specs.Literals.{Expansions, LiteralFault, Escape, Refused, Shebang, cooked_text, string_of, front_len, end_len, format_text}
+
+-- so many bytes at the two ends leave a text, with a byte of ASCII on either side of it
+abbrev pub is_framed : (front end : ℕ) → List ℕ → Bool
+is_framed front end lexeme = nat_le (front + end) (length lexeme) && nat_lt (slice_index lexeme (front - 1)) 128 && nat_lt (slice_index lexeme (length lexeme - end)) 128
+
+-- the delimiters leave a text between them
+abbrev pub is_quoted : List ℕ → Bool
+is_quoted lexeme = is_framed (delimiter_len (kind_of lexeme)) (delimiter_len (kind_of lexeme)) lexeme
+
+-- the expander's answers: it has one for each text
+abbrev pub answers_by : {X : Type 0} → (X → List ℕ → Result (List ℕ) (List ℕ)) → X → Expansions
+answers_by answer expander text = Some (answer expander text)
+
+-- the fault of a literal that the kind of an error says, if it says one; an expander is always asked
+abbrev pub literal_fault_of : CompileErrorKind → Option LiteralFault
+literal_fault_of (kinds.ShellExpansion err) = Some (Refused (string_bytes err))
+literal_fault_of kinds.BacktickShebang = Some Shebang
+literal_fault_of kind = option_map Escape (escape_fault_of kind)
+
+abbrev pub IsKindOf : LiteralFault → CompileErrorKind → Type 0
+IsKindOf fault kind = literal_fault_of kind ≡ Some fault
+
+-- the error says why there is no text, and stands at the token
+pub record IsTextError (text : Result (List ℕ) LiteralFault) (token : Token) (error : CompileError) : Type 0 where
+  pub fault : LiteralFault
+  pub text_is : text ≡ Err fault
+  pub kind_is : IsKindOf fault error.kind
+  pub token_is : error.token ≡ token
+
+-- being out of memory says nothing of the text
+abbrev pub IsTextFault : Result (List ℕ) LiteralFault → Token → Fault → Type 0
+IsTextFault text token (Compile error) = IsTextError text token error
+IsTextFault text token Memory = Unit {0}
+IsTextFault text token Numbers = ⊥
+
+-- the token as a literal that is no part of a format string
+pub record IsStringOf (expander : Expansions) (token : Token) (expand : Bool) (literal : StringLiteral) : Type 0 where
+  pub token_is : literal.token ≡ token
+  pub cooked : cooked_text expander (string_of expand (lexeme_of token)) ≡ Ok (string_bytes literal.cooked)
+  pub expand_is : literal.expand ≡ expand
+  pub kind : literal.kind ≡ kind_of (lexeme_of token)
+  pub part : literal.part ≡ None
+
+-- the token is such a part of a format string of this kind
+abbrev pub is_part : StringKind → FormatStringPart → List ℕ → Bool
+is_part kind part = is_framed (front_len kind part) (end_len kind part)
+
+-- the token as a part of a format string
+pub record IsPartOf (kind : StringKind) (part : FormatStringPart) (token : Token) (literal : StringLiteral) : Type 0 where
+  pub token_is : literal.token ≡ token
+  pub cooked : format_text kind part (lexeme_of token) ≡ Ok (string_bytes literal.cooked)
+  pub expand_is : literal.expand ≡ false
+  pub kind_is : literal.kind ≡ kind
+  pub part_is : literal.part ≡ Some part

@@ -1,0 +1,121 @@
+ghost use Rattle.std.specs.Prelude.{◌≡◌, IfErr, IfOk, IsTrue, Ok, string_bytes};
+ghost use Rattle.justfile_base.specs.StringKind.{kind_of};
+ghost use Rattle.justfile_base.specs.Token.{lexeme_of};
+ghost use Rattle.justfile_model.specs.Literals.{Expansions, Command, between_quotes, by_answer, cooked_text, flush_text, string_of, string_text};
+ghost use Rattle.justfile_literal.specs.Literal.{IsStringOf, IsTextFault, answers_by, is_quoted};
+
+use crate::cook::replace_escapes;
+use crate::unindent::unindent;
+use justfile_base::{
+    CompileErrorKind, CompileResult, ExpandFault, Expander, Fault, StringKind, StringLiteral, Token,
+};
+use std::alloc::{AllocError, Global};
+
+/// The literal that a string is. It is marked `x` if its text is to be expanded.
+///
+/// # Errors
+///
+/// `Compile` at the token, for the first bad escape, or if the expander refuses the text;
+/// `Memory` if memory runs out.
+pub fn string_literal<'src, X: Expander>(
+    alloc: Global,
+    token: Token<'src>,
+    expand: bool,
+    expander: &X,
+) -> CompileResult<'src, StringLiteral<'src>>
+    requires { IsTrue (is_quoted (lexeme_of token)) }
+    ensures ok { IfOk result (IsStringOf (answers_by X.answer expander.now) token.entry expand) }
+    ensures err { IfErr result (IsTextFault (cooked_text (answers_by X.answer expander.now)
+        (string_of expand (lexeme_of token.entry))) token.entry) }
+{
+    let text = read_string_text(alloc, token)?;
+    let cooked = if expand {
+        expand_text(alloc, token, text.as_str(), expander)?
+    } else {
+        text
+    };
+    Ok(StringLiteral {
+        cooked,
+        expand,
+        kind: literal_kind(token.lexeme()),
+        part: None,
+        token,
+    })
+}
+
+/// The command between backticks.
+///
+/// # Errors
+///
+/// `Compile` at the token, if the command begins with `#!`; `Memory` if memory runs out.
+pub fn command<'src>(alloc: Global, token: Token<'src>) -> CompileResult<'src, String>
+    requires { IsTrue (is_quoted (lexeme_of token)) }
+    ensures ok { IfOk result (λ contents. (expander : Expansions) → cooked_text expander (Command (lexeme_of token.entry))
+        ≡ Ok (string_bytes contents)) }
+    ensures err { IfErr result (λ fault. (expander : Expansions)
+        → IsTextFault (cooked_text expander (Command (lexeme_of token.entry))) token.entry fault) }
+{
+    let text = read_flush_text(alloc, token.lexeme())?;
+    if text.as_str().starts_with("#!") {
+        return Err(Fault::Compile(token.error(CompileErrorKind::BacktickShebang)));
+    }
+    Ok(text)
+}
+
+/// How the literal is delimited.
+fn literal_kind(lexeme: &str) -> StringKind
+    ensures { result ≡ kind_of lexeme.now }
+{
+    StringKind::of_opening(lexeme.as_bytes())
+}
+
+/// What stands between the quotes.
+fn between_quotes(lexeme: &str) -> &str
+    requires { IsTrue (is_quoted lexeme.now) }
+    ensures { result.now ≡ between_quotes lexeme.now }
+{
+    let quotes = literal_kind(lexeme).delimiter_len();
+    &lexeme[quotes..lexeme.len() - quotes]
+}
+
+/// What stands between the quotes, unindented where they are tripled.
+fn read_flush_text(alloc: Global, lexeme: &str) -> Result<String, AllocError>
+    requires { IsTrue (is_quoted lexeme.now) }
+    ensures { IfOk result (λ text. string_bytes text ≡ flush_text lexeme.now) }
+{
+    let text = between_quotes(lexeme);
+    if literal_kind(lexeme).indented() {
+        unindent(alloc, text)
+    } else {
+        text.to_string(alloc)
+    }
+}
+
+/// The text of a string, its escapes replaced in double quotes.
+fn read_string_text<'src>(alloc: Global, token: Token<'src>) -> CompileResult<'src, String>
+    requires { IsTrue (is_quoted (lexeme_of token)) }
+    ensures ok { IfOk result (λ text. string_text (lexeme_of token.entry) ≡ Ok (string_bytes text)) }
+    ensures err { IfErr result (IsTextFault (string_text (lexeme_of token.entry)) token.entry) }
+{
+    let text = read_flush_text(alloc, token.lexeme())?;
+    replace_escapes(alloc, token, literal_kind(token.lexeme()), text)
+}
+
+/// Expands the text. A refusal stands at the token.
+fn expand_text<'src, X: Expander>(
+    alloc: Global,
+    token: Token<'src>,
+    text: &str,
+    expander: &X,
+) -> CompileResult<'src, String>
+    ensures ok { IfOk result (λ expanded. by_answer (answers_by X.answer expander.now text.now) ≡ Ok (string_bytes expanded)) }
+    ensures err { IfErr result (IsTextFault (by_answer (answers_by X.answer expander.now text.now)) token.entry) }
+{
+    match expander.expand(alloc, text) {
+        Ok(expanded) => Ok(expanded),
+        Err(ExpandFault::Refused(err)) => Err(Fault::Compile(token.error(
+            CompileErrorKind::ShellExpansion { err },
+        ))),
+        Err(ExpandFault::Memory) => Err(Fault::Memory),
+    }
+}

@@ -1,0 +1,144 @@
+-- What the parser gives the parts of a tree beside their tokens.
+use Rattle.std.specs.Prelude.{◌≡◌, ◌↔◌, ℕ, ◌+◌, map, Bool, false, ◌==◌, List, slice_index, None, Ok, IsSomeAnd, IsTrue, string_bytes, Contains, All}
+use Rattle.justfile_base.specs.declared.format_string_part.FormatStringPart.{FormatStringPart}
+use Rattle.justfile_base.specs.declared.format_string_part.FormatStringPart.TheVariants as parts
+use Rattle.justfile_base.specs.declared.string_kind.StringKind.{StringKind}
+use Rattle.std.specs.List.{flat_map, slice_get}
+use Rattle.justfile_base.specs.Numerator.{bindings_of, recipes_of}
+use Rattle.justfile_base.specs.StringKind.{kind_of}
+use Rattle.justfile_base.specs.Token.{lexeme_of}
+use Rattle.justfile_base.specs.declared.numerator.Numerator.{Numerator}
+use Rattle.justfile_base.specs.declared.string_literal.StringLiteral as literals
+use Rattle.justfile_base.specs.declared.token.Token.{Token}
+use Rattle.justfile_literal.specs.Literal.{IsPartOf}
+use Rattle.justfile_file.specs.declared.binding.Binding.{Binding}
+use Rattle.justfile_file.specs.declared.fragment.Fragment.{Fragment}
+use Rattle.justfile_file.specs.declared.fragment.Fragment.TheVariants as fragments
+use Rattle.justfile_file.specs.declared.item.Item.{Item}
+use Rattle.justfile_file.specs.declared.item.Item.TheVariants.{Assignment, Comment, Newline, Recipe}
+use Rattle.justfile_file.specs.declared.line.Line.{Line}
+use Rattle.justfile_file.specs.declared.recipe.UnresolvedRecipe.{UnresolvedRecipe}
+use Rattle.justfile_file.specs.Item.{item_of, item_numbers, item_recipe_numbers}
+use Rattle.justfile_file.specs.Line.{IsShebang}
+use Rattle.justfile_model.specs.Files.{NumbersFrom, bindings, recipes}
+use Rattle.justfile_model.specs.Literals.{Expansions, Command, cooked_text, string_of}
+use Rattle.justfile_model.specs.declared.list_feature.ListFeature.{ListFeature}
+use Rattle.justfile_tree.specs.declared.expression.Expression.{Expression, And', Assert', Backtick, Call', Comparison', Concatenation', Conditional', FormatString', Group', Join', List', ListConcatenation', Not', Or', StringLiteral, Variable, Held-Expression-Assert-1 as OptionalExpression, None', Some', Row_of-Expression as ExpressionRow, end_of-Expression as row_end, more_of-Expression as row_more, Row_of-Expression-FormatString-1-2 as FormatRow, end_of-Expression-FormatString-1-2 as format_row_end, more_of-Expression-FormatString-1-2 as format_row_more}
+use Rattle.justfile_parse.specs.declared.significant.TableEntry.{TableEntry}
+
+-- the table has an entry for the token, by a reference to it
+pub record IsInTable (table : List TableEntry) (token : Token) : Type 0 where
+  pub ref_ptr : ℕ × ℕ
+  pub glued : Bool
+  pub among : Contains table (record { token = record { ref_ptr = ref_ptr; now = token }; glued = glued })
+
+-- each feature was noted at a token of the table
+pub record AreNotedIn (table : List TableEntry) (features : List (ListFeature × Token)) : Type 0 where
+  pub all : All (λ (x : ListFeature × Token). IsInTable table x.1) features
+
+-- a literal, of such a token, with its text, which is expanded if it is marked so; it is no part of a format string
+pub record IsGivenLiteral (expander : Expansions) (IsToken : Token → Type 0) (literal : literals.StringLiteral) : Type 0 where
+  pub among : IsToken literal.token
+  pub cooked : cooked_text expander (string_of literal.expand (lexeme_of literal.token)) ≡ Ok (string_bytes literal.cooked)
+  pub kind : literal.kind ≡ kind_of (lexeme_of literal.token)
+  pub part : literal.part ≡ None
+
+-- a command between backticks, of such a token, with its text
+pub record IsGivenCommand (expander : Expansions) (IsToken : Token → Type 0) (contents : List ℕ) (token : Token) : Type 0 where
+  pub among : IsToken token
+  pub cooked : cooked_text expander (Command (lexeme_of token)) ≡ Ok contents
+
+-- a part of a format string of a kind, of such a token, with its text
+pub record IsGivenPart (IsToken : Token → Type 0) (kind : StringKind) (part : FormatStringPart) (literal : literals.StringLiteral) : Type 0 where
+  pub among : IsToken literal.token
+  pub is : IsPartOf kind part literal.token literal
+
+-- the part that a format string begins with, by what is after it
+abbrev pub first_part : {n : _} → FormatRow n → FormatStringPart
+first_part format_row_end = parts.Single
+first_part (format_row_more e literal others) = parts.Start
+
+-- the part after an expression of a format string, by what is after it
+abbrev pub later_part : {n : _} → FormatRow n → FormatStringPart
+later_part format_row_end = parts.End
+later_part (format_row_more e literal others) = parts.Continue
+
+module _ (expander : Expansions) (IsToken : Token → Type 0) where
+  abbrev mutual
+    -- The expression's names, operators and words are tokens that `IsToken` allows. Its literals have their texts. No name is resolved.
+    pub IsGivenExpression : Expression → Type 0
+    IsGivenExpression (And' p lhs q rhs) = IsGivenExpression lhs × IsGivenExpression rhs
+    IsGivenExpression (Assert' p condition message name) = IsGivenExpression condition × IsGivenOptional message × IsToken name.token
+    IsGivenExpression (Backtick contents token) = IsGivenCommand expander IsToken (string_bytes contents) token
+    IsGivenExpression (Call' name n arguments) = IsToken name.token × AreGivenExpressions arguments
+    IsGivenExpression (Comparison' p lhs operator q rhs token) = IsGivenExpression lhs × IsGivenExpression rhs × IsToken token
+    IsGivenExpression (Concatenation' p lhs operator q rhs) = IsGivenExpression lhs × IsToken operator × IsGivenExpression rhs
+    IsGivenExpression (Conditional' p condition q branch otherwise) = IsGivenExpression condition × IsGivenExpression branch × IsGivenOptional otherwise
+    IsGivenExpression (FormatString' start n expressions) =
+        IsGivenPart IsToken (kind_of (lexeme_of start.token)) (first_part expressions) start × AreGivenParts (kind_of (lexeme_of start.token)) expressions
+    IsGivenExpression (Group' p contents) = IsGivenExpression contents
+    IsGivenExpression (Join' lhs operator q rhs) = IsGivenOptional lhs × IsToken operator × IsGivenExpression rhs
+    IsGivenExpression (List' n elements opener) = AreGivenExpressions elements × IsToken opener
+    IsGivenExpression (ListConcatenation' p lhs operator q rhs) = IsGivenExpression lhs × IsToken operator × IsGivenExpression rhs
+    IsGivenExpression (Not' p operand) = IsGivenExpression operand
+    IsGivenExpression (Or' p lhs q rhs) = IsGivenExpression lhs × IsGivenExpression rhs
+    IsGivenExpression (StringLiteral literal) = IsGivenLiteral expander IsToken literal
+    IsGivenExpression (Variable name number) = IsToken name.token × (number ≡ None)
+
+    pub IsGivenOptional : OptionalExpression → Type 0
+    IsGivenOptional None' = Unit {0}
+    IsGivenOptional (Some' p e) = IsGivenExpression e
+
+    pub AreGivenExpressions : {n : _} → ExpressionRow n → Type 0
+    AreGivenExpressions row_end = Unit {0}
+    AreGivenExpressions (row_more e others) = IsGivenExpression e × AreGivenExpressions others
+
+    -- what stands after the start of a format string of a kind
+    pub AreGivenParts : (kind : StringKind) → {n : _} → FormatRow n → Type 0
+    AreGivenParts kind format_row_end = Unit {0}
+    AreGivenParts kind (format_row_more e literal others) =
+        IsGivenExpression e × IsGivenPart IsToken kind (later_part others) literal × AreGivenParts kind others
+
+-- a name that begins with `_` is private
+abbrev pub is_private : List ℕ → Bool
+is_private name = slice_index name 0 == 95
+
+pub record IsGivenBinding (expander : Expansions) (IsToken : Token → Type 0) (file_depth : ℕ) (binding : Binding Expression) : Type 0 where
+  pub among : IsToken binding.name.token
+  pub file_depth_is : binding.file_depth ≡ file_depth
+  pub prelude : binding.prelude ≡ false
+  pub private : binding.private ≡ is_private (lexeme_of binding.name.token)
+  pub value : IsGivenExpression expander IsToken binding.value
+
+abbrev pub IsGivenFragment : Expansions → (Token → Type 0) → Fragment → Type 0
+IsGivenFragment expander IsToken (fragments.Interpolation expression) = IsGivenExpression expander IsToken expression
+IsGivenFragment expander IsToken (fragments.Text token) = IsToken token
+
+abbrev pub IsGivenLine : Expansions → (Token → Type 0) → Line → Type 0
+IsGivenLine expander IsToken line = All (IsGivenFragment expander IsToken) line.fragments.items
+
+-- the first line begins with a text that begins `#!`
+abbrev pub HasShebang : List Line → Type 0
+HasShebang lines = IsSomeAnd (slice_get lines 0) IsShebang
+
+pub record IsGivenRecipe (expander : Expansions) (IsToken : Token → Type 0) (file_depth : ℕ) (import_offsets : List ℕ) (recipe : UnresolvedRecipe) : Type 0 where
+  pub among : IsToken recipe.name.token
+  pub body : All (IsGivenLine expander IsToken) recipe.body.items
+  pub file_depth_is : recipe.file_depth ≡ file_depth
+  pub import_offsets_are : recipe.import_offsets.items ≡ import_offsets
+  pub private : recipe.private ≡ is_private (lexeme_of recipe.name.token)
+  pub shebang : IsTrue recipe.shebang ↔ HasShebang recipe.body.items
+
+abbrev pub IsGivenItem : Expansions → (Token → Type 0) → ℕ → List ℕ → Item → Type 0
+IsGivenItem expander IsToken file_depth import_offsets (Assignment binding) = IsGivenBinding expander IsToken file_depth binding
+IsGivenItem expander IsToken file_depth import_offsets (Comment text) = Unit {0}
+IsGivenItem expander IsToken file_depth import_offsets Newline = Unit {0}
+IsGivenItem expander IsToken file_depth import_offsets (Recipe recipe) = IsGivenRecipe expander IsToken file_depth import_offsets recipe
+
+-- Items, read so far from a file whose numbers the first numerator gives, where the next numerator gives the numbers of what follows.
+pub record IsGivenItems (expander : Expansions) (IsToken : Token → Type 0) (file_depth : ℕ) (import_offsets : List ℕ) (first next : Numerator) (items : List Item) : Type 0 where
+  pub given : All (IsGivenItem expander IsToken file_depth import_offsets) items
+  pub numbered : NumbersFrom (bindings_of first) (flat_map item_numbers items)
+  pub recipes_numbered : NumbersFrom (recipes_of first) (flat_map item_recipe_numbers items)
+  pub counted : bindings_of next ≡ bindings_of first + bindings (map item_of items)
+  pub recipes_counted : recipes_of next ≡ recipes_of first + recipes (map item_of items)

@@ -1,0 +1,136 @@
+-- What a method of the parser returns is what the definitions read.
+use Rattle.std.specs.Prelude.{◌≡◌, ℕ, ◌≤◌, ◌+◌, List, [], Option, Some, None, Result, Ok, Err, map}
+use Rattle.justfile_base.specs.Numerator.{bindings_of, constants_of, recipes_of}
+use Rattle.justfile_base.specs.declared.compile_error.CompileError.{CompileError}
+use Rattle.justfile_base.specs.declared.compile_error_kind.CompileErrorKind.{CompileErrorKind}
+use Rattle.justfile_base.specs.declared.compile_error_kind.CompileErrorKind.TheVariants as error_kinds
+use Rattle.justfile_base.specs.declared.fault.Fault.{Fault}
+use Rattle.justfile_base.specs.declared.fault.Fault.TheVariants as faults
+use Rattle.justfile_base.specs.declared.numerator.Numerator.{Numerator}
+use Rattle.justfile_base.specs.declared.token.Token.{Token}
+use Rattle.justfile_file.specs.Ast.{noted_of}
+use Rattle.justfile_file.specs.Item.{item_of}
+use Rattle.justfile_file.specs.declared.item.Item.{Item}
+use Rattle.justfile_model.specs.Features.{Noted}
+use Rattle.justfile_model.specs.Conditions.{Conditions}
+use Rattle.justfile_model.specs.Files.{NumbersSuffice, ordered}
+use Rattle.justfile_model.specs.SignificantTokens.{SignificantToken}
+use Rattle.justfile_model.specs.Tok.{Tok}
+use Rattle.justfile_model.specs.Tree.{WrittenTree}
+use Rattle.justfile_model.specs.TreeReader as tree
+use Rattle.justfile_model.specs.declared.list_feature.ListFeature.{ListFeature}
+use Rattle.justfile_parse.specs.Errors.{IsAt, IsErrorOf, IsUnexpected}
+use Rattle.justfile_parse.specs.Fault.{literal_fault}
+use Rattle.justfile_parse.specs.Filled.{AreNotedIn, IsGivenItems, IsInTable}
+use Rattle.justfile_parse.specs.Significant.{significant_of}
+use Rattle.justfile_model.specs.Reading as state
+use Rattle.justfile_model.specs.Reading.{Counters, refused}
+use Rattle.justfile_parse.specs.TableReader as table
+use Rattle.justfile_parse.specs.TableReader.{Read, State}
+use Rattle.justfile_parse.specs.WantsNumber.{WantsNumber, counters_of}
+use Rattle.justfile_parse.specs.declared.significant.TableEntry.{TableEntry}
+use Rattle.justfile_parse.specs.declared.stop.Refusal.{Refusal}
+use Rattle.justfile_parse.specs.declared.stop.Refusal.TheVariants.{Unexpected, TooDeep}
+use Rattle.justfile_parse.specs.declared.stop.Stop.{Stop}
+use Rattle.justfile_parse.specs.declared.stop.Stop.TheVariants as stops
+
+-- the refusal of a literal that its error says
+unfoldable pub literal_refusal : CompileError → table.Refusal
+literal_refusal error = state.NotCooked (literal_fault error.kind) error.token
+
+-- the refusal of the next entry
+abbrev pub refusal_at : Refusal → State → table.Refusal
+refusal_at Unexpected s = refused state.Unexpected s
+refusal_at TooDeep s = refused state.TooDeep s
+
+-- Where reading stopped, the next entry is refused, or a literal is, or numbers ran out. Running out of memory says nothing.
+abbrev pub StopsAt : {Y : Type 0} → Stop → State → (IsShort : Type 0) → Result Y table.Refusal → Type 0
+StopsAt (stops.Refused refusal) s IsShort found = found ≡ Err (refusal_at refusal s)
+StopsAt (stops.Literal refused) s IsShort found = found ≡ Err (literal_refusal refused.value.error)
+StopsAt stops.Memory s IsShort found = Unit {0}
+StopsAt stops.Numbers s IsShort found = IsShort
+
+-- What was returned, seen by `view`, and the state after it are what is read, or say why not.
+abbrev pub Reads : {X Y : Type 0} → (X → Y) → Result X Stop → State → Read Y → Type 0
+Reads view (Ok x) s found = found ≡ Ok (view x, s)
+Reads view (Err stop) s found = StopsAt stop s ⊥ found
+
+-- what was returned, and the state and the counters of the numerator after it, are what is read, or say why not
+abbrev pub ReadsNumbered : {X Y : Type 0} → (X → Y) → Result X Stop → Numerator → State → Read (Y × Counters) → Type 0
+ReadsNumbered view (Ok x) n s found = found ≡ Ok ((view x, counters_of n), s)
+ReadsNumbered view (Err stop) n s found = StopsAt stop s (found ≡ Err (state.NoNumber (counters_of n))) found
+
+-- The next entry of a state, and what is left after it; or nothing is left.
+abbrev pub Peeks : Option TableEntry → (here next : State) → Type 0
+Peeks (Some entry) here next = here ≡ state.with_next entry next
+Peeks None here next = here.left ≡ []
+
+-- What was taken, and the state after it, are what the definitions take; nothing was taken where they take nothing.
+abbrev pub Takes : {X : Type 0} → Option X → State → Option (X × State) → Type 0
+Takes (Some x) s found = found ≡ Some (x, s)
+Takes None s found = found ≡ None
+
+-- It holds of what was returned, or memory ran out.
+abbrev pub UnlessMemory : {X : Type 0} → Result X Stop → (X → Type 0) → Type 0
+UnlessMemory (Ok x) Holds = Holds x
+UnlessMemory (Err stop) Holds = stop ≡ stops.Memory
+
+-- the fault of a literal, as reading stops for it
+abbrev pub TextStops : Stop → Fault → Type 0
+TextStops (stops.Literal refused) (faults.Compile error) = refused.value.error ≡ error
+TextStops stops.Memory (faults.Compile error) = Unit {0}
+TextStops stops.Memory faults.Memory = Unit {0}
+TextStops stops.Numbers faults.Numbers = Unit {0}
+TextStops _ _ = ⊥
+
+-- bindings and recipes were numbered, together at most so many, and nothing else
+pub record IsMoved (old new : Numerator) (most : ℕ) : Type 0 where
+  pub least : bindings_of old ≤ bindings_of new
+  pub recipes_least : recipes_of old ≤ recipes_of new
+  pub most_is : bindings_of new + recipes_of new ≤ bindings_of old + recipes_of old + most
+  pub constants : constants_of new ≡ constants_of old
+
+-- the kind says why the token is refused
+abbrev pub IsKindAt : Refusal → CompileErrorKind → Token → Type 0
+IsKindAt Unexpected kind token = IsUnexpected kind token
+IsKindAt TooDeep kind token = kind ≡ error_kinds.ParsingRecursionDepthExceeded
+
+-- the error is that of the refusal, at this token
+abbrev pub IsErrorAt : Refusal → Token → CompileError → Type 0
+IsErrorAt refusal token error = IsKindAt refusal error.kind error.token × (error.token ≡ token)
+
+-- the token is the next one, or the last of the table where none is left
+abbrev pub IsNextPlace : List TableEntry → (next : Option TableEntry) → Token → Type 0
+IsNextPlace table (Some entry) token = token ≡ entry.token.now
+IsNextPlace table None token = IsInTable table token × IsAt (map significant_of table) None token
+
+-- The fault says why reading stopped: at the next token, or for a literal.
+abbrev pub IsFaultOf : List TableEntry → (next : Option TableEntry) → Stop → Fault → Type 0
+IsFaultOf table next (stops.Refused refusal) (faults.Compile e) = IsKindAt refusal e.kind e.token × IsNextPlace table next e.token
+IsFaultOf table next (stops.Literal refused) (faults.Compile e) = e ≡ refused.value.error
+IsFaultOf table next stops.Memory faults.Memory = Unit {0}
+IsFaultOf table next stops.Numbers faults.Numbers = Unit {0}
+IsFaultOf table next _ _ = ⊥
+
+-- The items are what the written tree that is read means, the features are those that are read, and the numerator gave the items' numbers.
+pub record IsRead (conditions : Conditions) (table : List TableEntry) (file_depth : ℕ) (import_offsets : List ℕ) (tokens : List SignificantToken) (old new : Numerator) (x : List Item × List (ListFeature × Token)) : Type 0 where
+  pub written : WrittenTree
+  pub read : tree.tree_of_tokens conditions tokens ≡ Ok (written, map noted_of x.1)
+  pub ordered_is : ordered written ≡ Some (map item_of x.0)
+  pub given : IsGivenItems conditions.expander (IsInTable table) file_depth import_offsets old new x.0
+  pub noted : AreNotedIn table x.1
+
+-- the error is that of the refusal, at such a token
+pub record IsReadError (conditions : Conditions) (tokens : List SignificantToken) (IsToken : Token → Type 0) (e : CompileError) : Type 0 where
+  pub refusal : tree.Refusal
+  pub read : tree.tree_of_tokens conditions tokens ≡ Err refusal
+  pub error : IsErrorOf tokens refusal e
+  pub among : IsToken e.token
+
+-- The fault says why nothing was read. Where a number was wanted, no tree that is read has numbers enough.
+abbrev pub IsUnread : Conditions → List SignificantToken → (Token → Type 0) → Numerator → Numerator → Fault → Type 0
+IsUnread conditions tokens IsToken old new (faults.Compile e) = IsReadError conditions tokens IsToken e
+IsUnread conditions tokens IsToken old new faults.Memory = Unit {0}
+IsUnread conditions tokens IsToken old new faults.Numbers =
+    WantsNumber conditions tokens old new
+    × ((t : WrittenTree) (features : List (Noted Tok)) → tree.tree_of_tokens conditions tokens ≡ Ok (t, features) → NumbersSuffice (bindings_of old) (recipes_of old) t → ⊥)

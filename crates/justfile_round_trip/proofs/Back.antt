@@ -1,0 +1,381 @@
+-- What derives an expression: so do the printer's tokens of it, with the same features, under every limit under which the source stands.
+use Rattle.std.proofs.Common.{◌≡◌, ◌≢◌, ℕ, ◌+◌, ◌≤◌, Bool, true, false, cond, ◌&&◌, List, [], ◌∷◌, ◌++◌, Option, refl, sym, subst, ap, ◌∙◌, arith, codes}
+use Rattle.std.proofs.lemmas.List.{append-nil}
+use Rattle.justfile_base.specs.declared.token_kind.TokenKind.{TokenKind}
+use Rattle.justfile_base.specs.declared.token_kind.TokenKind.TheVariants as kinds
+use Rattle.justfile_model.specs.declared.conditional_operator.ConditionalOperator.TheVariants.{Equality, Inequality, RegexMatch, RegexMismatch}
+use Rattle.justfile_model.specs.Tok.{Tok}
+use Rattle.justfile_model.specs.SignificantTokens.{SignificantToken}
+use Rattle.justfile_model.specs.Tree as tree
+use Rattle.justfile_model.specs.Tree.{lexeme, nothing}
+use Rattle.justfile_model.specs.Features.{Noted, uncompared}
+use Rattle.justfile_model.specs.Expressions as g
+use Rattle.justfile_model.specs.Expressions.{Tokens, ends_open, IsKind, NotNext, IsWord, NotWord, IsMarked, NotMarked, Unmarked, NotCompared, NotJoined, Expression, Disjunct, Compared, Conjunct, Condition, Braced, Conditional, Value, Sequence, FormatParts}
+use Rattle.justfile_model.specs.Printing.{is_conditional}
+use Rattle.justfile_round_trip.proofs.Reading.{Mark, mark, placed}
+use Rattle.justfile_round_trip.proofs.Canon as canon
+use Rattle.justfile_round_trip.proofs.Canon.{Shown, Values, Pieces, space, word, brace_left, brace_right, paren_left, paren_right, comma, expr_marks, exprs_marks, others_marks, parts_marks}
+use Rattle.justfile_round_trip.proofs.Good.{significant, closes}
+use Rattle.justfile_round_trip.proofs.Ends.{End, OfName, OfValue, OfOpen, OfClosed, tail, EndsIn, ValueEndsIn, SameHead, same_head, value_head, expression_head}
+
+-- ---- what follows
+
+abbrev is_string : TokenKind → Bool
+is_string kinds.StringToken = true
+is_string kinds.FormatStringStart = true
+is_string _ = false
+
+abbrev glued_string : Tokens → Bool
+glued_string [] = false
+glued_string (t ∷ ts) = is_string t.tok.kind && t.glued
+
+-- nothing goes on: a string that would be marked, a comparison, `&&`, `||`
+record StopC (ts : Tokens) : Type 0 where
+  apart : glued_string ts ≡ false
+
+record StopM (ts : Tokens) : Type 0 where
+  conjunct : StopC ts
+  compared : NotCompared ts
+
+record StopD (ts : Tokens) : Type 0 where
+  comparison : StopM ts
+  and : NotNext kinds.AmpersandAmpersand ts
+
+pub record StopE (ts : Tokens) : Type 0 where
+  disjunct : StopD ts
+  or : NotNext kinds.BarBar ts
+
+abbrev ends_here : TokenKind → Bool
+ends_here kinds.ParenL = false
+ends_here kinds.Slash = false
+ends_here kinds.PlusPlus = false
+ends_here kinds.Plus = false
+ends_here kinds.Identifier = false
+ends_here _ = true
+
+no_string : (kind : TokenKind) → closes kind ≡ true → is_string kind ≡ false
+no_string kinds.StringToken h = cc
+no_string kinds.FormatStringStart h = cc
+no_string _ h = refl
+
+pub here_too : (kind : TokenKind) → closes kind ≡ true → ends_here kind ≡ true
+here_too kinds.ParenL h = cc
+here_too kinds.Slash h = cc
+here_too kinds.PlusPlus h = cc
+here_too kinds.Plus h = cc
+here_too kinds.Identifier h = cc
+here_too _ h = refl
+
+other : (f : TokenKind → Bool) (t : SignificantToken) (ts : Tokens) (kind : TokenKind) → f t.tok.kind ≡ true → f kind ≡ false → NotNext kind (t ∷ ts)
+other f t ts kind h n = λ e. let c : true ≡ false = sym h ∙ ap f e ∙ n in cc
+
+pub stop_before : (t : SignificantToken) (ts : Tokens) → closes t.tok.kind ≡ true → StopE (t ∷ ts)
+stop_before t ts h = record {
+  or = other closes t ts kinds.BarBar h refl;
+  disjunct = record {
+    and = other closes t ts kinds.AmpersandAmpersand h refl;
+    comparison = record {
+      compared = record {
+        equality = other closes t ts kinds.EqualsEquals h refl;
+        inequality = other closes t ts kinds.BangEquals h refl;
+        regex_match = other closes t ts kinds.EqualsTilde h refl;
+        regex_mismatch = other closes t ts kinds.BangTilde h refl;
+      };
+      conjunct = record { apart = ap (λ b. b && t.glued) (no_string t.tok.kind h) };
+    };
+  };
+}
+
+not_joined : (t : SignificantToken) (ts : Tokens) → ends_here t.tok.kind ≡ true → NotJoined (t ∷ ts)
+not_joined t ts h = record { join = other ends_here t ts kinds.Slash h refl; list_concatenation = other ends_here t ts kinds.PlusPlus h refl; concatenation = other ends_here t ts kinds.Plus h refl }
+
+pub ends_before : (x : End) (t : SignificantToken) (ts : Tokens) → ends_here t.tok.kind ≡ true → EndsIn x (t ∷ ts)
+ends_before OfName t ts h = record { is = (other ends_here t ts kinds.ParenL h refl, not_joined t ts h) }
+ends_before OfValue t ts h = record { is = (tt, not_joined t ts h) }
+ends_before OfOpen t ts h = record { is = (tt, λ i. let c : true ≡ false = sym h ∙ ap ends_here i.is_name in cc) }
+ends_before OfClosed t ts h = record { is = (tt, tt) }
+
+value_before : (x : End) (t : SignificantToken) (ts : Tokens) → t.tok.kind ≢ kinds.ParenL → ValueEndsIn x (t ∷ ts)
+value_before OfName t ts h = record { is = h }
+value_before OfValue t ts h = record { is = tt }
+value_before OfOpen t ts h = record { is = tt }
+value_before OfClosed t ts h = record { is = tt }
+
+-- `)` or `]`
+abbrev closer : (paren : Bool) → Mark
+closer true = paren_right
+closer false = mark kinds.BracketR (codes "]")
+
+closer_stop : (p : Bool) (on : List Mark) → StopE (significant true (closer p ∷ on))
+closer_stop true on = stop_before _ _ refl
+closer_stop false on = stop_before _ _ refl
+
+closer_ends : (x : End) (p : Bool) (on : List Mark) → EndsIn x (significant true (closer p ∷ on))
+closer_ends x true on = ends_before x _ _ refl
+closer_ends x false on = ends_before x _ _ refl
+
+parts_stop : (ps : Pieces) (on : List Mark) → StopE (significant false (parts_marks ps on))
+parts_stop (tree.Last t) on = stop_before _ _ refl
+parts_stop (tree.Continue t e ps) on = stop_before _ _ refl
+
+parts_ends : (x : End) (ps : Pieces) (on : List Mark) → EndsIn x (significant false (parts_marks ps on))
+parts_ends x (tree.Last t) on = ends_before x _ _ refl
+parts_ends x (tree.Continue t e ps) on = ends_before x _ _ refl
+
+marked_apart : (w : List ℕ) (kind : TokenKind) (m : SignificantToken) (ts : Tokens) → is_string kind ≡ true → glued_string ts ≡ false → NotMarked w kind m ts
+marked_apart w kind m [] s h = tt
+marked_apart w kind m (t ∷ ts) s h = λ x.
+    let one : is_string t.tok.kind ≡ true = ap is_string x.is_string ∙ s in
+    let both : (is_string t.tok.kind && t.glued) ≡ true = rw (one, x.glued) refl in
+    let c : true ≡ false = sym both ∙ h in cc
+
+unmarked_apart : (m : SignificantToken) (ts : Tokens) → glued_string ts ≡ false → Unmarked m ts
+unmarked_apart m ts h = record { expanded = marked_apart (codes "x") kinds.StringToken m ts refl h; literal = marked_apart (codes "f") kinds.StringToken m ts refl h; format = marked_apart (codes "f") kinds.FormatStringStart m ts refl h }
+
+no_bool : true ≡ false → ⊥
+no_bool e = cc
+
+-- ---- what comes first
+
+next_head : {b : Bool} (kind : TokenKind) {ts us : Tokens} → SameHead b ts us → NotNext kind ts → NotNext kind us
+next_head kind (same_head e f g) h = λ x. h (e ∙ x)
+
+word_head : {b : Bool} (w : List ℕ) {ts us : Tokens} → SameHead b ts us → NotWord w ts → NotWord w us
+word_head w (same_head e f g) h = λ i. h (record { is_name = e ∙ i.is_name; spelled = f i.is_name ∙ i.spelled })
+
+-- ---- conditionals
+
+abbrev following : List Mark → List Mark
+following [] = []
+following (t ∷ ts) = ts
+
+abbrev if_token : Bool → SignificantToken
+if_token b = record { tok = placed (word (codes "if")) 0 0 0; glued = b }
+
+if_first : (o : canon.Value) (on : List Mark) (b : Bool) → is_conditional o ≡ true → significant b (expr_marks o on) ≡ if_token b ∷ significant true (following (expr_marks o on))
+if_first (tree.If c t) on b h = refl
+if_first (tree.IfElse c t o) on b h = refl
+if_first _ on b h = cc
+
+tail_conditional : (o : canon.Value) → is_conditional o ≡ true → tail o ≡ cond (ends_open o) OfOpen OfClosed
+tail_conditional (tree.If c t) h = refl
+tail_conditional (tree.IfElse c t o) h = refl
+tail_conditional _ h = cc
+
+no_else : (b : Bool) {ts : Tokens} → EndsIn (cond b OfOpen OfClosed) ts → b ≡ true → NotWord (codes "else") ts
+no_else true h e = h.is.1
+no_else false h e = cc
+
+is_word : (w : List ℕ) {b : Bool} → IsWord w (record { tok = placed (word w) 0 0 0; glued = b })
+is_word w = record { is_name = refl; spelled = refl }
+
+is_marked : (w : List ℕ) (kind : TokenKind) (l : List ℕ) {b : Bool} → IsMarked w kind (record { tok = placed (word w) 0 0 0; glued = b }) (record { tok = placed (mark kind l) 0 0 0; glued = true })
+is_marked w kind l = record { marks = is_word w; is_string = refl; glued = refl }
+
+-- the features of no expressions are none
+no_features : {A B : Type 0} {leaf : Tok → A} {spot : Tok → B} {Open : ℕ → Option SignificantToken → Type 0} {kind : TokenKind} {d : ℕ} {fs : List (Noted B)} {ts rest : Tokens} → Sequence leaf spot Open kind d tree.none fs ts rest → fs ≡ []
+no_features (g.none kind) = refl
+
+module _ (Open Open' : ℕ → Option SignificantToken → Type 0) (lower : (d d' : ℕ) (a b : Option SignificantToken) → d' ≤ d → Open d a → Open' d' b) where
+  -- from any tokens that it begins alike
+  as_condition : {d : ℕ} {e : canon.Value} {fs : Shown} {b : Bool} {ts us rest : Tokens} → SameHead b ts us → Expression lexeme nothing Open' true d e fs us rest → Condition lexeme nothing Open' d e (fs ++ uncompared e tt) us rest
+  as_condition (same_head kind spelled glued) x = g.condition x
+
+  value_no_conditional : {d : ℕ} {e : canon.Value} {fs : Shown} {ts rest : Tokens} → Value lexeme nothing Open d e fs ts rest → is_conditional e ≡ true → ⊥
+  value_no_conditional (g.not kind v) = λ e. cc
+  value_no_conditional (g.literal kind) = λ e. cc
+  value_no_conditional (g.expanded m) = λ e. cc
+  value_no_conditional (g.format_literal m) = λ e. cc
+  value_no_conditional (g.format_string m e ps) = λ e. cc
+  value_no_conditional (g.backtick kind) = λ e. cc
+  value_no_conditional (g.assert w kind c kind2) = λ e. cc
+  value_no_conditional (g.assert_message w kind c kind2 m kind3) = λ e. cc
+  value_no_conditional (g.variable kind no_assert unmarked next) = λ e. cc
+  value_no_conditional (g.call kind no_assert kind2 s) = λ e. cc
+  value_no_conditional (g.group kind e kind2) = λ e. cc
+  value_no_conditional (g.list kind s) = λ e. cc
+
+  conditional_yes : {d : ℕ} {w : SignificantToken} {e : canon.Value} {fs : Shown} {ts rest : Tokens} → Conditional lexeme nothing Open d w e fs ts rest → is_conditional e ≡ true
+  conditional_yes (g.if_only c b next) = refl
+  conditional_yes (g.if_else c b w o next) = refl
+  conditional_yes (g.else_if c b w i o) = refl
+
+  -- what a value's end leaves to the operators
+  value_joined : {d : ℕ} {e : canon.Value} {fs : Shown} {ts rest us : Tokens} → Value lexeme nothing Open d e fs ts rest → EndsIn (tail e) us → ValueEndsIn (tail e) us × NotJoined us
+  value_joined (g.not kind v) h = value_joined v h
+  value_joined (g.literal kind) h = (record { is = tt }, h.is.1)
+  value_joined (g.expanded m) h = (record { is = tt }, h.is.1)
+  value_joined (g.format_literal m) h = (record { is = tt }, h.is.1)
+  value_joined (g.format_string m e ps) h = (record { is = tt }, h.is.1)
+  value_joined (g.backtick kind) h = (record { is = tt }, h.is.1)
+  value_joined (g.assert w kind c kind2) h = (record { is = tt }, h.is.1)
+  value_joined (g.assert_message w kind c kind2 m kind3) h = (record { is = tt }, h.is.1)
+  value_joined (g.variable kind no_assert unmarked next) h = (record { is = h.is.0 }, h.is.1)
+  value_joined (g.call kind no_assert kind2 s) h = (record { is = tt }, h.is.1)
+  value_joined (g.group kind e kind2) h = (record { is = tt }, h.is.1)
+  value_joined (g.list kind s) h = (record { is = tt }, h.is.1)
+
+  end_none : (p : Bool) (d : ℕ) (b : Bool) (on : List Mark) → Sequence lexeme nothing Open' (closer p).kind d tree.none [] (significant b (closer p ∷ on)) (significant true on)
+  end_none true d b on = g.none refl
+  end_none false d b on = g.none refl
+
+  end_last : (p : Bool) (d : ℕ) (e : canon.Value) (fs : Shown) (ts : Tokens) (on : List Mark) → NotNext (closer p).kind ts → Expression lexeme nothing Open' false d e fs ts (significant true (closer p ∷ on))
+      → Sequence lexeme nothing Open' (closer p).kind d (tree.more e tree.none) fs ts (significant true on)
+  end_last true d e fs ts on next h = g.last next h refl
+  end_last false d e fs ts on next h = g.last next h refl
+
+  -- an element and those after it
+  joined : (p : Bool) (d : ℕ) (e : canon.Value) (es : Values) (fs gs : Shown) (on : List Mark) (b : Bool) → NotNext (closer p).kind (significant b (expr_marks e (others_marks es (closer p ∷ on))))
+      → ((on' : List Mark) → EndsIn (tail e) (significant true on') → StopE (significant true on') → Expression lexeme nothing Open' false d e fs (significant b (expr_marks e on')) (significant true on'))
+      → Sequence lexeme nothing Open' (closer p).kind d es gs (significant false (exprs_marks es (closer p ∷ on))) (significant true on)
+      → Sequence lexeme nothing Open' (closer p).kind d (tree.more e es) (fs ++ gs) (significant b (expr_marks e (others_marks es (closer p ∷ on)))) (significant true on)
+  joined p d e tree.none fs gs on b next f q =
+      subst (λ x. Sequence lexeme nothing Open' (closer p).kind d (tree.more e tree.none) x (significant b (expr_marks e (closer p ∷ on))) (significant true on)) (sym (append-nil fs) ∙ ap (λ x. fs ++ x) (sym (no_features q)))
+      (end_last p d e fs _ on next (f (closer p ∷ on) (closer_ends (tail e) p on) (closer_stop p on)))
+  joined p d e (tree.more e2 es) fs gs on b next f q = g.more next (f (others_marks (tree.more e2 es) (closer p ∷ on)) (ends_before (tail e) _ _ refl) (stop_before _ _ refl)) refl q
+
+  -- both ways to print another branch
+  branched : (d : ℕ) (w : SignificantToken) (c t o : canon.Value) (cs bs os : Shown) (on : List Mark) (b : Bool) → is_conditional o ≡ b
+      → ((on' : List Mark) → EndsIn (tail c) (significant true on') → StopE (significant true on') → Condition lexeme nothing Open' d c cs (significant false (expr_marks c on')) (significant true on'))
+      → ((on' : List Mark) → Braced lexeme nothing Open' d t bs (significant false (brace_left ∷ space ∷ expr_marks t (space ∷ brace_right ∷ on'))) (significant true on'))
+      → (is_conditional o ≡ false → Braced lexeme nothing Open' d o os (significant false (brace_left ∷ space ∷ expr_marks o (space ∷ brace_right ∷ on))) (significant true on))
+      → (is_conditional o ≡ true → Conditional lexeme nothing Open' d (if_token false) o os (significant true (following (expr_marks o on))) (significant true on))
+      → (ends_open o ≡ true → NotWord (codes "else") (significant true on))
+      → Conditional lexeme nothing Open' d w (tree.IfElse c t o) (cs ++ bs ++ os)
+      (significant false (expr_marks c (space ∷ brace_left ∷ space ∷ expr_marks t (space ∷ brace_right ∷ space ∷ word (codes "else") ∷ space
+      ∷ cond b (expr_marks o on) (brace_left ∷ space ∷ expr_marks o (space ∷ brace_right ∷ on)))))) (significant true on)
+  branched d w c t o cs bs os on false is fc ft fb fo next =
+      g.if_else (fc _ (ends_before (tail c) _ _ refl) (stop_before _ _ refl)) (ft _) (is_word (codes "else")) (fb is) next
+  branched d w c t o cs bs os on true is fc ft fb fo next =
+      let first : significant false (expr_marks o on) ≡ if_token false ∷ significant true (following (expr_marks o on)) = if_first o on false is in
+      let else_token : SignificantToken = record { tok = placed (word (codes "else")) 0 0 0; glued = false } in
+      let B : Tokens → Type 0 = λ s. Braced lexeme nothing Open' d t bs (significant false (brace_left ∷ space ∷ expr_marks t (space ∷ brace_right ∷ space ∷ word (codes "else") ∷ space ∷ expr_marks o on))) (else_token ∷ s) in
+      g.else_if (fc _ (ends_before (tail c) _ _ refl) (stop_before _ _ refl)) (subst B first (ft (space ∷ word (codes "else") ∷ space ∷ expr_marks o on))) (is_word (codes "else")) (is_word (codes "if")) (fo is)
+
+  put_if : {d d' : ℕ} {w : SignificantToken} {e : canon.Value} {fs gs : Shown} {ts rest : Tokens} → Conditional lexeme nothing Open d w e fs ts rest → (b : Bool) (on : List Mark)
+      → Conditional lexeme nothing Open' d' (if_token b) e gs (significant true (following (expr_marks e on))) (significant true on) → Conjunct lexeme nothing Open' d' e gs (significant b (expr_marks e on)) (significant true on)
+  put_if (g.if_only c x next) b on q = g.conditional (is_word (codes "if")) q
+  put_if (g.if_else c x w o next) b on q = g.conditional (is_word (codes "if")) q
+  put_if (g.else_if c x w i o) b on q = g.conditional (is_word (codes "if")) q
+
+  mutual
+    pub expression_back : {condition : Bool} {d : ℕ} {e : canon.Value} {fs : Shown} {ts rest : Tokens} → Expression lexeme nothing Open condition d e fs ts rest → (d' : ℕ) → d' ≤ d → (b : Bool) (on : List Mark) → EndsIn (tail e) (significant true on) → StopE (significant true on)
+        → Expression lexeme nothing Open' condition d' e fs (significant b (expr_marks e on)) (significant true on)
+    expression_back {d = d} (g.or o l kind r) d' le b on ends stop =
+        g.or (lower d d' _ _ le o) (disjunct_back l (d' + 1) (omega arith) b _ (ends_before _ _ _ refl) (record { and = λ e. cc; comparison = record { compared = record { equality = λ e. cc; inequality = λ e. cc; regex_match = λ e. cc; regex_mismatch = λ e. cc }; conjunct = record { apart = refl } } })) refl
+        (expression_back r (d' + 1) (omega arith) false on ends stop)
+    expression_back {d = d} (g.disjunct o l next) d' le b on ends stop = g.disjunct (lower d d' _ _ le o) (disjunct_back l (d' + 1) (omega arith) b on ends stop.disjunct) stop.or
+
+    disjunct_back : {condition : Bool} {d : ℕ} {e : canon.Value} {fs : Shown} {ts rest : Tokens} → Disjunct lexeme nothing Open condition d e fs ts rest → (d' : ℕ) → d' ≤ d → (b : Bool) (on : List Mark) → EndsIn (tail e) (significant true on) → StopD (significant true on)
+        → Disjunct lexeme nothing Open' condition d' e fs (significant b (expr_marks e on)) (significant true on)
+    disjunct_back (g.and l kind r) d' le b on ends stop =
+        g.and (compared_back l d' le b _ (ends_before _ _ _ refl) (record { compared = record { equality = λ e. cc; inequality = λ e. cc; regex_match = λ e. cc; regex_mismatch = λ e. cc }; conjunct = record { apart = refl } })) refl (disjunct_back r d' le false on ends stop)
+    disjunct_back (g.comparison l next) d' le b on ends stop = g.comparison (compared_back l d' le b on ends stop.comparison) stop.and
+
+    compared_back : {condition : Bool} {d : ℕ} {e : canon.Value} {fs : Shown} {ts rest : Tokens} → Compared lexeme nothing Open condition d e fs ts rest → (d' : ℕ) → d' ≤ d → (b : Bool) (on : List Mark) → EndsIn (tail e) (significant true on) → StopM (significant true on)
+        → Compared lexeme nothing Open' condition d' e fs (significant b (expr_marks e on)) (significant true on)
+    compared_back (g.compare Equality l kind r) d' le b on ends stop =
+        g.compare Equality (conjunct_back l d' le b _ (ends_before _ _ _ refl) (record { apart = refl })) refl (conjunct_back r d' le false on ends stop.conjunct)
+    compared_back (g.compare Inequality l kind r) d' le b on ends stop =
+        g.compare Inequality (conjunct_back l d' le b _ (ends_before _ _ _ refl) (record { apart = refl })) refl (conjunct_back r d' le false on ends stop.conjunct)
+    compared_back (g.compare RegexMatch l kind r) d' le b on ends stop =
+        g.compare RegexMatch (conjunct_back l d' le b _ (ends_before _ _ _ refl) (record { apart = refl })) refl (conjunct_back r d' le false on ends stop.conjunct)
+    compared_back (g.compare RegexMismatch l kind r) d' le b on ends stop =
+        g.compare RegexMismatch (conjunct_back l d' le b _ (ends_before _ _ _ refl) (record { apart = refl })) refl (conjunct_back r d' le false on ends stop.conjunct)
+    compared_back (g.conjunct l next) d' le b on ends stop = g.conjunct (conjunct_back l d' le b on ends stop.conjunct) stop.compared
+
+    conjunct_back : {d : ℕ} {e : canon.Value} {fs : Shown} {ts rest : Tokens} → Conjunct lexeme nothing Open d e fs ts rest → (d' : ℕ) → d' ≤ d → (b : Bool) (on : List Mark) → EndsIn (tail e) (significant true on) → StopC (significant true on)
+        → Conjunct lexeme nothing Open' d' e fs (significant b (expr_marks e on)) (significant true on)
+    conjunct_back (g.conditional i c) d' le b on ends stop = put_if c b on (conditional_back c (if_token b) d' le on ends)
+    conjunct_back (g.root kind r) d' le b on ends stop = g.root refl (conjunct_back r d' le false on ends stop)
+    conjunct_back (g.join next l kind r) d' le b on ends stop =
+        g.join (word_head (codes "if") (value_head Open l b _) next) (value_back l d' le b _ (value_before _ _ _ (λ e. cc)) refl) refl (conjunct_back r d' le false on ends stop)
+    conjunct_back (g.list_concatenation next l kind r) d' le b on ends stop =
+        g.list_concatenation (word_head (codes "if") (value_head Open l b _) next) (value_back l d' le b _ (value_before _ _ _ (λ e. cc)) refl) refl (conjunct_back r d' le false on ends stop)
+    conjunct_back (g.concatenation next l kind r) d' le b on ends stop =
+        g.concatenation (word_head (codes "if") (value_head Open l b _) next) (value_back l d' le b _ (value_before _ _ _ (λ e. cc)) refl) refl (conjunct_back r d' le false on ends stop)
+    conjunct_back (g.value next v unjoined) d' le b on ends stop =
+        let x = value_joined v ends in
+        g.value (word_head (codes "if") (value_head Open v b _) next) (value_back v d' le b on x.0 stop.apart) x.1
+
+    condition_back : {d : ℕ} {e : canon.Value} {fs : Shown} {ts rest : Tokens} → Condition lexeme nothing Open d e fs ts rest → (d' : ℕ) → d' ≤ d → (b : Bool) (on : List Mark) → EndsIn (tail e) (significant true on) → StopE (significant true on)
+        → Condition lexeme nothing Open' d' e fs (significant b (expr_marks e on)) (significant true on)
+    condition_back (g.condition x) d' le b on ends stop = as_condition (expression_head Open x b on) (expression_back x d' le b on ends stop)
+
+    braced_back : {d : ℕ} {e : canon.Value} {fs : Shown} {ts rest : Tokens} → Braced lexeme nothing Open d e fs ts rest → (d' : ℕ) → d' ≤ d → (on : List Mark)
+        → Braced lexeme nothing Open' d' e fs (significant false (brace_left ∷ space ∷ expr_marks e (space ∷ brace_right ∷ on))) (significant true on)
+    braced_back (g.braces kind e kind2) d' le on = g.braces refl (expression_back e d' le false _ (ends_before _ _ _ refl) (stop_before _ _ refl)) refl
+
+    -- after the `if`
+    conditional_back : {d : ℕ} {w : SignificantToken} {e : canon.Value} {fs : Shown} {ts rest : Tokens} → Conditional lexeme nothing Open d w e fs ts rest → (w' : SignificantToken) (d' : ℕ) → d' ≤ d → (on : List Mark) → EndsIn (tail e) (significant true on)
+        → Conditional lexeme nothing Open' d' w' e fs (significant true (following (expr_marks e on))) (significant true on)
+    conditional_back (g.if_only c t next) w' d' le on ends =
+        g.if_only (condition_back c d' le false _ (ends_before _ _ _ refl) (stop_before _ _ refl)) (braced_back t d' le on) ends.is.1
+    conditional_back (g.if_else {c = c'} {b = t'} {o = o'} {cs} {bs} {os} c t w o next) w' d' le on ends =
+        branched d' w' c' t' o' cs bs os on (is_conditional o') refl (condition_back c d' le false) (braced_back t d' le) (λ _. braced_back o d' le on)
+        (λ is. braced_conditional o is d' le on (subst (λ x. EndsIn x (significant true on)) (sym (tail_conditional o' is)) ends)) (no_else (ends_open o') ends)
+    conditional_back (g.else_if {c = c'} {b = t'} {o = o'} {cs} {bs} {os} c t w i o) w' d' le on ends =
+        branched d' w' c' t' o' cs bs os on (is_conditional o') refl (condition_back c d' le false) (braced_back t d' le) (λ is. let x = conditional_yes o in absurd (no_bool (sym x ∙ is)))
+        (λ is. conditional_back o (if_token false) d' le on (subst (λ x. EndsIn x (significant true on)) (sym (tail_conditional o' is)) ends)) (no_else (ends_open o') ends)
+
+    -- a conditional in braces
+    braced_conditional : {d : ℕ} {e : canon.Value} {fs : Shown} {ts rest : Tokens} → Braced lexeme nothing Open d e fs ts rest → is_conditional e ≡ true → (d' : ℕ) → d' ≤ d → (on : List Mark) → EndsIn (tail e) (significant true on)
+        → Conditional lexeme nothing Open' d' (if_token false) e fs (significant true (following (expr_marks e on))) (significant true on)
+    braced_conditional (g.braces kind e kind2) is d' le on ends = expression_conditional e is d' le on ends
+
+    expression_conditional : {condition : Bool} {d : ℕ} {e : canon.Value} {fs : Shown} {ts rest : Tokens} → Expression lexeme nothing Open condition d e fs ts rest → is_conditional e ≡ true → (d' : ℕ) → d' ≤ d → (on : List Mark) → EndsIn (tail e) (significant true on)
+        → Conditional lexeme nothing Open' d' (if_token false) e fs (significant true (following (expr_marks e on))) (significant true on)
+    expression_conditional (g.or o l kind r) is d' le on ends = absurd (no_bool (sym is))
+    expression_conditional (g.disjunct o l next) is d' le on ends = disjunct_conditional l is d' (omega arith) on ends
+
+    disjunct_conditional : {condition : Bool} {d : ℕ} {e : canon.Value} {fs : Shown} {ts rest : Tokens} → Disjunct lexeme nothing Open condition d e fs ts rest → is_conditional e ≡ true → (d' : ℕ) → d' ≤ d → (on : List Mark) → EndsIn (tail e) (significant true on)
+        → Conditional lexeme nothing Open' d' (if_token false) e fs (significant true (following (expr_marks e on))) (significant true on)
+    disjunct_conditional (g.and l kind r) is d' le on ends = absurd (no_bool (sym is))
+    disjunct_conditional (g.comparison l next) is d' le on ends = compared_conditional l is d' le on ends
+
+    compared_conditional : {condition : Bool} {d : ℕ} {e : canon.Value} {fs : Shown} {ts rest : Tokens} → Compared lexeme nothing Open condition d e fs ts rest → is_conditional e ≡ true → (d' : ℕ) → d' ≤ d → (on : List Mark) → EndsIn (tail e) (significant true on)
+        → Conditional lexeme nothing Open' d' (if_token false) e fs (significant true (following (expr_marks e on))) (significant true on)
+    compared_conditional (g.compare by l kind r) is d' le on ends = absurd (no_bool (sym is))
+    compared_conditional (g.conjunct l next) is d' le on ends = conjunct_conditional l is d' le on ends
+
+    conjunct_conditional : {d : ℕ} {e : canon.Value} {fs : Shown} {ts rest : Tokens} → Conjunct lexeme nothing Open d e fs ts rest → is_conditional e ≡ true → (d' : ℕ) → d' ≤ d → (on : List Mark) → EndsIn (tail e) (significant true on)
+        → Conditional lexeme nothing Open' d' (if_token false) e fs (significant true (following (expr_marks e on))) (significant true on)
+    conjunct_conditional (g.conditional i c) is d' le on ends = conditional_back c (if_token false) d' le on ends
+    conjunct_conditional (g.root kind r) is d' le on ends = absurd (no_bool (sym is))
+    conjunct_conditional (g.join next l kind r) is d' le on ends = absurd (no_bool (sym is))
+    conjunct_conditional (g.list_concatenation next l kind r) is d' le on ends = absurd (no_bool (sym is))
+    conjunct_conditional (g.concatenation next l kind r) is d' le on ends = absurd (no_bool (sym is))
+    conjunct_conditional (g.value next v unjoined) is d' le on ends = absurd (value_no_conditional v is)
+
+    value_back : {d : ℕ} {e : canon.Value} {fs : Shown} {ts rest : Tokens} → Value lexeme nothing Open d e fs ts rest → (d' : ℕ) → d' ≤ d → (b : Bool) (on : List Mark) → ValueEndsIn (tail e) (significant true on) → glued_string (significant true on) ≡ false
+        → Value lexeme nothing Open' d' e fs (significant b (expr_marks e on)) (significant true on)
+    value_back (g.not kind v) d' le b on ends apart = g.not refl (value_back v d' le true on ends apart)
+    value_back (g.literal kind) d' le b on ends apart = g.literal refl
+    value_back (g.expanded {token} m) d' le b on ends apart = g.expanded (is_marked (codes "x") kinds.StringToken token.tok.lexeme)
+    value_back (g.format_literal {token} m) d' le b on ends apart = g.format_literal (is_marked (codes "f") kinds.StringToken token.tok.lexeme)
+    value_back (g.format_string {ps = ps'} {start} m e ps) d' le b on ends apart =
+        g.format_string (is_marked (codes "f") kinds.FormatStringStart start.tok.lexeme) (expression_back e d' le false _ (parts_ends _ ps' on) (parts_stop ps' on)) (parts_back ps d' le false on)
+    value_back (g.backtick kind) d' le b on ends apart = g.backtick refl
+    value_back (g.assert w kind c kind2) d' le b on ends apart =
+        g.assert (is_word (codes "assert")) refl (condition_back c d' le true _ (ends_before _ _ _ refl) (stop_before _ _ refl)) refl
+    value_back (g.assert_message w kind c kind2 m kind3) d' le b on ends apart =
+        g.assert_message (is_word (codes "assert")) refl (condition_back c d' le true _ (ends_before _ _ _ refl) (stop_before _ _ refl)) refl (expression_back m d' le false _ (ends_before _ _ _ refl) (stop_before _ _ refl)) refl
+    value_back (g.variable kind no_assert unmarked next) d' le b on ends apart =
+        g.variable refl (λ w. no_assert (record { is_name = kind; spelled = w.spelled })) (unmarked_apart _ _ apart) ends.is
+    value_back (g.call kind no_assert kind2 s) d' le b on ends apart =
+        g.call refl (λ w. no_assert (record { is_name = kind; spelled = w.spelled })) refl (sequence_back true s refl d' le true on)
+    value_back (g.group kind e kind2) d' le b on ends apart = g.group refl (expression_back e d' le true _ (ends_before _ _ _ refl) (stop_before _ _ refl)) refl
+    value_back (g.list kind s) d' le b on ends apart = g.list refl (sequence_back false s refl d' le true on)
+
+    sequence_back : (p : Bool) {closing : TokenKind} {d : ℕ} {es : Values} {fs : Shown} {ts rest : Tokens} → Sequence lexeme nothing Open closing d es fs ts rest → closing ≡ (closer p).kind → (d' : ℕ) → d' ≤ d → (b : Bool) (on : List Mark)
+        → Sequence lexeme nothing Open' (closer p).kind d' es fs (significant b (exprs_marks es (closer p ∷ on))) (significant true on)
+    sequence_back p (g.none kind) same d' le b on = end_none p d' b on
+    sequence_back p {closing} (g.last {e = e'} {fs} next e kind) same d' le b on =
+        end_last p d' e' fs _ on (subst (λ k. NotNext k (significant b (expr_marks e' (closer p ∷ on)))) same (next_head closing (expression_head Open e b _) next)) (expression_back e d' le b (closer p ∷ on) (closer_ends (tail e') p on) (closer_stop p on))
+    sequence_back p {closing} (g.more {e = e'} {es = es'} {fs} {gs} next e kind s) same d' le b on =
+        joined p d' e' es' fs gs on b (subst (λ k. NotNext k (significant b (expr_marks e' (others_marks es' (closer p ∷ on))))) same (next_head closing (expression_head Open e b _) next)) (expression_back e d' le b) (sequence_back p s same d' le false on)
+
+    parts_back : {d : ℕ} {ps : Pieces} {fs : Shown} {ts rest : Tokens} → FormatParts lexeme nothing Open d ps fs ts rest → (d' : ℕ) → d' ≤ d → (b : Bool) (on : List Mark)
+        → FormatParts lexeme nothing Open' d' ps fs (significant b (parts_marks ps on)) (significant true on)
+    parts_back (g.end kind) d' le b on = g.end refl
+    parts_back (g.next {ps = ps'} kind e ps) d' le b on = g.next refl (expression_back e d' le false _ (parts_ends _ ps' on) (parts_stop ps' on)) (parts_back ps d' le false on)

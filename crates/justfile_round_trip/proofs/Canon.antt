@@ -1,0 +1,397 @@
+-- What the printer means: the printed text before more, and its tokens before more.
+use Rattle.std.proofs.Common.{◌≡◌, ℕ, Bool, true, false, cond, List, [], ◌∷◌, ◌++◌, refl, ap, ◌∙◌, append_assoc, codes}
+use Rattle.std.specs.List.{flat_map}
+use Rattle.justfile_base.specs.declared.token_kind.TokenKind.TheVariants as kinds
+use Rattle.justfile_model.specs.declared.conditional_operator.ConditionalOperator.{ConditionalOperator}
+use Rattle.justfile_model.specs.declared.conditional_operator.ConditionalOperator.TheVariants.{Equality, Inequality, RegexMatch, RegexMismatch}
+use Rattle.justfile_model.specs.Tree as tree
+use Rattle.justfile_model.specs.Tree.{Expr, Or, And, Comparison, Concatenation, ListConcatenation, Join, Root, If, IfElse, Not, StringLiteral, FormatLiteral, FormatString, Backtick, Assert, AssertMessage, Variable, Call, Group, ListOf, Last, Continue, Text, Interpolation, BodyLine, Line, Header, AssignmentParts, RecipeParts, Content, Assignment, Recipe, Comment, Newline, Construct, OrderedItem, Shape, plain_assignment, plain_recipe}
+use Rattle.justfile_model.specs.Features.{Noted}
+use Rattle.justfile_model.specs.Expressions.{operator_kind}
+use Rattle.justfile_model.specs.Printing.{fixed_text, is_conditional, other_text, expr_text, exprs_text, parts_text, fragment_text, line_text, body_text, if_true, parameter_text, dependency_text, subsequents_text, header_text, assignment_text, content_doc, entries_text, content_text, item_text, item_end, text}
+use Rattle.justfile_round_trip.proofs.Reading.{Mark, mark}
+
+-- What a shape is made of: expressions, fragments, lines of bodies, and items with their contents.
+abbrev pub Value : Type 0
+Value = Expr (List ℕ) (Unit {0})
+
+abbrev pub Fragment : Type 0
+Fragment = tree.Fragment (List ℕ) (Unit {0})
+
+abbrev pub Row : Type 0
+Row = BodyLine (List ℕ) (Unit {0}) (Unit {0})
+
+abbrev pub ShapeContent : Type 0
+ShapeContent = Content (List ℕ) (Unit {0}) (Unit {0}) (Unit {0})
+
+abbrev pub ShapeItem : Type 0
+ShapeItem = OrderedItem (List ℕ) (Unit {0}) (Unit {0})
+
+-- `name := value`
+abbrev pub assignment_item : List ℕ → Value → ShapeItem
+assignment_item name value = Construct [] (Assignment (plain_assignment name value))
+
+-- a recipe whose header is a name
+abbrev pub recipe_item : List ℕ → List Row → ShapeItem
+recipe_item name body = Construct [] (Recipe (plain_recipe name body))
+
+-- its features, which have no places
+abbrev pub Shown : Type 0
+Shown = List (Noted (Unit {0}))
+
+abbrev pub space : Mark
+space = mark kinds.Whitespace (32 ∷ [])
+
+abbrev pub newline : Mark
+newline = mark kinds.Eol (10 ∷ [])
+
+abbrev pub colon : Mark
+colon = mark kinds.Colon (58 ∷ [])
+
+-- a name, or a word like `if`
+abbrev pub word : List ℕ → Mark
+word = mark kinds.Identifier
+
+abbrev pub brace_left : Mark
+brace_left = mark kinds.BraceL (codes "{")
+
+abbrev pub brace_right : Mark
+brace_right = mark kinds.BraceR (codes "}")
+
+abbrev pub paren_left : Mark
+paren_left = mark kinds.ParenL (codes "(")
+
+abbrev pub paren_right : Mark
+paren_right = mark kinds.ParenR (codes ")")
+
+abbrev pub comma : Mark
+comma = mark kinds.Comma (codes ",")
+
+abbrev pub operator_codes : ConditionalOperator → List ℕ
+operator_codes Equality = codes "=="
+operator_codes Inequality = codes "!="
+operator_codes RegexMatch = codes "=~"
+operator_codes RegexMismatch = codes "!~"
+
+-- the arguments of a call, or the elements of a list
+abbrev pub Values : Type 0
+Values = tree.Exprs (List ℕ) (Unit {0})
+
+-- what stands after an expression in a format string
+abbrev pub Pieces : Type 0
+Pieces = tree.Parts (List ℕ) (Unit {0})
+
+abbrev mutual
+  pub expr_on : Value → List ℕ → List ℕ
+  expr_on (Or l r) more = expr_on l (codes " || " ++ expr_on r more)
+  expr_on (And l r) more = expr_on l (codes " && " ++ expr_on r more)
+  expr_on (Comparison l operator token r) more = expr_on l (32 ∷ (operator_codes operator ++ (32 ∷ expr_on r more)))
+  expr_on (Concatenation l operator r) more = expr_on l (codes " + " ++ expr_on r more)
+  expr_on (ListConcatenation l operator r) more = expr_on l (codes " ++ " ++ expr_on r more)
+  expr_on (Join l operator r) more = expr_on l (codes " / " ++ expr_on r more)
+  expr_on (Root operator r) more = codes "/ " ++ expr_on r more
+  expr_on (If c b) more = codes "if " ++ expr_on c (codes " { " ++ expr_on b (codes " }" ++ more))
+  expr_on (IfElse c b o) more = codes "if " ++ expr_on c (codes " { " ++ expr_on b (codes " } else " ++ cond (is_conditional o) (expr_on o more) (codes "{ " ++ expr_on o (codes " }" ++ more))))
+  expr_on (Not e) more = codes "!" ++ expr_on e more
+  expr_on (StringLiteral true lexeme) more = 120 ∷ (lexeme ++ more)
+  expr_on (StringLiteral false lexeme) more = lexeme ++ more
+  expr_on (FormatLiteral lexeme) more = 102 ∷ (lexeme ++ more)
+  expr_on (FormatString start e parts) more = 102 ∷ (start ++ (32 ∷ expr_on e (32 ∷ parts_on parts more)))
+  expr_on (Backtick lexeme) more = lexeme ++ more
+  expr_on (Assert name c) more = codes "assert(" ++ expr_on c (codes ")" ++ more)
+  expr_on (AssertMessage name c m) more = codes "assert(" ++ expr_on c (codes ", " ++ expr_on m (codes ")" ++ more))
+  expr_on (Variable name) more = name ++ more
+  expr_on (Call name arguments) more = name ++ (40 ∷ exprs_on arguments (codes ")" ++ more))
+  expr_on (Group e) more = codes "(" ++ expr_on e (codes ")" ++ more)
+  expr_on (ListOf opener elements) more = codes "[" ++ exprs_on elements (codes "]" ++ more)
+
+  pub exprs_on : Values → List ℕ → List ℕ
+  exprs_on tree.none more = more
+  exprs_on (tree.more e es) more = expr_on e (others_on es more)
+
+  pub others_on : Values → List ℕ → List ℕ
+  others_on tree.none more = more
+  others_on (tree.more e es) more = codes ", " ++ expr_on e (others_on es more)
+
+  pub parts_on : Pieces → List ℕ → List ℕ
+  parts_on (Last lexeme) more = lexeme ++ more
+  parts_on (Continue lexeme e parts) more = lexeme ++ (32 ∷ expr_on e (32 ∷ parts_on parts more))
+
+abbrev mutual
+  pub expr_marks : Value → List Mark → List Mark
+  expr_marks (Or l r) ts = expr_marks l (space ∷ mark kinds.BarBar (codes "||") ∷ space ∷ expr_marks r ts)
+  expr_marks (And l r) ts = expr_marks l (space ∷ mark kinds.AmpersandAmpersand (codes "&&") ∷ space ∷ expr_marks r ts)
+  expr_marks (Comparison l operator token r) ts = expr_marks l (space ∷ mark (operator_kind operator) (operator_codes operator) ∷ space ∷ expr_marks r ts)
+  expr_marks (Concatenation l operator r) ts = expr_marks l (space ∷ mark kinds.Plus (codes "+") ∷ space ∷ expr_marks r ts)
+  expr_marks (ListConcatenation l operator r) ts = expr_marks l (space ∷ mark kinds.PlusPlus (codes "++") ∷ space ∷ expr_marks r ts)
+  expr_marks (Join l operator r) ts = expr_marks l (space ∷ mark kinds.Slash (codes "/") ∷ space ∷ expr_marks r ts)
+  expr_marks (Root operator r) ts = mark kinds.Slash (codes "/") ∷ space ∷ expr_marks r ts
+  expr_marks (If c b) ts = word (codes "if") ∷ space ∷ expr_marks c (space ∷ brace_left ∷ space ∷ expr_marks b (space ∷ brace_right ∷ ts))
+  expr_marks (IfElse c b o) ts = word (codes "if") ∷ space ∷ expr_marks c (space ∷ brace_left ∷ space ∷ expr_marks b (space ∷ brace_right ∷ space ∷ word (codes "else") ∷ space
+      ∷ cond (is_conditional o) (expr_marks o ts) (brace_left ∷ space ∷ expr_marks o (space ∷ brace_right ∷ ts))))
+  expr_marks (Not e) ts = mark kinds.Bang (codes "!") ∷ expr_marks e ts
+  expr_marks (StringLiteral true lexeme) ts = word (codes "x") ∷ mark kinds.StringToken lexeme ∷ ts
+  expr_marks (StringLiteral false lexeme) ts = mark kinds.StringToken lexeme ∷ ts
+  expr_marks (FormatLiteral lexeme) ts = word (codes "f") ∷ mark kinds.StringToken lexeme ∷ ts
+  expr_marks (FormatString start e parts) ts = word (codes "f") ∷ mark kinds.FormatStringStart start ∷ space ∷ expr_marks e (space ∷ parts_marks parts ts)
+  expr_marks (Backtick lexeme) ts = mark kinds.Backtick lexeme ∷ ts
+  expr_marks (Assert name c) ts = word (codes "assert") ∷ paren_left ∷ expr_marks c (paren_right ∷ ts)
+  expr_marks (AssertMessage name c m) ts = word (codes "assert") ∷ paren_left ∷ expr_marks c (comma ∷ space ∷ expr_marks m (paren_right ∷ ts))
+  expr_marks (Variable name) ts = word name ∷ ts
+  expr_marks (Call name arguments) ts = word name ∷ paren_left ∷ exprs_marks arguments (paren_right ∷ ts)
+  expr_marks (Group e) ts = paren_left ∷ expr_marks e (paren_right ∷ ts)
+  expr_marks (ListOf opener elements) ts = mark kinds.BracketL (codes "[") ∷ exprs_marks elements (mark kinds.BracketR (codes "]") ∷ ts)
+
+  pub exprs_marks : Values → List Mark → List Mark
+  exprs_marks tree.none ts = ts
+  exprs_marks (tree.more e es) ts = expr_marks e (others_marks es ts)
+
+  pub others_marks : Values → List Mark → List Mark
+  others_marks tree.none ts = ts
+  others_marks (tree.more e es) ts = comma ∷ space ∷ expr_marks e (others_marks es ts)
+
+  pub parts_marks : Pieces → List Mark → List Mark
+  parts_marks (Last lexeme) ts = mark kinds.FormatStringEnd lexeme ∷ ts
+  parts_marks (Continue lexeme e parts) ts = mark kinds.FormatStringContinue lexeme ∷ space ∷ expr_marks e (space ∷ parts_marks parts ts)
+
+-- ---- bodies
+
+abbrev pub fragment_on : Fragment → List ℕ → List ℕ
+fragment_on (Text t) more = t ++ more
+fragment_on (Interpolation e) more = 123 ∷ 123 ∷ 32 ∷ expr_on e (32 ∷ 125 ∷ 125 ∷ more)
+
+abbrev pub fragments_on : List Fragment → List ℕ → List ℕ
+fragments_on [] more = more
+fragments_on (f ∷ fs) more = fragment_on f (fragments_on fs more)
+
+-- a line without its line end: a nonempty one has the indentation
+abbrev pub line_on : List ℕ → Row → List ℕ → List ℕ
+line_on ind (Line number []) more = more
+line_on ind (Line number (f ∷ fs)) more = ind ++ fragments_on (f ∷ fs) more
+
+-- lines, each with the line end after it
+abbrev pub lines_on : List ℕ → List Row → List ℕ → List ℕ
+lines_on ind [] more = more
+lines_on ind (l ∷ ls) more = line_on ind l (10 ∷ lines_on ind ls more)
+
+-- lines, each with the line end before it, as they stand after the header of a recipe
+abbrev pub body_on : List ℕ → List Row → List ℕ → List ℕ
+body_on ind [] more = more
+body_on ind (l ∷ ls) more = 10 ∷ line_on ind l (body_on ind ls more)
+
+-- with the line end of the last line both are one text
+pub body_on_is : (ind : List ℕ) (ls : List Row) (more : List ℕ) → body_on ind ls (10 ∷ more) ≡ 10 ∷ lines_on ind ls more
+body_on_is ind [] more = refl
+body_on_is ind (l ∷ ls) more = ap (λ x. 10 ∷ line_on ind l x) (body_on_is ind ls more)
+
+abbrev pub fragment_marks : Fragment → List Mark → List Mark
+fragment_marks (Text t) ts = mark kinds.Text t ∷ ts
+fragment_marks (Interpolation e) ts = mark kinds.InterpolationStart (123 ∷ 123 ∷ []) ∷ space ∷ expr_marks e (space ∷ mark kinds.InterpolationEnd (125 ∷ 125 ∷ []) ∷ ts)
+
+abbrev pub fragments_marks : List Fragment → List Mark → List Mark
+fragments_marks [] ts = ts
+fragments_marks (f ∷ fs) ts = fragment_marks f (fragments_marks fs ts)
+
+-- the lines after the first
+abbrev pub line_marks : List ℕ → Row → List Mark → List Mark
+line_marks ind (Line number []) ts = ts
+line_marks ind (Line number (f ∷ fs)) ts = mark kinds.Whitespace ind ∷ fragments_marks (f ∷ fs) ts
+
+abbrev pub lines_marks : List ℕ → List Row → List Mark → List Mark
+lines_marks ind [] ts = ts
+lines_marks ind (l ∷ ls) ts = line_marks ind l (newline ∷ lines_marks ind ls ts)
+
+-- a body, from its Indent to its Dedent, before the tokens after it
+abbrev pub body_marks : List ℕ → List Row → List Mark → List Mark
+body_marks ind [] ts = ts
+body_marks ind (Line number fs ∷ ls) ts = mark kinds.Indent ind ∷ fragments_marks fs (newline ∷ lines_marks ind ls (mark kinds.Dedent [] ∷ ts))
+
+-- ---- items
+
+abbrev pub assignment_on : AssignmentParts (List ℕ) (Unit {0}) → List ℕ → List ℕ
+assignment_on a more =
+    if_true a.eager (fixed_text (codes "eager ")) ++ (if_true a.export (fixed_text (codes "export ")) ++ (a.name ++ (32 ∷ 58 ∷ 61 ∷ 32 ∷ expr_on a.value more)))
+
+abbrev pub header_on : Header (List ℕ) (Unit {0}) (Unit {0}) → List ℕ → List ℕ
+header_on h more =
+    if_true h.quiet (fixed_text (codes "@"))
+    ++ (h.name
+    ++ (flat_map (λ p. fixed_text (codes " ") ++ parameter_text p) h.parameters
+    ++ (58 ∷ (flat_map (λ d. fixed_text (codes " ") ++ dependency_text d) h.priors ++ (subsequents_text h.subsequents ++ more)))))
+
+abbrev pub content_on : List ℕ → ShapeContent → List ℕ → List ℕ
+content_on ind (Assignment parts) more = assignment_on parts more
+content_on ind (Recipe parts) more = header_on parts.header (body_on ind parts.body more)
+
+abbrev pub item_on : List ℕ → ShapeItem → List ℕ → List ℕ
+item_on ind Newline more = more
+item_on ind (Comment t) more = t ++ more
+item_on ind (Construct entries content) more = content_doc content ++ (entries_text entries ++ content_on ind content more)
+
+-- Of a recipe the header. So far all constructs that are good are plain: `name := value`, or a recipe whose header is a name.
+abbrev pub content_marks : ShapeContent → List Mark → List Mark
+content_marks (Assignment parts) ts = mark kinds.Identifier parts.name ∷ space ∷ mark kinds.ColonEquals (58 ∷ 61 ∷ []) ∷ space ∷ expr_marks parts.value ts
+content_marks (Recipe parts) ts = mark kinds.Identifier parts.header.name ∷ colon ∷ ts
+
+abbrev pub item_marks : ShapeItem → List Mark → List Mark
+item_marks Newline ts = ts
+item_marks (Comment t) ts = mark kinds.Comment t ∷ ts
+item_marks (Construct entries content) ts = content_marks content ts
+
+-- the lines of its body
+abbrev pub body_of : ShapeItem → List Row
+body_of Newline = []
+body_of (Comment t) = []
+body_of (Construct entries (Assignment parts)) = []
+body_of (Construct entries (Recipe parts)) = parts.body
+
+-- after an item
+abbrev pub end_on : ShapeItem → Shape → List ℕ → List ℕ
+end_on Newline items more = 10 ∷ more
+end_on i [] more = more
+end_on i (Newline ∷ items) more = more
+end_on i (j ∷ items) more = 32 ∷ more
+
+abbrev pub end_marks : ShapeItem → Shape → List Mark → List Mark
+end_marks Newline items ts = newline ∷ ts
+end_marks i [] ts = ts
+end_marks i (Newline ∷ items) ts = ts
+end_marks i (j ∷ items) ts = space ∷ ts
+
+abbrev pub text_on : List ℕ → Shape → List ℕ
+text_on ind [] = []
+text_on ind (i ∷ items) = item_on ind i (end_on i items (text_on ind items))
+
+-- Items after a header whose body has these lines. The line end after a body is that of its last line, and its Dedent comes after it.
+abbrev pub marks_from : List ℕ → (body : List Row) → Shape → List Mark
+marks_from ind body [] = []
+marks_from ind body (Newline ∷ items) = newline ∷ body_marks ind body (marks_from ind [] items)
+marks_from ind body (i ∷ items) = item_marks i (end_marks i items (marks_from ind (body_of i) items))
+
+abbrev pub marks : List ℕ → Shape → List Mark
+marks ind items = marks_from ind [] items
+
+-- ---- the text of the definitions is this text
+
+-- a text, and one after it
+then : (a b more : List ℕ) {y x : List ℕ} → b ++ more ≡ y → a ++ y ≡ x → (a ++ b) ++ more ≡ x
+then a b more e f = append_assoc a b more ∙ ap (λ z. a ++ z) e ∙ f
+
+-- and a fixed one between them
+joined : (a p b more : List ℕ) {y x : List ℕ} → b ++ more ≡ y → a ++ (p ++ y) ≡ x → ((a ++ p) ++ b) ++ more ≡ x
+joined a p b more {y} e f = then (a ++ p) b more e (then a p y refl f)
+
+-- and one after both
+around : (a p b q more : List ℕ) {y x : List ℕ} → b ++ (q ++ more) ≡ y → a ++ (p ++ y) ≡ x → (((a ++ p) ++ b) ++ q) ++ more ≡ x
+around a p b q more e f = then ((a ++ p) ++ b) q more refl (joined a p b (q ++ more) e f)
+
+-- the other branch: a conditional as it is, or else in braces
+other_is : (b : Bool) (o more on inside : List ℕ) → o ++ more ≡ on → o ++ (codes " }" ++ more) ≡ inside → other_text b o ++ more ≡ cond b on (codes "{ " ++ inside)
+unfolding fixed_text
+other_is true o more on inside e f = e
+other_is false o more on inside e f = then (codes "{ " ++ o) (codes " }") more refl (ap (λ t. codes "{ " ++ t) f)
+
+mutual
+  unfolding fixed_text
+
+  pub expr_is : (e : Value) (more : List ℕ) → expr_text e ++ more ≡ expr_on e more
+  expr_is (Or l r) more = joined (expr_text l) (codes " || ") (expr_text r) more (expr_is r more) (expr_is l _)
+  expr_is (And l r) more = joined (expr_text l) (codes " && ") (expr_text r) more (expr_is r more) (expr_is l _)
+  expr_is (Comparison l Equality token r) more = joined (expr_text l) (codes " == ") (expr_text r) more (expr_is r more) (expr_is l _)
+  expr_is (Comparison l Inequality token r) more = joined (expr_text l) (codes " != ") (expr_text r) more (expr_is r more) (expr_is l _)
+  expr_is (Comparison l RegexMatch token r) more = joined (expr_text l) (codes " =~ ") (expr_text r) more (expr_is r more) (expr_is l _)
+  expr_is (Comparison l RegexMismatch token r) more = joined (expr_text l) (codes " !~ ") (expr_text r) more (expr_is r more) (expr_is l _)
+  expr_is (Concatenation l operator r) more = joined (expr_text l) (codes " + ") (expr_text r) more (expr_is r more) (expr_is l _)
+  expr_is (ListConcatenation l operator r) more = joined (expr_text l) (codes " ++ ") (expr_text r) more (expr_is r more) (expr_is l _)
+  expr_is (Join l operator r) more = joined (expr_text l) (codes " / ") (expr_text r) more (expr_is r more) (expr_is l _)
+  expr_is (Root operator r) more = ap (λ t. codes "/ " ++ t) (expr_is r more)
+  expr_is (If c b) more = around (codes "if " ++ expr_text c) (codes " { ") (expr_text b) (codes " }") more (expr_is b _) (ap (λ t. codes "if " ++ t) (expr_is c _))
+  expr_is (IfElse c b o) more =
+      then ((((codes "if " ++ expr_text c) ++ codes " { ") ++ expr_text b) ++ codes " } else ") (other_text (is_conditional o) (expr_text o)) more (other_is (is_conditional o) (expr_text o) more _ _ (expr_is o more) (expr_is o (codes " }" ++ more)))
+      (around (codes "if " ++ expr_text c) (codes " { ") (expr_text b) (codes " } else ") _ (expr_is b _) (ap (λ t. codes "if " ++ t) (expr_is c _)))
+  expr_is (Not e) more = ap (λ t. 33 ∷ t) (expr_is e more)
+  expr_is (StringLiteral true l) more = refl
+  expr_is (StringLiteral false l) more = refl
+  expr_is (FormatLiteral l) more = refl
+  expr_is (FormatString s e ps) more =
+      then ((((102 ∷ s) ++ codes " ") ++ expr_text e) ++ codes " ") (parts_text ps) more (parts_is ps more) (around (102 ∷ s) (codes " ") (expr_text e) (codes " ") (parts_on ps more) (expr_is e _) refl)
+  expr_is (Backtick l) more = refl
+  expr_is (Assert name c) more = then (codes "assert(" ++ expr_text c) (codes ")") more refl (ap (λ t. codes "assert(" ++ t) (expr_is c _))
+  expr_is (AssertMessage name c m) more = around (codes "assert(" ++ expr_text c) (codes ", ") (expr_text m) (codes ")") more (expr_is m _) (ap (λ t. codes "assert(" ++ t) (expr_is c _))
+  expr_is (Variable n) more = refl
+  expr_is (Call n es) more = around n (codes "(") (exprs_text es) (codes ")") more (exprs_is es _) refl
+  expr_is (Group e) more = then (codes "(" ++ expr_text e) (codes ")") more refl (ap (λ t. codes "(" ++ t) (expr_is e _))
+  expr_is (ListOf opener es) more = then (codes "[" ++ exprs_text es) (codes "]") more refl (ap (λ t. codes "[" ++ t) (exprs_is es _))
+
+  exprs_is : (es : Values) (more : List ℕ) → exprs_text es ++ more ≡ exprs_on es more
+  exprs_is tree.none more = refl
+  exprs_is (tree.more e tree.none) more = expr_is e more
+  exprs_is (tree.more e (tree.more e2 es)) more = joined (expr_text e) (codes ", ") (exprs_text (tree.more e2 es)) more (exprs_is (tree.more e2 es) more) (expr_is e _)
+
+  parts_is : (ps : Pieces) (more : List ℕ) → parts_text ps ++ more ≡ parts_on ps more
+  parts_is (Last l) more = refl
+  parts_is (Continue l e ps) more = then (((l ++ codes " ") ++ expr_text e) ++ codes " ") (parts_text ps) more (parts_is ps more) (around l (codes " ") (expr_text e) (codes " ") (parts_on ps more) (expr_is e _) refl)
+
+fragment_is : (f : Fragment) (more : List ℕ) → fragment_text f ++ more ≡ fragment_on f more
+unfolding fixed_text
+fragment_is (Text t) more = refl
+fragment_is (Interpolation e) more = ap (λ l. 123 ∷ 123 ∷ 32 ∷ l) (append_assoc (expr_text e) (32 ∷ 125 ∷ 125 ∷ []) more ∙ expr_is e (32 ∷ 125 ∷ 125 ∷ more))
+
+fragments_is : (fs : List Fragment) (more : List ℕ) → flat_map fragment_text fs ++ more ≡ fragments_on fs more
+fragments_is [] more = refl
+fragments_is (f ∷ fs) more = append_assoc (fragment_text f) (flat_map fragment_text fs) more ∙ fragment_is f (flat_map fragment_text fs ++ more) ∙ ap (fragment_on f) (fragments_is fs more)
+
+line_is : (ind : List ℕ) (l : Row) (more : List ℕ) → line_text ind l ++ more ≡ line_on ind l more
+line_is ind (Line number []) more = refl
+line_is ind (Line number (f ∷ fs)) more = append_assoc ind (flat_map fragment_text (f ∷ fs)) more ∙ ap (λ l. ind ++ l) (fragments_is (f ∷ fs) more)
+
+body_is : (ind : List ℕ) (ls : List Row) (more : List ℕ) → body_text ind ls ++ more ≡ body_on ind ls more
+unfolding fixed_text
+body_is ind [] more = refl
+body_is ind (l ∷ ls) more =
+    ap (λ x. 10 ∷ x) (append_assoc (line_text ind l) (body_text ind ls) more ∙ line_is ind l (body_text ind ls ++ more) ∙ ap (line_on ind l) (body_is ind ls more))
+
+assignment_is : (a : AssignmentParts (List ℕ) (Unit {0})) (more : List ℕ) → assignment_text a ++ more ≡ assignment_on a more
+unfolding fixed_text
+assignment_is a more =
+    let eager = if_true a.eager (codes "eager ") in
+    let export = if_true a.export (codes "export ") in
+    then (((eager ++ export) ++ a.name) ++ codes " := ") (expr_text a.value) more (expr_is a.value more)
+    (then ((eager ++ export) ++ a.name) (codes " := ") _ refl (then (eager ++ export) a.name _ refl (then eager export _ refl refl)))
+
+header_is : (h : Header (List ℕ) (Unit {0}) (Unit {0})) (more : List ℕ) → header_text h ++ more ≡ header_on h more
+unfolding fixed_text
+header_is h more =
+    let named = if_true h.quiet (codes "@") ++ h.name in
+    let parameters = named ++ flat_map (λ p. codes " " ++ parameter_text p) h.parameters in
+    let priors = flat_map (λ d. codes " " ++ dependency_text d) h.priors in
+    then ((parameters ++ codes ":") ++ priors) (subsequents_text h.subsequents) more refl
+    (then (parameters ++ codes ":") priors _ refl
+    (then parameters (codes ":") _ refl (then named _ _ refl (then (if_true h.quiet (codes "@")) h.name _ refl refl))))
+
+content_is : (ind : List ℕ) (c : ShapeContent) (more : List ℕ) → content_text c ind ++ more ≡ content_on ind c more
+content_is ind (Assignment parts) more = assignment_is parts more
+content_is ind (Recipe parts) more = then (header_text parts.header) (body_text ind parts.body) more (body_is ind parts.body more) (header_is parts.header _)
+
+item_is : (ind : List ℕ) (i : ShapeItem) (more : List ℕ) → item_text i ind ++ more ≡ item_on ind i more
+item_is ind Newline more = refl
+item_is ind (Comment t) more = refl
+item_is ind (Construct entries content) more =
+    then (content_doc content ++ entries_text entries) (content_text content ind) more (content_is ind content more) (then (content_doc content) (entries_text entries) _ refl refl)
+
+end_is : (i : ShapeItem) (items : Shape) (more : List ℕ) → item_end i items ++ more ≡ end_on i items more
+unfolding fixed_text
+end_is Newline items more = refl
+end_is (Comment t) [] more = refl
+end_is (Comment t) (Newline ∷ items) more = refl
+end_is (Comment t) (j ∷ items) more = refl
+end_is (Construct entries content) [] more = refl
+end_is (Construct entries content) (Newline ∷ items) more = refl
+end_is (Construct entries content) (j ∷ items) more = refl
+
+pub text_is : (items : Shape) (indentation : List ℕ) → text items indentation ≡ text_on indentation items
+text_is [] indentation = refl
+text_is (i ∷ items) indentation =
+    append_assoc (item_text i indentation) (item_end i items) (text items indentation)
+    ∙ item_is indentation i (item_end i items ++ text items indentation)
+    ∙ ap (item_on indentation i) (end_is i items (text items indentation) ∙ ap (end_on i items) (text_is items indentation))

@@ -1,0 +1,156 @@
+-- The tokens of a good shape derive it, and its text is UTF-8.
+use Rattle.std.proofs.Common.{◌≡◌, ℕ, Bool, true, false, List, [], ◌∷◌, ◌++◌, map, refl, sym, subst, ap}
+use Rattle.std.specs.Str.{IsUtf8}
+use Rattle.std.proofs.lemmas.Str.{IsUtf8-nil, IsUtf8-append}
+use Rattle.std.proofs.Math.Utf8.{encode}
+use Rattle.justfile_base.specs.declared.token_kind.TokenKind.TheVariants as kinds
+use Rattle.justfile_model.specs.SignificantTokens.{SignificantToken}
+use Rattle.justfile_model.specs.Tree as tree
+use Rattle.justfile_model.specs.Tree.{WrittenItem, Shape, WrittenShape, Construct, plain_assignment, plain_recipe}
+use Rattle.justfile_model.specs.Grammar as g
+use Rattle.justfile_model.specs.Expressions.{Under}
+use Rattle.justfile_model.specs.Files.{keeps_lexemes}
+use Rattle.justfile_model.specs.Grammar.{Items, LineEnd, Block, NotEmpty}
+use Rattle.justfile_model.proofs.Ordered.{plainly}
+use Rattle.justfile_round_trip.proofs.Reading.{Mark, mark}
+use Rattle.justfile_round_trip.proofs.Canon.{Shown, Row, ShapeContent, ShapeItem, assignment_item, recipe_item, space, newline, colon, body_marks, end_on, end_marks, text_on, marks}
+use Rattle.justfile_round_trip.proofs.Good as good
+use Rattle.justfile_round_trip.proofs.Good.{significant, ends_value, GoodName, GoodComment, GoodRecipe, AtStart, ItemRest, AtEnd}
+use Rattle.justfile_round_trip.proofs.BodyLines.{IsLevel}
+use Rattle.justfile_round_trip.proofs.BodyDerives.{body_back}
+use Rattle.justfile_round_trip.proofs.BodyUtf8.{newline_utf8, body_utf8}
+
+-- ---- derivations
+
+-- an item without attributes, as it is written
+abbrev pub written_item : ShapeItem → WrittenItem (List ℕ) (Unit {0}) (Unit {0}) (Unit {0})
+written_item tree.Newline = tree.Newline
+written_item (tree.Comment t) = tree.Comment t
+written_item (Construct entries content) = Construct [] content
+
+abbrev pub written : Shape → WrittenShape
+written = map written_item
+
+module _ (limit : ℕ) where
+  -- what derives, with its features
+  abbrev Derived : Shape → List SignificantToken → Type 0
+  Derived items ts = (ns : Shown) × Items keeps_lexemes (Under limit) (written items) ns ts
+
+  abbrev AfterItem : Shape → List SignificantToken → Type 0
+  AfterItem items ts = (ns : Shown) × g.ItemRest keeps_lexemes (Under limit) (written items) ns ts
+
+  abbrev Ended : Shape → List SignificantToken → Type 0
+  Ended items ts = (ns : Shown) × LineEnd keeps_lexemes (Under limit) (written items) ns ts
+
+  comment_back : (t : List ℕ) (items : Shape) (glued : Bool) (on : List Mark) → GoodComment t → AfterItem items (significant true on) → Derived (tree.Comment t ∷ items) (significant glued (mark kinds.Comment t ∷ on))
+  comment_back t items glued on h e = subst (λ x. Derived (tree.Comment x ∷ items) (significant glued (mark kinds.Comment t ∷ on))) h.trimmed (e.0, g.comment refl e.1)
+
+  trailing_back : (t : List ℕ) (items : Shape) (on : List Mark) → GoodComment t → Ended items (significant true on) → AfterItem (tree.Comment t ∷ items) (significant true (space ∷ mark kinds.Comment t ∷ on))
+  trailing_back t items on h e = subst (λ x. AfterItem (tree.Comment x ∷ items) (significant true (space ∷ mark kinds.Comment t ∷ on))) h.trimmed (e.0, g.trailing refl e.1)
+
+  -- a recipe with a body, up to the Dedent
+  block_back : (ind name : List ℕ) (l : Row) (ls : List Row) (glued : Bool) (on : List Mark) → GoodRecipe limit name (l ∷ ls)
+      → (ns : Shown) × Block keeps_lexemes (Under limit) (tree.Recipe (plain_recipe name (l ∷ ls))) ns (significant glued (mark kinds.Identifier name ∷ colon ∷ newline ∷ body_marks ind (l ∷ ls) on)) (significant true on)
+  block_back ind name (tree.Line n fs) ls glued on h =
+      let body : List Row = tree.Line n fs ∷ ls in
+      let read = body_back limit ind n fs ls on h.good in (
+        read.0,
+        subst (λ x. Block keeps_lexemes (Under limit) (tree.Recipe (plain_recipe name x)) read.0 (significant glued (mark kinds.Identifier name ∷ colon ∷ newline ∷ body_marks ind body on)) (significant true on)) h.ended
+            (g.recipe {lines = body} refl refl (g.at_once refl refl) read.1 (subst NotEmpty (sym h.ended) tt)),
+      )
+
+module _ (limit : ℕ) (ind : List ℕ) where
+  -- after a construct on one line nothing goes on with a value
+  value_ends : (content : ShapeContent) {items : Shape} → ItemRest limit items → ends_value (significant true (end_marks (Construct [] content) items (marks ind items))) ≡ true
+  value_ends content (good.trailing h more) = refl
+  value_ends content (good.bare (good.line_end more)) = refl
+
+  mutual
+    pub derive_start : {items : Shape} → AtStart limit items → (glued : Bool) → Derived limit items (significant glued (marks ind items))
+    derive_start good.end glued = ([], g.end refl)
+    derive_start (good.newline more) glued = let r = derive_start more true in (r.0, g.blank refl r.1)
+    derive_start (good.comment {t = t} {items = items} h more) glued =
+        let r = derive_end t more in
+        comment_back limit t items glued (end_marks (tree.Comment t) items (marks ind items)) h (r.0, g.bare r.1)
+    derive_start (good.assignment {name = name} {value = value} {items = items} named h more) glued =
+        let content : ShapeContent = tree.Assignment (plain_assignment name value) in
+        let r = derive_after content more in
+        (h.features ++ r.0, g.on_line (g.assignment refl refl (h.derives.derives false (end_marks (Construct [] content) items (marks ind items)) (value_ends content more))) r.1)
+    derive_start (good.header {name = name} named more) glued = let r = derive_after (tree.Recipe (plain_recipe name [])) more in (r.0, g.on_line (g.header refl refl) r.1)
+    derive_start (good.recipe {name = name} {l = l} {ls = ls} h (good.body_end {items = items} follows last more)) glued =
+        let b = block_back limit ind name l ls glued (marks ind items) h in
+        let r = derive_start more true in
+        (b.0 ++ r.0, g.block b.1 r.1)
+
+    derive_after : (content : ShapeContent) {items : Shape} → ItemRest limit items → AfterItem limit items (significant true (end_marks (Construct [] content) items (marks ind items)))
+    derive_after content (good.trailing {t = t} {items = items} h more) = trailing_back limit t items (end_marks (tree.Comment t) items (marks ind items)) h (derive_end t more)
+    derive_after content (good.bare (good.line_end more)) = let r = derive_start more true in (r.0, g.bare (g.line_end refl r.1))
+
+    derive_end : (t : List ℕ) {items : Shape} → AtEnd limit items → Ended limit items (significant true (end_marks (tree.Comment t) items (marks ind items)))
+    derive_end t (good.line_end more) = let r = derive_start more true in (r.0, g.line_end refl r.1)
+
+-- ---- what it means
+
+module _ (limit : ℕ) where
+  mutual
+    pub start_plain : {items : Shape} → AtStart limit items → plainly (written items) ≡ items
+    start_plain good.end = refl
+    start_plain (good.newline more) = ap (λ (items : Shape). tree.Newline ∷ items) (start_plain more)
+    start_plain (good.comment {t = t} h more) = ap (λ (items : Shape). tree.Comment t ∷ items) (end_plain more)
+    start_plain (good.assignment {name = name} {value = value} named h more) =
+        ap (λ (items : Shape). assignment_item name value ∷ items) (after_plain more)
+    start_plain (good.header {name = name} named more) = ap (λ (items : Shape). recipe_item name [] ∷ items) (after_plain more)
+    start_plain (good.recipe {name = name} {l = l} {ls = ls} h (good.body_end follows last more)) =
+        ap (λ (items : Shape). recipe_item name (l ∷ ls) ∷ tree.Newline ∷ items) (start_plain more)
+
+    after_plain : {items : Shape} → ItemRest limit items → plainly (written items) ≡ items
+    after_plain (good.trailing {t = t} h more) = ap (λ (items : Shape). tree.Comment t ∷ items) (end_plain more)
+    after_plain (good.bare more) = end_plain more
+
+    end_plain : {items : Shape} → AtEnd limit items → plainly (written items) ≡ items
+    end_plain (good.line_end more) = ap (λ (items : Shape). tree.Newline ∷ items) (start_plain more)
+
+-- ---- UTF-8
+
+space_utf8 : IsUtf8 (32 ∷ [])
+unfolding encode
+space_utf8 = (32 ∷ [], (refl, refl))
+
+colon_utf8 : IsUtf8 (58 ∷ [])
+unfolding encode
+colon_utf8 = (58 ∷ [], (refl, refl))
+
+operator_utf8 : IsUtf8 (32 ∷ 58 ∷ 61 ∷ 32 ∷ [])
+unfolding encode
+operator_utf8 = (32 ∷ 58 ∷ 61 ∷ 32 ∷ [], (refl, refl))
+
+end_utf8 : (i : ShapeItem) (items : Shape) (more : List ℕ) → IsUtf8 more → IsUtf8 (end_on i items more)
+end_utf8 tree.Newline items more u = IsUtf8-append (10 ∷ []) more newline_utf8 u
+end_utf8 (tree.Comment t) [] more u = u
+end_utf8 (tree.Comment t) (tree.Newline ∷ items) more u = u
+end_utf8 (tree.Comment t) (_ ∷ items) more u = IsUtf8-append (32 ∷ []) more space_utf8 u
+end_utf8 (Construct entries content) [] more u = u
+end_utf8 (Construct entries content) (tree.Newline ∷ items) more u = u
+end_utf8 (Construct entries content) (_ ∷ items) more u = IsUtf8-append (32 ∷ []) more space_utf8 u
+
+header_utf8 : (name more : List ℕ) → GoodName name → IsUtf8 more → IsUtf8 (name ++ (58 ∷ more))
+header_utf8 name more named u = IsUtf8-append name _ named.utf8 (IsUtf8-append (58 ∷ []) more colon_utf8 u)
+
+module _ (limit : ℕ) (ind : List ℕ) (level : IsLevel ind) where
+  mutual
+    pub start_utf8 : {items : Shape} → AtStart limit items → IsUtf8 (text_on ind items)
+    start_utf8 good.end = IsUtf8-nil
+    start_utf8 (good.newline {items = items} more) = end_utf8 tree.Newline items _ (start_utf8 more)
+    start_utf8 (good.comment {t = t} {items = items} h more) = IsUtf8-append t _ h.utf8 (end_utf8 (tree.Comment t) items _ (line_end_utf8 more))
+    start_utf8 (good.assignment {name = name} {value = value} {items = items} named h more) =
+        IsUtf8-append name _ named.utf8 (IsUtf8-append (32 ∷ 58 ∷ 61 ∷ 32 ∷ []) _ operator_utf8 (h.utf8 _ (end_utf8 (assignment_item name value) items _ (after_utf8 more))))
+    start_utf8 (good.header {name = name} {items = items} named more) = header_utf8 name _ named (end_utf8 (recipe_item name []) items _ (after_utf8 more))
+    start_utf8 (good.recipe {name = name} {l = l} {ls = ls} h (good.body_end {items = items} follows last more)) =
+        header_utf8 name _ h.named (body_utf8 limit ind (l ∷ ls) _ level h.good (end_utf8 tree.Newline items _ (start_utf8 more)))
+
+    after_utf8 : {items : Shape} → ItemRest limit items → IsUtf8 (text_on ind items)
+    after_utf8 (good.trailing {t = t} {items = items} h more) = IsUtf8-append t _ h.utf8 (end_utf8 (tree.Comment t) items _ (line_end_utf8 more))
+    after_utf8 (good.bare more) = line_end_utf8 more
+
+    line_end_utf8 : {items : Shape} → AtEnd limit items → IsUtf8 (text_on ind items)
+    line_end_utf8 (good.line_end {items = items} more) = end_utf8 tree.Newline items _ (start_utf8 more)

@@ -1,0 +1,123 @@
+-- Fixed tokens inside one line are lexed back.
+use Rattle.std.proofs.Common.{◌≡◌, ◌≢◌, ℕ, Bool, false, cond, eqb, List, [], ◌∷◌, ◌++◌, length, get_or, Option, Ok, refl, sym, ap, ◌∙◌, subst}
+use Rattle.justfile_base.specs.declared.byte_class.ByteClass.TheVariants as classes
+use Rattle.justfile_base.specs.declared.delimiter.Delimiter.TheVariants.{Brace, Bracket, Paren}
+use Rattle.justfile_base.specs.declared.token_kind.TokenKind.{TokenKind}
+use Rattle.justfile_base.specs.declared.token_kind.TokenKind.TheVariants.{AmpersandAmpersand, Asterisk, At, Bang, BangEquals, BangTilde, BarBar, BraceL, BraceR, BracketL, BracketR, ColonColon, ColonEquals, Comma, Dollar, Eof, Equals, EqualsEquals, EqualsTilde, ParenL, ParenR, Plus, PlusPlus, QuestionMark, Slash}
+use Rattle.justfile_base.specs.ByteClass.{class_of}
+use Rattle.justfile_model.specs.declared.open_delimiter.OpenDelimiter.{OpenDelimiter}
+use Rattle.justfile_model.specs.Tok.{Tok}
+use Rattle.justfile_model.specs.Modes.{is_empty, opener, mode_after}
+use Rattle.justfile_model.specs.Next.{fixed_token, token_by_class}
+use Rattle.justfile_round_trip.proofs.Reading.{Mark, mark, LexesTo, step}
+use Rattle.justfile_round_trip.proofs.Inline.{amid, amid_next, and_false, and_no}
+
+module _ {os : List OpenDelimiter} {ls : List (List ℕ)} {c : Bool} {i : Option Tok} {f : Bool} where
+  -- a token that leaves the mode as it was, in front of what doesn't lengthen it
+  fixed_step : (k : TokenKind) (b : ℕ) (bs : List ℕ) {more : List ℕ} {ts : List Mark} → class_of b ≡ classes.Fixed → eqb b 125 ≡ false → fixed_token b (b ∷ bs ++ more) ≡ Ok (k, length (b ∷ bs)) → k ≢ Eof
+      → ((t : Tok) → mode_after k t (amid os ls c i f) ≡ amid os ls c i false) → LexesTo (amid os ls c i false) more ts → LexesTo (amid os ls c i f) (b ∷ bs ++ more) (mark k (b ∷ bs) ∷ ts)
+  unfolding token_by_class
+  fixed_step k b bs {more} {ts} class no_brace found goes_on same r =
+      step (amid os ls c i f) k (b ∷ bs) more ts
+      (amid_next os ls c i f b (bs ++ more) (and_false (is_empty os) _ _ no_brace)
+      ∙ ap (λ q. token_by_class (amid os ls c i f) q (b ∷ bs ++ more)) class
+      ∙ found)
+      goes_on
+      (λ o n col. subst (λ m. LexesTo m more ts) (sym (same _)) r)
+
+  pub dollar_step : {more : List ℕ} {ts : List Mark} → LexesTo (amid os ls c i false) more ts → LexesTo (amid os ls c i f) (36 ∷ more) (mark Dollar (36 ∷ []) ∷ ts)
+  unfolding class_of fixed_token
+  dollar_step k = fixed_step Dollar 36 ([]) refl refl refl (λ e. cc) (λ t. refl) k
+
+  pub asterisk_step : {more : List ℕ} {ts : List Mark} → LexesTo (amid os ls c i false) more ts → LexesTo (amid os ls c i f) (42 ∷ more) (mark Asterisk (42 ∷ []) ∷ ts)
+  unfolding class_of fixed_token
+  asterisk_step k = fixed_step Asterisk 42 ([]) refl refl refl (λ e. cc) (λ t. refl) k
+
+  pub comma_step : {more : List ℕ} {ts : List Mark} → LexesTo (amid os ls c i false) more ts → LexesTo (amid os ls c i f) (44 ∷ more) (mark Comma (44 ∷ []) ∷ ts)
+  unfolding class_of fixed_token
+  comma_step k = fixed_step Comma 44 ([]) refl refl refl (λ e. cc) (λ t. refl) k
+
+  pub slash_step : {more : List ℕ} {ts : List Mark} → LexesTo (amid os ls c i false) more ts → LexesTo (amid os ls c i f) (47 ∷ more) (mark Slash (47 ∷ []) ∷ ts)
+  unfolding class_of fixed_token
+  slash_step k = fixed_step Slash 47 ([]) refl refl refl (λ e. cc) (λ t. refl) k
+
+  pub question_mark_step : {more : List ℕ} {ts : List Mark} → LexesTo (amid os ls c i false) more ts → LexesTo (amid os ls c i f) (63 ∷ more) (mark QuestionMark (63 ∷ []) ∷ ts)
+  unfolding class_of fixed_token
+  question_mark_step k = fixed_step QuestionMark 63 ([]) refl refl refl (λ e. cc) (λ t. refl) k
+
+  pub at_step : {more : List ℕ} {ts : List Mark} → LexesTo (amid os ls c i false) more ts → LexesTo (amid os ls c i f) (64 ∷ more) (mark At (64 ∷ []) ∷ ts)
+  unfolding class_of fixed_token
+  at_step k = fixed_step At 64 ([]) refl refl refl (λ e. cc) (λ t. refl) k
+
+  pub and_step : {more : List ℕ} {ts : List Mark} → LexesTo (amid os ls c i false) more ts → LexesTo (amid os ls c i f) (38 ∷ 38 ∷ more) (mark AmpersandAmpersand (38 ∷ 38 ∷ []) ∷ ts)
+  unfolding class_of fixed_token
+  and_step k = fixed_step AmpersandAmpersand 38 (38 ∷ []) refl refl refl (λ e. cc) (λ t. refl) k
+
+  pub or_step : {more : List ℕ} {ts : List Mark} → LexesTo (amid os ls c i false) more ts → LexesTo (amid os ls c i f) (124 ∷ 124 ∷ more) (mark BarBar (124 ∷ 124 ∷ []) ∷ ts)
+  unfolding class_of fixed_token
+  or_step k = fixed_step BarBar 124 (124 ∷ []) refl refl refl (λ e. cc) (λ t. refl) k
+
+  pub plus_plus_step : {more : List ℕ} {ts : List Mark} → LexesTo (amid os ls c i false) more ts → LexesTo (amid os ls c i f) (43 ∷ 43 ∷ more) (mark PlusPlus (43 ∷ 43 ∷ []) ∷ ts)
+  unfolding class_of fixed_token
+  plus_plus_step k = fixed_step PlusPlus 43 (43 ∷ []) refl refl refl (λ e. cc) (λ t. refl) k
+
+  pub equals_equals_step : {more : List ℕ} {ts : List Mark} → LexesTo (amid os ls c i false) more ts → LexesTo (amid os ls c i f) (61 ∷ 61 ∷ more) (mark EqualsEquals (61 ∷ 61 ∷ []) ∷ ts)
+  unfolding class_of fixed_token
+  equals_equals_step k = fixed_step EqualsEquals 61 (61 ∷ []) refl refl refl (λ e. cc) (λ t. refl) k
+
+  pub equals_tilde_step : {more : List ℕ} {ts : List Mark} → LexesTo (amid os ls c i false) more ts → LexesTo (amid os ls c i f) (61 ∷ 126 ∷ more) (mark EqualsTilde (61 ∷ 126 ∷ []) ∷ ts)
+  unfolding class_of fixed_token
+  equals_tilde_step k = fixed_step EqualsTilde 61 (126 ∷ []) refl refl refl (λ e. cc) (λ t. refl) k
+
+  pub bang_equals_step : {more : List ℕ} {ts : List Mark} → LexesTo (amid os ls c i false) more ts → LexesTo (amid os ls c i f) (33 ∷ 61 ∷ more) (mark BangEquals (33 ∷ 61 ∷ []) ∷ ts)
+  unfolding class_of fixed_token
+  bang_equals_step k = fixed_step BangEquals 33 (61 ∷ []) refl refl refl (λ e. cc) (λ t. refl) k
+
+  pub bang_tilde_step : {more : List ℕ} {ts : List Mark} → LexesTo (amid os ls c i false) more ts → LexesTo (amid os ls c i f) (33 ∷ 126 ∷ more) (mark BangTilde (33 ∷ 126 ∷ []) ∷ ts)
+  unfolding class_of fixed_token
+  bang_tilde_step k = fixed_step BangTilde 33 (126 ∷ []) refl refl refl (λ e. cc) (λ t. refl) k
+
+  pub colon_equals_step : {more : List ℕ} {ts : List Mark} → LexesTo (amid os ls c i false) more ts → LexesTo (amid os ls c i f) (58 ∷ 61 ∷ more) (mark ColonEquals (58 ∷ 61 ∷ []) ∷ ts)
+  unfolding class_of fixed_token
+  colon_equals_step k = fixed_step ColonEquals 58 (61 ∷ []) refl refl refl (λ e. cc) (λ t. refl) k
+
+  pub colon_colon_step : {more : List ℕ} {ts : List Mark} → LexesTo (amid os ls c i false) more ts → LexesTo (amid os ls c i f) (58 ∷ 58 ∷ more) (mark ColonColon (58 ∷ 58 ∷ []) ∷ ts)
+  unfolding class_of fixed_token
+  colon_colon_step k = fixed_step ColonColon 58 (58 ∷ []) refl refl refl (λ e. cc) (λ t. refl) k
+
+  pub plus_step : {more : List ℕ} {ts : List Mark} → LexesTo (amid os ls c i false) (32 ∷ more) ts → LexesTo (amid os ls c i f) (43 ∷ 32 ∷ more) (mark Plus (43 ∷ []) ∷ ts)
+  unfolding class_of fixed_token
+  plus_step k = fixed_step Plus 43 [] refl refl refl (λ e. cc) (λ t. refl) k
+
+  pub equals_step : {more : List ℕ} {ts : List Mark} → LexesTo (amid os ls c i false) (32 ∷ more) ts → LexesTo (amid os ls c i f) (61 ∷ 32 ∷ more) (mark Equals (61 ∷ []) ∷ ts)
+  unfolding class_of fixed_token
+  equals_step k = fixed_step Equals 61 [] refl refl refl (λ e. cc) (λ t. refl) k
+
+  -- in front of what makes no other operator of it
+  pub bang_step : (more : List ℕ) {ts : List Mark} → eqb (get_or more 0 0) 61 ≡ false → eqb (get_or more 0 0) 126 ≡ false → LexesTo (amid os ls c i false) more ts → LexesTo (amid os ls c i f) (33 ∷ more) (mark Bang (33 ∷ []) ∷ ts)
+  unfolding class_of fixed_token
+  bang_step more equals tilde k = fixed_step Bang 33 [] refl refl (λ j. cond (equals j) (Ok (BangEquals, 2)) (cond (tilde j) (Ok (BangTilde, 2)) (Ok (Bang, 1)))) (λ e. cc) (λ t. refl) k
+
+  pub open_paren_step : {more : List ℕ} {ts : List Mark} → ((line : ℕ) → LexesTo (amid (opener Paren line ∷ os) ls c i false) more ts) → LexesTo (amid os ls c i f) (40 ∷ more) (mark ParenL (40 ∷ []) ∷ ts)
+  unfolding token_by_class class_of
+  open_paren_step {more} {ts} k = step (amid os ls c i f) ParenL (40 ∷ []) more ts (amid_next os ls c i f 40 more (and_no (is_empty os))) (λ e. cc) (λ o n col. k n)
+
+  pub close_paren_step : {line : ℕ} {more : List ℕ} {ts : List Mark} → LexesTo (amid os ls c i false) more ts → LexesTo (amid (opener Paren line ∷ os) ls c i f) (41 ∷ more) (mark ParenR (41 ∷ []) ∷ ts)
+  unfolding token_by_class class_of
+  close_paren_step {line} {more} {ts} k = step (amid (opener Paren line ∷ os) ls c i f) ParenR (41 ∷ []) more ts (amid_next (opener Paren line ∷ os) ls c i f 41 more refl) (λ e. cc) (λ o n col. k)
+
+  pub open_bracket_step : {more : List ℕ} {ts : List Mark} → ((line : ℕ) → LexesTo (amid (opener Bracket line ∷ os) ls c i false) more ts) → LexesTo (amid os ls c i f) (91 ∷ more) (mark BracketL (91 ∷ []) ∷ ts)
+  unfolding token_by_class class_of
+  open_bracket_step {more} {ts} k = step (amid os ls c i f) BracketL (91 ∷ []) more ts (amid_next os ls c i f 91 more (and_no (is_empty os))) (λ e. cc) (λ o n col. k n)
+
+  pub close_bracket_step : {line : ℕ} {more : List ℕ} {ts : List Mark} → LexesTo (amid os ls c i false) more ts → LexesTo (amid (opener Bracket line ∷ os) ls c i f) (93 ∷ more) (mark BracketR (93 ∷ []) ∷ ts)
+  unfolding token_by_class class_of
+  close_bracket_step {line} {more} {ts} k = step (amid (opener Bracket line ∷ os) ls c i f) BracketR (93 ∷ []) more ts (amid_next (opener Bracket line ∷ os) ls c i f 93 more refl) (λ e. cc) (λ o n col. k)
+
+  pub open_brace_step : {more : List ℕ} {ts : List Mark} → ((line : ℕ) → LexesTo (amid (opener Brace line ∷ os) ls c i false) more ts) → LexesTo (amid os ls c i f) (123 ∷ more) (mark BraceL (123 ∷ []) ∷ ts)
+  unfolding token_by_class class_of
+  open_brace_step {more} {ts} k = step (amid os ls c i f) BraceL (123 ∷ []) more ts (amid_next os ls c i f 123 more (and_no (is_empty os))) (λ e. cc) (λ o n col. k n)
+
+  pub close_brace_step : {line : ℕ} {more : List ℕ} {ts : List Mark} → LexesTo (amid os ls c i false) more ts → LexesTo (amid (opener Brace line ∷ os) ls c i f) (125 ∷ more) (mark BraceR (125 ∷ []) ∷ ts)
+  unfolding token_by_class class_of
+  close_brace_step {line} {more} {ts} k = step (amid (opener Brace line ∷ os) ls c i f) BraceR (125 ∷ []) more ts (amid_next (opener Brace line ∷ os) ls c i f 125 more refl) (λ e. cc) (λ o n col. k)

@@ -1,0 +1,241 @@
+-- What is known of a shape that is printed: each lexeme has its fact, each value derives back, and the items stand in lines.
+use Rattle.std.proofs.Common.{◌≡◌, ℕ, Bool, true, false, List, [], ◌∷◌, ◌++◌, length, drop, Option, Some, None}
+use Rattle.std.specs.Prelude.{◌&&◌, ◌||◌, not}
+use Rattle.std.specs.Str.{IsUtf8, trim_end}
+use Rattle.justfile_base.specs.declared.string_kind.StringKind.{StringKind}
+use Rattle.justfile_base.specs.declared.token_kind.TokenKind.{TokenKind}
+use Rattle.justfile_base.specs.declared.token_kind.TokenKind.TheVariants as kinds
+use Rattle.justfile_base.specs.ByteClass.{class_of}
+use Rattle.justfile_base.specs.StringKind.{kind_of, token_kind_of}
+use Rattle.justfile_model.specs.Bytes.{blank, white, blank_len}
+use Rattle.justfile_model.specs.declared.raw_text.RawText.TheVariants as raw_texts
+use Rattle.justfile_model.specs.LiteralText.{raw_len}
+use Rattle.justfile_model.specs.Modes.{is_empty}
+use Rattle.justfile_model.specs.Next.{is_backtick}
+use Rattle.justfile_model.specs.Tok.{Tok}
+use Rattle.justfile_model.specs.SignificantTokens.{SignificantToken, significant_from}
+use Rattle.justfile_model.specs.Tree as tree
+use Rattle.justfile_model.specs.Tree.{Or, And, Comparison, Concatenation, ListConcatenation, Join, Root, If, IfElse, Not, StringLiteral, FormatLiteral, FormatString, Backtick, Assert, AssertMessage, Variable, Call, Group, ListOf, Last, Continue, Text, Interpolation, Line, Shape, lexeme, nothing, trimmed}
+use Rattle.justfile_model.specs.Expressions.{Under, Expression}
+use Rattle.justfile_round_trip.proofs.Reading.{Mark, mark, placed}
+use Rattle.justfile_round_trip.proofs.Inline.{head_is, IsName, IsLiteral, IsPart, delimiter_of}
+use Rattle.justfile_round_trip.proofs.Lines.{IsComment}
+use Rattle.justfile_round_trip.proofs.BodyLines.{IsRaw}
+use Rattle.justfile_round_trip.proofs.Canon.{Shown, Value, Values, Pieces, Fragment, Row, assignment_item, recipe_item, expr_on, expr_marks}
+
+-- the printer's tokens without places, and what the parser reads of them
+abbrev pub unplaced : List Mark → List Tok
+unplaced [] = placed (mark kinds.Eof []) 0 0 0 ∷ []
+unplaced (t ∷ ts) = placed t 0 0 0 ∷ unplaced ts
+
+abbrev pub significant : Bool → List Mark → List SignificantToken
+significant glued ts = significant_from glued (unplaced ts)
+
+-- ---- values
+
+-- a literal of a token of this kind, which ends before what is printed after it
+pub record IsDelimited (k : TokenKind) (l : List ℕ) : Type 0 where
+  pub kind : StringKind
+  pub literal : IsLiteral kind l
+  pub is_token : token_kind_of kind.delimiter ≡ k
+
+abbrev pub IsString : List ℕ → Type 0
+IsString = IsDelimited kinds.StringToken
+
+abbrev pub IsCommand : List ℕ → Type 0
+IsCommand = IsDelimited kinds.Backtick
+
+-- a string after an `f` with nothing to fill in: format mode ends where plain mode does
+pub record IsFormatLiteral (l : List ℕ) : Type 0 where
+  pub string : IsString l
+  pub ends : (more : List ℕ) → raw_len (raw_texts.Literal string.kind true) (string.literal.inner ++ (delimiter_of string.kind ++ more)) ≡ length string.literal.inner
+
+-- the start of a format string, up to `{{` and a space after it
+pub record IsFormatStart (l : List ℕ) : Type 0 where
+  pub part : IsPart (kind_of l) (delimiter_of (kind_of l)) false l
+  pub quoted : is_backtick (kind_of l).delimiter ≡ false
+  pub opens : (more : List ℕ) → kind_of (l ++ more) ≡ kind_of l
+
+-- a later part of a format string: up to `{{` and a space after it, or to the string's end
+abbrev pub IsPartOf : StringKind → Bool → List ℕ → Type 0
+IsPartOf k fin = IsPart k (125 ∷ 125 ∷ []) fin
+
+-- a later part of the format string that is open, if it is the innermost of what is open
+abbrev pub IsPartOfOpen : Option StringKind → Bool → List ℕ → Type 0
+IsPartOfOpen None fin l = ⊥
+IsPartOfOpen (Some k) fin l = IsPartOf k fin l
+
+abbrev mutual
+  pub GoodValue : Value → Type 0
+  GoodValue (Or l r) = GoodValue l × GoodValue r
+  GoodValue (And l r) = GoodValue l × GoodValue r
+  GoodValue (Comparison l operator token r) = GoodValue l × GoodValue r
+  GoodValue (Concatenation l operator r) = GoodValue l × GoodValue r
+  GoodValue (ListConcatenation l operator r) = GoodValue l × GoodValue r
+  GoodValue (Join l operator r) = GoodValue l × GoodValue r
+  GoodValue (Root operator r) = GoodValue r
+  GoodValue (If c b) = GoodValue c × GoodValue b
+  GoodValue (IfElse c b o) = GoodValue c × GoodValue b × GoodValue o
+  GoodValue (Not e) = GoodValue e
+  GoodValue (StringLiteral expanded l) = IsString l
+  GoodValue (FormatLiteral l) = IsFormatLiteral l
+  GoodValue (FormatString start e parts) = IsFormatStart start × GoodValue e × GoodParts (kind_of start) parts
+  GoodValue (Backtick l) = IsCommand l
+  GoodValue (Assert name c) = GoodValue c
+  GoodValue (AssertMessage name c m) = GoodValue c × GoodValue m
+  GoodValue (Variable n) = IsName n
+  GoodValue (Call n arguments) = IsName n × GoodValues arguments
+  GoodValue (Group e) = GoodValue e
+  GoodValue (ListOf opener elements) = GoodValues elements
+
+  pub GoodValues : Values → Type 0
+  GoodValues tree.none = Unit {0}
+  GoodValues (tree.more e es) = GoodValue e × GoodValues es
+
+  pub GoodParts : StringKind → Pieces → Type 0
+  GoodParts k (Last l) = IsPartOf k true l
+  GoodParts k (Continue l e parts) = IsPartOf k false l × GoodValue e × GoodParts k parts
+
+-- the tokens that close what an expression stands in
+abbrev pub closes : TokenKind → Bool
+closes kinds.ParenR = true
+closes kinds.BracketR = true
+closes kinds.BraceL = true
+closes kinds.BraceR = true
+closes kinds.Comma = true
+closes kinds.FormatStringContinue = true
+closes kinds.FormatStringEnd = true
+closes kinds.InterpolationEnd = true
+closes kinds.Comment = true
+closes kinds.Eol = true
+closes kinds.Eof = true
+closes _ = false
+
+-- a token that closes is next, so an expression ends here
+abbrev pub ends_value : List SignificantToken → Bool
+ends_value [] = false
+ends_value (t ∷ ts) = closes t.tok.kind
+
+-- ---- bodies
+
+-- no line is of blanks alone
+abbrev pub IsShown : List Fragment → Type 0
+IsShown (Text t ∷ []) = is_empty (drop (blank_len t) t) ≡ false
+IsShown _ = Unit {0}
+
+-- the first line has something, and no blank at its front
+abbrev pub IsFirst : List Fragment → Type 0
+IsFirst [] = ⊥
+IsFirst (Text t ∷ fs) = head_is blank t ≡ false
+IsFirst (Interpolation e ∷ fs) = Unit {0}
+
+-- a line of space, tab and CR alone
+abbrev pub pale : List ℕ → Bool
+pale [] = true
+pale (x ∷ xs) = white (class_of x) && pale xs
+
+abbrev pub pale_line : List Fragment → Bool
+pale_line [] = true
+pale_line (Text t ∷ fs) = pale t && pale_line fs
+pale_line (Interpolation e ∷ fs) = false
+
+abbrev pub all_pale : List Row → Bool
+all_pale [] = true
+all_pale (Line number fs ∷ ls) = pale_line fs && all_pale ls
+
+-- All lines after some empty one are pale. Levels close before that one if anything but line ends follows the body.
+abbrev pub pale_after : List Row → Bool
+pale_after [] = false
+pale_after (Line number [] ∷ ls) = all_pale ls || pale_after ls
+pale_after (Line number (f ∷ fs) ∷ ls) = pale_after ls
+
+-- ---- items
+
+pub record GoodName (name : List ℕ) : Type 0 where
+  pub is_name : IsName name
+  pub utf8 : IsUtf8 name
+
+pub record GoodComment (t : List ℕ) : Type 0 where
+  pub comment : IsComment t
+  pub trimmed : trim_end t ≡ t
+  pub utf8 : IsUtf8 t
+
+-- line ends alone
+abbrev pub blank_only : Shape → Bool
+blank_only [] = true
+blank_only (tree.Newline ∷ items) = blank_only items
+blank_only (i ∷ items) = false
+
+-- nothing, or not line ends alone
+abbrev pub follows_body : Shape → Bool
+follows_body items = is_empty items || not (blank_only items)
+
+-- ---- what derives back, where so many expressions may be open
+
+module _ (limit : ℕ) where
+  -- the value's tokens derive it, before any others that a value ends at
+  pub record DerivesBack (e : Value) (features : Shown) : Type 0 where
+    pub derives : (glued : Bool) (on : List Mark) → ends_value (significant true on) ≡ true → Expression lexeme nothing (Under limit) false 0 e features (significant glued (expr_marks e on)) (significant true on)
+
+  -- a value that no other is open around
+  pub record GoodExpression (e : Value) : Type 0 where
+    pub lexes : GoodValue e
+    pub features : Shown
+    pub derives : DerivesBack e features
+    pub utf8 : (more : List ℕ) → IsUtf8 more → IsUtf8 (expr_on e more)
+
+  -- each text ends before what is printed after it, and no two stand side by side
+  abbrev pub GoodFragments : List Fragment → Type 0
+  GoodFragments [] = Unit {0}
+  GoodFragments (Text t ∷ []) = IsRaw t (10 ∷ []) × IsUtf8 t
+  GoodFragments (Text t ∷ Text u ∷ fs) = ⊥
+  GoodFragments (Text t ∷ Interpolation e ∷ fs) = IsRaw t (123 ∷ 123 ∷ 32 ∷ []) × IsUtf8 t × GoodFragments (Interpolation e ∷ fs)
+  GoodFragments (Interpolation e ∷ fs) = GoodExpression e × GoodFragments fs
+
+  abbrev pub GoodLines : List Row → Type 0
+  GoodLines [] = Unit {0}
+  GoodLines (Line number fs ∷ ls) = GoodFragments fs × IsShown fs × GoodLines ls
+
+  abbrev pub GoodBody : List Row → Type 0
+  GoodBody [] = ⊥
+  GoodBody (Line number fs ∷ ls) = IsFirst fs × GoodFragments fs × GoodLines ls
+
+  -- a recipe with a body, which has no empty line at its end
+  pub record GoodRecipe (name : List ℕ) (body : List Row) : Type 0 where
+    pub named : GoodName name
+    pub good : GoodBody body
+    pub ended : trimmed body ≡ body
+
+  mutual
+    -- items from the start of a line on; so far all constructs are plain
+    pub data AtStart : Shape → Type 0 where
+      end : AtStart []
+      newline : {items : Shape} → AtStart items → AtStart (tree.Newline ∷ items)
+      comment : {t : List ℕ} {items : Shape} → GoodComment t → AtEnd items → AtStart (tree.Comment t ∷ items)
+      assignment : {name : List ℕ} {value : Value} {items : Shape} → GoodName name → GoodExpression value → ItemRest items
+          → AtStart (assignment_item name value ∷ items)
+      header : {name : List ℕ} {items : Shape} → GoodName name → ItemRest items → AtStart (recipe_item name [] ∷ items)
+      recipe : {name : List ℕ} {l : Row} {ls : List Row} {items : Shape} → GoodRecipe name (l ∷ ls) → AfterBody (l ∷ ls) items
+          → AtStart (recipe_item name (l ∷ ls) ∷ items)
+
+    -- after an item a comment may trail it
+    pub data ItemRest : Shape → Type 0 where
+      trailing : {t : List ℕ} {items : Shape} → GoodComment t → AtEnd items → ItemRest (tree.Comment t ∷ items)
+      bare : {items : Shape} → AtEnd items → ItemRest items
+
+    -- then the line ends, and after the last line too
+    pub data AtEnd : Shape → Type 0 where
+      line_end : {items : Shape} → AtStart items → AtEnd (tree.Newline ∷ items)
+
+    -- after a body its last line ends; then levels close, and if they would close before that, nothing follows
+    pub data AfterBody : List Row → Shape → Type 0 where
+      body_end : {body : List Row} {items : Shape} → follows_body items ≡ true → (pale_after body ≡ true → items ≡ []) → AtStart items
+          → AfterBody body (tree.Newline ∷ items)
+
+  -- after a comment, or after another item
+  abbrev pub After : Bool → Shape → Type 0
+  After true items = AtEnd items
+  After false items = ItemRest items
+
+  pub past_newline : {items : Shape} → AtStart (tree.Newline ∷ items) → AtStart items
+  past_newline (newline h) = h

@@ -1,0 +1,66 @@
+-- The text of good items is lexed back.
+use Rattle.std.proofs.Common.{◌≡◌, ℕ, Bool, true, false, List, [], ◌∷◌, ◌++◌, None, refl, ap}
+use Rattle.justfile_base.specs.declared.token_kind.TokenKind.TheVariants as kinds
+use Rattle.justfile_base.specs.ByteClass.{class_of}
+use Rattle.justfile_model.specs.Tree as tree
+use Rattle.justfile_model.specs.Tree.{Shape}
+use Rattle.justfile_model.specs.Next.{next}
+use Rattle.justfile_round_trip.proofs.Reading.{Mark, mark, LexesTo, end}
+use Rattle.justfile_round_trip.proofs.Inline.{head_is, joins, amid, space_step}
+use Rattle.justfile_round_trip.proofs.Fixed.{colon_equals_step}
+use Rattle.justfile_round_trip.proofs.Lines.{at_item, item_name, item_comment, comment_step, comment_no_blank, blank_line, line_end}
+use Rattle.justfile_round_trip.proofs.Canon.{Value, Row, assignment_item, recipe_item, space, newline, item_on, item_marks, text_on, marks}
+use Rattle.justfile_round_trip.proofs.Good as good
+use Rattle.justfile_round_trip.proofs.Good.{GoodName, GoodExpression, GoodComment, GoodRecipe, AtStart, ItemRest, AtEnd, AfterBody}
+use Rattle.justfile_round_trip.proofs.LexesValues.{value_no_blank, lex_value}
+use Rattle.justfile_round_trip.proofs.BodyLines.{IsLevel}
+use Rattle.justfile_round_trip.proofs.Bodies.{lex_recipe, lex_header}
+use Rattle.justfile_round_trip.proofs.BodyFollows.{text_follows}
+
+-- a comment, the end of its line, and what is read after that
+trailing : (c f : Bool) (t : List ℕ) {more : List ℕ} {ts : List Mark} → GoodComment t → LexesTo (at_item c) more ts → LexesTo (amid [] [] c None f) (32 ∷ (t ++ (10 ∷ more))) (space ∷ mark kinds.Comment t ∷ newline ∷ ts)
+trailing c f t {more} good k = space_step (comment_no_blank t more good.comment) (comment_step [] [] c None false t good.comment (line_end c false k))
+
+at_end : (c : Bool) → LexesTo (at_item c) [] []
+unfolding next
+at_end c = end (at_item c) refl
+
+module _ (limit : ℕ) (ind : List ℕ) (level : IsLevel ind) where
+  assigned : (c : Bool) (name : List ℕ) (value : Value) {more : List ℕ} {ts : List Mark} → GoodName name → GoodExpression limit value → head_is joins more ≡ false → ((f : Bool) → LexesTo (amid [] [] c None f) more ts)
+      → LexesTo (at_item c) (item_on ind (assignment_item name value) more) (item_marks (assignment_item name value) ts)
+  unfolding class_of
+  assigned c name value {more} named good stop k =
+      item_name c name named.is_name refl (space_step refl (colon_equals_step (space_step (value_no_blank value more good.lexes) (lex_value [] c None [] value good.lexes stop k))))
+
+  mutual
+    unfolding class_of
+
+    -- a colon that came before changes nothing here: no blank begins a line
+    pub lex_start : (c : Bool) {items : Shape} → AtStart limit items → LexesTo (at_item c) (text_on ind items) (marks ind items)
+    lex_start c good.end = at_end c
+    lex_start c (good.newline more) = blank_line c (lex_start c more)
+    lex_start c (good.comment {t = t} h more) = lex_end c t h more
+    lex_start c (good.assignment {name = name} {value = value} named h more) = lex_after c name value named h more
+    lex_start c (good.header {name = name} named more) = lex_bare c name named more
+    lex_start c (good.recipe {name = name} {l = l} {ls = ls} h more) = lex_block c name l ls h more
+
+    -- an assignment, and what follows it
+    lex_after : (c : Bool) (name : List ℕ) (value : Value) {items : Shape} → GoodName name → GoodExpression limit value → ItemRest limit items
+        → LexesTo (at_item c) (text_on ind (assignment_item name value ∷ items)) (marks ind (assignment_item name value ∷ items))
+    lex_after c name value named h (good.trailing {t = t} commented (good.line_end more)) = assigned c name value named h refl (λ f. trailing c f t commented (lex_start c more))
+    lex_after c name value named h (good.bare (good.line_end more)) = assigned c name value named h refl (λ f. line_end c f (lex_start c more))
+
+    -- a recipe without a body, and what follows it
+    lex_bare : (c : Bool) (name : List ℕ) {items : Shape} → GoodName name → ItemRest limit items → LexesTo (at_item c) (text_on ind (recipe_item name [] ∷ items)) (marks ind (recipe_item name [] ∷ items))
+    lex_bare c name named (good.trailing {t = t} commented (good.line_end more)) = lex_header c name 32 _ _ named.is_name refl refl (trailing true false t commented (lex_start true more))
+    lex_bare c name named (good.bare (good.line_end more)) = lex_header c name 10 _ _ named.is_name refl refl (line_end true false (lex_start true more))
+
+    -- a recipe with a body, the end of its last line, and what follows that
+    lex_block : (c : Bool) (name : List ℕ) (l : Row) (ls : List Row) {items : Shape} → GoodRecipe limit name (l ∷ ls) → AfterBody limit (l ∷ ls) items
+        → LexesTo (at_item c) (text_on ind (recipe_item name (l ∷ ls) ∷ items)) (marks ind (recipe_item name (l ∷ ls) ∷ items))
+    lex_block c name l ls h (good.body_end follows last more) =
+        lex_recipe limit c name ind (l ∷ ls) _ _ h.named.is_name level h.good (text_follows limit ind more follows) (λ p. ap (text_on ind) (last p)) (lex_start false more)
+
+    -- a comment, and what follows it
+    lex_end : (c : Bool) (t : List ℕ) {items : Shape} → GoodComment t → AtEnd limit items → LexesTo (at_item c) (text_on ind (tree.Comment t ∷ items)) (marks ind (tree.Comment t ∷ items))
+    lex_end c t h (good.line_end more) = item_comment c t h.comment (line_end c false (lex_start c more))

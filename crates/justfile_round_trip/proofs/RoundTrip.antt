@@ -1,0 +1,182 @@
+-- What is printed of the tree of any text reads back.
+use Rattle.std.proofs.Common.{◌≡◌, ℕ, ◌+◌, Bool, true, false, cond, List, [], ◌∷◌, length, map, Some, refl, sym, ap, ◌∙◌, subst}
+use Rattle.std.specs.Prelude.{if◌then◌else◌}
+use Rattle.std.specs.Str.{IsUtf8}
+use Rattle.std.proofs.lemmas.List.{length-map}
+use denote.Enum.Bare.{sameb}
+use Rattle.justfile_base.specs.Indentation.{IsIndentation}
+use Rattle.justfile_model.specs.Tok.{Tok}
+use Rattle.justfile_model.specs.Lexed.{Lexed}
+use Rattle.justfile_model.specs.SignificantTokens.{is_whitespace, significant_from, significant_tokens}
+use Rattle.justfile_model.specs.Tree as tree
+use Rattle.justfile_model.specs.Tree.{Content, Construct, Tree, Shape, over_content, over_parameter, lexeme, nothing, shape_of}
+use Rattle.justfile_model.specs.Grammar as g
+use Rattle.justfile_model.specs.contracts.list_feature.ListFeature.{the_type}
+use Rattle.justfile_model.specs.declared.list_feature.ListFeature.{ListFeature}
+use Rattle.justfile_model.specs.Features.{Noted, over_noted}
+use Rattle.justfile_model.specs.Conditions.{Conditions}
+use Rattle.justfile_model.specs.Expressions.{Under}
+use Rattle.justfile_model.specs.Grammar.{File}
+use Rattle.justfile_model.specs.NormalShape.{normal}
+use Rattle.justfile_model.specs.Printing.{text, printable}
+use Rattle.justfile_model.specs.Literals.{over_literal, AreCookedTexts}
+use Rattle.justfile_model.specs.Files.{FileDerives, ShapeDerives, literals, content_bindings, bindings, content_recipes, recipes, keeps_lexemes, ordered}
+use Rattle.justfile_model.proofs.Agreement.{one_tree}
+use Rattle.justfile_model.proofs.CarryExpressions.{Same, Pairs, nil, cons}
+use Rattle.justfile_model.proofs.Leaves.{lexemes, elsewhere, file_forgets, file_lifts}
+use Rattle.justfile_model.proofs.LexedLaws.{one_list}
+use Rattle.justfile_model.proofs.Ordered.{unattributed, file_ordered, ordered_literals}
+use Rattle.justfile_model.proofs.Normal.{normal_twice, normal_literals, normal_bindings, normal_recipes}
+use Rattle.justfile_round_trip.specs.RoundTrip.{TextDerives, times, ReadsBack, printed}
+use Rattle.justfile_round_trip.proofs.Reading.{Mark, placed, tok_at, toks, lexed}
+use Rattle.justfile_round_trip.proofs.Canon.{Shown, text_on, marks, text_is}
+use Rattle.justfile_round_trip.proofs.Good.{unplaced, significant, AtStart}
+use Rattle.justfile_round_trip.proofs.LexesBack.{lex_start}
+use Rattle.justfile_round_trip.proofs.Sound.{lexed_sound}
+use Rattle.justfile_round_trip.proofs.BodyLines.{IsLevel, level_is}
+use Rattle.justfile_round_trip.proofs.BodyFacts.{lexed_bodies}
+use Rattle.justfile_round_trip.proofs.Written.{file_good}
+use Rattle.justfile_round_trip.proofs.DerivesBack.{written, derive_start, start_plain, start_utf8}
+use Rattle.justfile_round_trip.proofs.Determined.{shape_features, plainly_features, of_file, normal_features}
+
+-- ---- places
+
+same_by : (w : Bool) (t u : Tok) (glued : Bool) (ts us : List Tok) → t.kind ≡ u.kind → t.lexeme ≡ u.lexeme → ((g : Bool) → Pairs Same (significant_from g ts) (significant_from g us))
+    → Pairs Same (cond w (significant_from false ts) (record { tok = t; glued = glued } ∷ significant_from true ts)) (cond w (significant_from false us) (record { tok = u; glued = glued } ∷ significant_from true us))
+same_by true t u glued ts us k l more = more false
+same_by false t u glued ts us k l more = cons (record { kind = k; lexeme = l; glued = refl }) (more true)
+
+-- tokens with places are the same as those without
+placed_same : (source : List ℕ) (ts : List Mark) (offset : ℕ) (glued : Bool) → Pairs Same (significant glued ts) (significant_from glued (toks source offset ts))
+placed_same source [] offset glued = cons (record { kind = refl; lexeme = refl; glued = refl }) nil
+placed_same source (t ∷ ts) offset glued = same_by (is_whitespace t.kind) (placed t 0 0 0) (tok_at source offset t) glued (unplaced ts) (toks source (offset + length t.lexeme) ts) refl refl (λ g. placed_same source ts (offset + length t.lexeme) g)
+
+-- ---- a good shape
+
+back_tokens : Shape → (indentation : List ℕ) → List Tok
+back_tokens s indentation = toks (text s indentation) 0 (marks indentation s)
+
+good_lexed : (limit : ℕ) (s : Shape) (indentation : List ℕ) → IsLevel indentation → AtStart limit s → Lexed (text s indentation) (back_tokens s indentation)
+unfolding back_tokens
+good_lexed limit s indentation i h =
+    subst (λ x. Lexed x (toks x 0 (marks indentation s))) (sym (text_is s indentation)) (lexed (text_on indentation s) (marks indentation s) (lex_start limit indentation i false h))
+
+good_file : (limit : ℕ) (s : Shape) (indentation : List ℕ) → AtStart limit s → (ns : Shown) × File keeps_lexemes (Under limit) (written s) ns (significant_tokens (back_tokens s indentation))
+unfolding back_tokens
+good_file limit s indentation h =
+    let found = derive_start limit indentation h false in
+    (found.0, elsewhere limit (g.unmarked found.1) (placed_same (text s indentation) (marks indentation s) 0 false))
+
+-- features are noted as often without their places
+times_over : {A B : Type 0} (f : A → B) (feature : ListFeature) (ns : List (Noted A)) → times feature (map (over_noted f) ns) ≡ times feature ns
+times_over f feature [] = refl
+times_over f feature (n ∷ ns) = ap (λ count. (if sameb the_type n.0 feature then 1 else 0) + count) (times_over f feature ns)
+
+-- ---- numbers
+
+content_numbers : (c : Content Tok Tok ℕ (Unit {0})) → content_bindings (over_content lexeme nothing nothing (λ star. star) c) ≡ content_bindings c
+content_numbers (tree.Assignment parts) = refl
+content_numbers (tree.Recipe parts) = length-map parts.header.parameters (over_parameter lexeme nothing)
+
+numbers : (t : Tree) → bindings (shape_of t) ≡ bindings t
+numbers [] = refl
+numbers (tree.Newline ∷ t) = ap (λ n. 0 + n) (numbers t)
+numbers (tree.Comment text ∷ t) = ap (λ n. 0 + n) (numbers t)
+numbers (Construct entries content ∷ t) = λ k. content_numbers content k + numbers t k
+
+content_counts : (c : Content Tok Tok ℕ (Unit {0})) → content_recipes (over_content lexeme nothing nothing (λ star. star) c) ≡ content_recipes c
+content_counts (tree.Assignment parts) = refl
+content_counts (tree.Recipe parts) = refl
+
+counts : (t : Tree) → recipes (shape_of t) ≡ recipes t
+counts [] = refl
+counts (tree.Newline ∷ t) = ap (λ n. 0 + n) (counts t)
+counts (tree.Comment text ∷ t) = ap (λ n. 0 + n) (counts t)
+counts (Construct entries content ∷ t) = λ k. content_counts content k + counts t k
+
+-- ---- the theorem
+
+module _ (conditions : Conditions) where
+  shape_derives : (source : List ℕ) (t : Tree) (fs : List (Noted Tok)) (h : TextDerives conditions source t fs) → ShapeDerives conditions (significant_tokens h.tokens) (shape_of t) (map (over_noted nothing) fs)
+  shape_derives source t fs h = file_forgets conditions (significant_tokens h.tokens) t fs h.file
+
+  -- the normal shape of what a text derives
+  source_good : (source : List ℕ) (t : Tree) (fs : List (Noted Tok)) → TextDerives conditions source t fs → printable (shape_of t) ≡ true → AtStart conditions.limit (normal (shape_of t))
+  source_good source t fs h p =
+      let f = shape_derives source t fs h in
+      let meant = (unattributed f.written (shape_of t) f.ordered_is).1 in
+      subst (λ s. AtStart conditions.limit (normal s)) (sym meant)
+      (file_good conditions.limit f.derives (lexed_sound source h.tokens h.utf8 h.lexed) (lexed_bodies source h.tokens h.lexed) (ap printable (sym meant) ∙ p))
+
+  -- the features of what a text derives are those of its shape
+  source_features : (source : List ℕ) (t : Tree) (fs : List (Noted Tok)) → TextDerives conditions source t fs → map (over_noted nothing) fs ≡ shape_features (shape_of t)
+  source_features source t fs h =
+      let f = shape_derives source t fs h in
+      of_file (Under conditions.limit) f.derives ∙ sym (plainly_features f.written) ∙ ap shape_features (sym (unattributed f.written (shape_of t) f.ordered_is).1)
+
+  -- a good shape derives from its printed tokens, under the same conditions as the source
+  good_derives : (s : Shape) (indentation : List ℕ) → AtStart conditions.limit s → (cooked : List (List ℕ)) → AreCookedTexts conditions.expander (literals s) cooked
+      → (ns : Shown) × ShapeDerives conditions (significant_tokens (back_tokens s indentation)) s ns × (ns ≡ shape_features s)
+  good_derives s indentation good cooked cooks =
+      let file = good_file conditions.limit s indentation good in
+      let plain = start_plain conditions.limit good in
+      let meant : ordered (written s) ≡ Some s = file_ordered keeps_lexemes (Under conditions.limit) file.1 ∙ ap Some plain in (
+        file.0,
+        record {
+          written = written s;
+          derives = file.1;
+          cooked = cooked;
+          cooks = subst (λ l. AreCookedTexts conditions.expander l cooked) (ordered_literals (written s) s meant) cooks;
+          unbroken = refl;
+          ordered_is = meant;
+        },
+        of_file (Under conditions.limit) file.1 ∙ sym (plainly_features (written s)) ∙ ap shape_features plain,
+      )
+
+  pub back : (source : List ℕ) (t : Tree) (fs : List (Noted Tok)) (indentation : List ℕ) → IsIndentation indentation → TextDerives conditions source t fs → printable (shape_of t) ≡ true → ReadsBack conditions (shape_of t) fs indentation (printed (shape_of t) indentation)
+  back source t fs indentation i h p =
+      let s = normal (shape_of t) in
+      let limit = conditions.limit in
+      let level = level_is indentation i in
+      let good = source_good source t fs h p in
+      let f = shape_derives source t fs h in
+      let cooks : AreCookedTexts conditions.expander (literals s) f.cooked = subst (λ l. AreCookedTexts conditions.expander l f.cooked) (sym (normal_literals (shape_of t) ∙ ordered_literals f.written (shape_of t) f.ordered_is)) f.cooks in
+      let file = good_derives s indentation good f.cooked cooks in
+      let found = file_lifts conditions (significant_tokens (back_tokens s indentation)) s file.0 file.1 in
+      let same : map (over_literal lexeme) (literals found.0) ≡ literals (shape_of t) = sym (lexemes found.0) ∙ ap literals found.3 ∙ normal_literals (shape_of t) in
+      let noted : map (over_noted nothing) found.1 ≡ map (over_noted nothing) fs = found.4 ∙ file.2 ∙ normal_features (shape_of t) ∙ sym (source_features source t fs h) in
+      record {
+        tree = found.0;
+        found = found.1;
+        derives = record { utf8 = subst IsUtf8 (sym (text_is s indentation)) (start_utf8 limit indentation level good); tokens = back_tokens s indentation; lexed = good_lexed limit s indentation level good; file = found.2 };
+        same_features = λ feature. sym (times_over nothing feature found.1) ∙ ap (times feature) noted ∙ times_over nothing feature fs;
+        same_shape = found.3;
+        same_lexemes = same;
+        same_texts = λ texts cooks. subst (λ l. AreCookedTexts conditions.expander l texts) (sym same) cooks;
+        same_bindings = sym (numbers found.0) ∙ ap bindings found.3 ∙ normal_bindings (shape_of t);
+        same_recipes = sym (counts found.0) ∙ ap recipes found.3 ∙ normal_recipes (shape_of t);
+        printed_again = ap (λ x. text x indentation) (ap normal found.3 ∙ normal_twice (shape_of t));
+      }
+
+  -- a text has one tree
+  one_text : (source : List ℕ) (t u : Tree) (fs gs : List (Noted Tok)) → TextDerives conditions source t fs → TextDerives conditions source u gs → t ≡ u
+  one_text source t u fs gs h q =
+      let tokens = one_list source h.tokens q.tokens h.lexed q.lexed in
+      (one_tree conditions (significant_tokens q.tokens) t u fs gs (subst (λ ts. FileDerives conditions (significant_tokens ts) t fs) tokens h.file) q.file).0
+
+  pub apart : (source other : List ℕ) (t u : Tree) (fs gs : List (Noted Tok)) (indentation : List ℕ) → IsIndentation indentation → TextDerives conditions source t fs → TextDerives conditions other u gs → printable (shape_of t) ≡ true → printable (shape_of u) ≡ true → printed (shape_of t) indentation ≡ printed (shape_of u) indentation
+      → normal (shape_of t) ≡ normal (shape_of u)
+  apart source other t u fs gs indentation i h q p r same =
+      let x = back source t fs indentation i h p in
+      let y = back other u gs indentation i q r in
+      let one = one_text (printed (shape_of u) indentation) x.tree y.tree x.found y.found (subst (λ r. TextDerives conditions r x.tree x.found) same x.derives) y.derives in
+      sym x.same_shape ∙ ap shape_of one ∙ y.same_shape
+
+  pub fixed : (source : List ℕ) (t u : Tree) (fs gs : List (Noted Tok)) (indentation : List ℕ) → IsIndentation indentation → TextDerives conditions source t fs → printable (shape_of t) ≡ true → TextDerives conditions (printed (shape_of t) indentation) u gs
+      → printed (shape_of u) indentation ≡ printed (shape_of t) indentation
+  fixed source t u fs gs indentation i h p q =
+      let x = back source t fs indentation i h p in
+      ap (λ y. printed (shape_of y) indentation) (one_text (printed (shape_of t) indentation) u x.tree gs x.found q x.derives) ∙ x.printed_again
+
+pub alike : (s r : Shape) (indentation : List ℕ) → normal s ≡ normal r → printed s indentation ≡ printed r indentation
+alike s r indentation e = ap (λ x. text x indentation) e

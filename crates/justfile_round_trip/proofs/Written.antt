@@ -1,0 +1,238 @@
+-- The normal shape of what any text derives is good.
+use Rattle.std.proofs.Common.{◌≡◌, ℕ, Bool, true, false, List, [], ◌∷◌, Option, refl, sym, ap, ◌∙◌, subst}
+use Rattle.std.specs.Str.{trim_end}
+use Rattle.std.proofs.lemmas.Bool.{and_parts}
+use Rattle.justfile_base.specs.declared.token_kind.TokenKind.{TokenKind}
+use Rattle.justfile_base.specs.declared.token_kind.TokenKind.TheVariants as kinds
+use Rattle.justfile_model.specs.SignificantTokens.{SignificantToken}
+use Rattle.justfile_model.specs.Tree as tree
+use Rattle.justfile_model.specs.Tree.{Shape, WrittenShape, trimmed}
+use Rattle.justfile_model.specs.Grammar as g
+use Rattle.justfile_model.specs.Expressions.{IsKind, Under}
+use Rattle.justfile_model.specs.Grammar.{BeforeBody, NotEmpty, Items, ItemRest, LineEnd, File}
+use Rattle.justfile_model.specs.Files.{keeps_lexemes}
+use Rattle.justfile_model.specs.NormalShape.{after_newline, normal_rest, normal}
+use Rattle.justfile_model.specs.Printing.{printable_body, printable}
+use Rattle.justfile_model.proofs.Ordered.{plainly}
+use Rattle.justfile_round_trip.proofs.Canon.{Shown, Fragment, Row, recipe_item}
+use Rattle.justfile_round_trip.proofs.Good as good
+use Rattle.justfile_round_trip.proofs.Good.{GoodName, GoodComment, GoodRecipe, pale_after, follows_body, AtStart, AtEnd, After, AfterBody, past_newline}
+use Rattle.justfile_round_trip.proofs.Sound.{Around, around, outside, Known, is_comment, Sound}
+use Rattle.justfile_round_trip.proofs.Comments.{good_comment}
+use Rattle.justfile_round_trip.proofs.BodyTokens.{First}
+use Rattle.justfile_round_trip.proofs.BodyFacts.{Outline, outline_after, colon_after, no_body, NextIs, BodySound}
+use Rattle.justfile_round_trip.proofs.BodyGood.{LineOf, LinesOf, PartsGood, AllPartsGood, inner, shifts, IsOutside, outside_after, outside_first, indent_leads, Walked, walk_outside, body_read}
+use Rattle.justfile_round_trip.proofs.Trimmed.{trimmed_twice, trimmed_printable}
+use Rattle.justfile_round_trip.proofs.BodyFollows.{following, newline_follows}
+use Rattle.justfile_round_trip.proofs.WrittenValues.{fact_as, past, value_at, good_expression}
+
+-- ---- along a derivation
+
+past_walked : (P : Outline → Type 0) → ((k : TokenKind) (l : List ℕ) (s : Outline) → shifts k ≡ false → P s → P (outline_after k l s)) → (t : SignificantToken) (ts : List SignificantToken) (k : TokenKind) → IsKind k t → shifts k ≡ false
+    → Walked P (t ∷ ts) → Walked P ts
+past_walked P keep t ts k e stays w = record { outline = outline_after t.tok.kind t.tok.lexeme w.outline; is = keep t.tok.kind t.tok.lexeme w.outline (ap shifts e ∙ stays) w.is; sound = w.sound.1 }
+
+-- Of the tokens outside bodies: nothing is open there, and what is known of each of them and of the bodies after them. A comment is the token before them, or not.
+record Ahead (c : Bool) (ts : List SignificantToken) : Type 0 where
+  facts : Sound outside c ts
+  bodies : Walked IsOutside ts
+
+-- after a token that opens nothing
+past_token : {c : Bool} (t : SignificantToken) (ts : List SignificantToken) (k : TokenKind) → IsKind k t → around k t.tok.lexeme outside ≡ outside → shifts k ≡ false → Ahead c (t ∷ ts) → Ahead (is_comment k) ts
+past_token t ts k e same stays h = record {
+  facts = subst (λ s. Sound s (is_comment k) ts) same (past outside t ts k e h.facts.2);
+  bodies = past_walked IsOutside outside_after t ts k e stays h.bodies;
+}
+
+lexed_comment : {s : Around} {c : Bool} (t : SignificantToken) → IsKind kinds.Comment t → Known s c t.tok → GoodComment (trim_end t.tok.lexeme)
+lexed_comment t kind h = good_comment t.tok.lexeme h.utf8 (fact_as t kinds.Comment kind h)
+
+lexed_name : {s : Around} {c : Bool} (t : SignificantToken) → IsKind kinds.Identifier t → Known s c t.tok → GoodName t.tok.lexeme
+lexed_name t kind h = record { is_name = fact_as t kinds.Identifier kind h; utf8 = h.utf8 }
+
+-- ---- bodies
+
+-- after the colon of a recipe
+record IsHeader (s : Outline) : Type 0 where
+  is_outside : IsOutside s
+  colon : s.colon ≡ true
+
+colon_stays : (k : TokenKind) (b : Bool) → shifts k ≡ false → b ≡ true → colon_after k b ≡ true
+colon_stays kinds.Colon b stays e = refl
+colon_stays kinds.Dedent b stays e = cc
+colon_stays _ b stays e = e
+
+header_after : (k : TokenKind) (l : List ℕ) (s : Outline) → shifts k ≡ false → IsHeader s → IsHeader (outline_after k l s)
+header_after k l s stays h = record { is_outside = outside_after k l s stays h.is_outside; colon = colon_stays k s.colon stays h.colon }
+
+past_colon : (t : SignificantToken) (ts : List SignificantToken) → IsKind kinds.Colon t → Walked IsOutside (t ∷ ts) → Walked IsHeader ts
+past_colon t ts e w = record {
+  outline = outline_after t.tok.kind t.tok.lexeme w.outline;
+  is = record { is_outside = outside_after t.tok.kind t.tok.lexeme w.outline (ap shifts e) w.is; colon = ap (λ k. colon_after k w.outline.colon) e };
+  sound = w.sound.1;
+}
+
+past_indent : (t : SignificantToken) (ts : List SignificantToken) → IsKind kinds.Indent t → Walked IsHeader (t ∷ ts) → BodySound (inner First false true) ts
+past_indent t ts e w =
+    subst (λ o. BodySound o ts) (indent_leads t.tok.lexeme w.outline w.is.colon w.is.is_outside.interpolation w.is.is_outside.levels)
+    (subst (λ k. BodySound (outline_after k t.tok.lexeme w.outline) ts) e w.sound.1)
+
+-- what is known at the first line of a body
+record InBody (ts : List SignificantToken) : Type 0 where
+  facts : Sound outside false ts
+  body : BodySound (inner First false true) ts
+
+before_body : {text : Option (List ℕ)} {ts rest : List SignificantToken} → BeforeBody text ts rest → Sound outside false ts → Walked IsHeader ts → InBody rest
+before_body (g.at_once {newline} {indent} {rest} kind kind2) h w = record {
+  facts = past outside indent rest kinds.Indent kind2 (past outside newline (indent ∷ rest) kinds.Eol kind h.2).2;
+  body = past_indent indent rest kind2 (past_walked IsHeader header_after newline (indent ∷ rest) kinds.Eol kind refl w);
+}
+before_body (g.commented {comment} {newline} {indent} {rest} kind kind2 kind3) h w = record {
+  facts = past outside indent rest kinds.Indent kind3 (past outside newline (indent ∷ rest) kinds.Eol kind2 (past outside comment (newline ∷ indent ∷ rest) kinds.Comment kind h.2).2).2;
+  body = past_indent indent rest kind3
+      (past_walked IsHeader header_after newline (indent ∷ rest) kinds.Eol kind2 refl (past_walked IsHeader header_after comment (newline ∷ indent ∷ rest) kinds.Comment kind refl w));
+}
+
+module _ (limit : ℕ) where
+  record PartsAt (fs : List Fragment) (rest : List SignificantToken) : Type 0 where
+    parts : PartsGood limit fs
+    following : Sound outside false rest
+
+  parts_good : {ns : Shown} {fs : List Fragment} {ts rest : List SignificantToken} → LineOf limit fs ns ts rest → Sound outside false ts → PartsAt fs rest
+  parts_good (g.line_ends {token = t} {rest = rest} kind) h = record { parts = tt; following = past outside t rest kinds.Eol kind h.2 }
+  parts_good (g.body_ends kind) h = record { parts = tt; following = h }
+  parts_good (g.text {token = t} {tokens = tokens} kind r) h =
+      let m = parts_good r (past outside t tokens kinds.Text kind h.2) in
+      record { parts = (h.0.utf8, m.parts); following = m.following }
+  parts_good (g.interpolation {start = start} {end = stop} {tokens = tokens} {others = on} kind x kind2 r) h =
+      let inside : Around = around kinds.InterpolationStart [] outside in
+      let v = value_at (Under limit) x inside false (past outside start tokens kinds.InterpolationStart kind h.2) in
+      let m = parts_good r (past inside stop on kinds.InterpolationEnd kind2 v.following.2) in
+      record { parts = (good_expression limit x v, m.parts); following = m.following }
+
+  record LinesAt (ls : List Row) (rest : List SignificantToken) : Type 0 where
+    parts : AllPartsGood limit ls
+    following : Sound outside false rest
+
+  all_parts_good : {ns : Shown} {ls : List Row} {ts rest : List SignificantToken} → LinesOf limit ls ns ts rest → Sound outside false ts → LinesAt ls rest
+  all_parts_good (g.no_line {token = t} {rest = rest} kind) h = record { parts = tt; following = past outside t rest kinds.Dedent kind h.2 }
+  all_parts_good (g.empty_line {token = t} {tokens = tokens} kind r) h =
+      let m = all_parts_good r (past outside t tokens kinds.Eol kind h.2) in
+      record { parts = (tt, m.parts); following = m.following }
+  all_parts_good (g.some_line l r) h =
+      let first = parts_good l h in
+      let m = all_parts_good r first.following in
+      record { parts = (first.parts, m.parts); following = m.following }
+
+  -- a recipe with a body; where levels would close within it, the file ends after it
+  record BlockGood (name : List ℕ) (body : List Row) (rest : List SignificantToken) : Type 0 where
+    good : GoodRecipe limit name body
+    some : NotEmpty body
+    last : pale_after body ≡ true → NextIs (λ k. k ≡ kinds.Eof) rest
+    following : Ahead false rest
+
+  block_good : {ns : Shown} (name colon : SignificantToken) {lines : List Row} {comment : Option (List ℕ)} {tokens body rest : List SignificantToken} → IsKind kinds.Identifier name → IsKind kinds.Colon colon → BeforeBody comment tokens body → LinesOf limit lines ns body rest → NotEmpty (trimmed lines)
+      → (c : Bool) → Ahead c (name ∷ colon ∷ tokens) → printable_body (trimmed lines) ≡ true → BlockGood name.tok.lexeme (trimmed lines) rest
+  block_good name colon {lines} {tokens} kind kind2 before read some c h p =
+      let on = past_token name (colon ∷ tokens) kinds.Identifier kind refl refl h in
+      let start = before_body before (past outside colon tokens kinds.Colon kind2 on.facts.2) (past_colon colon tokens kind2 on.bodies) in
+      let parts = all_parts_good read start.facts in
+      let body = body_read limit true read start.body parts.parts (sym (trimmed_printable lines) ∙ p) in
+      record {
+        good = record { named = lexed_name name kind h.facts.0; good = body.good; ended = trimmed_twice lines };
+        some = some;
+        last = body.last;
+        following = record { facts = parts.following; bodies = record { outline = no_body; is = outside_first; sound = body.sound } };
+      }
+
+  -- ---- line ends of the normal shape
+
+  start_after_newline : (r : Shape) → AtStart limit r → AtStart limit (after_newline r)
+  start_after_newline [] h = good.newline h
+  start_after_newline (tree.Newline ∷ []) h = h
+  start_after_newline (tree.Newline ∷ tree.Newline ∷ r) h = h
+  start_after_newline (tree.Newline ∷ _ ∷ r) h = good.newline h
+  start_after_newline (_ ∷ r) h = good.newline h
+
+  end_after_newline : (r : Shape) → AtStart limit r → AtEnd limit (after_newline r)
+  end_after_newline [] h = good.line_end h
+  end_after_newline (tree.Newline ∷ []) h = good.line_end (past_newline limit h)
+  end_after_newline (tree.Newline ∷ tree.Newline ∷ r) h = good.line_end (past_newline limit h)
+  end_after_newline (tree.Newline ∷ _ ∷ r) h = good.line_end h
+  end_after_newline (_ ∷ r) h = good.line_end h
+
+  after_end : (c : Bool) (r : Shape) → AtEnd limit r → After limit c r
+  after_end true r h = h
+  after_end false r h = good.bare h
+
+  -- the line end that is made after a body
+  optional_body_newline : (body : List Row) (items : Shape) → (pale_after body ≡ true → items ≡ []) → AtStart limit (normal_rest items) → AfterBody limit body (after_newline (normal_rest items))
+  optional_body_newline body items last h = by (normal_rest items) (newline_follows items) (λ p. ap (λ i. following (after_newline (normal_rest i))) (last p)) h
+    where
+      by : (r : Shape) → follows_body (following (after_newline r)) ≡ true → (pale_after body ≡ true → following (after_newline r) ≡ []) → AtStart limit r → AfterBody limit body (after_newline r)
+      by [] f l h = good.body_end f l h
+      by (tree.Newline ∷ []) f l h = good.body_end f l (past_newline limit h)
+      by (tree.Newline ∷ tree.Newline ∷ r) f l h = good.body_end f l (past_newline limit h)
+      by (tree.Newline ∷ _ ∷ r) f l h = good.body_end f l h
+      by (_ ∷ r) f l h = good.body_end f l h
+
+  start_block : (name : List ℕ) (body : List Row) (items : Shape) → NotEmpty body → GoodRecipe limit name body → AfterBody limit body items → AtStart limit (recipe_item name body ∷ items)
+  start_block name [] items some h more = absurd some
+  start_block name (l ∷ ls) items some h more = good.recipe h more
+
+  -- no item is before the end of the file
+  file_ended : {items : WrittenShape} {ns : Shown} {ts : List SignificantToken} → Items keeps_lexemes (Under limit) items ns ts → NextIs (λ k. k ≡ kinds.Eof) ts → items ≡ []
+  file_ended (g.end kind) e = refl
+  file_ended (g.blank kind more) e = let bad : kinds.Eol ≡ kinds.Eof = sym kind ∙ e in cc
+  file_ended (g.comment kind more) e = let bad : kinds.Comment ≡ kinds.Eof = sym kind ∙ e in cc
+  file_ended (g.on_line (g.assignment kind kind2 x) more) e = let bad : kinds.Identifier ≡ kinds.Eof = sym kind ∙ e in cc
+  file_ended (g.on_line (g.header kind kind2) more) e = let bad : kinds.Identifier ≡ kinds.Eof = sym kind ∙ e in cc
+  file_ended (g.block (g.recipe kind kind2 before read some) more) e = let bad : kinds.Identifier ≡ kinds.Eof = sym kind ∙ e in cc
+
+  -- ---- items
+
+  -- what is printed of written items
+  abbrev rest_of : WrittenShape → Shape
+  rest_of items = normal_rest (plainly items)
+
+  -- a comment trails an item that is none
+  trailing_good : (t : SignificantToken) (items : WrittenShape) (c : Bool) → IsKind kinds.Comment t → Known outside c t.tok → AtEnd limit (rest_of items) → After limit c (rest_of (tree.Comment (trim_end t.tok.lexeme) ∷ items))
+  trailing_good t items true kind h e = absurd (h.apart refl refl kind)
+  trailing_good t items false kind h e = good.trailing (lexed_comment t kind h) e
+
+  mutual
+    items_good : {items : WrittenShape} {ns : Shown} {ts : List SignificantToken} → Items keeps_lexemes (Under limit) items ns ts → (c : Bool) → Ahead c ts → printable (plainly items) ≡ true → AtStart limit (rest_of items)
+    items_good (g.end kind) c h p = good.newline good.end
+    items_good (g.blank {items = items} {token = t} {rest = rest} kind more) c h p = start_after_newline (rest_of items) (items_good more false (past_token t rest kinds.Eol kind refl refl h) p)
+    items_good (g.comment {token = t} {rest = rest} kind more) c h p = good.comment (lexed_comment t kind h.facts.0) (after_good more true (past_token t rest kinds.Comment kind refl refl h) p)
+    items_good (g.on_line (g.assignment {name = name} {operator = operator} {tokens = tokens} kind kind2 x) more) c h p =
+        let on = past_token operator tokens kinds.ColonEquals kind2 refl refl (past_token name (operator ∷ tokens) kinds.Identifier kind refl refl h) in
+        let v = value_at (Under limit) x outside false on.facts in
+        good.assignment (lexed_name name kind h.facts.0) (good_expression limit x v) (after_good more false (record { facts = v.following; bodies = walk_outside limit x on.bodies }) p)
+    items_good (g.on_line (g.header {name = name} {colon = colon} {rest = rest} kind kind2) more) c h p =
+        good.header (lexed_name name kind h.facts.0) (after_good more false (past_token colon rest kinds.Colon kind2 refl refl (past_token name (colon ∷ rest) kinds.Identifier kind refl refl h)) p)
+    items_good (g.block {items = items} {rest = rest} (g.recipe {lines = lines} {name = name} {colon = colon} kind kind2 before read some) more) c h p =
+        let parts = and_parts (printable_body (trimmed lines)) (printable (plainly items)) p in
+        let b = block_good name colon kind kind2 before read some c h parts.0 in
+        start_block name.tok.lexeme (trimmed lines) (after_newline (rest_of items)) b.some b.good
+        (optional_body_newline (trimmed lines) (plainly items) (λ pale. ap plainly (file_ended more (b.last pale))) (items_good more false b.following parts.1))
+
+    after_good : {items : WrittenShape} {ns : Shown} {ts : List SignificantToken} → ItemRest keeps_lexemes (Under limit) items ns ts → (c : Bool) → Ahead c ts → printable (plainly items) ≡ true → After limit c (rest_of items)
+    after_good (g.trailing {items = items} {token = t} {rest = rest} kind e) c h p = trailing_good t items c kind h.facts.0 (line_end_good e true (past_token t rest kinds.Comment kind refl refl h) p)
+    after_good (g.bare {items = items} e) c h p = after_end c (rest_of items) (line_end_good e c h p)
+
+    line_end_good : {items : WrittenShape} {ns : Shown} {ts : List SignificantToken} → LineEnd keeps_lexemes (Under limit) items ns ts → (c : Bool) → Ahead c ts → printable (plainly items) ≡ true → AtEnd limit (rest_of items)
+    line_end_good (g.line_end {items = items} {token = t} {rest = rest} kind more) c h p = end_after_newline (rest_of items) (items_good more false (past_token t rest kinds.Eol kind refl refl h) p)
+    line_end_good (g.file_end kind) c h p = good.line_end good.end
+
+  normal_good : (shape : Shape) → AtStart limit (normal_rest shape) → AtStart limit (normal shape)
+  normal_good [] h = good.end
+  normal_good (i ∷ shape) h = h
+
+  -- the normal shape of a file
+  pub file_good : {items : WrittenShape} {ns : Shown} {ts : List SignificantToken} → File keeps_lexemes (Under limit) items ns ts → Sound outside false ts → BodySound no_body ts → printable (plainly items) ≡ true → AtStart limit (normal (plainly items))
+  file_good {items} {ts = ts} file s b p = normal_good (plainly items) (by file (record { facts = s; bodies = record { outline = no_body; is = outside_first; sound = b } }) p)
+    where
+      by : {items : WrittenShape} {ns : Shown} {ts : List SignificantToken} → File keeps_lexemes (Under limit) items ns ts → Ahead false ts → printable (plainly items) ≡ true → AtStart limit (rest_of items)
+      by (g.marked {token = t} {rest = rest} kind more) h p = items_good more false (past_token t rest kinds.ByteOrderMark kind refl refl h) p
+      by (g.unmarked more) h p = items_good more false h p
