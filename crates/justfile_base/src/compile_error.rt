@@ -6,7 +6,9 @@ use crate::token::Token;
 /// A refusal: why, and the token at which it stands.
 #[derive(Debug, Drop, PartialEq)]
 pub struct CompileError<'src> {
+    /// What is wrong.
     pub kind: CompileErrorKind<'src>,
+    /// Where it is wrong.
     pub token: Token<'src>,
 }
 

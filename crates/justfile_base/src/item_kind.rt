@@ -5,9 +5,13 @@ use std::fmt;
 /// What an item is.
 #[derive(Clone, Copy, Debug, PartialEq, Eq)]
 pub enum ItemKind {
+    /// `name := value`
     Assignment,
+    /// A line that begins with `#`, or such a text after an item.
     Comment,
+    /// The end of a line.
     Newline,
+    /// A recipe, with a body or without one.
     Recipe,
 }
 

@@ -9,6 +9,7 @@ use std::ops::Deref;
 /// A name: a token that is an identifier.
 #[derive(Clone, Copy, Debug, PartialEq, Eq, PartialOrd, Ord)]
 pub struct Name<'src> {
+    /// The identifier.
     pub token: Token<'src>,
     pub ghost is_identifier: { token.kind ≡ Identifier },
 }

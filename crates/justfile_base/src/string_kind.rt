@@ -13,14 +13,18 @@ use crate::token_kind::TokenKind;
 /// The quote that delimits a literal.
 #[derive(Clone, Copy, Debug, PartialEq, Eq, PartialOrd, Ord)]
 pub enum StringDelimiter {
+    /// `` ` ``, of a command.
     Backtick,
+    /// `"`, between which escapes are replaced.
     QuoteDouble,
+    /// `'`, between which the text stands for itself.
     QuoteSingle,
 }
 
 /// How a literal is delimited: by which quote, and whether it is tripled.
 #[derive(Clone, Copy, Debug, PartialEq, Eq, PartialOrd, Ord)]
 pub struct StringKind {
+    /// The quote.
     pub delimiter: StringDelimiter,
     /// Whether the delimiter is tripled.
     pub indented: bool,

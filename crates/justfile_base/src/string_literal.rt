@@ -13,6 +13,7 @@ pub struct StringLiteral<'src> {
     pub cooked: String,
     /// Whether the text is to be expanded as a shell would.
     pub expand: bool,
+    /// How the literal is delimited.
     pub kind: StringKind,
     /// The part of a format string that the literal is, if it is one.
     pub part: Option<FormatStringPart>,

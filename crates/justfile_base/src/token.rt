@@ -10,10 +10,13 @@ use crate::token_kind::TokenKind;
 /// line that it ends.
 #[derive(Clone, Copy, Debug, PartialEq, Eq, PartialOrd, Ord)]
 pub struct Token<'src> {
+    /// The number of bytes before the token in its line.
     pub column: usize,
+    /// What the token is.
     pub kind: TokenKind,
     /// The number of bytes.
     pub length: usize,
+    /// The line that the token begins on, from 0.
     pub line: usize,
     /// The number of bytes of the source before the token.
     pub offset: usize,

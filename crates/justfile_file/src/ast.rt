@@ -20,6 +20,7 @@ use std::collections::BTreeSet;
 /// A file that was parsed.
 #[derive(Debug, Drop)]
 pub struct Ast<'src> {
+    /// The items, in the order of the file.
     pub items: Vec<Item<'src>>,
     /// What the file uses that only a justfile with lists may, each with its token, in order.
     pub list_features: Vec<(ListFeature, Token<'src>)>,

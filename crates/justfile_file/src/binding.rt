@@ -5,6 +5,7 @@ use justfile_base::{Keyed, Name, Number};
 pub struct Binding<'src, V> {
     /// How many imports and modules lie between its file and the root.
     pub file_depth: u32,
+    /// What the value is bound to.
     pub name: Name<'src>,
     /// The number that no other binding of the numerator has.
     pub number: Number,
@@ -12,6 +13,7 @@ pub struct Binding<'src, V> {
     pub prelude: bool,
     /// Whether lists of variables leave it out.
     pub private: bool,
+    /// The value that is bound.
     pub value: V,
 }
 

@@ -19,6 +19,7 @@ use std::collections::BTreeSet;
 /// A line of a recipe's body.
 #[derive(Debug, Drop, PartialEq)]
 pub struct Line<'src> {
+    /// Its texts and its expressions between braces, in order.
     pub fragments: Vec<Fragment<'src>>,
     /// The line of the source that it stands on, from 0.
     pub number: usize,

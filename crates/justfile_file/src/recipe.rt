@@ -22,6 +22,7 @@ pub struct UnresolvedRecipe<'src> {
     pub file_depth: u32,
     /// The offsets of the imports that lead to its file, the outermost first.
     pub import_offsets: Vec<usize>,
+    /// What the recipe is called.
     pub name: Name<'src>,
     /// The number that no other recipe of the numerator has.
     pub number: Number,

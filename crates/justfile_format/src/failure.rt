@@ -9,14 +9,19 @@ use std::io::Write;
 pub enum Failure {
     /// The arguments are not those that the program takes.
     Usage,
+    /// Standard input could not be read.
     Reading,
+    /// What was read is not UTF-8.
     NotUtf8,
     /// The text is no justfile.
     Refused,
     /// The printed text would not parse back.
     NotPrintable,
+    /// Standard output could not be written.
     Writing,
+    /// Memory ran out.
     Memory,
+    /// Numbers of bindings or recipes ran out.
     Numbers,
 }
 

@@ -56,7 +56,7 @@ pub record IsStringOf (expander : Expansions) (token : Token) (expand : Bool) (l
   pub kind : literal.kind ≡ kind_of (lexeme_of token)
   pub part : literal.part ≡ None
 
--- the token is such a part of a format string of this kind
+-- the token is this part of a format string of this kind
 abbrev pub is_part : StringKind → FormatStringPart → List ℕ → Bool
 is_part kind part = is_framed (front_len kind part) (end_len kind part)
 

@@ -13,7 +13,7 @@ pub record IsAfterColon (tokens : List Tok) : Type 0 where
   pub is_colon : colon.kind ≡ Colon
   pub no_dedent : All (λ t. t.kind ≢ Dedent) since
 
--- an indent came after such a colon, and no dedent after it
+-- an indent came after a colon with no dedent between them, and no dedent after the indent
 pub record IsInBody (tokens : List Tok) : Type 0 where
   pub before : List Tok
   pub indent : Tok

@@ -20,11 +20,11 @@ use Rattle.justfile_model.specs.Recursive.{recursive}
 pub data Place (R T B : Type 0) : Type 0 where
   -- an expression of a level, which is a condition or not
   At : (level : Level) (condition : Bool) (s : State R T B) → Place R T B
-  -- from after the `if`, which is the word
+  -- what follows an `if`, which is `word`
   Conditional : (word : T) (s : State R T B) → Place R T B
   -- up to the closing delimiter and with it
   Sequence : (closing : TokenKind) (s : State R T B) → Place R T B
-  -- from after an expression of a format string that starts so
+  -- what follows an expression of a format string that begins with `start`
   FormatParts : (start : List ℕ) (s : State R T B) → Place R T B
 
 abbrev pub size : {R T B : Type 0} → Place R T B → ℕ
@@ -175,7 +175,7 @@ module _ {R T A B S D : Type 0} (leaves : Leaves R T A B S D) where
       c ← expect leaves kinds.BraceR e.1
       Ok (e.0, c.1)
 
-    -- the other branch of a conditional, from after `else`
+    -- what follows `else`: the other branch of a conditional
     unfoldable pub otherwise_rule : State R T B → ReadExpr
     otherwise_rule s =
         choose (accept_word leaves (codes "if") s)

@@ -15,40 +15,40 @@ PieceRead = Result (Option ℕ × List ℕ) EscapeFault
 abbrev pub hex_len : List ℕ → ℕ
 hex_len cs = prefix_len is_ascii_hexdigit (take 7 cs)
 
--- after the closing brace
+-- what an escape with these digits stands for, once its brace is closed
 abbrev pub number : List ℕ → List ℕ → PieceRead
 number hex rest =
     if length hex == 0 then Err UnicodeEscapeEmpty
     else if scalar (digits_value 16 hex) then Ok (Some (digits_value 16 hex), rest)
     else Err (UnicodeEscapeRange hex)
 
--- after the digits
+-- the rest of an escape after its digits
 abbrev pub closing_brace : List ℕ → List ℕ → PieceRead
 closing_brace hex [] = Err UnicodeEscapeUnterminated
 closing_brace hex (c ∷ rest) = if c == 125 then number hex rest else Err (UnicodeEscapeCharacter c)
 
--- after the opening brace
+-- the rest of an escape after its opening brace
 abbrev pub digits : List ℕ → PieceRead
 digits cs =
     if nat_lt 6 (hex_len cs) then Err (UnicodeEscapeLength (take (hex_len cs) cs))
     else closing_brace (take (hex_len cs) cs) (drop (hex_len cs) cs)
 
--- after the `u`
+-- the rest of an escape after its `u`
 abbrev pub unicode : List ℕ → PieceRead
 unicode [] = Err UnicodeEscapeUnterminated
 unicode (c ∷ rest) = if c == 123 then digits rest else Err (UnicodeEscapeDelimiter c)
 
--- after a carriage return
+-- the rest of a line end whose carriage return follows a backslash
 abbrev pub line_feed_piece : List ℕ → PieceRead
 line_feed_piece [] = Err (InvalidEscapeSequence 13)
 line_feed_piece (c ∷ rest) = if c == 10 then Ok (None, rest) else Err (InvalidEscapeSequence 13)
 
--- with the character that is named
+-- the piece of a backslash and the character that it names, if it names one
 abbrev pub known : ℕ → Option ℕ → List ℕ → PieceRead
 known c None rest = Err (InvalidEscapeSequence c)
 known c (Some value) rest = Ok (Some value, rest)
 
--- after a backslash
+-- the rest of an escape after its backslash
 abbrev pub escape_piece : List ℕ → PieceRead
 escape_piece [] = Err UnicodeEscapeUnterminated
 escape_piece (c ∷ rest) =
@@ -64,12 +64,12 @@ first_escaped_piece c rest = if c == 92 then escape_piece rest else Ok (Some c, 
 abbrev pub Cooked : Type 0
 Cooked = Result (List ℕ) EscapeFault
 
--- with the value of a piece before it
+-- the cooked text with the value of a piece before it
 abbrev pub with_value : Option ℕ → Cooked → Cooked
 with_value value (Ok cooked) = Ok (option_to_list value ++ cooked)
 with_value value (Err fault) = Err fault
 
--- after the first piece
+-- the cooked text whose first piece was read so
 abbrev pub go_on : (List ℕ → Cooked) → PieceRead → Cooked
 go_on more (Ok x) = with_value x.0 (more x.1)
 go_on more (Err fault) = Err fault

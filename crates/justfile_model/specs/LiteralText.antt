@@ -38,6 +38,6 @@ ends Comment bs = is_line_end bs
 ends Body bs = is_line_end bs || is_interpolation_start bs
 ends (Literal k format) bs = is_delimiter k bs || format && is_interpolation_start bs
 
--- how many bytes of such text are at the front: all up to the first end, or to the end of the text
+-- how many bytes of raw text are at the front: all up to the first end, or to the end of the text
 abbrev pub raw_len : RawText → List ℕ → ℕ
 raw_len s = pieces_len (hides s) (ends s) 0

@@ -19,7 +19,7 @@ pub record Mode : Type 0 where
   pub levels : List (List ℕ)
   -- a colon came since the last dedent
   pub colon : Bool
-  -- an indent came after such a colon
+  -- an indent came after a colon, and no dedent after that colon
   pub in_body : Bool
   -- the start of the open interpolation
   pub interpolation : Option Tok

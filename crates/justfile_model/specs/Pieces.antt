@@ -20,7 +20,7 @@ pub record IsBetweenPieces (s : RawText) (before follows : List ℕ) : Type 0 wh
   pub joined : before ≡ concat pieces
   pub are_pieces : ArePieces s pieces follows
 
--- an end: such text ends here, and no escape begins here, as at the first brace of `{{{{`
+-- an end: the text that is read stops here, and no escape begins here, as at the first brace of `{{{{`
 pub record IsEnd (s : RawText) (text : List ℕ) : Type 0 where
   pub ends_here : IsTrue (ends s text)
   pub hides_nothing : hides s text ≡ 0

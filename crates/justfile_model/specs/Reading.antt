@@ -64,7 +64,7 @@ pub data Refusal (T B : Type 0) : Type 0 where
   NotCooked : (fault : LiteralFault) (literal : B) → Refusal T B
   -- a rule is broken
   BreaksRule : (rule : Broken B) → Refusal T B
-  -- a number is wanted, and its counter has none left; where the counters stand
+  -- a number is wanted, and its counter, one of these, has none left
   NoNumber : Counters → Refusal T B
 
 infixl 10 ◌>>=◌

@@ -6,22 +6,39 @@ use std::fmt;
 /// What a file uses that only a justfile with lists may.
 #[derive(Clone, Copy, Debug, PartialEq, Eq)]
 pub enum ListFeature {
+    /// `max` of an `arg` attribute.
     ArgMax,
+    /// `min` of an `arg` attribute.
     ArgMin,
+    /// The function `bool`.
     BoolFunction,
+    /// A comparison that is no condition of a conditional.
     ComparisonOperator,
+    /// `flag` of an `arg` attribute.
     Flag,
+    /// A conditional without an `else`.
     IfWithoutElse,
+    /// The function `join_list`.
     JoinListFunction,
+    /// `++`
     ListConcatenationOperator,
+    /// Elements between brackets.
     ListLiteral,
+    /// `&&` or `||`.
     LogicalOperator,
+    /// `multiple` of an `arg` attribute.
     Multiple,
+    /// `!`
     NegationOperator,
+    /// A condition that is no comparison.
     NonComparisonCondition,
+    /// The function `num_jobs`.
     NumJobsFunction,
+    /// The function `show`.
     ShowFunction,
+    /// The function `split`.
     SplitFunction,
+    /// The function `which`.
     WhichFunction,
 }
 

@@ -4,6 +4,8 @@ use justfile_base::Delimiter;
 /// its first part ends.
 #[derive(Clone, Copy, Debug, PartialEq, Eq)]
 pub struct OpenDelimiter {
+    /// What was opened.
     pub delimiter: Delimiter,
+    /// The line on which its token ends, from 0.
     pub line: usize,
 }

@@ -36,19 +36,19 @@ pub record IsInTable (table : List TableEntry) (token : Token) : Type 0 where
 pub record AreNotedIn (table : List TableEntry) (features : List (ListFeature × Token)) : Type 0 where
   pub all : All (λ (x : ListFeature × Token). IsInTable table x.1) features
 
--- a literal, of such a token, with its text, which is expanded if it is marked so; it is no part of a format string
+-- a literal, of a token that `IsToken` allows, with its text, which is expanded if it is marked so; it is no part of a format string
 pub record IsGivenLiteral (expander : Expansions) (IsToken : Token → Type 0) (literal : literals.StringLiteral) : Type 0 where
   pub among : IsToken literal.token
   pub cooked : cooked_text expander (string_of literal.expand (lexeme_of literal.token)) ≡ Ok (string_bytes literal.cooked)
   pub kind : literal.kind ≡ kind_of (lexeme_of literal.token)
   pub part : literal.part ≡ None
 
--- a command between backticks, of such a token, with its text
+-- a command between backticks, of a token that `IsToken` allows, with its text
 pub record IsGivenCommand (expander : Expansions) (IsToken : Token → Type 0) (contents : List ℕ) (token : Token) : Type 0 where
   pub among : IsToken token
   pub cooked : cooked_text expander (Command (lexeme_of token)) ≡ Ok contents
 
--- a part of a format string of a kind, of such a token, with its text
+-- a part of a format string of a kind, of a token that `IsToken` allows, with its text
 pub record IsGivenPart (IsToken : Token → Type 0) (kind : StringKind) (part : FormatStringPart) (literal : literals.StringLiteral) : Type 0 where
   pub among : IsToken literal.token
   pub is : IsPartOf kind part literal.token literal

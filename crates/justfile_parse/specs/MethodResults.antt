@@ -120,7 +120,7 @@ pub record IsRead (conditions : Conditions) (table : List TableEntry) (file_dept
   pub given : IsGivenItems conditions.expander (IsInTable table) file_depth import_offsets old new x.0
   pub noted : AreNotedIn table x.1
 
--- the error is that of the refusal, at such a token
+-- the error is that of the refusal, at a token that `IsToken` allows
 pub record IsReadError (conditions : Conditions) (tokens : List SignificantToken) (IsToken : Token → Type 0) (e : CompileError) : Type 0 where
   pub refusal : tree.Refusal
   pub read : tree.tree_of_tokens conditions tokens ≡ Err refusal

@@ -22,7 +22,7 @@ pub(crate) fn find_left_level(level: Level) -> Level
     }
 }
 
-/// What stands to the right of them.
+/// What stands to the right of the operators of a level.
 pub(crate) fn find_right_level(level: Level) -> Level
     ensures is { result ≡ operators.right level }
     ensures binary { IsTrue (is_binary level) → IsTrue (is_binary result) }

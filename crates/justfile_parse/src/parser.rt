@@ -64,7 +64,8 @@ impl<'run, 'src, X: Expander> Parser<'run, 'src, X> {
         }
     }
 
-    /// The next token, if there is one.
+    /// The next token, for callers that need only that token: `peek`, with the contract that says no
+    /// more.
     pub(crate) fn peek_front(&self) -> Option<TableEntry<'run, 'src>>
         ensures { result ≡ front (state_of X.answer self.now).left }
     {

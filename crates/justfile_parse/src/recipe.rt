@@ -66,7 +66,7 @@ fn has_shebang(lines: &[Line<'_>]) -> bool
     }
 }
 
-/// Whether the line does.
+/// Whether the line begins with a text that begins `#!`.
 fn is_shebang(line: &Line<'_>) -> bool
     ensures { result ≡ reader.is_shebang (line_tree line.now) }
 {

@@ -9,6 +9,7 @@ use std::alloc::{AllocError, Global};
 /// A token that the parser reads.
 #[derive(Clone, Copy)]
 pub struct TableEntry<'run, 'src> {
+    /// A token that is no whitespace.
     pub token: &'run Token<'src>,
     /// Whether no token stands between it and the one before.
     pub glued: bool,

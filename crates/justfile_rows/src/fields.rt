@@ -3,7 +3,7 @@
 use crate::expansion::Expansion;
 use crate::word::Word;
 use justfile_syntax::indentation::Indentation;
-use row_notation::{field, is_number};
+use row_notation::{field_at, is_number};
 
 /// The indentation that a field is, and four spaces for a field that is none.
 pub(crate) fn indentation_of(field: &str) -> Indentation {
@@ -20,7 +20,7 @@ fn is_breakable(name: &str) -> bool {
 
 /// Whether the fields are of the kinds that a row with this word has.
 pub(crate) fn are_readable(word: Word, fields: &[String]) -> bool {
-    let first = field(fields, 0);
+    let first = field_at(fields, 0);
     match word {
         Word::Breaks => is_breakable(first) && is_number(fields, 1),
         Word::Class => first.parse::<u8>().is_ok(),

@@ -16,7 +16,7 @@ use justfile_syntax::numerator::{Number, Numerator};
 use justfile_syntax::parser::Parser;
 use justfile_syntax::source::Source;
 use justfile_syntax::version::Version;
-use row_notation::{Answer, Text, field, number};
+use row_notation::{Answer, Text, field_at, number_at};
 use std::alloc::Global;
 
 /// The version of the language.
@@ -80,7 +80,7 @@ fn push_printed(answer: &mut Answer, word: Word, indentation: Indentation, ast: 
 /// The indentation of a row.
 fn indentation_for(word: Word, fields: &[String]) -> Indentation {
     match word {
-        Word::PrintsAt | Word::PrintsItem => indentation_of(field(fields, 0)),
+        Word::PrintsAt | Word::PrintsItem => indentation_of(field_at(fields, 0)),
         _ => Indentation::default(),
     }
 }
@@ -144,15 +144,15 @@ fn numerator_of(word: Word, fields: &[String]) -> Numerator {
     if word != Word::Numbers {
         return Numerator::new(0);
     }
-    let mut numerator = Numerator::new(number(fields, 0));
-    for _ in 0..number(fields, 1) {
+    let mut numerator = Numerator::new(number_at(fields, 0));
+    for _ in 0..number_at(fields, 1) {
         let _ = numerator.next_recipe();
     }
     numerator
 }
 
 /// The fields after the first one as one text.
-fn joined(alloc: Global, fields: &[String]) -> Text {
+fn join_fields(alloc: Global, fields: &[String]) -> Text {
     let mut joined = Text::new(alloc);
     for field in fields.iter().skip(1) {
         joined.put(field.as_str());
@@ -163,8 +163,8 @@ fn joined(alloc: Global, fields: &[String]) -> Text {
 /// The expander of a row.
 fn expansion_of(word: Word, fields: &[String]) -> Expansion<'_> {
     match word {
-        Word::Expands => Expansion::of(field(fields, 0)).unwrap_or(Expansion::Unchanged),
-        Word::ExpandsTo => Expansion::Constant(field(fields, 0)),
+        Word::Expands => Expansion::of(field_at(fields, 0)).unwrap_or(Expansion::Unchanged),
+        Word::ExpandsTo => Expansion::Constant(field_at(fields, 0)),
         _ => Expansion::Unchanged,
     }
 }
@@ -177,16 +177,16 @@ fn text_of(word: Word, fields: &[String]) -> &str {
         | Word::Line
         | Word::PrintsAt
         | Word::PrintsItem
-        | Word::Sigils => field(fields, 1),
-        Word::Numbers => field(fields, 2),
-        _ => field(fields, 0),
+        | Word::Sigils => field_at(fields, 1),
+        Word::Numbers => field_at(fields, 2),
+        _ => field_at(fields, 0),
     }
 }
 
 /// What a row's word asks of its fields.
 pub(crate) fn push_fields(answer: &mut Answer, word: Word, fields: &[String]) {
     if word == Word::Beginnings {
-        beginnings(answer, joined(answer.alloc(), fields).as_str());
+        beginnings(answer, join_fields(answer.alloc(), fields).as_str());
     } else {
         push_parsed(answer, word, fields);
     }

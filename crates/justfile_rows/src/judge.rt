@@ -6,7 +6,7 @@ use crate::lexing::lex;
 use crate::program::{formats, runs};
 use crate::texts::{class, cooks, indentation, keyword, opens, unindents, version};
 use crate::word::Word;
-use row_notation::{Answer, field};
+use row_notation::{Answer, field_at};
 use std::alloc::{AllocError, Global};
 
 /// What became of a row.
@@ -44,7 +44,7 @@ fn is_expected(word: Word, least: usize, place: usize) -> bool {
 /// What is found for a row.
 fn found(alloc: Global, word: Word, fields: &[String]) -> Answer {
     let mut answer = Answer::new(alloc);
-    let text = field(fields, 0);
+    let text = field_at(fields, 0);
     match word {
         Word::Breaks | Word::Run => runs(&mut answer, word, fields),
         Word::Class => class(&mut answer, text),

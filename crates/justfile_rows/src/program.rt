@@ -3,7 +3,7 @@
 use crate::stream::Stream;
 use crate::word::Word;
 use justfile_format::run::run;
-use row_notation::{Answer, field, number};
+use row_notation::{Answer, field_at, number_at};
 use std::alloc::{AllocError, Global};
 use std::str;
 
@@ -84,16 +84,16 @@ fn push_run(answer: &mut Answer, argument: &str, streams: &mut Streams<'_>) {
 /// The run of a row, in which the input, a stream or nothing fails.
 pub(crate) fn runs(answer: &mut Answer, word: Word, fields: &[String]) {
     let is_plain = word == Word::Run;
-    let name = if is_plain { "" } else { field(fields, 0) };
+    let name = if is_plain { "" } else { field_at(fields, 0) };
     let argument_place = if is_plain { 0 } else { 2 };
     let input = if name == "encoding" {
         b"\xff"
     } else {
-        field(fields, argument_place + 1).as_bytes()
+        field_at(fields, argument_place + 1).as_bytes()
     };
     let mut streams = Streams::new(answer.alloc(), input);
-    streams.fail(name, number(fields, 1));
-    push_run(answer, field(fields, argument_place), &mut streams);
+    streams.fail(name, number_at(fields, 1));
+    push_run(answer, field_at(fields, argument_place), &mut streams);
 }
 
 /// What a text is formatted to. After it stands what else the run leaves behind, and what a run

@@ -5,7 +5,7 @@ use crate::word::Word;
 use justfile_syntax::item::Item;
 use justfile_syntax::line::Line;
 use justfile_syntax::recipe::UnresolvedRecipe;
-use row_notation::{Answer, field, number};
+use row_notation::{Answer, field_at, number_at};
 
 /// The first recipe of a file's items.
 fn first_recipe<'ast, 'src>(items: &'ast [Item<'src>]) -> Option<&'ast UnresolvedRecipe<'src>> {
@@ -46,10 +46,10 @@ fn push_recipe(answer: &mut Answer, recipe: &UnresolvedRecipe<'_>) {
 /// first line.
 fn push_of_body(answer: &mut Answer, word: Word, fields: &[String], body: &[Line<'_>]) {
     let is_line = word == Word::Line;
-    let at = if is_line { number(fields, 0) } else { 0 };
+    let at = if is_line { number_at(fields, 0) } else { 0 };
     match body.get(at as usize) {
         Some(line) if is_line => push_line(answer, line),
-        Some(line) => push_sigils(answer, line, field(fields, 0) == "guarded"),
+        Some(line) => push_sigils(answer, line, field_at(fields, 0) == "guarded"),
         None => answer.push("none"),
     }
 }

@@ -47,7 +47,7 @@ operation_keys lhs operator rhs = next (key lhs) (next (token_key operator) (nex
 abbrev pub part_key : Expression × literals.StringLiteral → Key
 part_key x = row (next (key x.0) (next (literal_key x.1) end))
 
--- where it may be absent
+-- the key of an expression that may be absent
 abbrev pub option_key : Option (Box Expression) → Key
 option_key None = absent_key
 option_key (Some e) = present_key (key e.value)

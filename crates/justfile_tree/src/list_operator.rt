@@ -6,7 +6,9 @@ use std::fmt;
 /// How a list becomes one text.
 #[derive(Clone, Copy, Debug, PartialEq, Eq)]
 pub enum ListOperator {
+    /// `+`: one after another.
     Concatenate,
+    /// `/`: with a slash between each two.
     Join,
 }
 

@@ -58,17 +58,17 @@ impl FieldReader {
     /// Reads a line. No field goes on after its end, but a text where a backslash stands there.
     pub(crate) fn read(&mut self, line: &str) {
         for character in line.chars() {
-            self.state = self.after(character);
+            self.state = self.take(character);
         }
-        self.state = self.after_line();
+        self.state = self.end_line();
     }
 
     /// What the end of a line leaves.
-    fn after_line(&mut self) -> State {
+    fn end_line(&mut self) -> State {
         if let State::Backslash = self.state {
             return State::Continued;
         }
-        match self.after(' ') {
+        match self.take(' ') {
             State::Blank => State::Blank,
             _ => State::Unreadable,
         }
@@ -98,31 +98,33 @@ impl FieldReader {
     }
 
     /// Takes a character, and answers what it leaves.
-    fn after(&mut self, character: char) -> State {
+    fn take(&mut self, character: char) -> State {
         match self.state {
-            State::Blank => self.after_blank(character),
-            State::Word => self.after_word(character),
-            State::Text => self.after_text(character),
-            State::Closed => self.after_closed(character),
-            State::Backslash => self.after_backslash(character),
-            State::Continued => self.after_continued(character),
-            State::Mark => after_mark(character),
-            State::Code(code) => self.after_digit(code, character),
-            State::Count(count) => after_count(count, character),
-            State::Piece(count) => self.after_piece(count, character),
+            State::Blank => self.take_blank(character),
+            State::Word => self.take_word(character),
+            State::Text => self.take_text(character),
+            State::Closed => self.take_end_of_text(character),
+            State::Backslash => self.take_escape(character),
+            State::Continued => self.take_continuation(character),
+            State::Mark => take_brace(character),
+            State::Code(code) => self.take_digit(code, character),
+            State::Count(count) => take_count(count, character),
+            State::Piece(count) => self.take_piece(count, character),
             State::Unreadable => State::Unreadable,
         }
     }
 
-    fn after_blank(&mut self, character: char) -> State {
+    /// A character where no field has begun.
+    fn take_blank(&mut self, character: char) -> State {
         match character {
             ' ' | '\t' => State::Blank,
             '«' => State::Text,
-            _ => self.after_word(character),
+            _ => self.take_word(character),
         }
     }
 
-    fn after_word(&mut self, character: char) -> State {
+    /// A character of a word, or the blank that ends it.
+    fn take_word(&mut self, character: char) -> State {
         match character {
             ' ' | '\t' => self.end_field(),
             '«' | '»' => State::Unreadable,
@@ -130,7 +132,8 @@ impl FieldReader {
         }
     }
 
-    fn after_text(&mut self, character: char) -> State {
+    /// A character of a text, or what ends it.
+    fn take_text(&mut self, character: char) -> State {
         match character {
             '»' => State::Closed,
             '«' => State::Unreadable,
@@ -140,33 +143,35 @@ impl FieldReader {
     }
 
     /// The blanks at the front of a line do not belong to a text that goes on there.
-    fn after_continued(&mut self, character: char) -> State {
+    fn take_continuation(&mut self, character: char) -> State {
         match character {
             ' ' | '\t' => State::Continued,
-            _ => self.after_text(character),
+            _ => self.take_text(character),
         }
     }
 
-    fn after_closed(&mut self, character: char) -> State {
+    /// The blank that has to follow a text.
+    fn take_end_of_text(&mut self, character: char) -> State {
         match character {
             ' ' | '\t' => self.end_field(),
             _ => State::Unreadable,
         }
     }
 
-    fn after_backslash(&mut self, character: char) -> State {
+    /// What a backslash stands for with this character.
+    fn take_escape(&mut self, character: char) -> State {
         match character {
             'n' => self.put('\n', State::Text),
             'r' => self.put('\r', State::Text),
             't' => self.put('\t', State::Text),
             '\\' => self.put('\\', State::Text),
             'u' => State::Mark,
-            _ => after_first_digit(character),
+            _ => take_first_digit(character),
         }
     }
 
     /// A digit of a character's number, or the brace that ends it.
-    fn after_digit(&mut self, code: u32, character: char) -> State {
+    fn take_digit(&mut self, code: u32, character: char) -> State {
         if let Some(digit) = character.to_digit(16) {
             return State::Code(code.saturating_mul(16).saturating_add(digit));
         }
@@ -177,7 +182,7 @@ impl FieldReader {
     }
 
     /// A character of a piece, or the bracket that ends it.
-    fn after_piece(&mut self, count: u32, character: char) -> State {
+    fn take_piece(&mut self, count: u32, character: char) -> State {
         if character != '›' {
             self.piece.put_character(character);
             return State::Piece(count);
@@ -189,11 +194,13 @@ impl FieldReader {
         State::Text
     }
 
+    /// Puts a character to the field, and goes on so.
     fn put(&mut self, character: char, state: State) -> State {
         self.field.put_character(character);
         state
     }
 
+    /// Ends a field, and begins the next one.
     fn end_field(&mut self) -> State {
         let field = mem::replace(&mut self.field, Text::new(self.alloc));
         match field.finish() {
@@ -211,7 +218,7 @@ impl FieldReader {
 }
 
 /// What the character after `\u` leaves.
-fn after_mark(character: char) -> State {
+fn take_brace(character: char) -> State {
     if character == '{' {
         State::Code(0)
     } else {
@@ -220,7 +227,7 @@ fn after_mark(character: char) -> State {
 }
 
 /// What the first digit of a count leaves.
-fn after_first_digit(character: char) -> State {
+fn take_first_digit(character: char) -> State {
     match character.to_digit(10) {
         Some(digit) => State::Count(digit),
         None => State::Unreadable,
@@ -228,7 +235,7 @@ fn after_first_digit(character: char) -> State {
 }
 
 /// What a character leaves that is a digit of a count or the bracket that ends it.
-fn after_count(count: u32, character: char) -> State {
+fn take_count(count: u32, character: char) -> State {
     match character.to_digit(10) {
         Some(digit) => State::Count(count.saturating_mul(10).saturating_add(digit)),
         None if character == '‹' => State::Piece(count),

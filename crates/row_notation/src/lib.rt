@@ -9,6 +9,6 @@ mod row;
 mod text;
 
 pub use crate::answer::Answer;
-pub use crate::fields::{field, is_number, number};
+pub use crate::fields::{field_at, is_number, number_at};
 pub use crate::row::{Row, rows_of};
 pub use crate::text::Text;

@@ -6,6 +6,7 @@ use std::alloc::{AllocError, Global};
 /// A row: the number of its first line, from 1, and its fields, if they can be read.
 #[derive(Drop)]
 pub struct Row {
+    /// The number of the row's first line, from 1.
     pub line: usize,
     reader: FieldReader,
 }
