@@ -1,6 +1,9 @@
 mod ByteTable
+mod FoundLemmas
 mod KeywordTable
 mod TokenStart
+pub mod AttributeKindLaws
 pub mod IndentationLemmas
 pub mod PathLemmas
+pub mod SignalLaws
 pub mod VersionLemmas

@@ -1,3 +1,4 @@
+pub mod AttributeKind
 pub mod ByteClass
 pub mod CompileErrorKind
 pub mod Delimiter
@@ -11,9 +12,11 @@ pub mod Namepath
 pub mod NumberText
 pub mod Numerator
 pub mod Path
+pub mod Signal
 pub mod Slice
 pub mod StringKind
 pub mod StringLiteral
+pub mod Switch
 pub mod Token
 pub mod TokenKind
 pub mod Version

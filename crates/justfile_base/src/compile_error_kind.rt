@@ -1,13 +1,101 @@
+use crate::attribute_kind::AttributeKind;
 use crate::delimiter::Delimiter;
+use crate::item_kind::ItemKind;
+use crate::name::Name;
+use crate::string_literal::StringLiteral;
 use crate::token_kind::TokenKind;
 
 /// Why a text is refused.
 #[derive(Debug, Drop, PartialEq)]
 pub enum CompileErrorKind<'src> {
+    /// An argument is to be given at least `min` times and at most `max` times, and `min` is the greater.
+    ArgAttributeMinExceedsMax {
+        min: u64,
+        max: u64,
+    },
+    /// `value`, `flag` or `multiple`, whichever is the key, of an argument that is no option.
+    ArgAttributeRequiresOption {
+        key: Name<'src>,
+    },
+    /// The value of `min` or `max` is a number past 64 bits.
+    ArgumentCountParse {
+        key: Name<'src>,
+        value: String,
+    },
+    /// The value of `min` or `max` is no number, or begins with a `0` that it doesn't need.
+    ArgumentCountValue {
+        key: Name<'src>,
+        value: String,
+    },
+    /// An attribute has too few or too many arguments by position.
+    AttributeArgumentCountMismatch {
+        attribute: Name<'src>,
+        /// How many it has.
+        found: usize,
+        /// How many it takes at least.
+        min: usize,
+        /// How many it takes at most; the greatest number where there is no bound.
+        max: usize,
+    },
+    /// An argument of the attribute is to be a literal, and is another expression.
+    AttributeArgumentExpression {
+        attribute: Name<'src>,
+    },
+    /// A key of an attribute stands alone, and needs a value.
+    AttributeKeyMissingValue {
+        key: Name<'src>,
+    },
+    /// A key of an attribute has a value, and takes none.
+    AttributeKeyTakesNoValue {
+        key: Name<'src>,
+    },
+    /// An argument by position stands after one by key.
+    AttributePositionalFollowsKeyword,
     /// A command between backticks that begins with `#!`.
     BacktickShebang,
+    /// Two `arg` attributes of a recipe speak of the same argument.
+    DuplicateArgAttribute {
+        arg: String,
+        /// The line of the first one's name, from 0.
+        first: usize,
+    },
+    /// An attribute is repeated that may stand but once.
+    DuplicateAttribute {
+        /// The second one's name.
+        attribute: Name<'src>,
+        /// The line of the first one's name, from 0.
+        first: usize,
+    },
+    /// An attribute has a key twice.
+    DuplicateAttributeKey {
+        attribute: &'src str,
+        key: &'src str,
+    },
+    /// A construct is put into the same group twice.
+    DuplicateGroupAttribute {
+        /// The line of the first one's name, from 0.
+        first: usize,
+        group: StringLiteral<'src>,
+    },
     /// A text ends after a backslash.
     EscapeEndOfFile,
+    /// Attributes stand before a comment or an empty line.
+    ExtraneousAttributes {
+        /// How many they are.
+        count: usize,
+    },
+    /// An argument is a flag and has a pattern.
+    FlagAndPatternArgAttribute {
+        parameter: String,
+    },
+    /// An argument is a flag and has a value.
+    FlagAndValueArgAttribute {
+        parameter: String,
+    },
+    /// The key `flag` has a value, and takes none.
+    FlagAttributeTakesNoValue {
+        parameter: String,
+    },
     /// A line of a body does not begin as the lines before it.
     InconsistentLeadingWhitespace {
         expected: &'src str,
@@ -17,9 +105,19 @@ pub enum CompileErrorKind<'src> {
     Internal {
         message: &'static str,
     },
+    /// No item of this kind takes the attribute.
+    InvalidAttribute {
+        item_kind: ItemKind,
+        item_name: &'src str,
+        attribute: AttributeKind,
+    },
     /// No escape has this character after its backslash.
     InvalidEscapeSequence {
         character: char,
+    },
+    /// A text is the name of no signal that is known.
+    InvalidSignal {
+        signal: String,
     },
     /// A delimiter closes another one.
     MismatchedClosingDelimiter {
@@ -32,11 +130,31 @@ pub enum CompileErrorKind<'src> {
     MixedLeadingWhitespace {
         whitespace: &'src str,
     },
+    /// The name of an option has a `=` in it.
+    OptionNameContainsEqualSign {
+        parameter: String,
+    },
+    /// The name of an option is empty.
+    OptionNameEmpty {
+        parameter: String,
+    },
+    /// The name of an option begins with `-`.
+    OptionNameStartsWithDash {
+        parameter: String,
+    },
     /// Too many expressions are open.
     ParsingRecursionDepthExceeded,
     /// The text of a literal that is marked `x` is not expanded, for the reason that is given.
     ShellExpansion {
         err: String,
+    },
+    /// The name of a short option has more than one character.
+    ShortOptionWithMultipleCharacters {
+        parameter: String,
+    },
+    /// An `arg` attribute speaks of an argument that the recipe doesn't take.
+    UndefinedArgAttribute {
+        argument: String,
     },
     /// Another character than these follows the first one of a token.
     UnexpectedCharacter {
@@ -75,6 +193,15 @@ pub enum CompileErrorKind<'src> {
     },
     /// The text ends within an escape.
     UnicodeEscapeUnterminated,
+    /// A name is that of no attribute.
+    UnknownAttribute {
+        attribute: &'src str,
+    },
+    /// An attribute doesn't know a key.
+    UnknownAttributeKey {
+        attribute: &'src str,
+        key: &'src str,
+    },
     /// No token begins with this character.
     UnknownStartOfToken {
         start: char,

@@ -1,6 +1,7 @@
 //! The types that all layers of the syntax of justfiles speak of.
 #![tactic(auto)]
 
+pub mod attribute_kind;
 pub mod byte_class;
 pub mod bytes;
 pub mod compile_error;
@@ -21,14 +22,17 @@ pub mod namepath;
 pub mod number;
 pub mod numerator;
 mod path;
+pub mod signal;
 pub mod source;
 pub mod string_kind;
 pub mod string_literal;
+pub mod switch;
 pub mod token;
 pub mod token_kind;
 pub mod unstable_feature;
 pub mod version;
 
+pub use crate::attribute_kind::AttributeKind;
 pub use crate::byte_class::ByteClass;
 pub use crate::compile_error::CompileError;
 pub use crate::compile_error_kind::CompileErrorKind;
@@ -45,9 +49,11 @@ pub use crate::name::Name;
 pub use crate::namepath::Namepath;
 pub use crate::number::Number;
 pub use crate::numerator::Numerator;
+pub use crate::signal::Signal;
 pub use crate::source::Source;
 pub use crate::string_kind::{StringDelimiter, StringKind};
 pub use crate::string_literal::StringLiteral;
+pub use crate::switch::Switch;
 pub use crate::token::Token;
 pub use crate::token_kind::TokenKind;
 pub use crate::unstable_feature::UnstableFeature;

@@ -1,5 +1,6 @@
 //! Does what rows say, and compares.
 
+use crate::attributes::{attribute_kind, signal, switch};
 use crate::fields::are_readable;
 use crate::files::push_fields;
 use crate::lexing::lex;
@@ -46,6 +47,7 @@ fn found(alloc: Global, word: Word, fields: &[String]) -> Answer {
     let mut answer = Answer::new(alloc);
     let text = field_at(fields, 0);
     match word {
+        Word::AttributeKind => attribute_kind(&mut answer, text),
         Word::Breaks | Word::Run => runs(&mut answer, word, fields),
         Word::Class => class(&mut answer, text),
         Word::Cooks => cooks(&mut answer, text),
@@ -56,6 +58,8 @@ fn found(alloc: Global, word: Word, fields: &[String]) -> Answer {
             lex(&mut answer, word, text);
         }
         Word::Opens => opens(&mut answer, text),
+        Word::Signal => signal(&mut answer, text),
+        Word::Switch => switch(&mut answer, fields),
         Word::Unindents => unindents(&mut answer, text),
         Word::Version => version(&mut answer, text),
         _ => push_fields(&mut answer, word, fields),

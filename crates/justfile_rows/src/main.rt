@@ -9,6 +9,7 @@
 //! status is 0 if the files could be read. `docs/ROWS.md` has the notation and the words.
 #![tactic(auto)]
 
+mod attributes;
 mod beginnings;
 mod expansion;
 mod fields;

@@ -3,6 +3,7 @@
 /// What a row does.
 #[derive(Clone, Copy, PartialEq, Eq)]
 pub(crate) enum Word {
+    AttributeKind,
     Beginnings,
     Breaks,
     Canonical,
@@ -30,7 +31,9 @@ pub(crate) enum Word {
     Refused,
     Run,
     Sigils,
+    Signal,
     Significant,
+    Switch,
     Unindents,
     Value,
     Version,
@@ -38,6 +41,7 @@ pub(crate) enum Word {
 
 /// The words as they are written, with the number of fields that a row has at least.
 static WORDS: &[(&str, Word, usize)] = &[
+    ("attribute_kind", Word::AttributeKind, 1),
     ("beginnings", Word::Beginnings, 2),
     ("breaks", Word::Breaks, 4),
     ("canonical", Word::Canonical, 1),
@@ -65,7 +69,9 @@ static WORDS: &[(&str, Word, usize)] = &[
     ("refused", Word::Refused, 1),
     ("run", Word::Run, 2),
     ("sigils", Word::Sigils, 2),
+    ("signal", Word::Signal, 1),
     ("significant", Word::Significant, 1),
+    ("switch", Word::Switch, 2),
     ("unindents", Word::Unindents, 1),
     ("value", Word::Value, 1),
     ("version", Word::Version, 1),

@@ -9,6 +9,10 @@ pub mod ast {
     pub use justfile_file::Ast;
 }
 
+pub mod attribute {
+    pub use justfile_base::AttributeKind;
+}
+
 pub mod binding {
     pub use justfile_file::Binding;
 }
@@ -67,7 +71,7 @@ pub mod keyword {
 }
 
 pub mod laws {
-    pub use justfile_base::laws::{indentation_texts, one_spelling};
+    pub use justfile_base::laws::{attribute_names, indentation_texts, one_spelling, signal_names};
     pub use justfile_literal::laws::{
         answer_for_all as literal_for_all, cooked_is_utf8, indentation_is_longest, lines_joined,
         longest_front, one_answer as one_literal, unindented_already,
@@ -132,6 +136,10 @@ pub mod sigil {
     pub use justfile_file::Sigil;
 }
 
+pub mod signal {
+    pub use justfile_base::Signal;
+}
+
 pub mod source {
     pub use justfile_base::Source;
 }
@@ -142,6 +150,10 @@ pub mod string_kind {
 
 pub mod string_literal {
     pub use justfile_base::{FormatStringPart, StringLiteral};
+}
+
+pub mod switch {
+    pub use justfile_base::Switch;
 }
 
 pub mod token {

@@ -6,8 +6,11 @@ use crate::name::Name;
 use crate::numerator::Number;
 use crate::string_kind::StringKind;
 use crate::string_literal::{FormatStringPart, StringLiteral};
-use crate::tests::support::names;
+use crate::tests::support::{lexed, names};
+use crate::token::Token;
+use justfile_tree::{literal_content_cmp, token_content_cmp};
 use std::alloc::Global;
+use std::cmp::Ordering;
 use std::process::Abort;
 
 /// Expressions of which each is less than the next: the case of each, and its fields in the order
@@ -101,6 +104,40 @@ static ASCENDING_PLACES: &[&str] = &[
     "Variable b 0",
     "Variable b 1",
     "Variable c -",
+];
+
+/// Expressions of which each is less than the next by content, whatever the numbers of their
+/// variables, and wherever `b` and `c` stand.
+static ASCENDING_CONTENTS: &[&str] = &[
+    "Call b c",
+    "Call c b",
+    "FormatString b c c",
+    "FormatString c b b",
+    "Join - c b",
+    "Join b b c",
+    "StringLiteral b - \" - c",
+    "StringLiteral c - \" - b",
+    "Variable b 1",
+    "Variable c 0",
+];
+
+/// Expressions of which each two that stand side by side hold the same, where `b` and `c` are one
+/// text at two places.
+static SAME_CONTENTS: &[&str] = &[
+    "Assert b c b",
+    "Assert c b c",
+    "Backtick b b",
+    "Backtick b c",
+    "Call b b c",
+    "Call c b b",
+    "Comparison b == b c",
+    "Comparison c == c b",
+    "FormatString b b b c b",
+    "FormatString b c b b b",
+    "StringLiteral b - \" - b",
+    "StringLiteral b - \" - c",
+    "Variable b -",
+    "Variable c 1",
 ];
 
 /// The fields of a row, and the names that `b` and `c` are.
@@ -353,39 +390,57 @@ fn part_of(field: &str) -> Option<FormatStringPart> {
     }
 }
 
-/// The expression of a row, where the names are those of a text.
-fn expression(
+/// The expression of a row, where these are the names.
+fn expression<'src>(
     rt: &impl Abort,
     alloc: Global,
-    text: &'static str,
+    less: Name<'src>,
+    greater: Name<'src>,
     row: &'static str,
-) -> Expression<'static> {
-    let names = names(rt, alloc, text);
+) -> Expression<'src> {
     let mut fields = Vec::new(alloc);
     for field in row.split(' ') {
         fields.push(field).expect(rt, "no memory");
     }
     let row = Row {
         alloc,
-        less: *names.first().expect(rt, "no name"),
-        greater: *names.last().expect(rt, "no name"),
+        less,
+        greater,
         fields: &fields,
     };
     row.expression(rt)
 }
 
+/// The expressions of rows, where these are the names.
+fn expressions<'src>(
+    rt: &impl Abort,
+    alloc: Global,
+    less: Name<'src>,
+    greater: Name<'src>,
+    rows: &[&'static str],
+) -> Vec<Expression<'src>> {
+    let mut expressions = Vec::new(alloc);
+    for row in rows {
+        push(
+            rt,
+            &mut expressions,
+            expression(rt, alloc, less, greater, row),
+        );
+    }
+    expressions
+}
+
 /// The expressions of rows, where the names are those of a text.
-fn expressions(
+fn expressions_of(
     rt: &impl Abort,
     alloc: Global,
     text: &'static str,
     rows: &[&'static str],
 ) -> Vec<Expression<'static>> {
-    let mut expressions = Vec::new(alloc);
-    for row in rows {
-        push(rt, &mut expressions, expression(rt, alloc, text, row));
-    }
-    expressions
+    let names = names(rt, alloc, text);
+    let less = *names.first().expect(rt, "no name");
+    let greater = *names.last().expect(rt, "no name");
+    expressions(rt, alloc, less, greater, rows)
 }
 
 /// Sees that two expressions are ordered as their places are, by each way to compare them.
@@ -440,8 +495,8 @@ fn copies<'src>(
 /// Sees that the expressions of rows are ordered as they stand, also beside others that are made
 /// alike and beside copies, where the names are those of a text.
 fn compare_rows(rt: &impl Abort, alloc: Global, text: &'static str, rows: &[&'static str]) {
-    let values = expressions(rt, alloc, text, rows);
-    compare_all(rt, &values, &expressions(rt, alloc, text, rows));
+    let values = expressions_of(rt, alloc, text, rows);
+    compare_all(rt, &values, &expressions_of(rt, alloc, text, rows));
     compare_all(rt, &values, &copies(rt, alloc, &values));
 }
 
@@ -454,4 +509,100 @@ fn expressions_are_ordered_by_their_form_and_then_by_their_parts(rt: HostRuntime
 #[test]
 fn equal_texts_at_other_places_are_other_expressions(rt: HostRuntime) {
     compare_rows(&rt, rt.alloc(), "b b", ASCENDING_PLACES);
+}
+
+/// Sees that two expressions compare by content as their places do.
+fn compare_contents<'src>(
+    rt: &impl Abort,
+    place: usize,
+    left: &Expression<'src>,
+    other_place: usize,
+    right: &Expression<'src>,
+) {
+    let is_so = left.content_cmp(right) == place.cmp(&other_place);
+    assert!(rt; is_so, "{place} and {other_place}");
+}
+
+/// Compares the content of an expression, at its place, with that of each of these.
+fn compare_content_with_all<'src>(
+    rt: &impl Abort,
+    place: usize,
+    value: &Expression<'src>,
+    others: &[Expression<'src>],
+) {
+    for (other_place, other) in others.iter().enumerate() {
+        compare_contents(rt, place, value, other_place, other);
+    }
+}
+
+/// Compares the content of each expression with that of each other.
+fn compare_all_contents<'src>(rt: &impl Abort, values: &[Expression<'src>]) {
+    for (place, value) in values.iter().enumerate() {
+        compare_content_with_all(rt, place, value, values);
+    }
+}
+
+/// Sees that of these expressions the first two hold the same, and so on.
+fn same_contents<'src>(rt: &impl Abort, values: &[Expression<'src>]) {
+    for pair in values.chunks(2) {
+        for value in pair {
+            for other in pair {
+                compare_contents(rt, 0, value, 0, other);
+            }
+        }
+    }
+}
+
+/// A literal with this text at a token.
+fn literal<'src>(
+    rt: &impl Abort,
+    alloc: Global,
+    text: &str,
+    token: &Token<'src>,
+) -> StringLiteral<'src> {
+    StringLiteral {
+        cooked: text.to_string(alloc).expect(rt, "no memory"),
+        expand: false,
+        kind: StringKind::of_opening(b"\""),
+        part: None,
+        token: *token,
+    }
+}
+
+#[test]
+fn contents_are_compared_by_texts_and_not_by_numbers(rt: HostRuntime) {
+    let alloc = rt.alloc();
+    let names = names(&rt, alloc, "c b");
+    let less = *names.last().expect(&rt, "no name");
+    let greater = *names.first().expect(&rt, "no name");
+    let values = expressions(&rt, alloc, less, greater, ASCENDING_CONTENTS);
+    compare_all_contents(&rt, &values);
+}
+
+#[test]
+fn equal_texts_at_other_places_hold_the_same(rt: HostRuntime) {
+    let values = expressions_of(&rt, rt.alloc(), "b b", SAME_CONTENTS);
+    same_contents(&rt, &values);
+}
+
+#[test]
+fn tokens_hold_a_kind_and_a_text(rt: HostRuntime) {
+    let alloc = rt.alloc();
+    let tokens = lexed(&rt, alloc, "b:=a:=b");
+    let [b, operator, a, same_operator, same_b, ..] = tokens.as_slice() else {
+        panic!(rt; "too few tokens");
+    };
+    assert!(rt; token_content_cmp(b, operator) == Ordering::Greater);
+    assert!(rt; token_content_cmp(operator, same_operator) == Ordering::Equal);
+    assert!(rt; token_content_cmp(b, a) == Ordering::Greater);
+    assert!(rt; token_content_cmp(b, same_b) == Ordering::Equal);
+    let literals = [
+        literal(&rt, alloc, "b", b),
+        literal(&rt, alloc, "b", same_b),
+        literal(&rt, alloc, "a", b),
+        literal(&rt, alloc, "b", a),
+    ];
+    assert!(rt; literal_content_cmp(&literals[0], &literals[1]) == Ordering::Equal);
+    assert!(rt; literal_content_cmp(&literals[2], &literals[3]) == Ordering::Less);
+    assert!(rt; literal_content_cmp(&literals[3], &literals[0]) == Ordering::Less);
 }
