@@ -2,7 +2,6 @@
 use Rattle.std.proofs.Common.{◌≡◌, ℕ, false, List, [], ◌∷◌, ◌++◌, map, Option, Some, refl, sym, subst, ap, ◌∙◌}
 use Rattle.std.specs.Str.{trim_end}
 use Rattle.justfile_base.specs.declared.token_kind.TokenKind.{TokenKind}
-use Rattle.justfile_model.specs.Tok.{Tok}
 use Rattle.justfile_model.specs.SignificantTokens.{SignificantToken}
 use Rattle.justfile_model.specs.Tree as tree
 use Rattle.justfile_model.specs.Tree.{Expr, Fragment, BodyLine, Line, Content, Construct, WrittenItem, line_before, plain_assignment, plain_recipe, trimmed, over_expr, over_fragment, over_line, over_written_attribute, over_content, over_item}

@@ -17,7 +17,7 @@ use Rattle.justfile_model.specs.Files.{all_literals, body_literals, fragments_li
 use Rattle.justfile_model.specs.Reading.{Counters, ◌>>=◌, prepend}
 use Rattle.justfile_model.specs.Reader as reader
 use Rattle.justfile_model.specs.Reader.{after_numbered, assignment, at_end, item_rest, body, optional_body, body_line, comment_item, draw_binding, draw_recipe, ended, fragment, has_body, items, items_rule, line, line_end, line_rest, line_rest_rule, lines, lines_rule, on_line, recipe, some_lines}
-use Rattle.justfile_model.specs.TreeReader.{Read, State, tree_of_tokens, start_state, token_leaves, unnumbered}
+use Rattle.justfile_model.specs.TreeReader.{Read, State, tree_of_tokens, token_leaves, unnumbered}
 use Rattle.justfile_model.proofs.CookedTexts.{trimmed_literals}
 use Rattle.justfile_model.proofs.Counters.{count, counted}
 use Rattle.justfile_model.proofs.ExpressionDeep.{expression_deep}

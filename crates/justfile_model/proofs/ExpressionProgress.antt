@@ -17,7 +17,7 @@ pub then : {a b c : Tokens} → LeftOf b a → LeftOf c b → LeftOf c a
 then next h = later h
 then (later x) h = later (then x h)
 
-past : {t : SignificantToken} {ts rest : Tokens} → LeftOf (t ∷ rest) ts → LeftOf rest ts
+pub past : {t : SignificantToken} {ts rest : Tokens} → LeftOf (t ∷ rest) ts → LeftOf rest ts
 past h = then h next
 
 pub shorter : {ts rest : Tokens} → LeftOf rest ts → length rest < length ts

@@ -1,5 +1,5 @@
 -- The grammar over trees and over shapes: a tree derives if its shape does.
-use Rattle.std.proofs.Common.{◌≡◌, ℕ, true, false, List, [], ◌∷◌, ◌++◌, map, Option, Some, None, refl, sym, subst, ap, ◌∙◌}
+use Rattle.std.proofs.Common.{Bool, true, false, ◌≡◌, ℕ, List, [], ◌∷◌, ◌++◌, map, Option, Some, None, refl, sym, subst, ap, ◌∙◌}
 use Rattle.std.specs.List.{flat_map}
 use Rattle.std.specs.Option.{option_map}
 use Rattle.std.proofs.lemmas.List.{map-append}
@@ -7,13 +7,13 @@ use Rattle.justfile_model.specs.Tok.{Tok}
 use Rattle.justfile_model.specs.SignificantTokens.{SignificantToken}
 use Rattle.justfile_model.specs.Conditions.{Conditions}
 use Rattle.justfile_model.specs.Tree as tree
-use Rattle.justfile_model.specs.Tree.{Expr, Exprs, Parts, Fragment, BodyLine, Line, Argument, WrittenAttribute, Entry, Parameter, DependencyArgument, Dependency, Header, AssignmentParts, Content, Item, WrittenItem, WrittenTree, WrittenShape, Tree, Shape, over_expr, over_exprs, over_parts, over_fragment, over_argument, over_written_attribute, over_entry, over_parameter, over_assignment, over_line, over_dependency_argument, over_dependency, over_header, over_content, over_item, lexeme, nothing, shape_of, written_shape_of}
+use Rattle.justfile_model.specs.Tree.{Expr, Exprs, Parts, Fragment, BodyLine, Line, Quoted, Argument, WrittenAttribute, OptionName, Property, ArgumentRules, Attribute, Entry, Parameter, DependencyArgument, Dependency, Header, AssignmentParts, Content, Item, WrittenItem, WrittenTree, WrittenShape, Tree, Shape, over_expr, over_exprs, over_parts, over_fragment, over_argument, over_written_attribute, over_entry, over_quoted, over_option, over_property, over_rules, over_attribute, over_parameter, over_assignment, over_line, over_dependency_argument, over_dependency, over_header, over_content, over_item, lexeme, nothing, shape_of, written_shape_of}
 use Rattle.justfile_model.specs.Features.{Noted, over_noted}
 use Rattle.justfile_model.specs.Expressions.{Tokens, front, Under}
 use Rattle.justfile_model.specs.Grammar.{File}
 use Rattle.justfile_model.specs.Literals as literal
 use Rattle.justfile_model.specs.Literals.{Literal, over_literal, AreCookedTexts}
-use Rattle.justfile_model.specs.Files.{expr_literals, exprs_literals, parts_literals, fragments_literals, body_literals, optional_literals, argument_literals, written_literals, entries_literals, parameter_literals, dependency_literals, header_literals, content_literals, item_literals, items_literals, all_literals, literals, ordered, keeps_tokens, keeps_lexemes, Obeys, FileDerives, ShapeDerives}
+use Rattle.justfile_model.specs.Files.{expr_literals, exprs_literals, parts_literals, fragments_literals, body_literals, optional_literals, argument_literals, written_literals, entries_literals, parameter_literals, dependency_literals, header_literals, content_literals, item_literals, items_literals, all_literals, literals, ordered, keeps_tokens, keeps_lexemes, Obeys, FileDerives, ShapeDerives, quoted_literals, option_literals, rules_literals, attribute_literals}
 use Rattle.justfile_model.proofs.CarryExpressions.{Same, Pairs, nil, cons}
 use Rattle.justfile_model.proofs.Carry as c
 use Rattle.justfile_model.proofs.Carry.{Maps, over_items, Alike}
@@ -175,9 +175,49 @@ module _ {A B D E : Type 0} (f : A → D) (g : B → E) where
       flat_mapped (λ (w : WrittenAttribute A B). flat_map argument_literals w.arguments) (λ (w : WrittenAttribute D E). flat_map argument_literals w.arguments) (over_written_attribute f g) (over_literal f)
       (λ w. flat_mapped argument_literals argument_literals (over_argument f g) (over_literal f) argument_over w.arguments)
 
+  string_over : (expanded : Bool) (token : A) → literal.string_of expanded (f token) ≡ over_literal f (literal.string_of expanded token)
+  string_over true token = refl
+  string_over false token = refl
+
+  quoted_over : (q : Quoted A) → quoted_literals (over_quoted f g q) ≡ map (over_literal f) (quoted_literals q)
+  quoted_over q = ap (λ l. l ∷ []) (string_over q.expanded q.token)
+
+  option_over : (o : OptionName A B) → option_literals (over_option f g o) ≡ map (over_literal f) (option_literals o)
+  option_over tree.NoOption = refl
+  option_over (tree.OwnName key) = refl
+  option_over (tree.Named name) = quoted_over name
+
+  property_over : (o : Option (Property A B)) → optional_literals (λ (p : Property D E). expr_literals p.value) (option_map (over_property f g) o) ≡ map (over_literal f) (optional_literals (λ (p : Property A B). expr_literals p.value) o)
+  property_over None = refl
+  property_over (Some p) = expr_over p.value
+
+  rules_over : (a : ArgumentRules A B) → rules_literals (over_rules f g a) ≡ map (over_literal f) (rules_literals a)
+  rules_over a =
+      let name = quoted_literals a.name in
+      let long = name ++ option_literals a.long in
+      let short = long ++ option_literals a.short in
+      let pattern = short ++ optional_literals (λ (p : Property A B). expr_literals p.value) a.pattern in
+      let value = pattern ++ optional_literals expr_literals a.value in
+      two value (optional_literals (λ (p : Property A B). expr_literals p.value) a.help) _ _
+      (two pattern (optional_literals expr_literals a.value) _ _
+      (two short (optional_literals (λ (p : Property A B). expr_literals p.value) a.pattern) _ _
+      (two long (option_literals a.short) _ _ (two name (option_literals a.long) _ _ (quoted_over a.name) (option_over a.long)) (option_over a.short))
+      (property_over a.pattern)) (optional_over a.value)) (property_over a.help)
+
+  attribute_over : (a : Attribute A B) → attribute_literals (over_attribute f g a) ≡ map (over_literal f) (attribute_literals a)
+  attribute_over (tree.Plain kind) = refl
+  attribute_over (tree.Single kind value) = expr_over value
+  attribute_over (tree.Texts kind texts) = flat_mapped quoted_literals quoted_literals (over_quoted f g) (over_literal f) quoted_over texts
+  attribute_over (tree.Env key value) = two (expr_literals key) (expr_literals value) _ _ (expr_over key) (expr_over value)
+  attribute_over (tree.Signals signals) = refl
+  attribute_over (tree.Cache extra inputs outputs) =
+      two (optional_literals expr_literals extra ++ optional_literals expr_literals inputs) (optional_literals expr_literals outputs) _ _
+      (two (optional_literals expr_literals extra) (optional_literals expr_literals inputs) _ _ (optional_over extra) (optional_over inputs)) (optional_over outputs)
+  attribute_over (tree.Arg rules) = rules_over rules
+
   entries_over : (es : List (Entry A B)) → entries_literals (map (over_entry f g) es) ≡ map (over_literal f) (entries_literals es)
-  entries_over [] = refl
-  entries_over (e ∷ es) = absurd e.attribute
+  entries_over =
+      flat_mapped (λ (e : Entry A B). attribute_literals e.attribute) (λ (e : Entry D E). attribute_literals e.attribute) (over_entry f g) (over_literal f) (λ e. attribute_over e.attribute)
 
   parameter_over : (p : Parameter A B) → parameter_literals (over_parameter f g p) ≡ map (over_literal f) (parameter_literals p)
   parameter_over p = optional_over p.default

@@ -3,7 +3,7 @@ use Rattle.std.proofs.Common.{◌≡◌, ℕ, ◌+◌, List, [], ◌∷◌, ◌+
 use Rattle.std.specs.List.{flat_map}
 use Rattle.std.specs.Option.{option_map}
 use Rattle.justfile_model.specs.SignificantTokens.{SignificantToken}
-use Rattle.justfile_model.specs.Tree.{Item, Newline, Comment, Construct, Content, Assignment, Recipe, Header, Dependency, DependencyArgument, WrittenItem, OrderedItem, WrittenTree, Tree, Shape, over_written_attribute, over_entry, over_dependency_argument, over_dependency, over_header, over_line, over_content, over_item, starless_argument, starless_dependency, starless_header, starless, shape_of, written_shape_of, lexeme, nothing}
+use Rattle.justfile_model.specs.Tree.{Newline, Comment, Construct, Content, Assignment, Recipe, Header, Dependency, DependencyArgument, WrittenItem, OrderedItem, WrittenTree, Tree, Shape, over_written_attribute, over_entry, over_dependency_argument, over_dependency, over_header, over_line, over_content, over_item, starless_argument, starless_dependency, starless_header, starless, shape_of, written_shape_of, lexeme, nothing}
 use Rattle.justfile_model.specs.Features.{Noted}
 use Rattle.justfile_model.specs.Expressions.{Tokens}
 use Rattle.justfile_model.specs.Grammar as g

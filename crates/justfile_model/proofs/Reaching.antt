@@ -76,11 +76,11 @@ module _ (conditions : Conditions) where
   -- ---- what is read if these literals have texts, where the limit is waived at some tokens
 
   module _ (Hit : Option SignificantToken → Type 0) where
-    due_first : (ls ms : List (Literal Tok)) (r : Refusal) → DueOf conditions.expander Hit ls r → DueOf conditions.expander Hit (ls ++ ms) r
+    pub due_first : (ls ms : List (Literal Tok)) (r : Refusal) → DueOf conditions.expander Hit ls r → DueOf conditions.expander Hit (ls ++ ms) r
     due_first ls ms r (inl h) = inl (lacks_first ls ms r h)
     due_first ls ms r (inr h) = inr h
 
-    due_then : (ls ms : List (Literal Tok)) (r : Refusal) → AllCook conditions.expander ls → DueOf conditions.expander Hit ms r → DueOf conditions.expander Hit (ls ++ ms) r
+    pub due_then : (ls ms : List (Literal Tok)) (r : Refusal) → AllCook conditions.expander ls → DueOf conditions.expander Hit ms r → DueOf conditions.expander Hit (ls ++ ms) r
     due_then ls ms r a (inl h) = inl (lacks_then ls ms r a h)
     due_then ls ms r a (inr h) = inr h
 

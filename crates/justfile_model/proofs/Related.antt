@@ -16,10 +16,12 @@ use Rattle.justfile_model.specs.Literals as literals
 use Rattle.justfile_model.specs.Literals.{Expansions, Literal, LiteralFault, cooked_text, string_of, token_of}
 use Rattle.justfile_model.specs.Operators.{binary, is_at, operator_of}
 use Rattle.justfile_model.specs.Reader.{has_body}
-use Rattle.justfile_model.specs.Reading.{◌>>=◌, Counters, Leaves, NoNumber, NotCooked, Read, Refusal, State, Taken, TooDeep, Unexpected, accept, accept_by, accept_marked, accept_word, at, begin_with, choose, expect, is_word, marked_by, marks, next_are, refused, same_kind, with}
+use Rattle.justfile_model.specs.Reading.{◌>>=◌, BreaksRule, Counters, Leaves, NoNumber, NotCooked, Read, Refusal, State, Taken, TooDeep, Unexpected, accept, accept_by, accept_marked, accept_word, at, begin_with, choose, expect, is_word, marked_by, marks, next_are, refused, same_kind, with}
+use Rattle.justfile_model.specs.Rules.{Broken}
 use Rattle.justfile_model.specs.SignificantTokens.{SignificantToken}
 use Rattle.justfile_model.specs.Tree as tree
 use Rattle.justfile_model.specs.Tree.{BodyLine, Construct, Expr, Exprs, Fragment, Item, Line, Parts, line_before, plain_assignment, plain_recipe, trimmed}
+use Rattle.justfile_model.proofs.AlikeRules.{AlikeBroken}
 use Rattle.justfile_model.proofs.Counters.{count}
 
 -- what is related of two readers' runs, tokens, leaves and places
@@ -245,6 +247,7 @@ module _ {R T A B S D R' T' A' B' S' D' : Type 0} (rel : Relations R T A B S D R
     unexpected : {o : Option T} {o' : Option T'} → AlikeNext o o' → Refusals (Unexpected o) (Unexpected o')
     too_deep : {o : Option T} {o' : Option T'} → AlikeNext o o' → Refusals (TooDeep o) (TooDeep o')
     not_cooked : {fault : LiteralFault} {b : B} {b' : B'} → rel.spot b b' → Refusals (NotCooked fault b) (NotCooked fault b')
+    breaks : {r : Broken B} {r' : Broken B'} → AlikeBroken rel.spot r r' → Refusals (BreaksRule r) (BreaksRule r')
 
   -- Both are read and related, or refused for the same reason. Where a number is wanting in the one, `Short` is known of the other.
   pub data Related {X Y : Type 0} (Q : X → Y → Type 0) (Short : Counters → Read R' T' B' Y → Type 0) : Read R T B X → Read R' T' B' Y → Type 0 where

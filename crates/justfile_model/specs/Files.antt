@@ -2,7 +2,7 @@
 use Rattle.std.specs.Prelude.{◌≡◌, ℕ, ◌+◌, ◌-◌, ◌^◌, ◌≤◌, List, [], ◌∷◌, ◌++◌, map, length, Option, Some, None}
 use Rattle.std.specs.List.{flat_map}
 use Rattle.justfile_model.specs.SignificantTokens.{SignificantToken}
-use Rattle.justfile_model.specs.Tree.{Expr, Or, And, Comparison, Concatenation, ListConcatenation, Join, Root, If, IfElse, Not, StringLiteral, FormatLiteral, FormatString, Backtick, Assert, AssertMessage, Variable, Call, Group, ListOf, Exprs, none, more, Parts, Last, Continue, Fragment, Text, Interpolation, BodyLine, Line, Argument, Positional, Bare, Keyed, WrittenAttribute, Entry, Parameter, Dependency, Header, Content, Assignment, Recipe, Item, Newline, Comment, Construct, WrittenItem, OrderedItem, WrittenTree, WrittenShape, Tree, Shape, starless, lexeme, nothing, itself, line_of}
+use Rattle.justfile_model.specs.Tree.{Expr, Or, And, Comparison, Concatenation, ListConcatenation, Join, Root, If, IfElse, Not, StringLiteral, FormatLiteral, FormatString, Backtick, Assert, AssertMessage, Variable, Call, Group, ListOf, Exprs, none, more, Parts, Last, Continue, Fragment, Text, Interpolation, BodyLine, Line, Quoted, Argument, Positional, Bare, Keyed, WrittenAttribute, OptionName, NoOption, OwnName, Named, ArgumentRules, Attribute, Plain, Single, Texts, Env, Signals, Cache, Arg, Entry, Parameter, Dependency, Header, Content, Assignment, Recipe, Item, Newline, Comment, Construct, WrittenItem, OrderedItem, WrittenTree, WrittenShape, Tree, Shape, starless, lexeme, nothing, itself, line_of}
 use Rattle.justfile_model.specs.Tok.{Tok}
 use Rattle.justfile_model.specs.Features.{Noted}
 use Rattle.justfile_model.specs.Conditions.{Conditions}
@@ -68,9 +68,34 @@ argument_literals (Keyed key value) = expr_literals value
 abbrev pub written_literals : {A B : Type 0} → List (WrittenAttribute A B) → List (Literal A)
 written_literals ws = flat_map (λ w. flat_map argument_literals w.arguments) ws
 
--- the literals of attributes by what they mean; so far no attribute has a meaning
+abbrev pub quoted_literals : {A : Type 0} → Quoted A → List (Literal A)
+quoted_literals q = literal.string_of q.expanded q.token ∷ []
+
+-- the literal that names an option; a key without a value has none of its own
+abbrev pub option_literals : {A B : Type 0} → OptionName A B → List (Literal A)
+option_literals NoOption = []
+option_literals (OwnName key) = []
+option_literals (Named name) = quoted_literals name
+
+-- in the order of printing
+abbrev pub rules_literals : {A B : Type 0} → ArgumentRules A B → List (Literal A)
+rules_literals a =
+    quoted_literals a.name ++ option_literals a.long ++ option_literals a.short ++ optional_literals (λ p. expr_literals p.value) a.pattern
+    ++ optional_literals expr_literals a.value ++ optional_literals (λ p. expr_literals p.value) a.help
+
+abbrev pub attribute_literals : {A B : Type 0} → Attribute A B → List (Literal A)
+attribute_literals (Plain kind) = []
+attribute_literals (Single kind value) = expr_literals value
+attribute_literals (Texts kind texts) = flat_map quoted_literals texts
+attribute_literals (Env key value) = expr_literals key ++ expr_literals value
+attribute_literals (Signals signals) = []
+attribute_literals (Cache extra inputs outputs) =
+    optional_literals expr_literals extra ++ optional_literals expr_literals inputs ++ optional_literals expr_literals outputs
+attribute_literals (Arg rules) = rules_literals rules
+
+-- the literals that stand in attributes by what they mean; those that became a number or a signal do not
 abbrev pub entries_literals : {A B : Type 0} → List (Entry A B) → List (Literal A)
-entries_literals entries = flat_map (λ e. absurd e.attribute) entries
+entries_literals entries = flat_map (λ e. attribute_literals e.attribute) entries
 
 abbrev pub parameter_literals : {A B : Type 0} → Parameter A B → List (Literal A)
 parameter_literals p = optional_literals expr_literals p.default

@@ -1,12 +1,17 @@
 -- The printed text, of a normal shape at an indentation.
-use Rattle.std.specs.Prelude.{ℕ, Bool, true, not, ◌&&◌, List, [], ◌∷◌, ◌++◌, ◌==◌, false, codes, Option, Some, None}
+use Rattle.std.specs.Prelude.{ℕ, Bool, true, not, ◌&&◌, List, [], ◌∷◌, ◌++◌, ◌==◌, false, codes, Option, Some, None, map}
+use Rattle.std.specs.Fmt.{decimal}
 use Rattle.std.specs.List.{flat_map}
+use Rattle.justfile_base.specs.AttributeKind.{attribute_name}
 use Rattle.justfile_base.specs.Path.{path_text}
+use Rattle.justfile_base.specs.Signal.{signal_name}
+use Rattle.justfile_base.specs.declared.signal.Signal.{Signal}
+use Rattle.justfile_model.specs.ContentKeys.{kind_of_attribute}
 use Rattle.justfile_model.specs.declared.conditional_operator.ConditionalOperator.{ConditionalOperator}
 use Rattle.justfile_model.specs.declared.conditional_operator.ConditionalOperator.TheVariants.{Equality, Inequality, RegexMatch, RegexMismatch}
 use Rattle.justfile_model.specs.declared.parameter_kind.ParameterKind.{ParameterKind}
 use Rattle.justfile_model.specs.declared.parameter_kind.ParameterKind.TheVariants.{Plus, Singular, Star}
-use Rattle.justfile_model.specs.Tree.{Expr, Or, And, Comparison, Concatenation, ListConcatenation, Join, Root, If, IfElse, Not, StringLiteral, FormatLiteral, FormatString, Backtick, Assert, AssertMessage, Variable, Call, Group, ListOf, Exprs, none, more, Parts, Last, Continue, Fragment, Text, Interpolation, BodyLine, Line, Entry, Parameter, DependencyArgument, Dependency, Header, AssignmentParts, RecipeParts, Content, Assignment, Recipe, Item, Newline, Comment, Construct, OrderedItem, Shape}
+use Rattle.justfile_model.specs.Tree.{Expr, Or, And, Comparison, Concatenation, ListConcatenation, Join, Root, If, IfElse, Not, StringLiteral, FormatLiteral, FormatString, Backtick, Assert, AssertMessage, Variable, Call, Group, ListOf, Exprs, none, more, Parts, Last, Continue, Fragment, Text, Interpolation, BodyLine, Line, Quoted, Argument, Positional, Bare, Keyed, OptionName, NoOption, OwnName, Named, ArgumentRules, Attribute, Plain, Single, Texts, Env, Signals, Cache, Arg, Entry, Parameter, DependencyArgument, Dependency, Header, AssignmentParts, RecipeParts, Content, Assignment, Recipe, Item, Newline, Comment, Construct, OrderedItem, Shape}
 
 -- a piece that is the same in every text; kept folded, so that a text stays a row of pieces
 unfoldable pub fixed_text : List ℕ → List ℕ
@@ -79,7 +84,6 @@ line_text indentation (Line number fragments) = indentation ++ flat_map fragment
 abbrev pub body_text : (indentation : List ℕ) → List (BodyLine (List ℕ) (Unit {0}) (Unit {0})) → List ℕ
 body_text indentation = flat_map (λ line. fixed_text (codes "\n") ++ line_text indentation line)
 
--- the text of what may be missing
 abbrev pub if_some : {X : Type 0} → (X → List ℕ) → Option X → List ℕ
 if_some f None = []
 if_some f (Some x) = f x
@@ -88,9 +92,79 @@ abbrev pub if_true : Bool → List ℕ → List ℕ
 if_true true text = text
 if_true false text = []
 
--- attributes, each on a line of its own; so far there is none
+-- ---- attributes, by the arguments that they are printed with
+
+abbrev pub quoted_argument : Quoted (List ℕ) → Argument (List ℕ) (Unit {0})
+quoted_argument q = Positional tt (StringLiteral q.expanded q.token)
+
+-- a signal in double quotes
+abbrev pub signal_argument : Signal → Argument (List ℕ) (Unit {0})
+signal_argument s = Positional tt (StringLiteral false (fixed_text (codes "\"") ++ fixed_text (signal_name s) ++ fixed_text (codes "\"")))
+
+-- a key with a value, if that is there
+abbrev pub keyed_if : {X : Type 0} → (word : List ℕ) → (X → Expr (List ℕ) (Unit {0})) → Option X → List (Argument (List ℕ) (Unit {0}))
+keyed_if word f None = []
+keyed_if word f (Some x) = Keyed (fixed_text word) (f x) ∷ []
+
+abbrev pub bare_if : {X : Type 0} → (word : List ℕ) → Option X → List (Argument (List ℕ) (Unit {0}))
+bare_if word None = []
+bare_if word (Some x) = Bare (fixed_text word) ∷ []
+
+abbrev pub option_argument : (word : List ℕ) → OptionName (List ℕ) (Unit {0}) → List (Argument (List ℕ) (Unit {0}))
+option_argument word NoOption = []
+option_argument word (OwnName key) = Bare (fixed_text word) ∷ []
+option_argument word (Named q) = Keyed (fixed_text word) (StringLiteral q.expanded q.token) ∷ []
+
+-- a number in single quotes
+abbrev pub number_literal : ℕ → Expr (List ℕ) (Unit {0})
+number_literal n = StringLiteral false (fixed_text (codes "'") ++ decimal n ++ fixed_text (codes "'"))
+
+abbrev pub rules_arguments : ArgumentRules (List ℕ) (Unit {0}) → List (Argument (List ℕ) (Unit {0}))
+rules_arguments a =
+    quoted_argument a.name ∷ option_argument (codes "long") a.long ++ option_argument (codes "short") a.short ++ keyed_if (codes "pattern") (λ p. p.value) a.pattern
+    ++ keyed_if (codes "value") (λ e. e) a.value ++ bare_if (codes "flag") a.flag ++ bare_if (codes "multiple") a.multiple
+    ++ keyed_if (codes "min") (λ b. number_literal b.number) a.min ++ keyed_if (codes "max") (λ b. number_literal b.number) a.max
+    ++ keyed_if (codes "help") (λ p. p.value) a.help
+
+abbrev pub cache_arguments : (extra inputs outputs : Option (Expr (List ℕ) (Unit {0}))) → List (Argument (List ℕ) (Unit {0}))
+cache_arguments extra inputs outputs = keyed_if (codes "extra") (λ e. e) extra ++ keyed_if (codes "inputs") (λ e. e) inputs ++ keyed_if (codes "outputs") (λ e. e) outputs
+
+abbrev pub attribute_arguments : Attribute (List ℕ) (Unit {0}) → List (Argument (List ℕ) (Unit {0}))
+attribute_arguments (Plain kind) = []
+attribute_arguments (Single kind value) = Positional tt value ∷ []
+attribute_arguments (Texts kind texts) = map quoted_argument texts
+attribute_arguments (Env key value) = Positional tt key ∷ Positional tt value ∷ []
+attribute_arguments (Signals signals) = map signal_argument signals
+attribute_arguments (Cache extra inputs outputs) = cache_arguments extra inputs outputs
+attribute_arguments (Arg rules) = rules_arguments rules
+
+-- the text of an argument
+abbrev pub argument_text : Argument (List ℕ) (Unit {0}) → List ℕ
+argument_text (Positional first value) = expr_text value
+argument_text (Bare key) = key
+argument_text (Keyed key value) = key ++ fixed_text (codes "=") ++ expr_text value
+
+-- separated by a comma and a space
+abbrev pub arguments_text : List (Argument (List ℕ) (Unit {0})) → List ℕ
+arguments_text [] = []
+arguments_text (a ∷ []) = argument_text a
+arguments_text (a ∷ arguments) = argument_text a ++ fixed_text (codes ", ") ++ arguments_text arguments
+
+-- in parentheses, if there are any
+abbrev pub parenthesized_arguments : List (Argument (List ℕ) (Unit {0})) → List ℕ
+parenthesized_arguments [] = []
+parenthesized_arguments arguments = fixed_text (codes "(") ++ arguments_text arguments ++ fixed_text (codes ")")
+
+-- an attribute as it is printed
+abbrev pub attribute_text : Attribute (List ℕ) (Unit {0}) → List ℕ
+attribute_text a = fixed_text (attribute_name (kind_of_attribute a)) ++ parenthesized_arguments (attribute_arguments a)
+
+-- each attribute on a line of its own
+abbrev pub entry_text : Entry (List ℕ) (Unit {0}) → List ℕ
+entry_text e = fixed_text (codes "[") ++ attribute_text e.attribute ++ fixed_text (codes "]\n")
+
 abbrev pub entries_text : List (Entry (List ℕ) (Unit {0})) → List ℕ
-entries_text = flat_map (λ e. absurd e.attribute)
+entries_text = flat_map entry_text
 
 -- a doc on a line of its own
 abbrev pub doc_line : List ℕ → List ℕ

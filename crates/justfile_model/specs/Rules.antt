@@ -1,18 +1,83 @@
--- The rules that a written tree may break, each with the token of its refusal.
-use Rattle.std.specs.Prelude.{List, []}
+-- The rules that a written tree may break, each with what its message says, over what is kept of a token.
+use Rattle.std.specs.Prelude.{ℕ, Bool, List, [], ◌∷◌, Option, if◌then◌else◌}
+use Rattle.justfile_base.specs.declared.attribute_kind.AttributeKind.{AttributeKind}
+use Rattle.justfile_base.specs.declared.item_kind.ItemKind.{ItemKind}
 use Rattle.justfile_model.specs.Conditions.{Conditions}
 use Rattle.justfile_model.specs.Tree.{WrittenItem}
 
--- What a rule asks for, with what its message says, over what is kept of a token. So far there is none beside those on the texts of literals
--- and on depth, which have refusals of their own: each construct adds its rules here, a case for each.
-abbrev pub Rule : (T : Type 0) → Type 0
-Rule T = ⊥
+-- A rule that is broken. A text is that of a literal; `T` is what is kept of a token.
+pub data Rule (T : Type 0) : Type 0 where
+  -- of one attribute
+  UnknownAttribute : (name : T) → Rule T
+  AttributeArgumentCountMismatch : (attribute : T) (found least : ℕ) (most : Option ℕ) → Rule T
+  AttributeArgumentExpression : (attribute : T) → Rule T
+  AttributePositionalFollowsKeyword : Rule T
+  DuplicateAttributeKey : (attribute key : T) → Rule T
+  UnknownAttributeKey : (attribute key : T) → Rule T
+  AttributeKeyMissingValue : (key : T) → Rule T
+  AttributeKeyTakesNoValue : (key : T) → Rule T
+  InvalidSignal : (signal : List ℕ) → Rule T
+  OptionNameContainsEqualSign : (parameter : List ℕ) → Rule T
+  OptionNameStartsWithDash : (parameter : List ℕ) → Rule T
+  OptionNameEmpty : (parameter : List ℕ) → Rule T
+  ShortOptionWithMultipleCharacters : (parameter : List ℕ) → Rule T
+  ArgAttributeRequiresOption : (key : T) → Rule T
+  FlagAttributeTakesNoValue : (parameter : List ℕ) → Rule T
+  FlagAndValueArgAttribute : (parameter : List ℕ) → Rule T
+  FlagAndPatternArgAttribute : (parameter : List ℕ) → Rule T
+  ArgumentCountValue : (key : T) (value : List ℕ) → Rule T
+  ArgumentCountParse : (key : T) (value : List ℕ) → Rule T
+  ArgAttributeMinExceedsMax : (min max : ℕ) → Rule T
+  -- of the attributes of one item
+  DuplicateAttribute : (attribute first : T) → Rule T
+  DuplicateArgAttribute : (arg : List ℕ) (first : T) → Rule T
+  -- the literal that names the group, and whether it is expanded
+  DuplicateGroupAttribute : (expanded : Bool) (group first : T) → Rule T
+  InvalidAttribute : (item : ItemKind) (attribute : AttributeKind) → Rule T
+  -- of a recipe: an argument of which `arg` speaks is no parameter
+  UndefinedArgAttribute : (argument : List ℕ) → Rule T
 
 -- a rule that is broken, and the token of its refusal
 pub record Broken (T : Type 0) : Type 0 where
   pub rule : Rule T
   pub token : T
 
--- all rules that written items break under the conditions, each at what is kept of its token
+-- the rule, at the token, where it is broken
+abbrev pub broken_if : {T : Type 0} → (is_broken : Bool) → Rule T → T → List (Broken T)
+broken_if is_broken rule token = if is_broken then record { rule = rule; token = token } ∷ [] else []
+
+-- with what is kept of its tokens replaced
+module _ {T U : Type 0} (g : T → U) where
+  abbrev pub over_rule : Rule T → Rule U
+  over_rule (UnknownAttribute name) = UnknownAttribute (g name)
+  over_rule (AttributeArgumentCountMismatch attribute found least most) = AttributeArgumentCountMismatch (g attribute) found least most
+  over_rule (AttributeArgumentExpression attribute) = AttributeArgumentExpression (g attribute)
+  over_rule AttributePositionalFollowsKeyword = AttributePositionalFollowsKeyword
+  over_rule (DuplicateAttributeKey attribute key) = DuplicateAttributeKey (g attribute) (g key)
+  over_rule (UnknownAttributeKey attribute key) = UnknownAttributeKey (g attribute) (g key)
+  over_rule (AttributeKeyMissingValue key) = AttributeKeyMissingValue (g key)
+  over_rule (AttributeKeyTakesNoValue key) = AttributeKeyTakesNoValue (g key)
+  over_rule (InvalidSignal signal) = InvalidSignal signal
+  over_rule (OptionNameContainsEqualSign parameter) = OptionNameContainsEqualSign parameter
+  over_rule (OptionNameStartsWithDash parameter) = OptionNameStartsWithDash parameter
+  over_rule (OptionNameEmpty parameter) = OptionNameEmpty parameter
+  over_rule (ShortOptionWithMultipleCharacters parameter) = ShortOptionWithMultipleCharacters parameter
+  over_rule (ArgAttributeRequiresOption key) = ArgAttributeRequiresOption (g key)
+  over_rule (FlagAttributeTakesNoValue parameter) = FlagAttributeTakesNoValue parameter
+  over_rule (FlagAndValueArgAttribute parameter) = FlagAndValueArgAttribute parameter
+  over_rule (FlagAndPatternArgAttribute parameter) = FlagAndPatternArgAttribute parameter
+  over_rule (ArgumentCountValue key value) = ArgumentCountValue (g key) value
+  over_rule (ArgumentCountParse key value) = ArgumentCountParse (g key) value
+  over_rule (ArgAttributeMinExceedsMax min max) = ArgAttributeMinExceedsMax min max
+  over_rule (DuplicateAttribute attribute first) = DuplicateAttribute (g attribute) (g first)
+  over_rule (DuplicateArgAttribute arg first) = DuplicateArgAttribute arg (g first)
+  over_rule (DuplicateGroupAttribute expanded group first) = DuplicateGroupAttribute expanded (g group) (g first)
+  over_rule (InvalidAttribute item attribute) = InvalidAttribute item attribute
+  over_rule (UndefinedArgAttribute argument) = UndefinedArgAttribute argument
+
+  abbrev pub over_broken : Broken T → Broken U
+  over_broken b = record { rule = over_rule b.rule; token = g b.token }
+
+-- all rules that written items break under the conditions, each at what is kept of its token; so far no construct has attributes
 abbrev pub broken : {A B C S : Type 0} → Conditions → List (WrittenItem A B C S) → List (Broken B)
 broken conditions items = []

@@ -5,6 +5,8 @@
 -- mean, in the order of their content.
 use Rattle.std.specs.Prelude.{ℕ, Bool, false, List, [], ◌∷◌, map, Option, None}
 use Rattle.std.specs.Option.{option_map}
+use Rattle.justfile_base.specs.declared.attribute_kind.AttributeKind.{AttributeKind}
+use Rattle.justfile_base.specs.declared.signal.Signal.{Signal}
 use Rattle.justfile_model.specs.declared.conditional_operator.ConditionalOperator.{ConditionalOperator}
 use Rattle.justfile_model.specs.declared.parameter_kind.ParameterKind.{ParameterKind}
 use Rattle.justfile_model.specs.Tok.{Tok}
@@ -68,6 +70,11 @@ pub data Fragment (A B : Type 0) : Type 0 where
 pub data BodyLine (A B C : Type 0) : Type 0 where
   Line : (number : C) (fragments : List (Fragment A B)) → BodyLine A B C
 
+-- a string literal; it is expanded if it is marked `x`
+pub record Quoted (A : Type 0) : Type 0 where
+  pub expanded : Bool
+  pub token : A
+
 -- an argument of an attribute as it is written
 pub data Argument (A B : Type 0) : Type 0 where
   -- an expression, and its first token
@@ -82,9 +89,49 @@ pub record WrittenAttribute (A B : Type 0) : Type 0 where
   pub name : A
   pub arguments : List (Argument A B)
 
--- an attribute by what it means; so far there is none
-abbrev pub Attribute : (A B : Type 0) → Type 0
-Attribute A B = ⊥
+-- what an argument of a recipe is called as an option
+pub data OptionName (A B : Type 0) : Type 0 where
+  NoOption : OptionName A B
+  -- as the argument itself, where the key stands without a value
+  OwnName : (key : B) → OptionName A B
+  Named : (name : Quoted A) → OptionName A B
+
+-- a key and its value
+pub record Property (A B : Type 0) : Type 0 where
+  pub key : B
+  pub value : Expr A B
+
+-- a number, and the key that it is the value of
+pub record Bound (B : Type 0) : Type 0 where
+  pub key : B
+  pub number : ℕ
+
+-- what the attribute `arg` says of a parameter
+pub record ArgumentRules (A B : Type 0) : Type 0 where
+  pub flag : Option B
+  pub help : Option (Property A B)
+  pub long : OptionName A B
+  pub max : Option (Bound B)
+  pub min : Option (Bound B)
+  pub multiple : Option B
+  pub name : Quoted A
+  pub pattern : Option (Property A B)
+  pub short : OptionName A B
+  pub value : Option (Expr A B)
+
+-- An attribute by what it means. Those of one form are one case, with their kind.
+pub data Attribute (A B : Type 0) : Type 0 where
+  -- without arguments
+  Plain : (kind : AttributeKind) → Attribute A B
+  -- with one expression
+  Single : (kind : AttributeKind) (value : Expr A B) → Attribute A B
+  -- with literals
+  Texts : (kind : AttributeKind) (texts : List (Quoted A)) → Attribute A B
+  Env : (key value : Expr A B) → Attribute A B
+  -- `continue`: signals in their order, each once
+  Signals : (signals : List Signal) → Attribute A B
+  Cache : (extra inputs outputs : Option (Expr A B)) → Attribute A B
+  Arg : (rules : ArgumentRules A B) → Attribute A B
 
 -- an attribute of an item by what it means, and the place of its name
 pub record Entry (A B : Type 0) : Type 0 where
@@ -233,6 +280,43 @@ module _ {A B C D : Type 0} (f : A → C) (g : B → D) where
   abbrev pub over_written_attribute : WrittenAttribute A B → WrittenAttribute C D
   over_written_attribute w = record { name = f w.name; arguments = map over_argument w.arguments }
 
+  abbrev pub over_quoted : Quoted A → Quoted C
+  over_quoted q = record { expanded = q.expanded; token = f q.token }
+
+  abbrev pub over_option : OptionName A B → OptionName C D
+  over_option NoOption = NoOption
+  over_option (OwnName key) = OwnName (g key)
+  over_option (Named name) = Named (over_quoted name)
+
+  abbrev pub over_property : Property A B → Property C D
+  over_property p = record { key = g p.key; value = over_expr p.value }
+
+  abbrev pub over_bound : Bound B → Bound D
+  over_bound b = record { key = g b.key; number = b.number }
+
+  abbrev pub over_rules : ArgumentRules A B → ArgumentRules C D
+  over_rules a = record {
+    flag = option_map g a.flag;
+    help = option_map over_property a.help;
+    long = over_option a.long;
+    max = option_map over_bound a.max;
+    min = option_map over_bound a.min;
+    multiple = option_map g a.multiple;
+    name = over_quoted a.name;
+    pattern = option_map over_property a.pattern;
+    short = over_option a.short;
+    value = option_map over_expr a.value;
+  }
+
+  abbrev pub over_attribute : Attribute A B → Attribute C D
+  over_attribute (Plain kind) = Plain kind
+  over_attribute (Single kind value) = Single kind (over_expr value)
+  over_attribute (Texts kind texts) = Texts kind (map over_quoted texts)
+  over_attribute (Env key value) = Env (over_expr key) (over_expr value)
+  over_attribute (Signals signals) = Signals signals
+  over_attribute (Cache extra inputs outputs) = Cache (option_map over_expr extra) (option_map over_expr inputs) (option_map over_expr outputs)
+  over_attribute (Arg rules) = Arg (over_rules rules)
+
   abbrev pub over_assignment : AssignmentParts A B → AssignmentParts C D
   over_assignment a = record { eager = a.eager; export = a.export; name = f a.name; value = over_expr a.value }
 
@@ -240,7 +324,7 @@ module _ {A B C D : Type 0} (f : A → C) (g : B → D) where
   over_parameter p = record { kind = p.kind; export = p.export; name = f p.name; default = option_map over_expr p.default }
 
   abbrev pub over_entry : Entry A B → Entry C D
-  over_entry e = record { name = g e.name; attribute = e.attribute }
+  over_entry e = record { name = g e.name; attribute = over_attribute e.attribute }
 
 module _ {A B C A' B' C' : Type 0} (f : A → A') (g : B → B') (h : C → C') where
   abbrev pub over_line : BodyLine A B C → BodyLine A' B' C'

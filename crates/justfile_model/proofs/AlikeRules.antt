@@ -1,0 +1,40 @@
+-- Broken rules side by side: the same rule of related places, with the same texts.
+use Rattle.std.proofs.Common.{◌≡◌, ℕ, Bool, List, Option}
+use Rattle.justfile_base.specs.declared.attribute_kind.AttributeKind.{AttributeKind}
+use Rattle.justfile_base.specs.declared.item_kind.ItemKind.{ItemKind}
+use Rattle.justfile_model.specs.Rules as rules
+use Rattle.justfile_model.specs.Rules.{Broken, Rule}
+
+module _ {B B' : Type 0} (Spot : B → B' → Type 0) where
+  pub data AlikeRule : Rule B → Rule B' → Type 0 where
+    unknown_attribute : {a : B} {a' : B'} → Spot a a' → AlikeRule (rules.UnknownAttribute a) (rules.UnknownAttribute a')
+    count_mismatch : {a : B} {a' : B'} {found found' least : ℕ} {most : Option ℕ} → Spot a a' → found ≡ found'
+        → AlikeRule (rules.AttributeArgumentCountMismatch a found least most) (rules.AttributeArgumentCountMismatch a' found' least most)
+    argument_expression : {a : B} {a' : B'} → Spot a a' → AlikeRule (rules.AttributeArgumentExpression a) (rules.AttributeArgumentExpression a')
+    positional_follows : AlikeRule rules.AttributePositionalFollowsKeyword rules.AttributePositionalFollowsKeyword
+    duplicate_key : {a k : B} {a' k' : B'} → Spot a a' → Spot k k' → AlikeRule (rules.DuplicateAttributeKey a k) (rules.DuplicateAttributeKey a' k')
+    unknown_key : {a k : B} {a' k' : B'} → Spot a a' → Spot k k' → AlikeRule (rules.UnknownAttributeKey a k) (rules.UnknownAttributeKey a' k')
+    missing_value : {k : B} {k' : B'} → Spot k k' → AlikeRule (rules.AttributeKeyMissingValue k) (rules.AttributeKeyMissingValue k')
+    takes_no_value : {k : B} {k' : B'} → Spot k k' → AlikeRule (rules.AttributeKeyTakesNoValue k) (rules.AttributeKeyTakesNoValue k')
+    invalid_signal : {s s' : List ℕ} → s ≡ s' → AlikeRule (rules.InvalidSignal s) (rules.InvalidSignal s')
+    has_equal_sign : {p p' : List ℕ} → p ≡ p' → AlikeRule (rules.OptionNameContainsEqualSign p) (rules.OptionNameContainsEqualSign p')
+    has_dash : {p p' : List ℕ} → p ≡ p' → AlikeRule (rules.OptionNameStartsWithDash p) (rules.OptionNameStartsWithDash p')
+    empty_name : {p p' : List ℕ} → p ≡ p' → AlikeRule (rules.OptionNameEmpty p) (rules.OptionNameEmpty p')
+    long_short : {p p' : List ℕ} → p ≡ p' → AlikeRule (rules.ShortOptionWithMultipleCharacters p) (rules.ShortOptionWithMultipleCharacters p')
+    requires_option : {k : B} {k' : B'} → Spot k k' → AlikeRule (rules.ArgAttributeRequiresOption k) (rules.ArgAttributeRequiresOption k')
+    flag_value : {p p' : List ℕ} → p ≡ p' → AlikeRule (rules.FlagAttributeTakesNoValue p) (rules.FlagAttributeTakesNoValue p')
+    flag_and_value : {p p' : List ℕ} → p ≡ p' → AlikeRule (rules.FlagAndValueArgAttribute p) (rules.FlagAndValueArgAttribute p')
+    flag_and_pattern : {p p' : List ℕ} → p ≡ p' → AlikeRule (rules.FlagAndPatternArgAttribute p) (rules.FlagAndPatternArgAttribute p')
+    no_count : {k : B} {k' : B'} {s s' : List ℕ} → Spot k k' → s ≡ s' → AlikeRule (rules.ArgumentCountValue k s) (rules.ArgumentCountValue k' s')
+    big_count : {k : B} {k' : B'} {s s' : List ℕ} → Spot k k' → s ≡ s' → AlikeRule (rules.ArgumentCountParse k s) (rules.ArgumentCountParse k' s')
+    min_exceeds : {m m' n n' : ℕ} → m ≡ m' → n ≡ n' → AlikeRule (rules.ArgAttributeMinExceedsMax m n) (rules.ArgAttributeMinExceedsMax m' n')
+    duplicate : {a f : B} {a' f' : B'} → Spot a a' → Spot f f' → AlikeRule (rules.DuplicateAttribute a f) (rules.DuplicateAttribute a' f')
+    duplicate_arg : {s s' : List ℕ} {f : B} {f' : B'} → s ≡ s' → Spot f f' → AlikeRule (rules.DuplicateArgAttribute s f) (rules.DuplicateArgAttribute s' f')
+    duplicate_group : {b b' : Bool} {g f : B} {g' f' : B'} → b ≡ b' → Spot g g' → Spot f f'
+        → AlikeRule (rules.DuplicateGroupAttribute b g f) (rules.DuplicateGroupAttribute b' g' f')
+    invalid_attribute : {item : ItemKind} {k k' : AttributeKind} → k ≡ k' → AlikeRule (rules.InvalidAttribute item k) (rules.InvalidAttribute item k')
+    undefined_arg : {s s' : List ℕ} → s ≡ s' → AlikeRule (rules.UndefinedArgAttribute s) (rules.UndefinedArgAttribute s')
+
+  pub record AlikeBroken (r : Broken B) (r' : Broken B') : Type 0 where
+    pub rule : AlikeRule r.rule r'.rule
+    pub token : Spot r.token r'.token

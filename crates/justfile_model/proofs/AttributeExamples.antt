@@ -1,0 +1,54 @@
+-- Examples of what attributes mean, which rules they break, and how they are printed, computed from the definitions.
+use Rattle.std.proofs.Common.{◌≡◌, ℕ, false, List, [], ◌∷◌, Option, Some, None, codes, refl}
+use Rattle.justfile_base.specs.AttributeKind.{kind_named}
+use Rattle.justfile_model.specs.Literals.{Expansions}
+use Rattle.justfile_model.specs.Meaning.{entries_of}
+use Rattle.justfile_model.specs.Printing.{entries_text, fixed_text}
+use Rattle.justfile_base.specs.Signal.{signal_named}
+use Rattle.justfile_model.specs.AttributeKinds.{same_attribute}
+use Rattle.justfile_model.specs.Sight.{Sight, sees_lexemes}
+use Rattle.justfile_model.specs.Tree as tree
+use Rattle.justfile_model.specs.Tree.{Argument, WrittenAttribute, Expr, Entry, Content, plain_recipe, plain_assignment}
+
+abbrev unasked : Expansions
+unasked text = None
+
+abbrev sees : Sight (List ℕ) (Unit {0})
+sees = sees_lexemes unasked
+
+abbrev plain : List ℕ → WrittenAttribute (List ℕ) (Unit {0})
+plain name = record { name = name; arguments = [] }
+
+abbrev string : List ℕ → Expr (List ℕ) (Unit {0})
+string lexeme = tree.StringLiteral false lexeme
+
+abbrev given : List ℕ → List (Argument (List ℕ) (Unit {0})) → WrittenAttribute (List ℕ) (Unit {0})
+given name arguments = record { name = name; arguments = arguments }
+
+abbrev at : Expr (List ℕ) (Unit {0}) → Argument (List ℕ) (Unit {0})
+at value = tree.Positional tt value
+
+-- the text of what the attributes mean
+abbrev printed : Option (List (Entry (List ℕ) (Unit {0}))) → List ℕ
+printed None = codes "none"
+printed (Some entries) = entries_text entries
+
+by_kind : printed (entries_of sees (plain (codes "private") ∷ plain (codes "linux") ∷ [])) ≡ codes "[linux]\n[private]\n"
+unfolding kind_named fixed_text signal_named same_attribute
+by_kind = refl
+
+by_text : printed (entries_of sees (given (codes "env") (at (tree.Variable (codes "bb")) ∷ at (string (codes "'x'")) ∷ []) ∷ given (codes "env") (at (tree.Variable (codes "aaa")) ∷ at (string (codes "'y'")) ∷ []) ∷ []))
+    ≡ codes "[env(aaa, 'y')]\n[env(bb, 'x')]\n"
+unfolding kind_named fixed_text signal_named same_attribute
+by_text = refl
+
+grouped : printed (entries_of sees (given (codes "group") (at (string (codes "'a'")) ∷ []) ∷ given (codes "group") (at (string (codes "'b'")) ∷ []) ∷ plain (codes "doc") ∷ []))
+    ≡ codes "[doc]\n[group('a')]\n[group('b')]\n"
+unfolding kind_named fixed_text signal_named same_attribute
+grouped = refl
+
+cached : printed (entries_of sees (given (codes "env") (at (string (codes "'k'")) ∷ at (tree.Variable (codes "v")) ∷ []) ∷ given (codes "metadata") (at (string (codes "'m'")) ∷ at (string (codes "'n'")) ∷ [])
+    ∷ given (codes "cache") (tree.Keyed (codes "outputs") (tree.Variable (codes "o")) ∷ tree.Keyed (codes "inputs") (tree.Variable (codes "i")) ∷ []) ∷ []))
+    ≡ codes "[cache(inputs=i, outputs=o)]\n[env('k', v)]\n[metadata('m', 'n')]\n"
+unfolding kind_named fixed_text signal_named same_attribute
+cached = refl

@@ -1,0 +1,75 @@
+-- The grammar of attributes, as `Grammar` has that of items: which significant tokens are which written attributes.
+use Rattle.std.specs.Prelude.{◌≡◌, ℕ, Bool, true, false, List, [], ◌∷◌, ◌++◌, Option, Some, None, codes}
+use Rattle.std.specs.Str.{trim_end}
+use Rattle.justfile_base.specs.declared.token_kind.TokenKind.TheVariants as kinds
+use Rattle.justfile_model.specs.AttributeKinds.{name_takes_keys}
+use Rattle.justfile_model.specs.Expressions.{Tokens, IsKind, NotNext, IsMarked, Expression}
+use Rattle.justfile_model.specs.Features.{Noted}
+use Rattle.justfile_model.specs.SignificantTokens.{SignificantToken}
+use Rattle.justfile_model.specs.Tok.{Tok}
+use Rattle.justfile_model.specs.Tree as tree
+use Rattle.justfile_model.specs.Tree.{Argument, Expr, WrittenAttribute}
+
+-- the next token is a name that marks no string
+abbrev pub IsKey : Tokens → Type 0
+IsKey [] = ⊥
+IsKey (t ∷ []) = IsKind kinds.Identifier t
+IsKey (t ∷ u ∷ ts) = IsKind kinds.Identifier t × (IsMarked (codes "x") kinds.StringToken t u → ⊥)
+
+module _ {A B : Type 0} (leaf : Tok → A) (spot : Tok → B) (Open : ℕ → Option SignificantToken → Type 0) where
+  -- an argument of an attribute that takes keys or not; where it does, a name that begins one is a key
+  pub data ArgumentOf : (keys : Bool) → Argument A B → List (Noted B) → Tokens → Tokens → Type 0 where
+    positional : {keys : Bool} {e : Expr A B} {fs : List (Noted B)} {first : SignificantToken} {tokens rest : Tokens}
+        → (keys ≡ true → IsKey (first ∷ tokens) → ⊥) → Expression leaf spot Open false 0 e fs (first ∷ tokens) rest
+        → ArgumentOf keys (tree.Positional (spot first.tok) e) fs (first ∷ tokens) rest
+    bare : {key : SignificantToken} {rest : Tokens} → IsKey (key ∷ rest) → NotNext kinds.Equals rest
+        → ArgumentOf true (tree.Bare (leaf key.tok)) [] (key ∷ rest) rest
+    keyed : {e : Expr A B} {fs : List (Noted B)} {key equals : SignificantToken} {tokens rest : Tokens} → IsKind kinds.Identifier key
+        → IsKind kinds.Equals equals → Expression leaf spot Open false 0 e fs tokens rest
+        → ArgumentOf true (tree.Keyed (leaf key.tok) e) fs (key ∷ equals ∷ tokens) rest
+
+  -- arguments up to the closing parenthesis and with it; a comma may stand before it
+  pub data Arguments : (keys : Bool) → List (Argument A B) → List (Noted B) → Tokens → Tokens → Type 0 where
+    none : {keys : Bool} {closer : SignificantToken} {rest : Tokens} → IsKind kinds.ParenR closer
+        → Arguments keys [] [] (closer ∷ rest) rest
+    last : {keys : Bool} {a : Argument A B} {fs : List (Noted B)} {closer : SignificantToken} {tokens rest : Tokens} → ArgumentOf keys a fs tokens (closer ∷ rest)
+        → IsKind kinds.ParenR closer
+        → Arguments keys (a ∷ []) fs tokens rest
+    more : {keys : Bool} {a : Argument A B} {others : List (Argument A B)} {fs gs : List (Noted B)} {comma : SignificantToken} {tokens next rest : Tokens}
+        → ArgumentOf keys a fs tokens (comma ∷ next) → IsKind kinds.Comma comma → Arguments keys others gs next rest
+        → Arguments keys (a ∷ others) (fs ++ gs) tokens rest
+
+  -- an attribute: a name, a name with a colon and an expression, or a name with arguments in parentheses
+  pub data AttributeOf : WrittenAttribute A B → List (Noted B) → Tokens → Tokens → Type 0 where
+    plain : {name : SignificantToken} {rest : Tokens} → IsKind kinds.Identifier name → NotNext kinds.Colon rest → NotNext kinds.ParenL rest
+        → AttributeOf (record { name = leaf name.tok; arguments = [] }) [] (name ∷ rest) rest
+    short : {e : Expr A B} {fs : List (Noted B)} {name colon first : SignificantToken} {tokens rest : Tokens} → IsKind kinds.Identifier name
+        → IsKind kinds.Colon colon → Expression leaf spot Open false 0 e fs (first ∷ tokens) rest
+        → AttributeOf (record { name = leaf name.tok; arguments = tree.Positional (spot first.tok) e ∷ [] }) fs (name ∷ colon ∷ first ∷ tokens) rest
+    long : {arguments : List (Argument A B)} {fs : List (Noted B)} {name opener : SignificantToken} {tokens rest : Tokens} → IsKind kinds.Identifier name
+        → IsKind kinds.ParenL opener → Arguments (name_takes_keys name.tok.lexeme) arguments fs tokens rest
+        → AttributeOf (record { name = leaf name.tok; arguments = arguments }) fs (name ∷ opener ∷ tokens) rest
+
+  -- attributes with commas between them, up to the closing bracket and with it
+  pub data Bracketed : List (WrittenAttribute A B) → List (Noted B) → Tokens → Tokens → Type 0 where
+    last : {w : WrittenAttribute A B} {fs : List (Noted B)} {closer : SignificantToken} {tokens rest : Tokens} → AttributeOf w fs tokens (closer ∷ rest)
+        → IsKind kinds.BracketR closer
+        → Bracketed (w ∷ []) fs tokens rest
+    more : {w : WrittenAttribute A B} {ws : List (WrittenAttribute A B)} {fs gs : List (Noted B)} {comma : SignificantToken} {tokens next rest : Tokens}
+        → AttributeOf w fs tokens (comma ∷ next) → IsKind kinds.Comma comma → Bracketed ws gs next rest
+        → Bracketed (w ∷ ws) (fs ++ gs) tokens rest
+
+  -- what ends a line of attributes: a comment may stand before the line's end
+  pub data AttributesEnd : (comment : Option (List ℕ)) → Tokens → Tokens → Type 0 where
+    bare : {newline : SignificantToken} {rest : Tokens} → IsKind kinds.Eol newline
+        → AttributesEnd None (newline ∷ rest) rest
+    commented : {comment newline : SignificantToken} {rest : Tokens} → IsKind kinds.Comment comment → IsKind kinds.Eol newline
+        → AttributesEnd (Some (trim_end comment.tok.lexeme)) (comment ∷ newline ∷ rest) rest
+
+  -- The lines of attributes before a construct, none or more. A comment after them is dropped.
+  pub data AttributeLines : List (WrittenAttribute A B) → List (Noted B) → Tokens → Tokens → Type 0 where
+    none : {rest : Tokens} → NotNext kinds.BracketL rest
+        → AttributeLines [] [] rest rest
+    line : {ws others : List (WrittenAttribute A B)} {fs gs : List (Noted B)} {comment : Option (List ℕ)} {opener : SignificantToken} {tokens end next rest : Tokens}
+        → IsKind kinds.BracketL opener → Bracketed ws fs tokens end → AttributesEnd comment end next → AttributeLines others gs next rest
+        → AttributeLines (ws ++ others) (fs ++ gs) (opener ∷ tokens) rest

@@ -1,0 +1,196 @@
+-- Reading attributes from left to right, up to the first refusal: each is made, and compared with those before it, as soon as it is read.
+use Rattle.std.specs.Prelude.{Bool, true, false, ◌&&◌, not, List, [], ◌∷◌, ◌++◌, length, map, Option, Some, None, Ok, Err, codes, if◌then◌else◌}
+use Rattle.std.specs.Option.{is_some}
+use Rattle.justfile_base.specs.AttributeKind.{kind_named, takes_keys}
+use Rattle.justfile_base.specs.declared.attribute_kind.AttributeKind.{AttributeKind}
+use Rattle.justfile_base.specs.declared.token_kind.TokenKind.TheVariants as kinds
+use Rattle.justfile_model.specs.declared.level.Level.TheVariants.{Expression}
+use Rattle.justfile_model.specs.ExpressionReader as expressions
+use Rattle.justfile_model.specs.Expressions.{front}
+use Rattle.justfile_model.specs.Meaning.{at_key, by_key, by_position}
+use Rattle.justfile_model.specs.NewAttribute.{Made, new_entry}
+use Rattle.justfile_model.specs.Reading.{◌>>=◌, BreaksRule, Leaves, Read, State, Unexpected, accept, accept_marked, choose, expect, next_are}
+use Rattle.justfile_model.specs.Recursive.{recursive}
+use Rattle.justfile_model.specs.Rules.{Rule, UnknownAttribute, AttributePositionalFollowsKeyword, DuplicateAttributeKey}
+use Rattle.justfile_model.specs.Sight.{Sight}
+use Rattle.justfile_model.specs.Tree as tree
+use Rattle.justfile_model.specs.Tree.{Argument, Entry, Expr, WrittenAttribute}
+
+-- a broken rule is a refusal
+abbrev pub read_made : {R T B X : Type 0} → Made B X → State R T B → Read R T B X
+read_made (Ok x) s = Ok (x, s)
+read_made (Err rule) s = Err (BreaksRule rule)
+
+abbrev pub breaks : {R T B X : Type 0} → Rule B → B → Read R T B X
+breaks rule token = Err (BreaksRule (record { rule = rule; token = token }))
+
+-- `sight` is what is seen of the leaves, and `W` what is kept of an attribute: how it is written, or what it means, or both
+module _ {R T A B S D W : Type 0} (leaves : Leaves R T A B S D) (sight : R → Sight A B) (keep : WrittenAttribute A B → Entry A B → W) (entry_in : W → Entry A B) where
+  abbrev pub expression : State R T B → Read R T B (Expr A B)
+  expression s = expressions.read leaves (expressions.At Expression false s)
+
+  -- ---- arguments
+
+  -- what is kept of the first token of an expression that was read
+  abbrev pub placed_at : Option T → Expr A B × State R T B → Read R T B (Argument A B)
+  placed_at None e = Err (Unexpected None)
+  placed_at (Some first) e = Ok (tree.Positional (leaves.spot first) e.0, e.1)
+
+  -- an expression, with its first token
+  unfoldable pub placed : State R T B → Read R T B (Argument A B)
+  placed s = do
+    e ← expression s
+    placed_at (front s.left) e
+
+  -- an argument by position is refused after a key
+  abbrev pub after_keys : (has_key : Bool) → Argument A B × State R T B → Read R T B (Argument A B)
+  after_keys true (tree.Positional first value, s) = breaks AttributePositionalFollowsKeyword first
+  after_keys has_key x = Ok x
+
+  abbrev pub some_key : {X : Type 0} → List X → Bool
+  some_key [] = false
+  some_key (k ∷ keys) = true
+
+  unfoldable pub positional : (before : List (Argument A B)) → State R T B → Read R T B (Argument A B)
+  positional before s = do
+    x ← placed s
+    after_keys (some_key (by_key before)) x
+
+  abbrev pub argument_of_key : A → Option (Expr A B) → Argument A B
+  argument_of_key key None = tree.Bare key
+  argument_of_key key (Some value) = tree.Keyed key value
+
+  -- what follows a key: `=` and its value, or nothing
+  unfoldable pub key_value : State R T B → Read R T B (Option (Expr A B))
+  key_value s =
+      choose (accept leaves kinds.Equals s) (Ok (None, s)) (λ equals. do
+        e ← expression equals.1
+        Ok (Some e.0, e.1))
+
+  -- the key was there before
+  abbrev pub is_repeated : R → (before : List (Argument A B)) → T → Bool
+  is_repeated run before key = is_some (at_key (sight run) ((sight run).bytes (leaves.name key)) (by_key before))
+
+  abbrev pub distinct : (name : T) (before : List (Argument A B)) (key : T) → Option (Expr A B) × State R T B → Read R T B (Argument A B)
+  distinct name before key value =
+      if is_repeated value.1.run before key then breaks (DuplicateAttributeKey (leaves.spot name) (leaves.spot key)) (leaves.spot key)
+      else Ok (argument_of_key (leaves.name key) value.0, value.1)
+
+  -- an argument with a key, of the attribute with this name
+  unfoldable pub keyed : (name : T) (before : List (Argument A B)) → State R T B → Read R T B (Argument A B)
+  keyed name before s = do
+    key ← expect leaves kinds.Identifier s
+    value ← key_value key.1
+    distinct name before key.0 value
+
+  -- a name comes next that marks no string
+  abbrev pub begins_key : State R T B → Bool
+  begins_key s = next_are leaves (kinds.Identifier ∷ []) s && not (is_some (accept_marked leaves (codes "x") kinds.StringToken s))
+
+  unfoldable pub argument : (name : T) (keys : Bool) (before : List (Argument A B)) → State R T B → Read R T B (Argument A B)
+  argument name keys before s = if keys && begins_key s then keyed name before s else positional before s
+
+  -- the arguments that were read, and where reading stands
+  abbrev pub ArgumentPlace : Type 0
+  ArgumentPlace = List (Argument A B) × State R T B
+
+  abbrev pub ReadArguments : Type 0
+  ReadArguments = Read R T B (List (Argument A B))
+
+  abbrev pub no_arguments : ArgumentPlace → ReadArguments
+  no_arguments x = Err (Unexpected None)
+
+  -- the end of the arguments
+  unfoldable pub arguments_end : List (Argument A B) → State R T B → ReadArguments
+  arguments_end all s = do
+    closer ← expect leaves kinds.ParenR s
+    Ok (all, closer.1)
+
+  -- after a comma the arguments end, or another one follows
+  abbrev pub arguments_rule : (name : T) (keys : Bool) → (ArgumentPlace → ReadArguments) → ArgumentPlace → ReadArguments
+  arguments_rule name keys read x =
+      choose (accept leaves kinds.ParenR x.1)
+      (do
+        a ← argument name keys x.0 x.1
+        choose (accept leaves kinds.Comma a.1) (arguments_end (x.0 ++ a.0 ∷ []) a.1) (λ comma. read (x.0 ++ a.0 ∷ [], comma.1)))
+      (λ closer. Ok (x.0, closer.1))
+
+  -- arguments after those that were read, up to the closing parenthesis and with it
+  unfoldable pub arguments_from : (name : T) (keys : Bool) → ArgumentPlace → ReadArguments
+  arguments_from name keys = recursive (λ x. length x.1.left) no_arguments (arguments_rule name keys)
+
+  -- what follows the name of an attribute
+  unfoldable pub arguments : (name : T) (keys : Bool) → State R T B → ReadArguments
+  arguments name keys s =
+      choose (accept leaves kinds.Colon s)
+      (choose (accept leaves kinds.ParenL s) (Ok ([], s)) (λ opener. arguments_from name keys ([], opener.1)))
+      (λ colon. do
+        a ← placed colon.1
+        Ok (a.0 ∷ [], a.1))
+
+  -- ---- attributes
+
+  unfoldable pub kind_at : T → State R T B → Read R T B AttributeKind
+  kind_at name s = kind_or_none (kind_named (leaves.see name).tok.lexeme)
+    where
+      kind_or_none : Option AttributeKind → Read R T B AttributeKind
+      kind_or_none None = breaks (UnknownAttribute (leaves.spot name)) (leaves.spot name)
+      kind_or_none (Some kind) = Ok (kind, s)
+
+  -- what is kept of an attribute with this name and these arguments, after others
+  unfoldable pub made : (before : List W) → T → AttributeKind → List (Argument A B) → State R T B → Read R T B W
+  made before name kind arguments s = do
+    e ← read_made (new_entry (sight s.run) (map entry_in before) (leaves.spot name) kind (by_position arguments) (by_key arguments)) s
+    Ok (keep (record { name = leaves.name name; arguments = arguments }) e.0, e.1)
+
+  -- an attribute after others
+  unfoldable pub attribute : (before : List W) → State R T B → Read R T B W
+  attribute before s = do
+    name ← expect leaves kinds.Identifier s
+    kind ← kind_at name.0 name.1
+    all ← arguments name.0 (takes_keys kind.0) kind.1
+    made before name.0 kind.0 all.0 all.1
+
+  -- the attributes that were read, and where reading stands
+  abbrev pub AttributePlace : Type 0
+  AttributePlace = List W × State R T B
+
+  abbrev pub ReadAttributes : Type 0
+  ReadAttributes = Read R T B (List W)
+
+  abbrev pub no_attributes : AttributePlace → ReadAttributes
+  no_attributes x = Err (Unexpected None)
+
+  -- the end of a bracket
+  unfoldable pub bracket_end : List W → State R T B → ReadAttributes
+  bracket_end all s = do
+    closer ← expect leaves kinds.BracketR s
+    Ok (all, closer.1)
+
+  abbrev pub bracketed_rule : (AttributePlace → ReadAttributes) → AttributePlace → ReadAttributes
+  bracketed_rule read x = do
+    w ← attribute x.0 x.1
+    choose (accept leaves kinds.Comma w.1) (bracket_end (x.0 ++ w.0 ∷ []) w.1) (λ comma. read (x.0 ++ w.0 ∷ [], comma.1))
+
+  -- attributes after those that were read, up to the closing bracket and with it
+  unfoldable pub bracketed : AttributePlace → ReadAttributes
+  bracketed = recursive (λ x. length x.1.left) no_attributes bracketed_rule
+
+  -- the end of a line of attributes; a comment before it is dropped
+  unfoldable pub attributes_end : State R T B → Read R T B T
+  attributes_end s = expect leaves kinds.Eol (choose (accept leaves kinds.Comment s) s (λ comment. comment.1))
+
+  abbrev pub attribute_lines_rule : (AttributePlace → ReadAttributes) → AttributePlace → ReadAttributes
+  attribute_lines_rule read x =
+      choose (accept leaves kinds.BracketL x.1) (Ok x) (λ opener. do
+        ws ← bracketed (x.0, opener.1)
+        end ← attributes_end ws.1
+        read (ws.0, end.1))
+
+  -- lines of attributes after those that were read
+  unfoldable pub attribute_lines_from : AttributePlace → ReadAttributes
+  attribute_lines_from = recursive (λ x. length x.1.left) no_attributes attribute_lines_rule
+
+  -- the lines of attributes before a construct
+  unfoldable pub attribute_lines : State R T B → ReadAttributes
+  attribute_lines s = attribute_lines_from ([], s)

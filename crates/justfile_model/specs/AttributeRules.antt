@@ -1,0 +1,265 @@
+-- Which rules the attributes of an item break, each at its token. All that are broken are given, in no order that counts.
+use Rattle.std.specs.Prelude.{ℕ, Bool, true, false, ◌&&◌, ◌||◌, not, ◌==◌, nat_lt, List, [], ◌∷◌, ◌++◌, length, slice_index, Option, Some, None, codes, if◌then◌else◌}
+use Rattle.std.specs.List.{filter, find, filter_map, flat_map, list_any}
+use Rattle.std.specs.Option.{is_some}
+use Rattle.std.specs.Ordering.{is_gt}
+use Rattle.std.specs.Str.{bytes_eq, chars}
+use Rattle.justfile_base.specs.AttributeKind.{kind_named}
+use Rattle.justfile_base.specs.Signal.{signal_named}
+use Rattle.justfile_base.specs.declared.attribute_kind.AttributeKind.{AttributeKind}
+use Rattle.justfile_base.specs.declared.attribute_kind.AttributeKind.TheVariants as kinds
+use Rattle.justfile_base.specs.declared.item_kind.ItemKind.{ItemKind}
+use Rattle.justfile_base.specs.declared.item_kind.ItemKind.TheVariants as items
+use Rattle.justfile_model.specs.AttributeKinds.{same_attribute, known_keys, takes_expressions, least_count, most_count, is_repeatable, is_allowed}
+use Rattle.justfile_model.specs.ContentKeys.{kind_of_attribute}
+use Rattle.justfile_model.specs.ContentLeaf.{text_cmp}
+use Rattle.justfile_model.specs.Meaning.{quoted, Placed, KeyArgument, by_position, by_key, first_of, quoted_text, text_of, at_key, is_count, count_of, entry_of, entries_of}
+use Rattle.justfile_model.specs.Rules.{Rule, UnknownAttribute, AttributeArgumentCountMismatch, AttributeArgumentExpression, AttributePositionalFollowsKeyword, DuplicateAttributeKey, UnknownAttributeKey, AttributeKeyMissingValue, AttributeKeyTakesNoValue, InvalidSignal, OptionNameContainsEqualSign, OptionNameStartsWithDash, OptionNameEmpty, ShortOptionWithMultipleCharacters, ArgAttributeRequiresOption, FlagAttributeTakesNoValue, FlagAndValueArgAttribute, FlagAndPatternArgAttribute, ArgumentCountValue, ArgumentCountParse, ArgAttributeMinExceedsMax, DuplicateAttribute, DuplicateArgAttribute, DuplicateGroupAttribute, InvalidAttribute, UndefinedArgAttribute, Broken, broken_if}
+use Rattle.justfile_model.specs.Sight.{Sight}
+use Rattle.justfile_model.specs.Tree as tree
+use Rattle.justfile_model.specs.Tree.{Expr, Quoted, Argument, WrittenAttribute, ArgumentRules, Attribute, Content, Entry}
+
+-- more are found than the bound allows
+abbrev pub has_more : ℕ → Option ℕ → Bool
+has_more found None = false
+has_more found (Some most) = nat_lt most found
+
+abbrev pub is_literal : {A B : Type 0} → Expr A B → Bool
+is_literal e = is_some (quoted e)
+
+-- what is broken by the value, if there is one
+abbrev pub of_some : {X Y : Type 0} → (X → List Y) → Option X → List Y
+of_some f None = []
+of_some f (Some x) = f x
+
+-- the element with the least text, the first of these
+module _ {X : Type 0} (text_of : X → List ℕ) where
+  abbrev pub lesser : X → Option X → X
+  lesser x None = x
+  lesser x (Some y) = if is_gt (text_cmp (text_of x) (text_of y)) then y else x
+
+  abbrev pub least : List X → Option X
+  least [] = None
+  least (x ∷ xs) = Some (lesser x (least xs))
+
+module _ {A B : Type 0} (sight : Sight A B) where
+  -- the rules of one attribute, whose name is at `at`
+  module _ (at : B) where
+    abbrev pub count_broken : AttributeKind → (found : ℕ) → List (Broken B)
+    count_broken kind found =
+        broken_if (nat_lt found (least_count kind) || has_more found (most_count kind)) (AttributeArgumentCountMismatch at found (least_count kind) (most_count kind)) at
+
+    -- an argument by position is no literal
+    abbrev pub expression_broken : Placed A B → List (Broken B)
+    expression_broken p = broken_if (not (is_literal p.value)) (AttributeArgumentExpression at) p.first
+
+    abbrev pub expressions_broken : AttributeKind → List (Placed A B) → List (Broken B)
+    expressions_broken kind placed = if takes_expressions kind then [] else flat_map expression_broken placed
+
+    -- an argument by position follows a key
+    abbrev pub order_broken : (after_key : Bool) → List (Argument A B) → List (Broken B)
+    order_broken after_key [] = []
+    order_broken after_key (tree.Positional first value ∷ arguments) = broken_if after_key AttributePositionalFollowsKeyword first ++ order_broken after_key arguments
+    order_broken after_key (_ ∷ arguments) = order_broken true arguments
+
+    -- a key was there before
+    abbrev pub repeats_broken : (before keys : List (KeyArgument A B)) → List (Broken B)
+    repeats_broken before [] = []
+    repeats_broken before (k ∷ keys) =
+        broken_if (is_some (at_key sight (sight.bytes k.key) before)) (DuplicateAttributeKey at (sight.place k.key)) (sight.place k.key) ++ repeats_broken (before ++ k ∷ []) keys
+
+    abbrev pub is_known : AttributeKind → KeyArgument A B → Bool
+    is_known kind k = list_any (bytes_eq (sight.bytes k.key)) (known_keys kind)
+
+    -- keys that are not known: the least of them is refused
+    abbrev pub unknown_broken : AttributeKind → List (KeyArgument A B) → List (Broken B)
+    unknown_broken kind keys =
+        of_some (λ (k : KeyArgument A B). record { rule = UnknownAttributeKey at (sight.place k.key); token = sight.place k.key } ∷ [])
+        (least (λ (k : KeyArgument A B). sight.bytes k.key) (filter (λ k. not (is_known kind k)) keys))
+
+    -- a key that needs a value has none
+    abbrev pub missing_broken : KeyArgument A B → List (Broken B)
+    missing_broken k = broken_if (not (is_some k.value)) (AttributeKeyMissingValue (sight.place k.key)) (sight.place k.key)
+
+    -- the rules of a value that has to be a literal, by its text, if it has one
+    abbrev pub literal_broken : (Quoted A → List ℕ → List (Broken B)) → (key : A) → Expr A B → List (Broken B)
+    literal_broken rules key value =
+        broken_if (not (is_literal value)) (AttributeArgumentExpression at) (sight.place key)
+        ++ of_some (λ q. of_some (rules q) (quoted_text sight q)) (quoted value)
+
+    abbrev pub signal_broken : Quoted A → List ℕ → List (Broken B)
+    signal_broken q name = broken_if (not (is_some (signal_named name))) (InvalidSignal name) (sight.place q.token)
+
+    abbrev pub signals_broken : Placed A B → List (Broken B)
+    signals_broken p = of_some (λ q. of_some (signal_broken q) (quoted_text sight q)) (quoted p.value)
+
+    -- the rules of `arg`, of the argument with this text
+    module _ (argument : List ℕ) (keys : List (KeyArgument A B)) where
+      abbrev pub has : (word : List ℕ) → Bool
+      has word = is_some (at_key sight word keys)
+
+      -- what the key of this name breaks, if it is there
+      abbrev pub key_broken : (word : List ℕ) → (KeyArgument A B → List (Broken B)) → List (Broken B)
+      key_broken word rules = of_some rules (at_key sight word keys)
+
+      -- the text of an option's name, refused at its literal
+      abbrev pub option_broken : (is_short : Bool) → Quoted A → List ℕ → List (Broken B)
+      option_broken is_short q option =
+          broken_if (list_any (λ b. b == 61) option) (OptionNameContainsEqualSign argument) (sight.place q.token)
+          ++ broken_if (slice_index option 0 == 45) (OptionNameStartsWithDash argument) (sight.place q.token)
+          ++ broken_if (length option == 0) (OptionNameEmpty argument) (sight.place q.token)
+          ++ broken_if (is_short && not (length (chars option) == 1)) (ShortOptionWithMultipleCharacters argument) (sight.place q.token)
+
+      abbrev pub option_key_broken : (is_short : Bool) → KeyArgument A B → List (Broken B)
+      option_key_broken is_short k = of_some (literal_broken (option_broken is_short) k.key) k.value
+
+      abbrev pub count_text_broken : (key : A) → Quoted A → List ℕ → List (Broken B)
+      count_text_broken key q value =
+          if is_count value then broken_if (not (is_some (count_of value))) (ArgumentCountParse (sight.place key) value) (sight.place q.token)
+          else broken_if true (ArgumentCountValue (sight.place key) value) (sight.place q.token)
+
+      abbrev pub bound_broken : KeyArgument A B → List (Broken B)
+      bound_broken k = missing_broken k ++ of_some (literal_broken (count_text_broken k.key) k.key) k.value
+
+      -- a key wants an option, and there is none
+      abbrev pub wants_option : KeyArgument A B → List (Broken B)
+      wants_option k = broken_if (not (has (codes "long")) && not (has (codes "short"))) (ArgAttributeRequiresOption (sight.place k.key)) (sight.place k.key)
+
+      abbrev pub value_broken : KeyArgument A B → List (Broken B)
+      value_broken k = missing_broken k ++ wants_option k
+
+      abbrev pub flag_broken : KeyArgument A B → List (Broken B)
+      flag_broken k =
+          broken_if (is_some k.value) (FlagAttributeTakesNoValue argument) (sight.place k.key)
+          ++ wants_option k
+          ++ broken_if (has (codes "value")) (FlagAndValueArgAttribute argument) (sight.place k.key)
+          ++ broken_if (has (codes "pattern")) (FlagAndPatternArgAttribute argument) (sight.place k.key)
+
+      abbrev pub multiple_broken : KeyArgument A B → List (Broken B)
+      multiple_broken k = broken_if (is_some k.value) (AttributeKeyTakesNoValue (sight.place k.key)) (sight.place k.key) ++ wants_option k
+
+      -- the number that a key has
+      abbrev pub number_of : KeyArgument A B → List ℕ
+      number_of k = of_some (λ value. of_some (λ q. of_some (λ text. of_some (λ n. n ∷ []) (count_of text)) (quoted_text sight q)) (quoted value)) k.value
+
+      -- both numbers are there, and the least is above the greatest
+      abbrev pub exceeds_broken : (min max : KeyArgument A B) → List (Broken B)
+      exceeds_broken min max = flat_map (λ n. flat_map (λ m. broken_if (nat_lt m n) (ArgAttributeMinExceedsMax n m) (sight.place min.key)) (number_of max)) (number_of min)
+
+      abbrev pub arg_broken : List (Broken B)
+      arg_broken =
+          key_broken (codes "long") (option_key_broken false)
+          ++ key_broken (codes "short") (option_key_broken true)
+          ++ key_broken (codes "pattern") missing_broken
+          ++ key_broken (codes "value") value_broken
+          ++ key_broken (codes "flag") flag_broken
+          ++ key_broken (codes "multiple") multiple_broken
+          ++ key_broken (codes "max") bound_broken
+          ++ key_broken (codes "min") bound_broken
+          ++ key_broken (codes "min") (λ min. key_broken (codes "max") (exceeds_broken min))
+          ++ key_broken (codes "help") missing_broken
+
+    -- the rules of one kind alone
+    abbrev pub kind_broken : AttributeKind → List (Placed A B) → List (KeyArgument A B) → List (Broken B)
+    kind_broken kinds.Arg placed keys = flat_map (λ (p : Placed A B). of_some (λ q. of_some (λ argument. arg_broken argument keys) (quoted_text sight q)) (quoted p.value)) placed
+    kind_broken kinds.Cache placed keys =
+        of_some missing_broken (at_key sight (codes "extra") keys)
+        ++ of_some missing_broken (at_key sight (codes "inputs") keys)
+        ++ of_some missing_broken (at_key sight (codes "outputs") keys)
+    kind_broken kinds.Continue placed keys = flat_map signals_broken placed
+    kind_broken kind placed keys = []
+
+    -- what an attribute of this kind breaks by its arguments, in whichever order these stand
+    abbrev pub arguments_broken : AttributeKind → List (Placed A B) → List (KeyArgument A B) → List (Broken B)
+    arguments_broken kind placed keys =
+        count_broken kind (length placed)
+        ++ expressions_broken kind placed
+        ++ kind_broken kind placed keys
+        ++ unknown_broken kind keys
+
+  abbrev pub known_broken : WrittenAttribute A B → AttributeKind → List (Broken B)
+  known_broken w kind =
+      order_broken (sight.place w.name) false w.arguments
+      ++ repeats_broken (sight.place w.name) [] (by_key w.arguments)
+      ++ arguments_broken (sight.place w.name) kind (by_position w.arguments) (by_key w.arguments)
+
+  abbrev pub named_broken : WrittenAttribute A B → Option AttributeKind → List (Broken B)
+  named_broken w None = record { rule = UnknownAttribute (sight.place w.name); token = sight.place w.name } ∷ []
+  named_broken w (Some kind) = known_broken w kind
+
+  -- what one attribute breaks
+  abbrev pub attribute_broken : WrittenAttribute A B → List (Broken B)
+  attribute_broken w = named_broken w (kind_named (sight.bytes w.name))
+
+  -- ---- the attributes of one item, by what they mean
+
+  -- the literal whose text no other attribute of the kind has, of `arg` and of `group`
+  abbrev pub label_of : Attribute A B → Option (Quoted A)
+  label_of (tree.Arg rules) = Some rules.name
+  label_of (tree.Texts kinds.Group texts) = first_of texts
+  label_of _ = None
+
+  -- literals have the same text
+  abbrev pub same_text : Option (List ℕ) → Option (List ℕ) → Bool
+  same_text (Some s) (Some t) = bytes_eq s t
+  same_text _ _ = false
+
+  abbrev pub same_label : Option (Quoted A) → Option (Quoted A) → Bool
+  same_label (Some p) (Some q) = same_text (quoted_text sight p) (quoted_text sight q)
+  same_label _ _ = false
+
+  -- two attributes that an item may not both have
+  abbrev pub excludes : Attribute A B → Attribute A B → Bool
+  excludes a b = same_attribute (kind_of_attribute a) (kind_of_attribute b) && (not (is_repeatable (kind_of_attribute a)) || same_label (label_of a) (label_of b))
+
+  -- the rule that an attribute breaks by an earlier one
+  abbrev pub duplicate_rule : (name : B) → Attribute A B → (first : B) → Rule B
+  duplicate_rule name (tree.Arg rules) first = DuplicateArgAttribute (text_of sight rules.name) first
+  duplicate_rule name (tree.Texts kinds.Group (q ∷ qs)) first = DuplicateGroupAttribute q.expanded (sight.place q.token) first
+  duplicate_rule name a first = DuplicateAttribute name first
+
+  -- by the first of the attributes before it that excludes it
+  abbrev pub duplicate_broken : (before : List (Entry A B)) → Entry A B → List (Broken B)
+  duplicate_broken before e =
+      of_some (λ (first : Entry A B). record { rule = duplicate_rule e.name e.attribute first.name; token = e.name } ∷ []) (find (λ (d : Entry A B). excludes d.attribute e.attribute) before)
+
+  -- those that have a meaning, each by those before it
+  abbrev pub duplicates_broken : (before : List (Entry A B)) → List (WrittenAttribute A B) → List (Broken B)
+  duplicates_broken before [] = []
+  duplicates_broken before (w ∷ ws) = of_some (duplicate_broken before) (entry_of sight w) ++ duplicates_broken (before ++ of_some (λ e. e ∷ []) (entry_of sight w)) ws
+
+  -- what the attributes of an item break, whatever the item is
+  abbrev pub attributes_broken : List (WrittenAttribute A B) → List (Broken B)
+  attributes_broken ws = flat_map attribute_broken ws ++ duplicates_broken [] ws
+
+  -- ---- by the item
+
+  -- the first attribute, in the order of content, that such an item may not have
+  abbrev pub first_invalid : ItemKind → List (Entry A B) → Option (Entry A B)
+  first_invalid item entries = find (λ (e : Entry A B). not (is_allowed item (kind_of_attribute e.attribute))) entries
+
+  abbrev pub allowed_broken : ItemKind → (name : B) → List (Entry A B) → List (Broken B)
+  allowed_broken item name entries =
+      of_some (λ (e : Entry A B). record { rule = InvalidAttribute item (kind_of_attribute e.attribute); token = name } ∷ []) (first_invalid item entries)
+
+  abbrev pub rules_in : Attribute A B → Option (ArgumentRules A B)
+  rules_in (tree.Arg rules) = Some rules
+  rules_in _ = None
+
+  -- what they say of parameters, in their order
+  abbrev pub arg_rules : List (Entry A B) → List (ArgumentRules A B)
+  arg_rules entries = filter_map (λ (e : Entry A B). rules_in e.attribute) entries
+
+  -- What is said of no parameter: the least text is refused, at its literal. So far a recipe has no parameters.
+  abbrev pub undefined_broken : List (ArgumentRules A B) → List (Broken B)
+  undefined_broken rules =
+      of_some (λ (a : ArgumentRules A B). record { rule = UndefinedArgAttribute (text_of sight a.name); token = sight.place a.name.token } ∷ [])
+      (least (λ (a : ArgumentRules A B). text_of sight a.name) rules)
+
+  -- by what the attributes of a construct mean
+  abbrev pub meaning_broken : {C S : Type 0} → Content A B C S → List (Entry A B) → List (Broken B)
+  meaning_broken (tree.Assignment parts) entries = allowed_broken items.Assignment (sight.place parts.name) entries
+  meaning_broken (tree.Recipe parts) entries = undefined_broken (arg_rules entries)
+
+  abbrev pub construct_broken : {C S : Type 0} → List (WrittenAttribute A B) → Content A B C S → List (Broken B)
+  construct_broken ws content = attributes_broken ws ++ of_some (meaning_broken content) (entries_of sight ws)
