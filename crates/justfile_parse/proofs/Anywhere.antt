@@ -20,7 +20,7 @@ use Rattle.justfile_model.proofs.Related as a
 use Rattle.justfile_model.proofs.Related.{Each, Never, Related, States}
 use Rattle.justfile_parse.specs.TableReader.{At, ReadExpr, Refusal, Run, State, leaves, read}
 use Rattle.justfile_parse.specs.Significant.{significant_of}
-use Rattle.justfile_parse.specs.Tree.{Leaf}
+use Rattle.justfile_tree.specs.LeafTree.{Leaf}
 use Rattle.justfile_parse.specs.declared.significant.TableEntry.{TableEntry}
 use Rattle.justfile_parse.proofs.Seen.{IsEntry, Relates, respects, seen}
 

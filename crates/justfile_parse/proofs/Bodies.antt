@@ -11,7 +11,8 @@ use Rattle.justfile_model.specs.Reader as files
 use Rattle.justfile_model.specs.Reading.{◌>>=◌, Unexpected, prepend, at, choose, refused}
 use Rattle.justfile_parse.specs.TableReader.{Read, Refusal, State, accept, body, optional_body, body_line, enclosed, expect, fragment, leaves, line_rest, lines, next_are, read, At}
 use Rattle.justfile_parse.specs.MethodResults.{StopsAt, literal_refusal, refusal_at}
-use Rattle.justfile_parse.specs.Tree.{Leaf, Text, fragment_tree, line_tree}
+use Rattle.justfile_parse.specs.Tree.{fragment_tree, line_tree}
+use Rattle.justfile_tree.specs.LeafTree.{Leaf, Text}
 use Rattle.justfile_model.specs.declared.level.Level.TheVariants as levels
 use Rattle.justfile_parse.specs.declared.significant.TableEntry.{TableEntry}
 use Rattle.justfile_parse.specs.declared.stop.Stop.{Stop}

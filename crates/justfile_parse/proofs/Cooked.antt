@@ -26,7 +26,7 @@ use Rattle.justfile_parse.specs.Fault.{IsLiteralFault, is_literal_kind, literal_
 use Rattle.justfile_parse.specs.Literal.{is_delimited, is_sound}
 use Rattle.justfile_parse.specs.MethodResults.{StopsAt, TextStops, literal_refusal}
 use Rattle.justfile_parse.specs.declared.significant.TableEntry.{TableEntry}
-use Rattle.justfile_parse.specs.Tree.{Command, Literal, literal_of}
+use Rattle.justfile_tree.specs.LeafTree.{Command, Literal, literal_of}
 use Rattle.justfile_parse.specs.View.{state_at, state_of}
 use Rattle.justfile_parse.specs.declared.parser.Parser.{Parser}
 use Rattle.justfile_parse.specs.declared.stop.Stop.{Stop}

@@ -9,7 +9,7 @@ use Rattle.justfile_model.specs.Reading.{◌>>=◌, choose}
 use Rattle.justfile_parse.specs.TableReader as r
 use Rattle.justfile_parse.specs.TableReader.{Read, Refusal, State, accept, element, leaves, read}
 use Rattle.justfile_parse.specs.MethodResults.{StopsAt, literal_refusal, refusal_at}
-use Rattle.justfile_parse.specs.Tree.{Leaf, leaf_tree_of, trees_of}
+use Rattle.justfile_tree.specs.LeafTree.{Leaf, leaf_tree_of, trees_of}
 use Rattle.justfile_parse.specs.declared.significant.TableEntry.{TableEntry}
 use Rattle.justfile_parse.specs.declared.stop.Stop.{Stop}
 use Rattle.justfile_parse.specs.declared.stop.Stop.TheVariants.{Refused, Literal, Memory, Numbers}

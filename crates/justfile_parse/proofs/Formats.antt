@@ -26,7 +26,7 @@ use Rattle.justfile_model.specs.Reading.{◌>>=◌, accept_by, at, choose, marke
 use Rattle.justfile_parse.specs.Parsing.{IsOneLex}
 use Rattle.justfile_parse.specs.TableReader.{At, Read, ReadExpr, State, accept, accept_marked, expect, leaves, pair, part, part_by, read}
 use Rattle.justfile_parse.specs.Significant.{significant_of}
-use Rattle.justfile_parse.specs.Tree.{Leaf}
+use Rattle.justfile_tree.specs.LeafTree.{Leaf}
 use Rattle.justfile_parse.specs.View.{state_at, state_of}
 use Rattle.justfile_model.specs.declared.level.Level.TheVariants as levels
 use Rattle.justfile_parse.specs.declared.parser.Parser.{Parser}

@@ -14,7 +14,8 @@ use Rattle.justfile_model.specs.Reader.{after_numbered, comment_item, has_body, 
 use Rattle.justfile_model.specs.Reading.{◌>>=◌, Counters, prepend}
 use Rattle.justfile_parse.specs.TableReader.{Read, ReadItems, Refusal, State, accept, item_rest, ended, expect, leaves, line, line_end, on_line}
 use Rattle.justfile_parse.specs.MethodResults.{StopsAt, literal_refusal, refusal_at}
-use Rattle.justfile_parse.specs.Tree.{Leaf, item_tree, line_tree}
+use Rattle.justfile_parse.specs.Tree.{item_tree, line_tree}
+use Rattle.justfile_tree.specs.LeafTree.{Leaf}
 use Rattle.justfile_parse.specs.declared.significant.TableEntry.{TableEntry}
 use Rattle.justfile_parse.specs.declared.stop.Stop.{Stop}
 use Rattle.justfile_parse.specs.declared.stop.Stop.TheVariants.{Refused, Literal, Memory, Numbers}
@@ -34,6 +35,13 @@ module _ (done : Items) (s : State) where
   pub line_end_fails : (e : Refusal) → accept kinds.Eof s ≡ None → expect kinds.Eol s ≡ Err e → prepend done (line_end s) ≡ Err e
   unfolding prepend files.line_end
   line_end_fails e h1 h2 = rw (h1, h2) refl
+
+  -- where no end of a line stands, the item's end stops
+  pub line_end_stops : (stop : Stop) (left : State) → accept kinds.Eof s ≡ None → StopsAt stop left ⊥ (expect kinds.Eol s) → StopsAt stop left ⊥ (prepend done (line_end s))
+  line_end_stops (Refused r) left none h = line_end_fails (refusal_at r left) none h
+  line_end_stops (Literal refused) left none h = line_end_fails (literal_refusal refused.value.error) none h
+  line_end_stops Memory left none h = tt
+  line_end_stops Numbers left none h = absurd h
 
   pub after_bare : accept kinds.Comment s ≡ None → prepend done (item_rest s) ≡ prepend done (line_end s)
   unfolding files.item_rest

@@ -13,7 +13,8 @@ use Rattle.justfile_parse.specs.TableReader as reader
 use Rattle.justfile_parse.specs.WantsNumber.{counters_of}
 use Rattle.justfile_parse.specs.TableReader.{ReadItems, Refusal, State, accept, after_mark, items, leaves, line, read_nothing, on_line}
 use Rattle.justfile_parse.specs.MethodResults.{IsMoved, StopsAt, literal_refusal, refusal_at}
-use Rattle.justfile_parse.specs.Tree.{Leaf, item_tree}
+use Rattle.justfile_parse.specs.Tree.{item_tree}
+use Rattle.justfile_tree.specs.LeafTree.{Leaf}
 use Rattle.justfile_parse.specs.declared.significant.TableEntry.{TableEntry}
 use Rattle.justfile_parse.specs.declared.stop.Stop.{Stop}
 use Rattle.justfile_parse.specs.declared.stop.Stop.TheVariants.{Refused, Literal, Memory, Numbers}

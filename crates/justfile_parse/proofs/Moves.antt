@@ -26,7 +26,7 @@ use Rattle.justfile_model.proofs.Related.{AlikeItem, Related}
 use Rattle.justfile_model.proofs.Sound.{Starts, of_block, of_comment, of_line, on_line_at}
 use Rattle.justfile_parse.specs.TableReader.{after_mark, Read, ReadItem, ReadItems, Refusal, State, accept, item_rest, ended, expect, leaves, line, line_end, on_line}
 use Rattle.justfile_parse.specs.Significant.{significant_of}
-use Rattle.justfile_parse.specs.Tree.{Leaf}
+use Rattle.justfile_tree.specs.LeafTree.{Leaf}
 use Rattle.justfile_parse.specs.declared.significant.TableEntry.{TableEntry}
 use Rattle.justfile_parse.proofs.Anywhere.{agree, entries_are, rel, state_alike, state_seen}
 use Rattle.justfile_parse.proofs.Formats.{IsExpected, IsNext, Taken, accepted, expected}

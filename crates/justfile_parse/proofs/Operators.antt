@@ -15,7 +15,7 @@ use Rattle.justfile_model.specs.declared.list_feature.ListFeature.TheVariants as
 use Rattle.justfile_model.specs.declared.operator.Operator.{Operator}
 use Rattle.justfile_parse.specs.TableReader as r
 use Rattle.justfile_parse.specs.TableReader.{At, Read, ReadExpr, Refusal, State, accept, accept_word, enter, front_operator, is_within, leaves, literal, operation, operations, read, value}
-use Rattle.justfile_parse.specs.Tree.{Leaf}
+use Rattle.justfile_tree.specs.LeafTree.{Leaf}
 use Rattle.justfile_parse.specs.declared.significant.TableEntry.{TableEntry}
 use Rattle.justfile_model.proofs.ExpressionReading as laws
 use Rattle.justfile_parse.proofs.Rules.{bind_alike, choose_alike, then_made}

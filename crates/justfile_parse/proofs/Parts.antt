@@ -9,7 +9,7 @@ use Rattle.justfile_model.specs.ExpressionReader as expressions
 use Rattle.justfile_model.specs.Reading.{◌>>=◌}
 use Rattle.justfile_parse.specs.TableReader.{At, Read, ReadExpr, Refusal, State, format_parts, leaves, pair, part, read}
 use Rattle.justfile_parse.specs.MethodResults.{StopsAt, literal_refusal, refusal_at}
-use Rattle.justfile_parse.specs.Tree.{Leaf, Literal, format_string_tree, literal_of, parts_tree, leaf_tree_of}
+use Rattle.justfile_tree.specs.LeafTree.{Leaf, Literal, format_string_tree, literal_of, parts_tree, leaf_tree_of}
 use Rattle.justfile_model.specs.declared.level.Level.TheVariants as levels
 use Rattle.justfile_parse.specs.declared.stop.Stop.{Stop}
 use Rattle.justfile_parse.specs.declared.stop.Stop.TheVariants as stops

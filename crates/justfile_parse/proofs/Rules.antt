@@ -15,7 +15,7 @@ use Rattle.justfile_model.specs.ExpressionReader.{by_text}
 use Rattle.justfile_model.specs.Reading.{◌>>=◌, choose}
 use Rattle.justfile_parse.specs.TableReader as r
 use Rattle.justfile_parse.specs.TableReader.{At, Read, ReadExpr, State, accept, accept_word, assert, braced, condition, enclosed, expect, format_parts, format_string, group, leaves, list, name, note_first, part, part_by, read, whole_format_string}
-use Rattle.justfile_parse.specs.Tree.{Leaf}
+use Rattle.justfile_tree.specs.LeafTree.{Leaf}
 use Rattle.justfile_model.specs.declared.level.Level.TheVariants.{Expression}
 use Rattle.justfile_parse.specs.declared.significant.TableEntry.{TableEntry}
 use Rattle.justfile_model.proofs.ExpressionReading as laws

@@ -43,7 +43,8 @@ use Rattle.justfile_tree.specs.declared.expression.Expression.{Expression, And',
 use Rattle.justfile_parse.specs.Filled.{is_private, IsGivenFragment, IsGivenItem, IsGivenLine, AreGivenExpressions, AreGivenParts, IsGivenCommand, IsGivenExpression, IsGivenLiteral, IsGivenPart, first_part, later_part}
 use Rattle.justfile_parse.specs.TableReader.{Run, assigned_leaf, headed_leaf, leaves, literal_leaf}
 use Rattle.justfile_parse.specs.Significant.{significant_of}
-use Rattle.justfile_parse.specs.Tree.{AssignmentName, RecipeName, Leaf, LiteralText, Assigned, Headed, Named, Literal, Command, Text, assignment_name, fragment_tree, item_tree, line_tree, format_row_tree, literal_of, parts_row_tree, recipe_name, leaf_tree_of, trees_of_row}
+use Rattle.justfile_parse.specs.Tree.{assignment_name, fragment_tree, item_tree, line_tree, recipe_name}
+use Rattle.justfile_tree.specs.LeafTree.{AssignmentName, RecipeName, Leaf, LiteralText, Assigned, Headed, Named, Literal, Command, Text, format_row_tree, literal_of, parts_row_tree, leaf_tree_of, trees_of_row}
 use Rattle.justfile_parse.specs.declared.significant.TableEntry.{TableEntry}
 
 -- a reader of a table beside one of significant tokens

@@ -37,7 +37,8 @@ use Rattle.justfile_parse.specs.TableReader as reader
 use Rattle.justfile_parse.specs.TableReader.{ReadItems, Run, State, leaves}
 use Rattle.justfile_parse.specs.MethodResults.{IsFaultOf, IsKindAt, IsNextPlace, IsRead, IsUnread, StopsAt, literal_refusal, refusal_at}
 use Rattle.justfile_parse.specs.Significant.{significant_of}
-use Rattle.justfile_parse.specs.Tree.{Leaf, item_tree}
+use Rattle.justfile_parse.specs.Tree.{item_tree}
+use Rattle.justfile_tree.specs.LeafTree.{Leaf}
 use Rattle.justfile_parse.specs.WantsNumber.{AreLines, LacksNumber, WantsNumber, binding, counters_of, more, none, recipe_number}
 use Rattle.justfile_parse.specs.declared.significant.TableEntry.{TableEntry}
 use Rattle.justfile_parse.specs.declared.stop.LiteralRefusal.{LiteralRefusal}

@@ -21,7 +21,7 @@ use Rattle.justfile_model.specs.Reading as reading
 use Rattle.justfile_model.specs.Reading.{◌>>=◌, Counters, Leaves, refused, with}
 use Rattle.justfile_parse.specs.Filled.{is_private}
 use Rattle.justfile_parse.specs.Significant.{significant_of}
-use Rattle.justfile_parse.specs.Tree.{Leaf, Named, Literal, Command, Text, Assigned, Headed}
+use Rattle.justfile_tree.specs.LeafTree.{Leaf, Named, Literal, Command, Text, Assigned, Headed}
 use Rattle.justfile_model.specs.declared.level.Level.{Level}
 use Rattle.justfile_model.specs.declared.level.Level.TheVariants.{Expression, Disjunct, Compared}
 use Rattle.justfile_model.specs.Operators.{operator_of}

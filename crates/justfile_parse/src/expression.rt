@@ -11,7 +11,7 @@ ghost use Rattle.justfile_model.specs.ExpressionReader.{closed};
 ghost use Rattle.justfile_model.specs.Operators.{is_binary};
 ghost use Rattle.justfile_parse.specs.TableReader as reader;
 ghost use Rattle.justfile_parse.specs.MethodResults.{Reads, UnlessMemory};
-ghost use Rattle.justfile_parse.specs.Tree.{Literal, Named, format_string_tree, literal_of, leaf_tree_of, trees_of};
+ghost use Rattle.justfile_tree.specs.LeafTree.{Literal, Named, format_string_tree, literal_of, leaf_tree_of, trees_of};
 ghost use Rattle.justfile_model.specs.declared.level.Level.TheVariants as levels;
 
 use crate::feature::find_function_feature;
@@ -393,7 +393,7 @@ impl<'run, 'src, X: Expander> Parser<'run, 'src, X> {
 
     /// Expressions with commas between, up to the closing delimiter and with it.
     #[cycle(expression)]
-    #[tactic(auto, using(crate::proofs::Elements::begins, crate::proofs::Elements::goes_on, crate::proofs::Elements::closes, crate::proofs::Elements::closes_last, crate::proofs::Elements::fails, crate::proofs::Elements::stops))]
+    #[tactic(auto, using(crate::proofs::Elements::begins, crate::proofs::Elements::goes_on, crate::proofs::Elements::closes, crate::proofs::Elements::closes_last))]
     #[inline(never)]
     fn parse_sequence(&mut self, closing: TokenKind) -> Result<Vec<Expression<'src>>, Stop<'src>>
         ensures reads { Reads (λ es. trees_of es.items) result (state_of X.answer self.new)

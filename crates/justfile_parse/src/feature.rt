@@ -2,7 +2,7 @@ ghost use Rattle.std.specs.Prelude.{◌≡◌};
 ghost use Rattle.justfile_model.specs.Features.{function_feature, noted, noted_if, uncompared_feature};
 ghost use Rattle.justfile_model.specs.Reading.{with};
 ghost use Rattle.justfile_parse.specs.TableReader.{note_first};
-ghost use Rattle.justfile_parse.specs.Tree.{leaf_tree_of};
+ghost use Rattle.justfile_tree.specs.LeafTree.{leaf_tree_of};
 ghost use Rattle.justfile_parse.specs.MethodResults.{UnlessMemory};
 
 use crate::parser::Parser;

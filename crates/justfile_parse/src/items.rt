@@ -157,7 +157,7 @@ impl<'src, X: Expander> Parser<'_, 'src, X> {
     }
 
     /// The end of a line, which is an item, or that of the file, which is left.
-    #[tactic(auto, using(crate::proofs::Lines::line_end_closes, crate::proofs::Lines::line_end_newline, crate::proofs::Lines::line_end_fails))]
+    #[tactic(auto, using(crate::proofs::Lines::line_end_closes, crate::proofs::Lines::line_end_newline))]
     fn parse_line_end(&mut self, items: &mut Vec<Item<'src>>) -> Result<(), Stop<'src>>
         ensures reads { Reads (λ _. map item_tree items.new.items) result (state_of X.answer self.new)
             (prepend (map item_tree items.old.items) (reader.line_end (state_of X.answer self.old))) }

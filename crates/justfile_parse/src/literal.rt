@@ -7,7 +7,7 @@ ghost use Rattle.justfile_parse.specs.Fault.{IsLiteralFault};
 ghost use Rattle.justfile_parse.specs.Literal.{IsOf};
 ghost use Rattle.justfile_parse.specs.TableReader as reader;
 ghost use Rattle.justfile_parse.specs.MethodResults.{Reads, TextStops};
-ghost use Rattle.justfile_parse.specs.Tree.{Literal, literal_of, leaf_tree_of};
+ghost use Rattle.justfile_tree.specs.LeafTree.{Literal, literal_of, leaf_tree_of};
 
 use crate::expression::make_format_string;
 use crate::parser::Parser;

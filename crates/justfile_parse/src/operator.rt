@@ -2,7 +2,7 @@
 ghost use Rattle.std.specs.Prelude.{◌≡◌, ◌<◌, ◌≤◌, IsTrue};
 ghost use Rattle.justfile_model.specs.Operators as operators;
 ghost use Rattle.justfile_model.specs.Operators.{is_binary, rank};
-ghost use Rattle.justfile_parse.specs.Tree.{leaf_tree_of};
+ghost use Rattle.justfile_tree.specs.LeafTree.{leaf_tree_of};
 
 use justfile_base::{Token, TokenKind};
 use justfile_model::{Level, Operator};

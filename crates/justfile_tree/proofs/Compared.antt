@@ -1,18 +1,24 @@
--- Comparisons of expressions that hold a vector, by the vector's items.
+-- Comparisons of expressions that hold several parts, a vector by its items.
 use mathlib.Core.Former.{Count}
-use Rattle.std.proofs.Common.{◌≡◌, ◌∙◌, ℕ, zero, suc, ◌≤◌, List, [], ◌∷◌, length, drop, refl, sym, ap, arith}
+use Rattle.std.proofs.Common.{◌≡◌, ◌∙◌, ℕ, zero, suc, ◌≤◌, List, [], ◌∷◌, Option, Some, None, length, drop, refl, sym, ap, arith}
 use Rattle.std.specs.Cmp.Lexicographic.{slice_cmp}
-use Rattle.std.specs.Global.{Vec}
+use Rattle.std.specs.Global.{Box, Vec}
 use Rattle.std.specs.Ordering.{nat_cmp, on, ordering_then}
 use Rattle.std.specs.declared.cmp.Ordering.{Ordering}
+use Rattle.std.specs.declared.cmp.Ordering.TheVariants.{Less, Equal, Greater}
 use Rattle.std.proofs.lemmas.Bool.Decides.{nat_tests}
 use Rattle.justfile_base.specs.declared.name.Name.{Name}
 use Rattle.justfile_base.specs.declared.token.Token.{Token}
 use Rattle.justfile_base.specs.declared.string_literal.StringLiteral.{StringLiteral}
-use Rattle.justfile_tree.specs.Key.{Key, node, end, next, token_key, literal_key, row, keys_of, key_cmp, keys_cmp}
-use Rattle.justfile_tree.specs.KeyLaws.{then_end}
-use Rattle.justfile_tree.specs.Order.{key, part_key, row_keys, row_parts}
-use Rattle.justfile_tree.specs.declared.expression.Expression.{Expression, Call, FormatString, List as List_of, Row_of-Expression as ExpressionRow, end_of-Expression as row_end, more_of-Expression as row_more, Row_of-Expression-FormatString-1-2 as FormatRow, end_of-Expression-FormatString-1-2 as format_row_end, more_of-Expression-FormatString-1-2 as format_row_more, items-the_row-Expression, items-the_row-Expression-FormatString-1-2, items_hidden-the_row-Expression-0, items_hidden-the_row-Expression-FormatString-1-2-1}
+use Rattle.justfile_model.specs.Key.{Key, node, end, next, row, keys_of, key_cmp, keys_cmp}
+use Rattle.justfile_model.specs.KeyLaws.{then_end}
+use Rattle.justfile_model.specs.declared.conditional_operator.ConditionalOperator.{ConditionalOperator}
+use Rattle.justfile_tree.specs.Content.{leaf_order}
+use Rattle.justfile_tree.specs.Leaf.{KeyLeaf, operator, text, token, operator_cmp, text_cmp, token_key, literal_key}
+use Rattle.justfile_tree.specs.Order.{key, option_key, part_key, row_keys, row_parts}
+use Rattle.justfile_tree.specs.declared.leaf_order.LeafOrder.{LeafOrder}
+use Rattle.justfile_tree.specs.declared.leaf_order.LeafOrder.TheVariants.{Whole, Content}
+use Rattle.justfile_tree.specs.declared.expression.Expression.{Expression, Assert, Call, Conditional, FormatString, List as List_of, Row_of-Expression as ExpressionRow, end_of-Expression as row_end, more_of-Expression as row_more, Row_of-Expression-FormatString-1-2 as FormatRow, end_of-Expression-FormatString-1-2 as format_row_end, more_of-Expression-FormatString-1-2 as format_row_more, items-the_row-Expression, items-the_row-Expression-FormatString-1-2, items_hidden-the_row-Expression-0, items_hidden-the_row-Expression-FormatString-1-2-1}
 use Rattle.justfile_tree.proofs.ExpressionRows.{row_of, part_row_of}
 
 module _ {X : Type 0} (R : X → X → Ordering) where
@@ -33,11 +39,41 @@ module _ {X : Type 0} (R : X → X → Ordering) where
   at_end xs zs ys i m n r z a b h k l w e =
       e ∙ (λ j. nat_cmp ((a ∙ ap length (sym z)) j) (b j)) ∙ sym (tail zs ys i h k l) ∙ w ∙ ap (λ q. slice_cmp R q ys) z
 
-listed : {X : Type 0} (key_of : X → Key) (xs ys : List X) → keys_cmp (keys_of key_of xs) (keys_of key_of ys) ≡ slice_cmp (on key_of key_cmp) xs ys
-listed key_of [] [] = refl
-listed key_of [] (y ∷ ys) = refl
-listed key_of (x ∷ xs) [] = refl
-listed key_of (x ∷ xs) (y ∷ ys) = ap (ordering_then (key_cmp (key_of x) (key_of y))) (listed key_of xs ys)
+-- ---- some comparisons and then no more
+
+pub two_and_no_more : {a b p q : Ordering} (r : Ordering) → p ≡ a → q ≡ b → r ≡ ordering_then p q → r ≡ ordering_then a (ordering_then b Equal)
+two_and_no_more {a} {b} r e f g = g ∙ (λ i. ordering_then (e i) (f i)) ∙ ap (ordering_then a) (sym (then_end b))
+
+then_then : (a b c : Ordering) → ordering_then (ordering_then a b) c ≡ ordering_then a (ordering_then b c)
+then_then Less b c = refl
+then_then Equal b c = refl
+then_then Greater b c = refl
+
+three_and_no_more : {a b c p q s o : Ordering} (r : Ordering) → p ≡ a → q ≡ b → s ≡ c → o ≡ ordering_then p q → r ≡ ordering_then o s
+    → r ≡ ordering_then a (ordering_then b (ordering_then c Equal))
+three_and_no_more {a} {b} {c} r e f g h k =
+    k ∙ (λ i. ordering_then ((h ∙ (λ j. ordering_then (e j) (f j))) i) (g i)) ∙ then_then a b c ∙ ap (λ z. ordering_then a (ordering_then b z)) (sym (then_end c))
+
+-- ---- leaves that compare the same either way
+
+pub operators_either_way : (leaves : LeafOrder) (o p : ConditionalOperator) → leaf_order leaves (operator o) (operator p) ≡ operator_cmp o p
+unfolding leaf_order
+operators_either_way Whole o p = refl
+operators_either_way Content o p = refl
+
+pub texts_either_way : (leaves : LeafOrder) (xs ys : List ℕ) → leaf_order leaves (text xs) (text ys) ≡ text_cmp xs ys
+unfolding leaf_order
+texts_either_way Whole xs ys = refl
+texts_either_way Content xs ys = refl
+
+-- ---- the keys of expressions that hold a vector or an option
+
+listed : {X : Type 0} (R : KeyLeaf → KeyLeaf → Ordering) (key_of : X → Key KeyLeaf) (xs ys : List X)
+    → keys_cmp R (keys_of key_of xs) (keys_of key_of ys) ≡ slice_cmp (on key_of (key_cmp R)) xs ys
+listed R key_of [] [] = refl
+listed R key_of [] (y ∷ ys) = refl
+listed R key_of (x ∷ xs) [] = refl
+listed R key_of (x ∷ xs) (y ∷ ys) = ap (ordering_then (key_cmp R (key_of x) (key_of y))) (listed R key_of xs ys)
 
 row_is : (n : Count) (items : ExpressionRow n) → row_keys items ≡ keys_of key (items-the_row-Expression n items)
 row_is n row_end = refl
@@ -47,14 +83,29 @@ parts_are : (n : Count) (items : FormatRow n) → row_parts items ≡ keys_of pa
 parts_are n format_row_end = refl
 parts_are n (format_row_more e part others) = ap (next (part_key (e, part))) (parts_are _ others)
 
-abbrev call_key : Name → List Expression → Key
+abbrev call_key : Name → List Expression → Key KeyLeaf
 call_key name arguments = node 3 (next (token_key name.token) (next (row (keys_of key arguments)) end))
 
-abbrev format_key : StringLiteral → List (Expression × StringLiteral) → Key
+abbrev format_key : StringLiteral → List (Expression × StringLiteral) → Key KeyLeaf
 format_key start expressions = node 7 (next (literal_key start) (next (row (keys_of part_key expressions)) end))
 
-abbrev list_key : List Expression → Token → Key
+abbrev assert_key : Expression → Option (Box Expression) → Name → Key KeyLeaf
+assert_key condition message name = node 1 (next (key condition) (next (option_key message) (next (token_key name.token) end)))
+
+abbrev conditional_key : (condition branch : Expression) → Option (Box Expression) → Key KeyLeaf
+conditional_key condition branch otherwise = node 6 (next (key condition) (next (key branch) (next (option_key otherwise) end)))
+
+abbrev list_key : List Expression → Token → Key KeyLeaf
 list_key elements opener = node 10 (next (row (keys_of key elements)) (next (token_key opener) end))
+
+key_assert : (condition : Box Expression) (message : Option (Box Expression)) (name : Name) → assert_key condition.value message name ≡ key (Assert condition message name)
+key_assert condition None name = refl
+key_assert condition (Some message) name = refl
+
+key_conditional : (condition branch : Box Expression) (otherwise : Option (Box Expression))
+    → conditional_key condition.value branch.value otherwise ≡ key (Conditional condition branch otherwise)
+key_conditional condition branch None = refl
+key_conditional condition branch (Some otherwise) = refl
 
 key_call : (name : Name) (v : Vec Expression) → call_key name v.items ≡ key (Call name v)
 key_call name v =
@@ -71,33 +122,56 @@ key_list v opener =
     let items = row_of (List_of v opener) in
     ap (λ ks. node 10 (next (row ks) (next (token_key opener) end))) (sym (row_is items.0 items.1 ∙ ap (keys_of key) (items_hidden-the_row-Expression-0 v)))
 
--- ---- what the function of a case gives
+-- ---- what the function of a case gives, where leaves compare by R
 
-pub from_call : (name : Name) (v : Vec Expression) (k : Key) (r : Ordering) → r ≡ key_cmp (call_key name v.items) k → r ≡ key_cmp (key (Call name v)) k
-from_call name v k r e = e ∙ ap (λ l. key_cmp l k) (key_call name v)
+module _ (R : KeyLeaf → KeyLeaf → Ordering) where
+  pub from_assert : (condition : Box Expression) (message : Option (Box Expression)) (name : Name) (k : Key KeyLeaf) (r : Ordering)
+      → r ≡ key_cmp R (assert_key condition.value message name) k → r ≡ key_cmp R (key (Assert condition message name)) k
+  from_assert condition message name k r e = e ∙ ap (λ l. key_cmp R l k) (key_assert condition message name)
 
-pub from_format : (start : StringLiteral) (v : Vec (Expression × StringLiteral)) (k : Key) (r : Ordering) → r ≡ key_cmp (format_key start v.items) k → r ≡ key_cmp (key (FormatString start v)) k
-from_format start v k r e = e ∙ ap (λ l. key_cmp l k) (key_format start v)
+  pub from_conditional : (condition branch : Box Expression) (otherwise : Option (Box Expression)) (k : Key KeyLeaf) (r : Ordering)
+      → r ≡ key_cmp R (conditional_key condition.value branch.value otherwise) k → r ≡ key_cmp R (key (Conditional condition branch otherwise)) k
+  from_conditional condition branch otherwise k r e = e ∙ ap (λ l. key_cmp R l k) (key_conditional condition branch otherwise)
 
-pub from_list : (v : Vec Expression) (opener : Token) (k : Key) (r : Ordering) → r ≡ key_cmp (list_key v.items opener) k → r ≡ key_cmp (key (List_of v opener)) k
-from_list v opener k r e = e ∙ ap (λ l. key_cmp l k) (key_list v opener)
+  pub from_call : (name : Name) (v : Vec Expression) (k : Key KeyLeaf) (r : Ordering) → r ≡ key_cmp R (call_key name v.items) k → r ≡ key_cmp R (key (Call name v)) k
+  from_call name v k r e = e ∙ ap (λ l. key_cmp R l k) (key_call name v)
 
--- ---- two of one case, by their fields: p compares the first, and q the second
+  pub from_format : (start : StringLiteral) (v : Vec (Expression × StringLiteral)) (k : Key KeyLeaf) (r : Ordering) → r ≡ key_cmp R (format_key start v.items) k → r ≡ key_cmp R (key (FormatString start v)) k
+  from_format start v k r e = e ∙ ap (λ l. key_cmp R l k) (key_format start v)
 
-pub both_calls : (name other : Name) (xs : List Expression) (v : Vec Expression) (p q r : Ordering)
-    → p ≡ key_cmp (token_key name.token) (token_key other.token) → q ≡ slice_cmp (on key key_cmp) xs v.items → r ≡ ordering_then p q
-    → r ≡ key_cmp (call_key name xs) (key (Call other v))
-both_calls name other xs v p q r e f g =
-    g ∙ (λ i. ordering_then (e i) ((f ∙ sym (listed key xs v.items) ∙ sym (then_end (keys_cmp (keys_of key xs) (keys_of key v.items)))) i)) ∙ ap (key_cmp (call_key name xs)) (key_call other v)
+  pub from_list : (v : Vec Expression) (opener : Token) (k : Key KeyLeaf) (r : Ordering) → r ≡ key_cmp R (list_key v.items opener) k → r ≡ key_cmp R (key (List_of v opener)) k
+  from_list v opener k r e = e ∙ ap (λ l. key_cmp R l k) (key_list v opener)
 
-pub both_formats : (start other : StringLiteral) (xs : List (Expression × StringLiteral)) (v : Vec (Expression × StringLiteral)) (p q r : Ordering)
-    → p ≡ key_cmp (literal_key start) (literal_key other) → q ≡ slice_cmp (on part_key key_cmp) xs v.items → r ≡ ordering_then p q
-    → r ≡ key_cmp (format_key start xs) (key (FormatString other v))
-both_formats start other xs v p q r e f g =
-    g ∙ (λ i. ordering_then (e i) ((f ∙ sym (listed part_key xs v.items) ∙ sym (then_end (keys_cmp (keys_of part_key xs) (keys_of part_key v.items)))) i)) ∙ ap (key_cmp (format_key start xs)) (key_format other v)
+  -- two of one case, by their fields: p compares the first, and q the second
 
-pub both_lists : (opener other : Token) (xs : List Expression) (v : Vec Expression) (p q r : Ordering)
-    → p ≡ slice_cmp (on key key_cmp) xs v.items → q ≡ key_cmp (token_key opener) (token_key other) → r ≡ ordering_then p q
-    → r ≡ key_cmp (list_key xs opener) (key (List_of v other))
-both_lists opener other xs v p q r e f g =
-    g ∙ (λ i. ordering_then ((e ∙ sym (listed key xs v.items)) i) ((f ∙ sym (then_end (key_cmp (token_key opener) (token_key other)))) i)) ∙ ap (key_cmp (list_key xs opener)) (key_list v other)
+  pub both_asserts : (e : Expression) (m : Option (Box Expression)) (name : Name) (condition : Box Expression) (message : Option (Box Expression)) (other : Name)
+      (p q s o r : Ordering) → p ≡ key_cmp R (key e) (key condition.value) → q ≡ key_cmp R (option_key m) (option_key message)
+      → s ≡ R (token name.token) (token other.token) → o ≡ ordering_then p q → r ≡ ordering_then o s
+      → r ≡ key_cmp R (assert_key e m name) (key (Assert condition message other))
+  both_asserts e m name condition message other p q s o r f g h i j =
+      three_and_no_more r f g h i j ∙ ap (key_cmp R (assert_key e m name)) (key_assert condition message other)
+
+  pub both_conditionals : (e b : Expression) (m : Option (Box Expression)) (condition branch : Box Expression) (otherwise : Option (Box Expression))
+      (p q s o r : Ordering) → p ≡ key_cmp R (key e) (key condition.value) → q ≡ key_cmp R (key b) (key branch.value)
+      → s ≡ key_cmp R (option_key m) (option_key otherwise) → o ≡ ordering_then p q → r ≡ ordering_then o s
+      → r ≡ key_cmp R (conditional_key e b m) (key (Conditional condition branch otherwise))
+  both_conditionals e b m condition branch otherwise p q s o r f g h i j =
+      three_and_no_more r f g h i j ∙ ap (key_cmp R (conditional_key e b m)) (key_conditional condition branch otherwise)
+
+  pub both_calls : (name other : Name) (xs : List Expression) (v : Vec Expression) (p q r : Ordering)
+      → p ≡ key_cmp R (token_key name.token) (token_key other.token) → q ≡ slice_cmp (on key (key_cmp R)) xs v.items → r ≡ ordering_then p q
+      → r ≡ key_cmp R (call_key name xs) (key (Call other v))
+  both_calls name other xs v p q r e f g =
+      g ∙ (λ i. ordering_then (e i) ((f ∙ sym (listed R key xs v.items) ∙ sym (then_end (keys_cmp R (keys_of key xs) (keys_of key v.items)))) i)) ∙ ap (key_cmp R (call_key name xs)) (key_call other v)
+
+  pub both_formats : (start other : StringLiteral) (xs : List (Expression × StringLiteral)) (v : Vec (Expression × StringLiteral)) (p q r : Ordering)
+      → p ≡ key_cmp R (literal_key start) (literal_key other) → q ≡ slice_cmp (on part_key (key_cmp R)) xs v.items → r ≡ ordering_then p q
+      → r ≡ key_cmp R (format_key start xs) (key (FormatString other v))
+  both_formats start other xs v p q r e f g =
+      g ∙ (λ i. ordering_then (e i) ((f ∙ sym (listed R part_key xs v.items) ∙ sym (then_end (keys_cmp R (keys_of part_key xs) (keys_of part_key v.items)))) i)) ∙ ap (key_cmp R (format_key start xs)) (key_format other v)
+
+  pub both_lists : (opener other : Token) (xs : List Expression) (v : Vec Expression) (p q r : Ordering)
+      → p ≡ slice_cmp (on key (key_cmp R)) xs v.items → q ≡ key_cmp R (token_key opener) (token_key other) → r ≡ ordering_then p q
+      → r ≡ key_cmp R (list_key xs opener) (key (List_of v other))
+  both_lists opener other xs v p q r e f g =
+      g ∙ (λ i. ordering_then ((e ∙ sym (listed R key xs v.items)) i) ((f ∙ sym (then_end (key_cmp R (token_key opener) (token_key other)))) i)) ∙ ap (key_cmp R (list_key xs opener)) (key_list v other)

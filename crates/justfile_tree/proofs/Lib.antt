@@ -1,5 +1,6 @@
-mod Compared
+pub mod Compared
 mod Conditionals
+pub mod ContentTies
 mod Copied
 mod Ended
 mod ExpressionRows

@@ -11,6 +11,7 @@ use Rattle.justfile_base.specs.contracts.format_string_part.FormatStringPartOrd.
 use Rattle.justfile_base.specs.contracts.string_kind.StringDelimiterOrd.TheImpl as delimiters
 use Rattle.justfile_base.specs.contracts.token_kind.TokenKindOrd.TheImpl as kinds
 use Rattle.justfile_model.specs.declared.conditional_operator.ConditionalOperator.{ConditionalOperator}
+use Rattle.justfile_model.specs.Key.{Key, leaf}
 use Rattle.justfile_model.specs.contracts.conditional_operator.ConditionalOperatorOrd.TheImpl as operators
 
 -- texts by their bytes
@@ -67,3 +68,18 @@ leaf_cmp (operator o) (operator p) = operator_cmp o p
 leaf_cmp (number m) (number n) = number_cmp m n
 leaf_cmp (text xs) (text ys) = text_cmp xs ys
 leaf_cmp a b = nat_cmp (place a) (place b)
+
+abbrev pub token_key : Token → Key KeyLeaf
+token_key t = leaf (token t)
+
+abbrev pub literal_key : StringLiteral → Key KeyLeaf
+literal_key l = leaf (literal l)
+
+abbrev pub operator_key : ConditionalOperator → Key KeyLeaf
+operator_key o = leaf (operator o)
+
+abbrev pub number_key : Option Number → Key KeyLeaf
+number_key n = leaf (number n)
+
+abbrev pub text_key : List ℕ → Key KeyLeaf
+text_key bytes = leaf (text bytes)

@@ -1,11 +1,15 @@
 pub mod Children
+pub mod Content
+pub mod ContentLaws
 pub mod Copies
 pub mod Expression
-pub mod Key
-pub mod KeyLaws
 pub mod Leaf
+pub mod LeafLaws
+pub mod LeafSight
+pub mod LeafTree
 pub mod ListOperator
 pub mod Order
+pub mod SeenKeys
 pub mod SinkLaws
 pub mod Text
 pub mod Texts

@@ -2,7 +2,9 @@
 #![tactic(auto)]
 
 mod children;
+mod content;
 pub mod expression;
+mod leaf_order;
 mod list_operator;
 mod order;
 mod print;
@@ -11,6 +13,7 @@ mod sinks;
 mod words;
 
 pub use crate::children::child;
+pub use crate::content::{literal_content_cmp, token_content_cmp};
 pub use crate::expression::Expression;
 pub use crate::list_operator::ListOperator;
 pub use crate::print::{put_piece, write_expression};

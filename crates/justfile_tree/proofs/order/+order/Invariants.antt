@@ -1,7 +1,8 @@
 use Rattle.std.proofs.Common.{◌≡◌, ◌≤◌, ◌+◌, ◌*◌, max, length, drop}
 use Rattle.std.specs.Cmp.Lexicographic.{slice_cmp}
 use Rattle.std.specs.Ordering.{on}
-use Rattle.justfile_tree.specs.Key.{key_cmp}
+use Rattle.justfile_model.specs.Key.{key_cmp}
+use Rattle.justfile_tree.specs.Content.{leaf_order}
 use Rattle.justfile_tree.specs.Order.{key, part_key}
 use Rattle.justfile_tree.specs.declared.expression.Expression.{size-Expression}
 use Rattle.justfile_tree.specs.declared.expression.Expression.TheShapes.{weighed-Expression-Assert-1}
@@ -62,7 +63,7 @@ abbrev pub decreases-compare_or : goal.decreases-compare_or
 decreases-compare_or l = 5 * max (size-Expression l.lhs.now) (size-Expression l.rhs.now) + 2
 
 abbrev pub invariant-compare_all-loop-i : goal.invariant-compare_all-loop-i
-invariant-compare_all-loop-i l = (l.i ≤ length l.others.items) × (slice_cmp (on key key_cmp) (drop l.i l.expression-items) (drop l.i l.others.items) ≡ slice_cmp (on key key_cmp) l.expression-items l.others.items)
+invariant-compare_all-loop-i l = (l.i ≤ length l.others.items) × (slice_cmp (on key (key_cmp (leaf_order l.leaves))) (drop l.i l.expression-items) (drop l.i l.others.items) ≡ slice_cmp (on key (key_cmp (leaf_order l.leaves))) l.expression-items l.others.items)
 
 abbrev pub invariant-compare_parts-loop-i : goal.invariant-compare_parts-loop-i
-invariant-compare_parts-loop-i l = (l.i ≤ length l.others.items) × (slice_cmp (on part_key key_cmp) (drop l.i l.expression-items) (drop l.i l.others.items) ≡ slice_cmp (on part_key key_cmp) l.expression-items l.others.items)
+invariant-compare_parts-loop-i l = (l.i ≤ length l.others.items) × (slice_cmp (on part_key (key_cmp (leaf_order l.leaves))) (drop l.i l.expression-items) (drop l.i l.others.items) ≡ slice_cmp (on part_key (key_cmp (leaf_order l.leaves))) l.expression-items l.others.items)

@@ -1,4 +1,4 @@
-use Rattle.std.proofs.Common.{rules, ◌≡◌, ◌∙◌, Bool, true, false, List, [], ◌∷◌, ◌++◌, None, Ok, sym, ap, arith}
+use Rattle.std.proofs.Common.{rules, ◌≡◌, ◌∙◌, Bool, true, false, List, [], ◌∷◌, ◌++◌, None, Ok, sym, ap, subst, arith}
 use Rattle.std.proofs.lemmas.Grind.{common_steps}
 use Rattle.justfile_base.specs.declared.token.Token.{Token}
 use Rattle.justfile_model.specs.Tree.{Expr, Exprs}
@@ -8,8 +8,10 @@ use Rattle.justfile_parse.specs.TableReader.{Read, Sequence, accept, element, fo
 use Rattle.justfile_base.specs.StringKind.{kind_of}
 use Rattle.justfile_base.specs.Token.{lexeme_of}
 use Rattle.justfile_base.specs.declared.string_literal.StringLiteral.{StringLiteral}
-use Rattle.justfile_parse.specs.Tree.{Leaf, Literal, format_string_tree, literal_of, leaf_tree_of, trees_of}
+use Rattle.justfile_parse.specs.MethodResults.{StopsAt}
+use Rattle.justfile_tree.specs.LeafTree.{Leaf, Literal, format_string_tree, literal_of, leaf_tree_of, trees_of}
 use Rattle.justfile_parse.specs.View.{state_of}
+use Rattle.justfile_parse.specs.declared.parser.Parser.{Parser}
 use Rattle.justfile_parse.proofs.Elements as elements
 use Rattle.justfile_parse.proofs.Formats.{after_expression, after_pair, after_start}
 use Rattle.justfile_parse.proofs.Parts as parts
@@ -25,6 +27,17 @@ parse_sequence-returns-then-is_last-clause-reads g t c =
     let P : List Expression → Read (Exprs Leaf Token) = λ es. Ok (trees_of es, rest) in
     let Q : Expression → List Expression = λ e. c.elements.elements.items ++ e ∷ [] in
     sym c.elements.invariant.value ∙ elements.closes_last c.args.closing s c.elements.elements.items e rest none elem ∙ ap P (sym (c.in_ok-push.ensures.items ∙ ap Q c.into_inner.ensures))
+
+pub parse_sequence-returns-in_err-element-clause-reads : goal.parse_sequence-returns-in_err-element-clause-reads
+parse_sequence-returns-in_err-element-clause-reads g t c =
+    let A = g.X.Expander.answer in
+    let left = state_of A c.parse_element.new.self in
+    let stop = c.in_err-element.field-0.0 in
+    let P : Parser _ → Type 0 = λ q. StopsAt stop left ⊥ (element c.args.closing (state_of A q)) in
+    let p = err_from_is_err_and c.from_residual-in_err-element.result c.from_residual-in_err-element.ensures.1 in
+    rw (p.1, p.2)
+    (elements.stops c.args.closing (state_of A c.elements.self) c.elements.elements.items stop left (read (Sequence c.args.closing (state_of A c.args.self.now)))
+    c.in_default.ensures.takes c.elements.invariant.value (subst P c.in_default.ensures.moves c.in_err-element.ensures.reads))
 
 pub parse_sequence-elements-preserved : goal.parse_sequence-elements-preserved
 parse_sequence-elements-preserved g t c =

@@ -2,7 +2,7 @@ use Rattle.std.proofs.Common.{◌∙◌, sym, ap, Ok}
 use Rattle.justfile_literal.specs.Literal.{answers_by}
 use Rattle.justfile_tree.specs.declared.expression.Expression.{Expression}
 use Rattle.justfile_parse.specs.TableReader.{ReadExpr}
-use Rattle.justfile_parse.specs.Tree.{leaf_tree_of}
+use Rattle.justfile_tree.specs.LeafTree.{leaf_tree_of}
 use Rattle.justfile_parse.specs.View.{state_of}
 use Rattle.justfile_parse.proofs.Cooked.{command_given, command_is_literal, command_refused}
 use Rattle.justfile_parse.proofs.parser.Parser.cook_backtick.Goals as goal

@@ -1,7 +1,7 @@
 use Rattle.std.proofs.Common.{◌∙◌, sym, ap, Ok}
 use Rattle.justfile_tree.specs.declared.expression.Expression.{Expression}
 use Rattle.justfile_parse.specs.TableReader.{ReadExpr}
-use Rattle.justfile_parse.specs.Tree.{leaf_tree_of}
+use Rattle.justfile_tree.specs.LeafTree.{leaf_tree_of}
 use Rattle.justfile_parse.specs.View.{state_of}
 use Rattle.justfile_parse.proofs.Cooked.{string_given, string_refused}
 use Rattle.justfile_parse.proofs.parser.Parser.cook_string.Goals as goal

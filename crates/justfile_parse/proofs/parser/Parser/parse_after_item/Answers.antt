@@ -3,7 +3,8 @@ use Rattle.justfile_base.specs.declared.token.Token.{Token}
 use Rattle.justfile_model.specs.Tree.{OrderedItem}
 use Rattle.justfile_model.specs.Reading.{prepend}
 use Rattle.justfile_parse.specs.TableReader.{leaves, line_end}
-use Rattle.justfile_parse.specs.Tree.{Leaf, item_tree}
+use Rattle.justfile_parse.specs.Tree.{item_tree}
+use Rattle.justfile_tree.specs.LeafTree.{Leaf}
 use Rattle.justfile_parse.specs.View.{state_of}
 use Rattle.justfile_parse.proofs.Lines.{after_comment}
 use Rattle.justfile_parse.proofs.Readings.{reads_alike}

@@ -8,7 +8,8 @@ use Rattle.justfile_model.specs.Reading.{prepend}
 use Rattle.justfile_parse.specs.TableReader.{Read, ended, on_line}
 use Rattle.justfile_parse.specs.WantsNumber.{counters_of}
 use Rattle.justfile_parse.specs.MethodResults.{StopsAt}
-use Rattle.justfile_parse.specs.Tree.{Leaf, item_tree}
+use Rattle.justfile_parse.specs.Tree.{item_tree}
+use Rattle.justfile_tree.specs.LeafTree.{Leaf}
 use Rattle.justfile_parse.specs.View.{state_of}
 use Rattle.justfile_parse.specs.declared.parser.Parser.{Parser}
 use Rattle.justfile_parse.proofs.Lines.{end_stops, has_body_is, line_goes_on, line_stops}
