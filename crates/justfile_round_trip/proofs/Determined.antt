@@ -19,7 +19,7 @@ use Rattle.justfile_round_trip.proofs.Canon.{Shown, Values, Pieces, Fragment, Ro
 
 abbrev mutual
   -- of a condition the first comparison is not noted
-  value_features : (condition : Bool) → canon.Value → Shown
+  pub value_features : (condition : Bool) → canon.Value → Shown
   value_features condition (tree.Or l r) = value_features condition l ++ noted features.LogicalOperator tt ++ value_features false r
   value_features condition (tree.And l r) = value_features condition l ++ noted features.LogicalOperator tt ++ value_features false r
   value_features condition (tree.Comparison l operator token r) = value_features false l ++ compared condition tt ++ value_features false r
@@ -76,7 +76,7 @@ module _ (Open : ℕ → Option SignificantToken → Type 0) where
   conjunct_condition (e.value next v unjoined) c = one_condition v c
 
   mutual
-    of_expression : {condition : Bool} {d : ℕ} {v : canon.Value} {fs : Shown} {ts rest : Tokens} → Expression lexeme nothing Open condition d v fs ts rest → fs ≡ value_features condition v
+    pub of_expression : {condition : Bool} {d : ℕ} {v : canon.Value} {fs : Shown} {ts rest : Tokens} → Expression lexeme nothing Open condition d v fs ts rest → fs ≡ value_features condition v
     of_expression (e.or o l kind r) = λ i. of_disjunct l i ++ noted features.LogicalOperator tt ++ of_expression r i
     of_expression (e.disjunct o l next) = of_disjunct l
 

@@ -94,6 +94,10 @@ module _ {os : List OpenDelimiter} {ls : List (List ℕ)} {c : Bool} {i : Option
   equals_step k = fixed_step Equals 61 [] refl refl refl (λ e. cc) (λ t. refl) k
 
   -- in front of what makes no other operator of it
+  pub equals_before : (more : List ℕ) {ts : List Mark} → eqb (get_or more 0 0) 61 ≡ false → eqb (get_or more 0 0) 126 ≡ false → LexesTo (amid os ls c i false) more ts → LexesTo (amid os ls c i f) (61 ∷ more) (mark Equals (61 ∷ []) ∷ ts)
+  unfolding class_of fixed_token
+  equals_before more equals tilde k = fixed_step Equals 61 [] refl refl (λ j. cond (equals j) (Ok (EqualsEquals, 2)) (cond (tilde j) (Ok (EqualsTilde, 2)) (Ok (Equals, 1)))) (λ e. cc) (λ t. refl) k
+
   pub bang_step : (more : List ℕ) {ts : List Mark} → eqb (get_or more 0 0) 61 ≡ false → eqb (get_or more 0 0) 126 ≡ false → LexesTo (amid os ls c i false) more ts → LexesTo (amid os ls c i f) (33 ∷ more) (mark Bang (33 ∷ []) ∷ ts)
   unfolding class_of fixed_token
   bang_step more equals tilde k = fixed_step Bang 33 [] refl refl (λ j. cond (equals j) (Ok (BangEquals, 2)) (cond (tilde j) (Ok (BangTilde, 2)) (Ok (Bang, 1)))) (λ e. cc) (λ t. refl) k

@@ -30,10 +30,10 @@ use Rattle.justfile_round_trip.proofs.Good.{IsDelimited, IsFormatLiteral, IsForm
 -- ---- how a value begins
 
 -- with no blank, and with nothing that makes another operator of a `!`
-record Begins (t : List ℕ) : Type 0 where
-  no_blank : head_is blank t ≡ false
-  no_equals : eqb (get_or t 0 0) 61 ≡ false
-  no_tilde : eqb (get_or t 0 0) 126 ≡ false
+pub record Begins (t : List ℕ) : Type 0 where
+  pub no_blank : head_is blank t ≡ false
+  pub no_equals : eqb (get_or t 0 0) 61 ≡ false
+  pub no_tilde : eqb (get_or t 0 0) 126 ≡ false
 
 quote_no_word : (d : StringDelimiter) → in_word (class_of (quote_of d)) ≡ false
 unfolding class_of
@@ -75,7 +75,7 @@ literal_no_word k l more h = ap (λ t. head_is in_word (t ++ more)) h.is ∙ quo
 start_no_word : (l more : List ℕ) → IsFormatStart l → head_is in_word (l ++ more) ≡ false
 start_no_word l more h = ap (λ t. head_is in_word (t ++ more)) h.part.is ∙ quote_no_word (kind_of l).delimiter
 
-value_begins : (e : Value) (more : List ℕ) → GoodValue e → Begins (expr_on e more)
+pub value_begins : (e : Value) (more : List ℕ) → GoodValue e → Begins (expr_on e more)
 unfolding class_of
 value_begins (Or l r) more h = value_begins l _ h.0
 value_begins (And l r) more h = value_begins l _ h.0

@@ -129,7 +129,7 @@ delimiter_there bs e = go (eqb (get_or bs 1 0) (get_or bs 0 0) && eqb (get_or bs
 abbrev pub scan : StringKind → Bool → ℕ → List ℕ → ℕ
 scan k format = pieces_len (hides (raw_texts.Literal k format)) (ends (raw_texts.Literal k format))
 
-delimiter_ends : (d : StringDelimiter) (i : Bool) (more : List ℕ) → scan (record { delimiter = d; indented = i }) false 0 (delimiter_of (record { delimiter = d; indented = i }) ++ more) ≡ 0
+pub delimiter_ends : (d : StringDelimiter) (i : Bool) (more : List ℕ) → scan (record { delimiter = d; indented = i }) false 0 (delimiter_of (record { delimiter = d; indented = i }) ++ more) ≡ 0
 unfolding pieces_len
 delimiter_ends delimiters.Backtick true more = refl
 delimiter_ends delimiters.Backtick false more = refl
@@ -167,7 +167,7 @@ stable k zero (x ∷ xs) a b e =
 
 -- ---- the kind of a literal
 
-no_quote : (d : StringDelimiter) (b : ℕ) → is_quote b ≡ false → eqb b (quote_of d) ≡ false
+pub no_quote : (d : StringDelimiter) (b : ℕ) → is_quote b ≡ false → eqb b (quote_of d) ≡ false
 no_quote delimiters.Backtick b h = grind (arith, nat_tests)
 no_quote delimiters.QuoteDouble b h = grind (arith, nat_tests)
 no_quote delimiters.QuoteSingle b h = grind (arith, nat_tests)

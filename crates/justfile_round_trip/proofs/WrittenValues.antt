@@ -25,7 +25,7 @@ use Rattle.justfile_round_trip.proofs.Back.{StopE, here_too, stop_before, ends_b
 
 -- ---- UTF-8 of fixed texts
 
-abbrev all_ascii : List ℕ → Bool
+abbrev pub all_ascii : List ℕ → Bool
 all_ascii [] = true
 all_ascii (b ∷ bs) = ltb b 128 && all_ascii bs
 
@@ -248,7 +248,7 @@ module _ (Open : ℕ → Option SignificantToken → Type 0) where
 
 -- ---- a value that no other is open around
 
-stops : (x : End) (us : Tokens) → ends_value us ≡ true → EndsIn x us × StopE us
+pub stops : (x : End) (us : Tokens) → ends_value us ≡ true → EndsIn x us × StopE us
 stops x [] h = cc
 stops x (t ∷ ts) h = (ends_before x t ts (here_too t.tok.kind h), stop_before t ts h)
 

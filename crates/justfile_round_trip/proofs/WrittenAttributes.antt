@@ -1,0 +1,163 @@
+-- Attributes that any text derives are good, and so is what is printed of what they mean.
+use Rattle.std.proofs.Common.{◌≡◌, ℕ, Bool, false, List, [], ◌∷◌, ◌++◌, Option, Some, None, refl, ap, ◌∙◌}
+use Rattle.justfile_base.specs.declared.token_kind.TokenKind.{TokenKind}
+use Rattle.justfile_base.specs.declared.token_kind.TokenKind.TheVariants as kinds
+use Rattle.justfile_model.specs.AttributeLines as g
+use Rattle.justfile_model.specs.AttributeLines.{IsKey, ArgumentOf, Arguments, AttributeOf, Bracketed, AttributesEnd, AttributeLines}
+use Rattle.justfile_model.specs.Expressions.{Tokens, IsKind, Under}
+use Rattle.justfile_model.specs.Meaning.{entries_of}
+use Rattle.justfile_model.specs.Sight.{Sight}
+use Rattle.justfile_model.specs.SignificantTokens.{SignificantToken}
+use Rattle.justfile_model.specs.Tree.{lexeme, nothing}
+use Rattle.justfile_round_trip.proofs.Canon.{Shown}
+use Rattle.justfile_round_trip.proofs.CanonAttributes.{Argument, Written, ShapeEntry}
+use Rattle.justfile_round_trip.proofs.GoodAttributes.{GoodEntries}
+use Rattle.justfile_round_trip.proofs.MeantAttributes.{GoodSource, AllGoodSource, AllGoodAttributes, entries_good}
+use Rattle.justfile_round_trip.proofs.Sound.{Around, outside, Sound}
+use Rattle.justfile_round_trip.proofs.BodyFacts.{outline_after}
+use Rattle.justfile_round_trip.proofs.BodyGood.{shifts, IsOutside, outside_after, Walked, walk_outside}
+use Rattle.justfile_round_trip.proofs.WrittenValues.{past, on, within, value_at, good_expression}
+
+key_kind : (t : SignificantToken) (ts : Tokens) → IsKey (t ∷ ts) → IsKind kinds.Identifier t
+key_kind t [] k = k
+key_kind t (u ∷ ts) k = k.0
+
+-- what is known of a token is known if a comment is the token before it, and if none is
+uncommented : (s : Around) (c : Bool) (ts : Tokens) → Sound s c ts → Sound s false ts
+uncommented s c [] h = tt
+uncommented s c (t ∷ ts) h = (record { fact = h.0.fact; utf8 = h.0.utf8; apart = λ e. cc }, h.1, h.2)
+
+-- past a token that begins or ends no body
+step : (k : TokenKind) (t : SignificantToken) (ts : Tokens) → IsKind k t → shifts k ≡ false → Walked IsOutside (t ∷ ts) → Walked IsOutside ts
+step k t ts e stays w =
+    let on = outline_after t.tok.kind t.tok.lexeme w.outline in
+    record { outline = on; is = outside_after t.tok.kind t.tok.lexeme w.outline (ap shifts e ∙ stays) w.is; sound = w.sound.1 }
+
+module _ (limit : ℕ) where
+  -- ---- what is known of the tokens: values are good, and what is open stays as it was
+
+  record ArgumentAt (s : Around) (a : Argument) (rest : Tokens) : Type 0 where
+    good : GoodSource limit a
+    following : Sound s false rest
+
+  record ArgumentsAt (s : Around) (arguments : List Argument) (rest : Tokens) : Type 0 where
+    good : AllGoodSource limit arguments
+    following : Sound s false rest
+
+  record AttributesAt (s : Around) (ws : List Written) (rest : Tokens) : Type 0 where
+    good : AllGoodAttributes limit ws
+    following : Sound s false rest
+
+  argument_at : {keys : Bool} {a : Argument} {fs : Shown} {ts rest : Tokens} → ArgumentOf lexeme nothing (Under limit) keys a fs ts rest
+      → (s : Around) (c : Bool) → Sound s c ts → ArgumentAt s a rest
+  argument_at (g.positional no_key x) s c h = let v = value_at (Under limit) x s c h in record { good = good_expression limit x v; following = v.following }
+  argument_at (g.bare {key = t} {rest = rest} key next) s c h =
+      record { good = tt; following = on s c t rest kinds.Identifier (key_kind t rest key) (λ l. refl) refl h }
+  argument_at (g.keyed {key = t} {equals = u} {tokens = ts} kind kind2 x) s c h =
+      let v = value_at (Under limit) x s false
+      (on s false u ts kinds.Equals kind2 (λ l. refl) refl (on s c t (u ∷ ts) kinds.Identifier kind (λ l. refl) refl h)) in
+      record { good = good_expression limit x v; following = v.following }
+
+  -- inside parentheses, and past the closing one
+  arguments_at : {keys : Bool} {arguments : List Argument} {fs : Shown} {ts rest : Tokens} → Arguments lexeme nothing (Under limit) keys arguments fs ts rest
+      → (s : Around) (c : Bool) → Sound (within s None) c ts → ArgumentsAt s arguments rest
+  arguments_at (g.none {closer = t} {rest = rest} kind) s c h = record { good = tt; following = past (within s None) t rest kinds.ParenR kind h.2 }
+  arguments_at (g.last {closer = t} {rest = rest} a kind) s c h =
+      let x = argument_at a (within s None) c h in
+      record { good = (x.good, tt); following = past (within s None) t rest kinds.ParenR kind x.following.2 }
+  arguments_at (g.more {comma = t} {next = ts} a kind others) s c h =
+      let x = argument_at a (within s None) c h in
+      let y = arguments_at others s false (on (within s None) false t ts kinds.Comma kind (λ l. refl) refl x.following) in
+      record { good = (x.good, y.good); following = y.following }
+
+  attribute_at : {w : Written} {fs : Shown} {ts rest : Tokens} → AttributeOf lexeme nothing (Under limit) w fs ts rest → (s : Around) (c : Bool) → Sound s c ts
+      → ArgumentsAt s w.arguments rest
+  attribute_at (g.plain {name = t} {rest = rest} kind no_colon no_paren) s c h =
+      record { good = tt; following = on s c t rest kinds.Identifier kind (λ l. refl) refl h }
+  attribute_at (g.short {name = t} {colon = u} {first = first} {tokens = ts} kind kind2 x) s c h =
+      let v = value_at (Under limit) x s false
+      (on s false u (first ∷ ts) kinds.Colon kind2 (λ l. refl) refl (on s c t (u ∷ first ∷ ts) kinds.Identifier kind (λ l. refl) refl h)) in
+      record { good = (good_expression limit x v, tt); following = v.following }
+  attribute_at (g.long {name = t} {opener = u} {tokens = ts} kind kind2 arguments) s c h =
+      arguments_at arguments s false (past s u ts kinds.ParenL kind2 (on s c t (u ∷ ts) kinds.Identifier kind (λ l. refl) refl h).2)
+
+  -- inside brackets, and past the closing one
+  bracketed_at : {ws : List Written} {fs : Shown} {ts rest : Tokens} → Bracketed lexeme nothing (Under limit) ws fs ts rest → (s : Around) (c : Bool)
+      → Sound (within s None) c ts → AttributesAt s ws rest
+  bracketed_at (g.last {closer = t} {rest = rest} w kind) s c h =
+      let x = attribute_at w (within s None) c h in
+      record { good = (x.good, tt); following = past (within s None) t rest kinds.BracketR kind x.following.2 }
+  bracketed_at (g.more {comma = t} {next = ts} w kind others) s c h =
+      let x = attribute_at w (within s None) c h in
+      let y = bracketed_at others s false (on (within s None) false t ts kinds.Comma kind (λ l. refl) refl x.following) in
+      record { good = (x.good, y.good); following = y.following }
+
+  end_at : {comment : Option (List ℕ)} {ts rest : Tokens} → AttributesEnd lexeme nothing (Under limit) comment ts rest → (s : Around) (c : Bool) → Sound s c ts
+      → Sound s false rest
+  end_at (g.bare {newline = t} {rest = rest} kind) s c h = past s t rest kinds.Eol kind h.2
+  end_at (g.commented {comment = t} {newline = u} {rest = rest} kind kind2) s c h = past s u rest kinds.Eol kind2 (past s t (u ∷ rest) kinds.Comment kind h.2).2
+
+  good_joined : (ws others : List Written) → AllGoodAttributes limit ws → AllGoodAttributes limit others → AllGoodAttributes limit (ws ++ others)
+  good_joined [] others h k = k
+  good_joined (w ∷ ws) others h k = (h.0, good_joined ws others h.1 k)
+
+  lines_at : {ws : List Written} {fs : Shown} {ts rest : Tokens} → AttributeLines lexeme nothing (Under limit) ws fs ts rest → (c : Bool) → Sound outside c ts
+      → AttributesAt outside ws rest
+  lines_at {ts = ts} (g.none next) c h = record { good = tt; following = uncommented outside c ts h }
+  lines_at (g.line {ws = ws} {others = others} {opener = t} {tokens = ts} kind inside end after) c h =
+      let x = bracketed_at inside outside false (past outside t ts kinds.BracketL kind h.2) in
+      let y = lines_at after false (end_at end outside false x.following) in
+      record { good = good_joined ws others x.good y.good; following = y.following }
+
+  -- ---- no body begins or ends
+
+  walk_argument : {keys : Bool} {a : Argument} {fs : Shown} {ts rest : Tokens} → ArgumentOf lexeme nothing (Under limit) keys a fs ts rest → Walked IsOutside ts
+      → Walked IsOutside rest
+  walk_argument (g.positional no_key x) w = walk_outside limit x w
+  walk_argument (g.bare {key = t} {rest = rest} key next) w = step kinds.Identifier t rest (key_kind t rest key) refl w
+  walk_argument (g.keyed {key = t} {equals = u} {tokens = ts} kind kind2 x) w =
+      walk_outside limit x (step kinds.Equals u ts kind2 refl (step kinds.Identifier t (u ∷ ts) kind refl w))
+
+  walk_arguments : {keys : Bool} {arguments : List Argument} {fs : Shown} {ts rest : Tokens} → Arguments lexeme nothing (Under limit) keys arguments fs ts rest
+      → Walked IsOutside ts → Walked IsOutside rest
+  walk_arguments (g.none {closer = t} {rest = rest} kind) w = step kinds.ParenR t rest kind refl w
+  walk_arguments (g.last {closer = t} {rest = rest} a kind) w = step kinds.ParenR t rest kind refl (walk_argument a w)
+  walk_arguments (g.more {comma = t} {next = ts} a kind others) w = walk_arguments others (step kinds.Comma t ts kind refl (walk_argument a w))
+
+  walk_attribute : {a : Written} {fs : Shown} {ts rest : Tokens} → AttributeOf lexeme nothing (Under limit) a fs ts rest → Walked IsOutside ts
+      → Walked IsOutside rest
+  walk_attribute (g.plain {name = t} {rest = rest} kind no_colon no_paren) w = step kinds.Identifier t rest kind refl w
+  walk_attribute (g.short {name = t} {colon = u} {first = first} {tokens = ts} kind kind2 x) w =
+      walk_outside limit x (step kinds.Colon u (first ∷ ts) kind2 refl (step kinds.Identifier t (u ∷ first ∷ ts) kind refl w))
+  walk_attribute (g.long {name = t} {opener = u} {tokens = ts} kind kind2 arguments) w =
+      walk_arguments arguments (step kinds.ParenL u ts kind2 refl (step kinds.Identifier t (u ∷ ts) kind refl w))
+
+  walk_bracketed : {ws : List Written} {fs : Shown} {ts rest : Tokens} → Bracketed lexeme nothing (Under limit) ws fs ts rest → Walked IsOutside ts
+      → Walked IsOutside rest
+  walk_bracketed (g.last {closer = t} {rest = rest} a kind) w = step kinds.BracketR t rest kind refl (walk_attribute a w)
+  walk_bracketed (g.more {comma = t} {next = ts} a kind others) w = walk_bracketed others (step kinds.Comma t ts kind refl (walk_attribute a w))
+
+  walk_end : {comment : Option (List ℕ)} {ts rest : Tokens} → AttributesEnd lexeme nothing (Under limit) comment ts rest → Walked IsOutside ts
+      → Walked IsOutside rest
+  walk_end (g.bare {newline = t} {rest = rest} kind) w = step kinds.Eol t rest kind refl w
+  walk_end (g.commented {comment = t} {newline = u} {rest = rest} kind kind2) w = step kinds.Eol u rest kind2 refl (step kinds.Comment t (u ∷ rest) kind refl w)
+
+  walk_lines : {ws : List Written} {fs : Shown} {ts rest : Tokens} → AttributeLines lexeme nothing (Under limit) ws fs ts rest → Walked IsOutside ts
+      → Walked IsOutside rest
+  walk_lines (g.none next) w = w
+  walk_lines (g.line {opener = t} {tokens = ts} kind inside end after) w =
+      walk_lines after (walk_end end (walk_bracketed inside (step kinds.BracketL t ts kind refl w)))
+
+  -- ---- both
+
+  -- lines of attributes that any text derives: what they mean is good, if they mean anything, and what is known goes on after them
+  pub record AttributesGood (sight : Sight (List ℕ) (Unit {0})) (ws : List Written) (rest : Tokens) : Type 0 where
+    pub entries : (es : List ShapeEntry) → entries_of sight ws ≡ Some es → GoodEntries limit es
+    pub facts : Sound outside false rest
+    pub bodies : Walked IsOutside rest
+
+  pub attributes_good : (sight : Sight (List ℕ) (Unit {0})) {ws : List Written} {fs : Shown} {ts rest : Tokens}
+      → AttributeLines lexeme nothing (Under limit) ws fs ts rest → (c : Bool) → Sound outside c ts → Walked IsOutside ts → AttributesGood sight ws rest
+  attributes_good sight {ws} lines c h w =
+      let x = lines_at lines c h in
+      record { entries = λ es e. entries_good limit sight ws es e x.good; facts = x.following; bodies = walk_lines lines w }
