@@ -1,0 +1,13 @@
+//! The attributes of a construct, in the order of their content.
+#![tactic(auto)]
+
+mod attribute_set;
+mod copied;
+mod keys;
+mod kinds;
+mod pairs;
+
+pub use crate::attribute_set::AttributeSet;
+pub use crate::keys::{IntoKeys, Keys};
+pub use justfile_attribute::Attribute;
+pub use justfile_base::AttributeKind;
