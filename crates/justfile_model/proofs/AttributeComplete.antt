@@ -21,7 +21,7 @@ use Rattle.justfile_model.specs.Files.{argument_literals, expr_literals, written
 use Rattle.justfile_model.specs.Literals.{string_of}
 use Rattle.justfile_model.specs.Meaning.{KeyArgument, Placed, attribute_of, by_key, by_position, entry_of}
 use Rattle.justfile_model.specs.NewAttribute.{Made, new_entry}
-use Rattle.justfile_model.specs.ReadAttribute.{ReadAttribute, entry_read, keep_both, token_sight}
+use Rattle.justfile_model.specs.ReadAttribute.{ReadAttribute, entry_read, keep_both, read_attributes, token_sight}
 use Rattle.justfile_model.specs.Reading.{◌>>=◌}
 use Rattle.justfile_model.specs.Rules.{Broken, UnknownAttribute}
 use Rattle.justfile_model.specs.Sight.{text_or_none}
@@ -29,7 +29,7 @@ use Rattle.justfile_model.specs.SignificantTokens.{SignificantToken}
 use Rattle.justfile_model.specs.Tok.{Tok}
 use Rattle.justfile_model.specs.Tree as tree
 use Rattle.justfile_model.specs.Tree.{Argument, Entry, Expr, Quoted, WrittenAttribute, itself}
-use Rattle.justfile_model.specs.TreeReader.{Read, State, read_attributes}
+use Rattle.justfile_model.specs.TreeReader.{Read, State}
 use Rattle.justfile_model.proofs.AttributeCovers.{AreReadings, Covers, CoversAll, IsReading, argument_starts, covers_after, covers_duplicate, covers_line, covers_lines, covers_one, covers_order, covers_others, covers_repeat, none, more, readings_append}
 use Rattle.justfile_model.proofs.AttributeSteps.{key_left, key_taken, keys_append}
 use Rattle.justfile_model.proofs.CookedTexts.{AllCook, first_cook, then_cook}

@@ -1,12 +1,9 @@
 //! Rows of texts that are parsed.
 
-use crate::attributes::attributes;
 use crate::beginnings::beginnings;
 use crate::expansion::Expansion;
 use crate::fields::indentation_of;
-use crate::items::{
-    FILE_DEPTH, IMPORT_OFFSETS, WORKING_DIRECTORY, enabled, features, file, unstable,
-};
+use crate::items::{FILE_DEPTH, IMPORT_OFFSETS, WORKING_DIRECTORY, features, file};
 use crate::printing::{copies, prints, prints_item};
 use crate::recipes::push_of_recipe;
 use crate::refusal::push_fault;
@@ -60,15 +57,12 @@ pub(crate) fn parse<'src>(
 fn push_file(answer: &mut Answer, word: Word, fields: &[String], ast: &Ast<'_>) {
     match word {
         Word::Refused => answer.push("taken"),
-        Word::Attributes => attributes(answer, &ast.items),
-        Word::Enabled => enabled(answer, &ast.items),
         Word::Features => features(answer, &ast.list_features),
         Word::Items | Word::Numbers => file(answer, ast),
         Word::Line | Word::Recipe | Word::Sigils => {
             push_of_recipe(answer, word, fields, &ast.items)
         }
         Word::Expands | Word::Literal | Word::Value => push_of_value(answer, word, &ast.items),
-        Word::Unstable => unstable(answer, &ast.unstable_features),
         _ => push_printed(answer, word, indentation_for(word, fields), ast),
     }
 }
