@@ -1,3 +1,5 @@
+pub mod AttributeLines
+pub mod AttributeTexts
 pub mod Bodies
 pub mod CopiedLists
 pub mod Gaps

@@ -1,0 +1,8 @@
+mod ArgumentTree
+mod CopiedLists
+pub mod Cached
+pub mod Counted
+pub mod Ordered
+pub mod Printed
+pub mod Shown
+pub mod Walk
