@@ -1,5 +1,3 @@
-pub mod AttributeLines
-pub mod AttributeTexts
 pub mod Bodies
 pub mod CopiedLists
 pub mod Gaps

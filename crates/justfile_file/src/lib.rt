@@ -3,7 +3,6 @@
 
 pub mod assignment;
 pub mod ast;
-mod attributes;
 pub mod binding;
 mod copied;
 pub mod fragment;

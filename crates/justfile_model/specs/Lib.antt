@@ -1,5 +1,4 @@
 pub mod Answers
-pub mod ArgumentTexts
 pub mod AttributeKinds
 pub mod AttributeLines
 pub mod AttributeReader

@@ -15,7 +15,7 @@ use row_notation::{Answer, Text};
 const INDENTATIONS: [&str; 3] = ["    ", "  ", "\t"];
 
 /// Says of a file that can be printed where what is printed does not settle.
-fn settles_everywhere(answer: &mut Answer, ast: &mut Ast<'_>) {
+fn settles_everywhere(answer: &mut Answer, ast: &Ast<'_>) {
     if ast.printable() {
         for blanks in INDENTATIONS {
             settles_at(answer, ast, indentation_of(blanks));
@@ -42,8 +42,8 @@ fn is_of_text(fault: &Fault<'_>) -> bool {
 /// Says what is wrong with the answer for a text, and answers whether it is a file.
 fn is_file(answer: &mut Answer, text: &str) -> bool {
     match parse(answer.alloc(), &Expansion::Unchanged, text) {
-        Ok(mut ast) => {
-            settles_everywhere(answer, &mut ast);
+        Ok(ast) => {
+            settles_everywhere(answer, &ast);
             true
         }
         Err(fault) => {

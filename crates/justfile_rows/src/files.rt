@@ -1,12 +1,9 @@
 //! Rows of texts that are parsed.
 
-use crate::attributes::attributes;
 use crate::beginnings::beginnings;
 use crate::expansion::Expansion;
 use crate::fields::indentation_of;
-use crate::items::{
-    FILE_DEPTH, IMPORT_OFFSETS, WORKING_DIRECTORY, enabled, features, file, unstable,
-};
+use crate::items::{FILE_DEPTH, IMPORT_OFFSETS, WORKING_DIRECTORY, features, file};
 use crate::printing::{copies, prints, prints_item};
 use crate::recipes::push_of_recipe;
 use crate::refusal::push_fault;
@@ -57,18 +54,15 @@ pub(crate) fn parse<'src>(
 }
 
 /// What a row's word asks of a file.
-fn push_file(answer: &mut Answer, word: Word, fields: &[String], ast: &mut Ast<'_>) {
+fn push_file(answer: &mut Answer, word: Word, fields: &[String], ast: &Ast<'_>) {
     match word {
         Word::Refused => answer.push("taken"),
-        Word::Attributes => attributes(answer, &ast.items),
-        Word::Enabled => enabled(answer, &ast.items),
         Word::Features => features(answer, &ast.list_features),
         Word::Items | Word::Numbers => file(answer, ast),
         Word::Line | Word::Recipe | Word::Sigils => {
             push_of_recipe(answer, word, fields, &ast.items)
         }
         Word::Expands | Word::Literal | Word::Value => push_of_value(answer, word, &ast.items),
-        Word::Unstable => unstable(answer, &ast.unstable_features),
         _ => push_printed(answer, word, indentation_for(word, fields), ast),
     }
 }
@@ -99,7 +93,7 @@ fn push_value_and_text(answer: &mut Answer, ast: &Ast<'_>) {
 
 /// What a row's word asks of a file, and what it asks of a copy if that is something else. A file is
 /// printed and parsed again without a copy.
-fn push_file_and_copy(answer: &mut Answer, word: Word, fields: &[String], ast: &mut Ast<'_>) {
+fn push_file_and_copy(answer: &mut Answer, word: Word, fields: &[String], ast: &Ast<'_>) {
     let mut found = Answer::new(answer.alloc());
     push_file(&mut found, word, fields, ast);
     answer.push_all(&found);
@@ -113,7 +107,7 @@ fn push_file_and_copy(answer: &mut Answer, word: Word, fields: &[String], ast: &
 /// What a row's word asks of a copy of a file.
 fn push_copy(answer: &mut Answer, word: Word, fields: &[String], ast: &Ast<'_>) {
     match ast.clone(answer.alloc()) {
-        Ok(mut copy) => push_file(answer, word, fields, &mut copy),
+        Ok(copy) => push_file(answer, word, fields, &copy),
         Err(_) => answer.fail(),
     }
 }
@@ -126,7 +120,7 @@ fn push_parsed(answer: &mut Answer, word: Word, fields: &[String]) {
     let expansion = expansion_of(word, fields);
     let mut found = Answer::new(answer.alloc());
     match parse_from(answer.alloc(), &mut numerator, &expansion, text) {
-        Ok(mut ast) => push_file_and_copy(&mut found, word, fields, &mut ast),
+        Ok(ast) => push_file_and_copy(&mut found, word, fields, &ast),
         Err(fault) => push_fault(&mut found, text, &fault),
     }
     if word == Word::Numbers {

@@ -32,7 +32,7 @@ pub(crate) fn prints(answer: &mut Answer, ast: &Ast<'_>, indentation: Indentatio
 pub(crate) fn settles(answer: &mut Answer, indentation: Indentation, printed: &str) {
     let mut again = Answer::new(answer.alloc());
     match parse(answer.alloc(), &Expansion::Unchanged, printed) {
-        Ok(mut ast) => prints_once(&mut again, &mut ast, indentation),
+        Ok(ast) => prints_once(&mut again, &ast, indentation),
         Err(fault) => push_fault(&mut again, printed, &fault),
     }
     let mut expected = Answer::new(answer.alloc());
@@ -41,7 +41,7 @@ pub(crate) fn settles(answer: &mut Answer, indentation: Indentation, printed: &s
 }
 
 /// What a file is printed as at an indentation, and whether it says that this would not parse back.
-fn prints_once(answer: &mut Answer, ast: &mut Ast<'_>, indentation: Indentation) {
+fn prints_once(answer: &mut Answer, ast: &Ast<'_>, indentation: Indentation) {
     copies(answer, ast, indentation);
     answer.push_if("unprintable", !ast.printable());
 }

@@ -129,7 +129,7 @@ fn parsed<'src>(
 }
 
 /// Sees what the file of a module has of what was handed in.
-fn compare_file(rt: &impl Abort, alloc: Global, ast: &mut Ast<'_>) {
+fn compare_file(rt: &impl Abort, alloc: Global, ast: &Ast<'_>) {
     compare_written(rt, alloc, &ast.module_path, "m::n");
     same_text(rt, "a file", ast.working_directory.as_str(), "/home/m");
     compare_items(rt, &ast.items);
@@ -156,7 +156,7 @@ fn files_of_modules(rt: HostRuntime) {
     let namepath = path(&rt, alloc, names(&rt, alloc, "m n").as_slice());
     let mut numerator = Numerator::new(5);
     match parsed(alloc, &namepath, &mut numerator, "a := 'x'\n") {
-        Ok(mut ast) => compare_file(&rt, alloc, &mut ast),
+        Ok(ast) => compare_file(&rt, alloc, &ast),
         Err(fault) => panic!(rt; "{fault:?}"),
     }
 }

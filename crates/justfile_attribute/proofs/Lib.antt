@@ -1,8 +1,0 @@
-mod ArgumentTree
-mod CopiedLists
-pub mod Cached
-pub mod Counted
-pub mod Ordered
-pub mod Printed
-pub mod Shown
-pub mod Walk

@@ -1,6 +1,0 @@
-pub mod Counts
-pub mod KeyLemmas
-pub mod Loops
-pub mod Quoted
-pub mod Refused
-pub mod StepLaws
