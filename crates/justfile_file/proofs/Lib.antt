@@ -1,5 +1,6 @@
+pub mod AttributeLines
+pub mod AttributeTexts
 pub mod Bodies
-pub mod CopiedLists
 pub mod Gaps
 pub mod Loops
 pub mod PrintedBack

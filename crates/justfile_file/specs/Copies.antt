@@ -1,6 +1,7 @@
 -- Copies.
 use Rattle.std.specs.Prelude.{◌≡◌, string_bytes}
 use Rattle.std.specs.List.{AllZip}
+use Rattle.justfile_attribute_set.specs.Copies.{IsSameSet}
 use Rattle.justfile_base.specs.Modulepath.{names_of}
 use Rattle.justfile_tree.specs.declared.expression.Expression.{Expression}
 use Rattle.justfile_tree.specs.Copies.{IsSameExpression}
@@ -15,6 +16,7 @@ use Rattle.justfile_file.specs.declared.recipe.UnresolvedRecipe.{UnresolvedRecip
 
 -- the copy of an assignment has its fields
 pub record IsSameAssignment (copy original : Binding Expression) : Type 0 where
+  pub attributes : IsSameSet copy.attributes original.attributes
   pub file_depth : copy.file_depth ≡ original.file_depth
   pub name : copy.name ≡ original.name
   pub number : copy.number ≡ original.number
@@ -35,6 +37,7 @@ pub record IsSameLine (copy original : Line) : Type 0 where
 
 -- the copy of a recipe has its fields and its lines
 pub record IsSameRecipe (copy original : UnresolvedRecipe) : Type 0 where
+  pub attributes : IsSameSet copy.attributes original.attributes
   pub body : AllZip IsSameLine copy.body.items original.body.items
   pub file_depth : copy.file_depth ≡ original.file_depth
   pub import_offsets : copy.import_offsets.items ≡ original.import_offsets.items

@@ -1,5 +1,5 @@
 -- What the definitions see of an item.
-use Rattle.std.specs.Prelude.{ℕ, List, [], ◌∷◌, map}
+use Rattle.std.specs.Prelude.{ℕ, Bool, true, List, [], ◌∷◌, ◌++◌, map}
 use Rattle.std.specs.List.{flat_map}
 use Rattle.justfile_model.specs.Tok.{Tok, tok_of}
 use Rattle.justfile_model.specs.Tree as tree
@@ -7,6 +7,9 @@ use Rattle.justfile_model.specs.Tree.{AssignmentParts, OrderedItem, RecipeParts,
 use Rattle.justfile_model.specs.Printing.{fragment_text}
 use Rattle.justfile_tree.specs.Expression.{expr_of, expr_cooked}
 use Rattle.justfile_tree.specs.declared.expression.Expression.{Expression}
+use Rattle.justfile_attribute_set.specs.AttributeSet.{attributes_of, entries_of}
+use Rattle.justfile_attribute_set.specs.Attributes.{are_enabled}
+use Rattle.justfile_file.specs.Attributes.{set_cooked}
 use Rattle.justfile_file.specs.declared.binding.Binding.{Binding}
 use Rattle.justfile_file.specs.declared.fragment.Fragment.{Fragment}
 use Rattle.justfile_file.specs.declared.fragment.Fragment.TheVariants.{Interpolation, Text}
@@ -32,12 +35,19 @@ assignment_of a = plain_assignment (tok_of a.name.token) (expr_of a.value)
 abbrev pub recipe_of : UnresolvedRecipe → RecipeParts Tok Tok ℕ (Unit {0})
 recipe_of r = plain_recipe (tok_of r.name.token) (map body_line_of r.body.items)
 
--- the tree of an item; so far no item has attributes
+-- the tree of an item
 abbrev pub item_of : Item → OrderedItem Tok Tok ℕ
-item_of (Assignment a) = tree.Construct [] (tree.Assignment (assignment_of a))
+item_of (Assignment a) = tree.Construct (entries_of a.attributes) (tree.Assignment (assignment_of a))
 item_of (Comment text) = tree.Comment text.now
 item_of Newline = tree.Newline
-item_of (Recipe r) = tree.Construct [] (tree.Recipe (recipe_of r))
+item_of (Recipe r) = tree.Construct (entries_of r.attributes) (tree.Recipe (recipe_of r))
+
+-- whether an item is there on this system, as its attributes say
+abbrev pub is_item_enabled : Item → Bool
+is_item_enabled (Assignment a) = are_enabled (attributes_of a.attributes)
+is_item_enabled (Comment text) = true
+is_item_enabled Newline = true
+is_item_enabled (Recipe r) = are_enabled (attributes_of r.attributes)
 
 -- the tree of a fragment without places
 abbrev pub fragment_shape : Fragment → tree.Fragment (List ℕ) (Unit {0})
@@ -82,10 +92,10 @@ line_cooked line = flat_map fragment_cooked line.fragments.items
 
 -- the texts of an item's literals, in order
 abbrev pub item_cooked : Item → List (List ℕ)
-item_cooked (Assignment a) = expr_cooked a.value
+item_cooked (Assignment a) = set_cooked a.attributes ++ expr_cooked a.value
 item_cooked (Comment text) = []
 item_cooked Newline = []
-item_cooked (Recipe r) = flat_map line_cooked r.body.items
+item_cooked (Recipe r) = set_cooked r.attributes ++ flat_map line_cooked r.body.items
 
 -- the numbers of an item's bindings, in order
 abbrev pub item_numbers : Item → List ℕ

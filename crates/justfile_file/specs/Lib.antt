@@ -1,5 +1,7 @@
 pub mod Assignment
 pub mod Ast
+pub mod AttributeParts
+pub mod Attributes
 pub mod Copies
 pub mod Gap
 pub mod Item

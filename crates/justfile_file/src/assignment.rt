@@ -17,6 +17,7 @@ impl<'src> Binding<'src, Expression<'src>> {
         ensures { IfOk result (λ copy. IsSameAssignment copy self.now) }
     {
         Ok(Binding {
+            attributes: self.attributes.clone(alloc)?,
             file_depth: self.file_depth,
             name: self.name,
             number: self.number,
@@ -27,7 +28,7 @@ impl<'src> Binding<'src, Expression<'src>> {
     }
 }
 
-/// Puts the text of an assignment.
+/// Puts the text of an assignment, without its attributes.
 pub(crate) fn write_assignment<S: Sink>(
     assignment: &Assignment<'_>,
     sink: &mut S,

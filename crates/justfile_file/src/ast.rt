@@ -16,9 +16,10 @@ use justfile_base::{Indentation, Modulepath, Token, UnstableFeature};
 use justfile_tree::{ListFeature, Sink};
 use std::alloc::{AllocError, Global};
 use std::collections::BTreeSet;
+use std::fmt;
 
 /// A file that was parsed.
-#[derive(Debug, Drop)]
+#[derive(Drop)]
 pub struct Ast<'src> {
     /// The items, in the order of the file.
     pub items: Vec<Item<'src>>,
@@ -125,4 +126,11 @@ pub(crate) fn write_ast<S: Sink>(
     write_items(&ast.items, indentation, sink)?;
     write_end(&ast.items, sink)?;
     Ok(())
+}
+
+/// Its canonical text, with four spaces before the lines of bodies.
+impl fmt::Debug for Ast<'_> {
+    fn fmt<W: fmt::Write>(&self, f: &mut fmt::Formatter<W>) -> fmt::Result {
+        write_ast(self, Indentation::default(), f)
+    }
 }

@@ -5,6 +5,7 @@ ghost use Rattle.justfile_file.specs.Gap.{gap_text, next_gap, step_text};
 ghost use Rattle.justfile_file.specs.Item.{item_shape};
 
 use crate::assignment::{Assignment, write_assignment};
+use crate::attributes::write_attributes;
 use crate::copied::Copied;
 use crate::gap::Gap;
 use crate::recipe::{UnresolvedRecipe, write_recipe};
@@ -26,7 +27,7 @@ pub enum Item<'src> {
 impl<'src> Item<'src> {
     ghost use Rattle.justfile_model.specs.Reader.{has_body};
     ghost use Rattle.justfile_file.specs.Copies.{IsSameItem};
-    ghost use Rattle.justfile_file.specs.Item.{item_of};
+    ghost use Rattle.justfile_file.specs.Item.{is_item_enabled, item_of};
 
     /// A copy of the item.
     pub fn clone(&self, alloc: Global) -> Result<Self, AllocError>
@@ -47,6 +48,17 @@ impl<'src> Item<'src> {
         match self {
             Item::Assignment(_) | Item::Comment(_) | Item::Newline => false,
             Item::Recipe(recipe) => !recipe.body.is_empty(),
+        }
+    }
+
+    /// Whether the item is there on this system, as its attributes say.
+    pub fn is_enabled(&self) -> bool
+        ensures { result ≡ is_item_enabled self.now }
+    {
+        match self {
+            Item::Assignment(assignment) => assignment.attributes.is_enabled(),
+            Item::Comment(_) | Item::Newline => true,
+            Item::Recipe(recipe) => recipe.attributes.is_enabled(),
         }
     }
 
@@ -80,7 +92,7 @@ impl Copied for Item<'_> {
     }
 }
 
-/// Puts the text of an item.
+/// Puts the text of an item, after a line for each of its attributes.
 pub(crate) fn write_item<S: Sink>(
     item: &Item<'_>,
     indentation: Indentation,
@@ -90,10 +102,16 @@ pub(crate) fn write_item<S: Sink>(
     ensures err { OnErr result (S.failed sink.old (item_text (item_shape item.now) (indentation_text indentation)) sink.new) }
 {
     match item {
-        Item::Assignment(assignment) => write_assignment(assignment, sink),
+        Item::Assignment(assignment) => {
+            write_attributes(&assignment.attributes, sink)?;
+            write_assignment(assignment, sink)
+        }
         Item::Comment(text) => sink.put(text),
         Item::Newline => Ok(()),
-        Item::Recipe(recipe) => write_recipe(recipe, indentation, sink),
+        Item::Recipe(recipe) => {
+            write_attributes(&recipe.attributes, sink)?;
+            write_recipe(recipe, indentation, sink)
+        }
     }
 }
 

@@ -3,6 +3,7 @@
 
 pub mod assignment;
 pub mod ast;
+mod attributes;
 pub mod binding;
 mod copied;
 pub mod fragment;

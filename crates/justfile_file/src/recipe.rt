@@ -9,6 +9,7 @@ ghost use Rattle.justfile_file.specs.Recipe.{unresolved_recipe_text};
 
 use crate::copied::all_copied;
 use crate::line::{Line, write_line};
+use justfile_attribute_set::AttributeSet;
 use justfile_base::{Indentation, Name, Number};
 use justfile_tree::{Sink, put_piece};
 use std::alloc::{AllocError, Global};
@@ -16,6 +17,8 @@ use std::alloc::{AllocError, Global};
 /// A recipe as it was read.
 #[derive(Debug, Drop)]
 pub struct UnresolvedRecipe<'src> {
+    /// The attributes before it.
+    pub attributes: AttributeSet<'src>,
     /// The lines of its body, without the empty ones at the end. There are none if it has no body.
     pub body: Vec<Line<'src>>,
     /// How many imports and modules lie between its file and the root.
@@ -37,8 +40,10 @@ impl<'src> UnresolvedRecipe<'src> {
     pub fn clone(&self, alloc: Global) -> Result<Self, AllocError>
         ensures { IfOk result (λ copy. IsSameRecipe copy self.now) }
     {
+        let attributes = self.attributes.clone(alloc)?;
         let import_offsets = self.import_offsets.clone()?;
         Ok(UnresolvedRecipe {
+            attributes,
             body: all_copied(alloc, &self.body)?,
             file_depth: self.file_depth,
             import_offsets,
@@ -96,7 +101,7 @@ fn write_body<S: Sink>(
     Ok(())
 }
 
-/// Puts the text of a recipe.
+/// Puts the text of a recipe, without its attributes.
 pub(crate) fn write_recipe<S: Sink>(
     recipe: &UnresolvedRecipe<'_>,
     indentation: Indentation,

@@ -61,3 +61,8 @@ pub record Differs (source : List ℕ) : Type 0 where
 -- the file is that of the text
 pub record IsFileOf (source : List ℕ) (ast : Ast) : Type 0 where
   pub derives : TextDerives conditions source (tree_of ast) (features_of ast)
+
+-- the file can be printed, and this is its canonical text
+pub record IsPrinted (ast : Ast) (canonical : List ℕ) : Type 0 where
+  pub can_be_printed : printable (shape_of (tree_of ast)) ≡ true
+  pub is : canonical ≡ printed (shape_of (tree_of ast)) (codes "    ")

@@ -1,7 +1,9 @@
-ghost use Rattle.std.specs.Prelude.{◌≡◌, Err, IfErr, IfOk, string_bytes};
+ghost use Rattle.std.specs.Prelude.{◌≡◌, Err, IfErr, IfOk, false, string_bytes};
 ghost use Rattle.justfile_format.specs.declared.failure.Failure.TheVariants as failures;
 ghost use Rattle.justfile_format.specs.Failure.{IsOfText};
-ghost use Rattle.justfile_format.specs.Formatting.{IsFileOf, IsFormatted, IsRefusedText, IsUnprintable};
+ghost use Rattle.justfile_format.specs.Formatting.{IsFileOf, IsFormatted, IsPrinted, IsRefusedText, IsUnprintable};
+ghost use Rattle.justfile_file.specs.Ast.{ast_shape};
+ghost use Rattle.justfile_model.specs.Printing.{printable};
 
 use crate::failure::Failure;
 use crate::unchanged::Unchanged;
@@ -51,6 +53,20 @@ fn parse(alloc: Global, source: &str) -> Result<Ast<'_>, Failure>
     }
 }
 
+/// The canonical text of a file, which stays as it is.
+fn print(alloc: Global, ast: &mut Ast<'_>) -> Result<String, Failure>
+    ensures ok { IfOk result (λ text. IsPrinted ast.old (string_bytes text)) }
+    ensures refused { result ≡ Err failures.Refused → ⊥ }
+    ensures unprintable { result ≡ Err failures.NotPrintable → printable (ast_shape ast.old) ≡ false }
+    ensures err { IfErr result IsOfText }
+{
+    if !ast.printable() {
+        return Err(Failure::NotPrintable);
+    }
+    let indentation = ast.indentation().unwrap_or_default();
+    Ok(ast.print(alloc, indentation)?)
+}
+
 /// Formats a justfile, and answers its canonical text. The tree is left as it is, since the program
 /// ends soon: the system takes its memory back as a whole, and node by node that takes an eighth of
 /// the time.
@@ -60,12 +76,8 @@ pub fn format_text(alloc: Global, source: &str) -> Result<String, Failure>
     ensures unprintable { result ≡ Err failures.NotPrintable → IsUnprintable source.now }
     ensures err { IfErr result IsOfText }
 {
-    let ast = parse(alloc, source)?;
-    if !ast.printable() {
-        return Err(Failure::NotPrintable);
-    }
-    let indentation = ast.indentation().unwrap_or_default();
-    let text = ast.print(alloc, indentation)?;
+    let mut ast = parse(alloc, source)?;
+    let text = print(alloc, &mut ast)?;
     mem::forget(ast);
     Ok(text)
 }

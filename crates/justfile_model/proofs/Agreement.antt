@@ -1,5 +1,5 @@
 -- The reader and the grammar agree.
-use Rattle.std.proofs.Common.{◌≡◌, ◌⊎◌, Bool, IsTrue, List, Option, Some, Result, Ok, Err, refl, sym, ap, ◌∙◌, inl, inr}
+use Rattle.std.proofs.Common.{◌≡◌, ◌⊎◌, Bool, IsTrue, List, [], length, Option, Some, Result, Ok, Err, sym, ap, ◌∙◌, inl, inr, arith}
 use Rattle.justfile_model.specs.Conditions.{Conditions}
 use Rattle.justfile_model.specs.SignificantTokens.{SignificantToken}
 use Rattle.justfile_model.specs.Tok.{Tok}
@@ -7,16 +7,20 @@ use Rattle.justfile_model.specs.Tree.{Tree, WrittenTree}
 use Rattle.justfile_model.specs.Features.{Noted}
 use Rattle.justfile_model.specs.Expressions.{Tokens, Under, Free, Waived}
 use Rattle.justfile_model.specs.Grammar.{File}
-use Rattle.justfile_model.specs.Literals.{Literal}
-use Rattle.justfile_model.specs.Files.{FileDerives, FileTree, Obeys, all_literals, keeps_tokens, ordered}
+use Rattle.justfile_model.specs.Files.{FileDerives, FileTree, Obeys, all_literals, broken, keeps_tokens, ordered}
+use Rattle.justfile_model.specs.ReadAttribute.{token_sight}
 use Rattle.justfile_model.specs.Reading.{TooDeep}
+use Rattle.justfile_model.specs.Rules.{Broken}
+use Rattle.justfile_model.specs.Sight.{Sight}
 use Rattle.justfile_model.specs.TreeReader.{Refusal, tree_of_tokens}
 use Rattle.justfile_model.specs.Refusals.{IsDue}
-use Rattle.justfile_model.proofs.CookedTexts.{AllCook, all_cook, texts_of}
+use Rattle.justfile_model.proofs.CookedTexts.{all_cook, texts_of}
 use Rattle.justfile_model.proofs.Complete.{file_reached}
 use Rattle.justfile_model.proofs.Depth.{file_loosened}
-use Rattle.justfile_model.proofs.Ordered.{file_ordered, plainly}
-use Rattle.justfile_model.proofs.Reaching.{DueOf, Reaches, is_read, is_refused, lacks_none, only_read, only_due, kept, dropped}
+use Rattle.justfile_model.proofs.Obeyed.{all_ordered, all_unbroken, meanings}
+use Rattle.justfile_model.proofs.Obeying.{obeyed_at}
+use Rattle.justfile_model.proofs.Reaching.{lacks_none, kept, dropped}
+use Rattle.justfile_model.proofs.ReachingRules.{BreaksOne, DueAmong, ReachesOne, is_refused, only_due, some_read}
 use Rattle.justfile_model.proofs.Sound.{file_at}
 
 -- a written tree with its features, as the reader gives it
@@ -26,21 +30,32 @@ Found = WrittenTree × List (Noted Tok)
 ok_inside : (a b : Found) → ◌≡◌ {A = Result Found Refusal} (Ok a) (Ok b) → a ≡ b
 ok_inside a b h = cc
 
-same_meaning : {written other : WrittenTree} {tree twin : Tree} → written ≡ other → ordered written ≡ Some tree → ordered other ≡ Some twin → tree ≡ twin
-same_meaning {written} {other} same h k = let e = ap ordered same in cc
+same_meaning : (sight : Sight Tok Tok) {written other : WrittenTree} {tree twin : Tree} → written ≡ other → ordered sight written ≡ Some tree
+    → ordered sight other ≡ Some twin → tree ≡ twin
+same_meaning sight {written} {other} same h k = let e = ap (ordered sight) same in cc
+
+no_rule : (rules : List (Broken Tok)) (r : Refusal) → rules ≡ [] → BreaksOne rules r → ⊥
+no_rule rules r none h = absurd (omega (arith, h.among.1, ap length none))
 
 module _ (conditions : Conditions) where
-  -- it is read where each literal has a text, or too deep at a token where the limit is waived
-  read_or_deep : (Hit : Option SignificantToken → Type 0) (found : Result Found Refusal) (x : Found) (ls : List (Literal Tok)) → AllCook conditions.expander ls → Reaches conditions Hit found x ls
-      → (found ≡ Ok x) ⊎ ((at : Option SignificantToken) × Hit at × (found ≡ Err (TooDeep at)))
-  read_or_deep Hit found x ls a (is_read b is) = inl is
-  read_or_deep Hit found x ls a (is_refused (inl h) is) = absurd (lacks_none conditions ls _ a h)
-  read_or_deep Hit found x ls a (is_refused (inr h) is) = inr (h.token, h.hit, is ∙ ap (λ r. Err r) h.refusal_is)
+  -- what is read or refused where the grammar has this tree
+  abbrev FileReached : (Hit : Option SignificantToken → Type 0) → Result Found Refusal → Found → Type 0
+  FileReached Hit found x = ReachesOne conditions Hit found x (all_literals x.0) (broken (token_sight conditions) x.0)
 
-  -- as no rule is broken
-  is_due : (Hit : Option SignificantToken → Type 0) (written : WrittenTree) (r : Refusal) → DueOf conditions.expander Hit (all_literals written) r → IsDue conditions Hit written r
-  is_due Hit written r (inl h) = inl h
-  is_due Hit written r (inr h) = inr (inl h)
+  -- where all obeys, it is read, or too deep at a token where the limit is waived
+  read_or_deep : (Hit : Option SignificantToken → Type 0) (found : Result Found Refusal) (x : Found) → Obeys conditions x.0 → FileReached Hit found x
+      → (found ≡ Ok x) ⊎ ((at : Option SignificantToken) × Hit at × (found ≡ Err (TooDeep at)))
+  read_or_deep Hit found x obeys (some_read y a same is) = inl (is ∙ ap (λ z. Ok z) same)
+  read_or_deep Hit found x obeys (is_refused (inl (inl h)) is) =
+      absurd (lacks_none conditions (all_literals x.0) _ (all_cook conditions.expander (all_literals x.0) obeys.cooked obeys.cooks) h)
+  read_or_deep Hit found x obeys (is_refused (inl (inr h)) is) = inr (h.token, h.hit, is ∙ ap (λ r. Err r) h.refusal_is)
+  read_or_deep Hit found x obeys (is_refused {r = r} (inr h) is) = absurd (no_rule (broken (token_sight conditions) x.0) r obeys.unbroken h)
+
+  is_due : (Hit : Option SignificantToken → Type 0) (written : WrittenTree) (r : Refusal)
+      → DueAmong conditions Hit (all_literals written) (broken (token_sight conditions) written) r → IsDue conditions Hit written r
+  is_due Hit written r (inl (inl h)) = inl h
+  is_due Hit written r (inl (inr h)) = inr (inl h)
+  is_due Hit written r (inr h) = inr (inr (record { rule = h.rule; among = h.among; refusal_is = h.refusal_is }))
 
   module _ (tokens : Tokens) where
     -- what is read derives, and obeys
@@ -48,46 +63,57 @@ module _ (conditions : Conditions) where
     read_derives written features is =
         let found = file_at conditions tokens (written, features) is in
         let texts = texts_of conditions.expander (all_literals written) found.cooks in
-        (found.derives, record { cooked = texts.0; cooks = texts.1; unbroken = refl })
+        let obeyed = obeyed_at conditions tokens (written, features) is in
+        (found.derives, record { cooked = texts.0; cooks = texts.1; unbroken = all_unbroken (token_sight conditions) written obeyed })
 
-    pub sound : (written : WrittenTree) (features : List (Noted Tok)) → tree_of_tokens conditions tokens ≡ Ok (written, features) → (tree : Tree) × (ordered written ≡ Some tree) × FileDerives conditions tokens tree features
+    pub sound : (written : WrittenTree) (features : List (Noted Tok)) → tree_of_tokens conditions tokens ≡ Ok (written, features)
+        → (tree : Tree) × (ordered (token_sight conditions) written ≡ Some tree) × FileDerives conditions tokens tree features
     sound written features is =
         let found = read_derives written features is in
-        let meaning = file_ordered keeps_tokens (Under conditions.limit) found.0 in
-        (plainly written, meaning, record { written = written; derives = found.0; obeys = found.1; ordered_is = meaning })
+        let obeyed = obeyed_at conditions tokens (written, features) is in
+        let meaning = all_ordered (token_sight conditions) written obeyed in (
+          meanings (token_sight conditions) written obeyed,
+          meaning,
+          record { written = written; derives = found.0; obeys = found.1; ordered_is = meaning },
+        )
 
     -- what derives and obeys is read
     pub reached : (written : WrittenTree) (features : List (Noted Tok)) → File keeps_tokens (Under conditions.limit) written features tokens → Obeys conditions written → tree_of_tokens conditions tokens ≡ Ok (written, features)
     reached written features h obeys =
-        only_read conditions (all_cook conditions.expander (all_literals written) obeys.cooked obeys.cooks)
-        (file_reached conditions (λ at. ⊥) (file_loosened (Under conditions.limit) (Waived conditions.limit (λ at. ⊥)) (kept conditions.limit) keeps_tokens h))
+        read (read_or_deep (λ at. ⊥) (tree_of_tokens conditions tokens) (written, features) obeys (file_reached conditions (λ at. ⊥)
+        (file_loosened (Under conditions.limit) (Waived conditions.limit (λ at. ⊥)) (kept conditions.limit) keeps_tokens h)))
+      where
+        read : (tree_of_tokens conditions tokens ≡ Ok (written, features)) ⊎ ((at : Option SignificantToken) × ⊥ × (tree_of_tokens conditions tokens ≡ Err (TooDeep at)))
+            → tree_of_tokens conditions tokens ≡ Ok (written, features)
+        read (inl is) = is
+        read (inr x) = absurd x.1
 
-    pub complete : (tree : Tree) (features : List (Noted Tok)) → FileDerives conditions tokens tree features → (written : WrittenTree) × (ordered written ≡ Some tree) × (tree_of_tokens conditions tokens ≡ Ok (written, features))
+    pub complete : (tree : Tree) (features : List (Noted Tok)) → FileDerives conditions tokens tree features
+        → (written : WrittenTree) × (ordered (token_sight conditions) written ≡ Some tree) × (tree_of_tokens conditions tokens ≡ Ok (written, features))
     complete tree features h = (h.written, h.ordered_is, reached h.written features h.derives h.obeys)
 
     pub one_tree : (tree other : Tree) (features others : List (Noted Tok)) → FileDerives conditions tokens tree features → FileDerives conditions tokens other others → (tree ≡ other) × (features ≡ others)
     one_tree tree other features others h q =
         let same = ok_inside (h.written, features) (q.written, others) (sym (reached h.written features h.derives h.obeys) ∙ reached q.written others q.derives q.obeys) in
-        (same_meaning (ap (λ p. p.0) same) h.ordered_is q.ordered_is, ap (λ p. p.1) same)
+        (same_meaning (token_sight conditions) (ap (λ p. p.0) same) h.ordered_is q.ordered_is, ap (λ p. p.1) same)
 
   module _ (tokens : Tokens) (written : WrittenTree) (features : List (Noted Tok)) where
     -- where the limit is waived at some tokens
     module _ (Hit : Option SignificantToken → Bool) (h : File keeps_tokens (Waived conditions.limit (λ at. IsTrue (Hit at))) written features tokens) where
       pub deep : Obeys conditions written → (tree_of_tokens conditions tokens ≡ Ok (written, features)) ⊎ ((at : Option SignificantToken) × IsTrue (Hit at) × (tree_of_tokens conditions tokens ≡ Err (TooDeep at)))
       deep obeys =
-          read_or_deep (λ at. IsTrue (Hit at)) (tree_of_tokens conditions tokens) (written, features) (all_literals written) (all_cook conditions.expander (all_literals written) obeys.cooked obeys.cooks)
-          (file_reached conditions (λ at. IsTrue (Hit at)) h)
+          read_or_deep (λ at. IsTrue (Hit at)) (tree_of_tokens conditions tokens) (written, features) obeys (file_reached conditions (λ at. IsTrue (Hit at)) h)
 
       pub due : (r : Refusal) → tree_of_tokens conditions tokens ≡ Err r → IsDue conditions (λ at. IsTrue (Hit at)) written r
       due r is = is_due (λ at. IsTrue (Hit at)) written r (only_due conditions (λ at. IsTrue (Hit at)) is (file_reached conditions (λ at. IsTrue (Hit at)) h))
 
     -- without a limit
-    free_found : FileTree tokens written features → Reaches conditions (λ at. Unit {0}) (tree_of_tokens conditions tokens) (written, features) (all_literals written)
+    free_found : FileTree tokens written features → FileReached (λ at. Unit {0}) (tree_of_tokens conditions tokens) (written, features)
     free_found h = file_reached conditions (λ at. Unit {0}) (file_loosened Free (Waived conditions.limit (λ at. Unit {0})) (dropped conditions.limit) keeps_tokens h)
 
     pub free : FileTree tokens written features → Obeys conditions written → (tree_of_tokens conditions tokens ≡ Ok (written, features)) ⊎ ((at : Option SignificantToken) × (tree_of_tokens conditions tokens ≡ Err (TooDeep at)))
     free h obeys =
-        without (read_or_deep (λ at. Unit {0}) (tree_of_tokens conditions tokens) (written, features) (all_literals written) (all_cook conditions.expander (all_literals written) obeys.cooked obeys.cooks) (free_found h))
+        without (read_or_deep (λ at. Unit {0}) (tree_of_tokens conditions tokens) (written, features) obeys (free_found h))
       where
         without : (tree_of_tokens conditions tokens ≡ Ok (written, features)) ⊎ ((at : Option SignificantToken) × Unit {0} × (tree_of_tokens conditions tokens ≡ Err (TooDeep at)))
             → (tree_of_tokens conditions tokens ≡ Ok (written, features)) ⊎ ((at : Option SignificantToken) × (tree_of_tokens conditions tokens ≡ Err (TooDeep at)))

@@ -21,7 +21,7 @@ use Rattle.justfile_model.specs.Files.{argument_literals, expr_literals, written
 use Rattle.justfile_model.specs.Literals.{string_of}
 use Rattle.justfile_model.specs.Meaning.{KeyArgument, Placed, attribute_of, by_key, by_position, entry_of}
 use Rattle.justfile_model.specs.NewAttribute.{Made, new_entry}
-use Rattle.justfile_model.specs.ReadAttribute.{ReadAttribute, entry_read, keep_both, read_attributes, token_sight}
+use Rattle.justfile_model.specs.ReadAttribute.{ReadAttribute, entry_read, keep_both, token_sight}
 use Rattle.justfile_model.specs.Reading.{◌>>=◌}
 use Rattle.justfile_model.specs.Rules.{Broken, UnknownAttribute}
 use Rattle.justfile_model.specs.Sight.{text_or_none}
@@ -29,13 +29,13 @@ use Rattle.justfile_model.specs.SignificantTokens.{SignificantToken}
 use Rattle.justfile_model.specs.Tok.{Tok}
 use Rattle.justfile_model.specs.Tree as tree
 use Rattle.justfile_model.specs.Tree.{Argument, Entry, Expr, Quoted, WrittenAttribute, itself}
-use Rattle.justfile_model.specs.TreeReader.{Read, State}
+use Rattle.justfile_model.specs.TreeReader.{Read, State, read_attributes}
 use Rattle.justfile_model.proofs.AttributeCovers.{AreReadings, Covers, CoversAll, IsReading, argument_starts, covers_after, covers_duplicate, covers_line, covers_lines, covers_one, covers_order, covers_others, covers_repeat, none, more, readings_append}
 use Rattle.justfile_model.proofs.AttributeSteps.{key_left, key_taken, keys_append}
 use Rattle.justfile_model.proofs.CookedTexts.{AllCook, first_cook, then_cook}
 use Rattle.justfile_model.proofs.ExpressionDeep.{expression_deep}
 use Rattle.justfile_model.proofs.NewArgumentLaws as new
-use Rattle.justfile_model.proofs.NewArgumentLaws.{HasTexts}
+use Rattle.justfile_model.specs.ArgumentTexts.{GivenHasText, HasText, HasTexts}
 use Rattle.justfile_model.proofs.NewAttributeLaws.{Breaks, alone, entry_made, entry_refused, repeated}
 use Rattle.justfile_model.proofs.Reaching as plain
 use Rattle.justfile_model.proofs.Reaching.{Reaches}
@@ -193,7 +193,7 @@ module _ (conditions : Conditions) (Hit : Option SignificantToken → Type 0) wh
 
   -- ---- the literals among arguments have texts
 
-  has_text : (e : Expr Tok Tok) → AllCook conditions.expander (expr_literals e) → new.HasText (token_sight conditions) e
+  has_text : (e : Expr Tok Tok) → AllCook conditions.expander (expr_literals e) → HasText (token_sight conditions) e
   has_text (tree.StringLiteral expanded token) a q is =
       let same : record { expanded = expanded; token = token } ≡ q = cc in
       subst (λ (q : Quoted Tok). is_some ((token_sight conditions).cooked (string_of q.expanded q.token)) ≡ true) same
@@ -201,7 +201,7 @@ module _ (conditions : Conditions) (Hit : Option SignificantToken → Type 0) wh
   has_text _ a q is = cc
 
   placed_texts : (all : List (Argument Tok Tok)) → AllCook conditions.expander (flat_map argument_literals all)
-      → AllByRecursion (λ (p : Placed Tok Tok). new.HasText (token_sight conditions) p.value) (by_position all)
+      → AllByRecursion (λ (p : Placed Tok Tok). HasText (token_sight conditions) p.value) (by_position all)
   placed_texts [] a = tt
   placed_texts (tree.Positional first value ∷ all) a = (
     has_text value (first_cook conditions.expander (expr_literals value) (flat_map argument_literals all) a),
@@ -211,15 +211,15 @@ module _ (conditions : Conditions) (Hit : Option SignificantToken → Type 0) wh
   placed_texts (tree.Bare key ∷ all) a = placed_texts all a
   placed_texts (tree.Keyed key value ∷ all) a = placed_texts all (then_cook conditions.expander (expr_literals value) (flat_map argument_literals all) a)
 
-  given_text : (o : Option (Expr Tok Tok)) (e : Expr Tok Tok) → o ≡ Some e → new.HasText (token_sight conditions) e
-      → new.GivenHasText (token_sight conditions) o
-  given_text o e is h d is2 = let same : e ≡ d = some_inside e d (sym is ∙ is2) in subst (new.HasText (token_sight conditions)) same h
+  given_text : (o : Option (Expr Tok Tok)) (e : Expr Tok Tok) → o ≡ Some e → HasText (token_sight conditions) e
+      → GivenHasText (token_sight conditions) o
+  given_text o e is h d is2 = let same : e ≡ d = some_inside e d (sym is ∙ is2) in subst (HasText (token_sight conditions)) same h
     where
       some_inside : (x y : Expr Tok Tok) → ◌≡◌ {A = Option (Expr Tok Tok)} (Some x) (Some y) → x ≡ y
       some_inside x y e = cc
 
   key_texts : (all : List (Argument Tok Tok)) → AllCook conditions.expander (flat_map argument_literals all)
-      → AllByRecursion (λ (k : KeyArgument Tok Tok). new.GivenHasText (token_sight conditions) k.value) (by_key all)
+      → AllByRecursion (λ (k : KeyArgument Tok Tok). GivenHasText (token_sight conditions) k.value) (by_key all)
   key_texts [] a = tt
   key_texts (tree.Positional first value ∷ all) a = key_texts all (then_cook conditions.expander (expr_literals value) (flat_map argument_literals all) a)
   key_texts (tree.Bare key ∷ all) a = ((λ e is. cc), key_texts all a)
@@ -231,8 +231,8 @@ module _ (conditions : Conditions) (Hit : Option SignificantToken → Type 0) wh
   have_texts : (all : List (Argument Tok Tok)) → AllCook conditions.expander (flat_map argument_literals all)
       → HasTexts (token_sight conditions) (by_position all) (by_key all)
   have_texts all a = record {
-    values = All-from_recursion (λ (p : Placed Tok Tok). new.HasText (token_sight conditions) p.value) (by_position all) (placed_texts all a);
-    given = All-from_recursion (λ (k : KeyArgument Tok Tok). new.GivenHasText (token_sight conditions) k.value) (by_key all) (key_texts all a);
+    values = All-from_recursion (λ (p : Placed Tok Tok). HasText (token_sight conditions) p.value) (by_position all) (placed_texts all a);
+    given = All-from_recursion (λ (k : KeyArgument Tok Tok). GivenHasText (token_sight conditions) k.value) (by_key all) (key_texts all a);
   }
 
   -- ---- an attribute

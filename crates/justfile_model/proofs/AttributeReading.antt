@@ -20,7 +20,7 @@ use Rattle.justfile_model.proofs.ExpressionReading.{advances}
 use Rattle.justfile_model.proofs.ReadingSteps.{ItemRest, Goes, Keeps, Past, accepts, after_test, after_then, bind_alike, choose_alike, either, either_goes, expects, first, goes_after, keeps, past, past_then, then, there, weaken}
 use Rattle.justfile_model.proofs.Turns.{below_smaller, recursive_is, recursive_keeps}
 
-module _ {R T A B S D W : Type 0} (leaves : Leaves R T A B S D) (sight : R → Sight A B) (keep : WrittenAttribute A B → Entry A B → W) (entry_in : W → Entry A B)
+module _ {R T A B S W : Type 0} (leaves : Leaves R T A B S) (sight : R → Sight A B) (keep : WrittenAttribute A B → Entry A B → W) (entry_in : W → Entry A B)
   where
     abbrev ReadArgument : Type 0
     ReadArgument = Read R T B (Argument A B)

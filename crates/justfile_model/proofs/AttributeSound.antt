@@ -20,13 +20,13 @@ use Rattle.justfile_model.specs.Features.{Noted}
 use Rattle.justfile_model.specs.Files.{argument_literals, expr_literals, optional_literals, written_literals}
 use Rattle.justfile_model.specs.Meaning.{KeyArgument, all_of, attribute_of, by_key, by_position, entry_of}
 use Rattle.justfile_model.specs.NewAttribute.{Made, new_entry}
-use Rattle.justfile_model.specs.ReadAttribute.{ReadAttribute, entry_read, read_attributes, token_sight}
+use Rattle.justfile_model.specs.ReadAttribute.{ReadAttribute, entry_read, token_sight}
 use Rattle.justfile_model.specs.Reading.{◌>>=◌, at, expect}
 use Rattle.justfile_model.specs.SignificantTokens.{SignificantToken}
 use Rattle.justfile_model.specs.Tok.{Tok}
 use Rattle.justfile_model.specs.Tree as tree
 use Rattle.justfile_model.specs.Tree.{Argument, Entry, Expr, WrittenAttribute, itself}
-use Rattle.justfile_model.specs.TreeReader.{Read, Refusal, State, token_leaves}
+use Rattle.justfile_model.specs.TreeReader.{Read, Refusal, State, token_leaves, read_attributes}
 use Rattle.justfile_model.proofs.AttributeSteps.{AllMade, Follow, Follows, IsNew, key_is_next, key_taken, keys_append, none, more, none_broken, made_append, made_mean, none_follow, one_follows}
 use Rattle.justfile_model.proofs.CookedTexts.{AllCook}
 use Rattle.justfile_model.proofs.ExpressionSound as e
@@ -41,6 +41,14 @@ use Rattle.justfile_model.proofs.Turns.{recursive_keeps}
 -- an argument of an attribute with what is left
 abbrev ReadArgument : Type 0
 ReadArgument = Argument Tok Tok × State
+
+-- what the attributes that were read mean, and how they are written
+
+abbrev pub entries_in : List ReadAttribute → List (Entry Tok Tok)
+entries_in = map entry_read
+
+abbrev pub written_in : List ReadAttribute → List (WrittenAttribute Tok Tok)
+written_in = map (λ (x : ReadAttribute). x.written)
 
 true_not_false : (b : Bool) → b ≡ true → b ≡ false → ⊥
 true_not_false b h k = cc
@@ -360,12 +368,6 @@ unfolding expect
 expected s P fails goes = after_choose kinds.Eol s _ _ P (λ _. fails _) goes
 
 module _ (conditions : Conditions) where
-  abbrev entries_in : List ReadAttribute → List (Entry Tok Tok)
-  entries_in = map entry_read
-
-  abbrev written_in : List ReadAttribute → List (WrittenAttribute Tok Tok)
-  written_in = map (λ (x : ReadAttribute). x.written)
-
   -- ---- an attribute after others
 
   -- an attribute that breaks no rule after these, with its meaning

@@ -2,13 +2,15 @@
 use Rattle.std.proofs.Common.{◌≡◌, ℕ, false, List, [], ◌∷◌, ◌++◌, map, Option, Some, refl, sym, subst, ap, ◌∙◌}
 use Rattle.std.specs.Str.{trim_end}
 use Rattle.justfile_base.specs.declared.token_kind.TokenKind.{TokenKind}
+use Rattle.justfile_model.specs.AttributeLines.{AttributeLines}
 use Rattle.justfile_model.specs.SignificantTokens.{SignificantToken}
 use Rattle.justfile_model.specs.Tree as tree
-use Rattle.justfile_model.specs.Tree.{Expr, Fragment, BodyLine, Line, Content, Construct, WrittenItem, line_before, plain_assignment, plain_recipe, trimmed, over_expr, over_fragment, over_line, over_written_attribute, over_content, over_item}
+use Rattle.justfile_model.specs.Tree.{Expr, Fragment, BodyLine, Line, Content, Construct, WrittenAttribute, WrittenItem, line_before, plain_assignment, plain_recipe, trimmed, over_expr, over_fragment, over_line, over_written_attribute, over_content, over_item}
 use Rattle.justfile_model.specs.Features.{Noted, over_noted}
 use Rattle.justfile_model.specs.Expressions.{Tokens, front, IsKind, Expression}
 use Rattle.justfile_model.specs.Grammar as g
 use Rattle.justfile_model.specs.Grammar.{Kept, LineRest, BeforeBody, NotEmpty, BodyLines, OnLine, Block, Items, ItemRest, LineEnd, File}
+use Rattle.justfile_model.proofs.CarryAttributes.{attribute_lines}
 use Rattle.justfile_model.proofs.CarryExpressions as expressions
 use Rattle.justfile_model.proofs.CarryExpressions.{Same, Pairs, nil, cons, first, same_kind_of, both_alike, Carried}
 
@@ -93,6 +95,12 @@ module _ {A B C S A' B' C' S' D E F G : Type 0} (kept : Kept A B C S) (Open : �
       → map (over_noted m'.spot) (fs' ++ gs') ≡ map (over_noted m.spot) (fs ++ gs)
   both = both_alike (over_noted m.spot) (over_noted m'.spot)
 
+  -- and of three
+  three : (gs cs fs : List (Noted B)) (gs' cs' fs' : List (Noted B')) → map (over_noted m'.spot) gs' ≡ map (over_noted m.spot) gs
+      → map (over_noted m'.spot) cs' ≡ map (over_noted m.spot) cs → map (over_noted m'.spot) fs' ≡ map (over_noted m.spot) fs
+      → map (over_noted m'.spot) (gs' ++ cs' ++ fs') ≡ map (over_noted m.spot) (gs ++ cs ++ fs)
+  three gs cs fs gs' cs' fs' e k l = both (gs ++ cs) fs (gs' ++ cs') fs' (both gs cs gs' cs' e k) l
+
   abbrev FragmentsOf : (List (Fragment A' B') → List (Noted B') → Tokens → Type 0) → List (Fragment A B) → List (Noted B) → Tokens → Type 0
   FragmentsOf R fragments fs rest = Carried Rel (map (over_fragment m.leaf m.spot)) (map (over_fragment m'.leaf m'.spot)) m.spot m'.spot R fragments fs rest
 
@@ -108,6 +116,13 @@ module _ {A B C S A' B' C' S' D E F G : Type 0} (kept : Kept A B C S) (Open : �
   expression : {e : Expr A B} {fs : List (Noted B)} {ts rest : Tokens} → Expression kept.leaf kept.spot Open false 0 e fs ts rest → (us : Tokens) → Pairs Rel ts us
       → Carried Rel (over_expr m.leaf m.spot) (over_expr m'.leaf m'.spot) m.spot m'.spot (λ x n r. Expression kept'.leaf kept'.spot Open' false 0 x n us r) e fs rest
   expression e us s = expressions.expression kept.leaf kept.spot Open Rel weak kept'.leaf kept'.spot Open' m.leaf m.spot m'.leaf m'.spot kept_alike.leaves kept_alike.spots opens e us s
+
+  attributes : {ws : List (WrittenAttribute A B)} {fs : List (Noted B)} {ts rest : Tokens} → AttributeLines kept.leaf kept.spot Open ws fs ts rest
+      → (us : Tokens) → Pairs Rel ts us
+      → Carried Rel (map (over_written_attribute m.leaf m.spot)) (map (over_written_attribute m'.leaf m'.spot)) m.spot m'.spot
+      (λ x n r. AttributeLines kept'.leaf kept'.spot Open' x n us r) ws fs rest
+  attributes a us s =
+      attribute_lines kept.leaf kept.spot Open Rel weak kept'.leaf kept'.spot Open' m.leaf m.spot m'.leaf m'.spot kept_alike.leaves kept_alike.spots opens a us s
 
   pub line_rest : {fragments : List (Fragment A B)} {fs : List (Noted B)} {ts rest : Tokens} → LineRest kept.leaf kept.spot Open fragments fs ts rest → (us : Tokens) → Pairs Rel ts us → FragmentsOf (λ x n r. LineRest kept'.leaf kept'.spot Open' x n us r) fragments fs rest
   line_rest (g.line_ends kind) us (cons s ss) = record { tree = []; features = []; after = _; derives = g.line_ends (kind_of s kind); alike = refl; noted_alike = refl; same = ss }
@@ -229,25 +244,27 @@ module _ {A B C S A' B' C' S' D E F G : Type 0} (kept : Kept A B C S) (Open : �
     items (g.comment {token = t} kind b) us (cons {u = u} s ss) =
         let x = following b _ ss in
         record { tree = tree.Comment (trim_end u.tok.lexeme) ∷ x.tree; features = x.features; derives = g.comment (kind_of s kind) x.derives; alike = λ i. tree.Comment (comment_of t u s i) ∷ x.alike i; noted_alike = x.noted_alike }
-    items (g.on_line {cs = cs} {fs = fs} o b) us s =
-        let x = on_line o us s in
+    items (g.on_line {gs = gs} {cs = cs} {fs = fs} a o b) us s =
+        let w = attributes a us s in
+        let x = on_line o w.after w.same in
         let y = following b x.after x.same in
         record {
-          tree = Construct [] x.tree ∷ y.tree;
-          features = x.features ++ y.features;
-          derives = g.on_line x.derives y.derives;
-          alike = λ i. Construct [] (x.alike i) ∷ y.alike i;
-          noted_alike = both cs fs x.features y.features x.noted_alike y.noted_alike;
+          tree = Construct w.tree x.tree ∷ y.tree;
+          features = w.features ++ x.features ++ y.features;
+          derives = g.on_line w.derives x.derives y.derives;
+          alike = λ i. Construct (w.alike i) (x.alike i) ∷ y.alike i;
+          noted_alike = three gs cs fs w.features x.features y.features w.noted_alike x.noted_alike y.noted_alike;
         }
-    items (g.block {cs = cs} {fs = fs} b more) us s =
-        let x = block b us s in
+    items (g.block {gs = gs} {cs = cs} {fs = fs} a b more) us s =
+        let w = attributes a us s in
+        let x = block b w.after w.same in
         let y = items more x.after x.same in
         record {
-          tree = Construct [] x.tree ∷ tree.Newline ∷ y.tree;
-          features = x.features ++ y.features;
-          derives = g.block x.derives y.derives;
-          alike = λ i. Construct [] (x.alike i) ∷ tree.Newline ∷ y.alike i;
-          noted_alike = both cs fs x.features y.features x.noted_alike y.noted_alike;
+          tree = Construct w.tree x.tree ∷ tree.Newline ∷ y.tree;
+          features = w.features ++ x.features ++ y.features;
+          derives = g.block w.derives x.derives y.derives;
+          alike = λ i. Construct (w.alike i) (x.alike i) ∷ tree.Newline ∷ y.alike i;
+          noted_alike = three gs cs fs w.features x.features y.features w.noted_alike x.noted_alike y.noted_alike;
         }
 
     pub following : {all : List (WrittenItem A B C S)} {fs : List (Noted B)} {ts : Tokens} → ItemRest kept Open all fs ts → (us : Tokens) → Pairs Rel ts us → ItemsOf (λ x n. ItemRest kept' Open' x n us) all fs

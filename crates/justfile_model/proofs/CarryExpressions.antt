@@ -37,7 +37,7 @@ first (cons s ss) = record { partner = _; more = _; is = refl; related = s; othe
 
 -- ---- what is said of single tokens
 
-turned : {t u : SignificantToken} → Same t u → Same u t
+pub turned : {t u : SignificantToken} → Same t u → Same u t
 turned s = record { kind = sym s.kind; lexeme = sym s.lexeme; glued = sym s.glued }
 
 pub same_kind_of : {kind : TokenKind} {t u : SignificantToken} → Same t u → IsKind kind t → IsKind kind u
@@ -50,7 +50,7 @@ same_word_of s w = record { is_name = sym s.kind ∙ w.is_name; spelled = sym s.
 word_before : {word : List ℕ} {t u : SignificantToken} → Same t u → IsWord word u → IsWord word t
 word_before s w = same_word_of (turned s) w
 
-same_marked_of : {word : List ℕ} {kind : TokenKind} {m n t u : SignificantToken} → Same m n → Same t u → IsMarked word kind m t → IsMarked word kind n u
+pub same_marked_of : {word : List ℕ} {kind : TokenKind} {m n t u : SignificantToken} → Same m n → Same t u → IsMarked word kind m t → IsMarked word kind n u
 same_marked_of m s h = record { marks = same_word_of m h.marks; is_string = sym s.kind ∙ h.is_string; glued = sym s.glued ∙ h.glued }
 
 -- ---- features over other tokens
@@ -92,19 +92,19 @@ pub record Carried {X X' Y B B' D : Type 0} (Rel : SignificantToken → Signific
   pub same : Pairs Rel rest after
 
 -- what is derived before a token is derived before a like token
-record Until {X X' Y B B' D : Type 0} (Rel : SignificantToken → SignificantToken → Type 0) (m : X → Y) (m' : X' → Y) (h : B → D) (h' : B' → D)
+pub record Until {X X' Y B B' D : Type 0} (Rel : SignificantToken → SignificantToken → Type 0) (m : X → Y) (m' : X' → Y) (h : B → D) (h' : B' → D)
     (R : X' → List (Noted B') → Tokens → Type 0) (e : X) (fs : List (Noted B)) (t : SignificantToken) (rest : Tokens) : Type 0 where
-  tree : X'
-  features : List (Noted B')
-  partner : SignificantToken
-  after : Tokens
-  derives : R tree features (partner ∷ after)
-  alike : m' tree ≡ m e
-  noted_alike : map (over_noted h') features ≡ map (over_noted h) fs
-  related : Rel t partner
-  same : Pairs Rel rest after
+  pub tree : X'
+  pub features : List (Noted B')
+  pub partner : SignificantToken
+  pub after : Tokens
+  pub derives : R tree features (partner ∷ after)
+  pub alike : m' tree ≡ m e
+  pub noted_alike : map (over_noted h') features ≡ map (over_noted h) fs
+  pub related : Rel t partner
+  pub same : Pairs Rel rest after
 
-until : {X X' Y B B' D : Type 0} {Rel : SignificantToken → SignificantToken → Type 0} {m : X → Y} {m' : X' → Y} {h : B → D} {h' : B' → D}
+pub until : {X X' Y B B' D : Type 0} {Rel : SignificantToken → SignificantToken → Type 0} {m : X → Y} {m' : X' → Y} {h : B → D} {h' : B' → D}
     {R : X' → List (Noted B') → Tokens → Type 0} {e : X} {fs : List (Noted B)} {t : SignificantToken} {rest : Tokens}
     → Carried Rel m m' h h' R e fs (t ∷ rest) → Until Rel m m' h h' R e fs t rest
 until {R = R} x =

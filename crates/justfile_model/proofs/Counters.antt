@@ -2,7 +2,8 @@
 use Rattle.std.proofs.Common.{◌≡◌, ℕ, ◌+◌, Bool, true, false, cond, List, [], ◌∷◌, ◌++◌, length, Some, None, Ok, Err, IfOk, refl, sym, ap, ◌∙◌, arith}
 use Rattle.justfile_base.specs.declared.token_kind.TokenKind.TheVariants as kinds
 use Rattle.justfile_model.specs.Files.{bindings, item_bindings, item_recipes, recipes}
-use Rattle.justfile_model.specs.Reader.{Start, after_numbered, assigned, assignment, at_end, item_rest, optional_body, draw_binding, draw_recipe, ended, expression, has_body, headed, items, items_from, items_rule, line, line_end, end_of_tokens, on_line, recipe, no_items, with_bindings, with_recipes}
+use Rattle.justfile_model.specs.AttributeReader.{AttributeLeaves}
+use Rattle.justfile_model.specs.Reader.{Start, after_numbered, allowed, assigned, assignment, at_end, attributes, construct, content, defined, item_rest, optional_body, draw_binding, draw_recipe, ended, expression, has_body, headed, items, items_from, items_rule, line, line_end, end_of_tokens, on_line, recipe, no_items, with_bindings, with_recipes}
 use Rattle.justfile_model.specs.Reading.{Counters, ◌>>=◌, Leaves, NoNumber, Read, State, Taken, accept, choose, expect, next_are}
 use Rattle.justfile_model.specs.Tree as tree
 use Rattle.justfile_model.specs.Tree.{BodyLine, Construct, Content, Expr, Item, Parameter}
@@ -77,7 +78,7 @@ counted_constants n (i ∷ is) = counted_constants (count n i) is ∙ count_cons
 
 -- ---- what is read
 
-module _ {R T A B S D : Type 0} (leaves : Leaves R T A B S D) where
+module _ {R T A B S D W : Type 0} (leaves : Leaves R T A B S) (kept : AttributeLeaves R A B D W) where
   abbrev pub ItemCounted : Counters → Read R T B (Item A B ℕ S D × Counters) → Type 0
   ItemCounted n found = IfOk found (λ x. x.0.1 ≡ count n x.0.0)
 
@@ -96,83 +97,95 @@ module _ {R T A B S D : Type 0} (leaves : Leaves R T A B S D) where
   after_choice None x f Q h g = h
   after_choice (Some p) x f Q h g = g p
 
-  binding_counted : (n : Counters) (s : State R T B) (name : T) (value : Expr A B) → ItemCounted n (draw_binding leaves n s >>= assigned leaves name value)
+  binding_counted : (ws : List W) (n : Counters) (s : State R T B) (name : T) (value : Expr A B)
+      → ItemCounted n (draw_binding leaves n s >>= assigned leaves kept ws name value)
   unfolding draw_binding
-  binding_counted n s name value = go (leaves.has_number n.bindings)
+  binding_counted ws n s name value = go (leaves.has_number n.bindings)
     where
-      go : (b : Bool) → ItemCounted n (cond b (Ok ((n.bindings, with_bindings (n.bindings + 1) n), s)) (Err (NoNumber n)) >>= assigned leaves name value)
+      go : (b : Bool)
+          → ItemCounted n (cond b (Ok ((n.bindings, with_bindings (n.bindings + 1) n), s)) (Err (NoNumber n)) >>= assigned leaves kept ws name value)
       go true = refl
       go false = tt
 
-  recipe_counted : (n : Counters) (s : State R T B) (name : T) (body : List (BodyLine A B ℕ)) → ItemCounted n (draw_recipe leaves n s >>= headed leaves name body)
+  recipe_counted : (ws : List W) (n : Counters) (s : State R T B) (name : T) (body : List (BodyLine A B ℕ))
+      → ItemCounted n (draw_recipe leaves n s >>= headed leaves kept ws name body)
   unfolding draw_recipe
-  recipe_counted n s name body = go (leaves.has_number n.recipes)
+  recipe_counted ws n s name body = go (leaves.has_number n.recipes)
     where
-      go : (b : Bool) → ItemCounted n (cond b (Ok ((n.recipes, with_recipes (n.recipes + 1) n), s)) (Err (NoNumber n)) >>= headed leaves name body)
+      go : (b : Bool) → ItemCounted n (cond b (Ok ((n.recipes, with_recipes (n.recipes + 1) n), s)) (Err (NoNumber n)) >>= headed leaves kept ws name body)
       go true = refl
       go false = tt
 
-  pub assignment_counts : (n : Counters) (s : State R T B) → ItemCounted n (assignment leaves n s)
+  pub assignment_counts : (ws : List W) (n : Counters) (s : State R T B) → ItemCounted n (assignment leaves kept ws n s)
   unfolding assignment
-  assignment_counts n s =
+  assignment_counts ws n s =
       let Q : Item A B ℕ S D × Counters → Type 0 = λ x. x.1 ≡ count n x.0 in
-      after_all (expect leaves kinds.Identifier s) _ Q (λ name _. after_all (expect leaves kinds.ColonEquals name.1) _ Q (λ operator _. after_all (expression leaves operator.1) _ Q (λ e _. binding_counted n e.1 name.0 e.0)))
+      after_all (expect leaves kinds.Identifier s) _ Q (λ name _. after_all (expect leaves kinds.ColonEquals name.1) _ Q (λ operator _.
+      after_all (expression leaves operator.1) _ Q (λ e _. after_all (allowed leaves kept ws name.0 e.1) _ Q (λ checked _.
+      binding_counted ws n checked.1 name.0 e.0))))
 
-  pub recipe_counts : (n : Counters) (s : State R T B) → ItemCounted n (recipe leaves n s)
+  pub recipe_counts : (ws : List W) (n : Counters) (s : State R T B) → ItemCounted n (recipe leaves kept ws n s)
   unfolding recipe
-  recipe_counts n s =
+  recipe_counts ws n s =
       let Q : Item A B ℕ S D × Counters → Type 0 = λ x. x.1 ≡ count n x.0 in
-      after_all (expect leaves kinds.Identifier s) _ Q (λ name _. after_all (expect leaves kinds.Colon name.1) _ Q (λ colon _. after_all (optional_body leaves colon.1) _ Q (λ b _. recipe_counted n b.1 name.0 b.0)))
+      after_all (expect leaves kinds.Identifier s) _ Q (λ name _. after_all (expect leaves kinds.Colon name.1) _ Q (λ colon _.
+      after_all (defined leaves kept ws colon.1) _ Q (λ checked _. after_all (optional_body leaves checked.1) _ Q (λ b _.
+      recipe_counted ws n b.1 name.0 b.0))))
 
-  pub on_line_counts : (n : Counters) (s : State R T B) → ItemCounted n (on_line leaves n s)
+  pub construct_counts : (n : Counters) (s : State R T B) → ItemCounted n (construct leaves kept n s)
+  unfolding construct content
+  construct_counts n s =
+      let Q : Item A B ℕ S D × Counters → Type 0 = λ x. x.1 ≡ count n x.0 in
+      after_all (attributes leaves kept s) _ Q (λ ws _. after_test (next_are leaves (kinds.Identifier ∷ kinds.ColonEquals ∷ []) ws.1) _ _ (ItemCounted n)
+      (λ _. assignment_counts ws.0 n ws.1) (λ _. recipe_counts ws.0 n ws.1))
+
+  pub on_line_counts : (n : Counters) (s : State R T B) → ItemCounted n (on_line leaves kept n s)
   unfolding on_line
   on_line_counts n s =
       let Q : Item A B ℕ S D × Counters → Type 0 = λ x. x.1 ≡ count n x.0 in
-      after_choice (accept leaves kinds.Comment s) _ _ Q
-      (after_test (next_are leaves (kinds.Identifier ∷ kinds.ColonEquals ∷ []) s) _ _ (ItemCounted n) (λ _. assignment_counts n s) (λ _. recipe_counts n s))
-      (λ c. refl)
+      after_choice (accept leaves kinds.Comment s) _ _ Q (construct_counts n s) (λ c. refl)
 
-  pub line_end_counts : (s : State R T B) → Uncounted (line_end leaves s)
+  pub line_end_counts : (s : State R T B) → Uncounted (line_end leaves kept s)
   unfolding line_end
   line_end_counts s =
       let Q : List (Item A B ℕ S D) → Type 0 = λ x. (n : Counters) → counted n x ≡ n in
       after_choice (accept leaves kinds.Eof s) _ _ Q (after_all (expect leaves kinds.Eol s) _ Q (λ newline _ n. refl)) (λ x n. refl)
 
-  pub item_rest_counts : (s : State R T B) → Uncounted (item_rest leaves s)
+  pub item_rest_counts : (s : State R T B) → Uncounted (item_rest leaves kept s)
   unfolding item_rest
   item_rest_counts s =
       let Q : List (Item A B ℕ S D) → Type 0 = λ x. (n : Counters) → counted n x ≡ n in
       after_choice (accept leaves kinds.Comment s) _ _ Q (line_end_counts s)
-      (λ c. after_all (line_end leaves c.1) _ Q (λ end is. known end (λ x. Q x.0) is (line_end_counts c.1)))
+      (λ c. after_all (line_end leaves kept c.1) _ Q (λ end is. known end (λ x. Q x.0) is (line_end_counts c.1)))
 
-  pub ended_counts : (b : Bool) (s : State R T B) → Uncounted (ended leaves b s)
+  pub ended_counts : (b : Bool) (s : State R T B) → Uncounted (ended leaves kept b s)
   unfolding ended
   ended_counts b s = after_test b _ _ Uncounted (λ _ n. refl) (λ _. item_rest_counts s)
 
-  pub line_counts : (n : Counters) (s : State R T B) → Counted n (line leaves n s)
+  pub line_counts : (n : Counters) (s : State R T B) → Counted n (line leaves kept n s)
   unfolding line
   line_counts n s =
       let Q : List (Item A B ℕ S D) × Counters → Type 0 = λ x. x.1 ≡ counted n x.0 in
       after_choice (accept leaves kinds.Eol s) _ _ Q
-      (after_all (on_line leaves n s) _ Q (λ i is. after_all (ended leaves (has_body i.0.0) i.1) _ Q (λ b is2.
+      (after_all (on_line leaves kept n s) _ Q (λ i is. after_all (ended leaves kept (has_body i.0.0) i.1) _ Q (λ b is2.
       known i (λ x. x.0.1 ≡ count n x.0.0) is (on_line_counts n s) ∙ sym (known b (λ x. (n : Counters) → counted n x.0 ≡ n) is2 (ended_counts (has_body i.0.0) i.1) (count n i.0.0)))))
       (λ newline. refl)
 
-  end_counts : (n : Counters) (s : State R T B) (l : List T) → Counted n (end_of_tokens leaves n s l)
+  end_counts : (n : Counters) (s : State R T B) (l : List T) → Counted n (end_of_tokens leaves kept n s l)
   end_counts n s [] = refl
   end_counts n s (t ∷ ts) = tt
 
-  rule_counts : (f : Start leaves → Read R T B (List (Item A B ℕ S D) × Counters)) → ((x : Start leaves) → Counted x.0 (f x)) → (x : Start leaves) → Counted x.0 (items_rule leaves f x)
+  rule_counts : (f : Start leaves kept → Read R T B (List (Item A B ℕ S D) × Counters)) → ((x : Start leaves kept) → Counted x.0 (f x)) → (x : Start leaves kept) → Counted x.0 (items_rule leaves kept f x)
   unfolding items_rule after_numbered at_end
   rule_counts f h x =
       let Q : List (Item A B ℕ S D) × Counters → Type 0 = λ y. y.1 ≡ counted x.0 y.0 in
       after_choice (accept leaves kinds.Eof x.1) _ _ Q
-      (after_all (line leaves x.0 x.1) _ Q (λ l is. after_all (f (l.0.1, l.1)) _ Q (λ more is2.
+      (after_all (line leaves kept x.0 x.1) _ Q (λ l is. after_all (f (l.0.1, l.1)) _ Q (λ more is2.
       known more (λ y. y.0.1 ≡ counted l.0.1 y.0.0) is2 (h (l.0.1, l.1))
       ∙ ap (λ n. counted n more.0.0) (known l (λ y. y.0.1 ≡ counted x.0 y.0.0) is (line_counts x.0 x.1))
       ∙ sym (counted_both x.0 l.0.0 more.0.0))))
       (λ end. end_counts x.0 end.1 end.1.left)
 
-  pub items_count : (n : Counters) (s : State R T B) → Counted n (items leaves n s)
+  pub items_count : (n : Counters) (s : State R T B) → Counted n (items leaves kept n s)
   unfolding items_from
-  items_count n s = recursive_keeps (λ x. length x.1.left) (no_items leaves) (items_rule leaves) (λ x found. Counted x.0 found) (λ x. tt) rule_counts (n, s)
+  items_count n s = recursive_keeps (λ x. length x.1.left) (no_items leaves kept) (items_rule leaves kept) (λ x found. Counted x.0 found) (λ x. tt) rule_counts (n, s)

@@ -13,7 +13,8 @@ use Rattle.justfile_model.specs.Conditions.{Conditions}
 use Rattle.justfile_model.specs.Files.{content_bindings, bindings, content_recipes, recipes, keeps_tokens}
 use Rattle.justfile_model.specs.Reading.{Counters}
 use Rattle.justfile_model.specs.Reader.{items}
-use Rattle.justfile_model.specs.TreeReader.{State, tree_of_tokens, token_leaves}
+use Rattle.justfile_model.specs.TreeReader.{State, tree_of_tokens, token_attributes, token_leaves}
+use Rattle.justfile_model.proofs.AttributeProgress.{attribute_lines_count}
 use Rattle.justfile_model.proofs.Counters.{counted, counted_bindings, counted_constants, counted_recipes, items_count}
 use Rattle.justfile_model.proofs.ExpressionProgress.{expression_counts}
 use Rattle.justfile_model.proofs.ReadingSteps.{known}
@@ -62,8 +63,8 @@ module _ {A B C S : Type 0} (kept : Kept A B C S) (Open : ℕ → Option Signifi
     all_count (g.end kind) = omega arith
     all_count (g.blank kind h) = omega (arith, all_count h)
     all_count (g.comment kind h) = omega (arith, item_rest_counts h)
-    all_count (g.on_line o b) = omega (arith, on_line_counts o, item_rest_counts b)
-    all_count (g.block o h) = omega (arith, block_counts o, all_count h)
+    all_count (g.on_line a o b) = omega (arith, attribute_lines_count kept.leaf kept.spot Open a, on_line_counts o, item_rest_counts b)
+    all_count (g.block a o h) = omega (arith, attribute_lines_count kept.leaf kept.spot Open a, block_counts o, all_count h)
 
     item_rest_counts : {all : List (WrittenItem A B C S)} {fs : List (Noted B)} {ts : Tokens} → ItemRest kept Open all fs ts → bindings all + recipes all ≤ identifiers ts
     item_rest_counts (g.trailing kind e) = omega (arith, line_end_counts e)
@@ -85,11 +86,11 @@ file_numbers conditions ts x is = file_counts keeps_tokens (Under conditions.lim
 
 -- counters grow by what the tree holds
 
-pub items_bindings : (n : Counters) (s : State) (x : (WrittenTree × Counters) × State) → items token_leaves n s ≡ Ok x → x.0.1.bindings ≡ n.bindings + bindings x.0.0
-items_bindings n s x is = ap (λ (m : Counters). m.bindings) (known x (λ x. x.0.1 ≡ counted n x.0.0) is (items_count token_leaves n s)) ∙ counted_bindings n x.0.0
+pub items_bindings : (n : Counters) (s : State) (x : (WrittenTree × Counters) × State) → items token_leaves token_attributes n s ≡ Ok x → x.0.1.bindings ≡ n.bindings + bindings x.0.0
+items_bindings n s x is = ap (λ (m : Counters). m.bindings) (known x (λ x. x.0.1 ≡ counted n x.0.0) is (items_count token_leaves token_attributes n s)) ∙ counted_bindings n x.0.0
 
-pub items_recipes : (n : Counters) (s : State) (x : (WrittenTree × Counters) × State) → items token_leaves n s ≡ Ok x → x.0.1.recipes ≡ n.recipes + recipes x.0.0
-items_recipes n s x is = ap (λ (m : Counters). m.recipes) (known x (λ x. x.0.1 ≡ counted n x.0.0) is (items_count token_leaves n s)) ∙ counted_recipes n x.0.0
+pub items_recipes : (n : Counters) (s : State) (x : (WrittenTree × Counters) × State) → items token_leaves token_attributes n s ≡ Ok x → x.0.1.recipes ≡ n.recipes + recipes x.0.0
+items_recipes n s x is = ap (λ (m : Counters). m.recipes) (known x (λ x. x.0.1 ≡ counted n x.0.0) is (items_count token_leaves token_attributes n s)) ∙ counted_recipes n x.0.0
 
-pub items_constants : (n : Counters) (s : State) (x : (WrittenTree × Counters) × State) → items token_leaves n s ≡ Ok x → x.0.1.constants ≡ n.constants
-items_constants n s x is = ap (λ (m : Counters). m.constants) (known x (λ x. x.0.1 ≡ counted n x.0.0) is (items_count token_leaves n s)) ∙ counted_constants n x.0.0
+pub items_constants : (n : Counters) (s : State) (x : (WrittenTree × Counters) × State) → items token_leaves token_attributes n s ≡ Ok x → x.0.1.constants ≡ n.constants
+items_constants n s x is = ap (λ (m : Counters). m.constants) (known x (λ x. x.0.1 ≡ counted n x.0.0) is (items_count token_leaves token_attributes n s)) ∙ counted_constants n x.0.0

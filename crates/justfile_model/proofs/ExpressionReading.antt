@@ -41,7 +41,7 @@ few levels.Compared = omega arith
 few levels.Conjunct = omega arith
 few levels.Value = omega arith
 
-module _ {R T A B S D : Type 0} (leaves : Leaves R T A B S D) where
+module _ {R T A B S : Type 0} (leaves : Leaves R T A B S) where
   -- ---- what is left
 
   abbrev pub Advances : (x : Place R T B) → Out leaves x → Type 0

@@ -7,7 +7,7 @@ use Rattle.justfile_model.specs.declared.conditional_operator.ConditionalOperato
 use Rattle.justfile_model.specs.declared.conditional_operator.ConditionalOperator.TheVariants.{Equality, Inequality, RegexMatch, RegexMismatch}
 use Rattle.justfile_model.specs.ConditionalOperator.{operator_sign}
 use Rattle.justfile_model.specs.Tok.{Tok}
-use Rattle.justfile_model.specs.SignificantTokens.{SignificantToken}
+use Rattle.justfile_model.specs.SignificantTokens.{AllSpelled, HasSpelling, SignificantToken, Spelling}
 use Rattle.justfile_model.specs.Features.{Noted}
 use Rattle.justfile_model.specs.Tree as tree
 use Rattle.justfile_model.specs.Tree.{Expr, Exprs, Parts, Argument, WrittenAttribute, itself}
@@ -68,24 +68,6 @@ abbrev pub KindedWritten : List (WrittenAttribute Tok Tok) → Type 0
 KindedWritten ws = AllByRecursion KindedAttribute ws
 
 -- ---- tokens
-
--- a token whose kind has one lexeme has that one, of the kinds that trees keep
-abbrev pub Spelling : TokenKind → List ℕ → Type 0
-Spelling kinds.EqualsEquals lexeme = lexeme ≡ codes "=="
-Spelling kinds.BangEquals lexeme = lexeme ≡ codes "!="
-Spelling kinds.EqualsTilde lexeme = lexeme ≡ codes "=~"
-Spelling kinds.BangTilde lexeme = lexeme ≡ codes "!~"
-Spelling kinds.Plus lexeme = lexeme ≡ codes "+"
-Spelling kinds.PlusPlus lexeme = lexeme ≡ codes "++"
-Spelling kinds.Slash lexeme = lexeme ≡ codes "/"
-Spelling kinds.BracketL lexeme = lexeme ≡ codes "["
-Spelling kind lexeme = Unit {0}
-
-abbrev pub HasSpelling : SignificantToken → Type 0
-HasSpelling t = Spelling t.tok.kind t.tok.lexeme
-
-abbrev pub AllSpelled : Tokens → Type 0
-AllSpelled ts = AllByRecursion HasSpelling ts
 
 compared_sign : (by : ConditionalOperator) (lexeme : List ℕ) → Spelling (operator_kind by) lexeme → lexeme ≡ operator_sign by
 compared_sign Equality lexeme h = h

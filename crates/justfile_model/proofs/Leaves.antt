@@ -4,7 +4,8 @@ use Rattle.std.specs.List.{flat_map}
 use Rattle.std.specs.Option.{option_map}
 use Rattle.std.proofs.lemmas.List.{map-append}
 use Rattle.justfile_model.specs.Tok.{Tok}
-use Rattle.justfile_model.specs.SignificantTokens.{SignificantToken}
+use Rattle.justfile_model.specs.Sight.{sees_lexemes}
+use Rattle.justfile_model.specs.SignificantTokens.{AllSpelled, SignificantToken}
 use Rattle.justfile_model.specs.Conditions.{Conditions}
 use Rattle.justfile_model.specs.Tree as tree
 use Rattle.justfile_model.specs.Tree.{Expr, Exprs, Parts, Fragment, BodyLine, Line, Quoted, Argument, WrittenAttribute, OptionName, Property, ArgumentRules, Attribute, Entry, Parameter, DependencyArgument, Dependency, Header, AssignmentParts, Content, Item, WrittenItem, WrittenTree, WrittenShape, Tree, Shape, over_expr, over_exprs, over_parts, over_fragment, over_argument, over_written_attribute, over_entry, over_quoted, over_option, over_property, over_rules, over_attribute, over_parameter, over_assignment, over_line, over_dependency_argument, over_dependency, over_header, over_content, over_item, lexeme, nothing, shape_of, written_shape_of}
@@ -13,12 +14,13 @@ use Rattle.justfile_model.specs.Expressions.{Tokens, front, Under}
 use Rattle.justfile_model.specs.Grammar.{File}
 use Rattle.justfile_model.specs.Literals as literal
 use Rattle.justfile_model.specs.Literals.{Literal, over_literal, AreCookedTexts}
-use Rattle.justfile_model.specs.Files.{expr_literals, exprs_literals, parts_literals, fragments_literals, body_literals, optional_literals, argument_literals, written_literals, entries_literals, parameter_literals, dependency_literals, header_literals, content_literals, item_literals, items_literals, all_literals, literals, ordered, keeps_tokens, keeps_lexemes, Obeys, FileDerives, ShapeDerives, quoted_literals, option_literals, rules_literals, attribute_literals}
+use Rattle.justfile_model.specs.Files.{expr_literals, exprs_literals, parts_literals, fragments_literals, body_literals, optional_literals, argument_literals, written_literals, entries_literals, parameter_literals, dependency_literals, header_literals, content_literals, item_literals, items_literals, all_literals, literals, broken, ordered, keeps_tokens, keeps_lexemes, Obeys, FileDerives, ShapeDerives, quoted_literals, option_literals, rules_literals, attribute_literals}
 use Rattle.justfile_model.proofs.CarryExpressions.{Same, Pairs, nil, cons}
 use Rattle.justfile_model.proofs.Carry as c
 use Rattle.justfile_model.proofs.Carry.{Maps, over_items, Alike}
 use Rattle.justfile_model.proofs.Mapped.{map_same, option_same, flat_mapped}
-use Rattle.justfile_model.proofs.Ordered.{shape_ordered, tree_ordered}
+use Rattle.justfile_model.proofs.KindedFiles.{file_kinded}
+use Rattle.justfile_model.proofs.Ordered.{shape_ordered, shape_unbroken, tree_ordered, tree_unbroken}
 
 abbrev pub same_leaf : {A : Type 0} → A → A
 same_leaf x = x
@@ -323,26 +325,28 @@ elsewhere limit {shape} {fs} {ts} {us} h s =
 
 -- ---- files
 
-module _ (conditions : Conditions) (tokens : Tokens) where
+module _ (conditions : Conditions) (tokens : Tokens) (spelled : AllSpelled tokens) where
   pub file_forgets : (all : Tree) (fs : List (Noted Tok)) → FileDerives conditions tokens all fs → ShapeDerives conditions tokens (shape_of all) (map (over_noted nothing) fs)
   file_forgets all fs h = record {
     written = written_shape_of h.written;
     derives = forget _ h.derives;
     cooked = h.obeys.cooked;
     cooks = subst (λ l. AreCookedTexts conditions.expander l h.obeys.cooked) (sym (all_lexemes h.written)) h.obeys.cooks;
-    unbroken = refl;
-    ordered_is = shape_ordered h.written all h.ordered_is;
+    unbroken = shape_unbroken conditions.expander h.written (file_kinded (Under conditions.limit) h.derives spelled) h.obeys.unbroken;
+    ordered_is = shape_ordered conditions.expander h.written all (file_kinded (Under conditions.limit) h.derives spelled) h.ordered_is;
   }
 
   pub file_lifts : (shape : Shape) (fs : List (Noted (Unit {0}))) → ShapeDerives conditions tokens shape fs
       → (all : Tree) × (features : List (Noted Tok)) × FileDerives conditions tokens all features × (shape_of all ≡ shape) × (map (over_noted nothing) features ≡ fs)
   file_lifts shape fs h =
       let x = lift _ h.derives in
-      let t = tree_ordered x.tree shape (ap ordered x.alike ∙ h.ordered_is) in
+      let kinded = file_kinded (Under conditions.limit) x.derives spelled in
+      let sight = sees_lexemes conditions.expander in
+      let t = tree_ordered conditions.expander x.tree shape kinded (ap (ordered sight) x.alike ∙ h.ordered_is) in
       let obeys : Obeys conditions x.tree = record {
         cooked = h.cooked;
         cooks = subst (λ l. AreCookedTexts conditions.expander l h.cooked) (ap all_literals (sym x.alike) ∙ all_lexemes x.tree) h.cooks;
-        unbroken = refl;
+        unbroken = tree_unbroken conditions.expander x.tree kinded (ap (broken sight) x.alike ∙ h.unbroken);
       } in
       (t.0, x.features, record { written = x.tree; derives = x.derives; obeys = obeys; ordered_is = t.1 }, t.2, x.noted_alike)
 

@@ -24,7 +24,7 @@ use Rattle.justfile_model.proofs.Related.{Alike, AlikeNext, Each, Relations, Res
 use Rattle.justfile_model.proofs.Turns.{both_recur}
 
 -- An attribute is what is made of it as it is written, with the kind of its name, after others.
-pub record IsMade {R T A B S D : Type 0} (leaves : Leaves R T A B S D) (sight : Sight A B) (w : WrittenAttribute A B) (e : Entry A B) : Type 0 where
+pub record IsMade {R T A B S : Type 0} (leaves : Leaves R T A B S) (sight : Sight A B) (w : WrittenAttribute A B) (e : Entry A B) : Type 0 where
   pub name : T
   pub name_is : w.name ≡ leaves.name name
   pub kind : AttributeKind
@@ -32,8 +32,8 @@ pub record IsMade {R T A B S D : Type 0} (leaves : Leaves R T A B S D) (sight : 
   pub before : List (Entry A B)
   pub made : new_entry sight before (leaves.spot name) kind (by_position w.arguments) (by_key w.arguments) ≡ Ok e
 
-module _ {R T A B S D W R' T' A' B' S' D' W' : Type 0} (rel : Relations R T A B S D R' T' A' B' S' D') (one : Leaves R T A B S D)
-    (other : Leaves R' T' A' B' S' D') (sight : R → Sight A B) (sight' : R' → Sight A' B') (keep : WrittenAttribute A B → Entry A B → W)
+module _ {R T A B S D W R' T' A' B' S' D' W' : Type 0} (rel : Relations R T A B S D R' T' A' B' S' D') (one : Leaves R T A B S)
+    (other : Leaves R' T' A' B' S') (sight : R → Sight A B) (sight' : R' → Sight A' B') (keep : WrittenAttribute A B → Entry A B → W)
     (entry_in : W → Entry A B) (keep' : WrittenAttribute A' B' → Entry A' B' → W') (entry_in' : W' → Entry A' B') (Keeps : W → W' → Type 0) where
   -- the two see the same; what they keep of an attribute is related, and its entry can be told from it
   pub record Keeping : Type 0 where
@@ -42,8 +42,8 @@ module _ {R T A B S D W R' T' A' B' S' D' W' : Type 0} (rel : Relations R T A B 
         → AlikeWritten rel w w' → AlikeEntry rel e e' → IsMade one (sight run) w e → IsMade other (sight' run') w' e' → Keeps (keep w e) (keep' w' e')
     pub entry : (x : W) (x' : W') → Keeps x x' → AlikeEntry rel (entry_in x) (entry_in' x')
 
-module _ {R T A B S D W R' T' A' B' S' D' W' : Type 0} (rel : Relations R T A B S D R' T' A' B' S' D') (one : Leaves R T A B S D)
-    (other : Leaves R' T' A' B' S' D') (agree : Respects rel one other) (sight : R → Sight A B) (sight' : R' → Sight A' B')
+module _ {R T A B S D W R' T' A' B' S' D' W' : Type 0} (rel : Relations R T A B S D R' T' A' B' S' D') (one : Leaves R T A B S)
+    (other : Leaves R' T' A' B' S') (agree : Respects rel one other) (sight : R → Sight A B) (sight' : R' → Sight A' B')
     (keep : WrittenAttribute A B → Entry A B → W) (entry_in : W → Entry A B) (keep' : WrittenAttribute A' B' → Entry A' B' → W') (entry_in' : W' → Entry A' B')
     (Keeps : W → W' → Type 0) (keeping : Keeping rel one other sight sight' keep entry_in keep' entry_in' Keeps) where
   -- ---- an argument

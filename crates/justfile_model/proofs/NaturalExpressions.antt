@@ -43,7 +43,7 @@ module _ {R T A B S D R' T' A' B' S' D' : Type 0} (rel : Relations R T A B S D R
     pub first : Q x.0 y.0
     pub last : x.1 ≡ y.1
 
-  module _ (one : Leaves R T A B S D) (other : Leaves R' T' A' B' S' D') (agree : Respects rel one other) where
+  module _ (one : Leaves R T A B S) (other : Leaves R' T' A' B' S') (agree : Respects rel one other) where
     abbrev pub Agrees : (x : Place R T B) (y : Place R' T' B') → Out one x → Out other y → Type 0
     Agrees (r.At k c s) (r.At k' c' s') found found' = Reads (Alike rel) found found'
     Agrees (r.Conditional w s) (r.Conditional w' s') found found' = Reads (Alike rel) found found'

@@ -3,6 +3,7 @@ use Rattle.std.proofs.Common.{◌≡◌, ◌∙◌, ℕ, List, [], ◌∷◌, �
 use Rattle.std.specs.List.{All, AllByRecursion, find, flat_map}
 use Rattle.std.proofs.lemmas.List.{append-nil}
 use Rattle.std.proofs.lemmas.List.Elements.{recursion_from_All}
+use Rattle.justfile_model.specs.ArgumentTexts.{GivenHasText, KeysHaveTexts}
 use Rattle.justfile_model.specs.AttributeRules.{arg_broken, has, bound_broken, exceeds_broken, flag_broken, key_broken, multiple_broken, number_of, of_some, option_broken, option_key_broken, value_broken, missing_broken, wants_option}
 use Rattle.justfile_model.specs.Meaning as means
 use Rattle.justfile_model.specs.Meaning.{KeyArgument, Placed, at_key, bare_key, bare_of, bound_of, is_key, count_of, is_count, of_given, option_at, option_named, property_of, quoted, quoted_text, rules_of, text_of, value_of}
@@ -13,24 +14,6 @@ use Rattle.justfile_model.specs.Sight.{Sight, or_empty}
 use Rattle.justfile_model.specs.Tree as tree
 use Rattle.justfile_model.specs.Tree.{Bound, Expr, OptionName, Quoted}
 use Rattle.justfile_model.proofs.NewAttributeSteps.{Agrees, given_is_there, if_there, last_check, last_some, last_step, parts_after, parts_are, refused_first, agreed, one_check, one_some, step, step_check, step_some, then_is, unasked}
-
--- ---- which literals have texts
-
-module _ {A B : Type 0} (sight : Sight A B) where
-  -- a literal has a text
-  abbrev pub HasText : Expr A B → Type 0
-  HasText e = (q : Quoted A) → quoted e ≡ Some q → is_some (quoted_text sight q) ≡ true
-
-  abbrev pub GivenHasText : Option (Expr A B) → Type 0
-  GivenHasText o = (e : Expr A B) → o ≡ Some e → HasText e
-
-  abbrev pub KeysHaveTexts : List (KeyArgument A B) → Type 0
-  KeysHaveTexts keys = All (λ (k : KeyArgument A B). GivenHasText k.value) keys
-
-  -- every literal among the arguments of an attribute has a text
-  pub record HasTexts (placed : List (Placed A B)) (keys : List (KeyArgument A B)) : Type 0 where
-    pub values : All (λ (p : Placed A B). HasText p.value) placed
-    pub given : KeysHaveTexts keys
 
 -- what holds of all holds of what is found
 pub found_has : {X : Type 0} (P : X → Type 0) (test : X → Bool) (xs : List X) (x : X) → AllByRecursion P xs → find test xs ≡ Some x → P x

@@ -17,7 +17,8 @@ use Rattle.justfile_model.specs.Rules.{Broken, InvalidSignal, UnknownAttributeKe
 use Rattle.justfile_model.specs.Sight.{Sight}
 use Rattle.justfile_model.specs.Tree as tree
 use Rattle.justfile_model.specs.Tree.{Attribute, Entry, Expr, Quoted}
-use Rattle.justfile_model.proofs.NewArgumentLaws.{HasText, HasTexts, rules_as_meant, with_text}
+use Rattle.justfile_model.specs.ArgumentTexts.{HasText, HasTexts}
+use Rattle.justfile_model.proofs.NewArgumentLaws.{rules_as_meant, with_text}
 use Rattle.justfile_model.proofs.NewAttributeSteps.{Agrees, Fits, agreed, each, first_of_all, if_there, last_step, nothing_in, one_some, refused_first, step, step_check, then_is}
 
 -- ---- by the count

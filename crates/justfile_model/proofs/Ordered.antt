@@ -1,98 +1,57 @@
--- What written items mean: what is derived has a meaning, with the same literals and numbers, and over other leaves it is the same one.
-use Rattle.std.proofs.Common.{◌≡◌, ℕ, ◌+◌, List, [], ◌∷◌, ◌++◌, map, Option, Some, None, refl, sym, ap, ◌∙◌}
-use Rattle.std.specs.List.{flat_map}
+-- What written items mean: with the same numbers, and with literals that are among those that are written; and what a written shape means is the
+-- shape of what the written tree means.
+use Rattle.std.proofs.Common.{◌≡◌, ℕ, ◌+◌, List, [], ◌∷◌, ◌++◌, map, Option, Some, None, refl, sym, subst, ap, ◌∙◌}
+use Rattle.std.proofs.lemmas.List.{map-append}
+use Rattle.std.specs.List.{AllByRecursion, flat_map}
 use Rattle.std.specs.Option.{option_map}
-use Rattle.justfile_model.specs.SignificantTokens.{SignificantToken}
-use Rattle.justfile_model.specs.Tree.{Newline, Comment, Construct, Content, Assignment, Recipe, Header, Dependency, DependencyArgument, WrittenItem, OrderedItem, WrittenTree, Tree, Shape, over_written_attribute, over_entry, over_dependency_argument, over_dependency, over_header, over_line, over_content, over_item, starless_argument, starless_dependency, starless_header, starless, shape_of, written_shape_of, lexeme, nothing}
-use Rattle.justfile_model.specs.Features.{Noted}
-use Rattle.justfile_model.specs.Expressions.{Tokens}
-use Rattle.justfile_model.specs.Grammar as g
-use Rattle.justfile_model.specs.Grammar.{Kept, Items, ItemRest, LineEnd, File}
-use Rattle.justfile_model.specs.Files.{expr_literals, dependency_literals, parameter_literals, header_literals, body_literals, content_literals, all_literals, literals, content_bindings, bindings, content_recipes, recipes, ordered_item, if_both, ordered}
+use Rattle.justfile_model.specs.Files.{expr_literals, dependency_literals, parameter_literals, header_literals, body_literals, content_literals, entries_literals, item_literals, written_literals, all_literals, literals, content_bindings, item_bindings, bindings, content_recipes, item_recipes, recipes, ordered_item, if_both, with_entries, ordered, item_broken, broken}
+use Rattle.justfile_model.specs.Literals.{Expansions, Literal}
+use Rattle.justfile_model.specs.Meaning.{entries_of}
+use Rattle.justfile_model.specs.Rules.{over_broken}
+use Rattle.justfile_model.specs.Sight.{Sight, sees_lexemes, sees_tokens}
+use Rattle.justfile_model.specs.Tok.{Tok}
+use Rattle.justfile_model.specs.Tree.{Newline, Comment, Construct, Content, Assignment, Recipe, Entry, Header, Dependency, DependencyArgument, WrittenAttribute, WrittenItem, OrderedItem, WrittenTree, Tree, Shape, over_written_attribute, over_entry, over_dependency_argument, over_dependency, over_header, over_line, over_content, over_item, starless_argument, starless_dependency, starless_header, starless, item_shape_of, shape_of, written_shape_of, lexeme, nothing}
+use Rattle.justfile_model.proofs.Binds.{never_some, some_back}
+use Rattle.justfile_model.proofs.KindedFiles.{KindedItem, KindedItems}
 use Rattle.justfile_model.proofs.Mapped.{map_both, option_both, flat_kept}
+use Rattle.justfile_model.proofs.RewrittenLiterals.{both, literals_meant, parts}
+use Rattle.justfile_model.proofs.SeenShapes.{construct_broken_seen, entries_seen}
+use Rattle.justfile_model.proofs.ShapesMean.{none_of_none}
 
--- ---- items without attributes
+-- ---- the meaning of the first item, and of the others
 
--- no construct has attributes
-abbrev pub Unattributed : {A B C S : Type 0} → List (WrittenItem A B C S) → Type 0
-Unattributed [] = Unit {0}
-Unattributed (Newline ∷ items) = Unattributed items
-Unattributed (Comment text ∷ items) = Unattributed items
-Unattributed (Construct [] content ∷ items) = Unattributed items
-Unattributed (Construct (w ∷ ws) content ∷ items) = ⊥
+module _ {A B C S : Type 0} (sight : Sight A B) where
+  -- an item and those after it, which have a meaning
+  pub record Meanings (i : WrittenItem A B C S) (items : List (WrittenItem A B C S)) (all : List (OrderedItem A B C)) : Type 0 where
+    pub first : OrderedItem A B C
+    pub first_is : ordered_item sight i ≡ Some first
+    pub others : List (OrderedItem A B C)
+    pub others_are : ordered sight items ≡ Some others
+    pub all_are : all ≡ first ∷ others
 
--- the item without its attributes
-abbrev pub plainly_item : {A B C S : Type 0} → WrittenItem A B C S → OrderedItem A B C
-plainly_item Newline = Newline
-plainly_item (Comment text) = Comment text
-plainly_item (Construct ws content) = Construct [] (starless content)
+  pub meanings_of : (i : WrittenItem A B C S) (items : List (WrittenItem A B C S)) (all : List (OrderedItem A B C)) → ordered sight (i ∷ items) ≡ Some all
+      → Meanings i items all
+  meanings_of i items all h = go (ordered_item sight i) (ordered sight items) refl refl h
+    where
+      go : (o : Option (OrderedItem A B C)) (os : Option (List (OrderedItem A B C))) → ordered_item sight i ≡ o → ordered sight items ≡ os
+          → if_both o os ≡ Some all → Meanings i items all
+      go None os e es k = never_some all k
+      go (Some x) None e es k = never_some all k
+      go (Some x) (Some xs) e es k = record { first = x; first_is = e; others = xs; others_are = es; all_are = sym (some_back (x ∷ xs) all k) }
 
-abbrev pub plainly : {A B C S : Type 0} → List (WrittenItem A B C S) → List (OrderedItem A B C)
-plainly = map plainly_item
+  -- a construct by what its attributes mean
+  pub record Meant (ws : List (WrittenAttribute A B)) (content : Content A B C S) (i : OrderedItem A B C) : Type 0 where
+    pub entries : List (Entry A B)
+    pub means : entries_of sight ws ≡ Some entries
+    pub item_is : i ≡ Construct entries (starless content)
 
-pub ordered_plainly : {A B C S : Type 0} (items : List (WrittenItem A B C S)) → Unattributed items → ordered items ≡ Some (plainly items)
-ordered_plainly [] h = refl
-ordered_plainly (Newline ∷ items) h = ap (if_both (Some Newline)) (ordered_plainly items h)
-ordered_plainly (Comment text ∷ items) h = ap (if_both (Some (Comment text))) (ordered_plainly items h)
-ordered_plainly (Construct [] content ∷ items) h = ap (if_both (Some (Construct [] (starless content)))) (ordered_plainly items h)
-ordered_plainly (Construct (w ∷ ws) content ∷ items) h = absurd h
-
--- what stands before it has a meaning too
-record Before {X : Type 0} (first : X) (o : Option (List X)) (all : List X) : Type 0 where
-  others : List X
-  is : o ≡ Some others
-  all_is : all ≡ first ∷ others
-
-before : {X : Type 0} (first : X) (o : Option (List X)) (all : List X) → if_both (Some first) o ≡ Some all → Before first o all
-before first None all h = cc
-before first (Some others) all h = let e : first ∷ others ≡ all = cc in record { others = others; is = refl; all_is = sym e }
-
--- what has a meaning has no attributes, and is this without them
-pub unattributed : {A B C S : Type 0} (items : List (WrittenItem A B C S)) (all : List (OrderedItem A B C)) → ordered items ≡ Some all → Unattributed items × (all ≡ plainly items)
-unattributed [] all h = let e : [] ≡ all = cc in (tt, sym e)
-unattributed (Newline ∷ items) all h =
-    let b = before Newline (ordered items) all h in
-    let x = unattributed items b.others b.is in
-    (x.0, b.all_is ∙ ap (λ more. Newline ∷ more) x.1)
-unattributed (Comment text ∷ items) all h =
-    let b = before (Comment text) (ordered items) all h in
-    let x = unattributed items b.others b.is in
-    (x.0, b.all_is ∙ ap (λ more. Comment text ∷ more) x.1)
-unattributed (Construct [] content ∷ items) all h =
-    let b = before (Construct [] (starless content)) (ordered items) all h in
-    let x = unattributed items b.others b.is in
-    (x.0, b.all_is ∙ ap (λ more. Construct [] (starless content) ∷ more) x.1)
-unattributed (Construct (w ∷ ws) content ∷ items) all h = cc
-
--- ---- what the grammar derives
-
-module _ {A B C S : Type 0} (kept : Kept A B C S) (Open : ℕ → Option SignificantToken → Type 0) where
-  mutual
-    pub items_derived : {items : List (WrittenItem A B C S)} {fs : List (Noted B)} {ts : Tokens} → Items kept Open items fs ts → Unattributed items
-    items_derived (g.end kind) = tt
-    items_derived (g.blank kind h) = items_derived h
-    items_derived (g.comment kind h) = after_derived h
-    items_derived (g.on_line o h) = after_derived h
-    items_derived (g.block o h) = items_derived h
-
-    after_derived : {items : List (WrittenItem A B C S)} {fs : List (Noted B)} {ts : Tokens} → ItemRest kept Open items fs ts → Unattributed items
-    after_derived (g.trailing kind h) = end_derived h
-    after_derived (g.bare h) = end_derived h
-
-    end_derived : {items : List (WrittenItem A B C S)} {fs : List (Noted B)} {ts : Tokens} → LineEnd kept Open items fs ts → Unattributed items
-    end_derived (g.line_end kind h) = items_derived h
-    end_derived (g.file_end kind) = tt
-
-  pub file_derived : {items : List (WrittenItem A B C S)} {fs : List (Noted B)} {ts : Tokens} → File kept Open items fs ts → Unattributed items
-  file_derived (g.marked kind h) = items_derived h
-  file_derived (g.unmarked h) = items_derived h
-
-  -- what is derived has a meaning
-  pub items_ordered : {items : List (WrittenItem A B C S)} {fs : List (Noted B)} {ts : Tokens} → Items kept Open items fs ts → ordered items ≡ Some (plainly items)
-  items_ordered {items} h = ordered_plainly items (items_derived h)
-
-  pub file_ordered : {items : List (WrittenItem A B C S)} {fs : List (Noted B)} {ts : Tokens} → File kept Open items fs ts → ordered items ≡ Some (plainly items)
-  file_ordered {items} h = ordered_plainly items (file_derived h)
+  pub construct_meant : (ws : List (WrittenAttribute A B)) (content : Content A B C S) (i : OrderedItem A B C)
+      → ordered_item sight (Construct ws content) ≡ Some i → Meant ws content i
+  construct_meant ws content i h = go (entries_of sight ws) refl h
+    where
+      go : (o : Option (List (Entry A B))) → entries_of sight ws ≡ o → with_entries content o ≡ Some i → Meant ws content i
+      go None e k = never_some i k
+      go (Some entries) e k = record { entries = entries; means = e; item_is = sym (some_back (Construct entries (starless content)) i k) }
 
 -- ---- literals and numbers
 
@@ -110,43 +69,62 @@ starless_literals : {A B C S : Type 0} (c : Content A B C S) → content_literal
 starless_literals (Assignment parts) = refl
 starless_literals (Recipe parts) = ap (λ l. l ++ body_literals parts.body) (header_starless parts.header)
 
-pub plainly_literals : {A B C S : Type 0} (items : List (WrittenItem A B C S)) → Unattributed items → literals (plainly items) ≡ all_literals items
-plainly_literals [] h = refl
-plainly_literals (Newline ∷ items) h = plainly_literals items h
-plainly_literals (Comment text ∷ items) h = plainly_literals items h
-plainly_literals (Construct [] content ∷ items) h = λ i. starless_literals content i ++ plainly_literals items h i
-plainly_literals (Construct (w ∷ ws) content ∷ items) h = absurd h
-
 starless_bindings : {A B C S : Type 0} (c : Content A B C S) → content_bindings (starless c) ≡ content_bindings c
 starless_bindings (Assignment parts) = refl
 starless_bindings (Recipe parts) = refl
-
-pub plainly_bindings : {A B C S : Type 0} (items : List (WrittenItem A B C S)) → bindings (plainly items) ≡ bindings items
-plainly_bindings [] = refl
-plainly_bindings (Newline ∷ items) = ap (λ n. 0 + n) (plainly_bindings items)
-plainly_bindings (Comment text ∷ items) = ap (λ n. 0 + n) (plainly_bindings items)
-plainly_bindings (Construct ws content ∷ items) = λ i. starless_bindings content i + plainly_bindings items i
 
 starless_recipes : {A B C S : Type 0} (c : Content A B C S) → content_recipes (starless c) ≡ content_recipes c
 starless_recipes (Assignment parts) = refl
 starless_recipes (Recipe parts) = refl
 
-pub plainly_recipes : {A B C S : Type 0} (items : List (WrittenItem A B C S)) → recipes (plainly items) ≡ recipes items
-plainly_recipes [] = refl
-plainly_recipes (Newline ∷ items) = ap (λ n. 0 + n) (plainly_recipes items)
-plainly_recipes (Comment text ∷ items) = ap (λ n. 0 + n) (plainly_recipes items)
-plainly_recipes (Construct ws content ∷ items) = λ i. starless_recipes content i + plainly_recipes items i
-
 -- of what has a meaning
-module _ {A B C S : Type 0} (items : List (WrittenItem A B C S)) (all : List (OrderedItem A B C)) (h : ordered items ≡ Some all) where
-  pub ordered_literals : literals all ≡ all_literals items
-  ordered_literals = let x = unattributed items all h in ap literals x.1 ∙ plainly_literals items x.0
+module _ {A B C S : Type 0} (sight : Sight A B) where
+  item_bindings_kept : (i : WrittenItem A B C S) (j : OrderedItem A B C) → ordered_item sight i ≡ Some j → item_bindings j ≡ item_bindings i
+  item_bindings_kept Newline j h = ap item_bindings (sym (some_back Newline j h))
+  item_bindings_kept (Comment text) j h = ap item_bindings (sym (some_back (Comment text) j h))
+  item_bindings_kept (Construct ws content) j h = ap item_bindings (construct_meant sight ws content j h).item_is ∙ starless_bindings content
 
-  pub ordered_bindings : bindings all ≡ bindings items
-  ordered_bindings = let x = unattributed items all h in ap bindings x.1 ∙ plainly_bindings items
+  item_recipes_kept : (i : WrittenItem A B C S) (j : OrderedItem A B C) → ordered_item sight i ≡ Some j → item_recipes j ≡ item_recipes i
+  item_recipes_kept Newline j h = ap item_recipes (sym (some_back Newline j h))
+  item_recipes_kept (Comment text) j h = ap item_recipes (sym (some_back (Comment text) j h))
+  item_recipes_kept (Construct ws content) j h = ap item_recipes (construct_meant sight ws content j h).item_is ∙ starless_recipes content
 
-  pub ordered_recipes : recipes all ≡ recipes items
-  ordered_recipes = let x = unattributed items all h in ap recipes x.1 ∙ plainly_recipes items
+  pub ordered_bindings : (items : List (WrittenItem A B C S)) (all : List (OrderedItem A B C)) → ordered sight items ≡ Some all
+      → bindings all ≡ bindings items
+  ordered_bindings [] all h = ap bindings (sym (some_back [] all h))
+  ordered_bindings (i ∷ items) all h =
+      let m = meanings_of sight i items all h in
+      ap bindings m.all_are ∙ (λ j. item_bindings_kept i m.first m.first_is j + ordered_bindings items m.others m.others_are j)
+
+  pub ordered_recipes : (items : List (WrittenItem A B C S)) (all : List (OrderedItem A B C)) → ordered sight items ≡ Some all
+      → recipes all ≡ recipes items
+  ordered_recipes [] all h = ap recipes (sym (some_back [] all h))
+  ordered_recipes (i ∷ items) all h =
+      let m = meanings_of sight i items all h in
+      ap recipes m.all_are ∙ (λ j. item_recipes_kept i m.first m.first_is j + ordered_recipes items m.others m.others_are j)
+
+  -- what holds of the literals that are written, holds of those that are meant
+  module _ (P : Literal A → Type 0) where
+    item_literals_meant : (i : WrittenItem A B C S) (j : OrderedItem A B C) → ordered_item sight i ≡ Some j
+        → AllByRecursion P (item_literals written_literals i) → AllByRecursion P (item_literals entries_literals j)
+    item_literals_meant Newline j h k = subst (λ x. AllByRecursion P (item_literals entries_literals x)) (some_back Newline j h) tt
+    item_literals_meant (Comment text) j h k = subst (λ x. AllByRecursion P (item_literals entries_literals x)) (some_back (Comment text) j h) tt
+    item_literals_meant (Construct ws content) j h k =
+        let m = construct_meant sight ws content j h in
+        let r = parts P (written_literals ws) (content_literals content) k in
+        subst (λ x. AllByRecursion P (item_literals entries_literals x)) (sym m.item_is)
+        (both P (entries_literals m.entries) (content_literals (starless content)) (literals_meant P sight ws m.entries m.means r.0)
+        (subst (AllByRecursion P) (sym (starless_literals content)) r.1))
+
+    pub ordered_literals : (items : List (WrittenItem A B C S)) (all : List (OrderedItem A B C)) → ordered sight items ≡ Some all
+        → AllByRecursion P (all_literals items) → AllByRecursion P (literals all)
+    ordered_literals [] all h k = subst (λ x. AllByRecursion P (literals x)) (some_back [] all h) tt
+    ordered_literals (i ∷ items) all h k =
+        let m = meanings_of sight i items all h in
+        let r = parts P (item_literals written_literals i) (all_literals items) k in
+        subst (λ x. AllByRecursion P (literals x)) (sym m.all_are)
+        (both P (item_literals entries_literals m.first) (literals m.others) (item_literals_meant i m.first m.first_is r.0)
+        (ordered_literals items m.others m.others_are r.1))
 
 -- ---- over other leaves
 
@@ -181,36 +159,76 @@ module _ {A B C S A' B' C' S' : Type 0} (f : A → A') (g : B → B') (h : C →
   content_over (Assignment parts) = refl
   content_over (Recipe parts) = λ i. Recipe (record { doc = parts.doc; header = header_over f g k parts.header i; body = map (over_line f g h) parts.body })
 
-  abbrev over_items : List (WrittenItem A B C S) → List (WrittenItem A' B' C' S')
-  over_items = map (over_item f g h k (map (over_written_attribute f g)))
+-- ---- a tree and its shape
 
-  abbrev over_ordered_item : OrderedItem A B C → OrderedItem A' B' C'
-  over_ordered_item = over_item f g h same_star (map (over_entry f g))
+both_mapped : {X Y : Type 0} (f : X → Y) (o : Option X) (others : Option (List X))
+    → if_both (option_map f o) (option_map (map f) others) ≡ option_map (map f) (if_both o others)
+both_mapped f None others = refl
+both_mapped f (Some x) None = refl
+both_mapped f (Some x) (Some xs) = refl
 
-  item_over : (i : WrittenItem A B C S) → ordered_item (over_item f g h k (map (over_written_attribute f g)) i) ≡ option_map over_ordered_item (ordered_item i)
-  item_over Newline = refl
-  item_over (Comment text) = refl
-  item_over (Construct [] content) = ap (λ c. Some (Construct [] c)) (content_over content)
-  item_over (Construct (w ∷ ws) content) = refl
+module _ (expander : Expansions) where
+  -- what is seen of a tree, and of its shape
+  abbrev tokens : Sight Tok Tok
+  tokens = sees_tokens expander
 
-  both_over : (o : Option (OrderedItem A B C)) (others : Option (List (OrderedItem A B C)))
-      → if_both (option_map over_ordered_item o) (option_map (map over_ordered_item) others) ≡ option_map (map over_ordered_item) (if_both o others)
-  both_over None others = refl
-  both_over (Some x) None = refl
-  both_over (Some x) (Some xs) = refl
+  abbrev lexemes : Sight (List ℕ) (Unit {0})
+  lexemes = sees_lexemes expander
 
-  pub ordered_over : (items : List (WrittenItem A B C S)) → ordered (over_items items) ≡ option_map (map over_ordered_item) (ordered items)
-  ordered_over [] = refl
-  ordered_over (i ∷ items) = (λ j. if_both (item_over i j) (ordered_over items j)) ∙ both_over (ordered_item i) (ordered items)
+  with_entries_seen : (content : Content Tok Tok ℕ Tok) (o : Option (List (Entry Tok Tok)))
+      → with_entries (over_content lexeme nothing nothing nothing content) (option_map (map (over_entry lexeme nothing)) o)
+      ≡ option_map item_shape_of (with_entries content o)
+  with_entries_seen content None = refl
+  with_entries_seen content (Some entries) =
+      ap (λ c. Some (Construct (map (over_entry lexeme nothing) entries) c)) (content_over lexeme nothing nothing nothing content)
 
--- what a written shape means is the shape of what the written tree means
+  item_seen : (i : WrittenItem Tok Tok ℕ Tok) → KindedItem i
+      → ordered_item lexemes (over_item lexeme nothing nothing nothing (map (over_written_attribute lexeme nothing)) i)
+      ≡ option_map item_shape_of (ordered_item tokens i)
+  item_seen Newline k = refl
+  item_seen (Comment text) k = refl
+  item_seen (Construct ws content) k =
+      ap (with_entries (over_content lexeme nothing nothing nothing content)) (entries_seen expander ws k)
+      ∙ with_entries_seen content (entries_of tokens ws)
 
-pub shape_ordered : (written : WrittenTree) (tree : Tree) → ordered written ≡ Some tree → ordered (written_shape_of written) ≡ Some (shape_of tree)
-shape_ordered written tree h = ordered_over lexeme nothing nothing nothing written ∙ ap (option_map shape_of) h
+  ordered_seen : (written : WrittenTree) → KindedItems written
+      → ordered lexemes (written_shape_of written) ≡ option_map shape_of (ordered tokens written)
+  ordered_seen [] k = refl
+  ordered_seen (i ∷ items) k =
+      (λ j. if_both (item_seen i k.0 j) (ordered_seen items k.1 j)) ∙ both_mapped item_shape_of (ordered_item tokens i) (ordered tokens items)
 
-pub tree_ordered : (written : WrittenTree) (shape : Shape) → ordered (written_shape_of written) ≡ Some shape → (tree : Tree) × (ordered written ≡ Some tree) × (shape_of tree ≡ shape)
-tree_ordered written shape h = go (ordered written) refl (sym (ordered_over lexeme nothing nothing nothing written) ∙ h)
-  where
-    go : (o : Option Tree) → ordered written ≡ o → option_map shape_of o ≡ Some shape → (tree : Tree) × (ordered written ≡ Some tree) × (shape_of tree ≡ shape)
-    go None e k = cc
-    go (Some tree) e k = (tree, e, cc)
+  -- what a written shape means is the shape of what the written tree means
+
+  pub shape_ordered : (written : WrittenTree) (tree : Tree) → KindedItems written → ordered tokens written ≡ Some tree
+      → ordered lexemes (written_shape_of written) ≡ Some (shape_of tree)
+  shape_ordered written tree k h = ordered_seen written k ∙ ap (option_map shape_of) h
+
+  pub tree_ordered : (written : WrittenTree) (shape : Shape) → KindedItems written → ordered lexemes (written_shape_of written) ≡ Some shape
+      → (tree : Tree) × (ordered tokens written ≡ Some tree) × (shape_of tree ≡ shape)
+  tree_ordered written shape k h = go (ordered tokens written) refl (sym (ordered_seen written k) ∙ h)
+    where
+      go : (o : Option Tree) → ordered tokens written ≡ o → option_map shape_of o ≡ Some shape
+          → (tree : Tree) × (ordered tokens written ≡ Some tree) × (shape_of tree ≡ shape)
+      go None e m = never_some shape m
+      go (Some tree) e m = (tree, e, some_back (shape_of tree) shape m)
+
+  -- the one breaks the rules that the other breaks
+
+  item_broken_seen : (i : WrittenItem Tok Tok ℕ Tok) → KindedItem i
+      → item_broken lexemes (over_item lexeme nothing nothing nothing (map (over_written_attribute lexeme nothing)) i)
+      ≡ map (over_broken nothing) (item_broken tokens i)
+  item_broken_seen Newline k = refl
+  item_broken_seen (Comment text) k = refl
+  item_broken_seen (Construct ws content) k = construct_broken_seen expander nothing nothing ws content k
+
+  broken_seen : (written : WrittenTree) → KindedItems written
+      → broken lexemes (written_shape_of written) ≡ map (over_broken nothing) (broken tokens written)
+  broken_seen [] k = refl
+  broken_seen (i ∷ items) k =
+      (λ j. item_broken_seen i k.0 j ++ broken_seen items k.1 j) ∙ sym (map-append (over_broken nothing) (item_broken tokens i) (broken tokens items))
+
+  pub shape_unbroken : (written : WrittenTree) → KindedItems written → broken tokens written ≡ [] → broken lexemes (written_shape_of written) ≡ []
+  shape_unbroken written k h = broken_seen written k ∙ ap (map (over_broken nothing)) h
+
+  pub tree_unbroken : (written : WrittenTree) → KindedItems written → broken lexemes (written_shape_of written) ≡ [] → broken tokens written ≡ []
+  tree_unbroken written k h = none_of_none (over_broken nothing) (broken tokens written) (sym (broken_seen written k) ∙ h)

@@ -135,17 +135,3 @@ module _ (conditions : Conditions) where
     entered {x = x} {y = y} {ls = ls} d s within hit h =
         after_test (nat_lt d conditions.limit) x _ (λ o. Reaches o y ls) (λ t. h (grind (arith, nat_tests)))
         (λ t. is_refused (inr (record { token = front s.left; hit = hit (at_limit conditions.limit d within t); refusal_is = refl })) refl)
-
-  -- where nothing is waived and all literals have texts, it is read
-  pub only_read : {X : Type 0} {found : Result X Refusal} {x : X} {ls : List (Literal Tok)} → AllCook conditions.expander ls → Reaches (λ at. ⊥) found x ls → found ≡ Ok x
-  only_read a (is_read b is) = is
-  only_read {ls = ls} a (is_refused (inl h) is) = absurd (lacks_none ls _ a h)
-  only_read a (is_refused (inr h) is) = absurd h.hit
-
-  err_inside : {X : Type 0} (q r : Refusal) → ◌≡◌ {A = Result X Refusal} (Err q) (Err r) → q ≡ r
-  err_inside q r h = cc
-
-  -- a refusal is one that is due
-  pub only_due : (Hit : Option SignificantToken → Type 0) {X : Type 0} {found : Result X Refusal} {x : X} {ls : List (Literal Tok)} {r : Refusal} → found ≡ Err r → Reaches Hit found x ls → DueOf conditions.expander Hit ls r
-  only_due Hit e (is_read a is) = cc
-  only_due Hit {ls = ls} {r = r} e (is_refused {r = q} h is) = subst (DueOf conditions.expander Hit ls) (err_inside q r (sym is ∙ e)) h

@@ -1,6 +1,6 @@
 -- What a reader comes to where rules may be broken, too: it reads something, or refuses a literal that has no text, too deep an expression, or one
 -- of the rules that are broken.
-use Rattle.std.proofs.Common.{◌≡◌, ◌⊎◌, ℕ, List, [], ◌++◌, Option, Result, Ok, Err, Contains, refl, sym, subst, ap, ◌∙◌, inl, inr, append-nil, arith}
+use Rattle.std.proofs.Common.{◌≡◌, ◌⊎◌, ℕ, List, [], ◌++◌, Option, Result, Ok, Err, Contains, refl, sym, subst, ap, ◌∙◌, inl, inr, append-nil}
 use Rattle.std.proofs.lemmas.List.Elements.{Contains-append_left, Contains-append_right}
 use Rattle.justfile_model.specs.Conditions.{Conditions}
 use Rattle.justfile_model.specs.Expressions.{Tokens}
@@ -173,11 +173,3 @@ module _ (conditions : Conditions) (Hit : Option SignificantToken → Type 0) wh
       → ReachesSome found Is ls rules → DueAmong ls rules r
   only_due e (some_read x a h is) = cc
   only_due {ls = ls} {rules = rules} {r = r} e (is_refused {r = q} h is) = subst (DueAmong ls rules) (err_inside q r (sym is ∙ e)) h
-
--- where nothing is waived, all literals have texts and no rule is broken, it is read
-pub only_read : (conditions : Conditions) {X : Type 0} {found : Result X Refusal} {Is : X → Type 0} {ls : List (Literal Tok)} → AllCook conditions.expander ls
-    → ReachesSome conditions (λ at. ⊥) found Is ls [] → (x : X) × Is x × (found ≡ Ok x)
-only_read conditions a (some_read x b h is) = (x, h, is)
-only_read conditions {ls = ls} a (is_refused (inl (inl h)) is) = absurd (lacks_none conditions ls _ a h)
-only_read conditions a (is_refused (inl (inr h)) is) = absurd h.hit
-only_read conditions a (is_refused (inr h) is) = absurd (omega (arith, h.among.1))

@@ -5,10 +5,13 @@ use Rattle.justfile_base.specs.declared.token_kind.TokenKind.{TokenKind}
 use Rattle.justfile_base.specs.declared.token_kind.TokenKind.TheVariants as kinds
 use Rattle.justfile_model.specs.declared.level.Level.TheVariants.{Expression}
 use Rattle.justfile_model.specs.ExpressionReader as expressions
-use Rattle.justfile_model.specs.Reader.{Start, after_numbered, assignment, at_end, item_rest, body, optional_body, body_line, draw_binding, draw_recipe, ended, expression, fragment, has_body, items, items_from, items_rule, line, line_end, line_rest, line_rest_rule, lines, lines_rule, no_line_rest, no_lines, on_line, recipe, some_lines, no_items}
-use Rattle.justfile_model.specs.Reading.{Counters, Leaves, Read, Refusal, State, Taken, accept, accept_by, prepend, at, begin_with, choose, expect, next_are, same_kind}
+use Rattle.justfile_model.specs.AttributeReader.{AttributeLeaves, attribute_lines}
+use Rattle.justfile_model.specs.Reader.{Start, after_numbered, allowed, assignment, at_end, attributes, before_item, construct, content, defined, item_rest, body, optional_body, body_line, draw_binding, draw_recipe, ended, expression, fragment, has_body, items, items_from, items_rule, line, line_end, line_rest, line_rest_rule, lines, lines_rule, no_line_rest, no_lines, obeying, on_line, recipe, some_lines, stands_alone, no_items}
+use Rattle.justfile_model.specs.Reading.{◌>>=◌, Counters, Leaves, Read, Refusal, State, Taken, accept, accept_by, prepend, at, begin_with, choose, expect, next_are, same_kind}
 use Rattle.justfile_model.specs.Recursive.{below}
+use Rattle.justfile_model.specs.Rules.{Broken}
 use Rattle.justfile_model.specs.Tree.{Fragment, BodyLine, Item, trimmed}
+use Rattle.justfile_model.proofs.AttributeReading.{attribute_lines_keep}
 use Rattle.justfile_model.proofs.ExpressionReading.{advances}
 use Rattle.justfile_model.proofs.ReadingSteps.{ItemRest, Goes, Keeps, accepts, after_test, bind_alike, choose_alike, either, either_goes, expects, first, from_there, keeps, past, test_alike, then, then_goes, there}
 use Rattle.justfile_model.proofs.Turns.{below_smaller, recursive_is, recursive_keeps}
@@ -67,7 +70,7 @@ module _ {R T B : Type 0} where
   at_drop : (n : ℕ) (s : State R T B) → ItemRest s (at s (drop n s.left))
   at_drop n s = (omega (arith, length-drop n s.left), refl, refl)
 
-module _ {R T A B S D : Type 0} (leaves : Leaves R T A B S D) where
+module _ {R T A B S : Type 0} (leaves : Leaves R T A B S) where
   -- ---- what is read leaves fewer tokens, in the same run and at the same depth
 
   pub expression_goes : (s : State R T B) → Goes s (expression leaves s)
@@ -196,7 +199,7 @@ module _ {R T A B S D : Type 0} (leaves : Leaves R T A B S D) where
       (λ _. from_there s long _ (at_drop 3 s) (keeps long _ (body_goes long)))
       (λ _. there s))
 
-  -- ---- items
+  -- ---- numbers
 
   -- a number takes no token
   pub binding_keeps : (n : Counters) (s : State R T B) → Keeps s (draw_binding leaves n s)
@@ -207,96 +210,7 @@ module _ {R T A B S D : Type 0} (leaves : Leaves R T A B S D) where
   unfolding draw_recipe
   recipe_number_keeps n s = after_test (leaves.has_number n.recipes) _ _ (Keeps {X = ℕ × Counters} s) (λ _. there s) (λ _. tt)
 
-  pub assignment_goes : (n : Counters) (s : State R T B) → Goes s (assignment leaves n s)
-  unfolding assignment
-  assignment_goes n s =
-      first s (expect leaves kinds.Identifier s) _ (expects leaves kinds.Identifier s) (λ name.
-      then name.1 (expect leaves kinds.ColonEquals name.1) _ (keeps name.1 _ (expects leaves kinds.ColonEquals name.1)) (λ operator.
-      then operator.1 (expression leaves operator.1) _ (keeps operator.1 _ (expression_goes operator.1)) (λ e.
-      then e.1 (draw_binding leaves n e.1) _ (binding_keeps n e.1) (λ number. there number.1))))
-
-  pub recipe_goes : (n : Counters) (s : State R T B) → Goes s (recipe leaves n s)
-  unfolding recipe
-  recipe_goes n s =
-      first s (expect leaves kinds.Identifier s) _ (expects leaves kinds.Identifier s) (λ name.
-      then name.1 (expect leaves kinds.Colon name.1) _ (keeps name.1 _ (expects leaves kinds.Colon name.1)) (λ colon.
-      then colon.1 (optional_body leaves colon.1) _ (optional_body_keeps colon.1) (λ b.
-      then b.1 (draw_recipe leaves n b.1) _ (recipe_number_keeps n b.1) (λ number. there number.1))))
-
-  pub on_line_goes : (n : Counters) (s : State R T B) → Goes s (on_line leaves n s)
-  unfolding on_line
-  on_line_goes n s =
-      either_goes s (accept leaves kinds.Comment s) _ _ (accepts leaves kinds.Comment s)
-      (after_test (next_are leaves (kinds.Identifier ∷ kinds.ColonEquals ∷ []) s) _ _ (Goes {X = Item A B ℕ S D × Counters} s) (λ _. assignment_goes n s) (λ _. recipe_goes n s))
-      (λ c. there c.1)
-
-  -- the end of the file is left
-  pub line_end_keeps : (s : State R T B) → Keeps s (line_end leaves s)
-  unfolding line_end
-  line_end_keeps s =
-      ending (accept leaves kinds.Eof s) _ (then s (expect leaves kinds.Eol s) _ (keeps s _ (expects leaves kinds.Eol s)) (λ x. there x.1))
-    where
-      ending : (o : Taken R T B) (x : Read R T B (List (Item A B ℕ S D))) → Keeps s x → Keeps s (choose o x (λ y. Ok ([], s)))
-      ending None x h = h
-      ending (Some p) x h = there s
-
-  pub item_rest_keeps : (s : State R T B) → Keeps s (item_rest leaves s)
-  unfolding item_rest
-  item_rest_keeps s =
-      either s (accept leaves kinds.Comment s) _ _ (accepts leaves kinds.Comment s) (line_end_keeps s)
-      (λ c. then c.1 (line_end leaves c.1) _ (line_end_keeps c.1) (λ end. there end.1))
-
-  pub ended_keeps : (b : Bool) (s : State R T B) → Keeps s (ended leaves b s)
-  unfolding ended
-  ended_keeps b s = after_test b _ _ (Keeps {X = List (Item A B ℕ S D)} s) (λ _. there s) (λ _. item_rest_keeps s)
-
-  pub line_goes : (n : Counters) (s : State R T B) → Goes s (line leaves n s)
-  unfolding line
-  line_goes n s =
-      either_goes s (accept leaves kinds.Eol s) _ _ (accepts leaves kinds.Eol s)
-      (first s (on_line leaves n s) _ (on_line_goes n s) (λ i. then i.1 (ended leaves (has_body i.0.0) i.1) _ (ended_keeps (has_body i.0.0) i.1) (λ b. there b.1)))
-      (λ newline. there newline.1)
-
-  -- ---- the rule of items
-
-  inside : Start leaves → Start leaves → Read R T B (List (Item A B ℕ S D) × Counters)
-  inside x = below (λ x. length x.1.left) (no_items leaves) (items_rule leaves) x (items_from leaves)
-
-  unfolded : (x : Start leaves) → items_from leaves x ≡ items_rule leaves (inside x) x
-  unfolding items_from inside
-  unfolded x = recursive_is (λ x. length x.1.left) (no_items leaves) (items_rule leaves) x
-
-  inside_is : (x y : Start leaves) → length y.1.left < length x.1.left → inside x y ≡ items_from leaves y
-  unfolding inside
-  inside_is x y h = below_smaller (λ x. length x.1.left) (no_items leaves) (items_rule leaves) x (items_from leaves) y h
-
-  pub items_is : (n : Counters) (s : State R T B) → items leaves n s ≡ items_rule leaves (items_from leaves) (n, s)
-  unfolding items_rule
-  items_is n s =
-      unfolded (n, s) ∙ choose_alike (accept leaves kinds.Eof s) _ _ _ _
-      (λ _. bind_alike (line leaves n s) _ _ (λ l is. ap (after_numbered l.0.0) (inside_is (n, s) (l.0.1, l.1) (past s _ l (line_goes n s) is).0)))
-      (λ _ _. refl)
-
-  -- ---- a loop over items: `done` was read before, and `s` is what is left
-
-  module _ (done : List (Item A B ℕ S D)) (n : Counters) (s : State R T B) where
-    -- a line is read
-    pub items_go_on : (more : List (Item A B ℕ S D)) (m : Counters) (rest : State R T B) → accept leaves kinds.Eof s ≡ None → line leaves n s ≡ Ok ((more, m), rest)
-        → after_numbered done (items leaves n s) ≡ after_numbered (done ++ more) (items leaves m rest)
-    unfolding items_rule
-    items_go_on more m rest h1 h2 = rw (items_is n s, h1, h2) (numbered_regroups done more (items leaves m rest))
-
-    -- the end of the file, whatever stands after it
-    pub items_at_end : (end : T) (rest : State R T B) → accept leaves kinds.Eof s ≡ Some (end, rest) → after_numbered done (items leaves n s) ≡ after_numbered done (at_end leaves n rest)
-    unfolding items_rule
-    items_at_end end rest h = rw (items_is n s, h) refl
-
-    -- a line is refused
-    pub items_fail : (e : Refusal T B) → accept leaves kinds.Eof s ≡ None → line leaves n s ≡ Err e → after_numbered done (items leaves n s) ≡ Err e
-    unfolding items_rule
-    items_fail e h1 h2 = rw (items_is n s, h1, h2) (numbered_refused done e)
-
-  -- ---- the same over the parts of a body
+  -- ---- a loop over the parts of a body: `done` was read before, and `s` is what is left
 
   module _ (done : List (Fragment A B)) (s : State R T B) where
     -- a fragment is read
@@ -336,3 +250,129 @@ module _ {R T A B S D : Type 0} (leaves : Leaves R T A B S D) where
     pub lines_fail : (e : Refusal T B) → accept leaves kinds.Dedent s ≡ None → body_line leaves s ≡ Err e → prepend done (lines leaves s) ≡ Err e
     unfolding lines_rule
     lines_fail e h1 h2 = rw (lines_is s, h1, h2) (after_refused done e)
+
+obeying_keeps : {R T B : Type 0} (rules : List (Broken B)) (s : State R T B) → Keeps s (obeying rules s)
+obeying_keeps [] s = there s
+obeying_keeps (b ∷ bs) s = tt
+
+module _ {R T A B S D W : Type 0} (leaves : Leaves R T A B S) (kept : AttributeLeaves R A B D W) where
+  -- ---- items
+
+  allowed_keeps : (ws : List W) (name : T) (s : State R T B) → Keeps s (allowed leaves kept ws name s)
+  allowed_keeps ws name s = obeying_keeps _ s
+
+  defined_keeps : (ws : List W) (s : State R T B) → Keeps s (defined leaves kept ws s)
+  defined_keeps ws s = obeying_keeps _ s
+
+  pub assignment_goes : (ws : List W) (n : Counters) (s : State R T B) → Goes s (assignment leaves kept ws n s)
+  unfolding assignment
+  assignment_goes ws n s =
+      first s (expect leaves kinds.Identifier s) _ (expects leaves kinds.Identifier s) (λ name.
+      then name.1 (expect leaves kinds.ColonEquals name.1) _ (keeps name.1 _ (expects leaves kinds.ColonEquals name.1)) (λ operator.
+      then operator.1 (expression leaves operator.1) _ (keeps operator.1 _ (expression_goes leaves operator.1)) (λ e.
+      then e.1 (allowed leaves kept ws name.0 e.1) _ (allowed_keeps ws name.0 e.1) (λ checked.
+      then checked.1 (draw_binding leaves n checked.1) _ (binding_keeps leaves n checked.1) (λ number. there number.1)))))
+
+  pub recipe_goes : (ws : List W) (n : Counters) (s : State R T B) → Goes s (recipe leaves kept ws n s)
+  unfolding recipe
+  recipe_goes ws n s =
+      first s (expect leaves kinds.Identifier s) _ (expects leaves kinds.Identifier s) (λ name.
+      then name.1 (expect leaves kinds.Colon name.1) _ (keeps name.1 _ (expects leaves kinds.Colon name.1)) (λ colon.
+      then colon.1 (defined leaves kept ws colon.1) _ (defined_keeps ws colon.1) (λ checked.
+      then checked.1 (optional_body leaves checked.1) _ (optional_body_keeps leaves checked.1) (λ b.
+      then b.1 (draw_recipe leaves n b.1) _ (recipe_number_keeps leaves n b.1) (λ number. there number.1)))))
+
+  pub content_goes : (ws : List W) (n : Counters) (s : State R T B) → Goes s (content leaves kept ws n s)
+  unfolding content
+  content_goes ws n s =
+      after_test (next_are leaves (kinds.Identifier ∷ kinds.ColonEquals ∷ []) s) _ _ (Goes {X = Item A B ℕ S D × Counters} s) (λ _. assignment_goes ws n s)
+      (λ _. recipe_goes ws n s)
+
+  before_item_keeps : (opener : T) (x : List W × State R T B) → Keeps x.1 (before_item leaves kept opener x)
+  before_item_keeps opener x = after_test (stands_alone leaves kept x.1) _ _ (Keeps {X = List W} x.1) (λ _. tt) (λ _. there x.1)
+
+  -- no attribute may stand before a construct
+  pub attributes_keep : (s : State R T B) → Keeps s (attributes leaves kept s)
+  unfolding attributes
+  attributes_keep s = go (accept leaves kinds.BracketL s)
+    where
+      go : (o : Taken R T B)
+          → Keeps s (choose o (Ok ([], s)) (λ opener. attribute_lines leaves kept.sight kept.keep kept.entry s >>= before_item leaves kept opener.0))
+      go None = there s
+      go (Some opener) =
+          then s (attribute_lines leaves kept.sight kept.keep kept.entry s) _ (attribute_lines_keep leaves kept.sight kept.keep kept.entry s)
+          (λ ws. before_item_keeps opener.0 ws)
+
+  pub construct_goes : (n : Counters) (s : State R T B) → Goes s (construct leaves kept n s)
+  unfolding construct
+  construct_goes n s = then_goes s (attributes leaves kept s) _ (attributes_keep s) (λ ws. content_goes ws.0 n ws.1)
+
+  pub on_line_goes : (n : Counters) (s : State R T B) → Goes s (on_line leaves kept n s)
+  unfolding on_line
+  on_line_goes n s = either_goes s (accept leaves kinds.Comment s) _ _ (accepts leaves kinds.Comment s) (construct_goes n s) (λ c. there c.1)
+
+  -- the end of the file is left
+  pub line_end_keeps : (s : State R T B) → Keeps s (line_end leaves kept s)
+  unfolding line_end
+  line_end_keeps s =
+      ending (accept leaves kinds.Eof s) _ (then s (expect leaves kinds.Eol s) _ (keeps s _ (expects leaves kinds.Eol s)) (λ x. there x.1))
+    where
+      ending : (o : Taken R T B) (x : Read R T B (List (Item A B ℕ S D))) → Keeps s x → Keeps s (choose o x (λ y. Ok ([], s)))
+      ending None x h = h
+      ending (Some p) x h = there s
+
+  pub item_rest_keeps : (s : State R T B) → Keeps s (item_rest leaves kept s)
+  unfolding item_rest
+  item_rest_keeps s =
+      either s (accept leaves kinds.Comment s) _ _ (accepts leaves kinds.Comment s) (line_end_keeps s)
+      (λ c. then c.1 (line_end leaves kept c.1) _ (line_end_keeps c.1) (λ end. there end.1))
+
+  pub ended_keeps : (b : Bool) (s : State R T B) → Keeps s (ended leaves kept b s)
+  unfolding ended
+  ended_keeps b s = after_test b _ _ (Keeps {X = List (Item A B ℕ S D)} s) (λ _. there s) (λ _. item_rest_keeps s)
+
+  pub line_goes : (n : Counters) (s : State R T B) → Goes s (line leaves kept n s)
+  unfolding line
+  line_goes n s =
+      either_goes s (accept leaves kinds.Eol s) _ _ (accepts leaves kinds.Eol s)
+      (first s (on_line leaves kept n s) _ (on_line_goes n s) (λ i. then i.1 (ended leaves kept (has_body i.0.0) i.1) _ (ended_keeps (has_body i.0.0) i.1) (λ b. there b.1)))
+      (λ newline. there newline.1)
+
+  -- ---- the rule of items
+
+  inside : Start leaves kept → Start leaves kept → Read R T B (List (Item A B ℕ S D) × Counters)
+  inside x = below (λ x. length x.1.left) (no_items leaves kept) (items_rule leaves kept) x (items_from leaves kept)
+
+  unfolded : (x : Start leaves kept) → items_from leaves kept x ≡ items_rule leaves kept (inside x) x
+  unfolding items_from inside
+  unfolded x = recursive_is (λ x. length x.1.left) (no_items leaves kept) (items_rule leaves kept) x
+
+  inside_is : (x y : Start leaves kept) → length y.1.left < length x.1.left → inside x y ≡ items_from leaves kept y
+  unfolding inside
+  inside_is x y h = below_smaller (λ x. length x.1.left) (no_items leaves kept) (items_rule leaves kept) x (items_from leaves kept) y h
+
+  pub items_is : (n : Counters) (s : State R T B) → items leaves kept n s ≡ items_rule leaves kept (items_from leaves kept) (n, s)
+  unfolding items_rule
+  items_is n s =
+      unfolded (n, s) ∙ choose_alike (accept leaves kinds.Eof s) _ _ _ _
+      (λ _. bind_alike (line leaves kept n s) _ _ (λ l is. ap (after_numbered l.0.0) (inside_is (n, s) (l.0.1, l.1) (past s _ l (line_goes n s) is).0)))
+      (λ _ _. refl)
+
+  -- ---- a loop over items: `done` was read before, and `s` is what is left
+
+  module _ (done : List (Item A B ℕ S D)) (n : Counters) (s : State R T B) where
+    -- a line is read
+    pub items_go_on : (more : List (Item A B ℕ S D)) (m : Counters) (rest : State R T B) → accept leaves kinds.Eof s ≡ None → line leaves kept n s ≡ Ok ((more, m), rest)
+        → after_numbered done (items leaves kept n s) ≡ after_numbered (done ++ more) (items leaves kept m rest)
+    unfolding items_rule
+    items_go_on more m rest h1 h2 = rw (items_is n s, h1, h2) (numbered_regroups done more (items leaves kept m rest))
+
+    -- the end of the file, whatever stands after it
+    pub items_at_end : (end : T) (rest : State R T B) → accept leaves kinds.Eof s ≡ Some (end, rest) → after_numbered done (items leaves kept n s) ≡ after_numbered done (at_end leaves kept n rest)
+    unfolding items_rule
+    items_at_end end rest h = rw (items_is n s, h) refl
+
+    -- a line is refused
+    pub items_fail : (e : Refusal T B) → accept leaves kinds.Eof s ≡ None → line leaves kept n s ≡ Err e → after_numbered done (items leaves kept n s) ≡ Err e
+    unfolding items_rule
+    items_fail e h1 h2 = rw (items_is n s, h1, h2) (numbered_refused done e)

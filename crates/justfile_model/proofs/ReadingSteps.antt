@@ -128,7 +128,7 @@ module _ {R T B : Type 0} where
 
 -- ---- tokens
 
-module _ {R T A B S D : Type 0} (leaves : Leaves R T A B S D) where
+module _ {R T A B S : Type 0} (leaves : Leaves R T A B S) where
   passes : (test : SignificantToken → Bool) (s : State R T B) (l : List T) → length l ≤ length s.left → Takes s (accept_by leaves test s l)
   passes test s [] h p e = cc
   passes test s (t ∷ ts) h p e = by_test s t ts (test (leaves.see t)) (omega (arith, h)) p e

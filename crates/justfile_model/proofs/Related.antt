@@ -16,7 +16,7 @@ use Rattle.justfile_model.specs.Literals as literals
 use Rattle.justfile_model.specs.Literals.{Expansions, Literal, LiteralFault, cooked_text, string_of, token_of}
 use Rattle.justfile_model.specs.Operators.{binary, is_at, operator_of}
 use Rattle.justfile_model.specs.Reader.{has_body}
-use Rattle.justfile_model.specs.Reading.{◌>>=◌, BreaksRule, Counters, Leaves, NoNumber, NotCooked, Read, Refusal, State, Taken, TooDeep, Unexpected, accept, accept_by, accept_marked, accept_word, at, begin_with, choose, expect, is_word, marked_by, marks, next_are, refused, same_kind, with}
+use Rattle.justfile_model.specs.Reading.{◌>>=◌, BreaksRule, Counters, Extraneous, Leaves, NoNumber, NotCooked, Read, Refusal, State, Taken, TooDeep, Unexpected, accept, accept_by, accept_marked, accept_word, at, begin_with, choose, expect, is_word, marked_by, marks, next_are, refused, same_kind, with}
 use Rattle.justfile_model.specs.Rules.{Broken}
 use Rattle.justfile_model.specs.SignificantTokens.{SignificantToken}
 use Rattle.justfile_model.specs.Tree as tree
@@ -248,6 +248,7 @@ module _ {R T A B S D R' T' A' B' S' D' : Type 0} (rel : Relations R T A B S D R
     too_deep : {o : Option T} {o' : Option T'} → AlikeNext o o' → Refusals (TooDeep o) (TooDeep o')
     not_cooked : {fault : LiteralFault} {b : B} {b' : B'} → rel.spot b b' → Refusals (NotCooked fault b) (NotCooked fault b')
     breaks : {r : Broken B} {r' : Broken B'} → AlikeBroken rel.spot r r' → Refusals (BreaksRule r) (BreaksRule r')
+    extraneous : {count count' : ℕ} {b : B} {b' : B'} → count ≡ count' → rel.spot b b' → Refusals (Extraneous count b) (Extraneous count' b')
 
   -- Both are read and related, or refused for the same reason. Where a number is wanting in the one, `Short` is known of the other.
   pub data Related {X Y : Type 0} (Q : X → Y → Type 0) (Short : Counters → Read R' T' B' Y → Type 0) : Read R T B X → Read R' T' B' Y → Type 0 where
@@ -313,7 +314,7 @@ module _ {R T A B S D R' T' A' B' S' D' : Type 0} (rel : Relations R T A B S D R
   meet_tested false o h k = none_met
 
   -- what the two make of tokens is related
-  pub record Respects (one : Leaves R T A B S D) (other : Leaves R' T' A' B' S' D') : Type 0 where
+  pub record Respects (one : Leaves R T A B S) (other : Leaves R' T' A' B' S') : Type 0 where
     pub conditions : (r : R) (r' : R') → rel.run r r' → one.conditions r ≡ other.conditions r'
     pub see : (t : T) (t' : T') → rel.token t t' → one.see t ≡ other.see t'
     pub spot : (t : T) (t' : T') → rel.token t t' → rel.spot (one.spot t) (other.spot t')
@@ -322,13 +323,12 @@ module _ {R T A B S D R' T' A' B' S' D' : Type 0} (rel : Relations R T A B S D R
         → rel.literal l (one.literal t l text) (other.literal t' l text)
     pub text : (t : T) (t' : T') → rel.token t t' → rel.text (one.text t) (other.text t')
     pub star : (t : T) (t' : T') → rel.token t t' → rel.star (one.star t) (other.star t')
-    pub no_attributes : rel.attributes one.no_attributes other.no_attributes
     pub assignment : (r : R) (r' : R') (t : T) (t' : T') → rel.run r r' → rel.token t t' → (number : ℕ) → rel.assignment number (one.assignment r t number) (other.assignment r' t' number)
     pub recipe : (r : R) (r' : R') (t : T) (t' : T') → rel.run r r' → rel.token t t' → (number : ℕ) (body : List (BodyLine A B ℕ)) (body' : List (BodyLine A' B' ℕ)) → Each AlikeLine body body'
         → rel.recipe number (one.recipe r t number body) body (other.recipe r' t' number body') body'
     pub has_number : (n : ℕ) → one.has_number n ≡ true → other.has_number n ≡ true
 
-  module _ (one : Leaves R T A B S D) (other : Leaves R' T' A' B' S' D') (agree : Respects one other) where
+  module _ (one : Leaves R T A B S) (other : Leaves R' T' A' B' S') (agree : Respects one other) where
     accepted_by : (test : SignificantToken → Bool) {s : State R T B} {s' : State R' T' B'} {ts : List T} {ts' : List T'} → States s s' → Each rel.token ts ts' → Takes (accept_by one test s ts) (accept_by other test s' ts')
     accepted_by test h nil = none_taken
     accepted_by test h (cons {x = t} {y = t'} k ks) = take_tested (test (one.see t)) (test (other.see t')) (ap test (agree.see t t' k)) k (at_alike h ks)

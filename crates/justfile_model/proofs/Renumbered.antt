@@ -1,15 +1,16 @@
 -- A tree of tokens keeps no numbers: wherever the counters stand, the same is read.
 use Rattle.std.proofs.Common.{◌≡◌, Bool, true, false, cond, List, [], ◌∷◌, length, Some, None, Result, Ok, Err, refl}
 use Rattle.justfile_base.specs.declared.token_kind.TokenKind.TheVariants as kinds
+use Rattle.justfile_model.specs.ReadAttribute.{ReadAttribute}
 use Rattle.justfile_model.specs.Reader as reader
-use Rattle.justfile_model.specs.Reader.{Start, after_mark, after_numbered, assignment, at_end, optional_body, draw_binding, draw_recipe, ended, expression, has_body, items, items_from, items_rule, line, end_of_tokens, on_line, recipe, no_items}
+use Rattle.justfile_model.specs.Reader.{Start, after_mark, after_numbered, allowed, assignment, at_end, attributes, construct, content, defined, optional_body, draw_binding, draw_recipe, ended, expression, has_body, items, items_from, items_rule, line, end_of_tokens, on_line, recipe, no_items}
 use Rattle.justfile_model.specs.Conditions.{Conditions}
 use Rattle.justfile_model.specs.Features.{Noted}
 use Rattle.justfile_model.specs.Reading.{◌>>=◌, Counters, accept, choose, expect, next_are}
 use Rattle.justfile_model.specs.SignificantTokens.{SignificantToken}
 use Rattle.justfile_model.specs.Tok.{Tok}
 use Rattle.justfile_model.specs.Tree.{WrittenTree}
-use Rattle.justfile_model.specs.TreeReader.{Read, Refusal, State, Taken, tree_of_tokens, start_state, token_leaves, unnumbered}
+use Rattle.justfile_model.specs.TreeReader.{Read, Refusal, State, Taken, tree_of_tokens, start_state, token_attributes, token_leaves, unnumbered}
 use Rattle.justfile_model.proofs.Turns.{both_recur}
 
 -- two readings that find one thing, but for the counters
@@ -33,35 +34,42 @@ by_test : {Y : Type 0} (b : Bool) (x y z w : Read (Y × Counters)) → Alike x y
 by_test true x y z w h k = h
 by_test false x y z w h k = k
 
-assignments : (n m : Counters) (s : State) → Alike (assignment token_leaves n s) (assignment token_leaves m s)
+assignments : (ws : List ReadAttribute) (n m : Counters) (s : State)
+    → Alike (assignment token_leaves token_attributes ws n s) (assignment token_leaves token_attributes ws m s)
 unfolding assignment draw_binding
-assignments n m s =
-    bind (expect token_leaves kinds.Identifier s) _ _ (λ name. bind (expect token_leaves kinds.ColonEquals name.1) _ _ (λ operator. bind (expression token_leaves operator.1) _ _ (λ e. both)))
+assignments ws n m s =
+    bind (expect token_leaves kinds.Identifier s) _ _ (λ name. bind (expect token_leaves kinds.ColonEquals name.1) _ _ (λ operator.
+    bind (expression token_leaves operator.1) _ _ (λ e. bind (allowed token_leaves token_attributes ws name.0 e.1) _ _ (λ checked. both))))
 
-recipes : (n m : Counters) (s : State) → Alike (recipe token_leaves n s) (recipe token_leaves m s)
+recipes : (ws : List ReadAttribute) (n m : Counters) (s : State)
+    → Alike (recipe token_leaves token_attributes ws n s) (recipe token_leaves token_attributes ws m s)
 unfolding recipe draw_recipe
-recipes n m s =
-    bind (expect token_leaves kinds.Identifier s) _ _ (λ name. bind (expect token_leaves kinds.Colon name.1) _ _ (λ colon. bind (optional_body token_leaves colon.1) _ _ (λ b. both)))
+recipes ws n m s =
+    bind (expect token_leaves kinds.Identifier s) _ _ (λ name. bind (expect token_leaves kinds.Colon name.1) _ _ (λ colon.
+    bind (defined token_leaves token_attributes ws colon.1) _ _ (λ checked. bind (optional_body token_leaves checked.1) _ _ (λ b. both))))
 
-on_lines : (n m : Counters) (s : State) → Alike (on_line token_leaves n s) (on_line token_leaves m s)
+constructs : (n m : Counters) (s : State) → Alike (construct token_leaves token_attributes n s) (construct token_leaves token_attributes m s)
+unfolding construct content
+constructs n m s =
+    bind (attributes token_leaves token_attributes s) _ _ (λ ws.
+    by_test (next_are token_leaves (kinds.Identifier ∷ kinds.ColonEquals ∷ []) ws.1) _ _ _ _ (assignments ws.0 n m ws.1) (recipes ws.0 n m ws.1))
+
+on_lines : (n m : Counters) (s : State) → Alike (on_line token_leaves token_attributes n s) (on_line token_leaves token_attributes m s)
 unfolding on_line
-on_lines n m s =
-    pick (accept token_leaves kinds.Comment s) _ _ _ _
-    (by_test (next_are token_leaves (kinds.Identifier ∷ kinds.ColonEquals ∷ []) s) _ _ _ _ (assignments n m s) (recipes n m s))
-    (λ c. both)
+on_lines n m s = pick (accept token_leaves kinds.Comment s) _ _ _ _ (constructs n m s) (λ c. both)
 
-lines : (n m : Counters) (s : State) → Alike (line token_leaves n s) (line token_leaves m s)
+lines : (n m : Counters) (s : State) → Alike (line token_leaves token_attributes n s) (line token_leaves token_attributes m s)
 unfolding line
 lines n m s =
     pick (accept token_leaves kinds.Eol s) _ _ _ _
-    (then _ _ (on_lines n m s) (λ i k l t. bind (ended token_leaves (has_body i) t) _ _ (λ b. both)))
+    (then _ _ (on_lines n m s) (λ i k l t. bind (ended token_leaves token_attributes (has_body i) t) _ _ (λ b. both)))
     (λ newline. both)
 
 -- where a line begins, whatever the counters
-data Begins : Start token_leaves → Start token_leaves → Type 0 where
+data Begins : Start token_leaves token_attributes → Start token_leaves token_attributes → Type 0 where
   begins : (n m : Counters) (s : State) → Begins (n, s) (m, s)
 
-ends : (n m : Counters) (s : State) (ts : List SignificantToken) → Alike (end_of_tokens token_leaves n s ts) (end_of_tokens token_leaves m s ts)
+ends : (n m : Counters) (s : State) (ts : List SignificantToken) → Alike (end_of_tokens token_leaves token_attributes n s ts) (end_of_tokens token_leaves token_attributes m s ts)
 ends n m s [] = both
 ends n m s (t ∷ ts) = neither
 
@@ -69,20 +77,20 @@ others : (done : WrittenTree) {found found' : Read (WrittenTree × Counters)} �
 unfolding after_numbered
 others done h = then _ _ h (λ x n m s. both)
 
-rules : (f g : Start token_leaves → Read (WrittenTree × Counters)) → ((x y : Start token_leaves) → Begins x y → Alike (f x) (g y)) → (x y : Start token_leaves) → Begins x y → Alike (items_rule token_leaves f x) (items_rule token_leaves g y)
+rules : (f g : Start token_leaves token_attributes → Read (WrittenTree × Counters)) → ((x y : Start token_leaves token_attributes) → Begins x y → Alike (f x) (g y)) → (x y : Start token_leaves token_attributes) → Begins x y → Alike (items_rule token_leaves token_attributes f x) (items_rule token_leaves token_attributes g y)
 unfolding items_rule at_end
 rules f g alike x y (begins n m s) =
     pick (accept token_leaves kinds.Eof s) _ _ _ _
     (then _ _ (lines n m s) (λ l k j t. others l (alike (k, t) (j, t) (begins k j t))))
     (λ end. ends n m end.1 end.1.left)
 
-all_items : (n m : Counters) (s : State) → Alike (items token_leaves n s) (items token_leaves m s)
+all_items : (n m : Counters) (s : State) → Alike (items token_leaves token_attributes n s) (items token_leaves token_attributes m s)
 unfolding items_from
 all_items n m s =
-    both_recur (λ x. length x.1.left) (no_items token_leaves) (items_rule token_leaves) (λ x. length x.1.left) (no_items token_leaves) (items_rule token_leaves)
+    both_recur (λ x. length x.1.left) (no_items token_leaves token_attributes) (items_rule token_leaves token_attributes) (λ x. length x.1.left) (no_items token_leaves token_attributes) (items_rule token_leaves token_attributes)
     Begins same_size (λ x y found found'. Alike found found') (λ x y h. neither) rules (n, s) (m, s) (begins n m s)
   where
-    same_size : (x y : Start token_leaves) → Begins x y → length x.1.left ≡ length y.1.left
+    same_size : (x y : Start token_leaves token_attributes) → Begins x y → length x.1.left ≡ length y.1.left
     same_size x y (begins n m s) = refl
 
 -- the tree and its features, as a file is read
@@ -94,6 +102,6 @@ same_whole both = refl
 same_whole neither = refl
 
 -- a file is read alike wherever the counters stand
-pub file_by : (n : Counters) (conditions : Conditions) (tokens : List SignificantToken) → whole (reader.file token_leaves n (start_state conditions tokens)) ≡ tree_of_tokens conditions tokens
+pub file_by : (n : Counters) (conditions : Conditions) (tokens : List SignificantToken) → whole (reader.file token_leaves token_attributes n (start_state conditions tokens)) ≡ tree_of_tokens conditions tokens
 unfolding reader.file tree_of_tokens
-file_by n conditions tokens = same_whole (all_items n unnumbered (after_mark token_leaves (start_state conditions tokens)))
+file_by n conditions tokens = same_whole (all_items n unnumbered (after_mark token_leaves token_attributes (start_state conditions tokens)))

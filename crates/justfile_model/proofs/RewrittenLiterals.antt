@@ -30,11 +30,11 @@ module _ {X : Type 0} (P : X → Type 0) where
   abbrev Each : List X → Type 0
   Each xs = AllByRecursion P xs
 
-  both : (xs ys : List X) → Each xs → Each ys → Each (xs ++ ys)
+  pub both : (xs ys : List X) → Each xs → Each ys → Each (xs ++ ys)
   both [] ys h k = k
   both (x ∷ xs) ys h k = (h.0, both xs ys h.1 k)
 
-  parts : (xs ys : List X) → Each (xs ++ ys) → Each xs × Each ys
+  pub parts : (xs ys : List X) → Each (xs ++ ys) → Each xs × Each ys
   parts [] ys h = (tt, h)
   parts (x ∷ xs) ys h = let r = parts xs ys h.1 in ((h.0, r.0), r.1)
 

@@ -15,7 +15,7 @@ use Rattle.justfile_model.proofs.Kinded.{KindedWritten}
 use Rattle.justfile_model.proofs.RewrittenEntries.{entries_again, construct_again}
 use Rattle.justfile_model.proofs.SeenShapes.{entries_seen, construct_broken_seen}
 
-none_of_none : {X Y : Type 0} (f : X → Y) (xs : List X) → map f xs ≡ [] → xs ≡ []
+pub none_of_none : {X Y : Type 0} (f : X → Y) (xs : List X) → map f xs ≡ [] → xs ≡ []
 none_of_none f [] e = refl
 none_of_none f (x ∷ xs) e = never_nil (f x) (map f xs) e
 

@@ -2,24 +2,31 @@
 use Rattle.std.proofs.Common.{◌≡◌, ℕ, Bool, true, false, cond, List, [], ◌∷◌, ◌++◌, length, drop, Option, Some, None, Ok, Err, IfOk, refl, sym, subst, ap, ◌∙◌, append_assoc}
 use Rattle.std.specs.Str.{trim_end}
 use Rattle.justfile_base.specs.declared.token_kind.TokenKind.TheVariants as kinds
+use Rattle.justfile_base.specs.declared.item_kind.ItemKind.TheVariants as item_kinds
+use Rattle.justfile_model.specs.AttributeLines as attributes_of
+use Rattle.justfile_model.specs.AttributeRules.{allowed_broken, arg_rules, meaning_broken, undefined_broken}
 use Rattle.justfile_model.specs.Conditions.{Conditions}
+use Rattle.justfile_model.specs.ReadAttribute.{ReadAttribute, token_sight}
+use Rattle.justfile_model.specs.Rules.{Broken}
 use Rattle.justfile_model.specs.Tok.{Tok}
 use Rattle.justfile_model.specs.SignificantTokens.{SignificantToken}
 use Rattle.justfile_model.specs.Tree as tree
-use Rattle.justfile_model.specs.Tree.{BodyLine, Construct, Content, Expr, Fragment, Line, WrittenItem, WrittenTree, itself, plain_assignment, plain_recipe, trimmed}
+use Rattle.justfile_model.specs.Tree.{BodyLine, Construct, Content, Expr, Fragment, Line, WrittenAttribute, WrittenItem, WrittenTree, itself, plain_assignment, plain_recipe, trimmed}
 use Rattle.justfile_model.specs.Features.{Noted}
 use Rattle.justfile_model.specs.Expressions.{Tokens, IsKind, NotNext, Under}
 use Rattle.justfile_model.specs.Grammar as g
 use Rattle.justfile_model.specs.Grammar.{BeforeBody, NotEmpty}
 use Rattle.justfile_model.specs.Literals.{Literal}
-use Rattle.justfile_model.specs.Files.{all_literals, body_literals, fragments_literals, item_literals, keeps_tokens, written_literals}
-use Rattle.justfile_model.specs.Reading.{Counters, at, next_are, prepend}
+use Rattle.justfile_model.specs.Files.{all_literals, body_literals, content_literals, fragments_literals, item_literals, keeps_tokens, written_literals}
+use Rattle.justfile_model.specs.Reading.{◌>>=◌, BreaksRule, Counters, at, next_are, prepend}
 use Rattle.justfile_model.specs.Reader as reader
-use Rattle.justfile_model.specs.Reader.{Start, after_numbered, assignment, at_end, item_rest, body, optional_body, body_line, comment_item, draw_binding, draw_recipe, ended, expression, fragment, has_body, items, items_from, items_rule, line, line_at, line_end, line_rest, line_rest_rule, lines, lines_rule, no_line_rest, no_lines, on_line, recipe, some_lines, no_items}
-use Rattle.justfile_model.specs.TreeReader.{Read, State, tree_of_tokens, start_state, token_leaves, unnumbered}
+use Rattle.justfile_model.specs.Reader.{Start, after_numbered, assignment, at_end, attributes, construct, content, content_has_body, entries_read, item_rest, body, optional_body, body_line, comment_item, draw_binding, draw_recipe, ended, expression, fragment, has_body, items, items_from, items_rule, line, line_at, line_end, line_rest, line_rest_rule, lines, lines_rule, no_line_rest, no_lines, obeying, on_line, recipe, some_lines, stands_alone, no_items}
+use Rattle.justfile_model.specs.TreeReader.{Read, Refusal, State, read_attributes, tree_of_tokens, start_state, token_attributes, token_leaves, unnumbered}
+use Rattle.justfile_model.proofs.AttributeSound.{AttributeLines, IsRead, attributes_at, entries_in, written_in}
+use Rattle.justfile_model.proofs.Obeyed.{Obeyed, comment_obeyed, construct_obeyed}
 use Rattle.justfile_model.proofs.ReadingSteps.{after_test, known}
 use Rattle.justfile_model.proofs.Turns.{recursive_keeps}
-use Rattle.justfile_model.proofs.Steps.{AreNext, are_next, after_bind, after_choose, after_expect}
+use Rattle.justfile_model.proofs.Steps.{AreNext, are_next, after_bind, after_choose, after_expect, weaken}
 use Rattle.justfile_model.proofs.CookedTexts.{AllCook, fragments_cook, lines_cook, items_cook, trimmed_literals}
 use Rattle.justfile_model.proofs.Meets.{Met, nothing_met, both_met, all_met}
 use Rattle.justfile_model.proofs.ExpressionSound as e
@@ -57,18 +64,32 @@ module _ (conditions : Conditions) where
 
   -- an item with a body, or without one, before what ends it
   pub data Starts : Bool → WrittenItem Tok Tok ℕ Tok → List (Noted Tok) → Tokens → Tokens → Type 0 where
-    of_comment : {t : SignificantToken} {rest : Tokens} → IsKind kinds.Comment t → Starts false (comment_item token_leaves t) [] (t ∷ rest) rest
-    of_line : {c : Content Tok Tok ℕ Tok} {fs : List (Noted Tok)} {ts rest : Tokens} → OnLine c fs ts rest → Starts false (Construct [] c) fs ts rest
-    of_block : {c : Content Tok Tok ℕ Tok} {fs : List (Noted Tok)} {ts rest : Tokens} → Block c fs ts rest → Starts true (Construct [] c) fs ts rest
+    of_comment : {t : SignificantToken} {rest : Tokens} → IsKind kinds.Comment t → Starts false (comment_item token_leaves token_attributes t) [] (t ∷ rest) rest
+    of_line : {ws : List (WrittenAttribute Tok Tok)} {c : Content Tok Tok ℕ Tok} {gs fs : List (Noted Tok)} {ts header rest : Tokens}
+        → AttributeLines conditions ws gs ts header → OnLine c fs header rest → Starts false (Construct ws c) (gs ++ fs) ts rest
+    of_block : {ws : List (WrittenAttribute Tok Tok)} {c : Content Tok Tok ℕ Tok} {gs fs : List (Noted Tok)} {ts header rest : Tokens}
+        → AttributeLines conditions ws gs ts header → Block c fs header rest → Starts true (Construct ws c) (gs ++ fs) ts rest
+
+  -- a construct with a body, or without one, before its end
+  pub data Contents : Bool → Content Tok Tok ℕ Tok → List (Noted Tok) → Tokens → Tokens → Type 0 where
+    a_line : {c : Content Tok Tok ℕ Tok} {fs : List (Noted Tok)} {ts rest : Tokens} → OnLine c fs ts rest → Contents false c fs ts rest
+    a_block : {c : Content Tok Tok ℕ Tok} {fs : List (Noted Tok)} {ts rest : Tokens} → Block c fs ts rest → Contents true c fs ts rest
+
+  starts : {b : Bool} {ws : List (WrittenAttribute Tok Tok)} {c : Content Tok Tok ℕ Tok} {gs fs : List (Noted Tok)} {ts header rest : Tokens}
+      → AttributeLines conditions ws gs ts header → Contents b c fs header rest → Starts b (Construct ws c) (gs ++ fs) ts rest
+  starts a (a_line o) = of_line a o
+  starts a (a_block b) = of_block a b
 
   -- at `Eof` a line's end is the file's
   at_eof : {items : WrittenTree} {fs : List (Noted Tok)} {t : SignificantToken} {rest : Tokens} → IsKind kinds.Eof t → Items items fs (t ∷ rest) → LineEnd items fs (t ∷ rest)
   at_eof kind (g.end kind2) = g.file_end kind2
   at_eof kind (g.blank kind2 more) = cc
   at_eof kind (g.comment kind2 more) = cc
-  at_eof kind (g.on_line (g.assignment kind2 kind3 e) more) = cc
-  at_eof kind (g.on_line (g.header kind2 kind3) more) = cc
-  at_eof kind (g.block (g.recipe kind2 kind3 first lines some) more) = cc
+  at_eof kind (g.on_line (attributes_of.line kind2 b e others) o more) = cc
+  at_eof kind (g.on_line (attributes_of.none not) (g.assignment kind2 kind3 e) more) = cc
+  at_eof kind (g.on_line (attributes_of.none not) (g.header kind2 kind3) more) = cc
+  at_eof kind (g.block (attributes_of.line kind2 b e others) o more) = cc
+  at_eof kind (g.block (attributes_of.none not) (g.recipe kind2 kind3 first ls some) more) = cc
 
   -- where a body ends, its last line does
   at_dedent : (ts : Tokens) → AreNext (kinds.Dedent ∷ []) ts → LineRest [] [] ts ts
@@ -97,12 +118,10 @@ module _ (conditions : Conditions) where
   abbrev recipe_content : SignificantToken → List (BodyLine Tok Tok ℕ) → Content Tok Tok ℕ Tok
   recipe_content name ls = tree.Recipe (plain_recipe name.tok ls)
 
-  abbrev recipe_item : SignificantToken → List (BodyLine Tok Tok ℕ) → WrittenItem Tok Tok ℕ Tok
-  recipe_item name ls = Construct [] (recipe_content name ls)
-
-  starts_block : (name : SignificantToken) (fs : List (Noted Tok)) (ts rest : Tokens) (ls : List (BodyLine Tok Tok ℕ)) → Block (recipe_content name ls) fs ts rest → NotEmpty ls → Starts (has_body (recipe_item name ls)) (recipe_item name ls) fs ts rest
+  starts_block : (name : SignificantToken) (fs : List (Noted Tok)) (ts rest : Tokens) (ls : List (BodyLine Tok Tok ℕ))
+      → Block (recipe_content name ls) fs ts rest → NotEmpty ls → Contents (content_has_body (recipe_content name ls)) (recipe_content name ls) fs ts rest
   starts_block name fs ts rest [] b some = absurd some
-  starts_block name fs ts rest (l ∷ ls) b some = of_block b
+  starts_block name fs ts rest (l ∷ ls) b some = a_block b
 
   -- one after the other, with all their literals
   joined : {fs gs : List (Noted Tok)} {ls ms all : List (Literal Tok)} {a b c : List (Noted Tok)} → Met conditions.expander fs ls a b → Met conditions.expander gs ms b c → AllCook conditions.expander all → Met conditions.expander (fs ++ gs) all a c
@@ -143,8 +162,17 @@ module _ (conditions : Conditions) where
     no_body : IsOptionalBody s ([], s)
     a_body : {comment : Option (List ℕ)} {first : Tokens} {x : List (BodyLine Tok Tok ℕ) × State} → BeforeBody comment s.left first → IsBody (at s first) x → IsOptionalBody s x
 
-  abbrev pub IsOnLine : State → (WrittenItem Tok Tok ℕ Tok × Counters) × State → Type 0
-  IsOnLine s x = Derived conditions (Starts (has_body x.0.0) x.0.0) (item_literals written_literals x.0.0) 0 s x.1
+  -- a construct that was read after its attributes
+  pub record IsContent (ws : List ReadAttribute) (s : State) (x : (WrittenItem Tok Tok ℕ Tok × Counters) × State) : Type 0 where
+    pub content : Content Tok Tok ℕ Tok
+    pub is : x.0.0 ≡ Construct (written_in ws) content
+    pub derived : Derived conditions (Contents (content_has_body content) content) (content_literals content) 0 s x.1
+    pub unbroken : meaning_broken (token_sight conditions) content (entries_read token_leaves token_attributes conditions ws) ≡ []
+
+  -- an item that was read: it derives, and obeys the rules
+  pub record IsOnLine (s : State) (x : (WrittenItem Tok Tok ℕ Tok × Counters) × State) : Type 0 where
+    pub derived : Derived conditions (Starts (has_body x.0.0) x.0.0) (item_literals written_literals x.0.0) 0 s x.1
+    pub obeys : Obeyed (token_sight conditions) x.0.0
 
   -- items that were read, before any that may follow
   abbrev pub Leads : (WrittenTree → List (Noted Tok) → Tokens → Type 0) → State → WrittenTree × State → Type 0
@@ -163,21 +191,43 @@ module _ (conditions : Conditions) where
     pub derives : File x.0 x.1 ts
     pub cooks : AllCook conditions.expander (all_literals x.0)
 
-  pub assignment_sound : (n : Counters) (s : State) → Here conditions 0 s → IfOk (assignment token_leaves n s) (IsOnLine s)
+  -- rules that are obeyed are none that are broken
+  after_obeying : {X : Type 0} (rules : List (Broken Tok)) (s : State) (f : Unit {0} × State → Read X) (P : Read X → Type 0) → ((e : Refusal) → P (Err e))
+      → (rules ≡ [] → P (f (tt, s))) → P (obeying rules s >>= f)
+  after_obeying [] s f P fails goes = goes refl
+  after_obeying (r ∷ rs) s f P fails goes = fails (BreaksRule r)
+
+  -- what an assignment with this name breaks by its attributes
+  abbrev name_breaks : List ReadAttribute → Tok → Conditions → List (Broken Tok)
+  name_breaks ws name run = allowed_broken (token_sight run) item_kinds.Assignment name (entries_read token_leaves token_attributes run ws)
+
+  -- what a recipe breaks
+  abbrev recipe_breaks : List ReadAttribute → Conditions → List (Broken Tok)
+  recipe_breaks ws run = undefined_broken (token_sight run) (arg_rules (token_sight run) (entries_read token_leaves token_attributes run ws))
+
+  pub assignment_sound : (ws : List ReadAttribute) (n : Counters) (s : State) → Here conditions 0 s
+      → IfOk (assignment token_leaves token_attributes ws n s) (IsContent ws s)
   unfolding assignment draw_binding
-  assignment_sound n s here =
-      let P : Read (WrittenItem Tok Tok ℕ Tok × Counters) → Type 0 = λ o. IfOk o (IsOnLine s) in
+  assignment_sound ws n s here =
+      let P : Read (WrittenItem Tok Tok ℕ Tok × Counters) → Type 0 = λ o. IfOk o (IsContent ws s) in
       after_expect kinds.Identifier s _ P (λ e. tt) (λ name t1 split kind.
       after_expect kinds.ColonEquals (at s t1) _ P (λ e. tt) (λ operator t2 split2 kind2.
       after_bind (expression token_leaves (at s t2)) _ P (λ e. tt) (λ e is.
       let found = expression_derives conditions false 0 (at s t2) e is here in
-      let R : Tokens → Type 0 = λ ts. OnLine (tree.Assignment (plain_assignment name.tok e.0)) found.features ts e.1.left in
+      let c : Content Tok Tok ℕ Tok = tree.Assignment (plain_assignment name.tok e.0) in
+      let R : Tokens → Type 0 = λ ts. OnLine c found.features ts e.1.left in
+      after_obeying (name_breaks ws name.tok e.1.run) e.1 _ P (λ e. tt) (λ none.
       record {
-        features = found.features;
-        derives = of_line (subst R (sym split) (subst (λ (ts : Tokens). R (name ∷ ts)) (sym split2) (g.assignment kind kind2 found.derives)));
-        met = found.met;
-        stays = found.stays;
-      })))
+        content = c;
+        is = refl;
+        derived = record {
+          features = found.features;
+          derives = a_line (subst R (sym split) (subst (λ (ts : Tokens). R (name ∷ ts)) (sym split2) (g.assignment kind kind2 found.derives)));
+          met = found.met;
+          stays = found.stays;
+        };
+        unbroken = subst (λ run. name_breaks ws name.tok run ≡ []) found.stays.1 none;
+      }))))
 
   -- ---- bodies
 
@@ -305,10 +355,12 @@ module _ (conditions : Conditions) where
 
   -- ---- items
 
-  headed : (n : Counters) (name colon : SignificantToken) (s : State) (x : List (BodyLine Tok Tok ℕ) × State) → Here conditions 0 s → IsKind kinds.Identifier name → IsKind kinds.Colon colon → IsOptionalBody s x
-      → IsOnLine (at s (name ∷ colon ∷ s.left)) ((recipe_item name x.0, n), x.1)
-  headed n name colon s x here kind kind2 no_body = record { features = []; derives = of_line (g.header kind kind2); met = nothing_met; stays = here }
-  headed n name colon s x here kind kind2 (a_body b h) =
+  headed : (name colon : SignificantToken) (s : State) (x : List (BodyLine Tok Tok ℕ) × State) → Here conditions 0 s → IsKind kinds.Identifier name
+      → IsKind kinds.Colon colon → IsOptionalBody s x
+      → Derived conditions (Contents (content_has_body (recipe_content name x.0)) (recipe_content name x.0)) (content_literals (recipe_content name x.0)) 0
+      (at s (name ∷ colon ∷ s.left)) x.1
+  headed name colon s x here kind kind2 no_body = record { features = []; derives = a_line (g.header kind kind2); met = nothing_met; stays = here }
+  headed name colon s x here kind kind2 (a_body b h) =
       let ts : Tokens = name ∷ colon ∷ s.left in
       let R : List (BodyLine Tok Tok ℕ) → Type 0 = λ ls. Block (recipe_content name ls) h.features ts x.1.left in
       record {
@@ -318,35 +370,92 @@ module _ (conditions : Conditions) where
         stays = h.stays;
       }
 
-  pub recipe_sound : (n : Counters) (s : State) → Here conditions 0 s → IfOk (recipe token_leaves n s) (IsOnLine s)
+  pub recipe_sound : (ws : List ReadAttribute) (n : Counters) (s : State) → Here conditions 0 s
+      → IfOk (recipe token_leaves token_attributes ws n s) (IsContent ws s)
   unfolding recipe draw_recipe
-  recipe_sound n s here =
-      let P : Read (WrittenItem Tok Tok ℕ Tok × Counters) → Type 0 = λ o. IfOk o (IsOnLine s) in
+  recipe_sound ws n s here =
+      let P : Read (WrittenItem Tok Tok ℕ Tok × Counters) → Type 0 = λ o. IfOk o (IsContent ws s) in
       after_expect kinds.Identifier s _ P (λ e. tt) (λ name t1 split kind.
       after_expect kinds.Colon (at s t1) _ P (λ e. tt) (λ colon t2 split2 kind2.
+      after_obeying (recipe_breaks ws s.run) (at s t2) _ P (λ e. tt) (λ none.
       after_bind (optional_body token_leaves (at s t2)) _ P (λ e. tt) (λ b is.
-      let found = headed n name colon (at s t2) b here kind kind2 (optional_body_at (at s t2) b is here) in
-      let i = recipe_item name b.0 in
-      let R : Tokens → Type 0 = λ ts. Starts (has_body i) i found.features ts b.1.left in
-      record { features = found.features; derives = subst R (sym split) (subst (λ (ts : Tokens). R (name ∷ ts)) (sym split2) found.derives); met = found.met; stays = found.stays })))
+      let found = headed name colon (at s t2) b here kind kind2 (optional_body_at (at s t2) b is here) in
+      let c = recipe_content name b.0 in
+      let R : Tokens → Type 0 = λ ts. Contents (content_has_body c) c found.features ts b.1.left in
+      record {
+        content = c;
+        is = refl;
+        derived = record {
+          features = found.features;
+          derives = subst R (sym split) (subst (λ (ts : Tokens). R (name ∷ ts)) (sym split2) found.derives);
+          met = found.met;
+          stays = found.stays;
+        };
+        unbroken = subst (λ run. recipe_breaks ws run ≡ []) here.1 none;
+      }))))
 
-  pub on_line_sound : (n : Counters) (s : State) → Here conditions 0 s → IfOk (on_line token_leaves n s) (IsOnLine s)
+  pub content_sound : (ws : List ReadAttribute) (n : Counters) (s : State) → Here conditions 0 s
+      → IfOk (content token_leaves token_attributes ws n s) (IsContent ws s)
+  unfolding content
+  content_sound ws n s here =
+      let P : Read (WrittenItem Tok Tok ℕ Tok × Counters) → Type 0 = λ o. IfOk o (IsContent ws s) in
+      after_test (next_are token_leaves (kinds.Identifier ∷ kinds.ColonEquals ∷ []) s) _ _ P (λ _. assignment_sound ws n s here)
+      (λ _. recipe_sound ws n s here)
+
+  -- the attributes before a construct
+  pub before_sound : (s : State) → Here conditions 0 s → IfOk (attributes token_leaves token_attributes s) (IsRead conditions s)
+  unfolding attributes
+  before_sound s here =
+      let P : Read (List ReadAttribute) → Type 0 = λ o. IfOk o (IsRead conditions s) in
+      after_choose kinds.BracketL s _ _ P
+      (λ not. record { derived = record { features = []; derives = attributes_of.none not; met = nothing_met; stays = here }; means = refl; unbroken = refl })
+      (λ opener rest split kind. after_bind (read_attributes s) _ P (λ e. tt) (λ ws is.
+      after_test (stands_alone token_leaves token_attributes ws.1) _ _ P (λ _. tt) (λ _. attributes_at conditions s ws is here)))
+
+  -- a construct with its attributes
+  with_attributes : (s : State) (ws : List ReadAttribute × State) (x : (WrittenItem Tok Tok ℕ Tok × Counters) × State) → IsRead conditions s ws
+      → IsContent ws.0 ws.1 x → IsOnLine s x
+  with_attributes s ws x h k =
+      let a = h.derived in
+      let c = k.derived in
+      let I : WrittenItem Tok Tok ℕ Tok → Type 0 = λ i. IsOnLine s ((i, x.0.1), x.1) in
+      let derived : Derived conditions (Starts (content_has_body k.content) (Construct (written_in ws.0) k.content))
+      (written_literals (written_in ws.0) ++ content_literals k.content) 0 s x.1 =
+      record { features = a.features ++ c.features; derives = starts a.derives c.derives; met = both_met a.met c.met; stays = c.stays } in
+      subst I (sym k.is) (record {
+        derived = derived;
+        obeys = construct_obeyed (token_sight conditions) (written_in ws.0) k.content (entries_in ws.0) h.means h.unbroken k.unbroken;
+      })
+
+  pub construct_sound : (n : Counters) (s : State) → Here conditions 0 s → IfOk (construct token_leaves token_attributes n s) (IsOnLine s)
+  unfolding construct
+  construct_sound n s here =
+      let P : Read (WrittenItem Tok Tok ℕ Tok × Counters) → Type 0 = λ o. IfOk o (IsOnLine s) in
+      after_bind (attributes token_leaves token_attributes s) _ P (λ e. tt) (λ ws is.
+      let read = known ws (IsRead conditions s) is (before_sound s here) in
+      weaken (content token_leaves token_attributes ws.0 n ws.1) (IsContent ws.0 ws.1) (IsOnLine s) (λ x h. with_attributes s ws x read h)
+      (content_sound ws.0 n ws.1 read.derived.stays))
+
+  pub on_line_sound : (n : Counters) (s : State) → Here conditions 0 s → IfOk (on_line token_leaves token_attributes n s) (IsOnLine s)
   unfolding on_line
   on_line_sound n s here =
       let P : Read (WrittenItem Tok Tok ℕ Tok × Counters) → Type 0 = λ o. IfOk o (IsOnLine s) in
-      after_choose kinds.Comment s _ _ P
-      (λ _. after_test (next_are token_leaves (kinds.Identifier ∷ kinds.ColonEquals ∷ []) s) _ _ P (λ _. assignment_sound n s here) (λ _. recipe_sound n s here))
+      after_choose kinds.Comment s _ _ P (λ _. construct_sound n s here)
       (λ c rest split kind. record {
-        features = [];
-        derives = subst (λ (ts : Tokens). Starts false (comment_item token_leaves c) [] ts rest) (sym split) (of_comment kind);
-        met = nothing_met;
-        stays = here;
+        derived = record {
+          features = [];
+          derives = subst (λ (ts : Tokens). Starts false (comment_item token_leaves token_attributes c) [] ts rest) (sym split) (of_comment kind);
+          met = nothing_met;
+          stays = here;
+        };
+        obeys = comment_obeyed (token_sight conditions) (trim_end c.tok.lexeme);
       })
 
-  pub on_line_at : (n : Counters) (s : State) (x : (WrittenItem Tok Tok ℕ Tok × Counters) × State) → on_line token_leaves n s ≡ Ok x → Here conditions 0 s → IsOnLine s x
+  pub on_line_at : (n : Counters) (s : State) (x : (WrittenItem Tok Tok ℕ Tok × Counters) × State) → on_line token_leaves token_attributes n s ≡ Ok x
+      → Here conditions 0 s → IsOnLine s x
   on_line_at n s x is here = known x (IsOnLine s) is (on_line_sound n s here)
 
-  pub line_end_sound : (s : State) → Here conditions 0 s → IfOk (line_end token_leaves s) (Leads LineEnd s)
+  pub line_end_sound : (s : State) → Here conditions 0 s → IfOk (line_end token_leaves token_attributes s) (Leads LineEnd s)
   unfolding line_end
   line_end_sound s here =
       let P : Read WrittenTree → Type 0 = λ o. IfOk o (Leads LineEnd s) in
@@ -355,24 +464,24 @@ module _ (conditions : Conditions) where
       record { features = []; derives = λ more gs h. subst (LineEnd (tree.Newline ∷ more) gs) (sym split) (g.line_end kind h); met = nothing_met; stays = here }))
       (λ t rest split kind. record { features = []; derives = λ more gs h. subst (LineEnd more gs) (sym split) (at_eof kind (subst (Items more gs) split h)); met = nothing_met; stays = here })
 
-  pub line_end_at : (s : State) (x : WrittenTree × State) → line_end token_leaves s ≡ Ok x → Here conditions 0 s → Leads LineEnd s x
+  pub line_end_at : (s : State) (x : WrittenTree × State) → line_end token_leaves token_attributes s ≡ Ok x → Here conditions 0 s → Leads LineEnd s x
   line_end_at s x is here = known x (Leads LineEnd s) is (line_end_sound s here)
 
   bare_end : (s : State) (found : Read WrittenTree) → IfOk found (Leads LineEnd s) → IfOk found (Leads ItemRest s)
   bare_end s (Ok x) h = record { features = h.features; derives = λ more gs i. g.bare (h.derives more gs i); met = h.met; stays = h.stays }
   bare_end s (Err e) h = tt
 
-  pub item_rest_sound : (s : State) → Here conditions 0 s → IfOk (item_rest token_leaves s) (Leads ItemRest s)
+  pub item_rest_sound : (s : State) → Here conditions 0 s → IfOk (item_rest token_leaves token_attributes s) (Leads ItemRest s)
   unfolding item_rest
   item_rest_sound s here =
       let P : Read WrittenTree → Type 0 = λ o. IfOk o (Leads ItemRest s) in
       after_choose kinds.Comment s _ _ P
-      (λ _. bare_end s (line_end token_leaves s) (line_end_sound s here))
-      (λ c rest split kind. after_bind (line_end token_leaves (at s rest)) _ P (λ e. tt) (λ x is.
+      (λ _. bare_end s (line_end token_leaves token_attributes s) (line_end_sound s here))
+      (λ c rest split kind. after_bind (line_end token_leaves token_attributes (at s rest)) _ P (λ e. tt) (λ x is.
       let found = line_end_at (at s rest) x is here in
       record {
         features = found.features;
-        derives = λ more gs i. subst (ItemRest (comment_item token_leaves c ∷ (x.0 ++ more)) (found.features ++ gs)) (sym split) (g.trailing kind (found.derives more gs i));
+        derives = λ more gs i. subst (ItemRest (comment_item token_leaves token_attributes c ∷ (x.0 ++ more)) (found.features ++ gs)) (sym split) (g.trailing kind (found.derives more gs i));
         met = found.met;
         stays = found.stays;
       }))
@@ -384,31 +493,31 @@ module _ (conditions : Conditions) where
   -- an item without a body
   stands : {i : WrittenItem Tok Tok ℕ Tok} {items : WrittenTree} {is fs : List (Noted Tok)} {ts rest : Tokens} → Starts false i is ts rest → ItemRest items fs rest → Items (i ∷ items) (is ++ fs) ts
   stands (of_comment kind) h = g.comment kind h
-  stands (of_line o) h = g.on_line o h
+  stands (of_line a o) h = g.on_line a o h
 
   -- an item with a body
   blocks : {i : WrittenItem Tok Tok ℕ Tok} {items : WrittenTree} {is fs : List (Noted Tok)} {ts rest : Tokens} → Starts true i is ts rest → Items items fs rest → Items (i ∷ tree.Newline ∷ items) (is ++ fs) ts
-  blocks (of_block b) h = g.block b h
+  blocks (of_block a b) h = g.block a b h
 
   ends_line : (i : WrittenItem Tok Tok ℕ Tok) (is : List (Noted Tok)) (ts : Tokens) (s : State) → Starts false i is ts s.left → (found : Read WrittenTree) → IfOk found (Leads ItemRest s) → IfOk found (Ends i is ts s)
   ends_line i is ts s o (Ok x) h = record { features = h.features; derives = λ more gs m. stands o (h.derives more gs m); met = h.met; stays = h.stays }
   ends_line i is ts s o (Err e) h = tt
 
-  ends_by : (i : WrittenItem Tok Tok ℕ Tok) (is : List (Noted Tok)) (ts : Tokens) (s : State) (b : Bool) → Here conditions 0 s → Starts b i is ts s.left → IfOk (cond b (Ok (tree.Newline ∷ [], s)) (item_rest token_leaves s)) (Ends i is ts s)
+  ends_by : (i : WrittenItem Tok Tok ℕ Tok) (is : List (Noted Tok)) (ts : Tokens) (s : State) (b : Bool) → Here conditions 0 s → Starts b i is ts s.left → IfOk (cond b (Ok (tree.Newline ∷ [], s)) (item_rest token_leaves token_attributes s)) (Ends i is ts s)
   ends_by i is ts s true here h = record { features = []; derives = λ more gs m. blocks h m; met = nothing_met; stays = here }
-  ends_by i is ts s false here h = ends_line i is ts s h (item_rest token_leaves s) (item_rest_sound s here)
+  ends_by i is ts s false here h = ends_line i is ts s h (item_rest token_leaves token_attributes s) (item_rest_sound s here)
 
-  ended_sound : (i : WrittenItem Tok Tok ℕ Tok) (is : List (Noted Tok)) (ts : Tokens) (s : State) → Here conditions 0 s → Starts (has_body i) i is ts s.left → IfOk (ended token_leaves (has_body i) s) (Ends i is ts s)
+  ended_sound : (i : WrittenItem Tok Tok ℕ Tok) (is : List (Noted Tok)) (ts : Tokens) (s : State) → Here conditions 0 s → Starts (has_body i) i is ts s.left → IfOk (ended token_leaves token_attributes (has_body i) s) (Ends i is ts s)
   unfolding ended
   ended_sound i is ts s here h = ends_by i is ts s (has_body i) here h
 
-  pub line_sound : (n : Counters) (s : State) → Here conditions 0 s → IfOk (line token_leaves n s) (LeadsNumbered s)
+  pub line_sound : (n : Counters) (s : State) → Here conditions 0 s → IfOk (line token_leaves token_attributes n s) (LeadsNumbered s)
   unfolding line
   line_sound n s here =
       let P : Read (WrittenTree × Counters) → Type 0 = λ o. IfOk o (LeadsNumbered s) in
       after_choose kinds.Eol s _ _ P
-      (λ _. after_bind (on_line token_leaves n s) _ P (λ e. tt) (λ i is. after_bind (ended token_leaves (has_body i.0.0) i.1) _ P (λ e. tt) (λ b is2.
-      let one = on_line_at n s i is here in
+      (λ _. after_bind (on_line token_leaves token_attributes n s) _ P (λ e. tt) (λ i is. after_bind (ended token_leaves token_attributes (has_body i.0.0) i.1) _ P (λ e. tt) (λ b is2.
+      let one = (on_line_at n s i is here).derived in
       let found = known b (Ends i.0.0 one.features s.left i.1) is2 (ended_sound i.0.0 one.features s.left i.1 one.stays one.derives) in
       record {
         features = one.features ++ found.features;
@@ -418,24 +527,24 @@ module _ (conditions : Conditions) where
       })))
       (λ t rest split kind. record { features = []; derives = λ more gs h. subst (Items (tree.Newline ∷ more) gs) (sym split) (g.blank kind h); met = nothing_met; stays = here })
 
-  pub line_at_start : (n : Counters) (s : State) (x : (WrittenTree × Counters) × State) → line token_leaves n s ≡ Ok x → Here conditions 0 s → LeadsNumbered s x
+  pub line_at_start : (n : Counters) (s : State) (x : (WrittenTree × Counters) × State) → line token_leaves token_attributes n s ≡ Ok x → Here conditions 0 s → LeadsNumbered s x
   line_at_start n s x is here = known x (LeadsNumbered s) is (line_sound n s here)
 
-  last_token : (n : Counters) (s : State) (rest : Tokens) (t : SignificantToken) → Here conditions 0 s → s.left ≡ t ∷ rest → IsKind kinds.Eof t → IfOk (at_end token_leaves n (at s rest)) (IsWhole Items s)
+  last_token : (n : Counters) (s : State) (rest : Tokens) (t : SignificantToken) → Here conditions 0 s → s.left ≡ t ∷ rest → IsKind kinds.Eof t → IfOk (at_end token_leaves token_attributes n (at s rest)) (IsWhole Items s)
   unfolding at_end
   last_token n s [] t here split kind = record { features = []; derives = subst (Items [] []) (sym split) (g.end kind); met = nothing_met; stays = here }
   last_token n s (u ∷ rest) t here split kind = tt
 
   -- all that is left is read
-  abbrev AllRead : Start token_leaves → Read (WrittenTree × Counters) → Type 0
+  abbrev AllRead : Start token_leaves token_attributes → Read (WrittenTree × Counters) → Type 0
   AllRead x found = Here conditions 0 x.1 → IfOk found (IsWhole Items x.1)
 
-  rule_keeps : (f : Start token_leaves → Read (WrittenTree × Counters)) → ((x : Start token_leaves) → AllRead x (f x)) → (x : Start token_leaves) → AllRead x (items_rule token_leaves f x)
+  rule_keeps : (f : Start token_leaves token_attributes → Read (WrittenTree × Counters)) → ((x : Start token_leaves token_attributes) → AllRead x (f x)) → (x : Start token_leaves token_attributes) → AllRead x (items_rule token_leaves token_attributes f x)
   unfolding items_rule after_numbered
   rule_keeps f h x here =
       let P : Read (WrittenTree × Counters) → Type 0 = λ o. IfOk o (IsWhole Items x.1) in
       after_choose kinds.Eof x.1 _ _ P
-      (λ _. after_bind (line token_leaves x.0 x.1) _ P (λ e. tt) (λ l is. after_bind (f (l.0.1, l.1)) _ P (λ e. tt) (λ more is2.
+      (λ _. after_bind (line token_leaves token_attributes x.0 x.1) _ P (λ e. tt) (λ l is. after_bind (f (l.0.1, l.1)) _ P (λ e. tt) (λ more is2.
       let first = line_at_start x.0 x.1 l is here in
       let rest = known more (IsWhole Items l.1) is2 (h (l.0.1, l.1) first.stays) in
       record {
@@ -446,9 +555,9 @@ module _ (conditions : Conditions) where
       })))
       (λ t rest split kind. last_token x.0 x.1 rest t here split kind)
 
-  pub items_sound : (n : Counters) (s : State) → Here conditions 0 s → IfOk (items token_leaves n s) (IsWhole Items s)
+  pub items_sound : (n : Counters) (s : State) → Here conditions 0 s → IfOk (items token_leaves token_attributes n s) (IsWhole Items s)
   unfolding items_from
-  items_sound n s = recursive_keeps (λ x. length x.1.left) (no_items token_leaves) (items_rule token_leaves) AllRead (λ x here. tt) rule_keeps (n, s)
+  items_sound n s = recursive_keeps (λ x. length x.1.left) (no_items token_leaves token_attributes) (items_rule token_leaves token_attributes) AllRead (λ x here. tt) rule_keeps (n, s)
 
   unmarked_file : (s : State) (found : Read (WrittenTree × Counters)) → IfOk found (IsWhole Items s) → IfOk found (IsWhole File s)
   unmarked_file s (Ok x) h = record { features = h.features; derives = g.unmarked h.derives; met = h.met; stays = h.stays }
@@ -458,19 +567,19 @@ module _ (conditions : Conditions) where
   marked_file s rest t split kind (Ok x) h = record { features = h.features; derives = subst (File x.0.0 h.features) (sym split) (g.marked kind h.derives); met = h.met; stays = h.stays }
   marked_file s rest t split kind (Err e) h = tt
 
-  whole_file : (ts : Tokens) → IfOk (reader.file token_leaves unnumbered (start_state conditions ts)) (IsWhole File (start_state conditions ts))
+  whole_file : (ts : Tokens) → IfOk (reader.file token_leaves token_attributes unnumbered (start_state conditions ts)) (IsWhole File (start_state conditions ts))
   unfolding reader.file
   whole_file ts =
       let s : State = start_state conditions ts in
       let P : Read (WrittenTree × Counters) → Type 0 = λ o. IfOk o (IsWhole File s) in
-      after_choose kinds.ByteOrderMark s s (λ mark. mark.1) (λ (t : State). P (items token_leaves unnumbered t))
-      (λ _. unmarked_file s (items token_leaves unnumbered s) (items_sound unnumbered s (refl, refl)))
-      (λ t rest split kind. marked_file s rest t split kind (items token_leaves unnumbered (at s rest)) (items_sound unnumbered (at s rest) (refl, refl)))
+      after_choose kinds.ByteOrderMark s s (λ mark. mark.1) (λ (t : State). P (items token_leaves token_attributes unnumbered t))
+      (λ _. unmarked_file s (items token_leaves token_attributes unnumbered s) (items_sound unnumbered s (refl, refl)))
+      (λ t rest split kind. marked_file s rest t split kind (items token_leaves token_attributes unnumbered (at s rest)) (items_sound unnumbered (at s rest) (refl, refl)))
 
   pub file_sound : (ts : Tokens) → IfOk (tree_of_tokens conditions ts) (IsFile ts)
   unfolding tree_of_tokens
   file_sound ts =
-      after_bind (reader.file token_leaves unnumbered (start_state conditions ts)) _ (λ o. IfOk o (IsFile ts)) (λ e. tt) (λ x is.
+      after_bind (reader.file token_leaves token_attributes unnumbered (start_state conditions ts)) _ (λ o. IfOk o (IsFile ts)) (λ e. tt) (λ x is.
       let found = known x (IsWhole File (start_state conditions ts)) is (whole_file ts) in
       record { derives = subst (λ (fs : List (Noted Tok)). File x.0.0 fs ts) (sym found.met.noted_is) found.derives; cooks = found.met.cooks })
 

@@ -22,10 +22,9 @@ use Rattle.justfile_model.specs.LiteralText.{raw_len}
 use Rattle.justfile_model.specs.LexicalFault.{LexicalRefusal}
 use Rattle.justfile_model.specs.Lexed.{end_of, IsNext, Begins, Lexed}
 use Rattle.justfile_model.specs.Tok.{Tok}
-use Rattle.justfile_model.specs.SignificantTokens.{is_whitespace, significant_from, significant_tokens}
+use Rattle.justfile_model.specs.SignificantTokens.{AllSpelled, is_whitespace, significant_from, significant_tokens, Spelling}
 use Rattle.justfile_model.specs.Modes.{Mode, mode, is_empty, head_of, innermost, nested}
 use Rattle.justfile_model.specs.Next.{NextToken, doubled_token, fixed_token, opening, literal_part, literal_token, is_backtick, is_same, closing_delimiter, brace_by, closing, line_end_token, escaped_line_end, token_by_class, token_outside_text, text_or, body_token, at_end_by, Region, InText, InInterpolation, Inline, token_in_region, token_within_line, blanks_or, tested_blanks, is_level, layout, begins_blank_line, next_by, next}
-use Rattle.justfile_model.proofs.Kinded.{Spelling, AllSpelled}
 
 -- the bytes that are found are spelled as their kind asks for
 abbrev SpellsBy : List ℕ → NextToken → Type 0

@@ -24,8 +24,19 @@ read_made (Err rule) s = Err (BreaksRule rule)
 abbrev pub breaks : {R T B X : Type 0} → Rule B → B → Read R T B X
 breaks rule token = Err (BreaksRule (record { rule = rule; token = token }))
 
+-- How attributes are read: what is seen of leaves, and what is kept of an attribute, `W`, and of all those of a construct, `D`.
+pub record AttributeLeaves (R A B D W : Type 0) : Type 0 where
+  -- what is seen of the leaves of a tree
+  pub sight : R → Sight A B
+  -- how an attribute is written, or what it means, or both
+  pub keep : WrittenAttribute A B → Entry A B → W
+  -- what it means
+  pub entry : W → Entry A B
+  -- what a construct has of the attributes before it
+  pub attributes : R → List W → D
+
 -- `sight` is what is seen of the leaves, and `W` what is kept of an attribute: how it is written, or what it means, or both
-module _ {R T A B S D W : Type 0} (leaves : Leaves R T A B S D) (sight : R → Sight A B) (keep : WrittenAttribute A B → Entry A B → W) (entry_in : W → Entry A B) where
+module _ {R T A B S W : Type 0} (leaves : Leaves R T A B S) (sight : R → Sight A B) (keep : WrittenAttribute A B → Entry A B → W) (entry_in : W → Entry A B) where
   abbrev pub expression : State R T B → Read R T B (Expr A B)
   expression s = expressions.read leaves (expressions.At Expression false s)
 

@@ -51,7 +51,7 @@ module _ {R T B : Type 0} where
   closed Expression s = shallower s
   closed _ s = s
 
-module _ {R T A B S D : Type 0} (leaves : Leaves R T A B S D) where
+module _ {R T A B S : Type 0} (leaves : Leaves R T A B S) where
   abbrev pub ReadExpr : Type 0
   ReadExpr = Read R T B (Expr A B)
 

@@ -10,7 +10,10 @@ use Rattle.justfile_model.specs.Expressions.{Free, Under}
 use Rattle.justfile_model.specs.Grammar.{File, Kept}
 use Rattle.justfile_model.specs.Literals as literal
 use Rattle.justfile_model.specs.Literals.{Literal, over_literal, AreCookedTexts}
-use Rattle.justfile_model.specs.Rules.{broken}
+use Rattle.justfile_model.specs.AttributeRules.{construct_broken}
+use Rattle.justfile_model.specs.Meaning.{entries_of}
+use Rattle.justfile_model.specs.Rules.{Broken}
+use Rattle.justfile_model.specs.Sight.{Sight, sees_lexemes, sees_tokens}
 
 abbrev mutual
   -- the literals of an expression, in order
@@ -167,20 +170,10 @@ pub record NumbersSuffice {A B C S D : Type 0} (binding recipe : ℕ) (items : L
   pub bindings_suffice : binding + bindings items ≤ 2 ^ 32 - 1
   pub recipes_suffice : recipe + recipes items ≤ 2 ^ 32 - 1
 
--- what attributes mean, in the order of their content; none where they break a rule. So far no attribute has a meaning.
-abbrev pub entries_of : {A B : Type 0} → List (WrittenAttribute A B) → Option (List (Entry A B))
-entries_of [] = Some []
-entries_of (w ∷ ws) = None
-
 -- an item with what its attributes mean
 abbrev pub with_entries : {A B C S : Type 0} → Content A B C S → Option (List (Entry A B)) → Option (OrderedItem A B C)
 with_entries content None = None
 with_entries content (Some entries) = Some (Construct entries (starless content))
-
-abbrev pub ordered_item : {A B C S : Type 0} → WrittenItem A B C S → Option (OrderedItem A B C)
-ordered_item Newline = Some Newline
-ordered_item (Comment text) = Some (Comment text)
-ordered_item (Construct ws content) = with_entries content (entries_of ws)
 
 -- an item before others, if it is there and they are
 abbrev pub if_both : {X : Type 0} → Option X → Option (List X) → Option (List X)
@@ -188,10 +181,25 @@ if_both None others = None
 if_both (Some x) None = None
 if_both (Some x) (Some xs) = Some (x ∷ xs)
 
--- a written tree with what its attributes mean
-abbrev pub ordered : {A B C S : Type 0} → List (WrittenItem A B C S) → Option (List (OrderedItem A B C))
-ordered [] = Some []
-ordered (i ∷ items) = if_both (ordered_item i) (ordered items)
+module _ {A B C S : Type 0} (sight : Sight A B) where
+  abbrev pub ordered_item : WrittenItem A B C S → Option (OrderedItem A B C)
+  ordered_item Newline = Some Newline
+  ordered_item (Comment text) = Some (Comment text)
+  ordered_item (Construct ws content) = with_entries content (entries_of sight ws)
+
+  -- a written tree with what its attributes mean
+  abbrev pub ordered : List (WrittenItem A B C S) → Option (List (OrderedItem A B C))
+  ordered [] = Some []
+  ordered (i ∷ items) = if_both (ordered_item i) (ordered items)
+
+  abbrev pub item_broken : WrittenItem A B C S → List (Broken B)
+  item_broken Newline = []
+  item_broken (Comment text) = []
+  item_broken (Construct ws content) = construct_broken sight ws content
+
+  -- all rules that written items break, each at what is kept of its token
+  abbrev pub broken : List (WrittenItem A B C S) → List (Broken B)
+  broken items = flat_map item_broken items
 
 -- a written tree keeps tokens, and the lines on which bodies' lines begin
 abbrev pub keeps_tokens : Kept Tok Tok ℕ Tok
@@ -209,14 +217,14 @@ FileTree tokens written features = File keeps_tokens Free written features token
 pub record Obeys (conditions : Conditions) (written : WrittenTree) : Type 0 where
   pub cooked : List (List ℕ)
   pub cooks : AreCookedTexts conditions.expander (map (over_literal lexeme) (all_literals written)) cooked
-  pub unbroken : broken conditions written ≡ []
+  pub unbroken : broken (sees_tokens conditions.expander) written ≡ []
 
 -- the tree of a file's tokens, and its features
 pub record FileDerives (conditions : Conditions) (tokens : List SignificantToken) (tree : Tree) (features : List (Noted Tok)) : Type 0 where
   pub written : WrittenTree
   pub derives : File keeps_tokens (Under conditions.limit) written features tokens
   pub obeys : Obeys conditions written
-  pub ordered_is : ordered written ≡ Some tree
+  pub ordered_is : ordered (sees_tokens conditions.expander) written ≡ Some tree
 
 -- a shape of a file's tokens, and its features
 pub record ShapeDerives (conditions : Conditions) (tokens : List SignificantToken) (shape : Shape) (features : List (Noted (Unit {0}))) : Type 0 where
@@ -224,5 +232,5 @@ pub record ShapeDerives (conditions : Conditions) (tokens : List SignificantToke
   pub derives : File keeps_lexemes (Under conditions.limit) written features tokens
   pub cooked : List (List ℕ)
   pub cooks : AreCookedTexts conditions.expander (all_literals written) cooked
-  pub unbroken : broken conditions written ≡ []
-  pub ordered_is : ordered written ≡ Some shape
+  pub unbroken : broken (sees_lexemes conditions.expander) written ≡ []
+  pub ordered_is : ordered (sees_lexemes conditions.expander) written ≡ Some shape

@@ -4,10 +4,11 @@
 use Rattle.std.specs.Prelude.{ℕ, false, List, [], ◌∷◌, ◌++◌, Option, Some, None}
 use Rattle.std.specs.Str.{trim_end}
 use Rattle.justfile_base.specs.declared.token_kind.TokenKind.TheVariants as kinds
+use Rattle.justfile_model.specs.AttributeLines.{AttributeLines}
 use Rattle.justfile_model.specs.Tok.{Tok}
 use Rattle.justfile_model.specs.SignificantTokens.{SignificantToken}
 use Rattle.justfile_model.specs.Tree as tree
-use Rattle.justfile_model.specs.Tree.{Expr, Fragment, BodyLine, Line, WrittenItem, Content, Construct, plain_assignment, plain_recipe, trimmed}
+use Rattle.justfile_model.specs.Tree.{Expr, Fragment, BodyLine, Line, WrittenAttribute, WrittenItem, Content, Construct, plain_assignment, plain_recipe, trimmed}
 use Rattle.justfile_model.specs.Features.{Noted}
 use Rattle.justfile_model.specs.Expressions.{IsKind, Expression}
 
@@ -90,14 +91,15 @@ module _ {A B C S : Type 0} (kept : Kept A B C S) (Open : ℕ → Option Signifi
       comment : {items : List (WrittenItem A B C S)} {fs : List (Noted B)} {token : SignificantToken} {rest : List SignificantToken} → IsKind kinds.Comment token
           → ItemRest items fs rest
           → Items (tree.Comment (trim_end token.tok.lexeme) ∷ items) fs (token ∷ rest)
-      -- so far no construct has attributes
-      on_line : {c : Content A B C S} {items : List (WrittenItem A B C S)} {cs fs : List (Noted B)} {tokens rest : List SignificantToken} → OnLine c cs tokens rest
+      on_line : {ws : List (WrittenAttribute A B)} {c : Content A B C S} {items : List (WrittenItem A B C S)} {gs cs fs : List (Noted B)}
+          {tokens header rest : List SignificantToken} → AttributeLines kept.leaf kept.spot Open ws gs tokens header → OnLine c cs header rest
           → ItemRest items fs rest
-          → Items (Construct [] c ∷ items) (cs ++ fs) tokens
+          → Items (Construct ws c ∷ items) (gs ++ cs ++ fs) tokens
       -- after a body a line starts, and a line end is made
-      block : {c : Content A B C S} {items : List (WrittenItem A B C S)} {cs fs : List (Noted B)} {tokens rest : List SignificantToken} → Block c cs tokens rest
+      block : {ws : List (WrittenAttribute A B)} {c : Content A B C S} {items : List (WrittenItem A B C S)} {gs cs fs : List (Noted B)}
+          {tokens header rest : List SignificantToken} → AttributeLines kept.leaf kept.spot Open ws gs tokens header → Block c cs header rest
           → Items items fs rest
-          → Items (Construct [] c ∷ tree.Newline ∷ items) (cs ++ fs) tokens
+          → Items (Construct ws c ∷ tree.Newline ∷ items) (gs ++ cs ++ fs) tokens
 
     -- after an item a comment may trail it, which is an item of its own
     pub data ItemRest : List (WrittenItem A B C S) → List (Noted B) → List SignificantToken → Type 0 where

@@ -1,4 +1,5 @@
 pub mod Answers
+pub mod ArgumentTexts
 pub mod AttributeKinds
 pub mod AttributeLines
 pub mod AttributeReader

@@ -1,4 +1,4 @@
--- What attributes mean, from how they are written. There is none where they break a rule.
+-- What attributes mean, from how they are written. Which rules they break is said elsewhere (`AttributeRules`).
 use Rattle.std.specs.Prelude.{ℕ, ◌^◌, Bool, true, false, ◌&&◌, not, nat_lt, List, [], ◌∷◌, map, Option, Some, None, codes, if◌then◌else◌}
 use Rattle.std.specs.List.{find, filter, list_all, list_any}
 use Rattle.std.specs.Str.{bytes_eq}

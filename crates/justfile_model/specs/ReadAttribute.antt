@@ -1,11 +1,8 @@
--- Reading significant tokens to attributes: each as it is written, and by what it means.
-use Rattle.std.specs.Prelude.{List}
-use Rattle.justfile_model.specs.AttributeReader as reader
+-- What is kept of an attribute where significant tokens are read: how it is written, and what it means.
 use Rattle.justfile_model.specs.Conditions.{Conditions}
 use Rattle.justfile_model.specs.Sight.{Sight, sees_tokens}
 use Rattle.justfile_model.specs.Tok.{Tok}
 use Rattle.justfile_model.specs.Tree.{Entry, WrittenAttribute}
-use Rattle.justfile_model.specs.TreeReader.{Read, State, token_leaves}
 
 -- an attribute as it is written, and what it means
 pub record ReadAttribute : Type 0 where
@@ -21,7 +18,3 @@ keep_both written entry = record { written = written; entry = entry }
 
 abbrev pub entry_read : ReadAttribute → Entry Tok Tok
 entry_read x = x.entry
-
--- the lines of attributes before a construct
-abbrev pub read_attributes : State → Read (List ReadAttribute)
-read_attributes = reader.attribute_lines token_leaves token_sight keep_both entry_read

@@ -1,14 +1,21 @@
 -- Reading the tokens of a file from left to right, up to the first refusal, and the numbers that its items get. That it agrees with the
 -- grammar is a law.
-use Rattle.std.specs.Prelude.{ℕ, ◌+◌, Bool, true, false, List, [], ◌∷◌, ◌++◌, length, drop, None, Ok, Err, if◌then◌else◌}
+use Rattle.std.specs.Prelude.{ℕ, ◌+◌, Bool, true, false, ◌||◌, List, [], ◌∷◌, ◌++◌, length, drop, map, None, Ok, Err, if◌then◌else◌}
 use Rattle.std.specs.Str.{trim_end}
+use Rattle.justfile_base.specs.declared.item_kind.ItemKind.TheVariants as item_kinds
 use Rattle.justfile_base.specs.declared.token_kind.TokenKind.TheVariants as kinds
 use Rattle.justfile_model.specs.declared.level.Level.TheVariants.{Expression}
+use Rattle.justfile_model.specs.AttributeReader as attribute_reader
+use Rattle.justfile_model.specs.AttributeReader.{AttributeLeaves}
+use Rattle.justfile_model.specs.AttributeRules.{allowed_broken, arg_rules, undefined_broken}
+use Rattle.justfile_model.specs.ContentKeys.{entry_cmp}
+use Rattle.justfile_model.specs.Order.{in_order}
+use Rattle.justfile_model.specs.Rules.{Broken}
 use Rattle.justfile_model.specs.Tree as tree
-use Rattle.justfile_model.specs.Tree.{BodyLine, Construct, Content, Expr, Fragment, Item, Line, plain_assignment, plain_recipe, trimmed}
+use Rattle.justfile_model.specs.Tree.{BodyLine, Construct, Content, Entry, Expr, Fragment, Item, Line, plain_assignment, plain_recipe, trimmed}
 use Rattle.justfile_model.specs.ExpressionReader as expressions
 use Rattle.justfile_model.specs.Recursive.{recursive}
-use Rattle.justfile_model.specs.Reading.{◌>>=◌, Counters, Leaves, NoNumber, Read, State, Unexpected, accept, prepend, at, choose, expect, next_are, refused}
+use Rattle.justfile_model.specs.Reading.{◌>>=◌, BreaksRule, Counters, Extraneous, Leaves, NoNumber, Read, State, Unexpected, accept, prepend, at, choose, expect, next_are, refused}
 
 abbrev pub with_bindings : ℕ → Counters → Counters
 with_bindings bindings n = record { bindings = bindings; constants = n.constants; recipes = n.recipes }
@@ -37,7 +44,7 @@ after_numbered done found = do
   more ← found
   Ok ((done ++ more.0.0, more.0.1), more.1)
 
-module _ {R T A B S D : Type 0} (leaves : Leaves R T A B S D) where
+module _ {R T A B S : Type 0} (leaves : Leaves R T A B S) where
   abbrev pub expression : State R T B → Read R T B (Expr A B)
   expression s = expressions.read leaves (expressions.At Expression false s)
 
@@ -123,42 +130,89 @@ module _ {R T A B S D : Type 0} (leaves : Leaves R T A B S D) where
       else if next_are leaves (kinds.Comment ∷ kinds.Eol ∷ kinds.Indent ∷ []) s then body (at s (drop 3 s.left))
       else Ok ([], s)
 
+-- the first of the rules that are broken is refused
+abbrev pub obeying : {R T B : Type 0} → List (Broken B) → State R T B → Read R T B (Unit {0})
+obeying [] s = Ok (tt, s)
+obeying (b ∷ bs) s = Err (BreaksRule b)
+
+module _ {R T A B S D W : Type 0} (leaves : Leaves R T A B S) (kept : AttributeLeaves R A B D W) where
+  -- ---- attributes
+
+  -- what attributes mean, in the order of their content
+  abbrev pub entries_read : R → List W → List (Entry A B)
+  entries_read run ws = in_order (entry_cmp (kept.sight run)) (map kept.entry ws)
+
+  -- a blank line or a comment comes next
+  abbrev pub stands_alone : State R T B → Bool
+  stands_alone s = next_are leaves (kinds.Eol ∷ []) s || next_are leaves (kinds.Comment ∷ []) s
+
+  -- attributes that begin with this bracket stand before no blank line and no comment
+  abbrev pub before_item : (opener : T) → List W × State R T B → Read R T B (List W)
+  before_item opener x = if stands_alone x.1 then Err (Extraneous (length x.0) (leaves.spot opener)) else Ok x
+
+  -- the attributes before a construct, which follows them
+  unfoldable pub attributes : State R T B → Read R T B (List W)
+  attributes s =
+      choose (accept leaves kinds.BracketL s) (Ok ([], s)) (λ opener. do
+        ws ← attribute_reader.attribute_lines leaves kept.sight kept.keep kept.entry s
+        before_item opener.0 ws)
+
   -- ---- items
 
   -- a comment is kept without the white space at its end
   abbrev pub comment_item : T → Item A B ℕ S D
   comment_item t = tree.Comment (trim_end (leaves.see t).tok.lexeme)
 
-  -- an assignment of a value, which got a number
-  abbrev pub assigned : T → Expr A B → (ℕ × Counters) × State R T B → Read R T B (Item A B ℕ S D × Counters)
-  assigned name value x = Ok ((Construct leaves.no_attributes (tree.Assignment (plain_assignment (leaves.assignment x.1.run name x.0.0) value)), x.0.1), x.1)
+  -- an assignment of a value with its attributes, which got a number
+  abbrev pub assigned : List W → T → Expr A B → (ℕ × Counters) × State R T B → Read R T B (Item A B ℕ S D × Counters)
+  assigned ws name value x =
+      Ok ((Construct (kept.attributes x.1.run ws) (tree.Assignment (plain_assignment (leaves.assignment x.1.run name x.0.0) value)), x.0.1), x.1)
 
-  unfoldable pub assignment : Counters → State R T B → Read R T B (Item A B ℕ S D × Counters)
-  assignment n s = do
+  -- the attributes of an assignment with this name are those that it may have
+  abbrev pub allowed : List W → T → State R T B → Read R T B (Unit {0})
+  allowed ws name s = obeying (allowed_broken (kept.sight s.run) item_kinds.Assignment (leaves.spot name) (entries_read s.run ws)) s
+
+  -- an assignment after its attributes
+  unfoldable pub assignment : List W → Counters → State R T B → Read R T B (Item A B ℕ S D × Counters)
+  assignment ws n s = do
     name ← expect leaves kinds.Identifier s
     operator ← expect leaves kinds.ColonEquals name.1
-    e ← expression operator.1
-    number ← draw_binding n e.1
-    assigned name.0 e.0 number
+    e ← expression leaves operator.1
+    checked ← allowed ws name.0 e.1
+    number ← draw_binding leaves n checked.1
+    assigned ws name.0 e.0 number
 
-  -- a recipe with a body, which got a number
-  abbrev pub headed : T → List (BodyLine A B ℕ) → (ℕ × Counters) × State R T B → Read R T B (Item A B ℕ S D × Counters)
-  headed name body x = Ok ((Construct leaves.no_attributes (tree.Recipe (plain_recipe (leaves.recipe x.1.run name x.0.0 body) body)), x.0.1), x.1)
+  -- a recipe with a body and its attributes, which got a number
+  abbrev pub headed : List W → T → List (BodyLine A B ℕ) → (ℕ × Counters) × State R T B → Read R T B (Item A B ℕ S D × Counters)
+  headed ws name body x =
+      Ok ((Construct (kept.attributes x.1.run ws) (tree.Recipe (plain_recipe (leaves.recipe x.1.run name x.0.0 body) body)), x.0.1), x.1)
 
-  -- a recipe up to its end, after which it gets its number
-  unfoldable pub recipe : Counters → State R T B → Read R T B (Item A B ℕ S D × Counters)
-  recipe n s = do
+  -- attributes speak of no argument that is no parameter
+  abbrev pub defined : List W → State R T B → Read R T B (Unit {0})
+  defined ws s = obeying (undefined_broken (kept.sight s.run) (arg_rules (kept.sight s.run) (entries_read s.run ws))) s
+
+  -- a recipe after its attributes, up to its end; then it gets its number
+  unfoldable pub recipe : List W → Counters → State R T B → Read R T B (Item A B ℕ S D × Counters)
+  recipe ws n s = do
     name ← expect leaves kinds.Identifier s
     colon ← expect leaves kinds.Colon name.1
-    b ← optional_body colon.1
-    number ← draw_recipe n b.1
-    headed name.0 b.0 number
+    checked ← defined ws colon.1
+    b ← optional_body leaves checked.1
+    number ← draw_recipe leaves n b.1
+    headed ws name.0 b.0 number
+
+  -- a construct after its attributes
+  unfoldable pub content : List W → Counters → State R T B → Read R T B (Item A B ℕ S D × Counters)
+  content ws n s = if next_are leaves (kinds.Identifier ∷ kinds.ColonEquals ∷ []) s then assignment ws n s else recipe ws n s
+
+  -- a construct with its attributes
+  unfoldable pub construct : Counters → State R T B → Read R T B (Item A B ℕ S D × Counters)
+  construct n s = do
+    ws ← attributes s
+    content ws.0 n ws.1
 
   unfoldable pub on_line : Counters → State R T B → Read R T B (Item A B ℕ S D × Counters)
-  on_line n s =
-      choose (accept leaves kinds.Comment s)
-      (if next_are leaves (kinds.Identifier ∷ kinds.ColonEquals ∷ []) s then assignment n s else recipe n s)
-      (λ c. Ok ((comment_item c.0, n), c.1))
+  on_line n s = choose (accept leaves kinds.Comment s) (construct n s) (λ c. Ok ((comment_item c.0, n), c.1))
 
   -- the end of the line is an item; the end of the file is none, and is left
   unfoldable pub line_end : State R T B → Read R T B (List (Item A B ℕ S D))

@@ -15,9 +15,9 @@ use Rattle.justfile_model.specs.Literals.{Literal, LiteralFault}
 use Rattle.justfile_model.specs.Rules.{Broken}
 use Rattle.justfile_model.specs.Tree.{BodyLine}
 
--- How tokens `T` are seen, and what a tree keeps of them: `A` at its leaves, `B` of a place, `S` of a star, and `D` of attributes. `R` is
--- what stays while a file is read.
-pub record Leaves (R T A B S D : Type 0) : Type 0 where
+-- How tokens `T` are seen, and what a tree keeps of them: `A` at its leaves, `B` of a place, and `S` of a star. `R` is what stays while a
+-- file is read.
+pub record Leaves (R T A B S : Type 0) : Type 0 where
   -- what the file is read under
   pub conditions : R → Conditions
   -- a token as the grammar sees it
@@ -32,8 +32,6 @@ pub record Leaves (R T A B S D : Type 0) : Type 0 where
   pub text : T → A
   -- the star of a dependency
   pub star : T → S
-  -- what a construct has that no attribute stands before
-  pub no_attributes : D
   -- the name of an assignment, which got a number
   pub assignment : R → T → (number : ℕ) → A
   -- the name of a recipe, which got a number, before its body
@@ -64,6 +62,8 @@ pub data Refusal (T B : Type 0) : Type 0 where
   NotCooked : (fault : LiteralFault) (literal : B) → Refusal T B
   -- a rule is broken
   BreaksRule : (rule : Broken B) → Refusal T B
+  -- so many attributes stand before a blank line or a comment, and the first of their lines begins there
+  Extraneous : (count : ℕ) (opener : B) → Refusal T B
   -- a number is wanted, and its counter, one of these, has none left
   NoNumber : Counters → Refusal T B
 
@@ -129,7 +129,7 @@ module _ {R T B : Type 0} where
     more ← found
     Ok (done ++ more.0, more.1)
 
-module _ {R T A B S D : Type 0} (leaves : Leaves R T A B S D) where
+module _ {R T A B S : Type 0} (leaves : Leaves R T A B S) where
   -- a state with a feature noted at a token
   abbrev pub note : ListFeature → T → State R T B → State R T B
   note feature t s = with (noted feature (leaves.spot t)) s

@@ -6,9 +6,10 @@ use Rattle.justfile_model.specs.SignificantTokens.{SignificantToken}
 use Rattle.justfile_model.specs.Tree.{WrittenTree, lexeme}
 use Rattle.justfile_model.specs.Conditions.{Conditions}
 use Rattle.justfile_model.specs.Literals.{Literal, over_literal, token_of, LiteralFault, Expansions, cooked_text, AreCookedTexts}
-use Rattle.justfile_model.specs.Files.{all_literals}
+use Rattle.justfile_model.specs.Files.{all_literals, broken}
 use Rattle.justfile_model.specs.Reading.{BreaksRule, TooDeep, NotCooked}
-use Rattle.justfile_model.specs.Rules.{Broken, broken}
+use Rattle.justfile_model.specs.Rules.{Broken}
+use Rattle.justfile_model.specs.Sight.{sees_tokens}
 use Rattle.justfile_model.specs.TreeReader.{Refusal}
 
 -- the first of the literals that has no text is refused, for its fault, at its token
@@ -32,7 +33,7 @@ pub record IsTooDeep (Hit : Option SignificantToken → Type 0) (r : Refusal) : 
 -- one of the rules that the tree breaks is refused; which one is left open
 pub record IsBroken (conditions : Conditions) (written : WrittenTree) (r : Refusal) : Type 0 where
   pub rule : Broken Tok
-  pub among : Contains (broken conditions written) rule
+  pub among : Contains (broken (sees_tokens conditions.expander) written) rule
   pub refusal_is : r ≡ BreaksRule rule
 
 -- one of the three, where the limit is waived at some tokens

@@ -2,8 +2,6 @@
 use Rattle.std.specs.Prelude.{ℕ, Bool, List, [], ◌∷◌, Option, if◌then◌else◌}
 use Rattle.justfile_base.specs.declared.attribute_kind.AttributeKind.{AttributeKind}
 use Rattle.justfile_base.specs.declared.item_kind.ItemKind.{ItemKind}
-use Rattle.justfile_model.specs.Conditions.{Conditions}
-use Rattle.justfile_model.specs.Tree.{WrittenItem}
 
 -- A rule that is broken. A text is that of a literal; `T` is what is kept of a token.
 pub data Rule (T : Type 0) : Type 0 where
@@ -77,7 +75,3 @@ module _ {T U : Type 0} (g : T → U) where
 
   abbrev pub over_broken : Broken T → Broken U
   over_broken b = record { rule = over_rule b.rule; token = g b.token }
-
--- all rules that written items break under the conditions, each at what is kept of its token; so far no construct has attributes
-abbrev pub broken : {A B C S : Type 0} → Conditions → List (WrittenItem A B C S) → List (Broken B)
-broken conditions items = []

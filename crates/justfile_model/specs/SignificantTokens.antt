@@ -1,7 +1,8 @@
 -- What the parser reads: all tokens but whitespace.
-use Rattle.std.specs.Prelude.{ℕ, ◌+◌, Bool, true, false, cond, List, [], ◌∷◌}
+use Rattle.std.specs.Prelude.{◌≡◌, ℕ, ◌+◌, Bool, true, false, cond, List, [], ◌∷◌, codes}
+use Rattle.std.specs.List.{AllByRecursion}
 use Rattle.justfile_base.specs.declared.token_kind.TokenKind.{TokenKind}
-use Rattle.justfile_base.specs.declared.token_kind.TokenKind.TheVariants.{Identifier, Whitespace}
+use Rattle.justfile_base.specs.declared.token_kind.TokenKind.TheVariants.{BangEquals, BangTilde, BracketL, EqualsEquals, EqualsTilde, Identifier, Plus, PlusPlus, Slash, Whitespace}
 use Rattle.justfile_model.specs.Tok.{Tok}
 
 -- a token, and whether it is glued to the one before: no token stands between
@@ -30,3 +31,21 @@ is_identifier _ = false
 abbrev pub identifiers : List SignificantToken → ℕ
 identifiers [] = 0
 identifiers (t ∷ ts) = cond (is_identifier t.tok.kind) 1 0 + identifiers ts
+
+-- a token whose kind has one lexeme has that one, of the kinds that trees keep
+abbrev pub Spelling : TokenKind → List ℕ → Type 0
+Spelling EqualsEquals lexeme = lexeme ≡ codes "=="
+Spelling BangEquals lexeme = lexeme ≡ codes "!="
+Spelling EqualsTilde lexeme = lexeme ≡ codes "=~"
+Spelling BangTilde lexeme = lexeme ≡ codes "!~"
+Spelling Plus lexeme = lexeme ≡ codes "+"
+Spelling PlusPlus lexeme = lexeme ≡ codes "++"
+Spelling Slash lexeme = lexeme ≡ codes "/"
+Spelling BracketL lexeme = lexeme ≡ codes "["
+Spelling kind lexeme = Unit {0}
+
+abbrev pub HasSpelling : SignificantToken → Type 0
+HasSpelling t = Spelling t.tok.kind t.tok.lexeme
+
+abbrev pub AllSpelled : List SignificantToken → Type 0
+AllSpelled ts = AllByRecursion HasSpelling ts

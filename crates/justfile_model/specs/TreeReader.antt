@@ -1,7 +1,10 @@
 -- Reading significant tokens to a written tree of tokens.
-use Rattle.std.specs.Prelude.{true, List, [], Result, Ok}
+use Rattle.std.specs.Prelude.{true, List, [], map, Result, Ok}
 use Rattle.justfile_model.specs.Features.{Noted}
 use Rattle.justfile_model.specs.Conditions.{Conditions}
+use Rattle.justfile_model.specs.AttributeReader as attribute_reader
+use Rattle.justfile_model.specs.AttributeReader.{AttributeLeaves}
+use Rattle.justfile_model.specs.ReadAttribute.{ReadAttribute, entry_read, keep_both, token_sight}
 use Rattle.justfile_model.specs.Reader as reader
 use Rattle.justfile_model.specs.Reading as reading
 use Rattle.justfile_model.specs.Reading.{Counters, ◌>>=◌, Leaves}
@@ -10,7 +13,7 @@ use Rattle.justfile_model.specs.Tok.{Tok}
 use Rattle.justfile_model.specs.Tree.{WrittenAttribute, WrittenTree}
 
 -- A written tree keeps its tokens, and no number. So numbers never run out: which tokens derive a tree does not depend on counters.
-abbrev pub token_leaves : Leaves Conditions SignificantToken Tok Tok Tok (List (WrittenAttribute Tok Tok))
+abbrev pub token_leaves : Leaves Conditions SignificantToken Tok Tok Tok
 token_leaves = record {
   conditions = λ conditions. conditions;
   see = λ t. t;
@@ -19,10 +22,18 @@ token_leaves = record {
   literal = λ t literal text. t.tok;
   text = λ t. t.tok;
   star = λ t. t.tok;
-  no_attributes = [];
   assignment = λ conditions t number. t.tok;
   recipe = λ conditions t number body. t.tok;
   has_number = λ number. true;
+}
+
+-- its constructs have attributes as they are written
+abbrev pub token_attributes : AttributeLeaves Conditions Tok Tok (List (WrittenAttribute Tok Tok)) ReadAttribute
+token_attributes = record {
+  sight = token_sight;
+  keep = keep_both;
+  entry = entry_read;
+  attributes = λ conditions xs. map (λ (x : ReadAttribute). x.written) xs;
 }
 
 -- what the file is read under, and where reading stands
@@ -38,6 +49,10 @@ Read X = reading.Read Conditions SignificantToken Tok X
 abbrev pub Taken : Type 0
 Taken = reading.Taken Conditions SignificantToken Tok
 
+-- the lines of attributes before a construct
+abbrev pub read_attributes : State → Read (List ReadAttribute)
+read_attributes = attribute_reader.attribute_lines token_leaves token_sight keep_both entry_read
+
 -- no number was drawn yet
 abbrev pub unnumbered : Counters
 unnumbered = record { bindings = 0; constants = 0; recipes = 0 }
@@ -49,5 +64,5 @@ start_state conditions tokens = record { run = conditions; depth = 0; left = tok
 -- a file, and its features
 unfoldable pub tree_of_tokens : Conditions → List SignificantToken → Result (WrittenTree × List (Noted Tok)) Refusal
 tree_of_tokens conditions tokens = do
-  x ← reader.file token_leaves unnumbered (start_state conditions tokens)
+  x ← reader.file token_leaves token_attributes unnumbered (start_state conditions tokens)
   Ok (x.0.0, x.1.noted)

@@ -5,16 +5,18 @@ ghost use Rattle.justfile_model.specs.Expressions.{Under, Waived};
 ghost use Rattle.justfile_model.specs.Features.{Noted, over_noted};
 ghost use Rattle.justfile_model.specs.Files.{FileTree, FileDerives, NumbersFrom, Obeys, ShapeDerives, keeps_tokens, literals, ordered, bindings, recipes};
 ghost use Rattle.justfile_model.specs.Grammar.{File};
+ghost use Rattle.justfile_model.specs.Lexed.{Lexed};
 ghost use Rattle.justfile_model.specs.Literals.{Literal, Expansions, Within, AreCookedTexts};
 ghost use Rattle.justfile_model.specs.NormalShape.{normal};
 ghost use Rattle.justfile_model.specs.Printing.{printable, text};
 ghost use Rattle.justfile_model.specs.Reader.{items};
 ghost use Rattle.justfile_model.specs.Reading.{Counters, TooDeep};
 ghost use Rattle.justfile_model.specs.Refusals.{IsDue};
-ghost use Rattle.justfile_model.specs.SignificantTokens.{SignificantToken, identifiers};
+ghost use Rattle.justfile_model.specs.Sight.{sees_tokens};
+ghost use Rattle.justfile_model.specs.SignificantTokens.{AllSpelled, SignificantToken, identifiers, significant_tokens};
 ghost use Rattle.justfile_model.specs.Tok.{Tok};
 ghost use Rattle.justfile_model.specs.Tree.{Tree, Shape, WrittenTree, nothing, shape_of};
-ghost use Rattle.justfile_model.specs.TreeReader.{Refusal, State, tree_of_tokens, token_leaves};
+ghost use Rattle.justfile_model.specs.TreeReader.{Refusal, State, tree_of_tokens, token_attributes, token_leaves};
 
 /// The reader and the grammar agree, and tokens derive at most one tree with its features.
 pub fn reads()
@@ -28,10 +30,10 @@ pub fn reads()
     // A tree derives exactly where a written tree is read that means it.
     ensures sound { (C : Conditions) (ts : List SignificantToken) (written : WrittenTree) (features : List (Noted Tok))
         → tree_of_tokens C ts ≡ Ok (written, features)
-        → (tree : Tree) × (ordered written ≡ Some tree) × FileDerives C ts tree features }
+        → (tree : Tree) × (ordered (sees_tokens C.expander) written ≡ Some tree) × FileDerives C ts tree features }
     ensures complete { (C : Conditions) (ts : List SignificantToken) (tree : Tree) (features : List (Noted Tok))
         → FileDerives C ts tree features
-        → (written : WrittenTree) × (ordered written ≡ Some tree) × (tree_of_tokens C ts ≡ Ok (written, features)) }
+        → (written : WrittenTree) × (ordered (sees_tokens C.expander) written ≡ Some tree) × (tree_of_tokens C ts ≡ Ok (written, features)) }
     // Where the expressions that are entered at the limit begin at some tokens, it is read, or too deep at one of them.
     ensures deep { (C : Conditions) (ts : List SignificantToken) (written : WrittenTree) (features : List (Noted Tok))
         (Hit : Option SignificantToken → Bool)
@@ -60,25 +62,27 @@ pub fn reads()
 pub fn counts()
     ensures whole { (C : Conditions) (ts : List SignificantToken) (x : WrittenTree × List (Noted Tok)) → tree_of_tokens C ts ≡ Ok x
         → bindings x.0 + recipes x.0 ≤ identifiers ts }
-    ensures bindings { (n : Counters) (s : State) (x : (WrittenTree × Counters) × State) → items token_leaves n s ≡ Ok x
+    ensures bindings { (n : Counters) (s : State) (x : (WrittenTree × Counters) × State) → items token_leaves token_attributes n s ≡ Ok x
         → x.0.1.bindings ≡ n.bindings + bindings x.0.0 }
-    ensures recipes { (n : Counters) (s : State) (x : (WrittenTree × Counters) × State) → items token_leaves n s ≡ Ok x
+    ensures recipes { (n : Counters) (s : State) (x : (WrittenTree × Counters) × State) → items token_leaves token_attributes n s ≡ Ok x
         → x.0.1.recipes ≡ n.recipes + recipes x.0.0 }
-    ensures constants { (n : Counters) (s : State) (x : (WrittenTree × Counters) × State) → items token_leaves n s ≡ Ok x
+    ensures constants { (n : Counters) (s : State) (x : (WrittenTree × Counters) × State) → items token_leaves token_attributes n s ≡ Ok x
         → x.0.1.constants ≡ n.constants }
 {}
 
-/// A tree derives where its shape does, with features at the same places but for what is kept of them; tokens derive at most
-/// one shape with its features, and literals have one row of texts.
+/// Of tokens whose kinds have the lexemes that are theirs, as those of a text have: a tree derives where its shape does, with features at
+/// the same places but for what is kept of them; and they derive at most one shape with its features. Literals have one row of texts.
 pub fn shapes()
-    ensures forget { (C : Conditions) (ts : List SignificantToken) (tree : Tree) (features : List (Noted Tok))
+    ensures spelled { (source : List ℕ) (tokens : List Tok) → Lexed source tokens → AllSpelled (significant_tokens tokens) }
+    ensures forget { (C : Conditions) (ts : List SignificantToken) → AllSpelled ts → (tree : Tree) (features : List (Noted Tok))
         → FileDerives C ts tree features
         → ShapeDerives C ts (shape_of tree) (map (over_noted nothing) features) }
-    ensures lift { (C : Conditions) (ts : List SignificantToken) (shape : Shape) (features : List (Noted (Unit {0})))
+    ensures lift { (C : Conditions) (ts : List SignificantToken) → AllSpelled ts → (shape : Shape) (features : List (Noted (Unit {0})))
         → ShapeDerives C ts shape features
         → (tree : Tree) × (noted : List (Noted Tok)) × FileDerives C ts tree noted × (shape_of tree ≡ shape)
         × (map (over_noted nothing) noted ≡ features) }
-    ensures one { (C : Conditions) (ts : List SignificantToken) (shape other : Shape) (features others : List (Noted (Unit {0})))
+    ensures one { (C : Conditions) (ts : List SignificantToken) → AllSpelled ts → (shape other : Shape)
+        (features others : List (Noted (Unit {0})))
         → ShapeDerives C ts shape features → ShapeDerives C ts other others → (shape ≡ other) × (features ≡ others) }
     ensures texts { (E : Expansions) (literals : List (Literal (List ℕ))) (texts others : List (List ℕ)) → AreCookedTexts E literals texts
         → AreCookedTexts E literals others → texts ≡ others }

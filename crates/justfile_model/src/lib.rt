@@ -1,6 +1,7 @@
 //! What the syntax of justfiles is: definitions alone, and their laws.
 #![tactic(auto)]
 
+pub mod attribute_laws;
 mod conditional_operator;
 pub mod examples;
 pub mod grammar_laws;

@@ -8,21 +8,24 @@ use Rattle.justfile_model.specs.Expressions.{Free}
 use Rattle.justfile_model.specs.Features.{Noted}
 use Rattle.justfile_model.specs.SignificantTokens.{SignificantToken}
 use Rattle.justfile_model.specs.Tok.{Tok}
-use Rattle.justfile_model.specs.Tree.{Expr, itself}
+use Rattle.justfile_model.specs.ReadAttribute.{ReadAttribute}
+use Rattle.justfile_model.specs.Tree.{Entry, Expr, itself}
 use Rattle.justfile_model.specs.TreeReader as model
-use Rattle.justfile_model.specs.TreeReader.{token_leaves}
+use Rattle.justfile_model.specs.TreeReader.{token_attributes, token_leaves}
 use Rattle.justfile_model.specs.declared.level.Level.TheVariants as levels
 use Rattle.justfile_model.specs.declared.list_feature.ListFeature.{ListFeature}
 use Rattle.justfile_model.proofs.Depth.{expression_freed}
 use Rattle.justfile_model.proofs.ExpressionSound.{expression_derives}
+use Rattle.justfile_model.proofs.Natural as natural
 use Rattle.justfile_model.proofs.NaturalExpressions.{expression_natural}
 use Rattle.justfile_model.proofs.Related as a
 use Rattle.justfile_model.proofs.Related.{Each, Never, Related, States}
-use Rattle.justfile_parse.specs.TableReader.{At, ReadExpr, Refusal, Run, State, leaves, read}
+use Rattle.justfile_parse.specs.TableReader.{At, ReadExpr, Refusal, Run, State, kept, leaves, read}
 use Rattle.justfile_parse.specs.Significant.{significant_of}
 use Rattle.justfile_tree.specs.LeafTree.{Leaf}
 use Rattle.justfile_parse.specs.declared.significant.TableEntry.{TableEntry}
 use Rattle.justfile_parse.proofs.Seen.{IsEntry, Relates, respects, seen}
+use Rattle.justfile_parse.proofs.SeenAttributes.{IsKept, attributed}
 
 -- any token
 abbrev pub Any : Token → Type 0
@@ -34,6 +37,13 @@ module _ (run : Run) where
 
   abbrev pub agree : a.Respects rel leaves token_leaves
   agree = respects run.conditions Any run.file_depth run.import_offsets
+
+  -- what is kept of attributes
+  abbrev pub Keeps : Entry Leaf Token → ReadAttribute → Type 0
+  Keeps = IsKept run.conditions Any run.file_depth run.import_offsets
+
+  abbrev pub keeps : natural.RespectsAttributes rel leaves token_leaves kept token_attributes Keeps
+  keeps = attributed run.conditions Any run.file_depth run.import_offsets
 
   each_entry : (es : List TableEntry) → Each (IsEntry run.conditions Any run.file_depth run.import_offsets) es (map significant_of es)
   each_entry [] = a.nil

@@ -12,13 +12,16 @@ use Rattle.justfile_model.specs.Tree.{OrderedItem}
 use Rattle.justfile_model.specs.Reader as files
 use Rattle.justfile_model.specs.Reader.{after_numbered, comment_item, has_body, some_line}
 use Rattle.justfile_model.specs.Reading.{◌>>=◌, Counters, prepend}
-use Rattle.justfile_parse.specs.TableReader.{Read, ReadItems, Refusal, State, accept, item_rest, ended, expect, leaves, line, line_end, on_line}
+use Rattle.justfile_parse.specs.TableReader.{Read, ReadItems, Refusal, State, accept, item_rest, ended, expect, kept, leaves, line, line_end, on_line}
+use Rattle.justfile_parse.specs.Halting.{HaltsAt}
 use Rattle.justfile_parse.specs.MethodResults.{StopsAt, literal_refusal, refusal_at}
 use Rattle.justfile_parse.specs.Tree.{item_tree, line_tree}
 use Rattle.justfile_tree.specs.LeafTree.{Leaf}
+use Rattle.justfile_parse.specs.declared.halt.Halt.{Halt}
 use Rattle.justfile_parse.specs.declared.significant.TableEntry.{TableEntry}
 use Rattle.justfile_parse.specs.declared.stop.Stop.{Stop}
 use Rattle.justfile_parse.specs.declared.stop.Stop.TheVariants.{Refused, Literal, Memory, Numbers}
+use Rattle.justfile_parse.proofs.Halts.{halted}
 
 abbrev Items : Type 0
 Items = List (OrderedItem Leaf Token ℕ)
@@ -52,9 +55,9 @@ module _ (done : Items) (s : State) where
   then_end i (Ok x) = ap (λ (l : Items). Ok (l, x.1)) (sym (append_assoc done (i ∷ []) x.0))
   then_end i (Err e) = refl
 
-  pub after_comment : (c : TableEntry) (rest : State) → accept kinds.Comment s ≡ Some (c, rest) → prepend done (item_rest s) ≡ prepend (done ++ comment_item leaves c ∷ []) (line_end rest)
+  pub after_comment : (c : TableEntry) (rest : State) → accept kinds.Comment s ≡ Some (c, rest) → prepend done (item_rest s) ≡ prepend (done ++ comment_item leaves kept c ∷ []) (line_end rest)
   unfolding files.item_rest
-  after_comment c rest h = rw h (then_end (comment_item leaves c) (line_end rest))
+  after_comment c rest h = rw h (then_end (comment_item leaves kept c) (line_end rest))
 
   pub ended_body : (b : Bool) (new : Items) → b ≡ true → new ≡ done ++ tree.Newline ∷ [] → prepend done (ended b s) ≡ Ok (new, s)
   unfolding prepend files.ended
@@ -74,11 +77,8 @@ module _ (done : Items) (s : State) where
     line_fails e h1 h2 = rw (h1, h2) refl
 
     -- an item is refused, or its number is wanting
-    pub line_stops : (stop : Stop) (left : State) (wanting : Refusal) → accept kinds.Eol s ≡ None → StopsAt stop left (on_line n s ≡ Err wanting) (on_line n s) → StopsAt stop left (after_numbered done (line n s) ≡ Err wanting) (after_numbered done (line n s))
-    line_stops (Refused r) left wanting none h = line_fails (refusal_at r left) none h
-    line_stops (Literal refused) left wanting none h = line_fails (literal_refusal refused.value.error) none h
-    line_stops Memory left wanting none h = tt
-    line_stops Numbers left wanting none h = line_fails wanting none h
+    pub line_halts : (halt : Halt) (left : State) (wanting : Refusal) → accept kinds.Eol s ≡ None → HaltsAt halt left (on_line n s ≡ Err wanting) (on_line n s) → HaltsAt halt left (after_numbered done (line n s) ≡ Err wanting) (after_numbered done (line n s))
+    line_halts halt left wanting none h = halted (on_line n s) (after_numbered done (line n s)) (λ e. line_fails e none) halt left _ _ (line_fails wanting none) h
 
     -- after an item
     module _ (i : OrderedItem Leaf Token ℕ) (m : Counters) (rest : State) (none : accept kinds.Eol s ≡ None) (item : on_line n s ≡ Ok ((i, m), rest)) where

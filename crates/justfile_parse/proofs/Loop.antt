@@ -11,16 +11,21 @@ use Rattle.justfile_model.specs.Reader.{after_numbered}
 use Rattle.justfile_model.specs.Reading.{◌>>=◌, Counters}
 use Rattle.justfile_parse.specs.TableReader as reader
 use Rattle.justfile_parse.specs.WantsNumber.{counters_of}
-use Rattle.justfile_parse.specs.TableReader.{ReadItems, Refusal, State, accept, after_mark, items, leaves, line, read_nothing, on_line}
+use Rattle.justfile_parse.specs.TableReader.{ReadItems, Refusal, State, accept, after_mark, items, kept, leaves, line, read_nothing, on_line}
+use Rattle.justfile_parse.specs.Halting.{HaltsAt}
 use Rattle.justfile_parse.specs.MethodResults.{IsMoved, StopsAt, literal_refusal, refusal_at}
 use Rattle.justfile_parse.specs.Tree.{item_tree}
+use Rattle.justfile_parse.specs.Whole.{AreWhole, KeepsWhole}
 use Rattle.justfile_tree.specs.LeafTree.{Leaf}
+use Rattle.justfile_parse.specs.declared.halt.Halt.{Halt}
 use Rattle.justfile_parse.specs.declared.significant.TableEntry.{TableEntry}
 use Rattle.justfile_parse.specs.declared.stop.Stop.{Stop}
 use Rattle.justfile_parse.specs.declared.stop.Stop.TheVariants.{Refused, Literal, Memory, Numbers}
 use Rattle.justfile_model.proofs.Reading as laws
 use Rattle.justfile_model.proofs.ReadingSteps.{known}
+use Rattle.justfile_parse.proofs.Halts.{halted}
 use Rattle.justfile_parse.proofs.Moves.{line_moves, names, on_line_moves}
+use Rattle.justfile_parse.proofs.Wholes.{none_whole, then_whole}
 
 abbrev Items : Type 0
 Items = List (OrderedItem Leaf Token ℕ)
@@ -66,43 +71,45 @@ pub record IsReadTo (s q : State) (first next : Numerator) (done : List file.Ite
   pub recipes_least : recipes_of first ≤ recipes_of next
   pub most : bindings_of next + recipes_of next + names q ≤ bindings_of first + recipes_of first + names s
   pub constants : constants_of next ≡ constants_of first
+  pub whole : AreWhole done
 
 pub begins : (s : State) (first : Numerator) → s.depth ≡ 0 → IsReadTo s s first first []
-begins s first none = record { depth = none; read = laws.numbered_begin (items (counters_of first) s); least = omega arith; recipes_least = omega arith; most = omega arith; constants = refl }
+begins s first none = record { depth = none; read = laws.numbered_begin (items (counters_of first) s); least = omega arith; recipes_least = omega arith; most = omega arith; constants = refl; whole = none_whole }
 
 module _ (s q : State) (first next : Numerator) (done : List file.Item) (so_far : IsReadTo s q first next done) where
+  pub all_whole : AreWhole done
+  all_whole = so_far.whole
+
   pub moved : IsMoved first next (names s)
   moved = record { least = so_far.least; recipes_least = so_far.recipes_least; most_is = omega (arith, so_far.most); constants = so_far.constants }
 
   module _ (none : accept kinds.Eof q ≡ None) where
-    pub goes_on : (then : Numerator) (new : List file.Item) (rest : State) → after_numbered (map item_tree done) (line (counters_of next) q) ≡ Ok ((map item_tree new, counters_of then), rest) → IsReadTo s rest first then new
-    goes_on then new rest value =
+    pub goes_on : (then : Numerator) (new : List file.Item) (rest : State) → after_numbered (map item_tree done) (line (counters_of next) q) ≡ Ok ((map item_tree new, counters_of then), rest) → KeepsWhole done new → IsReadTo s rest first then new
+    goes_on then new rest value keeps =
         let t = taken (map item_tree done) (map item_tree new) (counters_of then) rest (line (counters_of next) q) value in
         let moves = line_moves (counters_of next) q so_far.depth t.0 (counters_of then) rest t.1 in
-        let past = known {X = (Items × Counters) × State} ((t.0, counters_of then), rest) (λ x. length x.1.left < length q.left × (x.1.depth ≡ q.depth) × (x.1.run ≡ q.run)) t.1 (laws.line_goes leaves (counters_of next) q) in
+        let past = known {X = (Items × Counters) × State} ((t.0, counters_of then), rest) (λ x. length x.1.left < length q.left × (x.1.depth ≡ q.depth) × (x.1.run ≡ q.run)) t.1 (laws.line_goes leaves kept (counters_of next) q) in
         record {
           depth = past.1 ∙ so_far.depth;
           read =
               ap (λ (l : Items). after_numbered l (items (counters_of then) rest)) (sym t.2)
-              ∙ sym (laws.items_go_on leaves (map item_tree done) (counters_of next) q t.0 (counters_of then) rest none t.1)
+              ∙ sym (laws.items_go_on leaves kept (map item_tree done) (counters_of next) q t.0 (counters_of then) rest none t.1)
               ∙ so_far.read;
           least = omega (arith, so_far.least, moves.least);
           recipes_least = omega (arith, so_far.recipes_least, moves.recipes_least);
           most = omega (arith, so_far.most, moves.most);
           constants = moves.constants ∙ so_far.constants;
+          whole = then_whole done new so_far.whole keeps;
         }
 
     fails : (e : Refusal) → after_numbered (map item_tree done) (line (counters_of next) q) ≡ Err e → items (counters_of first) s ≡ Err e
-    fails e h = sym so_far.read ∙ laws.items_fail leaves (map item_tree done) (counters_of next) q e none (refused_first (map item_tree done) e (line (counters_of next) q) h)
+    fails e h = sym so_far.read ∙ laws.items_fail leaves kept (map item_tree done) (counters_of next) q e none (refused_first (map item_tree done) e (line (counters_of next) q) h)
 
     -- a line is refused, or wants a number
-    pub stops : (stop : Stop) (left : State) (wanting : Refusal)
-        → StopsAt stop left (after_numbered (map item_tree done) (line (counters_of next) q) ≡ Err wanting) (after_numbered (map item_tree done) (line (counters_of next) q))
-        → StopsAt stop left (items (counters_of first) s ≡ Err wanting) (items (counters_of first) s)
-    stops (Refused r) left wanting h = fails (refusal_at r left) h
-    stops (Literal refused) left wanting h = fails (literal_refusal refused.value.error) h
-    stops Memory left wanting h = tt
-    stops Numbers left wanting h = fails wanting h
+    pub halts : (halt : Halt) (left : State) (wanting : Refusal)
+        → HaltsAt halt left (after_numbered (map item_tree done) (line (counters_of next) q) ≡ Err wanting) (after_numbered (map item_tree done) (line (counters_of next) q))
+        → HaltsAt halt left (items (counters_of first) s ≡ Err wanting) (items (counters_of first) s)
+    halts halt left wanting h = halted (after_numbered (map item_tree done) (line (counters_of next) q)) (items (counters_of first) s) fails halt left _ _ (fails wanting) h
 
     -- where a line moved the numerator, so is the file's
     pub moved_on : (then : Numerator) → IsMoved next then (names q) → IsMoved first then (names s)
@@ -118,13 +125,13 @@ module _ (s q : State) (first next : Numerator) (done : List file.Item) (so_far 
     abbrev item_rest_end : Unit {0} × State → ReadItems
     item_rest_end x = Ok (([], counters_of next), x.1)
 
-    end_by : (entries : List TableEntry) → files.end_of_tokens leaves (counters_of next) rest entries ≡ (reader.nothing_by rest entries >>= item_rest_end)
+    end_by : (entries : List TableEntry) → files.end_of_tokens leaves kept (counters_of next) rest entries ≡ (reader.nothing_by rest entries >>= item_rest_end)
     end_by [] = refl
     end_by (t ∷ ts) = refl
 
     at_end_is : items (counters_of first) s ≡ after_numbered (map item_tree done) (read_nothing rest >>= item_rest_end)
     unfolding files.at_end read_nothing
-    at_end_is = sym so_far.read ∙ laws.items_at_end leaves (map item_tree done) (counters_of next) q end rest is ∙ ap (after_numbered (map item_tree done)) (end_by rest.left)
+    at_end_is = sym so_far.read ∙ laws.items_at_end leaves kept (map item_tree done) (counters_of next) q end rest is ∙ ap (after_numbered (map item_tree done)) (end_by rest.left)
 
     pub ends : read_nothing rest ≡ Ok (tt, rest) → items (counters_of first) s ≡ Ok ((map item_tree done, counters_of next), rest)
     ends h = at_end_is ∙ ap (λ (f : reader.Read (Unit {0})). after_numbered (map item_tree done) (f >>= item_rest_end)) h ∙ laws.numbered_nothing (map item_tree done) (counters_of next) rest

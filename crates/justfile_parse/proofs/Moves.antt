@@ -14,9 +14,10 @@ use Rattle.justfile_model.specs.Reading.{◌>>=◌, Counters, prepend, choose, r
 use Rattle.justfile_model.specs.SignificantTokens.{identifiers}
 use Rattle.justfile_model.specs.Tok.{Tok}
 use Rattle.justfile_model.specs.Tree as tree
-use Rattle.justfile_model.specs.Tree.{OrderedItem, WrittenItem}
+use Rattle.justfile_model.specs.Tree.{OrderedItem, WrittenItem, itself}
 use Rattle.justfile_model.specs.TreeReader as model
-use Rattle.justfile_model.specs.TreeReader.{token_leaves}
+use Rattle.justfile_model.specs.TreeReader.{token_attributes, token_leaves}
+use Rattle.justfile_model.proofs.AttributeProgress.{attribute_lines_count}
 use Rattle.justfile_model.proofs.Counters.{count, counted_bindings, counted_constants, counted_recipes}
 use Rattle.justfile_model.proofs.Counting.{block_counts, on_line_counts}
 use Rattle.justfile_model.proofs.Natural as natural
@@ -24,11 +25,11 @@ use Rattle.justfile_model.proofs.ReadingSteps.{known}
 use Rattle.justfile_model.proofs.Related as a
 use Rattle.justfile_model.proofs.Related.{AlikeItem, Related}
 use Rattle.justfile_model.proofs.Sound.{Starts, of_block, of_comment, of_line, on_line_at}
-use Rattle.justfile_parse.specs.TableReader.{after_mark, Read, ReadItem, ReadItems, Refusal, State, accept, item_rest, ended, expect, leaves, line, line_end, on_line}
+use Rattle.justfile_parse.specs.TableReader.{after_mark, Read, ReadItem, ReadItems, Refusal, State, accept, item_rest, ended, expect, kept, leaves, line, line_end, on_line}
 use Rattle.justfile_parse.specs.Significant.{significant_of}
 use Rattle.justfile_tree.specs.LeafTree.{Leaf}
 use Rattle.justfile_parse.specs.declared.significant.TableEntry.{TableEntry}
-use Rattle.justfile_parse.proofs.Anywhere.{agree, entries_are, rel, state_alike, state_seen}
+use Rattle.justfile_parse.proofs.Anywhere.{Keeps, agree, entries_are, keeps, rel, state_alike, state_seen}
 use Rattle.justfile_parse.proofs.Formats.{IsExpected, IsNext, Taken, accepted, expected}
 
 -- how many identifiers are left
@@ -54,8 +55,8 @@ counts_by n i before following h = record {
 
 starts_count : (conditions : Conditions) {b : Bool} {i : WrittenItem Tok Tok ℕ Tok} {fs : List (Noted Tok)} {ts rest : Tokens} → Starts conditions b i fs ts rest → item_bindings i + item_recipes i + identifiers rest ≤ identifiers ts
 starts_count conditions (of_comment kind) = omega arith
-starts_count conditions (of_line h) = on_line_counts keeps_tokens (Under conditions.limit) h
-starts_count conditions (of_block h) = block_counts keeps_tokens (Under conditions.limit) h
+starts_count conditions (of_line a h) = omega (arith, attribute_lines_count itself itself (Under conditions.limit) a, on_line_counts keeps_tokens (Under conditions.limit) h)
+starts_count conditions (of_block a h) = omega (arith, attribute_lines_count itself itself (Under conditions.limit) a, block_counts keeps_tokens (Under conditions.limit) h)
 
 module _ (n : Counters) (s : State) (open_none : s.depth ≡ 0) where
   same_count : {i : OrderedItem Leaf Token ℕ} {i' : WrittenItem Tok Tok ℕ Tok} → AlikeItem (rel s.run) n i i' → item_bindings i + item_recipes i ≡ item_bindings i' + item_recipes i'
@@ -66,7 +67,7 @@ module _ (n : Counters) (s : State) (open_none : s.depth ≡ 0) where
 
   -- what begins a line takes an identifier for its number
   pub on_line_moves : (i : OrderedItem Leaf Token ℕ) (m : Counters) (rest : State) → on_line n s ≡ Ok ((i, m), rest) → MovesBy n m (names s) (names rest)
-  on_line_moves i m rest found = by_law (on_line n s) (files.on_line token_leaves n (state_seen s)) refl (natural.on_line_natural (rel s.run) leaves token_leaves (agree s.run) n (state_alike s)) found
+  on_line_moves i m rest found = by_law (on_line n s) (files.on_line token_leaves token_attributes n (state_seen s)) refl (natural.on_line_natural (rel s.run) leaves token_leaves (agree s.run) kept token_attributes (Keeps s.run) (keeps s.run) n (state_alike s)) found
     where
       inside : (x y : (OrderedItem Leaf Token ℕ × Counters) × State) → ◌≡◌ {A = ReadItem} (Ok x) (Ok y) → x ≡ y
       inside x y h = cc
@@ -74,12 +75,12 @@ module _ (n : Counters) (s : State) (open_none : s.depth ≡ 0) where
       no_read : (f : Refusal) (y : (OrderedItem Leaf Token ℕ × Counters) × State) → ◌≡◌ {A = ReadItem} (Err f) (Ok y) → ⊥
       no_read f y h = cc
 
-      by_law : {Short : Counters → model.Read (WrittenItem Tok Tok ℕ Tok × Counters) → Type 0} (o : ReadItem) (o' : model.Read (WrittenItem Tok Tok ℕ Tok × Counters)) → files.on_line token_leaves n (state_seen s) ≡ o'
-          → Related (rel s.run) (natural.AlikeNumbered (rel s.run) leaves token_leaves (agree s.run) n) Short o o' → o ≡ Ok ((i, m), rest) → MovesBy n m (names s) (names rest)
+      by_law : {Short : Counters → model.Read (WrittenItem Tok Tok ℕ Tok × Counters) → Type 0} (o : ReadItem) (o' : model.Read (WrittenItem Tok Tok ℕ Tok × Counters)) → files.on_line token_leaves token_attributes n (state_seen s) ≡ o'
+          → Related (rel s.run) (natural.AlikeNumbered (rel s.run) leaves token_leaves (agree s.run) kept token_attributes (Keeps s.run) (keeps s.run) n) Short o o' → o ≡ Ok ((i, m), rest) → MovesBy n m (names s) (names rest)
       by_law o o' is (a.both {x = x} {y = y} q k) same =
           let e = inside x ((i, m), rest) same in
           let d = on_line_at s.run.conditions n (state_seen s) y is (open_none, refl) in
-          let count_of = starts_count s.run.conditions d.derives in
+          let count_of = starts_count s.run.conditions d.derived.derives in
           let moves : MovesBy n (count n x.0.0) (names s) (names x.1) = counts_by n x.0.0 (names s) (names x.1) (omega (arith, count_of, same_count q.0, ap (λ (ts : Tokens). identifiers ts) (entries_are s.run k.left))) in
           let counted = subst (λ (c : Counters). MovesBy n c (names s) (names x.1)) (sym q.2) moves in
           subst (λ (z : (OrderedItem Leaf Token ℕ × Counters) × State). MovesBy n z.0.1 (names s) (names z.1)) e counted
@@ -135,7 +136,7 @@ item_rest_fewer : (s : State) → Fewer {A = Items} s (item_rest s)
 unfolding files.item_rest
 item_rest_fewer s =
     either_fewer {A = Items} kinds.Comment s _ _ (line_end_fewer s)
-    (λ c. then_fewer {A = Items} {B = Items} c.1 (line_end c.1) (λ end. Ok (files.comment_item leaves c.0 ∷ end.0, end.1)) (line_end_fewer c.1) (λ x. omega arith))
+    (λ c. then_fewer {A = Items} {B = Items} c.1 (line_end c.1) (λ end. Ok (files.comment_item leaves kept c.0 ∷ end.0, end.1)) (line_end_fewer c.1) (λ x. omega arith))
 
 ended_fewer : (b : Bool) (s : State) → Fewer {A = Items} s (ended b s)
 unfolding files.ended

@@ -25,7 +25,10 @@ use Rattle.justfile_model.specs.Literals as literals
 use Rattle.justfile_model.specs.Reading as reader
 use Rattle.justfile_model.specs.TreeReader as model
 use Rattle.justfile_model.specs.SignificantTokens.{SignificantToken}
-use Rattle.justfile_parse.specs.Errors.{IsErrorOf, IsUnexpected}
+use Rattle.justfile_attribute_rules.specs.RuleErrors.{SaysRule}
+use Rattle.justfile_model.specs.Rules as rules
+use Rattle.justfile_model.specs.Rules.{Rule}
+use Rattle.justfile_parse.specs.Errors.{IsErrorOf, IsExtraneous, IsUnexpected}
 use Rattle.justfile_model.specs.LexicalFault.{LexicalFault, NotLexical, LexicalRefusal, Here, Unclosed, lexical_fault_of}
 use Rattle.justfile_model.specs.LiteralText.{raw_len}
 use Rattle.justfile_model.specs.Modes.{Mode, head_of, innermost, is_empty, mode, nested}
@@ -186,9 +189,22 @@ literal_kind : (fault : literals.LiteralFault) (kind : CompileErrorKind) → IsK
 literal_kind fault (Internal message) h = cc
 literal_kind fault _ h = refl
 
+says_internal : (at : Token) (rule : Rule Token) (message : _) → SaysRule at rule (Internal message) → ⊥
+says_internal at (rules.UnknownAttribute name) message h = h
+says_internal at _ message h = h
+
+rule_kind : (at : Token) (rule : Rule Token) (kind : CompileErrorKind) → SaysRule at rule kind → internal_message kind ≡ None
+rule_kind at rule (Internal message) h = absurd (says_internal at rule message h)
+rule_kind at rule _ h = refl
+
+extraneous_kind : (count : ℕ) (kind : CompileErrorKind) → IsExtraneous count kind → internal_message kind ≡ None
+extraneous_kind count (Internal message) h = absurd h
+extraneous_kind count _ h = refl
+
 pub refusal_not_internal : (tokens : List SignificantToken) (r : model.Refusal) (e : CompileError) → IsErrorOf tokens r e → internal_message e.kind ≡ None
 refusal_not_internal tokens (reader.Unexpected at) e h = unexpected_kind e.kind e.token h.0
 refusal_not_internal tokens (reader.TooDeep at) e h = ap internal_message h.0
 refusal_not_internal tokens (reader.NotCooked fault t) e h = literal_kind fault e.kind h.0
-refusal_not_internal tokens (reader.BreaksRule rule) e h = absurd h
+refusal_not_internal tokens (reader.BreaksRule rule) e h = rule_kind h.rule.token h.rule.rule e.kind h.error.says
+refusal_not_internal tokens (reader.Extraneous count opener) e h = extraneous_kind count e.kind h.0
 refusal_not_internal tokens (reader.NoNumber counters) e h = absurd h

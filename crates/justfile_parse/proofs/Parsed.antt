@@ -1,9 +1,9 @@
 -- What is read of a table, and what that says of the tokens.
-use Rattle.std.proofs.Common.{◌≡◌, ℕ, ◌+◌, ◌<◌, ◌≤◌, Bool, true, false, ◌&&◌, cond, IsTrue, rules, List, [], ◌∷◌, ◌++◌, map, length, All, Contains, Some, None, Result, Ok, Err, inl, inr, refl, sym, ap, ◌∙◌, subst, arith}
+use Rattle.std.proofs.Common.{◌≡◌, ℕ, ◌+◌, ◌<◌, ◌≤◌, Bool, true, false, ◌&&◌, cond, IsTrue, rules, List, [], ◌∷◌, ◌++◌, map, length, All, Contains, Some, Result, Ok, Err, inl, inr, refl, sym, ap, ◌∙◌, subst, arith}
 use Rattle.std.specs.Prelude.{◌-◌, ◌^◌, get_or, reverse, string_bytes}
 use Rattle.std.specs.List.{list_all, flat_map}
 use Rattle.std.proofs.lemmas.Bool.Decides.{nat_tests}
-use Rattle.std.proofs.lemmas.List.{append-nil, length-map, map-append, reverse-append, reverse-reverse}
+use Rattle.std.proofs.lemmas.List.{append-nil, length-map, reverse-append, reverse-reverse}
 use Rattle.std.proofs.lemmas.List.Elements.{All-contains, All-head, All-tail, All-weaker}
 use Rattle.justfile_base.specs.StringKind.{delimiter_len, kind_of}
 use Rattle.justfile_base.specs.StringLiteral.{begins_format_string}
@@ -23,7 +23,9 @@ use Rattle.std.specs.Str.{IsUtf8}
 use Rattle.justfile_round_trip.specs.RoundTrip.{TextDerives}
 use Rattle.justfile_round_trip.proofs.Quoted.{AreFramed, AreQuoted, IsFramed, IsQuoted, lexed_framed, lexed_quoted}
 use Rattle.justfile_file.specs.Item.{fragment_of, fragment_cooked, item_of, item_cooked, body_line_of, line_cooked}
+use Rattle.justfile_attribute_set.specs.AttributeSet.{entries_of}
 use Rattle.justfile_file.specs.Ast.{features_of, tree_of}
+use Rattle.justfile_file.specs.Attributes.{set_cooked}
 use Rattle.justfile_file.specs.declared.fragment.Fragment.{Fragment}
 use Rattle.justfile_file.specs.declared.fragment.Fragment.TheVariants as fragments
 use Rattle.justfile_file.specs.declared.line.Line.{Line}
@@ -39,6 +41,7 @@ use Rattle.justfile_model.specs.Features.{Noted}
 use Rattle.justfile_model.specs.Literals as lits
 use Rattle.justfile_model.specs.Literals.{Expansions, Expanded, Literal, Plain, over_literal, string_of, cooked_text, AreCookedTexts}
 use Rattle.justfile_model.specs.declared.list_feature.ListFeature.{ListFeature}
+use Rattle.justfile_model.specs.Sight.{sees_tokens}
 use Rattle.justfile_model.specs.TreeReader as model
 use Rattle.justfile_model.specs.SignificantTokens.{SignificantToken, is_whitespace, significant_from, significant_tokens}
 use Rattle.justfile_model.specs.Tok.{Tok, tok_of}
@@ -55,7 +58,9 @@ use Rattle.justfile_parse.specs.Parsing.{HasNoTree, IsOneLex, IsParsed, IsParsed
 use Rattle.justfile_parse.specs.MethodResults.{IsRead, IsUnread}
 use Rattle.justfile_parse.specs.Significant.{significant_of}
 use Rattle.justfile_parse.specs.declared.significant.TableEntry.{TableEntry}
+use Rattle.justfile_parse.specs.Unstable.{unstable_of}
 use Rattle.justfile_parse.specs.WantsNumber.{WantsNumber}
+use Rattle.justfile_parse.proofs.GivenAttributes.{given_set, joined_cook, lexemes, set_cooks, string_cooks, string_tok}
 use Rattle.justfile_parse.proofs.NotInternal.{not_internal, refusal_not_internal}
 use Rattle.justfile_tree.specs.Expression.{assert_of, conditional_of, expr_of, expr_cooked, exprs_cooked, exprs_of_row, format_of, optional_cooked, join_of, literal_tok, part_tok, parts_cooked, parts_of_row}
 use Rattle.justfile_tree.specs.declared.expression.Expression.{Expression, And', Assert', Backtick, Call', Comparison', Concatenation', Conditional', FormatString', Group', Join', List', ListConcatenation', Not', Or', StringLiteral, Variable, Held-Expression-Assert-1 as OptionalExpression, None', Some', Row_of-Expression as ExpressionRow, end_of-Expression as row_end, more_of-Expression as row_more, Row_of-Expression-FormatString-1-2 as FormatRow, end_of-Expression-FormatString-1-2 as format_row_end, more_of-Expression-FormatString-1-2 as format_row_more}
@@ -170,6 +175,7 @@ module _ (expander : Expansions) (P Q : Token → Type 0) (weaker : (t : Token) 
         file_depth_is = h.file_depth_is;
         prelude = h.prelude;
         private = h.private;
+        attributes = given_set expander P Q weaker given_expression a.attributes h.attributes;
         value = given_expression a.value h.value;
       }
   given_weaker file_depth import_offsets (Comment text) h = tt
@@ -182,39 +188,14 @@ module _ (expander : Expansions) (P Q : Token → Type 0) (weaker : (t : Token) 
         import_offsets_are = h.import_offsets_are;
         private = h.private;
         shebang = h.shebang;
+        attributes = given_set expander P Q weaker given_expression r.attributes h.attributes;
       }
 
 -- ---- the texts of literals
 
--- the string as it stands in a tree
-abbrev string_at : (expand : Bool) (t : Tok) → tree.Expr Tok Tok
-string_at expand t = tree.StringLiteral expand t
-
-abbrev lexemes : List (Literal Tok) → List (Literal (List ℕ))
-lexemes = map (over_literal lexeme)
-
-module _ (expander : Expansions) where
-  both_cook : (first : List (Literal (List ℕ))) (texts : List (List ℕ)) (others : List (Literal (List ℕ))) (more : List (List ℕ)) → AreCookedTexts expander first texts → AreCookedTexts expander others more → AreCookedTexts expander (first ++ others) (texts ++ more)
-  both_cook [] [] others more h k = k
-  both_cook (l ∷ ls) (t ∷ ts) others more h k = (h.0, both_cook ls ts others more h.1 k)
-  both_cook [] (t ∷ ts) others more h k = absurd h
-  both_cook (l ∷ ls) [] others more h k = absurd h
-
-  joined_cook : (a b : List (Literal Tok)) (texts more : List (List ℕ)) → AreCookedTexts expander (lexemes a) texts → AreCookedTexts expander (lexemes b) more → AreCookedTexts expander (lexemes (a ++ b)) (texts ++ more)
-  joined_cook a b texts more h k =
-      let P : List (Literal (List ℕ)) → Type 0 = λ ls. AreCookedTexts expander ls (texts ++ more) in
-      subst P (sym (map-append (over_literal lexeme) a b)) (both_cook (lexemes a) texts (lexemes b) more h k)
-
-  string_cooks : (expand : Bool) (t : Tok) (bytes text : List ℕ) → t.lexeme ≡ bytes → cooked_text expander (string_of expand bytes) ≡ Ok text → AreCookedTexts expander (lexemes (expr_literals (string_at expand t))) (text ∷ [])
-  string_cooks true t bytes text same h = (ap (λ (b : List ℕ). cooked_text expander (Expanded b)) same ∙ h, tt)
-  string_cooks false t bytes text same h = (ap (λ (b : List ℕ). cooked_text expander (Plain b)) same ∙ h, tt)
-
 -- the token of a later part is as it stands
 later_lexeme : (literal : literals.StringLiteral) → literal.expand ≡ false → begins_format_string literal.part ≡ false → (part_tok literal).lexeme ≡ lexeme_of literal.token
 later_lexeme literal h k = rw (h, k) refl
-
-string_tok : (literal : literals.StringLiteral) → literal.part ≡ None → literal_tok literal ≡ tok_of literal.token
-string_tok literal p = rw p refl
 
 module _ (expander : Expansions) (start : Tok) (bytes : List ℕ) (same : start.lexeme ≡ bytes) (literal : literals.StringLiteral) where
   part_end : IsPartOf (kind_of bytes) format_parts.End literal.token literal → cooked_text expander (lits.End start.lexeme (part_tok literal).lexeme) ≡ Ok (string_bytes literal.cooked)
@@ -299,10 +280,12 @@ module _ (expander : Expansions) (P : Token → Type 0) where
       (lines_cook ls (All-tail (IsGivenLine expander P) l ls all))
 
   item_cooks : (file_depth : ℕ) (import_offsets : List ℕ) (i : Item) → IsGivenItem expander P file_depth import_offsets i → AreCookedTexts expander (lexemes (item_literals entries_literals (item_of i))) (item_cooked i)
-  item_cooks file_depth import_offsets (Assignment a) h = expression_cooks a.value h.value
+  item_cooks file_depth import_offsets (Assignment a) h =
+      joined_cook expander (entries_literals (entries_of a.attributes)) _ (set_cooked a.attributes) _ (set_cooks expander P expression_cooks a.attributes h.attributes) (expression_cooks a.value h.value)
   item_cooks file_depth import_offsets (Comment text) h = tt
   item_cooks file_depth import_offsets Newline h = tt
-  item_cooks file_depth import_offsets (Recipe r) h = lines_cook r.body.items h.body
+  item_cooks file_depth import_offsets (Recipe r) h =
+      joined_cook expander (entries_literals (entries_of r.attributes)) _ (set_cooked r.attributes) _ (set_cooks expander P expression_cooks r.attributes h.attributes) (lines_cook r.body.items h.body)
 
 -- the literals' texts are theirs
 pub cooks_of : (expander : Expansions) (P : Token → Type 0) (file_depth : ℕ) (import_offsets : List ℕ) (items : List Item) → All (IsGivenItem expander P file_depth import_offsets) items → AreCookedTexts expander (lexemes (literals (map item_of items))) (flat_map item_cooked items)
@@ -328,12 +311,12 @@ module _ (conditions : Conditions) (tokens : List Token) (table : List TableEntr
   abbrev there : Result (WrittenTree × List (Noted Tok)) model.Refusal
   there = model.tree_of_tokens conditions (map significant_of table)
 
-  found : (tree : Tree) (features : List (Noted Tok)) → Derives tree features → (written : WrittenTree) × (ordered written ≡ Some tree) × (there ≡ Ok (written, features))
+  found : (tree : Tree) (features : List (Noted Tok)) → Derives tree features → (written : WrittenTree) × (ordered (sees_tokens conditions.expander) written ≡ Some tree) × (there ≡ Ok (written, features))
   found tree features d =
       let x = complete conditions (significant_tokens (map tok_of tokens)) tree features d in
       (x.0, x.1, ap (model.tree_of_tokens conditions) is ∙ x.2)
 
-  pub derives_of : (written : WrittenTree) (tree : Tree) (features : List (Noted Tok)) → there ≡ Ok (written, features) → ordered written ≡ Some tree → Derives tree features
+  pub derives_of : (written : WrittenTree) (tree : Tree) (features : List (Noted Tok)) → there ≡ Ok (written, features) → ordered (sees_tokens conditions.expander) written ≡ Some tree → Derives tree features
   derives_of written tree features h meaning =
       let x = sound conditions (significant_tokens (map tok_of tokens)) written features (sym (ap (model.tree_of_tokens conditions) is) ∙ h) in
       let e : Some x.0 ≡ Some tree = sym x.1 ∙ meaning in
@@ -364,15 +347,15 @@ module _ (conditions : Conditions) (tokens : List Token) (table : List TableEntr
       let P : List SignificantToken → Type 0 = λ ts. WantsNumber conditions ts old new in (
         subst P is h.0,
         λ tree features d enough. let x = found tree features d in h.1 x.0 features x.2 (record {
-          bindings_suffice = subst (λ (n : ℕ). bindings_of old + n ≤ 2 ^ 32 - 1) (ordered_bindings x.0 tree x.1) enough.bindings_suffice;
-          recipes_suffice = subst (λ (n : ℕ). recipes_of old + n ≤ 2 ^ 32 - 1) (ordered_recipes x.0 tree x.1) enough.recipes_suffice;
+          bindings_suffice = subst (λ (n : ℕ). bindings_of old + n ≤ 2 ^ 32 - 1) (ordered_bindings (sees_tokens conditions.expander) x.0 tree x.1) enough.bindings_suffice;
+          recipes_suffice = subst (λ (n : ℕ). recipes_of old + n ≤ 2 ^ 32 - 1) (ordered_recipes (sees_tokens conditions.expander) x.0 tree x.1) enough.recipes_suffice;
         }),
       )
 
   pub parsed_of : All (λ entry. Contains tokens entry.token.now) table → (file_depth : ℕ) (import_offsets : List ℕ) (ast : Ast)
-      → IsRead conditions table file_depth import_offsets (map significant_of table) old new (ast.items.items, ast.list_features.items) → ast.unstable_features.keys ≡ []
+      → IsRead conditions table file_depth import_offsets (map significant_of table) old new (ast.items.items, ast.list_features.items) → ast.unstable_features.keys ≡ unstable_of ast.items.items
       → IsParsed conditions (map tok_of tokens) (Contains tokens) file_depth import_offsets old new ast
-  parsed_of all file_depth import_offsets ast h stable =
+  parsed_of all file_depth import_offsets ast h unstable =
       record {
         derives = derives_of h.written (tree_of ast) (features_of ast) h.read h.ordered_is;
         filled = record {
@@ -383,7 +366,7 @@ module _ (conditions : Conditions) (tokens : List Token) (table : List TableEntr
           recipes_counted = h.given.recipes_counted;
           given = given_tokens conditions.expander tokens table file_depth import_offsets ast.items.items all h.given.given;
           noted = All-weaker (λ (x : ListFeature × Token). IsInTable table x.1) (λ (x : ListFeature × Token). Contains tokens x.1) (λ x. in_tokens tokens table all x.1) ast.list_features.items h.noted.all;
-          stable = stable;
+          unstable = unstable;
         };
       }
 
@@ -423,7 +406,7 @@ module _ (conditions : Conditions) (path src : List ℕ) (utf8 : IsUtf8 src) (to
               All-weaker (IsGivenItem conditions.expander (Contains tokens) file_depth import_offsets) (IsGivenItem conditions.expander (IsFrom path src) file_depth import_offsets)
               (given_weaker conditions.expander (Contains tokens) (IsFrom path src) from_tokens file_depth import_offsets) ast.items.items h.filled.given;
           noted = All-weaker (λ (x : ListFeature × Token). Contains tokens x.1) (λ (x : ListFeature × Token). IsFrom path src x.1) (λ x. from_tokens x.1) ast.list_features.items h.filled.noted;
-          stable = h.filled.stable;
+          unstable = h.filled.unstable;
         };
       }
 

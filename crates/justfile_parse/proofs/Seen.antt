@@ -1,6 +1,6 @@
 -- What is read of a table, side by side with what the definitions read of its tokens: the trees are the same but for what stands at their
 -- leaves, and each leaf is made of a token of the table.
-use Rattle.std.proofs.Common.{◌≡◌, ℕ, Bool, true, false, List, [], ◌∷◌, ◌++◌, map, All, Option, Some, None, Ok, refl, sym, ap, subst, ◌∙◌}
+use Rattle.std.proofs.Common.{◌≡◌, ℕ, Bool, true, false, List, [], ◌∷◌, map, All, Option, Some, None, Ok, refl, sym, ap, subst, ◌∙◌}
 use Rattle.std.specs.Prelude.{string_bytes}
 use Rattle.justfile_base.specs.StringKind.{kind_of}
 use Rattle.justfile_base.specs.Token.{lexeme_of}
@@ -10,23 +10,15 @@ use Rattle.justfile_base.specs.declared.number.Number.{Number}
 use Rattle.justfile_base.specs.declared.string_kind.StringKind.{StringKind}
 use Rattle.justfile_base.specs.declared.string_literal.StringLiteral as strings
 use Rattle.justfile_base.specs.declared.token.Token.{Token}
-use Rattle.std.specs.List.{flat_map}
 use Rattle.std.proofs.lemmas.List.Elements.{All-cons, All-nil}
-use Rattle.justfile_file.specs.Ast.{noted_of}
-use Rattle.justfile_file.specs.Item.{fragment_of, item_numbers, item_of, item_recipe_numbers, body_line_of}
-use Rattle.justfile_file.specs.declared.binding.Binding.{Binding}
+use Rattle.justfile_file.specs.Item.{fragment_of, body_line_of}
 use Rattle.justfile_file.specs.declared.fragment.Fragment.{Fragment}
 use Rattle.justfile_file.specs.declared.fragment.Fragment.TheVariants as fragments
-use Rattle.justfile_file.specs.declared.item.Item.{Item}
-use Rattle.justfile_file.specs.declared.item.Item.TheVariants as items
 use Rattle.justfile_file.specs.declared.line.Line.{Line}
-use Rattle.justfile_file.specs.declared.recipe.UnresolvedRecipe.{UnresolvedRecipe}
 use Rattle.justfile_model.specs.Conditions.{Conditions}
-use Rattle.justfile_model.specs.Features.{Noted}
-use Rattle.justfile_model.specs.Files.{NumbersFrom, if_both, ordered, ordered_item}
-use Rattle.justfile_model.specs.Reading.{Counters}
-use Rattle.justfile_model.specs.declared.list_feature.ListFeature.{ListFeature}
-use Rattle.justfile_parse.proofs.Shebangs.{shebang_given}
+use Rattle.justfile_attribute_set.specs.AttributeSet.{AttributeSet, leaf_entries_of, entries_of as set_entries}
+use Rattle.justfile_model.specs.Meaning.{entries_of}
+use Rattle.justfile_model.specs.Sight.{sees_tokens}
 use Rattle.justfile_model.specs.Literals as literals
 use Rattle.justfile_model.specs.Literals.{cooked_text, format_text, string_of, token_of}
 use Rattle.justfile_model.specs.SignificantTokens.{SignificantToken}
@@ -35,25 +27,20 @@ use Rattle.justfile_model.specs.Tree as tree
 use Rattle.justfile_model.specs.Tree.{BodyLine, Content, Entry, Expr, Exprs, Parts, WrittenAttribute, WrittenItem, WrittenTree, plain_assignment, plain_recipe, starless}
 use Rattle.justfile_model.specs.TreeReader.{token_leaves}
 use Rattle.justfile_model.proofs.Related as a
-use Rattle.justfile_model.proofs.Counters.{count}
 use Rattle.justfile_model.proofs.Related.{Alike, AlikeAll, AlikeFragment, AlikeItem, AlikeItems, AlikeLine, AlikeParts, Each, Relations, Respects}
 use Rattle.justfile_tree.specs.Expression as model
 use Rattle.justfile_tree.specs.Expression.{expr_of, exprs_of_row, literal_tok, part_tok}
 use Rattle.justfile_tree.specs.declared.expression.Expression.{Expression, And', Assert', Backtick, Call', Comparison', Concatenation', Conditional', FormatString', Group', Join', List', ListConcatenation', Not', Or', StringLiteral, Variable, None', Some', Row_of-Expression as ExpressionRow, end_of-Expression as row_end, more_of-Expression as row_more, Row_of-Expression-FormatString-1-2 as FormatRow, end_of-Expression-FormatString-1-2 as format_row_end, more_of-Expression-FormatString-1-2 as format_row_more}
-use Rattle.justfile_parse.specs.Filled.{is_private, IsGivenFragment, IsGivenItem, IsGivenLine, AreGivenExpressions, AreGivenParts, IsGivenCommand, IsGivenExpression, IsGivenLiteral, IsGivenPart, first_part, later_part}
+use Rattle.justfile_parse.specs.Filled.{AreGivenAttributes, IsGivenFragment, IsGivenLine, AreGivenExpressions, AreGivenParts, IsGivenCommand, IsGivenExpression, IsGivenLiteral, IsGivenPart, first_part, later_part}
 use Rattle.justfile_parse.specs.TableReader.{Run, assigned_leaf, headed_leaf, leaves, literal_leaf}
 use Rattle.justfile_parse.specs.Significant.{significant_of}
-use Rattle.justfile_parse.specs.Tree.{assignment_name, fragment_tree, item_tree, line_tree, recipe_name}
-use Rattle.justfile_tree.specs.LeafTree.{AssignmentName, RecipeName, Leaf, LiteralText, Assigned, Headed, Named, Literal, Command, Text, format_row_tree, literal_of, parts_row_tree, leaf_tree_of, trees_of_row}
+use Rattle.justfile_parse.specs.Tree.{fragment_tree, line_tree}
+use Rattle.justfile_tree.specs.LeafTree.{Leaf, LiteralText, Named, Literal, Command, Text, format_row_tree, literal_of, parts_row_tree, leaf_tree_of, trees_of_row}
 use Rattle.justfile_parse.specs.declared.significant.TableEntry.{TableEntry}
 
 -- a reader of a table beside one of significant tokens
 abbrev pub Relates : Type 1
 Relates = Relations Run TableEntry Leaf Token (Unit {0}) (List (Entry Leaf Token)) Conditions SignificantToken Tok Tok Tok (List (WrittenAttribute Tok Tok))
-
--- an item without attributes means itself
-plain_item : (content : Content Tok Tok ℕ Tok) (ws : List (WrittenAttribute Tok Tok)) → ws ≡ [] → ordered_item (tree.Construct ws content) ≡ Some (tree.Construct [] (starless content))
-plain_item content ws e = ap (λ (k : List (WrittenAttribute Tok Tok)). ordered_item (tree.Construct k content)) e
 
 module _ (conditions : Conditions) (IsToken : Token → Type 0) (file_depth : ℕ) (import_offsets : List ℕ) where
   -- this run
@@ -89,12 +76,13 @@ module _ (conditions : Conditions) (IsToken : Token → Type 0) (file_depth : �
     pub is : leaf ≡ literal_leaf token l text
     pub tok_is : tok ≡ tok_of token
 
-  abbrev in_run : Run
+  abbrev pub in_run : Run
   in_run = record { conditions = conditions; table = []; file_depth = file_depth; import_offsets = import_offsets }
 
-  -- no attribute stands before either
-  abbrev pub AreNone : List (Entry Leaf Token) → List (WrittenAttribute Tok Tok) → Type 0
-  AreNone entries written = (entries ≡ []) × (written ≡ [])
+  -- a set whose entries are these holds what the written attributes mean, and its parts are given
+  abbrev pub AreMeant : List (Entry Leaf Token) → List (WrittenAttribute Tok Tok) → Type 0
+  AreMeant entries ws = (set : AttributeSet) → leaf_entries_of set ≡ entries
+      → (entries_of (sees_tokens conditions.expander) ws ≡ Some (set_entries set)) × AreGivenAttributes conditions.expander IsToken set
 
   abbrev pub seen : Relates
   seen = record {
@@ -105,9 +93,9 @@ module _ (conditions : Conditions) (IsToken : Token → Type 0) (file_depth : �
     literal = IsLiteralLeaf;
     text = IsLeaf Text;
     star = λ star tok. Unit {0};
-    attributes = AreNone;
+    attributes = AreMeant;
     assignment = λ number. IsLeaf (λ token. assigned_leaf in_run token number);
-    recipe = λ number leaf body tok lines. IsLeaf (λ token. headed_leaf in_run token number body) leaf tok;
+    recipe = λ number leaf body tok lines. IsLeaf (λ token. headed_leaf in_run token number) leaf tok;
   }
 
   -- ---- what the two make of tokens
@@ -118,8 +106,8 @@ module _ (conditions : Conditions) (IsToken : Token → Type 0) (file_depth : �
   assigned_is : (run : Run) (C : Conditions) → IsRun run C → (token : Token) (number : ℕ) → assigned_leaf run token number ≡ assigned_leaf in_run token number
   assigned_is run C h token number = rw h.file_depth_is refl
 
-  headed_is : (run : Run) (C : Conditions) → IsRun run C → (token : Token) (number : ℕ) (body : List (BodyLine Leaf Token ℕ)) → headed_leaf run token number body ≡ headed_leaf in_run token number body
-  headed_is run C h token number body = rw (h.file_depth_is, h.import_offsets_are) refl
+  headed_is : (run : Run) (C : Conditions) → IsRun run C → (token : Token) (number : ℕ) → headed_leaf run token number ≡ headed_leaf in_run token number
+  headed_is run C h token number = rw (h.file_depth_is, h.import_offsets_are) refl
 
   pub respects : Respects seen leaves token_leaves
   unfolding leaves
@@ -139,11 +127,10 @@ module _ (conditions : Conditions) (IsToken : Token → Type 0) (file_depth : �
     };
     text = λ entry t h. named Text entry t h;
     star = λ entry t h. tt;
-    no_attributes = (refl, refl);
     assignment = λ run C entry t r h number.
         subst (λ (leaf : Leaf). IsLeaf (λ token. assigned_leaf in_run token number) leaf t.tok) (sym (assigned_is run C r entry.token.now number)) (named (λ token. assigned_leaf in_run token number) entry t h);
     recipe = λ run C entry t r h number body lines same.
-        subst (λ (leaf : Leaf). IsLeaf (λ token. headed_leaf in_run token number body) leaf t.tok) (sym (headed_is run C r entry.token.now number body)) (named (λ token. headed_leaf in_run token number body) entry t h);
+        subst (λ (leaf : Leaf). IsLeaf (λ token. headed_leaf in_run token number) leaf t.tok) (sym (headed_is run C r entry.token.now number)) (named (λ token. headed_leaf in_run token number) entry t h);
     has_number = λ n h. refl;
   }
 
@@ -203,7 +190,7 @@ module _ (conditions : Conditions) (IsToken : Token → Type 0) (file_depth : �
   plain_tok : (l : strings.StringLiteral) → l.part ≡ None → literal_tok l ≡ tok_of l.token
   plain_tok l p = rw p refl
 
-  string_seen : (lexeme : List ℕ) (l : strings.StringLiteral) (tok : Tok) → IsLiteralLeaf (string_of l.expand lexeme) (Literal (literal_of l)) tok → IsGivenLiteral conditions.expander IsToken l × (tok ≡ literal_tok l)
+  pub string_seen : (lexeme : List ℕ) (l : strings.StringLiteral) (tok : Tok) → IsLiteralLeaf (string_of l.expand lexeme) (Literal (literal_of l)) tok → IsGivenLiteral conditions.expander IsToken l × (tok ≡ literal_tok l)
   string_seen lexeme l tok h =
       let same : literal_of l ≡ whole l.expand lexeme h.token h.text = ap (text_in (literal_of l)) (h.is ∙ whole_is l.expand lexeme h.token h.text) in
       let token : h.token ≡ l.token = ap (λ (x : LiteralText). x.token) (sym same) in
@@ -275,9 +262,9 @@ module _ (conditions : Conditions) (IsToken : Token → Type 0) (file_depth : �
   -- ---- expressions
 
   -- what is read of the tokens is its tree, and it is given what its parts have
-  record Seen (e : Expression) (t : Expr Tok Tok) : Type 0 where
-    same : t ≡ expr_of e
-    given : IsGivenExpression conditions.expander IsToken e
+  pub record Seen (e : Expression) (t : Expr Tok Tok) : Type 0 where
+    pub same : t ≡ expr_of e
+    pub given : IsGivenExpression conditions.expander IsToken e
 
   record SeenRow {n : _} (row : ExpressionRow n) (ts : Exprs Tok Tok) : Type 0 where
     same : ts ≡ exprs_of_row row
@@ -294,7 +281,7 @@ module _ (conditions : Conditions) (IsToken : Token → Type 0) (file_depth : �
     given : IsGivenPart IsToken (kind_of start) (later_part row) l × AreGivenParts conditions.expander IsToken (kind_of start) row
 
   mutual
-    seen_expression : (e : Expression) {t : Expr Tok Tok} → Alike seen (leaf_tree_of e) t → Seen e t
+    pub seen_expression : (e : Expression) {t : Expr Tok Tok} → Alike seen (leaf_tree_of e) t → Seen e t
     seen_expression (And' p lhs q rhs) (a.and l r) =
         let x = seen_expression lhs l in
         let y = seen_expression rhs r in
@@ -397,108 +384,14 @@ module _ (conditions : Conditions) (IsToken : Token → Type 0) (file_depth : �
       (ap (λ (k : Tok). tree.Text k) x.1, x.0)
 
   -- all of a row
-  all_seen : {Z T U : Type 0} {Rel : T → U → Type 0} (view : Z → T) (model_view : Z → U) (IsGood : Z → Type 0) → ((z : Z) (u : U) → Rel (view z) u → (u ≡ model_view z) × IsGood z) → (zs : List Z) {us : List U} → Each Rel (map view zs) us → (us ≡ map model_view zs) × All IsGood zs
+  pub all_seen : {Z T U : Type 0} {Rel : T → U → Type 0} (view : Z → T) (model_view : Z → U) (IsGood : Z → Type 0) → ((z : Z) (u : U) → Rel (view z) u → (u ≡ model_view z) × IsGood z) → (zs : List Z) {us : List U} → Each Rel (map view zs) us → (us ≡ map model_view zs) × All IsGood zs
   all_seen view model_view IsGood one [] a.nil = (refl, All-nil IsGood)
   all_seen view model_view IsGood one (z ∷ zs) (a.cons {y = u} h hs) =
       let x = one z u h in
       let y = all_seen view model_view IsGood one zs hs in
       ((λ i. x.0 i ∷ y.0 i), All-cons IsGood z zs x.1 y.1)
 
-  line_seen : (l : Line) (t : BodyLine Tok Tok ℕ) → AlikeLine seen (line_tree l) t → (t ≡ body_line_of l) × IsGivenLine conditions.expander IsToken l
+  pub line_seen : (l : Line) (t : BodyLine Tok Tok ℕ) → AlikeLine seen (line_tree l) t → (t ≡ body_line_of l) × IsGivenLine conditions.expander IsToken l
   line_seen l t (a.line hs) =
       let x = all_seen fragment_tree fragment_of (IsGivenFragment conditions.expander IsToken) fragment_seen l.fragments.items hs in
       (ap (λ (fs : List (tree.Fragment Tok Tok)). tree.Line l.number fs) x.0, x.1)
-
-  -- ---- items
-
-  abbrev assigned_in : AssignmentName → Leaf → AssignmentName
-  assigned_in other (Assigned x) = x
-  assigned_in other _ = other
-
-  abbrev headed_in : RecipeName → Leaf → RecipeName
-  headed_in other (Headed x) = x
-  headed_in other _ = other
-
-  -- an item, where the counters stand before it
-  record SeenItem (n : Counters) (i : Item) (t : WrittenItem Tok Tok ℕ Tok) : Type 0 where
-    same : ordered_item t ≡ Some (item_of i)
-    given : IsGivenItem conditions.expander IsToken file_depth import_offsets i
-    numbers : (more : List ℕ) → NumbersFrom (count n (item_tree i)).bindings more → NumbersFrom n.bindings (item_numbers i ++ more)
-    recipe_numbers : (more : List ℕ) → NumbersFrom (count n (item_tree i)).recipes more → NumbersFrom n.recipes (item_recipe_numbers i ++ more)
-
-  assignment_seen : (n : Counters) (b : Binding Expression) {ws : List (WrittenAttribute Tok Tok)} {t : Tok} {e : Expr Tok Tok} → ws ≡ [] → IsLeaf (λ token. assigned_leaf in_run token n.bindings) (Assigned (assignment_name b)) t → Alike seen (leaf_tree_of b.value) e
-      → SeenItem n (items.Assignment b) (tree.Construct ws (tree.Assignment (plain_assignment t e)))
-  assignment_seen n b {ws} {t} {e} none h v =
-      let same : assignment_name b ≡ assigned_in (assignment_name b) (assigned_leaf in_run h.token n.bindings) = ap (assigned_in (assignment_name b)) h.is in
-      let token : h.token ≡ b.name.token = ap (λ (x : AssignmentName). x.name) (sym same) in
-      let number : b.number.0 ≡ n.bindings = ap (λ (x : AssignmentName). x.number.0) same in
-      let x = seen_expression b.value v in
-      record {
-        same =
-            plain_item (tree.Assignment (plain_assignment t e)) ws none
-            ∙ (λ i. Some (tree.Construct [] (tree.Assignment (plain_assignment ((h.tok_is ∙ ap tok_of token) i) (x.same i)))));
-        given = record {
-          among = subst IsToken token h.among;
-          file_depth_is = ap (λ (x : AssignmentName). x.file_depth) same;
-          prelude = ap (λ (x : AssignmentName). x.prelude) same;
-          private = ap (λ (x : AssignmentName). x.private) same ∙ ap (λ (t : Token). is_private (lexeme_of t)) token;
-          value = x.given;
-        };
-        numbers = λ more h. (number, h);
-        recipe_numbers = λ more h. h;
-      }
-
-  recipe_seen : (n : Counters) (r : UnresolvedRecipe) {ws : List (WrittenAttribute Tok Tok)} {t : Tok} {body : List (BodyLine Tok Tok ℕ)} → ws ≡ [] → IsLeaf (λ token. headed_leaf in_run token n.recipes (map line_tree r.body.items)) (Headed (recipe_name r)) t → Each (AlikeLine seen) (map line_tree r.body.items) body
-      → SeenItem n (items.Recipe r) (tree.Construct ws (tree.Recipe (plain_recipe t body)))
-  recipe_seen n r {ws} {t} {body} none h ls =
-      let same : recipe_name r ≡ headed_in (recipe_name r) (headed_leaf in_run h.token n.recipes (map line_tree r.body.items)) = ap (headed_in (recipe_name r)) h.is in
-      let token : h.token ≡ r.name.token = ap (λ (x : RecipeName). x.name) (sym same) in
-      let number : r.number.0 ≡ n.recipes = ap (λ (x : RecipeName). x.number.0) same in
-      let x = all_seen line_tree body_line_of (IsGivenLine conditions.expander IsToken) line_seen r.body.items ls in
-      record {
-        same =
-            plain_item (tree.Recipe (plain_recipe t body)) ws none
-            ∙ (λ i. Some (tree.Construct [] (tree.Recipe (plain_recipe ((h.tok_is ∙ ap tok_of token) i) (x.0 i)))));
-        given = record {
-          among = subst IsToken token h.among;
-          body = x.1;
-          file_depth_is = ap (λ (x : RecipeName). x.file_depth) same;
-          import_offsets_are = ap (λ (x : RecipeName). x.import_offsets) same;
-          private = ap (λ (x : RecipeName). x.private) same ∙ ap (λ (t : Token). is_private (lexeme_of t)) token;
-          shebang = shebang_given r.body.items r.shebang (ap (λ (x : RecipeName). x.shebang) same);
-        };
-        numbers = λ more h. h;
-        recipe_numbers = λ more h. (number, h);
-      }
-
-  item_seen : (n : Counters) (i : Item) {t : WrittenItem Tok Tok ℕ Tok} → AlikeItem seen n (item_tree i) t → SeenItem n i t
-  item_seen n (items.Assignment b) (a.assignment none h v) = assignment_seen n b none.1 h v
-  item_seen n (items.Comment text) a.comment = record { same = refl; given = tt; numbers = λ more h. h; recipe_numbers = λ more h. h }
-  item_seen n items.Newline a.newline = record { same = refl; given = tt; numbers = λ more h. h; recipe_numbers = λ more h. h }
-  item_seen n (items.Recipe r) (a.recipe none h ls) = recipe_seen n r none.1 h ls
-
-  -- items, where the counters stand before the first
-  pub record SeenItems (n : Counters) (is : List Item) (ts : WrittenTree) : Type 0 where
-    pub same : ordered ts ≡ Some (map item_of is)
-    pub given : All (IsGivenItem conditions.expander IsToken file_depth import_offsets) is
-    pub numbered : NumbersFrom n.bindings (flat_map item_numbers is)
-    pub recipes_numbered : NumbersFrom n.recipes (flat_map item_recipe_numbers is)
-
-  pub items_seen : (n : Counters) (is : List Item) {ts : WrittenTree} → AlikeItems seen n (map item_tree is) ts → SeenItems n is ts
-  items_seen n [] a.no_item = record { same = refl; given = All-nil (IsGivenItem conditions.expander IsToken file_depth import_offsets); numbered = tt; recipes_numbered = tt }
-  items_seen n (i ∷ is) (a.an_item h hs) =
-      let x = item_seen n i h in
-      let y = items_seen (count n (item_tree i)) is hs in
-      record {
-        same = λ j. if_both (x.same j) (y.same j);
-        given = All-cons (IsGivenItem conditions.expander IsToken file_depth import_offsets) i is x.given y.given;
-        numbered = x.numbers (flat_map item_numbers is) y.numbered;
-        recipes_numbered = x.recipe_numbers (flat_map item_recipe_numbers is) y.recipes_numbered;
-      }
-
-  -- features at such tokens
-  pub noted_seen : (fs : List (ListFeature × Token)) {ns : List (Noted Tok)} → Each (a.AlikeNoted seen) fs ns → (ns ≡ map noted_of fs) × All (λ (x : ListFeature × Token). IsToken x.1) fs
-  noted_seen [] a.nil = (refl, All-nil (λ (x : ListFeature × Token). IsToken x.1))
-  noted_seen (f ∷ fs) (a.cons h hs) =
-      let y = noted_seen fs hs in
-      ((λ i. (sym h.0 i, sym h.1.is i) ∷ y.0 i), All-cons (λ (x : ListFeature × Token). IsToken x.1) f fs h.1.among y.1)

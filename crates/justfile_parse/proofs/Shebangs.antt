@@ -1,11 +1,15 @@
 -- Lines that begin with a text that begins `#!`.
-use Rattle.std.proofs.Common.{rules, ◌≡◌, ℕ, Bool, true, false, IsTrue, List, [], ◌∷◌, ◌++◌, drop, length, map, Option, Some, codes, refl, sym, ap, subst}
+use Rattle.std.proofs.Common.{rules, ◌≡◌, ◌⊎◌, ℕ, Bool, true, false, ◌||◌, IsTrue, inl, inr, List, [], ◌∷◌, ◌++◌, drop, length, map, Option, Some, codes, refl, sym, ap, subst}
 use Rattle.std.specs.Prelude.{◌↔◌, nat_eq}
 use Rattle.std.specs.List.{slice_get, starts_with}
 use Rattle.std.specs.Option.{option_and_then}
 use Rattle.std.proofs.lemmas.Bool.Decides.{Decides-eqb}
 use Rattle.std.proofs.lemmas.Slice.Eq.{starts_is}
+use Rattle.justfile_attribute_set.specs.AttributeSet.{attributes_of}
+use Rattle.justfile_attribute_set.specs.Attributes.{has_kind}
 use Rattle.justfile_base.specs.Token.{lexeme_of}
+use Rattle.justfile_base.specs.declared.attribute_kind.AttributeKind.TheVariants as kinds
+use Rattle.justfile_file.specs.declared.recipe.UnresolvedRecipe.{UnresolvedRecipe}
 use Rattle.justfile_file.specs.Line.{IsShebang, text_of_fragment}
 use Rattle.justfile_file.specs.declared.fragment.Fragment.{Fragment}
 use Rattle.justfile_file.specs.declared.fragment.Fragment.TheVariants as fragments
@@ -60,5 +64,16 @@ by_lines : (ls : List Line) → IsTrue (has_shebang (map line_tree ls)) ↔ HasS
 by_lines [] = ((λ h. cc), (λ b. absurd b))
 by_lines (l ∷ ls) = by_fragments l.number l.fragments.items
 
-pub shebang_given : (ls : List Line) (a : Bool) → a ≡ has_shebang (map line_tree ls) → IsTrue a ↔ HasShebang ls
-shebang_given ls a is = subst (λ (b : Bool). IsTrue b ↔ HasShebang ls) (sym is) (by_lines ls)
+either : (b c : Bool) {P : Type 0} → IsTrue c ↔ P → IsTrue (b || c) ↔ (IsTrue b ⊎ P)
+either true c h = (λ x. inl x, λ y. search rules)
+either false c {P = P} h = (λ x. inr (h.0 x), back)
+  where
+    back : IsTrue false ⊎ P → IsTrue c
+    back (inl x) = cc
+    back (inr p) = h.1 p
+
+pub shebang_given : (r : UnresolvedRecipe) → r.shebang ≡ has_kind kinds.Script (attributes_of r.attributes) || has_shebang (map line_tree r.body.items)
+    → IsTrue r.shebang ↔ (IsTrue (has_kind kinds.Script (attributes_of r.attributes)) ⊎ HasShebang r.body.items)
+shebang_given r is =
+    subst (λ (b : Bool). IsTrue b ↔ (IsTrue (has_kind kinds.Script (attributes_of r.attributes)) ⊎ HasShebang r.body.items)) (sym is)
+    (either (has_kind kinds.Script (attributes_of r.attributes)) (has_shebang (map line_tree r.body.items)) (by_lines r.body.items))

@@ -21,9 +21,10 @@ use Rattle.justfile_model.specs.Reading as reading
 use Rattle.justfile_model.specs.Reading.{Counters, NoNumber}
 use Rattle.justfile_model.specs.SignificantTokens.{SignificantToken}
 use Rattle.justfile_model.specs.Tok.{Tok, tok_of}
-use Rattle.justfile_model.specs.Tree.{OrderedItem, WrittenTree}
+use Rattle.justfile_model.specs.ReadAttribute.{ReadAttribute}
+use Rattle.justfile_model.specs.Tree.{Entry, OrderedItem, WrittenTree}
 use Rattle.justfile_model.specs.TreeReader as model
-use Rattle.justfile_model.specs.TreeReader.{start_state, token_leaves}
+use Rattle.justfile_model.specs.TreeReader.{start_state, token_attributes, token_leaves}
 use Rattle.justfile_model.specs.declared.list_feature.ListFeature.{ListFeature}
 use Rattle.justfile_model.proofs.Counters.{counted, counted_bindings, counted_recipes, items_count}
 use Rattle.justfile_model.proofs.Natural as natural
@@ -31,10 +32,15 @@ use Rattle.justfile_model.proofs.ReadingSteps.{known}
 use Rattle.justfile_model.proofs.Related as a
 use Rattle.justfile_model.proofs.Related.{AlikeItems, AlikeNext, Each, Refusals, Related, States}
 use Rattle.justfile_model.proofs.Renumbered.{file_by, whole}
-use Rattle.justfile_parse.specs.Errors.{IsAt, IsErrorOf}
+use Rattle.justfile_base.specs.declared.compile_error_kind.CompileErrorKind.{CompileErrorKind}
+use Rattle.justfile_parse.specs.Errors.{IsAt, IsErrorOf, IsExtraneous}
+use Rattle.justfile_parse.specs.Halting.{HaltsAt, IsBrokenBy, IsFaultOfHalt}
+use Rattle.justfile_parse.specs.Whole.{AreWhole}
+use Rattle.justfile_parse.specs.declared.halt.Halt.{Halt}
+use Rattle.justfile_parse.specs.declared.halt.Halt.TheVariants as halts
 use Rattle.justfile_parse.specs.Filled.{IsInTable}
 use Rattle.justfile_parse.specs.TableReader as reader
-use Rattle.justfile_parse.specs.TableReader.{ReadItems, Run, State, leaves}
+use Rattle.justfile_parse.specs.TableReader.{ReadItems, Run, State, kept, leaves}
 use Rattle.justfile_parse.specs.MethodResults.{IsFaultOf, IsKindAt, IsNextPlace, IsRead, IsUnread, StopsAt, literal_refusal, refusal_at}
 use Rattle.justfile_parse.specs.Significant.{significant_of}
 use Rattle.justfile_parse.specs.Tree.{item_tree}
@@ -48,7 +54,10 @@ use Rattle.justfile_parse.specs.declared.stop.Stop.{Stop}
 use Rattle.justfile_parse.specs.declared.stop.Stop.TheVariants as stops
 use Rattle.justfile_parse.proofs.Cooked.{kind_is_due}
 use Rattle.justfile_parse.proofs.Rest.{in_table}
-use Rattle.justfile_parse.proofs.Seen.{IsEntry, Relates, items_seen, noted_seen, respects, seen}
+use Rattle.justfile_parse.proofs.Seen.{IsEntry, Relates, respects, seen}
+use Rattle.justfile_parse.proofs.SeenAttributes.{IsKept, attributed}
+use Rattle.justfile_parse.proofs.SeenItems.{items_seen, noted_seen}
+use Rattle.justfile_parse.proofs.SeenRules.{same_broken}
 
 -- a tree holds as many bindings and recipes whatever stands at its leaves
 same_bindings : (is : List Item) → bindings (map item_tree is) ≡ bindings (map item_of is)
@@ -84,24 +93,25 @@ module _ (conditions : Conditions) (table : List TableEntry) (file_depth : ℕ) 
   begin_alike : States rel begin (start_state conditions tokens)
   begin_alike = record { run = record { conditions_are = refl; same = refl; file_depth_is = refl; import_offsets_are = refl }; depth = refl; left = each_entry table (λ k d h. in_table table k d h); noted = a.nil }
 
+  -- items, the counters after them, and what is left
+  abbrev Pair : Type 0
+  Pair = (List (OrderedItem Leaf Token ℕ) × Counters) × State
+
   module _ (n : Counters) where
     abbrev Found : Type 0
     Found = model.Read (WrittenTree × Counters)
 
     abbrev there : Found
-    there = files.file token_leaves n (start_state conditions tokens)
+    there = files.file token_leaves token_attributes n (start_state conditions tokens)
 
     abbrev Q : List (OrderedItem Leaf Token ℕ) × Counters → WrittenTree × Counters → Type 0
-    Q = natural.AllNumbered rel leaves token_leaves (respects conditions (IsInTable table) file_depth import_offsets) n
+    Q = natural.AllNumbered rel leaves token_leaves (respects conditions (IsInTable table) file_depth import_offsets) kept token_attributes (IsKept conditions (IsInTable table) file_depth import_offsets) (attributed conditions (IsInTable table) file_depth import_offsets) n
 
     abbrev Short : Counters → Found → Type 0
-    Short = natural.NoFile rel leaves token_leaves (respects conditions (IsInTable table) file_depth import_offsets) n (files.after_mark token_leaves (start_state conditions tokens))
+    Short = natural.NoFile rel leaves token_leaves (respects conditions (IsInTable table) file_depth import_offsets) kept token_attributes (IsKept conditions (IsInTable table) file_depth import_offsets) (attributed conditions (IsInTable table) file_depth import_offsets) n (files.after_mark token_leaves token_attributes (start_state conditions tokens))
 
     related : Related rel Q Short (reader.file n begin) there
-    related = natural.file_natural rel leaves token_leaves (respects conditions (IsInTable table) file_depth import_offsets) n begin (start_state conditions tokens) begin_alike
-
-    abbrev Pair : Type 0
-    Pair = (List (OrderedItem Leaf Token ℕ) × Counters) × State
+    related = natural.file_natural rel leaves token_leaves (respects conditions (IsInTable table) file_depth import_offsets) kept token_attributes (IsKept conditions (IsInTable table) file_depth import_offsets) (attributed conditions (IsInTable table) file_depth import_offsets) n begin (start_state conditions tokens) begin_alike
 
     -- both read
     got : (found : ReadItems) (found' : Found) → Related rel Q Short found found' → (x : Pair) → found ≡ Ok x → (y : (WrittenTree × Counters) × model.State) × (found' ≡ Ok y) × Q x.0 y.0 × States rel x.1 y.1
@@ -145,8 +155,9 @@ module _ (conditions : Conditions) (table : List TableEntry) (file_depth : ℕ) 
   -- ---- a file that is read
 
   pub read_of : (old new : Numerator) (is : List Item) (features : List (ListFeature × Token)) (s : State) → reader.file (counters_of old) begin ≡ Ok ((map item_tree is, counters_of new), s) → s.noted ≡ features
-      → IsRead conditions table file_depth import_offsets tokens old new (is, features)
-  read_of old new is features s found noted =
+      → AreWhole is → IsRead conditions table file_depth import_offsets tokens old new (is, features)
+  unfolding AreWhole
+  read_of old new is features s found noted whole_items =
       let n = counters_of old in
       let g = got n (reader.file n begin) (there n) (related n) ((map item_tree is, counters_of new), s) found in
       let x = items_seen conditions (IsInTable table) file_depth import_offsets n is g.2.0 in
@@ -157,7 +168,7 @@ module _ (conditions : Conditions) (table : List TableEntry) (file_depth : ℕ) 
         read = sym (file_by n conditions tokens) ∙ ap (λ (r : Found n). whole r) g.1 ∙ (λ i. Ok (g.0.0.0, f.0 i));
         ordered_is = x.same;
         given = record {
-          given = x.given;
+          given = x.given whole_items;
           numbered = x.numbered;
           recipes_numbered = x.recipes_numbered;
           counted = ap (λ (c : Counters). c.bindings) counts ∙ counted_bindings n (map item_tree is) ∙ ap (λ (k : ℕ). bindings_of old + k) (same_bindings is);
@@ -181,6 +192,20 @@ module _ (conditions : Conditions) (table : List TableEntry) (file_depth : ℕ) 
   unfolding literal_refusal
   literal_at l e' (a.not_cooked h) = ((kind_is_due l.error.kind l.is_literal, h.is), h.among)
 
+  -- a rule that is broken, or attributes before no construct
+  broken_at : (error : CompileError) (r : reader.Refusal) (e' : model.Refusal) → IsBrokenBy {Y = Pair} (Err r) error → Refusals rel r e' → IsErrorOf tokens e' error × IsInTable table error.token
+  broken_at error (reading.BreaksRule b) e' says (a.breaks h) =
+      (record { rule = b; error = says; same = same_broken rel.spot (λ t k h. h.is) h }, subst (IsInTable table) (sym says.token) h.token.among)
+  broken_at error (reading.Extraneous count opener) e' says (a.extraneous {count' = count'} same h) =
+      ((extraneous_as same error.kind says.0, ap tok_of says.1 ∙ h.is), subst (IsInTable table) (sym says.1) h.among)
+    where
+      extraneous_as : {m n : ℕ} → m ≡ n → (kind : CompileErrorKind) → IsExtraneous m kind → IsExtraneous n kind
+      extraneous_as e kind h = subst (λ (k : ℕ). IsExtraneous k kind) e h
+  broken_at error (reading.Unexpected at) e' says h = absurd says
+  broken_at error (reading.TooDeep at) e' says h = absurd says
+  broken_at error (reading.NotCooked fault at) e' says h = absurd says
+  broken_at error (reading.NoNumber counters) e' says h = absurd says
+
   no_number : (r : Refusal) (s : State) (m : Counters) → refusal_at r s ≡ NoNumber m → ⊥
   unfolding reading.refused
   no_number Unexpected s m e = cc
@@ -195,20 +220,28 @@ module _ (conditions : Conditions) (table : List TableEntry) (file_depth : ℕ) 
   abbrev agree : a.Respects rel leaves token_leaves
   agree = respects conditions (IsInTable table) file_depth import_offsets
 
+  abbrev Keeps : Entry Leaf Token → ReadAttribute → Type 0
+  Keeps = IsKept conditions (IsInTable table) file_depth import_offsets
+
+  abbrev keeps : natural.RespectsAttributes rel leaves token_leaves kept token_attributes Keeps
+  keeps = attributed conditions (IsInTable table) file_depth import_offsets
+
   last : (b : ℕ) → leaves.has_number b ≡ false → b ≡ 2 ^ 32 - 1
   unfolding leaves
   last b is = grind (arith, nat_tests, is)
 
-  lacks_of : (new : Numerator) (left : model.State) → natural.Lacks rel leaves token_leaves agree (counters_of new) left → LacksNumber left new
-  lacks_of new left (natural.binding is has) = binding (record { assigns = has refl; at_end = last (bindings_of new) is })
-  lacks_of new left (natural.recipe_number is has) = recipe_number (record { is_recipe = has refl; at_end = last (recipes_of new) is })
+  lacks_of : (new : Numerator) (left : model.State) → natural.Lacks rel leaves token_leaves agree kept token_attributes Keeps keeps (counters_of new) left → LacksNumber left new
+  lacks_of new left (natural.binding {ws = ws} {rest = rest} before is has) =
+      binding (record { attributes = ws; header = rest; attributes_read = before; assigns = has refl; at_end = last (bindings_of new) is })
+  lacks_of new left (natural.recipe_number {ws = ws} {rest = rest} before is has) =
+      recipe_number (record { attributes = ws; header = rest; attributes_read = before; is_recipe = has refl; at_end = last (recipes_of new) is })
 
-  lines_of : {n m : Counters} {s : model.State} → natural.Wants rel leaves token_leaves agree n s m → (left : model.State) × AreLines n s m left × natural.Lacks rel leaves token_leaves agree m left
+  lines_of : {n m : Counters} {s : model.State} → natural.Wants rel leaves token_leaves agree kept token_attributes Keeps keeps n s m → (left : model.State) × AreLines n s m left × natural.Lacks rel leaves token_leaves agree kept token_attributes Keeps keeps m left
   lines_of (natural.here {s' = s} lacks) = (s, none, lacks)
   lines_of (natural.later is wants) = let x = lines_of wants in (x.0, more is x.1, x.2)
 
   module _ (old new : Numerator) where
-    wants_of : natural.Wants rel leaves token_leaves agree (counters_of old) (files.after_mark token_leaves (start_state conditions tokens)) (counters_of new) → WantsNumber conditions tokens old new
+    wants_of : natural.Wants rel leaves token_leaves agree kept token_attributes Keeps keeps (counters_of old) (files.after_mark token_leaves token_attributes (start_state conditions tokens)) (counters_of new) → WantsNumber conditions tokens old new
     wants_of wants = let x = lines_of wants in record { left = x.0; lines = x.1; lacks = lacks_of new x.0 x.2 }
 
     whole_of : (found : Found (counters_of old)) (t : WrittenTree) (fs : List (Noted Tok)) → whole found ≡ Ok (t, fs) → (y : (WrittenTree × Counters) × model.State) × (found ≡ Ok y) × (y.0.0 ≡ t)
@@ -221,7 +254,7 @@ module _ (conditions : Conditions) (table : List TableEntry) (file_depth : ℕ) 
         never : (e : model.Refusal) (p : WrittenTree × List (Noted Tok)) → ◌≡◌ {A = Result (WrittenTree × List (Noted Tok)) model.Refusal} (Err e) (Ok p) → ⊥
         never e p is = cc
 
-    exceeded : (y : (WrittenTree × Counters) × model.State) (t : WrittenTree) → y.0.0 ≡ t → y.0.1 ≡ counted (counters_of old) y.0.0 → natural.Exceeds rel leaves token_leaves agree (counters_of new) y.0.1 → NumbersSuffice (bindings_of old) (recipes_of old) t → ⊥
+    exceeded : (y : (WrittenTree × Counters) × model.State) (t : WrittenTree) → y.0.0 ≡ t → y.0.1 ≡ counted (counters_of old) y.0.0 → natural.Exceeds rel leaves token_leaves agree kept token_attributes Keeps keeps (counters_of new) y.0.1 → NumbersSuffice (bindings_of old) (recipes_of old) t → ⊥
     exceeded y t same counts (natural.bindings_end is less) enough =
         omega (
           arith,
@@ -244,13 +277,13 @@ module _ (conditions : Conditions) (table : List TableEntry) (file_depth : ℕ) 
         )
 
     -- no tree has numbers enough
-    never_of : natural.AllExceed rel leaves token_leaves agree (counters_of new) (there (counters_of old)) → (t : WrittenTree) (fs : List (Noted Tok)) → model.tree_of_tokens conditions tokens ≡ Ok (t, fs) → NumbersSuffice (bindings_of old) (recipes_of old) t → ⊥
+    never_of : natural.AllExceed rel leaves token_leaves agree kept token_attributes Keeps keeps (counters_of new) (there (counters_of old)) → (t : WrittenTree) (fs : List (Noted Tok)) → model.tree_of_tokens conditions tokens ≡ Ok (t, fs) → NumbersSuffice (bindings_of old) (recipes_of old) t → ⊥
     unfolding files.file
     never_of exceeds t fs is enough =
         let n = counters_of old in
         let x = whole_of (there n) t fs (file_by n conditions tokens ∙ is) in
-        let counts = known x.0 (λ (y : (WrittenTree × Counters) × model.State). y.0.1 ≡ counted n y.0.0) x.1 (items_count token_leaves n (files.after_mark token_leaves (start_state conditions tokens))) in
-        let over = known x.0 (λ (y : (WrittenTree × Counters) × model.State). natural.Exceeds rel leaves token_leaves agree (counters_of new) y.0.1) x.1 exceeds in
+        let counts = known x.0 (λ (y : (WrittenTree × Counters) × model.State). y.0.1 ≡ counted n y.0.0) x.1 (items_count token_leaves token_attributes n (files.after_mark token_leaves token_attributes (start_state conditions tokens))) in
+        let over = known x.0 (λ (y : (WrittenTree × Counters) × model.State). natural.Exceeds rel leaves token_leaves agree kept token_attributes Keeps keeps (counters_of new) y.0.1) x.1 exceeds in
         exceeded x.0 t x.2 counts over enough
 
     same_counters : (m : Counters) → ◌≡◌ {A = reader.Refusal} (NoNumber (counters_of new)) (NoNumber m) → m ≡ counters_of new
@@ -279,17 +312,37 @@ module _ (conditions : Conditions) (table : List TableEntry) (file_depth : ℕ) 
         (record { refusal = e'; read = sym (file_by (counters_of old) conditions tokens) ∙ ap (λ (r : Found (counters_of old)). whole r) is; error = x.0; among = x.1 })
     literal_of l e (wanting m is short) same = absurd (no_literal l m is)
 
-    pub unread_of : (s : State) (stop : Stop) (fault : Fault) → StopsAt stop s (reader.file (counters_of old) begin ≡ Err (NoNumber (counters_of new))) (reader.file (counters_of old) begin) → IsFaultOf table (front s.left) stop fault
+    unread_stop : (s : State) (stop : Stop) (fault : Fault) → StopsAt stop s (reader.file (counters_of old) begin ≡ Err (NoNumber (counters_of new))) (reader.file (counters_of old) begin) → IsFaultOf table (front s.left) stop fault
         → IsUnread conditions tokens (IsInTable table) old new fault
-    unread_of s (stops.Refused r) (faults.Compile e) h is = refused_of r s e (file_lost (counters_of old) (refusal_at r s) h) is.0 is.1
-    unread_of s (stops.Refused r) faults.Memory h is = absurd is
-    unread_of s (stops.Refused r) faults.Numbers h is = absurd is
-    unread_of s (stops.Literal box) (faults.Compile e) h is = literal_of box.value e (file_lost (counters_of old) (literal_refusal box.value.error) h) is
-    unread_of s (stops.Literal box) faults.Memory h is = absurd is
-    unread_of s (stops.Literal box) faults.Numbers h is = absurd is
-    unread_of s stops.Memory (faults.Compile e) h is = absurd is
-    unread_of s stops.Memory faults.Memory h is = tt
-    unread_of s stops.Memory faults.Numbers h is = absurd is
-    unread_of s stops.Numbers (faults.Compile e) h is = absurd is
-    unread_of s stops.Numbers faults.Memory h is = absurd is
-    unread_of s stops.Numbers faults.Numbers h is = wanting_of (file_lost (counters_of old) (NoNumber (counters_of new)) h)
+    unread_stop s (stops.Refused r) (faults.Compile e) h is = refused_of r s e (file_lost (counters_of old) (refusal_at r s) h) is.0 is.1
+    unread_stop s (stops.Refused r) faults.Memory h is = absurd is
+    unread_stop s (stops.Refused r) faults.Numbers h is = absurd is
+    unread_stop s (stops.Literal box) (faults.Compile e) h is = literal_of box.value e (file_lost (counters_of old) (literal_refusal box.value.error) h) is
+    unread_stop s (stops.Literal box) faults.Memory h is = absurd is
+    unread_stop s (stops.Literal box) faults.Numbers h is = absurd is
+    unread_stop s stops.Memory (faults.Compile e) h is = absurd is
+    unread_stop s stops.Memory faults.Memory h is = tt
+    unread_stop s stops.Memory faults.Numbers h is = absurd is
+    unread_stop s stops.Numbers (faults.Compile e) h is = absurd is
+    unread_stop s stops.Numbers faults.Memory h is = absurd is
+    unread_stop s stops.Numbers faults.Numbers h is = wanting_of (file_lost (counters_of old) (NoNumber (counters_of new)) h)
+
+    -- nothing is read where the error says that a rule is broken
+    broken_found : (error : CompileError) (found : ReadItems) → found ≡ reader.file (counters_of old) begin → IsBrokenBy found error
+        → IsUnread conditions tokens (IsInTable table) old new (faults.Compile error)
+    broken_found error (Ok x) is says = absurd says
+    broken_found error (Err r) is says = go (file_lost (counters_of old) r (sym is))
+      where
+        go : Lost (counters_of old) r (there (counters_of old)) → IsUnread conditions tokens (IsInTable table) old new (faults.Compile error)
+        go (refused e' there_is h) =
+            let x = broken_at error r e' says h in
+            record { refusal = e'; read = sym (file_by (counters_of old) conditions tokens) ∙ ap (λ (r : Found (counters_of old)). whole r) there_is; error = x.0; among = x.1 }
+        go (wanting m e short) = absurd (subst (λ (k : reader.Refusal). IsBrokenBy {Y = Pair} (Err k) error) e says)
+
+    pub unread_of : (s : State) (halt : Halt) (fault : Fault) → HaltsAt halt s (reader.file (counters_of old) begin ≡ Err (NoNumber (counters_of new))) (reader.file (counters_of old) begin) → IsFaultOfHalt table (front s.left) halt fault
+        → IsUnread conditions tokens (IsInTable table) old new fault
+    unread_of s (halts.Stopped stop) fault h is = unread_stop s stop fault h is
+    unread_of s (halts.Broken box) (faults.Compile e) h is =
+        subst (λ (k : CompileError). IsUnread conditions tokens (IsInTable table) old new (faults.Compile k)) (sym is) (broken_found box.value (reader.file (counters_of old) begin) refl h)
+    unread_of s (halts.Broken box) faults.Memory h is = absurd is
+    unread_of s (halts.Broken box) faults.Numbers h is = absurd is

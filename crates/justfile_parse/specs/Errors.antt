@@ -1,5 +1,6 @@
 -- Which error a refusal is.
-use Rattle.std.specs.Prelude.{◌≡◌, Bool, IsTrue, List, [], ◌∷◌, ◌++◌, Option, Some, None, Err}
+use Rattle.std.specs.Prelude.{◌≡◌, ℕ, Bool, IsTrue, List, [], ◌∷◌, ◌++◌, Option, Some, None, Err}
+use Rattle.justfile_attribute_rules.specs.RuleErrors.{IsErrorOfRule}
 use Rattle.justfile_base.specs.declared.compile_error.CompileError.{CompileError}
 use Rattle.justfile_base.specs.declared.compile_error_kind.CompileErrorKind.{CompileErrorKind}
 use Rattle.justfile_base.specs.declared.compile_error_kind.CompileErrorKind.TheVariants as kinds
@@ -12,6 +13,7 @@ use Rattle.justfile_model.specs.Files.{FileTree, keeps_tokens}
 use Rattle.justfile_model.specs.Grammar.{File}
 use Rattle.justfile_model.specs.Reading as reading
 use Rattle.justfile_model.specs.Refusals.{IsDue}
+use Rattle.justfile_model.specs.Rules.{Broken, over_broken}
 use Rattle.justfile_model.specs.SignificantTokens.{SignificantToken}
 use Rattle.justfile_model.specs.Tok.{Tok, tok_of}
 use Rattle.justfile_model.specs.Tree.{WrittenTree}
@@ -27,13 +29,24 @@ abbrev pub IsUnexpected : CompileErrorKind → Token → Type 0
 IsUnexpected (kinds.UnexpectedToken expected found) token = found ≡ token.kind
 IsUnexpected _ token = ⊥
 
--- The error has the kind and the place of a refusal of these tokens. They are never refused because numbers ran out; nor, so far, because a
--- rule is broken: there is none.
+-- the kind says how many attributes stand before a blank line or a comment
+abbrev pub IsExtraneous : ℕ → CompileErrorKind → Type 0
+IsExtraneous count (kinds.ExtraneousAttributes count') = count' ≡ count
+IsExtraneous count kind = ⊥
+
+-- the error is that of a broken rule, over what the definitions see of tokens
+pub record IsErrorOfBroken (broken : Broken Tok) (e : CompileError) : Type 0 where
+  pub rule : Broken Token
+  pub error : IsErrorOfRule rule e
+  pub same : over_broken tok_of rule ≡ broken
+
+-- The error has the kind and the place of a refusal of these tokens. They are never refused because numbers ran out.
 abbrev pub IsErrorOf : List SignificantToken → Refusal → CompileError → Type 0
 IsErrorOf tokens (reading.Unexpected at) e = IsUnexpected e.kind e.token × IsAt tokens at e.token
 IsErrorOf tokens (reading.TooDeep at) e = (e.kind ≡ kinds.ParsingRecursionDepthExceeded) × IsAt tokens at e.token
 IsErrorOf tokens (reading.NotCooked fault t) e = IsKindOf fault e.kind × (tok_of e.token ≡ t)
-IsErrorOf tokens (reading.BreaksRule rule) e = ⊥
+IsErrorOf tokens (reading.BreaksRule rule) e = IsErrorOfBroken rule e
+IsErrorOf tokens (reading.Extraneous count opener) e = IsExtraneous count e.kind × (tok_of e.token ≡ opener)
 IsErrorOf tokens (reading.NoNumber counters) e = ⊥
 
 -- The error is that of the refusal of the tokens. Where the grammar alone has a tree of them, that is the refusal of the first of its

@@ -1,8 +1,16 @@
 -- What the parser gives the parts of a tree beside their tokens.
-use Rattle.std.specs.Prelude.{◌≡◌, ◌↔◌, ℕ, ◌+◌, map, Bool, false, ◌==◌, List, slice_index, None, Ok, IsSomeAnd, IsTrue, string_bytes, Contains, All}
+use Rattle.std.specs.Prelude.{◌≡◌, ◌↔◌, ◌⊎◌, ℕ, ◌+◌, map, Bool, false, List, Option, Some, None, Ok, IsSomeAnd, IsTrue, string_bytes, Contains, All}
+use Rattle.justfile_attribute.specs.declared.attribute.Attribute.{Attribute}
+use Rattle.justfile_attribute.specs.declared.attribute.Attribute.TheVariants as attributes
+use Rattle.justfile_attribute.specs.declared.interpreter.Interpreter.{Interpreter}
+use Rattle.justfile_attribute_set.specs.AttributeSet.{AttributeSet, attributes_of, pairs_of}
+use Rattle.justfile_attribute_set.specs.Attributes.{has_kind}
+use Rattle.justfile_base.specs.declared.attribute_kind.AttributeKind.TheVariants as kinds
+use Rattle.justfile_base.specs.declared.name.Name.{Name}
 use Rattle.justfile_base.specs.declared.format_string_part.FormatStringPart.{FormatStringPart}
 use Rattle.justfile_base.specs.declared.format_string_part.FormatStringPart.TheVariants as parts
 use Rattle.justfile_base.specs.declared.string_kind.StringKind.{StringKind}
+use Rattle.std.specs.Global.{Box}
 use Rattle.std.specs.List.{flat_map, slice_get}
 use Rattle.justfile_base.specs.Numerator.{bindings_of, recipes_of}
 use Rattle.justfile_base.specs.StringKind.{kind_of}
@@ -24,6 +32,7 @@ use Rattle.justfile_model.specs.Files.{NumbersFrom, bindings, recipes}
 use Rattle.justfile_model.specs.Literals.{Expansions, Command, cooked_text, string_of}
 use Rattle.justfile_model.specs.declared.list_feature.ListFeature.{ListFeature}
 use Rattle.justfile_tree.specs.declared.expression.Expression.{Expression, And', Assert', Backtick, Call', Comparison', Concatenation', Conditional', FormatString', Group', Join', List', ListConcatenation', Not', Or', StringLiteral, Variable, Held-Expression-Assert-1 as OptionalExpression, None', Some', Row_of-Expression as ExpressionRow, end_of-Expression as row_end, more_of-Expression as row_more, Row_of-Expression-FormatString-1-2 as FormatRow, end_of-Expression-FormatString-1-2 as format_row_end, more_of-Expression-FormatString-1-2 as format_row_more}
+use Rattle.justfile_parse.specs.Whole.{is_hidden}
 use Rattle.justfile_parse.specs.declared.significant.TableEntry.{TableEntry}
 
 -- the table has an entry for the token, by a reference to it
@@ -99,15 +108,62 @@ module _ (expander : Expansions) (IsToken : Token → Type 0) where
     AreGivenParts kind (format_row_more e literal others) =
         IsGivenExpression e × IsGivenPart IsToken kind (later_part others) literal × AreGivenParts kind others
 
--- a name that begins with `_` is private
-abbrev pub is_private : List ℕ → Bool
-is_private name = slice_index name 0 == 95
+-- what a part that may be missing is given
+abbrev pub IfThere : {X : Type 0} → (X → Type 0) → Option X → Type 0
+IfThere Holds None = Unit {0}
+IfThere Holds (Some x) = Holds x
+
+module _ (expander : Expansions) (IsToken : Token → Type 0) where
+  -- an expression in a box
+  abbrev pub IsGivenBoxed : Box Expression → Type 0
+  IsGivenBoxed e = IsGivenExpression expander IsToken e.value
+
+  -- a key and its value
+  abbrev pub IsGivenProperty : Name × Box Expression → Type 0
+  IsGivenProperty p = IsToken p.0.token × IsGivenBoxed p.1
+
+  -- a key that names an option as its argument, or the option's own literal
+  abbrev pub IsGivenOption : (key : Option Name) → Option literals.StringLiteral → Type 0
+  IsGivenOption (Some key) literal = IsToken key.token
+  IsGivenOption None literal = IfThere (IsGivenLiteral expander IsToken) literal
+
+  -- the key of a number
+  abbrev pub IsGivenCount : (key : Option Name) → Option ℕ → Type 0
+  IsGivenCount (Some key) (Some count) = IsToken key.token
+  IsGivenCount key count = Unit {0}
+
+  abbrev pub IsGivenInterpreter : Interpreter literals.StringLiteral → Type 0
+  IsGivenInterpreter i = IsGivenLiteral expander IsToken i.command × All (IsGivenLiteral expander IsToken) i.arguments.items
+
+  -- the attribute's keys are tokens that `IsToken` allows, and so are those of its expressions and literals, which have their texts
+  abbrev pub IsGivenAttribute : Attribute → Type 0
+  IsGivenAttribute (attributes.Arg flag help help_property long long_key max max_key min min_key multiple name pattern short short_key value) =
+      IfThere IsToken flag × IfThere IsGivenProperty help_property × IsGivenOption long_key long × IsGivenCount max_key max
+      × IsGivenCount min_key min × IfThere IsToken multiple × IsGivenLiteral expander IsToken name × IfThere IsGivenProperty pattern
+      × IsGivenOption short_key short × IfThere IsGivenBoxed value
+  IsGivenAttribute (attributes.Cache extra inputs outputs) =
+      IfThere IsGivenBoxed extra × IfThere IsGivenBoxed inputs × IfThere IsGivenBoxed outputs
+  IsGivenAttribute (attributes.Confirm value) = IfThere IsGivenBoxed value
+  IsGivenAttribute (attributes.Doc value) = IfThere IsGivenBoxed value
+  IsGivenAttribute (attributes.Env key value) = IsGivenBoxed key × IsGivenBoxed value
+  IsGivenAttribute (attributes.Extension literal) = IsGivenLiteral expander IsToken literal
+  IsGivenAttribute (attributes.Group literal) = IsGivenLiteral expander IsToken literal
+  IsGivenAttribute (attributes.Metadata given) = All (IsGivenLiteral expander IsToken) given.items
+  IsGivenAttribute (attributes.Script interpreter) = IfThere IsGivenInterpreter interpreter
+  IsGivenAttribute (attributes.Timestamp value) = IfThere IsGivenBoxed value
+  IsGivenAttribute (attributes.WorkingDirectory value) = IsGivenBoxed value
+  IsGivenAttribute _ = Unit {0}
+
+  -- the attributes of a construct, each with the token of its name
+  abbrev pub AreGivenAttributes : AttributeSet → Type 0
+  AreGivenAttributes set = All (λ (p : Attribute × Name). IsToken p.1.token × IsGivenAttribute p.0) (pairs_of set)
 
 pub record IsGivenBinding (expander : Expansions) (IsToken : Token → Type 0) (file_depth : ℕ) (binding : Binding Expression) : Type 0 where
   pub among : IsToken binding.name.token
   pub file_depth_is : binding.file_depth ≡ file_depth
   pub prelude : binding.prelude ≡ false
-  pub private : binding.private ≡ is_private (lexeme_of binding.name.token)
+  pub private : binding.private ≡ is_hidden binding.name.token binding.attributes
+  pub attributes : AreGivenAttributes expander IsToken binding.attributes
   pub value : IsGivenExpression expander IsToken binding.value
 
 abbrev pub IsGivenFragment : Expansions → (Token → Type 0) → Fragment → Type 0
@@ -126,8 +182,9 @@ pub record IsGivenRecipe (expander : Expansions) (IsToken : Token → Type 0) (f
   pub body : All (IsGivenLine expander IsToken) recipe.body.items
   pub file_depth_is : recipe.file_depth ≡ file_depth
   pub import_offsets_are : recipe.import_offsets.items ≡ import_offsets
-  pub private : recipe.private ≡ is_private (lexeme_of recipe.name.token)
-  pub shebang : IsTrue recipe.shebang ↔ HasShebang recipe.body.items
+  pub private : recipe.private ≡ is_hidden recipe.name.token recipe.attributes
+  pub shebang : IsTrue recipe.shebang ↔ (IsTrue (has_kind kinds.Script (attributes_of recipe.attributes)) ⊎ HasShebang recipe.body.items)
+  pub attributes : AreGivenAttributes expander IsToken recipe.attributes
 
 abbrev pub IsGivenItem : Expansions → (Token → Type 0) → ℕ → List ℕ → Item → Type 0
 IsGivenItem expander IsToken file_depth import_offsets (Assignment binding) = IsGivenBinding expander IsToken file_depth binding

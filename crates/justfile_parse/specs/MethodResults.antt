@@ -14,6 +14,7 @@ use Rattle.justfile_file.specs.declared.item.Item.{Item}
 use Rattle.justfile_model.specs.Features.{Noted}
 use Rattle.justfile_model.specs.Conditions.{Conditions}
 use Rattle.justfile_model.specs.Files.{NumbersSuffice, ordered}
+use Rattle.justfile_model.specs.Sight.{sees_tokens}
 use Rattle.justfile_model.specs.SignificantTokens.{SignificantToken}
 use Rattle.justfile_model.specs.Tok.{Tok}
 use Rattle.justfile_model.specs.Tree.{WrittenTree}
@@ -116,7 +117,7 @@ IsFaultOf table next _ _ = ⊥
 pub record IsRead (conditions : Conditions) (table : List TableEntry) (file_depth : ℕ) (import_offsets : List ℕ) (tokens : List SignificantToken) (old new : Numerator) (x : List Item × List (ListFeature × Token)) : Type 0 where
   pub written : WrittenTree
   pub read : tree.tree_of_tokens conditions tokens ≡ Ok (written, map noted_of x.1)
-  pub ordered_is : ordered written ≡ Some (map item_of x.0)
+  pub ordered_is : ordered (sees_tokens conditions.expander) written ≡ Some (map item_of x.0)
   pub given : IsGivenItems conditions.expander (IsInTable table) file_depth import_offsets old new x.0
   pub noted : AreNotedIn table x.1
 

@@ -12,15 +12,24 @@ use Rattle.justfile_base.specs.declared.token_kind.TokenKind.{TokenKind}
 use Rattle.justfile_model.specs.Literals as literals
 use Rattle.justfile_model.specs.Conditions.{Conditions}
 use Rattle.justfile_model.specs.Literals.{format_text}
+use Rattle.justfile_model.specs.Meaning.{text_of}
 use Rattle.justfile_model.specs.Tree as tree
-use Rattle.justfile_model.specs.Tree.{BodyLine, Entry, Expr, Fragment, OrderedItem}
+use Rattle.justfile_model.specs.Tree.{Attribute, BodyLine, Entry, Expr, Fragment, OrderedItem, Quoted}
 use Rattle.justfile_model.specs.Features.{uncompared}
+use Rattle.std.specs.Option.{option_map}
+use Rattle.justfile_base.specs.declared.item_kind.ItemKind.TheVariants as item_kinds
+use Rattle.justfile_model.specs.AttributeRules.{allowed_broken, arg_rules, least, lesser, rules_in, undefined_broken}
+use Rattle.justfile_model.specs.Rules.{Broken}
+use Rattle.justfile_model.specs.AttributeReader as attributes
+use Rattle.justfile_model.specs.AttributeReader.{AttributeLeaves}
+use Rattle.justfile_model.specs.ContentKeys.{entry_cmp}
+use Rattle.justfile_model.specs.Order.{in_order}
 use Rattle.justfile_model.specs.ExpressionReader as expressions
 use Rattle.justfile_model.specs.Reader as files
 use Rattle.justfile_model.specs.Reading as reading
 use Rattle.justfile_model.specs.Reading.{◌>>=◌, Counters, Leaves, refused, with}
-use Rattle.justfile_parse.specs.Filled.{is_private}
 use Rattle.justfile_parse.specs.Significant.{significant_of}
+use Rattle.justfile_tree.specs.LeafSight.{sees_leaves}
 use Rattle.justfile_tree.specs.LeafTree.{Leaf, Named, Literal, Command, Text, Assigned, Headed}
 use Rattle.justfile_model.specs.declared.level.Level.{Level}
 use Rattle.justfile_model.specs.declared.level.Level.TheVariants.{Expression, Disjunct, Compared}
@@ -58,13 +67,12 @@ has_shebang [] = false
 has_shebang (line ∷ lines) = is_shebang line
 
 abbrev pub assigned_leaf : Run → Token → ℕ → Leaf
-assigned_leaf run name number = Assigned (record { file_depth = run.file_depth; name = name; number = number_of number; prelude = false; private = is_private (lexeme_of name) })
+assigned_leaf run name number = Assigned (record { file_depth = run.file_depth; name = name; number = number_of number; prelude = false })
 
-abbrev pub headed_leaf : Run → Token → ℕ → List (BodyLine Leaf Token ℕ) → Leaf
-headed_leaf run name number body =
-    Headed (record { file_depth = run.file_depth; import_offsets = run.import_offsets; name = name; number = number_of number; private = is_private (lexeme_of name); shebang = has_shebang body })
+abbrev pub headed_leaf : Run → Token → ℕ → Leaf
+headed_leaf run name number = Headed (record { file_depth = run.file_depth; import_offsets = run.import_offsets; name = name; number = number_of number })
 
-unfoldable pub leaves : Leaves Run TableEntry Leaf Token (Unit {0}) (List (Entry Leaf Token))
+unfoldable pub leaves : Leaves Run TableEntry Leaf Token (Unit {0})
 leaves = record {
   conditions = λ run. run.conditions;
   see = significant_of;
@@ -73,9 +81,8 @@ leaves = record {
   literal = λ t literal text. literal_leaf t.token.now literal text;
   text = λ t. Text t.token.now;
   star = λ t. tt;
-  no_attributes = [];
   assignment = λ run t number. assigned_leaf run t.token.now number;
-  recipe = λ run t number body. headed_leaf run t.token.now number body;
+  recipe = λ run t number body. headed_leaf run t.token.now number;
   has_number = λ n. not (n == 2 ^ 32 - 1);
 }
 
@@ -234,6 +241,18 @@ list = expressions.list leaves
 
 -- ---- items
 
+abbrev pub Entries : Type 0
+Entries = List (Entry Leaf Token)
+
+-- a construct has what its attributes mean, in the order of their content
+abbrev pub kept : AttributeLeaves Run Leaf Token Entries (Entry Leaf Token)
+kept = record {
+  sight = λ run. sees_leaves;
+  keep = λ written entry. entry;
+  entry = λ entry. entry;
+  attributes = λ run entries. in_order (entry_cmp sees_leaves) entries;
+}
+
 abbrev pub draw_binding : Counters → State → Read (ℕ × Counters)
 draw_binding = files.draw_binding leaves
 
@@ -266,36 +285,92 @@ ReadItem = Read (OrderedItem Leaf Token ℕ × Counters)
 abbrev pub ReadItems : Type 0
 ReadItems = Read (List (OrderedItem Leaf Token ℕ) × Counters)
 
-abbrev pub assignment : Counters → State → ReadItem
-assignment = files.assignment leaves
+abbrev pub assignment : Entries → Counters → State → ReadItem
+assignment = files.assignment leaves kept
 
-abbrev pub recipe : Counters → State → ReadItem
-recipe = files.recipe leaves
+abbrev pub recipe : Entries → Counters → State → ReadItem
+recipe = files.recipe leaves kept
+
+-- the attributes before a construct, which follows them
+abbrev pub item_attributes : State → Read Entries
+item_attributes = files.attributes leaves kept
+
+-- the entries in the order of their content
+abbrev pub in_content_order : Entries → Entries
+in_content_order entries = in_order (entry_cmp sees_leaves) entries
+
+-- what an assignment with this name breaks by attributes that it may not have
+abbrev pub disallowed : Entries → (name : Token) → List (Broken Token)
+disallowed entries name = allowed_broken sees_leaves item_kinds.Assignment name (in_content_order entries)
+
+-- what a recipe breaks by what is said of no parameter
+abbrev pub undefined : Entries → List (Broken Token)
+undefined entries = undefined_broken sees_leaves (arg_rules sees_leaves (in_content_order entries))
+
+-- the argument that an attribute speaks of
+abbrev pub argument_in : Attribute Leaf Token → Option (Quoted Leaf)
+argument_in a = option_map (λ r. r.name) (rules_in sees_leaves a)
+
+-- the one with the lesser text, the first of them where both have the same
+abbrev pub lesser_of : (first second : Option (Quoted Leaf)) → Option (Quoted Leaf)
+lesser_of None second = second
+lesser_of (Some q) second = Some (lesser (text_of sees_leaves) q second)
+
+-- of the arguments that are spoken of, the one with the least text, the first of these
+abbrev pub least_argument : Entries → Option (Quoted Leaf)
+least_argument entries = option_map (λ r. r.name) (least (λ r. text_of sees_leaves r.name) (arg_rules sees_leaves entries))
+
+-- the lines of attributes before a construct
+abbrev pub lines_of_attributes : State → Read Entries
+lines_of_attributes = attributes.attribute_lines leaves kept.sight kept.keep kept.entry
+
+-- attributes that begin with this bracket stand before no blank line and no comment
+abbrev pub before_item : (opener : TableEntry) → Entries × State → Read Entries
+before_item = files.before_item leaves kept
+
+-- a blank line or a comment comes next
+abbrev pub stands_alone : State → Bool
+stands_alone = files.stands_alone leaves kept
+
+-- the attributes of an assignment with this name are those that it may have
+abbrev pub allowed : Entries → TableEntry → State → Read (Unit {0})
+allowed = files.allowed leaves kept
+
+-- attributes speak of no argument that is no parameter
+abbrev pub defined : Entries → State → Read (Unit {0})
+defined = files.defined leaves kept
+
+-- a construct after its attributes
+abbrev pub content : Entries → Counters → State → ReadItem
+content = files.content leaves kept
+
+abbrev pub construct : Counters → State → ReadItem
+construct = files.construct leaves kept
 
 abbrev pub on_line : Counters → State → ReadItem
-on_line = files.on_line leaves
+on_line = files.on_line leaves kept
 
 abbrev pub line_end : State → Read (List (OrderedItem Leaf Token ℕ))
-line_end = files.line_end leaves
+line_end = files.line_end leaves kept
 
 abbrev pub item_rest : State → Read (List (OrderedItem Leaf Token ℕ))
-item_rest = files.item_rest leaves
+item_rest = files.item_rest leaves kept
 
 abbrev pub ended : (has_body : Bool) → State → Read (List (OrderedItem Leaf Token ℕ))
-ended = files.ended leaves
+ended = files.ended leaves kept
 
 abbrev pub line : Counters → State → ReadItems
-line = files.line leaves
+line = files.line leaves kept
 
 abbrev pub items : Counters → State → ReadItems
-items = files.items leaves
+items = files.items leaves kept
 
 abbrev pub file : Counters → State → ReadItems
-file = files.file leaves
+file = files.file leaves kept
 
 -- what is left after a byte order mark, if one comes first
 abbrev pub after_mark : State → State
-after_mark = files.after_mark leaves
+after_mark = files.after_mark leaves kept
 
 -- nothing stands after the end of the file
 abbrev pub nothing_by : State → List TableEntry → Read (Unit {0})

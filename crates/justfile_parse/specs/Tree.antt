@@ -1,5 +1,6 @@
 -- All that the parser's trees hold, without the places of boxes.
-use Rattle.std.specs.Prelude.{ℕ, [], map}
+use Rattle.std.specs.Prelude.{ℕ, map}
+use Rattle.justfile_attribute_set.specs.AttributeSet.{leaf_entries_of}
 use Rattle.justfile_file.specs.declared.binding.Binding.{Binding}
 use Rattle.justfile_file.specs.declared.fragment.Fragment as fragment
 use Rattle.justfile_file.specs.declared.fragment.Fragment.TheVariants as fragments
@@ -21,16 +22,16 @@ abbrev pub line_tree : line.Line → BodyLine Leaf Token ℕ
 line_tree line = tree.Line line.number (map fragment_tree line.fragments.items)
 
 abbrev pub assignment_name : Binding Expression → AssignmentName
-assignment_name a = record { file_depth = a.file_depth; name = a.name.token; number = a.number; prelude = a.prelude; private = a.private }
+assignment_name a = record { file_depth = a.file_depth; name = a.name.token; number = a.number; prelude = a.prelude }
 
 abbrev pub assignment_tree : Binding Expression → OrderedItem Leaf Token ℕ
-assignment_tree a = tree.Construct [] (tree.Assignment (plain_assignment (Assigned (assignment_name a)) (leaf_tree_of a.value)))
+assignment_tree a = tree.Construct (leaf_entries_of a.attributes) (tree.Assignment (plain_assignment (Assigned (assignment_name a)) (leaf_tree_of a.value)))
 
 abbrev pub recipe_name : UnresolvedRecipe → RecipeName
-recipe_name r = record { file_depth = r.file_depth; import_offsets = r.import_offsets.items; name = r.name.token; number = r.number; private = r.private; shebang = r.shebang }
+recipe_name r = record { file_depth = r.file_depth; import_offsets = r.import_offsets.items; name = r.name.token; number = r.number }
 
 abbrev pub recipe_tree : UnresolvedRecipe → OrderedItem Leaf Token ℕ
-recipe_tree r = tree.Construct [] (tree.Recipe (plain_recipe (Headed (recipe_name r)) (map line_tree r.body.items)))
+recipe_tree r = tree.Construct (leaf_entries_of r.attributes) (tree.Recipe (plain_recipe (Headed (recipe_name r)) (map line_tree r.body.items)))
 
 abbrev pub item_tree : item.Item → OrderedItem Leaf Token ℕ
 item_tree (items.Assignment a) = assignment_tree a

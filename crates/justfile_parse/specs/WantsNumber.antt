@@ -3,24 +3,36 @@ use Rattle.std.specs.Prelude.{◌≡◌, ◌-◌, ◌^◌, List, Ok, IsOk}
 use Rattle.justfile_base.specs.Numerator.{bindings_of, constants_of, recipes_of}
 use Rattle.justfile_base.specs.declared.numerator.Numerator.{Numerator}
 use Rattle.justfile_model.specs.Conditions.{Conditions}
+use Rattle.justfile_model.specs.ReadAttribute.{ReadAttribute}
+use Rattle.justfile_model.specs.Reader as files
 use Rattle.justfile_model.specs.Reader.{after_mark, assignment, line, recipe}
 use Rattle.justfile_model.specs.Reading.{Counters}
 use Rattle.justfile_model.specs.SignificantTokens.{SignificantToken}
 use Rattle.justfile_model.specs.Tree.{WrittenTree}
-use Rattle.justfile_model.specs.TreeReader.{State, start_state, token_leaves}
+use Rattle.justfile_model.specs.TreeReader.{Read, State, start_state, token_attributes, token_leaves}
 
 -- where the numerator stands
 abbrev pub counters_of : Numerator → Counters
 counters_of n = record { bindings = bindings_of n; constants = constants_of n; recipes = recipes_of n }
 
--- an assignment comes next, up to the end of its value, and the counter of bindings is at its end: it has no number for it
+-- the attributes before a construct, which follows them
+abbrev pub attributes_at : State → Read (List ReadAttribute)
+attributes_at = files.attributes token_leaves token_attributes
+
+-- an assignment comes next, after its attributes and up to the end of its value, and the counter of bindings is at its end: it has no number for it
 pub record LacksBinding (s : State) (numerator : Numerator) : Type 0 where
-  pub assigns : IsOk (assignment token_leaves (counters_of numerator) s)
+  pub attributes : List ReadAttribute
+  pub header : State
+  pub attributes_read : attributes_at s ≡ Ok (attributes, header)
+  pub assigns : IsOk (assignment token_leaves token_attributes attributes (counters_of numerator) header)
   pub at_end : bindings_of numerator ≡ 2 ^ 32 - 1
 
--- a recipe comes next, up to its end, which is that of its body if it has one, and the counter of recipes is at its end
+-- a recipe comes next, after its attributes and up to its end, which is that of its body if it has one, and the counter of recipes is at its end
 pub record LacksRecipe (s : State) (numerator : Numerator) : Type 0 where
-  pub is_recipe : IsOk (recipe token_leaves (counters_of numerator) s)
+  pub attributes : List ReadAttribute
+  pub header : State
+  pub attributes_read : attributes_at s ≡ Ok (attributes, header)
+  pub is_recipe : IsOk (recipe token_leaves token_attributes attributes (counters_of numerator) header)
   pub at_end : recipes_of numerator ≡ 2 ^ 32 - 1
 
 -- what comes next is no blank line and lacks its number
@@ -31,7 +43,7 @@ pub data LacksNumber (s : State) (numerator : Numerator) : Type 0 where
 -- what is left begins with lines, for which the counters move up, and that after them is left
 pub data AreLines : Counters → State → Counters → State → Type 0 where
   none : {n : Counters} {s : State} → AreLines n s n s
-  more : {n m k : Counters} {s rest left : State} {items : WrittenTree} → line token_leaves n s ≡ Ok ((items, m), rest) → AreLines m rest k left → AreLines n s k left
+  more : {n m k : Counters} {s rest left : State} {items : WrittenTree} → line token_leaves token_attributes n s ≡ Ok ((items, m), rest) → AreLines m rest k left → AreLines n s k left
 
 -- after lines whose bindings and recipes got their numbers, an assignment or a recipe lacks its number
 pub record LinesWantNumber (s : State) (old new : Numerator) : Type 0 where
@@ -41,4 +53,4 @@ pub record LinesWantNumber (s : State) (old new : Numerator) : Type 0 where
 
 -- a number is wanted in a file's tokens, and its counter, which counted up from the old numerator to the new, is at its end
 abbrev pub WantsNumber : Conditions → List SignificantToken → (old new : Numerator) → Type 0
-WantsNumber conditions tokens old new = LinesWantNumber (after_mark token_leaves (start_state conditions tokens)) old new
+WantsNumber conditions tokens old new = LinesWantNumber (after_mark token_leaves token_attributes (start_state conditions tokens)) old new

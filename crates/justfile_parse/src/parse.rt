@@ -1,5 +1,5 @@
 //! Files from tokens, and from texts: the public calls, and how a file is begun.
-ghost use Rattle.std.specs.Prelude.{◌≡◌, ◌<◌, ◌≤◌, List, length, map, Contains, IfOk, IfErr, string_bytes};
+ghost use Rattle.std.specs.Prelude.{◌≡◌, ◌<◌, ◌≤◌, All, List, length, map, Contains, IfOk, IfErr, string_bytes};
 ghost use Rattle.justfile_base.specs.Modulepath.{module_names, names_of};
 ghost use Rattle.justfile_base.specs.Numerator.{constants_of};
 ghost use Rattle.justfile_model.specs.Lexed.{Lexed};
@@ -12,13 +12,17 @@ ghost use Rattle.justfile_parse.specs.Filled.{IsInTable};
 ghost use Rattle.justfile_parse.specs.TableReader as reader;
 ghost use Rattle.justfile_parse.specs.TableReader.{after_mark};
 ghost use Rattle.justfile_parse.specs.WantsNumber.{counters_of};
-ghost use Rattle.justfile_parse.specs.MethodResults.{IsErrorAt, IsFaultOf, IsMoved, IsNextPlace, IsRead, IsUnread, ReadsNumbered};
+ghost use Rattle.justfile_parse.specs.MethodResults.{IsErrorAt, IsFaultOf, IsMoved, IsNextPlace, IsRead, IsUnread};
+ghost use Rattle.justfile_parse.specs.Halting.{IsFaultOfHalt, ReadsItems};
+ghost use Rattle.justfile_parse.specs.Whole.{AreWhole};
 ghost use Rattle.justfile_parse.specs.Significant.{significant_of};
 ghost use Rattle.justfile_parse.specs.Tree.{item_tree};
 
+use crate::halt::Halt;
 use crate::parser::Parser;
 use crate::significant::{TableEntry, significant};
 use crate::stop::{Refusal, Stop};
+use crate::unstable::with_unstable;
 use justfile_base::{
     CompileError, CompileErrorKind, CompileResult, Expander, Fault, Modulepath, Namepath,
     Numerator, Source, Token, TokenKind, Version,
@@ -27,7 +31,6 @@ use justfile_file::{Ast, Item};
 use justfile_lex::Lexer;
 use justfile_tree::ListFeature;
 use std::alloc::Global;
-use std::collections::BTreeSet;
 
 impl<'run, 'src, X: Expander> Parser<'run, 'src, X> {
     ghost use Rattle.justfile_parse.specs.View.{state_of};
@@ -69,11 +72,12 @@ impl<'run, 'src, X: Expander> Parser<'run, 'src, X> {
             expander,
             current,
         )?;
+        let (items, unstable_features) = with_unstable(alloc, items)?;
         Ok(Ast {
             items,
             list_features,
             module_path: Modulepath::from_namepath(alloc, module_namepath)?,
-            unstable_features: BTreeSet::new(alloc),
+            unstable_features,
             working_directory: working_directory.to_string(alloc)?,
         })
     }
@@ -148,16 +152,17 @@ impl<'run, 'src, X: Expander> Parser<'run, 'src, X> {
         };
         match parser.parse_file(numerator) {
             Ok(items) => Ok((items, parser.list_features)),
-            Err(stop) => Err(make_fault(alloc, tokens, parser.peek_front(), stop)),
+            Err(halt) => Err(make_fault(alloc, tokens, parser.peek_front(), halt)),
         }
     }
 
     /// The items of a file, which may begin with a byte order mark, where no expression is open.
     #[tactic(auto, using(crate::proofs::Loop::file_is))]
-    fn parse_file(&mut self, numerator: &mut Numerator) -> Result<Vec<Item<'src>>, Stop<'src>>
+    fn parse_file(&mut self, numerator: &mut Numerator) -> Result<Vec<Item<'src>>, Halt<'src>>
         requires { (state_of X.answer self.old).depth ≡ 0 }
-        ensures reads { ReadsNumbered (λ items. map item_tree items.items) result numerator.new (state_of X.answer self.new)
+        ensures reads { ReadsItems (λ items. map item_tree items.items) result numerator.new (state_of X.answer self.new)
             (reader.file (counters_of numerator.old) (state_of X.answer self.old)) }
+        ensures whole { IfOk result (λ items. AreWhole items.items) }
         ensures moved { IsMoved numerator.old numerator.new (identifiers (map significant_of (state_of X.answer self.old).left)) }
     {
         self.accept_byte_order_mark();
@@ -172,8 +177,24 @@ impl<'run, 'src, X: Expander> Parser<'run, 'src, X> {
     }
 }
 
-/// The fault for which reading stopped, where this token is next.
+/// The fault for which reading halted, where this token is next.
 fn make_fault<'src>(
+    alloc: Global,
+    tokens: &[TableEntry<'_, 'src>],
+    next: Option<TableEntry<'_, 'src>>,
+    halt: Halt<'src>,
+) -> Fault<'src>
+    requires { 0 < length tokens.now }
+    ensures { IsFaultOfHalt tokens.now next.entry halt.entry result }
+{
+    match halt {
+        Halt::Stopped(stop) => make_stop_fault(alloc, tokens, next, stop),
+        Halt::Broken(error) => Fault::Compile(Box::into_inner(error)),
+    }
+}
+
+/// The fault for which reading stopped, where this token is next.
+fn make_stop_fault<'src>(
     alloc: Global,
     tokens: &[TableEntry<'_, 'src>],
     next: Option<TableEntry<'_, 'src>>,

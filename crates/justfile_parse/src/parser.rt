@@ -190,7 +190,7 @@ pub(crate) fn is_word(entry: TableEntry<'_, '_>, word: &str) -> bool
 
 /// Whether the token is a string of this kind, directly after a mark that is this word.
 #[tactic(auto, unfolding(justfile_model::specs::Reading::same_kind))]
-fn is_marked(
+pub(crate) fn is_marked(
     mark: TableEntry<'_, '_>,
     word: &str,
     entry: TableEntry<'_, '_>,

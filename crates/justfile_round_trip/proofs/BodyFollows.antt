@@ -1,5 +1,5 @@
 -- What is printed after a body in normal form: nothing, or an item, with line ends before it or not.
-use Rattle.std.proofs.Common.{◌≡◌, ℕ, Bool, true, false, List, [], ◌∷◌, refl, ap, arith}
+use Rattle.std.proofs.Common.{◌≡◌, ℕ, Bool, true, false, List, [], ◌∷◌, ◌++◌, refl, ap, arith}
 use Rattle.std.specs.Prelude.{not}
 use Rattle.justfile_base.specs.ByteClass.{class_of}
 use Rattle.justfile_model.specs.Bytes.{white}
@@ -7,9 +7,12 @@ use Rattle.justfile_model.specs.Modes.{is_empty}
 use Rattle.justfile_model.specs.NormalShape.{after_newline, normal_rest}
 use Rattle.justfile_model.specs.Tree as tree
 use Rattle.justfile_model.specs.Tree.{Shape}
-use Rattle.justfile_round_trip.proofs.Canon.{ShapeItem, text_on}
-use Rattle.justfile_round_trip.proofs.Good as good
-use Rattle.justfile_round_trip.proofs.Good.{AtStart, blank_only, follows_body}
+use Rattle.justfile_round_trip.proofs.Canon.{ShapeItem}
+use Rattle.justfile_round_trip.proofs.CanonAttributes.{ShapeEntry, entries_on}
+use Rattle.justfile_round_trip.proofs.CanonItems.{text_on}
+use Rattle.justfile_round_trip.proofs.GoodItems as good
+use Rattle.justfile_round_trip.proofs.GoodItems.{AtStart, blank_only, follows_body}
+use Rattle.justfile_round_trip.proofs.Inline.{IsName}
 use Rattle.justfile_round_trip.proofs.BodyLines.{ends_body, ends_at_item, ends_at_blank_line}
 
 -- what follows a line end of a normal shape, or stands at its front
@@ -57,29 +60,36 @@ hash_white x e = ap (λ y. white (class_of y)) e
 no_hash : ◌≡◌ {A = ℕ} 0 35 → ⊥
 no_hash e = omega (arith, e)
 
+-- a construct is not empty: it begins with a bracket, or with a name
+construct_text : (entries : List ShapeEntry) (name more : List ℕ) → IsName name → is_empty (entries_on entries (name ++ more)) ≡ false
+construct_text [] [] more h = absurd h
+construct_text [] (x ∷ xs) more h = refl
+construct_text (e ∷ entries) name more h = refl
+
+-- and it may stand after a body
+construct_follows : (entries : List ShapeEntry) (name more : List ℕ) → IsName name → ends_body (entries_on entries (name ++ more)) ≡ true
+unfolding class_of
+construct_follows [] [] more h = absurd h
+construct_follows [] (x ∷ xs) more h = ends_at_item x _ (ap white h.0)
+construct_follows (e ∷ entries) name more h = ends_at_item 91 _ refl
+
 module _ (limit : ℕ) (ind : List ℕ) where
   -- the text of an item is not empty
   some_text : (j : ShapeItem) (items : Shape) → AtStart limit (j ∷ items) → is_empty (text_on ind (j ∷ items)) ≡ false
   some_text _ items (good.newline h) = refl
-  some_text _ items (good.assignment {name = []} named value more) = absurd named.is_name
-  some_text _ items (good.assignment {name = x ∷ xs} named value more) = refl
   some_text _ items (good.comment {t = []} h more) = absurd (no_hash h.comment.first)
   some_text _ items (good.comment {t = x ∷ xs} h more) = refl
-  some_text _ items (good.header {name = []} named more) = absurd named.is_name
-  some_text _ items (good.header {name = x ∷ xs} named more) = refl
-  some_text _ items (good.recipe {name = []} h more) = absurd h.named.is_name
-  some_text _ items (good.recipe {name = x ∷ xs} h more) = refl
+  some_text _ items (good.assignment {entries = entries} {name = name} attributes named value more) = construct_text entries name _ named.is_name
+  some_text _ items (good.header {entries = entries} {name = name} attributes named more) = construct_text entries name _ named.is_name
+  some_text _ items (good.recipe {entries = entries} {name = name} attributes h more) = construct_text entries name _ h.named.is_name
 
   -- the printed text of these items may stand after a body
   pub text_follows : {items : Shape} → AtStart limit items → follows_body items ≡ true → ends_body (text_on ind items) ≡ true
   text_follows good.end h = refl
   text_follows (good.newline {items = []} more) h = cc
   text_follows (good.newline {items = j ∷ items} more) h = ends_at_blank_line (text_on ind (j ∷ items)) (some_text j items more) (text_follows more h)
-  text_follows (good.assignment {name = []} named value more) h = absurd named.is_name
-  text_follows (good.assignment {name = x ∷ xs} named value more) h = ends_at_item x _ (ap white (named.is_name.0))
   text_follows (good.comment {t = []} c more) h = absurd (no_hash c.comment.first)
   text_follows (good.comment {t = x ∷ xs} c more) h = ends_at_item x _ (hash_white x c.comment.first)
-  text_follows (good.header {name = []} named more) h = absurd named.is_name
-  text_follows (good.header {name = x ∷ xs} named more) h = ends_at_item x _ (ap white (named.is_name.0))
-  text_follows (good.recipe {name = []} r more) h = absurd r.named.is_name
-  text_follows (good.recipe {name = x ∷ xs} r more) h = ends_at_item x _ (ap white (r.named.is_name.0))
+  text_follows (good.assignment {entries = entries} {name = name} attributes named value more) h = construct_follows entries name _ named.is_name
+  text_follows (good.header {entries = entries} {name = name} attributes named more) h = construct_follows entries name _ named.is_name
+  text_follows (good.recipe {entries = entries} {name = name} attributes r more) h = construct_follows entries name _ r.named.is_name

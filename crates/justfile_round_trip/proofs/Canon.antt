@@ -5,10 +5,10 @@ use Rattle.justfile_base.specs.declared.token_kind.TokenKind.TheVariants as kind
 use Rattle.justfile_model.specs.declared.conditional_operator.ConditionalOperator.{ConditionalOperator}
 use Rattle.justfile_model.specs.declared.conditional_operator.ConditionalOperator.TheVariants.{Equality, Inequality, RegexMatch, RegexMismatch}
 use Rattle.justfile_model.specs.Tree as tree
-use Rattle.justfile_model.specs.Tree.{Expr, Or, And, Comparison, Concatenation, ListConcatenation, Join, Root, If, IfElse, Not, StringLiteral, FormatLiteral, FormatString, Backtick, Assert, AssertMessage, Variable, Call, Group, ListOf, Last, Continue, Text, Interpolation, BodyLine, Line, Header, AssignmentParts, RecipeParts, Content, Assignment, Recipe, Comment, Newline, Construct, OrderedItem, Shape, plain_assignment, plain_recipe}
+use Rattle.justfile_model.specs.Tree.{Expr, Or, And, Comparison, Concatenation, ListConcatenation, Join, Root, If, IfElse, Not, StringLiteral, FormatLiteral, FormatString, Backtick, Assert, AssertMessage, Variable, Call, Group, ListOf, Last, Continue, Text, Interpolation, BodyLine, Line, Content, OrderedItem}
 use Rattle.justfile_model.specs.Features.{Noted}
 use Rattle.justfile_model.specs.Expressions.{operator_kind}
-use Rattle.justfile_model.specs.Printing.{fixed_text, is_conditional, other_text, expr_text, exprs_text, parts_text, fragment_text, line_text, body_text, if_true, parameter_text, dependency_text, subsequents_text, header_text, assignment_text, content_doc, entries_text, content_text, item_text, item_end, text}
+use Rattle.justfile_model.specs.Printing.{fixed_text, is_conditional, other_text, expr_text, exprs_text, parts_text, fragment_text, line_text, body_text}
 use Rattle.justfile_round_trip.proofs.Reading.{Mark, mark}
 
 -- What a shape is made of: expressions, fragments, lines of bodies, and items with their contents.
@@ -26,14 +26,6 @@ ShapeContent = Content (List ℕ) (Unit {0}) (Unit {0}) (Unit {0})
 
 abbrev pub ShapeItem : Type 0
 ShapeItem = OrderedItem (List ℕ) (Unit {0}) (Unit {0})
-
--- `name := value`
-abbrev pub assignment_item : List ℕ → Value → ShapeItem
-assignment_item name value = Construct [] (Assignment (plain_assignment name value))
-
--- a recipe whose header is a name
-abbrev pub recipe_item : List ℕ → List Row → ShapeItem
-recipe_item name body = Construct [] (Recipe (plain_recipe name body))
 
 -- its features, which have no places
 abbrev pub Shown : Type 0
@@ -206,75 +198,10 @@ abbrev pub body_marks : List ℕ → List Row → List Mark → List Mark
 body_marks ind [] ts = ts
 body_marks ind (Line number fs ∷ ls) ts = mark kinds.Indent ind ∷ fragments_marks fs (newline ∷ lines_marks ind ls (mark kinds.Dedent [] ∷ ts))
 
--- ---- items
-
-abbrev pub assignment_on : AssignmentParts (List ℕ) (Unit {0}) → List ℕ → List ℕ
-assignment_on a more =
-    if_true a.eager (fixed_text (codes "eager ")) ++ (if_true a.export (fixed_text (codes "export ")) ++ (a.name ++ (32 ∷ 58 ∷ 61 ∷ 32 ∷ expr_on a.value more)))
-
-abbrev pub header_on : Header (List ℕ) (Unit {0}) (Unit {0}) → List ℕ → List ℕ
-header_on h more =
-    if_true h.quiet (fixed_text (codes "@"))
-    ++ (h.name
-    ++ (flat_map (λ p. fixed_text (codes " ") ++ parameter_text p) h.parameters
-    ++ (58 ∷ (flat_map (λ d. fixed_text (codes " ") ++ dependency_text d) h.priors ++ (subsequents_text h.subsequents ++ more)))))
-
-abbrev pub content_on : List ℕ → ShapeContent → List ℕ → List ℕ
-content_on ind (Assignment parts) more = assignment_on parts more
-content_on ind (Recipe parts) more = header_on parts.header (body_on ind parts.body more)
-
-abbrev pub item_on : List ℕ → ShapeItem → List ℕ → List ℕ
-item_on ind Newline more = more
-item_on ind (Comment t) more = t ++ more
-item_on ind (Construct entries content) more = content_doc content ++ (entries_text entries ++ content_on ind content more)
-
--- Of a recipe the header. So far all constructs that are good are plain: `name := value`, or a recipe whose header is a name.
-abbrev pub content_marks : ShapeContent → List Mark → List Mark
-content_marks (Assignment parts) ts = mark kinds.Identifier parts.name ∷ space ∷ mark kinds.ColonEquals (58 ∷ 61 ∷ []) ∷ space ∷ expr_marks parts.value ts
-content_marks (Recipe parts) ts = mark kinds.Identifier parts.header.name ∷ colon ∷ ts
-
-abbrev pub item_marks : ShapeItem → List Mark → List Mark
-item_marks Newline ts = ts
-item_marks (Comment t) ts = mark kinds.Comment t ∷ ts
-item_marks (Construct entries content) ts = content_marks content ts
-
--- the lines of its body
-abbrev pub body_of : ShapeItem → List Row
-body_of Newline = []
-body_of (Comment t) = []
-body_of (Construct entries (Assignment parts)) = []
-body_of (Construct entries (Recipe parts)) = parts.body
-
--- after an item
-abbrev pub end_on : ShapeItem → Shape → List ℕ → List ℕ
-end_on Newline items more = 10 ∷ more
-end_on i [] more = more
-end_on i (Newline ∷ items) more = more
-end_on i (j ∷ items) more = 32 ∷ more
-
-abbrev pub end_marks : ShapeItem → Shape → List Mark → List Mark
-end_marks Newline items ts = newline ∷ ts
-end_marks i [] ts = ts
-end_marks i (Newline ∷ items) ts = ts
-end_marks i (j ∷ items) ts = space ∷ ts
-
-abbrev pub text_on : List ℕ → Shape → List ℕ
-text_on ind [] = []
-text_on ind (i ∷ items) = item_on ind i (end_on i items (text_on ind items))
-
--- Items after a header whose body has these lines. The line end after a body is that of its last line, and its Dedent comes after it.
-abbrev pub marks_from : List ℕ → (body : List Row) → Shape → List Mark
-marks_from ind body [] = []
-marks_from ind body (Newline ∷ items) = newline ∷ body_marks ind body (marks_from ind [] items)
-marks_from ind body (i ∷ items) = item_marks i (end_marks i items (marks_from ind (body_of i) items))
-
-abbrev pub marks : List ℕ → Shape → List Mark
-marks ind items = marks_from ind [] items
-
 -- ---- the text of the definitions is this text
 
 -- a text, and one after it
-then : (a b more : List ℕ) {y x : List ℕ} → b ++ more ≡ y → a ++ y ≡ x → (a ++ b) ++ more ≡ x
+pub then : (a b more : List ℕ) {y x : List ℕ} → b ++ more ≡ y → a ++ y ≡ x → (a ++ b) ++ more ≡ x
 then a b more e f = append_assoc a b more ∙ ap (λ z. a ++ z) e ∙ f
 
 -- and a fixed one between them
@@ -345,53 +272,8 @@ line_is : (ind : List ℕ) (l : Row) (more : List ℕ) → line_text ind l ++ mo
 line_is ind (Line number []) more = refl
 line_is ind (Line number (f ∷ fs)) more = append_assoc ind (flat_map fragment_text (f ∷ fs)) more ∙ ap (λ l. ind ++ l) (fragments_is (f ∷ fs) more)
 
-body_is : (ind : List ℕ) (ls : List Row) (more : List ℕ) → body_text ind ls ++ more ≡ body_on ind ls more
+pub body_is : (ind : List ℕ) (ls : List Row) (more : List ℕ) → body_text ind ls ++ more ≡ body_on ind ls more
 unfolding fixed_text
 body_is ind [] more = refl
 body_is ind (l ∷ ls) more =
     ap (λ x. 10 ∷ x) (append_assoc (line_text ind l) (body_text ind ls) more ∙ line_is ind l (body_text ind ls ++ more) ∙ ap (line_on ind l) (body_is ind ls more))
-
-assignment_is : (a : AssignmentParts (List ℕ) (Unit {0})) (more : List ℕ) → assignment_text a ++ more ≡ assignment_on a more
-unfolding fixed_text
-assignment_is a more =
-    let eager = if_true a.eager (codes "eager ") in
-    let export = if_true a.export (codes "export ") in
-    then (((eager ++ export) ++ a.name) ++ codes " := ") (expr_text a.value) more (expr_is a.value more)
-    (then ((eager ++ export) ++ a.name) (codes " := ") _ refl (then (eager ++ export) a.name _ refl (then eager export _ refl refl)))
-
-header_is : (h : Header (List ℕ) (Unit {0}) (Unit {0})) (more : List ℕ) → header_text h ++ more ≡ header_on h more
-unfolding fixed_text
-header_is h more =
-    let named = if_true h.quiet (codes "@") ++ h.name in
-    let parameters = named ++ flat_map (λ p. codes " " ++ parameter_text p) h.parameters in
-    let priors = flat_map (λ d. codes " " ++ dependency_text d) h.priors in
-    then ((parameters ++ codes ":") ++ priors) (subsequents_text h.subsequents) more refl
-    (then (parameters ++ codes ":") priors _ refl
-    (then parameters (codes ":") _ refl (then named _ _ refl (then (if_true h.quiet (codes "@")) h.name _ refl refl))))
-
-content_is : (ind : List ℕ) (c : ShapeContent) (more : List ℕ) → content_text c ind ++ more ≡ content_on ind c more
-content_is ind (Assignment parts) more = assignment_is parts more
-content_is ind (Recipe parts) more = then (header_text parts.header) (body_text ind parts.body) more (body_is ind parts.body more) (header_is parts.header _)
-
-item_is : (ind : List ℕ) (i : ShapeItem) (more : List ℕ) → item_text i ind ++ more ≡ item_on ind i more
-item_is ind Newline more = refl
-item_is ind (Comment t) more = refl
-item_is ind (Construct entries content) more =
-    then (content_doc content ++ entries_text entries) (content_text content ind) more (content_is ind content more) (then (content_doc content) (entries_text entries) _ refl refl)
-
-end_is : (i : ShapeItem) (items : Shape) (more : List ℕ) → item_end i items ++ more ≡ end_on i items more
-unfolding fixed_text
-end_is Newline items more = refl
-end_is (Comment t) [] more = refl
-end_is (Comment t) (Newline ∷ items) more = refl
-end_is (Comment t) (j ∷ items) more = refl
-end_is (Construct entries content) [] more = refl
-end_is (Construct entries content) (Newline ∷ items) more = refl
-end_is (Construct entries content) (j ∷ items) more = refl
-
-pub text_is : (items : Shape) (indentation : List ℕ) → text items indentation ≡ text_on indentation items
-text_is [] indentation = refl
-text_is (i ∷ items) indentation =
-    append_assoc (item_text i indentation) (item_end i items) (text items indentation)
-    ∙ item_is indentation i (item_end i items ++ text items indentation)
-    ∙ ap (item_on indentation i) (end_is i items (text items indentation) ∙ ap (end_on i items) (text_is items indentation))

@@ -1,46 +1,45 @@
 -- The tokens of a good shape derive it, and its text is UTF-8.
-use Rattle.std.proofs.Common.{◌≡◌, ℕ, Bool, true, false, List, [], ◌∷◌, ◌++◌, map, refl, sym, subst, ap}
+use Rattle.std.proofs.Common.{◌≡◌, ℕ, Bool, true, false, List, [], ◌∷◌, ◌++◌, refl, sym, subst}
 use Rattle.std.specs.Str.{IsUtf8}
 use Rattle.std.proofs.lemmas.Str.{IsUtf8-nil, IsUtf8-append}
 use Rattle.std.proofs.Math.Utf8.{encode}
 use Rattle.justfile_base.specs.declared.token_kind.TokenKind.TheVariants as kinds
 use Rattle.justfile_model.specs.SignificantTokens.{SignificantToken}
 use Rattle.justfile_model.specs.Tree as tree
-use Rattle.justfile_model.specs.Tree.{WrittenItem, Shape, WrittenShape, Construct, plain_assignment, plain_recipe}
+use Rattle.justfile_model.specs.Tree.{Shape, Construct, lexeme, nothing, plain_assignment, plain_recipe}
+use Rattle.justfile_model.specs.AttributeLines.{AttributeLines}
 use Rattle.justfile_model.specs.Grammar as g
 use Rattle.justfile_model.specs.Expressions.{Under}
 use Rattle.justfile_model.specs.Files.{keeps_lexemes}
 use Rattle.justfile_model.specs.Grammar.{Items, LineEnd, Block, NotEmpty}
-use Rattle.justfile_model.proofs.Ordered.{plainly}
+use Rattle.justfile_model.specs.Rewritten.{rewritten_entries}
+use Rattle.justfile_model.proofs.RewrittenItems.{rewritten}
 use Rattle.justfile_round_trip.proofs.Reading.{Mark, mark}
-use Rattle.justfile_round_trip.proofs.Canon.{Shown, Row, ShapeContent, ShapeItem, assignment_item, recipe_item, space, newline, colon, body_marks, end_on, end_marks, text_on, marks}
-use Rattle.justfile_round_trip.proofs.Good as good
-use Rattle.justfile_round_trip.proofs.Good.{significant, ends_value, GoodName, GoodComment, GoodRecipe, AtStart, ItemRest, AtEnd}
+use Rattle.justfile_round_trip.proofs.AttributesUtf8.{entries_utf8}
+use Rattle.justfile_round_trip.proofs.BackAttributes.{glued_after, entries_back}
+use Rattle.justfile_round_trip.proofs.Canon.{Shown, Row, ShapeContent, ShapeItem, space, newline, colon, expr_marks, body_marks}
+use Rattle.justfile_round_trip.proofs.CanonAttributes.{ShapeEntry, entries_marks}
+use Rattle.justfile_round_trip.proofs.CanonItems.{assignment_item, recipe_item, end_on, end_marks, text_on, marks}
+use Rattle.justfile_round_trip.proofs.Good.{significant, ends_value, GoodName, GoodComment, GoodRecipe}
+use Rattle.justfile_round_trip.proofs.GoodAttributes.{GoodEntries}
+use Rattle.justfile_round_trip.proofs.GoodItems as good
+use Rattle.justfile_round_trip.proofs.GoodItems.{AtStart, ItemRest, AtEnd}
 use Rattle.justfile_round_trip.proofs.BodyLines.{IsLevel}
 use Rattle.justfile_round_trip.proofs.BodyDerives.{body_back}
 use Rattle.justfile_round_trip.proofs.BodyUtf8.{newline_utf8, body_utf8}
 
 -- ---- derivations
 
--- an item without attributes, as it is written
-abbrev pub written_item : ShapeItem → WrittenItem (List ℕ) (Unit {0}) (Unit {0}) (Unit {0})
-written_item tree.Newline = tree.Newline
-written_item (tree.Comment t) = tree.Comment t
-written_item (Construct entries content) = Construct [] content
-
-abbrev pub written : Shape → WrittenShape
-written = map written_item
-
 module _ (limit : ℕ) where
   -- what derives, with its features
   abbrev Derived : Shape → List SignificantToken → Type 0
-  Derived items ts = (ns : Shown) × Items keeps_lexemes (Under limit) (written items) ns ts
+  Derived items ts = (ns : Shown) × Items keeps_lexemes (Under limit) (rewritten items) ns ts
 
   abbrev AfterItem : Shape → List SignificantToken → Type 0
-  AfterItem items ts = (ns : Shown) × g.ItemRest keeps_lexemes (Under limit) (written items) ns ts
+  AfterItem items ts = (ns : Shown) × g.ItemRest keeps_lexemes (Under limit) (rewritten items) ns ts
 
   abbrev Ended : Shape → List SignificantToken → Type 0
-  Ended items ts = (ns : Shown) × LineEnd keeps_lexemes (Under limit) (written items) ns ts
+  Ended items ts = (ns : Shown) × LineEnd keeps_lexemes (Under limit) (rewritten items) ns ts
 
   comment_back : (t : List ℕ) (items : Shape) (glued : Bool) (on : List Mark) → GoodComment t → AfterItem items (significant true on) → Derived (tree.Comment t ∷ items) (significant glued (mark kinds.Comment t ∷ on))
   comment_back t items glued on h e = subst (λ x. Derived (tree.Comment x ∷ items) (significant glued (mark kinds.Comment t ∷ on))) h.trimmed (e.0, g.comment refl e.1)
@@ -59,11 +58,19 @@ module _ (limit : ℕ) where
             (g.recipe {lines = body} refl refl (g.at_once refl refl) read.1 (subst NotEmpty (sym h.ended) tt)),
       )
 
+  -- lines of attributes before a name
+  attributes_before : (entries : List ShapeEntry) (name : List ℕ) (glued : Bool) (on : List Mark) → GoodEntries limit entries
+      → (ns : Shown) × AttributeLines lexeme nothing (Under limit) (rewritten_entries entries) ns
+      (significant glued (entries_marks entries (mark kinds.Identifier name ∷ on)))
+      (significant (glued_after (rewritten_entries entries) glued) (mark kinds.Identifier name ∷ on))
+  attributes_before entries name glued on h = entries_back limit entries glued (mark kinds.Identifier name ∷ on) h (λ e. cc)
+
 module _ (limit : ℕ) (ind : List ℕ) where
   -- after a construct on one line nothing goes on with a value
-  value_ends : (content : ShapeContent) {items : Shape} → ItemRest limit items → ends_value (significant true (end_marks (Construct [] content) items (marks ind items))) ≡ true
-  value_ends content (good.trailing h more) = refl
-  value_ends content (good.bare (good.line_end more)) = refl
+  value_ends : (entries : List ShapeEntry) (content : ShapeContent) {items : Shape} → ItemRest limit items
+      → ends_value (significant true (end_marks (Construct entries content) items (marks ind items))) ≡ true
+  value_ends entries content (good.trailing h more) = refl
+  value_ends entries content (good.bare (good.line_end more)) = refl
 
   mutual
     pub derive_start : {items : Shape} → AtStart limit items → (glued : Bool) → Derived limit items (significant glued (marks ind items))
@@ -72,43 +79,31 @@ module _ (limit : ℕ) (ind : List ℕ) where
     derive_start (good.comment {t = t} {items = items} h more) glued =
         let r = derive_end t more in
         comment_back limit t items glued (end_marks (tree.Comment t) items (marks ind items)) h (r.0, g.bare r.1)
-    derive_start (good.assignment {name = name} {value = value} {items = items} named h more) glued =
+    derive_start (good.assignment {entries = entries} {name = name} {value = value} {items = items} attributes named h more) glued =
         let content : ShapeContent = tree.Assignment (plain_assignment name value) in
-        let r = derive_after content more in
-        (h.features ++ r.0, g.on_line (g.assignment refl refl (h.derives.derives false (end_marks (Construct [] content) items (marks ind items)) (value_ends content more))) r.1)
-    derive_start (good.header {name = name} named more) glued = let r = derive_after (tree.Recipe (plain_recipe name [])) more in (r.0, g.on_line (g.header refl refl) r.1)
-    derive_start (good.recipe {name = name} {l = l} {ls = ls} h (good.body_end {items = items} follows last more)) glued =
-        let b = block_back limit ind name l ls glued (marks ind items) h in
+        let on = end_marks (Construct entries content) items (marks ind items) in
+        let a = attributes_before limit entries name glued (space ∷ mark kinds.ColonEquals (58 ∷ 61 ∷ []) ∷ space ∷ expr_marks value on) attributes in
+        let r = derive_after entries content more in
+        (a.0 ++ h.features ++ r.0, g.on_line a.1 (g.assignment refl refl (h.derives.derives false on (value_ends entries content more))) r.1)
+    derive_start (good.header {entries = entries} {name = name} {items = items} attributes named more) glued =
+        let content : ShapeContent = tree.Recipe (plain_recipe name []) in
+        let a = attributes_before limit entries name glued (colon ∷ end_marks (Construct entries content) items (marks ind items)) attributes in
+        let r = derive_after entries content more in
+        (a.0 ++ [] ++ r.0, g.on_line a.1 (g.header refl refl) r.1)
+    derive_start (good.recipe {entries = entries} {name = name} {l = l} {ls = ls} attributes h (good.body_end {items = items} follows last more)) glued =
+        let a = attributes_before limit entries name glued (colon ∷ newline ∷ body_marks ind (l ∷ ls) (marks ind items)) attributes in
+        let b = block_back limit ind name l ls (glued_after (rewritten_entries entries) glued) (marks ind items) h in
         let r = derive_start more true in
-        (b.0 ++ r.0, g.block b.1 r.1)
+        (a.0 ++ b.0 ++ r.0, g.block a.1 b.1 r.1)
 
-    derive_after : (content : ShapeContent) {items : Shape} → ItemRest limit items → AfterItem limit items (significant true (end_marks (Construct [] content) items (marks ind items)))
-    derive_after content (good.trailing {t = t} {items = items} h more) = trailing_back limit t items (end_marks (tree.Comment t) items (marks ind items)) h (derive_end t more)
-    derive_after content (good.bare (good.line_end more)) = let r = derive_start more true in (r.0, g.bare (g.line_end refl r.1))
+    derive_after : (entries : List ShapeEntry) (content : ShapeContent) {items : Shape} → ItemRest limit items
+        → AfterItem limit items (significant true (end_marks (Construct entries content) items (marks ind items)))
+    derive_after entries content (good.trailing {t = t} {items = items} h more) =
+        trailing_back limit t items (end_marks (tree.Comment t) items (marks ind items)) h (derive_end t more)
+    derive_after entries content (good.bare (good.line_end more)) = let r = derive_start more true in (r.0, g.bare (g.line_end refl r.1))
 
     derive_end : (t : List ℕ) {items : Shape} → AtEnd limit items → Ended limit items (significant true (end_marks (tree.Comment t) items (marks ind items)))
     derive_end t (good.line_end more) = let r = derive_start more true in (r.0, g.line_end refl r.1)
-
--- ---- what it means
-
-module _ (limit : ℕ) where
-  mutual
-    pub start_plain : {items : Shape} → AtStart limit items → plainly (written items) ≡ items
-    start_plain good.end = refl
-    start_plain (good.newline more) = ap (λ (items : Shape). tree.Newline ∷ items) (start_plain more)
-    start_plain (good.comment {t = t} h more) = ap (λ (items : Shape). tree.Comment t ∷ items) (end_plain more)
-    start_plain (good.assignment {name = name} {value = value} named h more) =
-        ap (λ (items : Shape). assignment_item name value ∷ items) (after_plain more)
-    start_plain (good.header {name = name} named more) = ap (λ (items : Shape). recipe_item name [] ∷ items) (after_plain more)
-    start_plain (good.recipe {name = name} {l = l} {ls = ls} h (good.body_end follows last more)) =
-        ap (λ (items : Shape). recipe_item name (l ∷ ls) ∷ tree.Newline ∷ items) (start_plain more)
-
-    after_plain : {items : Shape} → ItemRest limit items → plainly (written items) ≡ items
-    after_plain (good.trailing {t = t} h more) = ap (λ (items : Shape). tree.Comment t ∷ items) (end_plain more)
-    after_plain (good.bare more) = end_plain more
-
-    end_plain : {items : Shape} → AtEnd limit items → plainly (written items) ≡ items
-    end_plain (good.line_end more) = ap (λ (items : Shape). tree.Newline ∷ items) (start_plain more)
 
 -- ---- UTF-8
 
@@ -142,11 +137,15 @@ module _ (limit : ℕ) (ind : List ℕ) (level : IsLevel ind) where
     start_utf8 good.end = IsUtf8-nil
     start_utf8 (good.newline {items = items} more) = end_utf8 tree.Newline items _ (start_utf8 more)
     start_utf8 (good.comment {t = t} {items = items} h more) = IsUtf8-append t _ h.utf8 (end_utf8 (tree.Comment t) items _ (line_end_utf8 more))
-    start_utf8 (good.assignment {name = name} {value = value} {items = items} named h more) =
-        IsUtf8-append name _ named.utf8 (IsUtf8-append (32 ∷ 58 ∷ 61 ∷ 32 ∷ []) _ operator_utf8 (h.utf8 _ (end_utf8 (assignment_item name value) items _ (after_utf8 more))))
-    start_utf8 (good.header {name = name} {items = items} named more) = header_utf8 name _ named (end_utf8 (recipe_item name []) items _ (after_utf8 more))
-    start_utf8 (good.recipe {name = name} {l = l} {ls = ls} h (good.body_end {items = items} follows last more)) =
-        header_utf8 name _ h.named (body_utf8 limit ind (l ∷ ls) _ level h.good (end_utf8 tree.Newline items _ (start_utf8 more)))
+    start_utf8 (good.assignment {entries = entries} {name = name} {value = value} {items = items} attributes named h more) =
+        entries_utf8 limit entries _ attributes
+        (IsUtf8-append name _ named.utf8
+        (IsUtf8-append (32 ∷ 58 ∷ 61 ∷ 32 ∷ []) _ operator_utf8 (h.utf8 _ (end_utf8 (assignment_item entries name value) items _ (after_utf8 more)))))
+    start_utf8 (good.header {entries = entries} {name = name} {items = items} attributes named more) =
+        entries_utf8 limit entries _ attributes (header_utf8 name _ named (end_utf8 (recipe_item entries name []) items _ (after_utf8 more)))
+    start_utf8 (good.recipe {entries = entries} {name = name} {l = l} {ls = ls} attributes h (good.body_end {items = items} follows last more)) =
+        entries_utf8 limit entries _ attributes
+        (header_utf8 name _ h.named (body_utf8 limit ind (l ∷ ls) _ level h.good (end_utf8 tree.Newline items _ (start_utf8 more))))
 
     after_utf8 : {items : Shape} → ItemRest limit items → IsUtf8 (text_on ind items)
     after_utf8 (good.trailing {t = t} {items = items} h more) = IsUtf8-append t _ h.utf8 (end_utf8 (tree.Comment t) items _ (line_end_utf8 more))

@@ -1,21 +1,16 @@
--- The features of a shape are determined by it.
-use Rattle.std.proofs.Common.{◌≡◌, ℕ, Bool, true, false, List, [], ◌∷◌, ◌++◌, Option, refl, sym, ap, ◌∙◌}
+-- The features of an expression are determined by it.
+use Rattle.std.proofs.Common.{◌≡◌, ℕ, Bool, true, false, [], ◌++◌, Option, refl, sym, ap, ◌∙◌}
 use Rattle.std.proofs.lemmas.List.{append-nil}
 use Rattle.justfile_base.specs.declared.token_kind.TokenKind.{TokenKind}
 use Rattle.justfile_model.specs.declared.list_feature.ListFeature.TheVariants as features
 use Rattle.justfile_model.specs.SignificantTokens.{SignificantToken}
 use Rattle.justfile_model.specs.Tree as tree
-use Rattle.justfile_model.specs.Tree.{Content, Construct, Item, WrittenShape, Shape, starless, lexeme, nothing, line_before, trimmed}
+use Rattle.justfile_model.specs.Tree.{lexeme, nothing}
 use Rattle.justfile_model.specs.Features.{noted, compared, uncompared, called}
 use Rattle.justfile_model.specs.Expressions as e
 use Rattle.justfile_model.specs.Expressions.{Tokens, Expression, Disjunct, Compared, Conjunct, Condition, Braced, Conditional, Value, Sequence, FormatParts}
-use Rattle.justfile_model.specs.Grammar as g
-use Rattle.justfile_model.specs.Files.{keeps_lexemes}
-use Rattle.justfile_model.specs.Grammar.{LineRest, BodyLines, OnLine, Block, Items, ItemRest, LineEnd, File}
-use Rattle.justfile_model.specs.NormalShape.{after_newline, normal_rest, normal}
-use Rattle.justfile_model.proofs.Ordered.{plainly}
 use Rattle.justfile_round_trip.proofs.Canon as canon
-use Rattle.justfile_round_trip.proofs.Canon.{Shown, Values, Pieces, Fragment, Row, ShapeContent}
+use Rattle.justfile_round_trip.proofs.Canon.{Shown, Values, Pieces}
 
 abbrev mutual
   -- of a condition the first comparison is not noted
@@ -129,109 +124,3 @@ module _ (Open : ℕ → Option SignificantToken → Type 0) where
     of_parts : {d : ℕ} {ps : Pieces} {fs : Shown} {ts rest : Tokens} → FormatParts lexeme nothing Open d ps fs ts rest → fs ≡ parts_features ps
     of_parts (e.end kind) = refl
     of_parts (e.next kind x ps) = λ i. of_expression x i ++ of_parts ps i
-
--- ---- items
-
-abbrev fragments_features : List Fragment → Shown
-fragments_features [] = []
-fragments_features (tree.Text t ∷ fs) = fragments_features fs
-fragments_features (tree.Interpolation v ∷ fs) = value_features false v ++ fragments_features fs
-
-abbrev body_features : List Row → Shown
-body_features [] = []
-body_features (tree.Line number fs ∷ ls) = fragments_features fs ++ body_features ls
-
--- so far no header has a value in it
-abbrev content_features : {S : Type 0} → Content (List ℕ) (Unit {0}) (Unit {0}) S → Shown
-content_features (tree.Assignment parts) = value_features false parts.value
-content_features (tree.Recipe parts) = body_features parts.body
-
--- of items whose attributes have none
-abbrev item_features : {S D : Type 0} → Item (List ℕ) (Unit {0}) (Unit {0}) S D → Shown
-item_features tree.Newline = []
-item_features (tree.Comment t) = []
-item_features (Construct attributes content) = content_features content
-
-abbrev pub shape_features : {S D : Type 0} → List (Item (List ℕ) (Unit {0}) (Unit {0}) S D) → Shown
-shape_features [] = []
-shape_features (i ∷ items) = item_features i ++ shape_features items
-
-starless_features : {S : Type 0} (c : Content (List ℕ) (Unit {0}) (Unit {0}) S) → content_features (starless c) ≡ content_features c
-starless_features (tree.Assignment parts) = refl
-starless_features (tree.Recipe parts) = refl
-
--- the features stand in the contents
-pub plainly_features : (items : WrittenShape) → shape_features (plainly items) ≡ shape_features items
-plainly_features [] = refl
-plainly_features (tree.Newline ∷ items) = plainly_features items
-plainly_features (tree.Comment t ∷ items) = plainly_features items
-plainly_features (Construct attributes content ∷ items) = λ i. starless_features content i ++ plainly_features items i
-
-trimmed_features : (ls : List Row) → body_features (trimmed ls) ≡ body_features ls
-trimmed_features [] = refl
-trimmed_features (tree.Line n (f ∷ fs) ∷ ls) = ap (λ ns. fragments_features (f ∷ fs) ++ ns) (trimmed_features ls)
-trimmed_features (tree.Line n [] ∷ ls) = by (trimmed ls) ∙ trimmed_features ls
-  where
-    by : (ks : List Row) → body_features (line_before (tree.Line n []) ks) ≡ body_features ks
-    by [] = refl
-    by (k ∷ ks) = refl
-
-module _ (Open : ℕ → Option SignificantToken → Type 0) where
-  of_line : {fs : List Fragment} {ns : Shown} {ts rest : Tokens} → LineRest lexeme nothing Open fs ns ts rest → ns ≡ fragments_features fs
-  of_line (g.line_ends kind) = refl
-  of_line (g.body_ends kind) = refl
-  of_line (g.text kind r) = of_line r
-  of_line (g.interpolation kind x kind2 r) = λ i. of_expression Open x i ++ of_line r i
-
-  of_lines : {ls : List Row} {ns : Shown} {ts rest : Tokens} → BodyLines keeps_lexemes Open ls ns ts rest → ns ≡ body_features ls
-  of_lines (g.no_line kind) = refl
-  of_lines (g.empty_line kind r) = of_lines r
-  of_lines (g.some_line l r) = λ i. of_line l i ++ of_lines r i
-
-  of_item : {c : ShapeContent} {ns : Shown} {ts rest : Tokens} → OnLine keeps_lexemes Open c ns ts rest → ns ≡ content_features c
-  of_item (g.assignment kind kind2 x) = of_expression Open x
-  of_item (g.header kind kind2) = refl
-
-  of_block : {c : ShapeContent} {ns : Shown} {ts rest : Tokens} → Block keeps_lexemes Open c ns ts rest → ns ≡ content_features c
-  of_block (g.recipe {lines = lines} kind kind2 start read some) = of_lines read ∙ sym (trimmed_features lines)
-
-  mutual
-    of_items : {items : WrittenShape} {ns : Shown} {ts : Tokens} → Items keeps_lexemes Open items ns ts → ns ≡ shape_features items
-    of_items (g.end kind) = refl
-    of_items (g.blank kind more) = of_items more
-    of_items (g.comment kind more) = of_after more
-    of_items (g.on_line i more) = λ j. of_item i j ++ of_after more j
-    of_items (g.block i more) = λ j. of_block i j ++ of_items more j
-
-    of_after : {items : WrittenShape} {ns : Shown} {ts : Tokens} → ItemRest keeps_lexemes Open items ns ts → ns ≡ shape_features items
-    of_after (g.trailing kind more) = of_end more
-    of_after (g.bare more) = of_end more
-
-    of_end : {items : WrittenShape} {ns : Shown} {ts : Tokens} → LineEnd keeps_lexemes Open items ns ts → ns ≡ shape_features items
-    of_end (g.line_end kind more) = of_items more
-    of_end (g.file_end kind) = refl
-
-  pub of_file : {items : WrittenShape} {ns : Shown} {ts : Tokens} → File keeps_lexemes Open items ns ts → ns ≡ shape_features items
-  of_file (g.marked kind more) = of_items more
-  of_file (g.unmarked more) = of_items more
-
--- ---- the normal shape has the same features
-
-after_newline_features : (r : Shape) → shape_features (after_newline r) ≡ shape_features r
-after_newline_features [] = refl
-after_newline_features (tree.Newline ∷ []) = refl
-after_newline_features (tree.Newline ∷ tree.Newline ∷ r) = refl
-after_newline_features (tree.Newline ∷ tree.Comment t ∷ r) = refl
-after_newline_features (tree.Newline ∷ Construct attributes content ∷ r) = refl
-after_newline_features (tree.Comment t ∷ r) = refl
-after_newline_features (Construct attributes content ∷ r) = refl
-
-normal_rest_features : (s : Shape) → shape_features (normal_rest s) ≡ shape_features s
-normal_rest_features [] = refl
-normal_rest_features (tree.Newline ∷ s) = after_newline_features (normal_rest s) ∙ normal_rest_features s
-normal_rest_features (tree.Comment t ∷ s) = normal_rest_features s
-normal_rest_features (Construct attributes content ∷ s) = ap (λ ns. content_features content ++ ns) (normal_rest_features s)
-
-pub normal_features : (s : Shape) → shape_features (normal s) ≡ shape_features s
-normal_features [] = refl
-normal_features (i ∷ s) = normal_rest_features (i ∷ s)

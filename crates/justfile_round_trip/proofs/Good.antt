@@ -1,6 +1,6 @@
 -- What is known of a shape that is printed: each lexeme has its fact, each value derives back, and the items stand in lines.
 use Rattle.std.proofs.Common.{◌≡◌, ℕ, Bool, true, false, List, [], ◌∷◌, ◌++◌, length, drop, Option, Some, None}
-use Rattle.std.specs.Prelude.{◌&&◌, ◌||◌, not}
+use Rattle.std.specs.Prelude.{◌&&◌, ◌||◌}
 use Rattle.std.specs.Str.{IsUtf8, trim_end}
 use Rattle.justfile_base.specs.declared.string_kind.StringKind.{StringKind}
 use Rattle.justfile_base.specs.declared.token_kind.TokenKind.{TokenKind}
@@ -15,13 +15,13 @@ use Rattle.justfile_model.specs.Next.{is_backtick}
 use Rattle.justfile_model.specs.Tok.{Tok}
 use Rattle.justfile_model.specs.SignificantTokens.{SignificantToken, significant_from}
 use Rattle.justfile_model.specs.Tree as tree
-use Rattle.justfile_model.specs.Tree.{Or, And, Comparison, Concatenation, ListConcatenation, Join, Root, If, IfElse, Not, StringLiteral, FormatLiteral, FormatString, Backtick, Assert, AssertMessage, Variable, Call, Group, ListOf, Last, Continue, Text, Interpolation, Line, Shape, lexeme, nothing, trimmed}
+use Rattle.justfile_model.specs.Tree.{Or, And, Comparison, Concatenation, ListConcatenation, Join, Root, If, IfElse, Not, StringLiteral, FormatLiteral, FormatString, Backtick, Assert, AssertMessage, Variable, Call, Group, ListOf, Last, Continue, Text, Interpolation, Line, lexeme, nothing, trimmed}
 use Rattle.justfile_model.specs.Expressions.{Under, Expression}
 use Rattle.justfile_round_trip.proofs.Reading.{Mark, mark, placed}
 use Rattle.justfile_round_trip.proofs.Inline.{head_is, IsName, IsLiteral, IsPart, delimiter_of}
 use Rattle.justfile_round_trip.proofs.Lines.{IsComment}
 use Rattle.justfile_round_trip.proofs.BodyLines.{IsRaw}
-use Rattle.justfile_round_trip.proofs.Canon.{Shown, Value, Values, Pieces, Fragment, Row, assignment_item, recipe_item, expr_on, expr_marks}
+use Rattle.justfile_round_trip.proofs.Canon.{Shown, Value, Values, Pieces, Fragment, Row, expr_on, expr_marks}
 
 -- the printer's tokens without places, and what the parser reads of them
 abbrev pub unplaced : List Mark → List Tok
@@ -160,16 +160,6 @@ pub record GoodComment (t : List ℕ) : Type 0 where
   pub trimmed : trim_end t ≡ t
   pub utf8 : IsUtf8 t
 
--- line ends alone
-abbrev pub blank_only : Shape → Bool
-blank_only [] = true
-blank_only (tree.Newline ∷ items) = blank_only items
-blank_only (i ∷ items) = false
-
--- nothing, or not line ends alone
-abbrev pub follows_body : Shape → Bool
-follows_body items = is_empty items || not (blank_only items)
-
 -- ---- what derives back, where so many expressions may be open
 
 module _ (limit : ℕ) where
@@ -205,37 +195,3 @@ module _ (limit : ℕ) where
     pub named : GoodName name
     pub good : GoodBody body
     pub ended : trimmed body ≡ body
-
-  mutual
-    -- items from the start of a line on; so far all constructs are plain
-    pub data AtStart : Shape → Type 0 where
-      end : AtStart []
-      newline : {items : Shape} → AtStart items → AtStart (tree.Newline ∷ items)
-      comment : {t : List ℕ} {items : Shape} → GoodComment t → AtEnd items → AtStart (tree.Comment t ∷ items)
-      assignment : {name : List ℕ} {value : Value} {items : Shape} → GoodName name → GoodExpression value → ItemRest items
-          → AtStart (assignment_item name value ∷ items)
-      header : {name : List ℕ} {items : Shape} → GoodName name → ItemRest items → AtStart (recipe_item name [] ∷ items)
-      recipe : {name : List ℕ} {l : Row} {ls : List Row} {items : Shape} → GoodRecipe name (l ∷ ls) → AfterBody (l ∷ ls) items
-          → AtStart (recipe_item name (l ∷ ls) ∷ items)
-
-    -- after an item a comment may trail it
-    pub data ItemRest : Shape → Type 0 where
-      trailing : {t : List ℕ} {items : Shape} → GoodComment t → AtEnd items → ItemRest (tree.Comment t ∷ items)
-      bare : {items : Shape} → AtEnd items → ItemRest items
-
-    -- then the line ends, and after the last line too
-    pub data AtEnd : Shape → Type 0 where
-      line_end : {items : Shape} → AtStart items → AtEnd (tree.Newline ∷ items)
-
-    -- after a body its last line ends; then levels close, and if they would close before that, nothing follows
-    pub data AfterBody : List Row → Shape → Type 0 where
-      body_end : {body : List Row} {items : Shape} → follows_body items ≡ true → (pale_after body ≡ true → items ≡ []) → AtStart items
-          → AfterBody body (tree.Newline ∷ items)
-
-  -- after a comment, or after another item
-  abbrev pub After : Bool → Shape → Type 0
-  After true items = AtEnd items
-  After false items = ItemRest items
-
-  pub past_newline : {items : Shape} → AtStart (tree.Newline ∷ items) → AtStart items
-  past_newline (newline h) = h

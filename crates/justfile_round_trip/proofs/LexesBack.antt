@@ -9,9 +9,14 @@ use Rattle.justfile_round_trip.proofs.Reading.{Mark, mark, LexesTo, end}
 use Rattle.justfile_round_trip.proofs.Inline.{head_is, joins, amid, space_step}
 use Rattle.justfile_round_trip.proofs.Fixed.{colon_equals_step}
 use Rattle.justfile_round_trip.proofs.Lines.{at_item, item_name, item_comment, comment_step, comment_no_blank, blank_line, line_end}
-use Rattle.justfile_round_trip.proofs.Canon.{Value, Row, assignment_item, recipe_item, space, newline, item_on, item_marks, text_on, marks}
-use Rattle.justfile_round_trip.proofs.Good as good
-use Rattle.justfile_round_trip.proofs.Good.{GoodName, GoodExpression, GoodComment, GoodRecipe, AtStart, ItemRest, AtEnd, AfterBody}
+use Rattle.justfile_round_trip.proofs.Canon.{Value, Row, space, newline}
+use Rattle.justfile_round_trip.proofs.CanonAttributes.{ShapeEntry}
+use Rattle.justfile_round_trip.proofs.CanonItems.{assignment_item, recipe_item, item_on, item_marks, text_on, marks}
+use Rattle.justfile_round_trip.proofs.Good.{GoodName, GoodExpression, GoodComment, GoodRecipe}
+use Rattle.justfile_round_trip.proofs.GoodAttributes.{GoodEntries}
+use Rattle.justfile_round_trip.proofs.GoodItems as good
+use Rattle.justfile_round_trip.proofs.GoodItems.{AtStart, ItemRest, AtEnd, AfterBody}
+use Rattle.justfile_round_trip.proofs.LexesAttributes.{lex_entries}
 use Rattle.justfile_round_trip.proofs.LexesValues.{value_no_blank, lex_value}
 use Rattle.justfile_round_trip.proofs.BodyLines.{IsLevel}
 use Rattle.justfile_round_trip.proofs.Bodies.{lex_recipe, lex_header}
@@ -26,11 +31,14 @@ unfolding next
 at_end c = end (at_item c) refl
 
 module _ (limit : ℕ) (ind : List ℕ) (level : IsLevel ind) where
-  assigned : (c : Bool) (name : List ℕ) (value : Value) {more : List ℕ} {ts : List Mark} → GoodName name → GoodExpression limit value → head_is joins more ≡ false → ((f : Bool) → LexesTo (amid [] [] c None f) more ts)
-      → LexesTo (at_item c) (item_on ind (assignment_item name value) more) (item_marks (assignment_item name value) ts)
+  assigned : (c : Bool) (entries : List ShapeEntry) (name : List ℕ) (value : Value) {more : List ℕ} {ts : List Mark} → GoodEntries limit entries
+      → GoodName name → GoodExpression limit value → head_is joins more ≡ false → ((f : Bool) → LexesTo (amid [] [] c None f) more ts)
+      → LexesTo (at_item c) (item_on ind (assignment_item entries name value) more) (item_marks (assignment_item entries name value) ts)
   unfolding class_of
-  assigned c name value {more} named good stop k =
-      item_name c name named.is_name refl (space_step refl (colon_equals_step (space_step (value_no_blank value more good.lexes) (lex_value [] c None [] value good.lexes stop k))))
+  assigned c entries name value {more} attributes named good stop k =
+      lex_entries limit c entries attributes
+      (item_name c name named.is_name refl
+      (space_step refl (colon_equals_step (space_step (value_no_blank value more good.lexes) (lex_value [] c None [] value good.lexes stop k)))))
 
   mutual
     unfolding class_of
@@ -40,27 +48,38 @@ module _ (limit : ℕ) (ind : List ℕ) (level : IsLevel ind) where
     lex_start c good.end = at_end c
     lex_start c (good.newline more) = blank_line c (lex_start c more)
     lex_start c (good.comment {t = t} h more) = lex_end c t h more
-    lex_start c (good.assignment {name = name} {value = value} named h more) = lex_after c name value named h more
-    lex_start c (good.header {name = name} named more) = lex_bare c name named more
-    lex_start c (good.recipe {name = name} {l = l} {ls = ls} h more) = lex_block c name l ls h more
+    lex_start c (good.assignment {entries = entries} {name = name} {value = value} attributes named h more) =
+        lex_after c entries name value attributes named h more
+    lex_start c (good.header {entries = entries} {name = name} attributes named more) = lex_bare c entries name attributes named more
+    lex_start c (good.recipe {entries = entries} {name = name} {l = l} {ls = ls} attributes h more) = lex_block c entries name l ls attributes h more
 
     -- an assignment, and what follows it
-    lex_after : (c : Bool) (name : List ℕ) (value : Value) {items : Shape} → GoodName name → GoodExpression limit value → ItemRest limit items
-        → LexesTo (at_item c) (text_on ind (assignment_item name value ∷ items)) (marks ind (assignment_item name value ∷ items))
-    lex_after c name value named h (good.trailing {t = t} commented (good.line_end more)) = assigned c name value named h refl (λ f. trailing c f t commented (lex_start c more))
-    lex_after c name value named h (good.bare (good.line_end more)) = assigned c name value named h refl (λ f. line_end c f (lex_start c more))
+    lex_after : (c : Bool) (entries : List ShapeEntry) (name : List ℕ) (value : Value) {items : Shape} → GoodEntries limit entries → GoodName name
+        → GoodExpression limit value → ItemRest limit items
+        → LexesTo (at_item c) (text_on ind (assignment_item entries name value ∷ items)) (marks ind (assignment_item entries name value ∷ items))
+    lex_after c entries name value attributes named h (good.trailing {t = t} commented (good.line_end more)) =
+        assigned c entries name value attributes named h refl (λ f. trailing c f t commented (lex_start c more))
+    lex_after c entries name value attributes named h (good.bare (good.line_end more)) =
+        assigned c entries name value attributes named h refl (λ f. line_end c f (lex_start c more))
 
     -- a recipe without a body, and what follows it
-    lex_bare : (c : Bool) (name : List ℕ) {items : Shape} → GoodName name → ItemRest limit items → LexesTo (at_item c) (text_on ind (recipe_item name [] ∷ items)) (marks ind (recipe_item name [] ∷ items))
-    lex_bare c name named (good.trailing {t = t} commented (good.line_end more)) = lex_header c name 32 _ _ named.is_name refl refl (trailing true false t commented (lex_start true more))
-    lex_bare c name named (good.bare (good.line_end more)) = lex_header c name 10 _ _ named.is_name refl refl (line_end true false (lex_start true more))
+    lex_bare : (c : Bool) (entries : List ShapeEntry) (name : List ℕ) {items : Shape} → GoodEntries limit entries → GoodName name → ItemRest limit items
+        → LexesTo (at_item c) (text_on ind (recipe_item entries name [] ∷ items)) (marks ind (recipe_item entries name [] ∷ items))
+    lex_bare c entries name attributes named (good.trailing {t = t} commented (good.line_end more)) =
+        lex_entries limit c entries attributes (lex_header c name 32 _ _ named.is_name refl refl (trailing true false t commented (lex_start true more)))
+    lex_bare c entries name attributes named (good.bare (good.line_end more)) =
+        lex_entries limit c entries attributes (lex_header c name 10 _ _ named.is_name refl refl (line_end true false (lex_start true more)))
 
     -- a recipe with a body, the end of its last line, and what follows that
-    lex_block : (c : Bool) (name : List ℕ) (l : Row) (ls : List Row) {items : Shape} → GoodRecipe limit name (l ∷ ls) → AfterBody limit (l ∷ ls) items
-        → LexesTo (at_item c) (text_on ind (recipe_item name (l ∷ ls) ∷ items)) (marks ind (recipe_item name (l ∷ ls) ∷ items))
-    lex_block c name l ls h (good.body_end follows last more) =
-        lex_recipe limit c name ind (l ∷ ls) _ _ h.named.is_name level h.good (text_follows limit ind more follows) (λ p. ap (text_on ind) (last p)) (lex_start false more)
+    lex_block : (c : Bool) (entries : List ShapeEntry) (name : List ℕ) (l : Row) (ls : List Row) {items : Shape} → GoodEntries limit entries
+        → GoodRecipe limit name (l ∷ ls) → AfterBody limit (l ∷ ls) items
+        → LexesTo (at_item c) (text_on ind (recipe_item entries name (l ∷ ls) ∷ items)) (marks ind (recipe_item entries name (l ∷ ls) ∷ items))
+    lex_block c entries name l ls attributes h (good.body_end follows last more) =
+        lex_entries limit c entries attributes
+        (lex_recipe limit c name ind (l ∷ ls) _ _ h.named.is_name level h.good (text_follows limit ind more follows) (λ p. ap (text_on ind) (last p))
+        (lex_start false more))
 
     -- a comment, and what follows it
-    lex_end : (c : Bool) (t : List ℕ) {items : Shape} → GoodComment t → AtEnd limit items → LexesTo (at_item c) (text_on ind (tree.Comment t ∷ items)) (marks ind (tree.Comment t ∷ items))
+    lex_end : (c : Bool) (t : List ℕ) {items : Shape} → GoodComment t → AtEnd limit items
+        → LexesTo (at_item c) (text_on ind (tree.Comment t ∷ items)) (marks ind (tree.Comment t ∷ items))
     lex_end c t h (good.line_end more) = item_comment c t h.comment (line_end c false (lex_start c more))

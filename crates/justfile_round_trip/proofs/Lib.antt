@@ -11,10 +11,15 @@ pub mod BodyTokens
 pub mod BodyUtf8
 pub mod Canon
 pub mod CanonAttributes
+pub mod CanonItems
 pub mod Comments
+pub mod CountedAttributes
+pub mod CountedItems
+pub mod CountedKeys
 pub mod DerivesBack
 pub mod Determined
 pub mod DeterminedAttributes
+pub mod DeterminedItems
 pub mod Ends
 pub mod Facts
 pub mod Fixed
@@ -22,6 +27,7 @@ pub mod FormatParts
 pub mod FormatScans
 pub mod Good
 pub mod GoodAttributes
+pub mod GoodItems
 pub mod Inline
 pub mod LexesAttributes
 pub mod LexesBack
@@ -29,6 +35,7 @@ pub mod LexesValues
 pub mod Lines
 pub mod LiteralModes
 pub mod Literals
+pub mod Means
 pub mod MeantAttributes
 pub mod PlainLiterals
 pub mod Quoted

@@ -1,5 +1,5 @@
 -- What is printed of the tree of any text reads back.
-use Rattle.std.proofs.Common.{◌≡◌, ℕ, ◌+◌, Bool, true, false, cond, List, [], ◌∷◌, length, map, Some, refl, sym, ap, ◌∙◌, subst}
+use Rattle.std.proofs.Common.{◌≡◌, ℕ, ◌+◌, Bool, true, false, cond, List, [], ◌∷◌, length, map, refl, sym, ap, ◌∙◌, subst}
 use Rattle.std.specs.Prelude.{if◌then◌else◌}
 use Rattle.std.specs.Str.{IsUtf8}
 use Rattle.std.proofs.lemmas.List.{length-map}
@@ -7,7 +7,7 @@ use denote.Enum.Bare.{sameb}
 use Rattle.justfile_base.specs.Indentation.{IsIndentation}
 use Rattle.justfile_model.specs.Tok.{Tok}
 use Rattle.justfile_model.specs.Lexed.{Lexed}
-use Rattle.justfile_model.specs.SignificantTokens.{is_whitespace, significant_from, significant_tokens}
+use Rattle.justfile_model.specs.SignificantTokens.{SignificantToken, is_whitespace, significant_from, significant_tokens}
 use Rattle.justfile_model.specs.Tree as tree
 use Rattle.justfile_model.specs.Tree.{Content, Construct, Tree, Shape, over_content, over_parameter, lexeme, nothing, shape_of}
 use Rattle.justfile_model.specs.Grammar as g
@@ -20,24 +20,31 @@ use Rattle.justfile_model.specs.Grammar.{File}
 use Rattle.justfile_model.specs.NormalShape.{normal}
 use Rattle.justfile_model.specs.Printing.{text, printable}
 use Rattle.justfile_model.specs.Literals.{over_literal, AreCookedTexts}
-use Rattle.justfile_model.specs.Files.{FileDerives, ShapeDerives, literals, content_bindings, bindings, content_recipes, recipes, keeps_lexemes, ordered}
+use Rattle.justfile_model.specs.Files.{FileDerives, ShapeDerives, literals, content_bindings, bindings, content_recipes, recipes, keeps_lexemes}
+use Rattle.justfile_model.specs.Sight.{sees_lexemes}
 use Rattle.justfile_model.proofs.Agreement.{one_tree}
 use Rattle.justfile_model.proofs.CarryExpressions.{Same, Pairs, nil, cons}
 use Rattle.justfile_model.proofs.Leaves.{lexemes, elsewhere, file_forgets, file_lifts}
 use Rattle.justfile_model.proofs.LexedLaws.{one_list}
-use Rattle.justfile_model.proofs.Ordered.{unattributed, file_ordered, ordered_literals}
 use Rattle.justfile_model.proofs.Normal.{normal_twice, normal_literals, normal_bindings, normal_recipes}
 use Rattle.justfile_round_trip.specs.RoundTrip.{TextDerives, times, ReadsBack, printed}
 use Rattle.justfile_round_trip.proofs.Reading.{Mark, placed, tok_at, toks, lexed}
-use Rattle.justfile_round_trip.proofs.Canon.{Shown, text_on, marks, text_is}
-use Rattle.justfile_round_trip.proofs.Good.{unplaced, significant, AtStart}
+use Rattle.justfile_model.proofs.RewrittenItems.{rewritten, AllPrintAgain, items_again, normal_again, rewritten_means, rewritten_unbroken, rewritten_texts}
+use Rattle.justfile_model.proofs.RewrittenLiterals.{texts_are_there, texts_of, texts_cook}
+use Rattle.justfile_model.proofs.Spelled.{lexed_spelled}
+use Rattle.justfile_round_trip.proofs.Canon.{Shown}
+use Rattle.justfile_round_trip.proofs.CanonItems.{text_on, marks, text_is}
+use Rattle.justfile_round_trip.proofs.CountedItems.{ordered_times}
+use Rattle.justfile_round_trip.proofs.Good.{unplaced, significant}
+use Rattle.justfile_round_trip.proofs.GoodItems.{AtStart}
+use Rattle.justfile_round_trip.proofs.Means.{ordered_meant}
 use Rattle.justfile_round_trip.proofs.LexesBack.{lex_start}
 use Rattle.justfile_round_trip.proofs.Sound.{lexed_sound}
 use Rattle.justfile_round_trip.proofs.BodyLines.{IsLevel, level_is}
 use Rattle.justfile_round_trip.proofs.BodyFacts.{lexed_bodies}
 use Rattle.justfile_round_trip.proofs.Written.{file_good}
-use Rattle.justfile_round_trip.proofs.DerivesBack.{written, derive_start, start_plain, start_utf8}
-use Rattle.justfile_round_trip.proofs.Determined.{shape_features, plainly_features, of_file, normal_features}
+use Rattle.justfile_round_trip.proofs.DerivesBack.{derive_start, start_utf8}
+use Rattle.justfile_round_trip.proofs.DeterminedItems.{shape_features, of_file, normal_features}
 
 -- ---- places
 
@@ -61,7 +68,7 @@ unfolding back_tokens
 good_lexed limit s indentation i h =
     subst (λ x. Lexed x (toks x 0 (marks indentation s))) (sym (text_is s indentation)) (lexed (text_on indentation s) (marks indentation s) (lex_start limit indentation i false h))
 
-good_file : (limit : ℕ) (s : Shape) (indentation : List ℕ) → AtStart limit s → (ns : Shown) × File keeps_lexemes (Under limit) (written s) ns (significant_tokens (back_tokens s indentation))
+good_file : (limit : ℕ) (s : Shape) (indentation : List ℕ) → AtStart limit s → (ns : Shown) × File keeps_lexemes (Under limit) (rewritten s) ns (significant_tokens (back_tokens s indentation))
 unfolding back_tokens
 good_file limit s indentation h =
     let found = derive_start limit indentation h false in
@@ -98,39 +105,45 @@ counts (Construct entries content ∷ t) = λ k. content_counts content k + coun
 
 module _ (conditions : Conditions) where
   shape_derives : (source : List ℕ) (t : Tree) (fs : List (Noted Tok)) (h : TextDerives conditions source t fs) → ShapeDerives conditions (significant_tokens h.tokens) (shape_of t) (map (over_noted nothing) fs)
-  shape_derives source t fs h = file_forgets conditions (significant_tokens h.tokens) t fs h.file
+  shape_derives source t fs h = file_forgets conditions (significant_tokens h.tokens) (lexed_spelled source h.tokens h.lexed) t fs h.file
 
   -- the normal shape of what a text derives
   source_good : (source : List ℕ) (t : Tree) (fs : List (Noted Tok)) → TextDerives conditions source t fs → printable (shape_of t) ≡ true → AtStart conditions.limit (normal (shape_of t))
   source_good source t fs h p =
       let f = shape_derives source t fs h in
-      let meant = (unattributed f.written (shape_of t) f.ordered_is).1 in
+      let sight = sees_lexemes conditions.expander in
+      let meant = ordered_meant sight f.written (shape_of t) f.ordered_is in
       subst (λ s. AtStart conditions.limit (normal s)) (sym meant)
-      (file_good conditions.limit f.derives (lexed_sound source h.tokens h.utf8 h.lexed) (lexed_bodies source h.tokens h.lexed) (ap printable (sym meant) ∙ p))
+      (file_good conditions.limit sight f.derives (lexed_sound source h.tokens h.utf8 h.lexed) (lexed_bodies source h.tokens h.lexed) (ap printable (sym meant) ∙ p))
 
-  -- the features of what a text derives are those of its shape
-  source_features : (source : List ℕ) (t : Tree) (fs : List (Noted Tok)) → TextDerives conditions source t fs → map (over_noted nothing) fs ≡ shape_features (shape_of t)
-  source_features source t fs h =
-      let f = shape_derives source t fs h in
-      of_file (Under conditions.limit) f.derives ∙ sym (plainly_features f.written) ∙ ap shape_features (sym (unattributed f.written (shape_of t) f.ordered_is).1)
+  -- and what is printed of it means it again, breaks no rule, and has literals with texts
+  shape_again : (ts : List SignificantToken) (s : Shape) (ns : Shown) → ShapeDerives conditions ts s ns → AllPrintAgain conditions.expander (normal s)
+  shape_again ts s ns f =
+      normal_again conditions.expander s
+      (items_again conditions.expander f.written s f.ordered_is f.unbroken (texts_are_there conditions.expander _ f.cooked f.cooks))
+
+  -- each feature is as often in what a text derives as in what is printed of its shape
+  source_times : (feature : ListFeature) (ts : List SignificantToken) (s : Shape) (ns : Shown) → ShapeDerives conditions ts s ns
+      → times feature ns ≡ times feature (shape_features s)
+  source_times feature ts s ns f =
+      ap (times feature) (of_file (Under conditions.limit) f.derives) ∙ ordered_times feature conditions.expander f.written s f.ordered_is f.unbroken
 
   -- a good shape derives from its printed tokens, under the same conditions as the source
-  good_derives : (s : Shape) (indentation : List ℕ) → AtStart conditions.limit s → (cooked : List (List ℕ)) → AreCookedTexts conditions.expander (literals s) cooked
+  good_derives : (s : Shape) (indentation : List ℕ) → AtStart conditions.limit s → AllPrintAgain conditions.expander s
       → (ns : Shown) × ShapeDerives conditions (significant_tokens (back_tokens s indentation)) s ns × (ns ≡ shape_features s)
-  good_derives s indentation good cooked cooks =
+  good_derives s indentation good again =
       let file = good_file conditions.limit s indentation good in
-      let plain = start_plain conditions.limit good in
-      let meant : ordered (written s) ≡ Some s = file_ordered keeps_lexemes (Under conditions.limit) file.1 ∙ ap Some plain in (
+      let texts = rewritten_texts conditions.expander s again in (
         file.0,
         record {
-          written = written s;
+          written = rewritten s;
           derives = file.1;
-          cooked = cooked;
-          cooks = subst (λ l. AreCookedTexts conditions.expander l cooked) (ordered_literals (written s) s meant) cooks;
-          unbroken = refl;
-          ordered_is = meant;
+          cooked = texts_of conditions.expander _ texts;
+          cooks = texts_cook conditions.expander _ texts;
+          unbroken = rewritten_unbroken conditions.expander s again;
+          ordered_is = rewritten_means conditions.expander s again;
         },
-        of_file (Under conditions.limit) file.1 ∙ sym (plainly_features (written s)) ∙ ap shape_features plain,
+        of_file (Under conditions.limit) file.1,
       )
 
   pub back : (source : List ℕ) (t : Tree) (fs : List (Noted Tok)) (indentation : List ℕ) → IsIndentation indentation → TextDerives conditions source t fs → printable (shape_of t) ≡ true → ReadsBack conditions (shape_of t) fs indentation (printed (shape_of t) indentation)
@@ -140,16 +153,18 @@ module _ (conditions : Conditions) where
       let level = level_is indentation i in
       let good = source_good source t fs h p in
       let f = shape_derives source t fs h in
-      let cooks : AreCookedTexts conditions.expander (literals s) f.cooked = subst (λ l. AreCookedTexts conditions.expander l f.cooked) (sym (normal_literals (shape_of t) ∙ ordered_literals f.written (shape_of t) f.ordered_is)) f.cooks in
-      let file = good_derives s indentation good f.cooked cooks in
-      let found = file_lifts conditions (significant_tokens (back_tokens s indentation)) s file.0 file.1 in
+      let file = good_derives s indentation good (shape_again (significant_tokens h.tokens) (shape_of t) _ f) in
+      let lexed = good_lexed limit s indentation level good in
+      let spelled = lexed_spelled (text s indentation) (back_tokens s indentation) lexed in
+      let found = file_lifts conditions (significant_tokens (back_tokens s indentation)) spelled s file.0 file.1 in
       let same : map (over_literal lexeme) (literals found.0) ≡ literals (shape_of t) = sym (lexemes found.0) ∙ ap literals found.3 ∙ normal_literals (shape_of t) in
-      let noted : map (over_noted nothing) found.1 ≡ map (over_noted nothing) fs = found.4 ∙ file.2 ∙ normal_features (shape_of t) ∙ sym (source_features source t fs h) in
+      let noted : (feature : ListFeature) → times feature (map (over_noted nothing) found.1) ≡ times feature (map (over_noted nothing) fs) =
+      λ feature. ap (times feature) (found.4 ∙ file.2 ∙ normal_features (shape_of t)) ∙ sym (source_times feature (significant_tokens h.tokens) (shape_of t) _ f) in
       record {
         tree = found.0;
         found = found.1;
-        derives = record { utf8 = subst IsUtf8 (sym (text_is s indentation)) (start_utf8 limit indentation level good); tokens = back_tokens s indentation; lexed = good_lexed limit s indentation level good; file = found.2 };
-        same_features = λ feature. sym (times_over nothing feature found.1) ∙ ap (times feature) noted ∙ times_over nothing feature fs;
+        derives = record { utf8 = subst IsUtf8 (sym (text_is s indentation)) (start_utf8 limit indentation level good); tokens = back_tokens s indentation; lexed = lexed; file = found.2 };
+        same_features = λ feature. sym (times_over nothing feature found.1) ∙ noted feature ∙ times_over nothing feature fs;
         same_shape = found.3;
         same_lexemes = same;
         same_texts = λ texts cooks. subst (λ l. AreCookedTexts conditions.expander l texts) (sym same) cooks;

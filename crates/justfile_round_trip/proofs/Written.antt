@@ -1,22 +1,31 @@
 -- The normal shape of what any text derives is good.
-use Rattle.std.proofs.Common.{◌≡◌, ℕ, Bool, true, false, List, [], ◌∷◌, Option, refl, sym, ap, ◌∙◌, subst}
+use Rattle.std.proofs.Common.{◌≡◌, ℕ, Bool, true, false, List, [], ◌∷◌, Option, Some, None, refl, sym, ap, ◌∙◌, subst}
 use Rattle.std.specs.Str.{trim_end}
 use Rattle.std.proofs.lemmas.Bool.{and_parts}
 use Rattle.justfile_base.specs.declared.token_kind.TokenKind.{TokenKind}
 use Rattle.justfile_base.specs.declared.token_kind.TokenKind.TheVariants as kinds
 use Rattle.justfile_model.specs.SignificantTokens.{SignificantToken}
 use Rattle.justfile_model.specs.Tree as tree
-use Rattle.justfile_model.specs.Tree.{Shape, WrittenShape, trimmed}
+use Rattle.justfile_model.specs.AttributeLines as attribute
+use Rattle.justfile_model.specs.AttributeLines.{AttributeLines}
+use Rattle.justfile_model.specs.Meaning.{entries_of}
+use Rattle.justfile_model.specs.Sight.{Sight}
+use Rattle.justfile_model.specs.Tree.{Shape, WrittenShape, lexeme, nothing, trimmed}
 use Rattle.justfile_model.specs.Grammar as g
 use Rattle.justfile_model.specs.Expressions.{IsKind, Under}
 use Rattle.justfile_model.specs.Grammar.{BeforeBody, NotEmpty, Items, ItemRest, LineEnd, File}
 use Rattle.justfile_model.specs.Files.{keeps_lexemes}
 use Rattle.justfile_model.specs.NormalShape.{after_newline, normal_rest, normal}
 use Rattle.justfile_model.specs.Printing.{printable_body, printable}
-use Rattle.justfile_model.proofs.Ordered.{plainly}
-use Rattle.justfile_round_trip.proofs.Canon.{Shown, Fragment, Row, recipe_item}
-use Rattle.justfile_round_trip.proofs.Good as good
-use Rattle.justfile_round_trip.proofs.Good.{GoodName, GoodComment, GoodRecipe, pale_after, follows_body, AtStart, AtEnd, After, AfterBody, past_newline}
+use Rattle.justfile_round_trip.proofs.Canon.{Shown, Fragment, Row}
+use Rattle.justfile_round_trip.proofs.CanonAttributes.{Written, ShapeEntry}
+use Rattle.justfile_round_trip.proofs.CanonItems.{recipe_item}
+use Rattle.justfile_round_trip.proofs.Good.{GoodName, GoodComment, GoodRecipe, pale_after}
+use Rattle.justfile_round_trip.proofs.GoodAttributes.{GoodEntries}
+use Rattle.justfile_round_trip.proofs.GoodItems as good
+use Rattle.justfile_round_trip.proofs.GoodItems.{follows_body, AtStart, AtEnd, After, AfterBody, past_newline}
+use Rattle.justfile_round_trip.proofs.Means.{entries_or_none, meant}
+use Rattle.justfile_round_trip.proofs.WrittenAttributes.{attributes_good}
 use Rattle.justfile_round_trip.proofs.Sound.{Around, around, outside, Known, is_comment, Sound}
 use Rattle.justfile_round_trip.proofs.Comments.{good_comment}
 use Rattle.justfile_round_trip.proofs.BodyTokens.{First}
@@ -176,63 +185,93 @@ module _ (limit : ℕ) where
       by (tree.Newline ∷ _ ∷ r) f l h = good.body_end f l h
       by (_ ∷ r) f l h = good.body_end f l h
 
-  start_block : (name : List ℕ) (body : List Row) (items : Shape) → NotEmpty body → GoodRecipe limit name body → AfterBody limit body items → AtStart limit (recipe_item name body ∷ items)
-  start_block name [] items some h more = absurd some
-  start_block name (l ∷ ls) items some h more = good.recipe h more
+  start_block : (entries : List ShapeEntry) (name : List ℕ) (body : List Row) (items : Shape) → NotEmpty body → GoodEntries limit entries
+      → GoodRecipe limit name body → AfterBody limit body items → AtStart limit (recipe_item entries name body ∷ items)
+  start_block entries name [] items some attributes h more = absurd some
+  start_block entries name (l ∷ ls) items some attributes h more = good.recipe attributes h more
 
-  -- no item is before the end of the file
+  -- no item is before the end of the file: a construct begins with a bracket or a name
+  no_construct : {P : Type 0} {ws : List Written} {ns : Shown} {ts rest : List SignificantToken} (name : SignificantToken) → IsKind kinds.Identifier name
+      → AttributeLines lexeme nothing (Under limit) ws ns ts (name ∷ rest) → NextIs (λ k. k ≡ kinds.Eof) ts → P
+  no_construct name kind (attribute.none next) e = let bad : kinds.Identifier ≡ kinds.Eof = sym kind ∙ e in cc
+  no_construct name kind (attribute.line kind2 inside end after) e = let bad : kinds.BracketL ≡ kinds.Eof = sym kind2 ∙ e in cc
+
   file_ended : {items : WrittenShape} {ns : Shown} {ts : List SignificantToken} → Items keeps_lexemes (Under limit) items ns ts → NextIs (λ k. k ≡ kinds.Eof) ts → items ≡ []
   file_ended (g.end kind) e = refl
   file_ended (g.blank kind more) e = let bad : kinds.Eol ≡ kinds.Eof = sym kind ∙ e in cc
   file_ended (g.comment kind more) e = let bad : kinds.Comment ≡ kinds.Eof = sym kind ∙ e in cc
-  file_ended (g.on_line (g.assignment kind kind2 x) more) e = let bad : kinds.Identifier ≡ kinds.Eof = sym kind ∙ e in cc
-  file_ended (g.on_line (g.header kind kind2) more) e = let bad : kinds.Identifier ≡ kinds.Eof = sym kind ∙ e in cc
-  file_ended (g.block (g.recipe kind kind2 before read some) more) e = let bad : kinds.Identifier ≡ kinds.Eof = sym kind ∙ e in cc
+  file_ended (g.on_line a (g.assignment {name = name} kind kind2 x) more) e = no_construct name kind a e
+  file_ended (g.on_line a (g.header {name = name} kind kind2) more) e = no_construct name kind a e
+  file_ended (g.block a (g.recipe {name = name} kind kind2 before read some) more) e = no_construct name kind a e
 
   -- ---- items
 
-  -- what is printed of written items
-  abbrev rest_of : WrittenShape → Shape
-  rest_of items = normal_rest (plainly items)
+  module _ (sight : Sight (List ℕ) (Unit {0})) where
+    -- what is printed of written items
+    abbrev rest_of : WrittenShape → Shape
+    rest_of items = normal_rest (meant sight items)
 
-  -- a comment trails an item that is none
-  trailing_good : (t : SignificantToken) (items : WrittenShape) (c : Bool) → IsKind kinds.Comment t → Known outside c t.tok → AtEnd limit (rest_of items) → After limit c (rest_of (tree.Comment (trim_end t.tok.lexeme) ∷ items))
-  trailing_good t items true kind h e = absurd (h.apart refl refl kind)
-  trailing_good t items false kind h e = good.trailing (lexed_comment t kind h) e
+    -- attributes before a construct, and what is known after them
+    record AttributesAhead (ws : List Written) (rest : List SignificantToken) : Type 0 where
+      entries : GoodEntries limit (entries_or_none (entries_of sight ws))
+      following : Ahead false rest
 
-  mutual
-    items_good : {items : WrittenShape} {ns : Shown} {ts : List SignificantToken} → Items keeps_lexemes (Under limit) items ns ts → (c : Bool) → Ahead c ts → printable (plainly items) ≡ true → AtStart limit (rest_of items)
-    items_good (g.end kind) c h p = good.newline good.end
-    items_good (g.blank {items = items} {token = t} {rest = rest} kind more) c h p = start_after_newline (rest_of items) (items_good more false (past_token t rest kinds.Eol kind refl refl h) p)
-    items_good (g.comment {token = t} {rest = rest} kind more) c h p = good.comment (lexed_comment t kind h.facts.0) (after_good more true (past_token t rest kinds.Comment kind refl refl h) p)
-    items_good (g.on_line (g.assignment {name = name} {operator = operator} {tokens = tokens} kind kind2 x) more) c h p =
-        let on = past_token operator tokens kinds.ColonEquals kind2 refl refl (past_token name (operator ∷ tokens) kinds.Identifier kind refl refl h) in
-        let v = value_at (Under limit) x outside false on.facts in
-        good.assignment (lexed_name name kind h.facts.0) (good_expression limit x v) (after_good more false (record { facts = v.following; bodies = walk_outside limit x on.bodies }) p)
-    items_good (g.on_line (g.header {name = name} {colon = colon} {rest = rest} kind kind2) more) c h p =
-        good.header (lexed_name name kind h.facts.0) (after_good more false (past_token colon rest kinds.Colon kind2 refl refl (past_token name (colon ∷ rest) kinds.Identifier kind refl refl h)) p)
-    items_good (g.block {items = items} {rest = rest} (g.recipe {lines = lines} {name = name} {colon = colon} kind kind2 before read some) more) c h p =
-        let parts = and_parts (printable_body (trimmed lines)) (printable (plainly items)) p in
-        let b = block_good name colon kind kind2 before read some c h parts.0 in
-        start_block name.tok.lexeme (trimmed lines) (after_newline (rest_of items)) b.some b.good
-        (optional_body_newline (trimmed lines) (plainly items) (λ pale. ap plainly (file_ended more (b.last pale))) (items_good more false b.following parts.1))
+    attributes_ahead : {ws : List Written} {ns : Shown} {ts rest : List SignificantToken} → AttributeLines lexeme nothing (Under limit) ws ns ts rest
+        → (c : Bool) → Ahead c ts → AttributesAhead ws rest
+    attributes_ahead {ws} a c h =
+        let x = attributes_good limit sight a c h.facts h.bodies in
+        record { entries = by x.entries (entries_of sight ws) refl; following = record { facts = x.facts; bodies = x.bodies } }
+      where
+        by : ((es : List ShapeEntry) → entries_of sight ws ≡ Some es → GoodEntries limit es) → (o : Option (List ShapeEntry)) → entries_of sight ws ≡ o
+            → GoodEntries limit (entries_or_none o)
+        by known None e = tt
+        by known (Some es) e = known es e
 
-    after_good : {items : WrittenShape} {ns : Shown} {ts : List SignificantToken} → ItemRest keeps_lexemes (Under limit) items ns ts → (c : Bool) → Ahead c ts → printable (plainly items) ≡ true → After limit c (rest_of items)
-    after_good (g.trailing {items = items} {token = t} {rest = rest} kind e) c h p = trailing_good t items c kind h.facts.0 (line_end_good e true (past_token t rest kinds.Comment kind refl refl h) p)
-    after_good (g.bare {items = items} e) c h p = after_end c (rest_of items) (line_end_good e c h p)
+    -- a comment trails an item that is none
+    trailing_good : (t : SignificantToken) (items : WrittenShape) (c : Bool) → IsKind kinds.Comment t → Known outside c t.tok → AtEnd limit (rest_of items) → After limit c (rest_of (tree.Comment (trim_end t.tok.lexeme) ∷ items))
+    trailing_good t items true kind h e = absurd (h.apart refl refl kind)
+    trailing_good t items false kind h e = good.trailing (lexed_comment t kind h) e
 
-    line_end_good : {items : WrittenShape} {ns : Shown} {ts : List SignificantToken} → LineEnd keeps_lexemes (Under limit) items ns ts → (c : Bool) → Ahead c ts → printable (plainly items) ≡ true → AtEnd limit (rest_of items)
-    line_end_good (g.line_end {items = items} {token = t} {rest = rest} kind more) c h p = end_after_newline (rest_of items) (items_good more false (past_token t rest kinds.Eol kind refl refl h) p)
-    line_end_good (g.file_end kind) c h p = good.line_end good.end
+    mutual
+      items_good : {items : WrittenShape} {ns : Shown} {ts : List SignificantToken} → Items keeps_lexemes (Under limit) items ns ts → (c : Bool) → Ahead c ts → printable (meant sight items) ≡ true → AtStart limit (rest_of items)
+      items_good (g.end kind) c h p = good.newline good.end
+      items_good (g.blank {items = items} {token = t} {rest = rest} kind more) c h p = start_after_newline (rest_of items) (items_good more false (past_token t rest kinds.Eol kind refl refl h) p)
+      items_good (g.comment {token = t} {rest = rest} kind more) c h p = good.comment (lexed_comment t kind h.facts.0) (after_good more true (past_token t rest kinds.Comment kind refl refl h) p)
+      items_good (g.on_line a (g.assignment {name = name} {operator = operator} {tokens = tokens} kind kind2 x) more) c h p =
+          let before = attributes_ahead a c h in
+          let named = before.following in
+          let on = past_token operator tokens kinds.ColonEquals kind2 refl refl (past_token name (operator ∷ tokens) kinds.Identifier kind refl refl named) in
+          let v = value_at (Under limit) x outside false on.facts in
+          good.assignment before.entries (lexed_name name kind named.facts.0) (good_expression limit x v)
+          (after_good more false (record { facts = v.following; bodies = walk_outside limit x on.bodies }) p)
+      items_good (g.on_line a (g.header {name = name} {colon = colon} {rest = rest} kind kind2) more) c h p =
+          let before = attributes_ahead a c h in
+          let named = before.following in
+          good.header before.entries (lexed_name name kind named.facts.0)
+          (after_good more false (past_token colon rest kinds.Colon kind2 refl refl (past_token name (colon ∷ rest) kinds.Identifier kind refl refl named)) p)
+      items_good (g.block {ws = ws} {items = items} {rest = rest} a (g.recipe {lines = lines} {name = name} {colon = colon} kind kind2 before read some) more) c h p =
+          let parts = and_parts (printable_body (trimmed lines)) (printable (meant sight items)) p in
+          let attributes = attributes_ahead a c h in
+          let b = block_good name colon kind kind2 before read some false attributes.following parts.0 in
+          start_block (entries_or_none (entries_of sight ws)) name.tok.lexeme (trimmed lines) (after_newline (rest_of items)) b.some attributes.entries b.good
+          (optional_body_newline (trimmed lines) (meant sight items) (λ pale. ap (meant sight) (file_ended more (b.last pale))) (items_good more false b.following parts.1))
 
-  normal_good : (shape : Shape) → AtStart limit (normal_rest shape) → AtStart limit (normal shape)
-  normal_good [] h = good.end
-  normal_good (i ∷ shape) h = h
+      after_good : {items : WrittenShape} {ns : Shown} {ts : List SignificantToken} → ItemRest keeps_lexemes (Under limit) items ns ts → (c : Bool) → Ahead c ts → printable (meant sight items) ≡ true → After limit c (rest_of items)
+      after_good (g.trailing {items = items} {token = t} {rest = rest} kind e) c h p = trailing_good t items c kind h.facts.0 (line_end_good e true (past_token t rest kinds.Comment kind refl refl h) p)
+      after_good (g.bare {items = items} e) c h p = after_end c (rest_of items) (line_end_good e c h p)
 
-  -- the normal shape of a file
-  pub file_good : {items : WrittenShape} {ns : Shown} {ts : List SignificantToken} → File keeps_lexemes (Under limit) items ns ts → Sound outside false ts → BodySound no_body ts → printable (plainly items) ≡ true → AtStart limit (normal (plainly items))
-  file_good {items} {ts = ts} file s b p = normal_good (plainly items) (by file (record { facts = s; bodies = record { outline = no_body; is = outside_first; sound = b } }) p)
-    where
-      by : {items : WrittenShape} {ns : Shown} {ts : List SignificantToken} → File keeps_lexemes (Under limit) items ns ts → Ahead false ts → printable (plainly items) ≡ true → AtStart limit (rest_of items)
-      by (g.marked {token = t} {rest = rest} kind more) h p = items_good more false (past_token t rest kinds.ByteOrderMark kind refl refl h) p
-      by (g.unmarked more) h p = items_good more false h p
+      line_end_good : {items : WrittenShape} {ns : Shown} {ts : List SignificantToken} → LineEnd keeps_lexemes (Under limit) items ns ts → (c : Bool) → Ahead c ts → printable (meant sight items) ≡ true → AtEnd limit (rest_of items)
+      line_end_good (g.line_end {items = items} {token = t} {rest = rest} kind more) c h p = end_after_newline (rest_of items) (items_good more false (past_token t rest kinds.Eol kind refl refl h) p)
+      line_end_good (g.file_end kind) c h p = good.line_end good.end
+
+    normal_good : (shape : Shape) → AtStart limit (normal_rest shape) → AtStart limit (normal shape)
+    normal_good [] h = good.end
+    normal_good (i ∷ shape) h = h
+
+    -- the normal shape of a file
+    pub file_good : {items : WrittenShape} {ns : Shown} {ts : List SignificantToken} → File keeps_lexemes (Under limit) items ns ts → Sound outside false ts → BodySound no_body ts → printable (meant sight items) ≡ true → AtStart limit (normal (meant sight items))
+    file_good {items} {ts = ts} file s b p = normal_good (meant sight items) (by file (record { facts = s; bodies = record { outline = no_body; is = outside_first; sound = b } }) p)
+      where
+        by : {items : WrittenShape} {ns : Shown} {ts : List SignificantToken} → File keeps_lexemes (Under limit) items ns ts → Ahead false ts → printable (meant sight items) ≡ true → AtStart limit (rest_of items)
+        by (g.marked {token = t} {rest = rest} kind more) h p = items_good more false (past_token t rest kinds.ByteOrderMark kind refl refl h) p
+        by (g.unmarked more) h p = items_good more false h p

@@ -1,9 +1,11 @@
-//! Kinds of attributes, signals and switches.
+//! Attributes of items, and kinds of attributes, signals and switches.
 
 use justfile_syntax::attribute::AttributeKind;
+use justfile_syntax::attribute_set::AttributeSet;
+use justfile_syntax::item::Item;
 use justfile_syntax::signal::Signal;
 use justfile_syntax::switch::Switch;
-use row_notation::{Answer, field_at};
+use row_notation::{Answer, Text, field_at};
 use std::alloc::{AllocError, Global};
 
 /// The kind of attributes that a text names, or `none`, with what is said of it. A kind that is
@@ -45,4 +47,44 @@ fn switch_text(alloc: Global, form: &str, name: &str) -> Result<String, AllocErr
 pub(crate) fn switch(answer: &mut Answer, fields: &[String]) {
     let (form, name) = (field_at(fields, 0), field_at(fields, 1));
     answer.push_made(switch_text(answer.alloc(), form, name))
+}
+
+/// Attributes, each in brackets and with a blank after it.
+pub(crate) fn put_attributes(shown: &mut Text, attributes: &AttributeSet<'_>) {
+    for attribute in attributes.iter() {
+        shown.put("[");
+        shown.put_made(attribute.to_string(shown.alloc()));
+        shown.put("] ");
+    }
+}
+
+/// The attributes of an item, if it is one that may have some.
+fn attributes_of<'ast, 'src>(item: &'ast Item<'src>) -> Option<&'ast AttributeSet<'src>> {
+    match item {
+        Item::Assignment(assignment) => Some(&assignment.attributes),
+        Item::Comment(_) | Item::Newline => None,
+        Item::Recipe(recipe) => Some(&recipe.attributes),
+    }
+}
+
+/// The attributes of the first item that has some, each with the offset of its name.
+pub(crate) fn attributes(items: &[Item<'_>], answer: &mut Answer) {
+    for item in items {
+        match attributes_of(item) {
+            Some(set) if set.len() > 0 => return push_attributes(answer, set),
+            _ => {}
+        }
+    }
+}
+
+fn push_attributes(answer: &mut Answer, attributes: &AttributeSet<'_>) {
+    for attribute in attributes.iter() {
+        let mut shown = Text::new(answer.alloc());
+        shown.put_made(attribute.to_string(answer.alloc()));
+        if let Some(name) = attributes.name(attribute) {
+            shown.put("@");
+            shown.put_number(name.token.offset);
+        }
+        answer.push_text(shown);
+    }
 }

@@ -15,16 +15,16 @@ use row_notation::{Answer, Text};
 const INDENTATIONS: [&str; 3] = ["    ", "  ", "\t"];
 
 /// Says of a file that can be printed where what is printed does not settle.
-fn settles_everywhere(answer: &mut Answer, ast: &Ast<'_>) {
+fn settles_everywhere(ast: &mut Ast<'_>, answer: &mut Answer) {
     if ast.printable() {
         for blanks in INDENTATIONS {
-            settles_at(answer, ast, indentation_of(blanks));
+            settles_at(ast, answer, indentation_of(blanks));
         }
     }
 }
 
 /// Says where what is printed of a file at an indentation does not settle.
-fn settles_at(answer: &mut Answer, ast: &Ast<'_>, indentation: Indentation) {
+fn settles_at(ast: &Ast<'_>, answer: &mut Answer, indentation: Indentation) {
     match ast.print(answer.alloc(), indentation) {
         Ok(printed) => settles(answer, indentation, printed.as_str()),
         Err(_) => answer.fail(),
@@ -42,8 +42,8 @@ fn is_of_text(fault: &Fault<'_>) -> bool {
 /// Says what is wrong with the answer for a text, and answers whether it is a file.
 fn is_file(answer: &mut Answer, text: &str) -> bool {
     match parse(answer.alloc(), &Expansion::Unchanged, text) {
-        Ok(ast) => {
-            settles_everywhere(answer, &ast);
+        Ok(mut ast) => {
+            settles_everywhere(&mut ast, answer);
             true
         }
         Err(fault) => {

@@ -1,9 +1,12 @@
 //! Rows of texts that are parsed.
 
+use crate::attributes::attributes;
 use crate::beginnings::beginnings;
 use crate::expansion::Expansion;
 use crate::fields::indentation_of;
-use crate::items::{FILE_DEPTH, IMPORT_OFFSETS, WORKING_DIRECTORY, features, file};
+use crate::items::{
+    FILE_DEPTH, IMPORT_OFFSETS, WORKING_DIRECTORY, enabled, features, file, unstable,
+};
 use crate::printing::{copies, prints, prints_item};
 use crate::recipes::push_of_recipe;
 use crate::refusal::push_fault;
@@ -54,26 +57,29 @@ pub(crate) fn parse<'src>(
 }
 
 /// What a row's word asks of a file.
-fn push_file(answer: &mut Answer, word: Word, fields: &[String], ast: &Ast<'_>) {
+fn push_file(ast: &mut Ast<'_>, answer: &mut Answer, word: Word, fields: &[String]) {
     match word {
         Word::Refused => answer.push("taken"),
+        Word::Attributes => attributes(&ast.items, answer),
+        Word::Enabled => enabled(&ast.items, answer),
         Word::Features => features(answer, &ast.list_features),
-        Word::Items | Word::Numbers => file(answer, ast),
+        Word::Items | Word::Numbers => file(ast, answer),
         Word::Line | Word::Recipe | Word::Sigils => {
-            push_of_recipe(answer, word, fields, &ast.items)
+            push_of_recipe(&ast.items, answer, word, fields)
         }
-        Word::Expands | Word::Literal | Word::Value => push_of_value(answer, word, &ast.items),
-        _ => push_printed(answer, word, indentation_for(word, fields), ast),
+        Word::Expands | Word::Literal | Word::Value => push_of_value(&ast.items, answer, word),
+        Word::Unstable => unstable(answer, &ast.unstable_features),
+        _ => push_printed(ast, answer, word, indentation_for(word, fields)),
     }
 }
 
 /// What a row's word asks of a file that is printed.
-fn push_printed(answer: &mut Answer, word: Word, indentation: Indentation, ast: &Ast<'_>) {
+fn push_printed(ast: &Ast<'_>, answer: &mut Answer, word: Word, indentation: Indentation) {
     match word {
-        Word::Copies => copies(answer, ast, indentation),
-        Word::ExpandsTo => push_value_and_text(answer, ast),
-        Word::PrintsItem => prints_item(answer, &ast.items, indentation),
-        _ => prints(answer, ast, indentation),
+        Word::Copies => copies(ast, answer, indentation),
+        Word::ExpandsTo => push_value_and_text(ast, answer),
+        Word::PrintsItem => prints_item(&ast.items, answer, indentation),
+        _ => prints(ast, answer, indentation),
     }
 }
 
@@ -86,28 +92,28 @@ fn indentation_for(word: Word, fields: &[String]) -> Indentation {
 }
 
 /// What the first value of a file is made of, and what the file is printed as.
-fn push_value_and_text(answer: &mut Answer, ast: &Ast<'_>) {
-    push_of_value(answer, Word::Value, &ast.items);
-    copies(answer, ast, Indentation::default());
+fn push_value_and_text(ast: &Ast<'_>, answer: &mut Answer) {
+    push_of_value(&ast.items, answer, Word::Value);
+    copies(ast, answer, Indentation::default());
 }
 
 /// What a row's word asks of a file, and what it asks of a copy if that is something else. A file is
 /// printed and parsed again without a copy.
-fn push_file_and_copy(answer: &mut Answer, word: Word, fields: &[String], ast: &Ast<'_>) {
+fn push_file_and_copy(ast: &mut Ast<'_>, answer: &mut Answer, word: Word, fields: &[String]) {
     let mut found = Answer::new(answer.alloc());
-    push_file(&mut found, word, fields, ast);
+    push_file(ast, &mut found, word, fields);
     answer.push_all(&found);
     if !matches!(word, Word::Canonical | Word::Prints | Word::PrintsAt) {
         let mut copied = Answer::new(answer.alloc());
-        push_copy(&mut copied, word, fields, ast);
+        push_copy(ast, &mut copied, word, fields);
         answer.push_unless("copied", &copied, &found);
     }
 }
 
 /// What a row's word asks of a copy of a file.
-fn push_copy(answer: &mut Answer, word: Word, fields: &[String], ast: &Ast<'_>) {
+fn push_copy(ast: &Ast<'_>, answer: &mut Answer, word: Word, fields: &[String]) {
     match ast.clone(answer.alloc()) {
-        Ok(copy) => push_file(answer, word, fields, &copy),
+        Ok(mut copy) => push_file(&mut copy, answer, word, fields),
         Err(_) => answer.fail(),
     }
 }
@@ -120,7 +126,7 @@ fn push_parsed(answer: &mut Answer, word: Word, fields: &[String]) {
     let expansion = expansion_of(word, fields);
     let mut found = Answer::new(answer.alloc());
     match parse_from(answer.alloc(), &mut numerator, &expansion, text) {
-        Ok(ast) => push_file_and_copy(&mut found, word, fields, &ast),
+        Ok(mut ast) => push_file_and_copy(&mut ast, &mut found, word, fields),
         Err(fault) => push_fault(&mut found, text, &fault),
     }
     if word == Word::Numbers {

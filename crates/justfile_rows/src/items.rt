@@ -1,5 +1,6 @@
 //! What is seen of the items of a file.
 
+use crate::attributes::put_attributes;
 use justfile_syntax::assignment::Assignment;
 use justfile_syntax::ast::Ast;
 use justfile_syntax::expression::Expression;
@@ -10,7 +11,9 @@ use justfile_syntax::list_feature::ListFeature;
 use justfile_syntax::name::Name;
 use justfile_syntax::recipe::UnresolvedRecipe;
 use justfile_syntax::token::Token;
+use justfile_syntax::unstable_feature::UnstableFeature;
 use row_notation::{Answer, Text};
+use std::collections::BTreeSet;
 
 /// What is handed in for each file.
 pub(crate) const FILE_DEPTH: u32 = 2;
@@ -57,8 +60,9 @@ fn put_line(shown: &mut Text, line: &Line<'_>) {
     }
 }
 
-/// A recipe: its name, its number, and each line of its body.
+/// A recipe: its attributes, its name, its number, and each line of its body.
 fn put_recipe(shown: &mut Text, recipe: &UnresolvedRecipe<'_>) {
+    put_attributes(shown, &recipe.attributes);
     shown.put("recipe ");
     put_name(shown, recipe.name);
     shown.put(" ");
@@ -86,8 +90,10 @@ fn put_value(shown: &mut Text, value: &Expression<'_>) {
     }
 }
 
-/// An assignment: its name, its number, its depth, whether it is private, and its value.
+/// An assignment: its attributes, its name, its number, its depth, whether it is private, and its
+/// value.
 fn put_assignment(shown: &mut Text, assignment: &Assignment<'_>) {
+    put_attributes(shown, &assignment.attributes);
     put_name(shown, assignment.name);
     shown.put(" ");
     shown.put_number(assignment.number.0 as usize);
@@ -114,7 +120,7 @@ fn push_item(answer: &mut Answer, item: &Item<'_>) {
 }
 
 /// What is seen of the items of a file.
-fn push_items(answer: &mut Answer, items: &[Item<'_>]) {
+fn push_items(items: &[Item<'_>], answer: &mut Answer) {
     for item in items {
         push_item(answer, item);
     }
@@ -122,8 +128,8 @@ fn push_items(answer: &mut Answer, items: &[Item<'_>]) {
 
 /// What is seen of a file: a field for each item, and for each thing besides that is not as it was
 /// handed in.
-pub(crate) fn file(answer: &mut Answer, ast: &Ast<'_>) {
-    push_items(answer, &ast.items);
+pub(crate) fn file(ast: &Ast<'_>, answer: &mut Answer) {
+    push_items(&ast.items, answer);
     answer.push_if(
         "directory",
         ast.working_directory.as_str() != WORKING_DIRECTORY,
@@ -147,4 +153,30 @@ fn push_feature(answer: &mut Answer, feature: ListFeature, token: &Token<'_>) {
     shown.put_number(token.offset);
     put_marked(&mut shown, "", token.lexeme());
     answer.push_text(shown);
+}
+
+/// The unstable features that a file uses.
+pub(crate) fn unstable(answer: &mut Answer, features: &BTreeSet<UnstableFeature>) {
+    for feature in features {
+        answer.push_made(format!(in answer.alloc(); "{feature:?}"));
+    }
+}
+
+/// The names of the assignments and recipes that are there on this system.
+pub(crate) fn enabled(items: &[Item<'_>], answer: &mut Answer) {
+    for item in items {
+        push_enabled(answer, item);
+    }
+}
+
+/// The name of an item that is there, if it has one. An item without a name that isn't there is
+/// `missing`.
+fn push_enabled(answer: &mut Answer, item: &Item<'_>) {
+    match item {
+        Item::Assignment(assignment) => {
+            answer.push_if(assignment.name.lexeme(), item.is_enabled());
+        }
+        Item::Comment(_) | Item::Newline => answer.push_if("missing", !item.is_enabled()),
+        Item::Recipe(recipe) => answer.push_if(recipe.name.lexeme(), item.is_enabled()),
+    }
 }

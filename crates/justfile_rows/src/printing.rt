@@ -1,4 +1,5 @@
-//! What files are printed as.
+//! What files are printed as. A file is the first parameter wherever it is one: where its lifetimes
+//! come after others, the check passes its limit.
 
 use crate::expansion::Expansion;
 use crate::files::parse;
@@ -9,13 +10,13 @@ use justfile_syntax::item::Item;
 use row_notation::Answer;
 
 /// What a file is printed as at an indentation.
-pub(crate) fn copies(answer: &mut Answer, ast: &Ast<'_>, indentation: Indentation) {
+pub(crate) fn copies(ast: &Ast<'_>, answer: &mut Answer, indentation: Indentation) {
     answer.push_made(ast.print(answer.alloc(), indentation));
 }
 
 /// What a file is printed as at an indentation. After it stands `unprintable` if the file says that
 /// this would not parse back; else what the printed text is if it does not settle.
-pub(crate) fn prints(answer: &mut Answer, ast: &Ast<'_>, indentation: Indentation) {
+pub(crate) fn prints(ast: &Ast<'_>, answer: &mut Answer, indentation: Indentation) {
     let Ok(printed) = ast.print(answer.alloc(), indentation) else {
         return answer.fail();
     };
@@ -32,7 +33,7 @@ pub(crate) fn prints(answer: &mut Answer, ast: &Ast<'_>, indentation: Indentatio
 pub(crate) fn settles(answer: &mut Answer, indentation: Indentation, printed: &str) {
     let mut again = Answer::new(answer.alloc());
     match parse(answer.alloc(), &Expansion::Unchanged, printed) {
-        Ok(ast) => prints_once(&mut again, &ast, indentation),
+        Ok(mut ast) => prints_once(&mut ast, &mut again, indentation),
         Err(fault) => push_fault(&mut again, printed, &fault),
     }
     let mut expected = Answer::new(answer.alloc());
@@ -41,21 +42,21 @@ pub(crate) fn settles(answer: &mut Answer, indentation: Indentation, printed: &s
 }
 
 /// What a file is printed as at an indentation, and whether it says that this would not parse back.
-fn prints_once(answer: &mut Answer, ast: &Ast<'_>, indentation: Indentation) {
-    copies(answer, ast, indentation);
+fn prints_once(ast: &mut Ast<'_>, answer: &mut Answer, indentation: Indentation) {
+    copies(ast, answer, indentation);
     answer.push_if("unprintable", !ast.printable());
 }
 
 /// Whether the first of a file's items has a body, and what it is printed as alone at an indentation.
 /// After that stands what an assignment is written as.
-pub(crate) fn prints_item(answer: &mut Answer, items: &[Item<'_>], indentation: Indentation) {
+pub(crate) fn prints_item(items: &[Item<'_>], answer: &mut Answer, indentation: Indentation) {
     match items.first() {
-        Some(item) => push_item(answer, item, indentation),
+        Some(item) => push_item(item, answer, indentation),
         None => answer.push("none"),
     }
 }
 
-fn push_item(answer: &mut Answer, item: &Item<'_>, indentation: Indentation) {
+fn push_item(item: &Item<'_>, answer: &mut Answer, indentation: Indentation) {
     answer.push(if item.has_body() { "body" } else { "bodiless" });
     answer.push_made(item.print(answer.alloc(), indentation));
     if let Item::Assignment(assignment) = item {

@@ -19,10 +19,10 @@ fn first_recipe<'ast, 'src>(items: &'ast [Item<'src>]) -> Option<&'ast Unresolve
 
 /// What a row's word asks of the first recipe of a file's items.
 pub(crate) fn push_of_recipe(
+    items: &[Item<'_>],
     answer: &mut Answer,
     word: Word,
     fields: &[String],
-    items: &[Item<'_>],
 ) {
     match first_recipe(items) {
         Some(recipe) if word == Word::Recipe => push_recipe(answer, recipe),

@@ -19,13 +19,66 @@ pub(crate) fn place_after(text: &str, before: &str) -> (usize, usize) {
     (line, before.len() - start)
 }
 
-/// The name of a kind with what it holds, but of an unexpected token not what was expected.
+/// A kind of error that holds the name of a key.
+fn kind_with_key(alloc: Global, kind: &CompileErrorKind<'_>) -> Result<String, AllocError> {
+    match kind {
+        CompileErrorKind::ArgAttributeRequiresOption { key } => {
+            let at = key.token.offset;
+            format!(in alloc; "ArgAttributeRequiresOption {{ key: {key}@{at} }}")
+        }
+        CompileErrorKind::ArgumentCountParse { key, value } => {
+            let at = key.token.offset;
+            format!(in alloc; "ArgumentCountParse {{ key: {key}@{at}, value: {value:?} }}")
+        }
+        CompileErrorKind::ArgumentCountValue { key, value } => {
+            let at = key.token.offset;
+            format!(in alloc; "ArgumentCountValue {{ key: {key}@{at}, value: {value:?} }}")
+        }
+        CompileErrorKind::AttributeKeyMissingValue { key } => {
+            let at = key.token.offset;
+            format!(in alloc; "AttributeKeyMissingValue {{ key: {key}@{at} }}")
+        }
+        CompileErrorKind::AttributeKeyTakesNoValue { key } => {
+            let at = key.token.offset;
+            format!(in alloc; "AttributeKeyTakesNoValue {{ key: {key}@{at} }}")
+        }
+        kind => format!(in alloc; "{kind:?}"),
+    }
+}
+
+/// The name of a kind with what it holds: a name or a literal with its offset, and of an unexpected
+/// token not what was expected.
 pub(crate) fn kind_of(alloc: Global, kind: &CompileErrorKind<'_>) -> Result<String, AllocError> {
     match kind {
+        CompileErrorKind::AttributeArgumentCountMismatch {
+            attribute,
+            found,
+            min,
+            max,
+        } => {
+            let at = attribute.token.offset;
+            format!(in alloc;
+                "AttributeArgumentCountMismatch {{ attribute: {attribute}@{at}, found: {found}, min: {min}, max: {max} }}"
+            )
+        }
+        CompileErrorKind::AttributeArgumentExpression { attribute } => {
+            let at = attribute.token.offset;
+            format!(in alloc; "AttributeArgumentExpression {{ attribute: {attribute}@{at} }}")
+        }
+        CompileErrorKind::DuplicateAttribute { attribute, first } => {
+            let at = attribute.token.offset;
+            format!(in alloc;
+                "DuplicateAttribute {{ attribute: {attribute}@{at}, first: {first} }}"
+            )
+        }
+        CompileErrorKind::DuplicateGroupAttribute { first, group } => {
+            let at = group.token.offset;
+            format!(in alloc; "DuplicateGroupAttribute {{ first: {first}, group: {group}@{at} }}")
+        }
         CompileErrorKind::UnexpectedToken { found, .. } => {
             format!(in alloc; "UnexpectedToken {found:?}")
         }
-        kind => format!(in alloc; "{kind:?}"),
+        kind => kind_with_key(alloc, kind),
     }
 }
 

@@ -22,7 +22,7 @@ fn first_value<'ast, 'src>(items: &'ast [Item<'src>]) -> Option<&'ast Expression
 }
 
 /// What a row's word asks of the first value of a file's items.
-pub(crate) fn push_of_value(answer: &mut Answer, word: Word, items: &[Item<'_>]) {
+pub(crate) fn push_of_value(items: &[Item<'_>], answer: &mut Answer, word: Word) {
     match first_value(items) {
         Some(value) if word == Word::Literal => push_place(answer, value),
         Some(value) => push_parts(answer, value),

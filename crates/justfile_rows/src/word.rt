@@ -4,12 +4,14 @@
 #[derive(Clone, Copy, PartialEq, Eq)]
 pub(crate) enum Word {
     AttributeKind,
+    Attributes,
     Beginnings,
     Breaks,
     Canonical,
     Class,
     Cooks,
     Copies,
+    Enabled,
     Expands,
     ExpandsTo,
     Features,
@@ -35,6 +37,7 @@ pub(crate) enum Word {
     Significant,
     Switch,
     Unindents,
+    Unstable,
     Value,
     Version,
 }
@@ -42,12 +45,14 @@ pub(crate) enum Word {
 /// The words as they are written, with the number of fields that a row has at least.
 static WORDS: &[(&str, Word, usize)] = &[
     ("attribute_kind", Word::AttributeKind, 1),
+    ("attributes", Word::Attributes, 1),
     ("beginnings", Word::Beginnings, 2),
     ("breaks", Word::Breaks, 4),
     ("canonical", Word::Canonical, 1),
     ("class", Word::Class, 1),
     ("cooks", Word::Cooks, 1),
     ("copies", Word::Copies, 1),
+    ("enabled", Word::Enabled, 1),
     ("expands", Word::Expands, 2),
     ("expands_to", Word::ExpandsTo, 2),
     ("features", Word::Features, 1),
@@ -73,6 +78,7 @@ static WORDS: &[(&str, Word, usize)] = &[
     ("significant", Word::Significant, 1),
     ("switch", Word::Switch, 2),
     ("unindents", Word::Unindents, 1),
+    ("unstable", Word::Unstable, 1),
     ("value", Word::Value, 1),
     ("version", Word::Version, 1),
 ];

@@ -10,7 +10,12 @@ pub mod ast {
 }
 
 pub mod attribute {
+    pub use justfile_attribute::{Attribute, attribute_content_cmp};
     pub use justfile_base::AttributeKind;
+}
+
+pub mod attribute_set {
+    pub use justfile_attribute_set::AttributeSet;
 }
 
 pub mod binding {
@@ -55,6 +60,10 @@ pub mod fragment {
 
 pub mod indentation {
     pub use justfile_base::Indentation;
+}
+
+pub mod interpreter {
+    pub use justfile_attribute::Interpreter;
 }
 
 pub mod item {

@@ -1,6 +1,7 @@
 //! Calls that no text reaches. What texts are lexed, parsed and printed to stands in the rows of
 //! `justfile_rows`.
 
+mod attributes;
 mod format_parts;
 mod names;
 mod order;

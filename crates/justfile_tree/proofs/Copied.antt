@@ -1,10 +1,8 @@
 -- Copies of expressions that hold a vector, by the vector's items.
 use mathlib.Core.Former.{Count}
-use Rattle.std.proofs.Common.{◌≡◌, ℕ, ◌+◌, ◌<◌, List, [], ◌∷◌, ◌++◌, length, take, get_or, refl, sym, ap, ◌∙◌, subst}
+use Rattle.std.proofs.Common.{List, refl, sym, subst}
 use Rattle.std.specs.Global.{Vec}
 use Rattle.std.specs.List.{AllZip}
-use Rattle.std.proofs.lemmas.List.{take_more}
-use Rattle.std.proofs.lemmas.List.Elements.{AllZip-push}
 use Rattle.justfile_base.specs.declared.name.Name.{Name}
 use Rattle.justfile_base.specs.declared.token.Token.{Token}
 use Rattle.justfile_base.specs.declared.string_literal.StringLiteral.{StringLiteral}
@@ -12,16 +10,6 @@ use Rattle.justfile_base.specs.StringLiteral.{IsSameLiteral}
 use Rattle.justfile_tree.specs.Copies.{IsSameExpression, AreSameExpressions, IsSamePart, AreSameParts}
 use Rattle.justfile_tree.specs.declared.expression.Expression.{Expression, Call, FormatString, List as List_of, Row_of-Expression as ExpressionRow, end_of-Expression as row_end, more_of-Expression as row_more, Row_of-Expression-FormatString-1-2 as FormatRow, end_of-Expression-FormatString-1-2 as format_row_end, more_of-Expression-FormatString-1-2 as format_row_more, items-the_row-Expression, items-the_row-Expression-FormatString-1-2, items_hidden-the_row-Expression-0, items_hidden-the_row-Expression-FormatString-1-2-1}
 use Rattle.justfile_tree.proofs.ExpressionRows.{row_of, part_row_of}
-
--- one more copy, of one more original
-pub one_more : {X : Type 0} (R : X → X → Type 0) (copies all later : List X) (i : ℕ) (copy original : X) → i < length all → original ≡ get_or all i original
-    → AllZip R copies (take i all) → R copy original → later ≡ copies ++ copy ∷ []
-    → AllZip R later (take (i + 1) all)
-one_more {X} R copies all later i copy original h is so_far same e =
-    subst (λ (l : List X). AllZip R l (take (i + 1) all)) (sym e)
-    (subst (λ (l : List X). AllZip R (copies ++ copy ∷ []) l)
-    (ap (λ (x : X). take i all ++ x ∷ []) is ∙ sym (take_more all i original h))
-    (AllZip-push R copies (take i all) copy original so_far same))
 
 same_row : (m n : Count) (copies : ExpressionRow m) (originals : ExpressionRow n) → AllZip IsSameExpression (items-the_row-Expression m copies) (items-the_row-Expression n originals) → AreSameExpressions copies originals
 same_row m n row_end row_end same = tt

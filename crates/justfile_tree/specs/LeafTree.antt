@@ -20,22 +20,19 @@ pub record LiteralText : Type 0 where
 abbrev pub literal_of : literals.StringLiteral → LiteralText
 literal_of literal = record { token = literal.token; cooked = string_bytes literal.cooked; expand = literal.expand; kind = literal.kind; part = literal.part }
 
--- what an assignment has beside its value
+-- what an assignment has beside its attributes and its value, but for what follows from these
 pub record AssignmentName : Type 0 where
   pub file_depth : ℕ
   pub name : Token
   pub number : Number
   pub prelude : Bool
-  pub private : Bool
 
--- what a recipe has beside its body
+-- what a recipe has beside its attributes and its body, but for what follows from these
 pub record RecipeName : Type 0 where
   pub file_depth : ℕ
   pub import_offsets : List ℕ
   pub name : Token
   pub number : Number
-  pub private : Bool
-  pub shebang : Bool
 
 -- what stands at a leaf
 pub data Leaf : Type 0 where

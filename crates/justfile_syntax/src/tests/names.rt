@@ -129,14 +129,14 @@ fn parsed<'src>(
 }
 
 /// Sees what the file of a module has of what was handed in.
-fn compare_file(rt: &impl Abort, alloc: Global, ast: &Ast<'_>) {
+fn compare_file(ast: &mut Ast<'_>, rt: &impl Abort, alloc: Global) {
     compare_written(rt, alloc, &ast.module_path, "m::n");
     same_text(rt, "a file", ast.working_directory.as_str(), "/home/m");
-    compare_items(rt, &ast.items);
+    compare_items(&ast.items, rt);
 }
 
 /// Sees that the items of this file are an assignment and the end of its line.
-fn compare_items(rt: &impl Abort, items: &[Item<'_>]) {
+fn compare_items(items: &[Item<'_>], rt: &impl Abort) {
     same(rt, "items", &items.len(), &2);
     match items.first() {
         Some(Item::Assignment(assignment)) => compare_assignment(rt, assignment),
@@ -156,7 +156,7 @@ fn files_of_modules(rt: HostRuntime) {
     let namepath = path(&rt, alloc, names(&rt, alloc, "m n").as_slice());
     let mut numerator = Numerator::new(5);
     match parsed(alloc, &namepath, &mut numerator, "a := 'x'\n") {
-        Ok(ast) => compare_file(&rt, alloc, &ast),
+        Ok(mut ast) => compare_file(&mut ast, &rt, alloc),
         Err(fault) => panic!(rt; "{fault:?}"),
     }
 }

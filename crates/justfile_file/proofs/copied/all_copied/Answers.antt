@@ -1,5 +1,5 @@
 use Rattle.std.proofs.Common.{arith}
-use Rattle.justfile_file.proofs.CopiedLists.{one_more}
+use Rattle.justfile_model.proofs.CopiedLists.{one_more}
 use Rattle.justfile_file.proofs.copied.all_copied.Goals as goal
 
 pub loop-original-preserved : goal.loop-original-preserved

@@ -1,7 +1,14 @@
 use Rattle.justfile_model.proofs.Agreement.{one_tree}
 use Rattle.justfile_model.proofs.CookedTexts.{same_texts}
 use Rattle.justfile_model.proofs.Leaves.{file_forgets, file_lifts, one_shape}
+use Rattle.justfile_model.proofs.Spelled.{lexed_spelled}
 use Rattle.justfile_model.proofs.grammar_laws.shapes.Goals as goal
 
 pub returns : goal.returns
-returns c = record { forget = file_forgets; lift = file_lifts; one = λ C ts. one_shape C ts (one_tree C ts); texts = same_texts }
+returns c = record {
+  spelled = lexed_spelled;
+  forget = file_forgets;
+  lift = file_lifts;
+  one = λ C ts spelled. one_shape C ts spelled (one_tree C ts);
+  texts = same_texts;
+}

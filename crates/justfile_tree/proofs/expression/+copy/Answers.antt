@@ -1,6 +1,7 @@
 use Rattle.std.proofs.Common.{arith}
 use Rattle.justfile_tree.specs.Copies.{IsSameExpression, IsSamePart}
-use Rattle.justfile_tree.proofs.Copied.{one_more, same_call, same_list, same_format_string}
+use Rattle.justfile_model.proofs.CopiedLists.{one_more}
+use Rattle.justfile_tree.proofs.Copied.{same_call, same_list, same_format_string}
 use Rattle.justfile_tree.proofs.expression.+copy.Goals as goal
 
 pub Expression::clone-returns-in_ok-copy_all-in-Call : goal.Expression::clone-returns-in_ok-copy_all-in-Call

@@ -6,7 +6,7 @@ use Rattle.justfile_parse.specs.TableReader.{accept}
 use Rattle.justfile_parse.specs.WantsNumber.{counters_of}
 use Rattle.justfile_parse.specs.View.{state_of}
 use Rattle.justfile_parse.specs.declared.parser.Parser.{Parser}
-use Rattle.justfile_parse.proofs.Loop.{IsReadTo, begins, ends, goes_on, goes_past, stops}
+use Rattle.justfile_parse.proofs.Loop.{IsReadTo, begins, ends, goes_on, goes_past, halts}
 use Rattle.justfile_parse.proofs.parser.Parser.parse_items.Goals as goal
 
 pub lines-init : goal.lines-init
@@ -33,7 +33,7 @@ lines-preserved g c =
     let P : Parser _ → Type 0 = λ q. IsReadTo (state_of A c.args.self.now) (state_of A q) c.args.numerator.now c.lines.numerator c.lines.items.items in
     let Q : Parser _ → Type 0 = λ q. accept kinds.Eof (state_of A q) ≡ None in
     goes_on (state_of A c.args.self.now) (state_of A c.accept.new.self) c.args.numerator.now c.lines.numerator c.lines.items.items (subst P here c.lines.invariant)
-    (subst Q here c.in_default.ensures.takes) c.parse_line.new.numerator c.parse_line.new.items.items (state_of A c.parse_line.new.self) c.in_ok-parse_line.ensures.reads
+    (subst Q here c.in_default.ensures.takes) c.parse_line.new.numerator c.parse_line.new.items.items (state_of A c.parse_line.new.self) c.in_ok-parse_line.ensures.reads c.in_ok-parse_line.ensures.whole
 
 pub returns-in_err-parse_line-clause-reads : goal.returns-in_err-parse_line-clause-reads
 returns-in_err-parse_line-clause-reads g c =
@@ -43,7 +43,7 @@ returns-in_err-parse_line-clause-reads g c =
     let P : Parser _ → Type 0 = λ q. IsReadTo (state_of A c.args.self.now) (state_of A q) c.args.numerator.now c.lines.numerator c.lines.items.items in
     let Q : Parser _ → Type 0 = λ q. accept kinds.Eof (state_of A q) ≡ None in
     rw (p.1, p.2)
-    (stops (state_of A c.args.self.now) (state_of A c.accept.new.self) c.args.numerator.now c.lines.numerator c.lines.items.items (subst P here c.lines.invariant)
+    (halts (state_of A c.args.self.now) (state_of A c.accept.new.self) c.args.numerator.now c.lines.numerator c.lines.items.items (subst P here c.lines.invariant)
     (subst Q here c.in_default.ensures.takes) c.in_err-parse_line.field-0.0 (state_of A c.parse_line.new.self) (reading.NoNumber (counters_of c.parse_line.new.numerator)) c.in_err-parse_line.ensures.reads)
 
 pub parse_line-requires : goal.parse_line-requires

@@ -4,7 +4,8 @@ use Rattle.justfile_model.specs.SignificantTokens.{identifiers}
 use Rattle.justfile_parse.specs.Conditions.{conditions_of}
 use Rattle.justfile_parse.specs.TableReader as reader
 use Rattle.justfile_parse.specs.TableReader.{Run, State}
-use Rattle.justfile_parse.specs.MethodResults.{IsFaultOf, IsMoved, StopsAt}
+use Rattle.justfile_parse.specs.Halting.{HaltsAt, IsFaultOfHalt}
+use Rattle.justfile_parse.specs.MethodResults.{IsMoved}
 use Rattle.justfile_parse.specs.Significant.{significant_of}
 use Rattle.justfile_parse.specs.Tree.{item_tree}
 use Rattle.justfile_parse.specs.View.{state_at, state_of}
@@ -26,7 +27,7 @@ returns-in-Ok-clause-ok g c =
     let run : Run = record { conditions = conditions_of A c.args.expander.now c.args.current; table = c.args.tokens.now; file_depth = c.args.file_depth; import_offsets = c.args.import_offsets.now } in
     let P : State → Type 0 = λ s. reader.file (counters_of c.args.numerator.now) s ≡ Ok ((map item_tree c.in-Ok.items.items, counters_of c.parse_file.new.numerator), state_of A p) in
     read_of run.conditions run.table run.file_depth run.import_offsets c.args.numerator.now c.parse_file.new.numerator c.in-Ok.items.items p.list_features.items (state_of A p)
-    (subst P (begin_is run c.new.result.items c.new.ensures.items) c.in-Ok.ensures.reads) (noted_is A p)
+    (subst P (begin_is run c.new.result.items c.new.ensures.items) c.in-Ok.ensures.reads) (noted_is A p) c.in-Ok.ensures.whole
 
 pub returns-clause-err : goal.returns-clause-err
 unfolding state_of
@@ -36,9 +37,9 @@ returns-clause-err g c =
     let n = counters_of c.args.numerator.now in
     let m = counters_of c.parse_file.new.numerator in
     let run : Run = record { conditions = conditions_of A c.args.expander.now c.args.current; table = c.args.tokens.now; file_depth = c.args.file_depth; import_offsets = c.args.import_offsets.now } in
-    let P : State → Type 0 = λ s. StopsAt c.in-Err.stop (state_of A p) (reader.file n s ≡ Err (NoNumber m)) (reader.file n s) in
-    let Q : Option TableEntry → Type 0 = λ next. IsFaultOf c.args.tokens.now next c.in-Err.stop c.make_fault.result in
-    unread_of run.conditions run.table run.file_depth run.import_offsets c.args.numerator.now c.parse_file.new.numerator (state_of A p) c.in-Err.stop c.make_fault.result
+    let P : State → Type 0 = λ s. HaltsAt c.in-Err.halt (state_of A p) (reader.file n s ≡ Err (NoNumber m)) (reader.file n s) in
+    let Q : Option TableEntry → Type 0 = λ next. IsFaultOfHalt c.args.tokens.now next c.in-Err.halt c.make_fault.result in
+    unread_of run.conditions run.table run.file_depth run.import_offsets c.args.numerator.now c.parse_file.new.numerator (state_of A p) c.in-Err.halt c.make_fault.result
     (subst P (begin_is run c.new.result.items c.new.ensures.items) c.in-Err.ensures.reads) (subst Q c.peek_front.ensures c.make_fault.ensures)
 
 pub returns-in-Ok-clause-moved : goal.returns-in-Ok-clause-moved

@@ -1,0 +1,7 @@
+mod ArgumentTree
+pub mod Cached
+pub mod Counted
+pub mod Ordered
+pub mod Printed
+pub mod Shown
+pub mod Walk

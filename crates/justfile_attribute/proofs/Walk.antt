@@ -1,0 +1,67 @@
+-- The walk over the places where arguments may stand.
+use Rattle.std.proofs.Common.{◌≡◌, ◌∙◌, ℕ, zero, suc, ◌+◌, Bool, ◌||◌, is_some, List, [], ◌∷◌, ◌++◌, drop, Option, None, Some, Result, Ok, Err, OnOk, OnErr, refl, sym, ap, subst, append_assoc, arith}
+use Rattle.std.specs.List.{slice_get}
+use Rattle.justfile_attribute.specs.Print.{Slots, closing, slot_piece, slot_text, slots_text}
+use Rattle.justfile_attribute.specs.declared.part.Part.{Part}
+
+-- of a text all but this rest is put
+abbrev pub Walked : {S : Type 0} (took : S → List ℕ → S → Type 0) (a m : S) (whole rest : List ℕ) → Type 0
+Walked took a m whole rest = (text : List ℕ) × took a text m × (text ++ rest ≡ whole)
+
+-- what holds where a call failed holds at its `Err`, and what follows where it went well
+pub at_err : {T E P : Type 0} (r : Result T E) → P → OnErr r P
+at_err (Ok x) p = tt
+at_err (Err e) p = p
+
+pub then_ok : {T E P Q : Type 0} (r : Result T E) → (P → Q) → OnOk r P → OnOk r Q
+then_ok (Ok x) f p = f p
+then_ok (Err e) f p = tt
+
+pub then_err : {T E P Q : Type 0} (r : Result T E) → (P → Q) → OnErr r P → OnErr r Q
+then_err (Ok x) f p = tt
+then_err (Err e) f p = f p
+
+-- an argument is there where it has a text
+pub is_there : (p : Option Part) → is_some p ≡ is_some (slot_text p)
+is_there None = refl
+is_there (Some p) = refl
+
+-- what is left at a place
+left_at : (begun : Bool) (xs : Slots) (i : ℕ) (x : Option (List ℕ)) → Some x ≡ slice_get xs i
+    → slots_text begun (drop i xs) ≡ slot_piece begun x ++ slots_text (begun || is_some x) (drop (i + 1) xs)
+left_at begun [] i x e = absurd cc
+left_at begun (y ∷ xs) zero x e = ap (λ (z : Option (List ℕ)). slot_piece begun z ++ slots_text (begun || is_some z) xs) cc
+left_at begun (y ∷ xs) (suc i) x e =
+    let next : suc (i + 1) ≡ suc i + 1 = omega arith in
+    left_at begun xs i x e ∙ ap (λ (j : ℕ). slot_piece begun x ++ slots_text (begun || is_some x) (drop j (y ∷ xs))) next
+
+left_none : (begun : Bool) (xs : Slots) (i : ℕ) → None ≡ slice_get xs i → slots_text begun (drop i xs) ≡ closing begun
+left_none begun [] zero e = refl
+left_none begun [] (suc i) e = refl
+left_none begun (x ∷ xs) zero e = absurd cc
+left_none begun (x ∷ xs) (suc i) e = left_none begun xs i e
+
+module _ {S : Type 0} (took failed : S → List ℕ → S → Type 0)
+    (more : (a b c : S) (xs ys : List ℕ) → took a xs b → took b ys c → took a (xs ++ ys) c)
+    (later : (a b c : S) (xs ys : List ℕ) → took a xs b → failed b ys c → failed a (xs ++ ys) c)
+    (before : (a b : S) (xs ys : List ℕ) → failed a xs b → failed a (xs ++ ys) b)
+    (a m : S) (whole : List ℕ) (begun : Bool) (xs : Slots) (i : ℕ) (walked : Walked took a m whole (slots_text begun (drop i xs))) where
+  module _ (x : Option (List ℕ)) (there : Some x ≡ slice_get xs i) where
+    further : (walked.0 ++ slot_piece begun x) ++ slots_text (begun || is_some x) (drop (i + 1) xs) ≡ whole
+    further = append_assoc walked.0 (slot_piece begun x) _ ∙ ap (λ t. walked.0 ++ t) (sym (left_at begun xs i x there)) ∙ walked.2
+
+    pub walked_on : (n : S) → took m (slot_piece begun x) n → Walked took a n whole (slots_text (begun || is_some x) (drop (i + 1) xs))
+    walked_on n p = (walked.0 ++ slot_piece begun x, more a m n _ _ walked.1 p, further)
+
+    pub stopped : (n : S) → failed m (slot_piece begun x) n → failed a whole n
+    stopped n p = subst (λ (t : List ℕ). failed a t n) further (before a n _ _ (later a m n _ _ walked.1 p))
+
+  module _ (past : None ≡ slice_get xs i) where
+    end_is : walked.0 ++ closing begun ≡ whole
+    end_is = ap (λ t. walked.0 ++ t) (sym (left_none begun xs i past)) ∙ walked.2
+
+    pub ended : (n : S) → took m (closing begun) n → took a whole n
+    ended n p = subst (λ (t : List ℕ). took a t n) end_is (more a m n _ _ walked.1 p)
+
+    pub end_failed : (n : S) → failed m (closing begun) n → failed a whole n
+    end_failed n p = subst (λ (t : List ℕ). failed a t n) end_is (later a m n _ _ walked.1 p)

@@ -1,0 +1,108 @@
+-- What the definitions see of an attribute.
+use Rattle.std.specs.Prelude.{ℕ, List, [], ◌∷◌, map, Option, Some, None}
+use Rattle.std.specs.Global.{Box}
+use Rattle.std.specs.Option.{option_map}
+use Rattle.justfile_base.specs.declared.attribute_kind.AttributeKind.{AttributeKind}
+use Rattle.justfile_base.specs.declared.attribute_kind.AttributeKind.TheVariants as kinds
+use Rattle.justfile_base.specs.declared.name.Name.{Name}
+use Rattle.justfile_base.specs.declared.string_literal.StringLiteral.{StringLiteral}
+use Rattle.justfile_base.specs.declared.token.Token.{Token}
+use Rattle.justfile_model.specs.Tok.{Tok, tok_of}
+use Rattle.justfile_model.specs.Tree as tree
+use Rattle.justfile_model.specs.Tree.{Expr, Quoted, OptionName, Property, Bound, lexeme, nothing, over_attribute}
+use Rattle.justfile_tree.specs.Expression.{expr_of, literal_tok}
+use Rattle.justfile_tree.specs.LeafTree.{Leaf, Literal, leaf_tree_of, literal_of}
+use Rattle.justfile_tree.specs.declared.expression.Expression.{Expression}
+use Rattle.justfile_attribute.specs.declared.attribute.Attribute.{Attribute}
+use Rattle.justfile_attribute.specs.declared.attribute.Attribute.TheVariants as attributes
+use Rattle.justfile_attribute.specs.declared.interpreter.Interpreter.{Interpreter}
+
+-- by the trees of expressions, what is seen of a literal, and what is kept of a token
+module _ {A B : Type 0} (expression : Expression → Expr A B) (leaf : StringLiteral → A) (spot : Token → B) where
+  abbrev pub quoted_by : StringLiteral → Quoted A
+  quoted_by l = record { expanded = l.expand; token = leaf l }
+
+  -- a key that stands alone names the option as the argument, whatever literal there is
+  abbrev pub option_by : (key : Option Name) → Option StringLiteral → OptionName A B
+  option_by (Some key) literal = tree.OwnName (spot key.token)
+  option_by None (Some literal) = tree.Named (quoted_by literal)
+  option_by None None = tree.NoOption
+
+  abbrev pub property_by : Name × Box Expression → Property A B
+  property_by p = record { key = spot p.0.token; value = expression p.1.value }
+
+  -- a number stands with its key, or with the token of the argument's name where it has none
+  abbrev pub bound_by : (name : StringLiteral) → (key : Option Name) → Option ℕ → Option (Bound B)
+  bound_by name key None = None
+  bound_by name (Some key) (Some number) = Some (record { key = spot key.token; number = number })
+  bound_by name None (Some number) = Some (record { key = spot name.token; number = number })
+
+  -- with an expression, or without
+  abbrev pub single_by : (kind : AttributeKind) → Option (Box Expression) → tree.Attribute A B
+  single_by kind None = tree.Plain kind
+  single_by kind (Some e) = tree.Single kind (expression e.value)
+
+  abbrev pub script_by : Option (Interpreter StringLiteral) → tree.Attribute A B
+  script_by None = tree.Plain kinds.Script
+  script_by (Some interpreter) = tree.Texts kinds.Script (quoted_by interpreter.command ∷ map quoted_by interpreter.arguments.items)
+
+  abbrev pub attribute_by : Attribute → tree.Attribute A B
+  attribute_by attributes.Android = tree.Plain kinds.Android
+  attribute_by (attributes.Arg flag help help_property long long_key max max_key min min_key multiple name pattern short short_key value) =
+      tree.Arg (record {
+        flag = option_map spot flag;
+        help = option_map property_by help_property;
+        long = option_by long_key long;
+        max = bound_by name max_key max;
+        min = bound_by name min_key min;
+        multiple = option_map spot multiple;
+        name = quoted_by name;
+        pattern = option_map property_by pattern;
+        short = option_by short_key short;
+        value = option_map (λ (e : Box Expression). expression e.value) value;
+      })
+  attribute_by (attributes.Cache extra inputs outputs) = tree.Cache (option_map (λ (e : Box Expression). expression e.value) extra)
+      (option_map (λ (e : Box Expression). expression e.value) inputs) (option_map (λ (e : Box Expression). expression e.value) outputs)
+  attribute_by (attributes.Confirm value) = single_by kinds.Confirm value
+  attribute_by (attributes.Continue signals) = tree.Signals signals.keys
+  attribute_by attributes.Default = tree.Plain kinds.Default
+  attribute_by (attributes.Doc value) = single_by kinds.Doc value
+  attribute_by attributes.Dragonfly = tree.Plain kinds.Dragonfly
+  attribute_by (attributes.Env key value) = tree.Env (expression key.value) (expression value.value)
+  attribute_by attributes.ExitMessage = tree.Plain kinds.ExitMessage
+  attribute_by (attributes.Extension literal) = tree.Texts kinds.Extension (quoted_by literal ∷ [])
+  attribute_by attributes.Freebsd = tree.Plain kinds.Freebsd
+  attribute_by (attributes.Group literal) = tree.Texts kinds.Group (quoted_by literal ∷ [])
+  attribute_by attributes.Linux = tree.Plain kinds.Linux
+  attribute_by attributes.Macos = tree.Plain kinds.Macos
+  attribute_by (attributes.Metadata literals) = tree.Texts kinds.Metadata (map quoted_by literals.items)
+  attribute_by attributes.Netbsd = tree.Plain kinds.Netbsd
+  attribute_by attributes.NoCd = tree.Plain kinds.NoCd
+  attribute_by attributes.NoExitMessage = tree.Plain kinds.NoExitMessage
+  attribute_by attributes.NoQuiet = tree.Plain kinds.NoQuiet
+  attribute_by attributes.Openbsd = tree.Plain kinds.Openbsd
+  attribute_by attributes.Parallel = tree.Plain kinds.Parallel
+  attribute_by attributes.PositionalArguments = tree.Plain kinds.PositionalArguments
+  attribute_by attributes.Private = tree.Plain kinds.Private
+  attribute_by (attributes.Script interpreter) = script_by interpreter
+  attribute_by attributes.Shell = tree.Plain kinds.Shell
+  attribute_by (attributes.Timestamp value) = single_by kinds.Timestamp value
+  attribute_by attributes.Unix = tree.Plain kinds.Unix
+  attribute_by attributes.Windows = tree.Plain kinds.Windows
+  attribute_by (attributes.WorkingDirectory value) = tree.Single kinds.WorkingDirectory (expression value.value)
+
+-- a literal as a leaf of the parser's trees
+abbrev pub literal_leaf : StringLiteral → Leaf
+literal_leaf l = Literal (literal_of l)
+
+-- the tree of an attribute, with all that the parser's trees hold
+abbrev pub leaf_attribute_of : Attribute → tree.Attribute Leaf Token
+leaf_attribute_of = attribute_by leaf_tree_of literal_leaf (λ t. t)
+
+-- the tree of an attribute
+abbrev pub attribute_of : Attribute → tree.Attribute Tok Tok
+attribute_of = attribute_by expr_of literal_tok tok_of
+
+-- the tree of an attribute without places
+abbrev pub attribute_shape : Attribute → tree.Attribute (List ℕ) (Unit {0})
+attribute_shape a = over_attribute lexeme nothing (attribute_of a)

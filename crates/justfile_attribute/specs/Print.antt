@@ -1,0 +1,145 @@
+-- The arguments of an attribute as they are printed: in their order the places where one may stand, each with its text or with none.
+use Rattle.std.specs.Prelude.{ℕ, Bool, true, false, List, [], ◌∷◌, ◌++◌, map, Option, Some, None, is_some, ◌||◌, codes}
+use Rattle.std.specs.Fmt.{decimal}
+use Rattle.std.specs.Global.{Box}
+use Rattle.std.specs.Option.{option_map}
+use Rattle.justfile_base.specs.Signal.{signal_name}
+use Rattle.justfile_base.specs.StringLiteral.{literal_text}
+use Rattle.justfile_base.specs.declared.name.Name.{Name}
+use Rattle.justfile_base.specs.declared.signal.Signal.{Signal}
+use Rattle.justfile_base.specs.declared.string_literal.StringLiteral.{StringLiteral}
+use Rattle.justfile_base.specs.declared.token.Token.{Token}
+use Rattle.justfile_model.specs.Printing.{fixed_text}
+use Rattle.justfile_tree.specs.Text.{text_of}
+use Rattle.justfile_tree.specs.declared.expression.Expression.{Expression}
+use Rattle.justfile_attribute.specs.declared.attribute.Attribute.{Attribute}
+use Rattle.justfile_attribute.specs.declared.attribute.Attribute.TheVariants as attributes
+use Rattle.justfile_attribute.specs.declared.interpreter.Interpreter.{Interpreter}
+use Rattle.justfile_attribute.specs.declared.part.Part.{Part}
+use Rattle.justfile_attribute.specs.declared.part.Value.{Value}
+use Rattle.justfile_attribute.specs.declared.part.Value.TheVariants as values
+
+-- ---- parts of the code
+
+-- a number in single quotes
+abbrev pub quoted_number : ℕ → List ℕ
+quoted_number n = fixed_text (codes "'") ++ decimal n ++ fixed_text (codes "'")
+
+abbrev pub value_text : Value → List ℕ
+value_text values.Nothing = []
+value_text (values.Expression e) = text_of e.now
+value_text (values.Literal l) = literal_text l.now
+value_text (values.Number n) = quoted_number n
+
+-- a piece, and the value after it
+abbrev pub with_value : (piece : List ℕ) → Value → List ℕ
+with_value piece values.Nothing = piece
+with_value piece (values.Expression e) = piece ++ text_of e.now
+with_value piece (values.Literal l) = piece ++ literal_text l.now
+with_value piece (values.Number n) = piece ++ quoted_number n
+
+abbrev pub part_text : Part → List ℕ
+part_text p = with_value p.piece.now p.value
+
+-- a place as the code answers it
+abbrev pub slot_text : Option Part → Option (List ℕ)
+slot_text = option_map part_text
+
+abbrev pub slot_of : Option (Option Part) → Option (Option (List ℕ))
+slot_of = option_map slot_text
+
+-- ---- places
+
+abbrev pub Slots : Type 0
+Slots = List (Option (List ℕ))
+
+abbrev pub positional : Expression → Option (List ℕ)
+positional e = Some (text_of e)
+
+abbrev pub literal_slot : StringLiteral → Option (List ℕ)
+literal_slot l = Some (literal_text l)
+
+-- a signal in double quotes
+abbrev pub signal_text : Signal → List ℕ
+signal_text s = codes "\"" ++ signal_name s ++ codes "\""
+
+abbrev pub signal_slot : Signal → Option (List ℕ)
+signal_slot s = Some (signal_text s)
+
+abbrev pub value_slot : (keyed : List ℕ) → Option (Box Expression) → Option (List ℕ)
+value_slot keyed None = None
+value_slot keyed (Some e) = Some (keyed ++ text_of e.value)
+
+abbrev pub property_slot : (keyed : List ℕ) → Option (Name × Box Expression) → Option (List ℕ)
+property_slot keyed None = None
+property_slot keyed (Some p) = Some (keyed ++ text_of p.1.value)
+
+abbrev pub number_slot : (keyed : List ℕ) → Option ℕ → Option (List ℕ)
+number_slot keyed None = None
+number_slot keyed (Some n) = Some (keyed ++ quoted_number n)
+
+abbrev pub flag_slot : (bare : List ℕ) → Option Token → Option (List ℕ)
+flag_slot bare None = None
+flag_slot bare (Some t) = Some bare
+
+-- a key that stands alone, or one with its literal
+abbrev pub option_slot : (bare keyed : List ℕ) → Option Name → Option StringLiteral → Option (List ℕ)
+option_slot bare keyed (Some key) literal = Some bare
+option_slot bare keyed None (Some literal) = Some (keyed ++ literal_text literal)
+option_slot bare keyed None None = None
+
+abbrev pub single_slots : Option (Box Expression) → Slots
+single_slots None = []
+single_slots (Some e) = positional e.value ∷ []
+
+abbrev pub script_slots : Option (Interpreter StringLiteral) → Slots
+script_slots None = []
+script_slots (Some i) = literal_slot i.command ∷ map literal_slot i.arguments.items
+
+abbrev pub cache_slots : (extra inputs outputs : Option (Box Expression)) → Slots
+cache_slots extra inputs outputs = value_slot (codes "extra=") extra ∷ value_slot (codes "inputs=") inputs ∷ value_slot (codes "outputs=") outputs ∷ []
+
+abbrev pub arg_slots : (name : StringLiteral) (long_key : Option Name) (long : Option StringLiteral) (short_key : Option Name) (short : Option StringLiteral)
+    (pattern : Option (Name × Box Expression)) (value : Option (Box Expression)) (flag multiple : Option Token) (min max : Option ℕ) (help : Option (Name × Box Expression)) → Slots
+arg_slots name long_key long short_key short pattern value flag multiple min max help =
+    literal_slot name ∷ option_slot (codes "long") (codes "long=") long_key long ∷ option_slot (codes "short") (codes "short=") short_key short
+    ∷ property_slot (codes "pattern=") pattern ∷ value_slot (codes "value=") value ∷ flag_slot (codes "flag") flag ∷ flag_slot (codes "multiple") multiple
+    ∷ number_slot (codes "min=") min ∷ number_slot (codes "max=") max ∷ property_slot (codes "help=") help ∷ []
+
+-- where the arguments of an attribute may stand
+abbrev pub slots : Attribute → Slots
+slots (attributes.Arg flag help property long long_key max max_key min min_key multiple name pattern short short_key value) =
+    arg_slots name long_key long short_key short pattern value flag multiple min max property
+slots (attributes.Cache extra inputs outputs) = cache_slots extra inputs outputs
+slots (attributes.Confirm value) = single_slots value
+slots (attributes.Continue signals) = map signal_slot signals.keys
+slots (attributes.Doc value) = single_slots value
+slots (attributes.Env key value) = positional key.value ∷ positional value.value ∷ []
+slots (attributes.Extension literal) = literal_slot literal ∷ []
+slots (attributes.Group literal) = literal_slot literal ∷ []
+slots (attributes.Metadata literals) = map literal_slot literals.items
+slots (attributes.Script interpreter) = script_slots interpreter
+slots (attributes.Timestamp value) = single_slots value
+slots (attributes.WorkingDirectory value) = positional value.value ∷ []
+slots _ = []
+
+-- ---- what is printed of them
+
+-- what stands before an argument
+abbrev pub opening : (begun : Bool) → List ℕ
+opening false = fixed_text (codes "(")
+opening true = fixed_text (codes ", ")
+
+abbrev pub closing : (begun : Bool) → List ℕ
+closing false = []
+closing true = fixed_text (codes ")")
+
+-- a text that is there, with what stands before it
+abbrev pub slot_piece : (begun : Bool) → Option (List ℕ) → List ℕ
+slot_piece begun None = []
+slot_piece begun (Some text) = opening begun ++ text
+
+-- the texts that are there, in parentheses; some may be printed already
+abbrev pub slots_text : (begun : Bool) → Slots → List ℕ
+slots_text begun [] = closing begun
+slots_text begun (slot ∷ slots) = slot_piece begun slot ++ slots_text (begun || is_some slot) slots

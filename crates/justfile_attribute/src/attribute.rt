@@ -1,0 +1,137 @@
+use crate::interpreter::Interpreter;
+use justfile_base::{AttributeKind, Name, Signal, StringLiteral, Token};
+use justfile_tree::Expression;
+use std::collections::BTreeSet;
+
+/// What stands between brackets before a construct, and says how it is to be taken.
+#[derive(Debug, Drop, PartialEq, Eq)]
+pub enum Attribute<'src> {
+    Android,
+    /// What is said of a parameter of a recipe.
+    Arg {
+        /// The key `flag`: the option takes no value.
+        flag: Option<Token<'src>>,
+        /// The help that is worked out later: none as long as it is not evaluated.
+        help: Option<String>,
+        /// The key `help` with its value.
+        help_property: Option<(Name<'src>, Box<Expression<'src>>)>,
+        /// The name of the long option.
+        long: Option<StringLiteral<'src>>,
+        /// The key `long` where it has no value, and so names the option as the parameter.
+        long_key: Option<Name<'src>>,
+        /// How many values are taken at most.
+        max: Option<u64>,
+        max_key: Option<Name<'src>>,
+        /// How many values are taken at least.
+        min: Option<u64>,
+        min_key: Option<Name<'src>>,
+        /// The key `multiple`: the option may be given more than once.
+        multiple: Option<Token<'src>>,
+        /// The parameter's name.
+        name: StringLiteral<'src>,
+        /// The key `pattern` with its value.
+        pattern_property: Option<(Name<'src>, Box<Expression<'src>>)>,
+        /// The name of the short option.
+        short: Option<StringLiteral<'src>>,
+        /// The key `short` where it has no value, and so names the option as the parameter.
+        short_key: Option<Name<'src>>,
+        /// What the parameter gets where the option is given without a value.
+        value: Option<Box<Expression<'src>>>,
+    },
+    Cache {
+        extra: Option<Box<Expression<'src>>>,
+        inputs: Option<Box<Expression<'src>>>,
+        outputs: Option<Box<Expression<'src>>>,
+    },
+    Confirm(Option<Box<Expression<'src>>>),
+    Continue(BTreeSet<Signal>),
+    Default,
+    Doc(Option<Box<Expression<'src>>>),
+    Dragonfly,
+    /// The name of a variable of the environment, and its value.
+    Env(Box<Expression<'src>>, Box<Expression<'src>>),
+    ExitMessage,
+    Extension(StringLiteral<'src>),
+    Freebsd,
+    Group(StringLiteral<'src>),
+    Linux,
+    Macos,
+    Metadata(Vec<StringLiteral<'src>>),
+    Netbsd,
+    NoCd,
+    NoExitMessage,
+    NoQuiet,
+    Openbsd,
+    Parallel,
+    PositionalArguments,
+    Private,
+    Script(Option<Interpreter<StringLiteral<'src>>>),
+    Shell,
+    Timestamp(Option<Box<Expression<'src>>>),
+    Unix,
+    Windows,
+    WorkingDirectory(Box<Expression<'src>>),
+}
+
+impl<'src> Attribute<'src> {
+    ghost use Rattle.std.specs.Prelude.{◌≡◌};
+    ghost use Rattle.justfile_base.specs.AttributeKind.{attribute_name};
+    ghost use Rattle.justfile_model.specs.AttributeKinds.{is_repeatable};
+    ghost use Rattle.justfile_model.specs.ContentKeys.{kind_of_attribute};
+    ghost use Rattle.justfile_attribute.specs.Attribute.{attribute_of};
+
+    /// What the attribute is.
+    pub fn kind(&self) -> AttributeKind
+        ensures { result ≡ kind_of_attribute (attribute_of self.now) }
+    {
+        match self {
+            Attribute::Android => AttributeKind::Android,
+            Attribute::Arg { .. } => AttributeKind::Arg,
+            Attribute::Cache { .. } => AttributeKind::Cache,
+            Attribute::Confirm(_) => AttributeKind::Confirm,
+            Attribute::Continue(_) => AttributeKind::Continue,
+            Attribute::Default => AttributeKind::Default,
+            Attribute::Doc(_) => AttributeKind::Doc,
+            Attribute::Dragonfly => AttributeKind::Dragonfly,
+            Attribute::Env(_, _) => AttributeKind::Env,
+            Attribute::ExitMessage => AttributeKind::ExitMessage,
+            Attribute::Extension(_) => AttributeKind::Extension,
+            Attribute::Freebsd => AttributeKind::Freebsd,
+            Attribute::Group(_) => AttributeKind::Group,
+            Attribute::Linux => AttributeKind::Linux,
+            Attribute::Macos => AttributeKind::Macos,
+            Attribute::Metadata(_) => AttributeKind::Metadata,
+            Attribute::Netbsd => AttributeKind::Netbsd,
+            Attribute::NoCd => AttributeKind::NoCd,
+            Attribute::NoExitMessage => AttributeKind::NoExitMessage,
+            Attribute::NoQuiet => AttributeKind::NoQuiet,
+            Attribute::Openbsd => AttributeKind::Openbsd,
+            Attribute::Parallel => AttributeKind::Parallel,
+            Attribute::PositionalArguments => AttributeKind::PositionalArguments,
+            Attribute::Private => AttributeKind::Private,
+            Attribute::Script(_) => AttributeKind::Script,
+            Attribute::Shell => AttributeKind::Shell,
+            Attribute::Timestamp(_) => AttributeKind::Timestamp,
+            Attribute::Unix => AttributeKind::Unix,
+            Attribute::Windows => AttributeKind::Windows,
+            Attribute::WorkingDirectory(_) => AttributeKind::WorkingDirectory,
+        }
+    }
+
+    /// The name of what it is.
+    pub fn name(&self) -> &'static str
+        ensures { result.now ≡ attribute_name (kind_of_attribute (attribute_of self.now)) }
+    {
+        self.kind().name()
+    }
+
+    /// Whether an item may have several of its kind.
+    pub fn repeatable(&self) -> bool
+        ensures { result ≡ is_repeatable (kind_of_attribute (attribute_of self.now)) }
+    {
+        matches!(
+            self.kind(),
+            AttributeKind::Arg | AttributeKind::Env | AttributeKind::Group | AttributeKind::Metadata
+        )
+    }
+}

@@ -1,0 +1,18 @@
+//! Attributes: what they hold, how they compare by content, how they are made of arguments, and their text.
+#![tactic(auto)]
+
+pub mod attribute;
+mod cache_values;
+mod copied;
+mod interpreter;
+mod new;
+mod order;
+mod part;
+mod parts_order;
+mod print;
+
+pub use crate::attribute::Attribute;
+pub use crate::interpreter::Interpreter;
+pub use crate::order::attribute_content_cmp;
+pub use crate::print::write_attribute;
+pub use justfile_base::{AttributeKind, Signal};

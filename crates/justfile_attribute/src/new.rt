@@ -1,0 +1,410 @@
+ghost use Rattle.std.specs.Prelude.{◌≡◌, ◌≤◌, IfOk, IsTrue, [], ◌∷◌, false, true, length};
+ghost use Rattle.std.specs.Option.{option_map};
+ghost use Rattle.justfile_base.specs.declared.attribute_kind.AttributeKind.TheVariants as kinds;
+ghost use Rattle.justfile_base.specs.declared.token.Token.{Token};
+ghost use Rattle.justfile_model.specs.AttributeKinds.{takes_expressions};
+ghost use Rattle.justfile_model.specs.Meaning.{first_of, texts_of};
+ghost use Rattle.justfile_model.specs.NewAttribute as new;
+ghost use Rattle.justfile_model.specs.Tree as tree;
+ghost use Rattle.justfile_tree.specs.LeafSight.{sees_leaves};
+ghost use Rattle.justfile_tree.specs.LeafTree.{leaf_tree_of};
+ghost use Rattle.justfile_attribute.specs.Attribute.{leaf_attribute_of};
+ghost use Rattle.justfile_attribute.specs.Cached.{cache_of, cache_read};
+ghost use Rattle.justfile_attribute.specs.New.{IsCounted, IsWholeAttribute, continue_made, has_texts, is_plain, values_of, with_known};
+ghost use Rattle.justfile_attribute_rules.specs.ArgumentRules.{AreNamed, rules_of};
+ghost use Rattle.justfile_attribute_rules.specs.Keys.{AreKeyed, IsTaken, key_arguments};
+ghost use Rattle.justfile_attribute_rules.specs.Made.{Makes, placed_leaves, quoted_leaf, quoted_leaves};
+
+use crate::attribute::Attribute;
+use crate::cache_values::CacheValues;
+use crate::interpreter::Interpreter;
+use justfile_attribute_rules::{
+    ArgumentRules, KeywordArguments, accepts_expressions, check_count, check_keys,
+    read_argument_rules, signal_set, string_literals, take_value,
+};
+use justfile_base::{AttributeKind, CompileResult, Name, StringLiteral, Token};
+use justfile_tree::Expression;
+use std::alloc::{AllocError, Global};
+
+impl<'src> Attribute<'src> {
+    /// The attribute of this kind with these arguments, of which those by position stand with their first tokens.
+    ///
+    /// # Errors
+    ///
+    /// `Compile` for the first rule that is broken; `Memory` if memory runs out.
+    #[tactic(auto, using(justfile_attribute_rules::proofs::Refused::refused_first, crate::proofs::Counted::as_many), unfolding(justfile_model::specs::NewAttribute::new_attribute))]
+    pub fn new(
+        alloc: Global,
+        name: Name<'src>,
+        kind: AttributeKind,
+        arguments: Vec<(Token<'src>, Box<Expression<'src>>)>,
+        keyword_arguments: KeywordArguments<'src>,
+    ) -> CompileResult<'src, Self>
+        requires keyed { AreKeyed keyword_arguments }
+        ensures made { Makes leaf_attribute_of result
+            (new.new_attribute sees_leaves name.entry.token kind (placed_leaves arguments.entry.items) (key_arguments keyword_arguments.entry)) }
+        ensures whole { IfOk result IsWholeAttribute }
+    {
+        check_count(name, kind, arguments.len())?;
+        if accepts_expressions(kind) {
+            from_expressions(name, kind, arguments, keyword_arguments)
+        } else {
+            from_literals(alloc, name, kind, arguments, keyword_arguments)
+        }
+    }
+}
+
+/// An attribute whose arguments by position are any expressions.
+#[tactic(auto, using(justfile_attribute_rules::proofs::Refused::refused_first))]
+fn from_expressions<'src>(
+    name: Name<'src>,
+    kind: AttributeKind,
+    arguments: Vec<(Token<'src>, Box<Expression<'src>>)>,
+    keys: KeywordArguments<'src>,
+) -> CompileResult<'src, Attribute<'src>>
+    requires keyed { AreKeyed keys }
+    requires kind { takes_expressions kind ≡ true }
+    requires counted { IsCounted name.token kind (length (placed_leaves arguments.items)) }
+    ensures made { Makes leaf_attribute_of result
+        (new.from_expressions sees_leaves name.entry.token kind (placed_leaves arguments.entry.items) (key_arguments keys.entry)) }
+    ensures whole { IfOk result IsWholeAttribute }
+{
+    check_keys(name, kind, &keys)?;
+    match kind {
+        AttributeKind::Confirm => Ok(Attribute::Confirm(first(arguments))),
+        AttributeKind::Doc => Ok(Attribute::Doc(first(arguments))),
+        AttributeKind::Env => Ok(env(arguments)),
+        AttributeKind::Timestamp => Ok(Attribute::Timestamp(first(arguments))),
+        AttributeKind::WorkingDirectory => Ok(working_directory(arguments)),
+        _ => unreachable!(),
+    }
+}
+
+/// The first argument by position, if there is one.
+#[tactic(auto, using(crate::proofs::Counted::first_is, crate::proofs::Counted::none_first))]
+fn first<'src>(
+    mut arguments: Vec<(Token<'src>, Box<Expression<'src>>)>,
+) -> Option<Box<Expression<'src>>>
+    ensures { option_map (λ b. leaf_tree_of b.value) result ≡ first_of (values_of (placed_leaves arguments.entry.items)) }
+{
+    if arguments.is_empty() {
+        return None;
+    }
+    let (_first, value) = arguments.remove(0);
+    Some(value)
+}
+
+/// `working-directory`
+#[tactic(auto, using(crate::proofs::Counted::directory_is))]
+fn working_directory<'src>(
+    mut arguments: Vec<(Token<'src>, Box<Expression<'src>>)>,
+) -> Attribute<'src>
+    requires { 1 ≤ length arguments.items }
+    ensures made { (at : Token) → leaf_attribute_of result ≡ new.new_of_expressions sees_leaves at kinds.WorkingDirectory (values_of (placed_leaves arguments.entry.items)) }
+    ensures whole { IsWholeAttribute result }
+{
+    let (_first, value) = arguments.remove(0);
+    Attribute::WorkingDirectory(value)
+}
+
+/// `env`
+#[tactic(auto, using(crate::proofs::Counted::env_is))]
+fn env<'src>(mut arguments: Vec<(Token<'src>, Box<Expression<'src>>)>) -> Attribute<'src>
+    requires { 2 ≤ length arguments.items }
+    ensures made { (at : Token) → leaf_attribute_of result ≡ new.new_of_expressions sees_leaves at kinds.Env (values_of (placed_leaves arguments.entry.items)) }
+    ensures whole { IsWholeAttribute result }
+{
+    let (_first, value) = arguments.remove(1);
+    let (_first, key) = arguments.remove(0);
+    Attribute::Env(key, value)
+}
+
+/// An attribute whose arguments by position are literals.
+#[tactic(auto, using(justfile_attribute_rules::proofs::Refused::refused_first))]
+fn from_literals<'src>(
+    alloc: Global,
+    name: Name<'src>,
+    kind: AttributeKind,
+    arguments: Vec<(Token<'src>, Box<Expression<'src>>)>,
+    mut keys: KeywordArguments<'src>,
+) -> CompileResult<'src, Attribute<'src>>
+    requires keyed { AreKeyed keys }
+    requires kind { takes_expressions kind ≡ false }
+    requires counted { IsCounted name.token kind (length (placed_leaves arguments.items)) }
+    ensures made { Makes leaf_attribute_of result
+        (new.from_literals sees_leaves name.entry.token kind (placed_leaves arguments.entry.items) (key_arguments keys.entry)) }
+    ensures whole { IfOk result IsWholeAttribute }
+{
+    let literals = string_literals(alloc, name, arguments)?;
+    of_literals(alloc, name, kind, literals, &mut keys)
+}
+
+/// An attribute of literals, which are counted, by the rules of its kind. Keys that it doesn't know are refused last.
+#[tactic(auto, using(crate::proofs::Counted::continue_known))]
+fn of_literals<'src>(
+    alloc: Global,
+    name: Name<'src>,
+    kind: AttributeKind,
+    literals: Vec<StringLiteral<'src>>,
+    keys: &mut KeywordArguments<'src>,
+) -> CompileResult<'src, Attribute<'src>>
+    requires keyed { AreKeyed keys.old }
+    requires kind { takes_expressions kind ≡ false }
+    requires counted { IsCounted name.token kind (length (quoted_leaves literals.items)) }
+    ensures made { Makes leaf_attribute_of result
+        (with_known (new.check_keys sees_leaves name.entry.token kind (key_arguments keys.old))
+        (new.new_of_literals sees_leaves name.entry.token kind (quoted_leaves literals.entry.items) (key_arguments keys.old))) }
+    ensures whole { IfOk result IsWholeAttribute }
+{
+    match kind {
+        AttributeKind::Arg => arg(alloc, name, literals, keys),
+        AttributeKind::Cache => cache(alloc, name, keys),
+        AttributeKind::Continue => proceed(alloc, name, literals, keys),
+        _ => of_texts(name, kind, literals, keys),
+    }
+}
+
+/// An attribute that has literals alone, or no arguments at all.
+#[tactic(auto, using(justfile_attribute_rules::proofs::Refused::refused_first, crate::proofs::Counted::known_made))]
+fn of_texts<'src>(
+    name: Name<'src>,
+    kind: AttributeKind,
+    literals: Vec<StringLiteral<'src>>,
+    keys: &KeywordArguments<'src>,
+) -> CompileResult<'src, Attribute<'src>>
+    requires keyed { AreKeyed keys.now }
+    requires kind { takes_expressions kind ≡ false }
+    requires texts { IsTrue (has_texts kind) }
+    requires counted { IsCounted name.token kind (length (quoted_leaves literals.items)) }
+    ensures made { Makes leaf_attribute_of result
+        (with_known (new.check_keys sees_leaves name.entry.token kind (key_arguments keys.now))
+        (new.new_of_literals sees_leaves name.entry.token kind (quoted_leaves literals.entry.items) (key_arguments keys.now))) }
+    ensures whole { IfOk result IsWholeAttribute }
+{
+    check_keys(name, kind, keys)?;
+    match kind {
+        AttributeKind::Extension => Ok(Attribute::Extension(only(literals))),
+        AttributeKind::Group => Ok(Attribute::Group(only(literals))),
+        AttributeKind::Metadata => Ok(Attribute::Metadata(literals)),
+        AttributeKind::Script => Ok(script(literals)),
+        _ => Ok(plain(kind)),
+    }
+}
+
+/// The first of literals of which there is one.
+#[tactic(auto, using(crate::proofs::Counted::only_is))]
+fn only(mut literals: Vec<StringLiteral<'_>>) -> StringLiteral<'_>
+    requires { length literals.items ≡ 1 }
+    ensures { quoted_leaves literals.entry.items ≡ quoted_leaf result ∷ [] }
+{
+    literals.remove(0)
+}
+
+/// An attribute that takes no arguments.
+fn plain<'src>(kind: AttributeKind) -> Attribute<'src>
+    requires { IsTrue (is_plain kind) }
+    ensures made { leaf_attribute_of result ≡ tree.Plain kind }
+    ensures whole { IsWholeAttribute result }
+{
+    match kind {
+        AttributeKind::Android => Attribute::Android,
+        AttributeKind::Default => Attribute::Default,
+        AttributeKind::Dragonfly => Attribute::Dragonfly,
+        AttributeKind::ExitMessage => Attribute::ExitMessage,
+        AttributeKind::Freebsd => Attribute::Freebsd,
+        AttributeKind::Linux => Attribute::Linux,
+        AttributeKind::Macos => Attribute::Macos,
+        AttributeKind::Netbsd => Attribute::Netbsd,
+        AttributeKind::NoCd => Attribute::NoCd,
+        AttributeKind::NoExitMessage => Attribute::NoExitMessage,
+        AttributeKind::NoQuiet => Attribute::NoQuiet,
+        AttributeKind::Openbsd => Attribute::Openbsd,
+        AttributeKind::Parallel => Attribute::Parallel,
+        AttributeKind::PositionalArguments => Attribute::PositionalArguments,
+        AttributeKind::Private => Attribute::Private,
+        AttributeKind::Shell => Attribute::Shell,
+        AttributeKind::Unix => Attribute::Unix,
+        AttributeKind::Windows => Attribute::Windows,
+        _ => unreachable!(),
+    }
+}
+
+/// `continue`
+#[tactic(auto, using(justfile_attribute_rules::proofs::Refused::refused_first))]
+fn proceed<'src>(
+    alloc: Global,
+    name: Name<'src>,
+    literals: Vec<StringLiteral<'src>>,
+    keys: &KeywordArguments<'src>,
+) -> CompileResult<'src, Attribute<'src>>
+    requires { AreKeyed keys.now }
+    ensures made { Makes leaf_attribute_of result
+        (with_known (new.check_keys sees_leaves name.entry.token kinds.Continue (key_arguments keys.now)) (continue_made (quoted_leaves literals.entry.items))) }
+    ensures whole { IfOk result IsWholeAttribute }
+{
+    let signals = signal_set(alloc, literals)?;
+    check_keys(name, AttributeKind::Continue, keys)?;
+    Ok(Attribute::Continue(signals))
+}
+
+/// `script`, of a program and its arguments, or bare.
+#[tactic(auto, using(crate::proofs::Counted::script_is))]
+fn script(mut literals: Vec<StringLiteral<'_>>) -> Attribute<'_>
+    ensures made { leaf_attribute_of result ≡ texts_of sees_leaves kinds.Script (quoted_leaves literals.entry.items) }
+    ensures whole { IsWholeAttribute result }
+{
+    if literals.is_empty() {
+        return Attribute::Script(None);
+    }
+    let command = literals.remove(0);
+    Attribute::Script(Some(Interpreter {
+        command,
+        arguments: literals,
+    }))
+}
+
+/// `cache`
+#[tactic(auto, using(crate::proofs::Cached::cache_made, crate::proofs::Cached::refused_known, crate::proofs::Cached::refused_cache))]
+fn cache<'src>(
+    alloc: Global,
+    name: Name<'src>,
+    keys: &mut KeywordArguments<'src>,
+) -> CompileResult<'src, Attribute<'src>>
+    requires { AreKeyed keys.old }
+    ensures made { Makes leaf_attribute_of result
+        (with_known (new.check_keys sees_leaves name.entry.token kinds.Cache (key_arguments keys.old)) (new.new_cache sees_leaves name.entry.token (key_arguments keys.old))) }
+    ensures whole { IfOk result IsWholeAttribute }
+{
+    let mut values = no_values(alloc)?;
+    let known = check_keys(name, AttributeKind::Cache, keys);
+    match read_cache(name, keys, &mut values) {
+        Ok(()) => match known {
+            Ok(()) => Ok(of_values(values)),
+            Err(fault) => Err(fault),
+        },
+        Err(fault) => Err(fault),
+    }
+}
+
+/// Nothing is said of a cache yet.
+fn no_values<'src>(alloc: Global) -> Result<Box<CacheValues<'src>>, AllocError> {
+    let values = CacheValues {
+        extra: None,
+        inputs: None,
+        outputs: None,
+    };
+    Ok(Box::new(alloc, values)?)
+}
+
+/// Takes the keys of `cache`, one after another.
+#[tactic(auto, using(justfile_attribute_rules::proofs::Refused::refused_first))]
+fn read_cache<'src>(
+    name: Name<'src>,
+    keys: &mut KeywordArguments<'src>,
+    values: &mut CacheValues<'src>,
+) -> CompileResult<'src>
+    requires { AreKeyed keys.old }
+    ensures { Makes (λ _. cache_of values.new) result (cache_read name.entry.token (key_arguments keys.old)) }
+{
+    read_value(name, keys, "extra", &mut values.extra)?;
+    read_value(name, keys, "inputs", &mut values.inputs)?;
+    read_value(name, keys, "outputs", &mut values.outputs)
+}
+
+/// Takes one key of `cache` with its value.
+fn read_value<'src>(
+    name: Name<'src>,
+    keys: &mut KeywordArguments<'src>,
+    word: &str,
+    value: &mut Option<Box<Expression<'src>>>,
+) -> CompileResult<'src>
+    requires { AreKeyed keys.old }
+    ensures read { Makes (λ _. option_map (λ b. leaf_tree_of b.value) value.new) result (new.required_at sees_leaves name.entry.token word.now (key_arguments keys.old)) }
+    ensures left { IsTaken word.now keys.old keys.new }
+{
+    match take_value(name, keys, word) {
+        Ok(given) => {
+            *value = given;
+            Ok(())
+        }
+        Err(fault) => Err(fault),
+    }
+}
+
+/// The attribute of what `cache` says.
+fn of_values(values: Box<CacheValues<'_>>) -> Attribute<'_>
+    ensures made { leaf_attribute_of result ≡ cache_of values.entry.value }
+    ensures whole { IsWholeAttribute result }
+{
+    let values = Box::into_inner(values);
+    Attribute::Cache {
+        extra: values.extra,
+        inputs: values.inputs,
+        outputs: values.outputs,
+    }
+}
+
+/// `arg`
+#[tactic(auto, using(justfile_attribute_rules::proofs::Refused::refused_first))]
+fn arg<'src>(
+    alloc: Global,
+    name: Name<'src>,
+    literals: Vec<StringLiteral<'src>>,
+    keys: &mut KeywordArguments<'src>,
+) -> CompileResult<'src, Attribute<'src>>
+    requires keyed { AreKeyed keys.old }
+    requires counted { length literals.items ≡ 1 }
+    ensures made { Makes leaf_attribute_of result
+        (with_known (new.check_keys sees_leaves name.entry.token kinds.Arg (key_arguments keys.old))
+        (new.new_arg sees_leaves name.entry.token (quoted_leaves literals.entry.items) (key_arguments keys.old))) }
+    ensures whole { IfOk result IsWholeAttribute }
+{
+    let argument = only(literals);
+    let known = check_keys(name, AttributeKind::Arg, keys);
+    match read_argument_rules(alloc, name, argument, keys) {
+        Ok(rules) => match known {
+            Ok(()) => Ok(of_rules(rules)),
+            Err(fault) => Err(fault),
+        },
+        Err(fault) => Err(fault),
+    }
+}
+
+/// The attribute of what is said of an argument.
+fn of_rules(rules: Box<ArgumentRules<'_>>) -> Attribute<'_>
+    requires { AreNamed rules.value }
+    ensures made { leaf_attribute_of result ≡ tree.Arg (rules_of rules.entry.value) }
+    ensures whole { IsWholeAttribute result }
+{
+    let rules = Box::into_inner(rules);
+    let (max_key, max) = parts(rules.max);
+    let (min_key, min) = parts(rules.min);
+    Attribute::Arg {
+        flag: rules.flag,
+        help: None,
+        help_property: rules.help_property,
+        long: rules.long,
+        long_key: rules.long_key,
+        max,
+        max_key,
+        min,
+        min_key,
+        multiple: rules.multiple,
+        name: rules.name,
+        pattern_property: rules.pattern_property,
+        short: rules.short,
+        short_key: rules.short_key,
+        value: rules.value,
+    }
+}
+
+/// A key and its number, each by itself.
+fn parts<'src>(bound: Option<(Name<'src>, u64)>) -> (Option<Name<'src>>, Option<u64>)
+    ensures key { result.0 ≡ option_map (λ p. p.0) bound.entry }
+    ensures number { result.1 ≡ option_map (λ p. p.1) bound.entry }
+{
+    match bound {
+        Some((key, number)) => (Some(key), Some(number)),
+        None => (None, None),
+    }
+}

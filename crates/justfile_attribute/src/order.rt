@@ -1,0 +1,284 @@
+//! How attributes compare by what they hold, wherever they stand: by their kinds, and within a kind by
+//! their fields in declared order.
+ghost use Rattle.std.specs.Prelude.{◌≡◌};
+ghost use denote.Enum.Declared.{tag_of};
+ghost use Rattle.std.specs.Ordering.{nat_cmp};
+ghost use Rattle.justfile_base.specs.contracts.attribute_kind.AttributeKind.{the_type};
+ghost use Rattle.justfile_base.specs.declared.attribute_kind.AttributeKind.TheVariants as kinds;
+ghost use Rattle.justfile_model.specs.ContentLeaf.{content_cmp};
+ghost use Rattle.justfile_model.specs.Key.{keys_cmp, end, next, keys_of, option_key, row};
+ghost use Rattle.justfile_attribute.specs.Order.{attribute_content_cmp, boxed_key, by_content, case_keys, case_kind, count_key, expression_key, interpreter_key, literal_key, name_key, number_token, option_literal, property_key, signal_key, token_key};
+
+use crate::attribute::Attribute;
+use crate::interpreter::Interpreter;
+use crate::parts_order::{
+    compare_bounds, compare_expressions, compare_interpreters, compare_named, compare_optional,
+    compare_properties, compare_rows, compare_tokens,
+};
+use justfile_base::{Signal, StringLiteral};
+use justfile_tree::{Expression, literal_content_cmp};
+use std::cmp::Ordering;
+use std::collections::BTreeSet;
+
+/// Compares two attributes by their kinds, and within a kind by what their fields hold.
+pub fn attribute_content_cmp<'src>(attribute: &Attribute<'src>, other: &Attribute<'src>) -> Ordering
+    ensures { result ≡ attribute_content_cmp attribute.now other.now }
+{
+    let order = compare_kinds(attribute, other);
+    if order.is_ne() {
+        return order;
+    }
+    compare_fields(attribute, other)
+}
+
+/// Compares what two attributes are, in the order of all kinds.
+fn compare_kinds(attribute: &Attribute<'_>, other: &Attribute<'_>) -> Ordering
+    ensures { result ≡ nat_cmp (tag_of the_type (case_kind attribute.now)) (tag_of the_type (case_kind other.now)) }
+{
+    kind_place(attribute).cmp(&kind_place(other))
+}
+
+/// The place of what an attribute is among all kinds.
+#[tactic(auto, using(crate::proofs::Ordered::place_is))]
+fn kind_place(attribute: &Attribute<'_>) -> u8
+    ensures { result ≡ tag_of the_type (case_kind attribute.now) }
+{
+    attribute.kind() as u8
+}
+
+/// Compares the fields of two attributes of one kind.
+fn compare_fields<'src>(attribute: &Attribute<'src>, other: &Attribute<'src>) -> Ordering
+    requires { case_kind attribute.now ≡ case_kind other.now }
+    ensures { result ≡ keys_cmp content_cmp (case_keys attribute.now) (case_keys other.now) }
+{
+    match attribute {
+        Attribute::Arg { .. } => compare_arg(attribute, other),
+        Attribute::Cache {
+            extra,
+            inputs,
+            outputs,
+        } => compare_cache(extra, inputs, outputs, other),
+        Attribute::Confirm(prompt) => compare_confirm(prompt, other),
+        Attribute::Continue(signals) => compare_continue(signals, other),
+        Attribute::Doc(doc) => compare_doc(doc, other),
+        Attribute::Env(name, value) => compare_env(name, value, other),
+        Attribute::Extension(extension) => compare_extension(extension, other),
+        Attribute::Group(group) => compare_group(group, other),
+        Attribute::Metadata(texts) => compare_metadata(texts, other),
+        Attribute::Script(interpreter) => compare_script(interpreter, other),
+        Attribute::Timestamp(format) => compare_timestamp(format, other),
+        Attribute::WorkingDirectory(path) => compare_working_directory(path, other),
+        _ => Ordering::Equal,
+    }
+}
+
+/// Compares what two attributes say of parameters.
+fn compare_arg<'src>(attribute: &Attribute<'src>, other: &Attribute<'src>) -> Ordering
+    requires one { kinds.Arg ≡ case_kind attribute.now }
+    requires another { kinds.Arg ≡ case_kind other.now }
+    ensures { result ≡ keys_cmp content_cmp (case_keys attribute.now) (case_keys other.now) }
+{
+    match attribute {
+        Attribute::Arg {
+            flag,
+            help_property,
+            long,
+            long_key,
+            max,
+            max_key,
+            min,
+            min_key,
+            multiple,
+            name,
+            pattern_property,
+            short,
+            short_key,
+            value,
+            ..
+        } => match other {
+            Attribute::Arg {
+                flag: other_flag,
+                help_property: other_help,
+                long: other_long,
+                long_key: other_long_key,
+                max: other_max,
+                max_key: other_max_key,
+                min: other_min,
+                min_key: other_min_key,
+                multiple: other_multiple,
+                name: other_name,
+                pattern_property: other_pattern,
+                short: other_short,
+                short_key: other_short_key,
+                value: other_value,
+                ..
+            } => compare_tokens(flag, other_flag)
+                .then(compare_properties(help_property, other_help))
+                .then(compare_named(name, long_key, long, other_name, other_long_key, other_long))
+                .then(compare_bounds(name, max_key, max, other_name, other_max_key, other_max))
+                .then(compare_bounds(name, min_key, min, other_name, other_min_key, other_min))
+                .then(compare_tokens(multiple, other_multiple))
+                .then(literal_content_cmp(name, other_name))
+                .then(compare_properties(pattern_property, other_pattern))
+                .then(compare_named(
+                    name,
+                    short_key,
+                    short,
+                    other_name,
+                    other_short_key,
+                    other_short,
+                ))
+                .then(compare_optional(value, other_value)),
+            _ => Ordering::Equal,
+        },
+        _ => Ordering::Equal,
+    }
+}
+
+/// Compares what two attributes say of a cache.
+fn compare_cache<'src>(
+    extra: &Option<Box<Expression<'src>>>,
+    inputs: &Option<Box<Expression<'src>>>,
+    outputs: &Option<Box<Expression<'src>>>,
+    other: &Attribute<'src>,
+) -> Ordering
+    requires { kinds.Cache ≡ case_kind other.now }
+    ensures { result ≡ keys_cmp content_cmp (next (option_key boxed_key extra.now) (next (option_key boxed_key inputs.now)
+        (next (option_key boxed_key outputs.now) end))) (case_keys other.now) }
+{
+    match other {
+        Attribute::Cache {
+            extra: other_extra,
+            inputs: other_inputs,
+            outputs: other_outputs,
+        } => compare_optional(extra, other_extra)
+            .then(compare_optional(inputs, other_inputs))
+            .then(compare_optional(outputs, other_outputs)),
+        _ => Ordering::Equal,
+    }
+}
+
+/// Compares two prompts, which may be absent.
+fn compare_confirm<'src>(
+    prompt: &Option<Box<Expression<'src>>>,
+    other: &Attribute<'src>,
+) -> Ordering
+    requires { kinds.Confirm ≡ case_kind other.now }
+    ensures { result ≡ keys_cmp content_cmp (next (option_key boxed_key prompt.now) end) (case_keys other.now) }
+{
+    match other {
+        Attribute::Confirm(other) => compare_optional(prompt, other),
+        _ => Ordering::Equal,
+    }
+}
+
+/// Compares the signals of two attributes.
+fn compare_continue<'src>(signals: &BTreeSet<Signal>, other: &Attribute<'src>) -> Ordering
+    requires { kinds.Continue ≡ case_kind other.now }
+    ensures { result ≡ keys_cmp content_cmp (next (row (keys_of signal_key signals.now.keys)) end) (case_keys other.now) }
+{
+    match other {
+        Attribute::Continue(other) => signals.cmp(other),
+        _ => Ordering::Equal,
+    }
+}
+
+/// Compares two docs, which may be absent.
+fn compare_doc<'src>(doc: &Option<Box<Expression<'src>>>, other: &Attribute<'src>) -> Ordering
+    requires { kinds.Doc ≡ case_kind other.now }
+    ensures { result ≡ keys_cmp content_cmp (next (option_key boxed_key doc.now) end) (case_keys other.now) }
+{
+    match other {
+        Attribute::Doc(other) => compare_optional(doc, other),
+        _ => Ordering::Equal,
+    }
+}
+
+/// Compares the names and values of two variables of the environment.
+fn compare_env<'src>(
+    name: &Expression<'src>,
+    value: &Expression<'src>,
+    other: &Attribute<'src>,
+) -> Ordering
+    requires { kinds.Env ≡ case_kind other.now }
+    ensures { result ≡ keys_cmp content_cmp (next (expression_key name.now) (next (expression_key value.now) end)) (case_keys other.now) }
+{
+    match other {
+        Attribute::Env(other_name, other_value) => {
+            compare_expressions(name, other_name).then(compare_expressions(value, other_value))
+        }
+        _ => Ordering::Equal,
+    }
+}
+
+/// Compares two extensions.
+fn compare_extension<'src>(extension: &StringLiteral<'src>, other: &Attribute<'src>) -> Ordering
+    requires { kinds.Extension ≡ case_kind other.now }
+    ensures { result ≡ keys_cmp content_cmp (next (literal_key extension.now) end) (case_keys other.now) }
+{
+    match other {
+        Attribute::Extension(other) => literal_content_cmp(extension, other),
+        _ => Ordering::Equal,
+    }
+}
+
+/// Compares the names of two groups.
+fn compare_group<'src>(group: &StringLiteral<'src>, other: &Attribute<'src>) -> Ordering
+    requires { kinds.Group ≡ case_kind other.now }
+    ensures { result ≡ keys_cmp content_cmp (next (literal_key group.now) end) (case_keys other.now) }
+{
+    match other {
+        Attribute::Group(other) => literal_content_cmp(group, other),
+        _ => Ordering::Equal,
+    }
+}
+
+/// Compares two rows of metadata.
+fn compare_metadata<'src>(texts: &Vec<StringLiteral<'src>>, other: &Attribute<'src>) -> Ordering
+    requires { kinds.Metadata ≡ case_kind other.now }
+    ensures { result ≡ keys_cmp content_cmp (next (row (keys_of literal_key texts.now.items)) end) (case_keys other.now) }
+{
+    match other {
+        Attribute::Metadata(other) => compare_rows(texts, other),
+        _ => Ordering::Equal,
+    }
+}
+
+/// Compares two interpreters, which may be absent.
+fn compare_script<'src>(
+    interpreter: &Option<Interpreter<StringLiteral<'src>>>,
+    other: &Attribute<'src>,
+) -> Ordering
+    requires { kinds.Script ≡ case_kind other.now }
+    ensures { result ≡ keys_cmp content_cmp (next (option_key interpreter_key interpreter.now) end) (case_keys other.now) }
+{
+    match other {
+        Attribute::Script(other) => compare_interpreters(interpreter, other),
+        _ => Ordering::Equal,
+    }
+}
+
+/// Compares two formats of times, which may be absent.
+fn compare_timestamp<'src>(
+    format: &Option<Box<Expression<'src>>>,
+    other: &Attribute<'src>,
+) -> Ordering
+    requires { kinds.Timestamp ≡ case_kind other.now }
+    ensures { result ≡ keys_cmp content_cmp (next (option_key boxed_key format.now) end) (case_keys other.now) }
+{
+    match other {
+        Attribute::Timestamp(other) => compare_optional(format, other),
+        _ => Ordering::Equal,
+    }
+}
+
+/// Compares two working directories.
+fn compare_working_directory<'src>(path: &Expression<'src>, other: &Attribute<'src>) -> Ordering
+    requires { kinds.WorkingDirectory ≡ case_kind other.now }
+    ensures { result ≡ keys_cmp content_cmp (next (expression_key path.now) end) (case_keys other.now) }
+{
+    match other {
+        Attribute::WorkingDirectory(other) => compare_expressions(path, other),
+        _ => Ordering::Equal,
+    }
+}

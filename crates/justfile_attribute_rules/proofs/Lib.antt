@@ -1,0 +1,6 @@
+pub mod Counts
+pub mod KeyLemmas
+pub mod Loops
+pub mod Quoted
+pub mod Refused
+pub mod StepLaws

@@ -1,0 +1,253 @@
+ghost use Rattle.std.specs.Prelude.{◌≡◌, IfOk, OnOk, codes, string_bytes};
+ghost use Rattle.std.specs.Option.{option_map};
+ghost use Rattle.justfile_base.specs.declared.string_literal.StringLiteral.{StringLiteral};
+ghost use Rattle.justfile_model.specs.NewAttribute as new;
+ghost use Rattle.justfile_tree.specs.LeafSight.{sees_leaves};
+ghost use Rattle.justfile_attribute_rules.specs.ArgumentRules.{AreNamed, option_of, rules_of};
+ghost use Rattle.justfile_attribute_rules.specs.Keys.{AreKeyed, IsTaken, key_arguments};
+ghost use Rattle.justfile_attribute_rules.specs.Made.{Makes, bound_at, quoted_leaf};
+ghost use Rattle.justfile_attribute_rules.specs.Steps.{after_bounds, after_names, after_switches, after_values, bounds_read, help_read, named_only, names_read, rules_read, switches_read, values_read, at, long_of, short_of, with_long, with_short, with_numbers};
+
+use crate::argument_rules::ArgumentRules;
+use crate::keys::{KeywordArguments, take_required};
+use crate::numbers::{check_bounds, take_bound};
+use crate::options::{OptionName, name_option, take_option};
+use crate::switches::{take_flag, take_multiple, take_value};
+use justfile_base::{CompileResult, Name, StringLiteral};
+use std::alloc::{AllocError, Global};
+
+/// What an `arg` says of its argument by its keys, which are taken out of the map one after another.
+///
+/// # Errors
+///
+/// `Compile` for the first rule that is broken; `Memory` if memory runs out.
+pub fn read_argument_rules<'src>(
+    alloc: Global,
+    name: Name<'src>,
+    argument: StringLiteral<'src>,
+    keys: &mut KeywordArguments<'src>,
+) -> CompileResult<'src, Box<ArgumentRules<'src>>>
+    requires { AreKeyed keys.old }
+    ensures made { Makes (λ rules. rules_of rules.value) result
+        (new.new_rules sees_leaves name.entry.token (string_bytes argument.entry.cooked) (quoted_leaf argument.entry) (key_arguments keys.old)) }
+    ensures named { IfOk result (λ rules. AreNamed rules.value) }
+{
+    let mut rules = boxed(alloc, argument)?;
+    read_rules(alloc, name, keys, &mut rules)?;
+    name_options(alloc, &mut rules)?;
+    Ok(rules)
+}
+
+/// Nothing is said of the argument yet, in a box.
+fn boxed<'src>(
+    alloc: Global,
+    argument: StringLiteral<'src>,
+) -> Result<Box<ArgumentRules<'src>>, AllocError>
+    ensures { IfOk result (λ rules. rules_of rules.value ≡ named_only (quoted_leaf argument.entry)) }
+{
+    Ok(Box::new(alloc, named(argument))?)
+}
+
+/// Nothing is said of the argument but its name.
+fn named(argument: StringLiteral<'_>) -> ArgumentRules<'_>
+    ensures { rules_of result ≡ named_only (quoted_leaf argument.entry) }
+{
+    ArgumentRules {
+        flag: None,
+        help_property: None,
+        long: None,
+        long_key: None,
+        max: None,
+        min: None,
+        multiple: None,
+        name: argument,
+        pattern_property: None,
+        short: None,
+        short_key: None,
+        value: None,
+    }
+}
+
+/// Takes all keys in their order.
+#[tactic(auto, using(crate::proofs::Refused::refused_first))]
+fn read_rules<'src>(
+    alloc: Global,
+    name: Name<'src>,
+    keys: &mut KeywordArguments<'src>,
+    rules: &mut ArgumentRules<'src>,
+) -> CompileResult<'src>
+    requires { AreKeyed keys.old }
+    ensures { Makes (λ _. rules_of rules.new) result (rules_read name.entry.token (key_arguments keys.old) (rules_of rules.old)) }
+{
+    read_names(alloc, name, keys, rules)?;
+    read_values(name, keys, rules)?;
+    read_switches(alloc, keys, rules)?;
+    read_bounds(alloc, name, keys, rules)?;
+    read_help(name, keys, rules)
+}
+
+/// Takes `long` and `short`.
+#[tactic(auto, using(crate::proofs::Refused::refused_first))]
+fn read_names<'src>(
+    alloc: Global,
+    name: Name<'src>,
+    keys: &mut KeywordArguments<'src>,
+    rules: &mut ArgumentRules<'src>,
+) -> CompileResult<'src>
+    requires { AreKeyed keys.old }
+    ensures read { Makes (λ _. rules_of rules.new) result (names_read name.entry.token (key_arguments keys.old) (rules_of rules.old)) }
+    ensures left { OnOk result (key_arguments keys.new ≡ after_names (key_arguments keys.old)) }
+    ensures keyed { OnOk result (AreKeyed keys.new) }
+{
+    read_long(alloc, name, keys, rules)?;
+    read_short(alloc, name, keys, rules)
+}
+
+/// Takes `long`.
+#[tactic(auto, using(crate::proofs::Refused::refused_first))]
+fn read_long<'src>(
+    alloc: Global,
+    name: Name<'src>,
+    keys: &mut KeywordArguments<'src>,
+    rules: &mut ArgumentRules<'src>,
+) -> CompileResult<'src>
+    requires { AreKeyed keys.old }
+    ensures read { Makes (λ _. rules_of rules.new) result (long_of name.entry.token (at (codes "long") (key_arguments keys.old)) (rules_of rules.old)) }
+    ensures left { IsTaken (codes "long") keys.old keys.new }
+{
+    match take_option(alloc, name, &rules.name, false, keys) {
+        Ok(long) => {
+            set_long(rules, long);
+            Ok(())
+        }
+        Err(fault) => Err(fault),
+    }
+}
+
+/// Sets the name of the long option.
+fn set_long<'src>(rules: &mut ArgumentRules<'src>, long: OptionName<'src>)
+    ensures { rules_of rules.new ≡ with_long (option_of long.entry.1 long.entry.0) (rules_of rules.old) }
+{
+    let (long, long_key) = long;
+    rules.long = long;
+    rules.long_key = long_key;
+}
+
+/// Takes `short`.
+#[tactic(auto, using(crate::proofs::Refused::refused_first))]
+fn read_short<'src>(
+    alloc: Global,
+    name: Name<'src>,
+    keys: &mut KeywordArguments<'src>,
+    rules: &mut ArgumentRules<'src>,
+) -> CompileResult<'src>
+    requires { AreKeyed keys.old }
+    ensures read { Makes (λ _. rules_of rules.new) result (short_of name.entry.token (at (codes "short") (key_arguments keys.old)) (rules_of rules.old)) }
+    ensures left { IsTaken (codes "short") keys.old keys.new }
+{
+    match take_option(alloc, name, &rules.name, true, keys) {
+        Ok(short) => {
+            set_short(rules, short);
+            Ok(())
+        }
+        Err(fault) => Err(fault),
+    }
+}
+
+/// Sets the name of the short option.
+fn set_short<'src>(rules: &mut ArgumentRules<'src>, short: OptionName<'src>)
+    ensures { rules_of rules.new ≡ with_short (option_of short.entry.1 short.entry.0) (rules_of rules.old) }
+{
+    let (short, short_key) = short;
+    rules.short = short;
+    rules.short_key = short_key;
+}
+
+/// Takes `pattern` and `value`.
+#[tactic(auto, using(crate::proofs::Refused::refused_first))]
+fn read_values<'src>(
+    name: Name<'src>,
+    keys: &mut KeywordArguments<'src>,
+    rules: &mut ArgumentRules<'src>,
+) -> CompileResult<'src>
+    requires { AreKeyed keys.old }
+    ensures read { Makes (λ _. rules_of rules.new) result (values_read name.entry.token (key_arguments keys.old) (rules_of rules.old)) }
+    ensures left { OnOk result (key_arguments keys.new ≡ after_values (key_arguments keys.old)) }
+    ensures keyed { OnOk result (AreKeyed keys.new) }
+{
+    rules.pattern_property = take_required(name, keys, "pattern")?;
+    rules.value = take_value(keys, rules)?;
+    Ok(())
+}
+
+/// Takes `flag` and `multiple`.
+#[tactic(auto, using(crate::proofs::Refused::refused_first))]
+fn read_switches<'src>(
+    alloc: Global,
+    keys: &mut KeywordArguments<'src>,
+    rules: &mut ArgumentRules<'src>,
+) -> CompileResult<'src>
+    requires { AreKeyed keys.old }
+    ensures read { Makes (λ _. rules_of rules.new) result (switches_read rules.old.name.token (key_arguments keys.old) (rules_of rules.old)) }
+    ensures left { OnOk result (key_arguments keys.new ≡ after_switches (key_arguments keys.old)) }
+    ensures keyed { OnOk result (AreKeyed keys.new) }
+{
+    rules.flag = take_flag(alloc, keys, rules)?;
+    rules.multiple = take_multiple(keys, rules)?;
+    Ok(())
+}
+
+/// Takes `max` and `min`.
+#[tactic(auto, using(crate::proofs::Refused::refused_first))]
+fn read_bounds<'src>(
+    alloc: Global,
+    name: Name<'src>,
+    keys: &mut KeywordArguments<'src>,
+    rules: &mut ArgumentRules<'src>,
+) -> CompileResult<'src>
+    requires { AreKeyed keys.old }
+    ensures read { Makes (λ _. rules_of rules.new) result (bounds_read name.entry.token (key_arguments keys.old) (rules_of rules.old)) }
+    ensures left { OnOk result (key_arguments keys.new ≡ after_bounds (key_arguments keys.old)) }
+    ensures keyed { OnOk result (AreKeyed keys.new) }
+{
+    let max = take_bound(alloc, name, keys, "max")?;
+    let min = take_bound(alloc, name, keys, "min")?;
+    check_bounds(min, max)?;
+    set_bounds(rules, min, max);
+    Ok(())
+}
+
+/// Sets the numbers.
+fn set_bounds<'src>(
+    rules: &mut ArgumentRules<'src>,
+    min: Option<(Name<'src>, u64)>,
+    max: Option<(Name<'src>, u64)>,
+)
+    ensures { rules_of rules.new ≡ with_numbers (option_map bound_at min.entry) (option_map bound_at max.entry) (rules_of rules.old) }
+{
+    rules.min = min;
+    rules.max = max;
+}
+
+/// Takes `help`.
+#[tactic(auto, using(crate::proofs::Refused::refused_first))]
+fn read_help<'src>(
+    name: Name<'src>,
+    keys: &mut KeywordArguments<'src>,
+    rules: &mut ArgumentRules<'src>,
+) -> CompileResult<'src>
+    requires { AreKeyed keys.old }
+    ensures { Makes (λ _. rules_of rules.new) result (help_read name.entry.token (key_arguments keys.old) (rules_of rules.old)) }
+{
+    rules.help_property = take_required(name, keys, "help")?;
+    Ok(())
+}
+
+/// Names the options whose keys stand alone as the argument.
+fn name_options<'src>(alloc: Global, rules: &mut ArgumentRules<'src>) -> Result<(), AllocError>
+    ensures same { rules_of rules.new ≡ rules_of rules.old }
+    ensures named { OnOk result (AreNamed rules.new) }
+{
+    name_option(alloc, &rules.name, &rules.long_key, &mut rules.long)?;
+    name_option(alloc, &rules.name, &rules.short_key, &mut rules.short)
+}

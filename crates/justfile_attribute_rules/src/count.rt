@@ -1,0 +1,61 @@
+ghost use Rattle.std.specs.Prelude.{◌≡◌};
+ghost use Rattle.justfile_model.specs.AttributeKinds.{least_count, most_count, takes_expressions};
+ghost use Rattle.justfile_model.specs.NewAttribute as new;
+ghost use Rattle.justfile_tree.specs.LeafSight.{sees_leaves};
+ghost use Rattle.justfile_attribute_rules.specs.Made.{Makes};
+ghost use Rattle.justfile_attribute_rules.specs.RuleErrors.{IsMost};
+
+use justfile_base::{AttributeKind, CompileErrorKind, CompileResult, Fault, Name};
+
+/// Whether the arguments by position are any expressions, where those of other kinds are literals.
+pub fn accepts_expressions(kind: AttributeKind) -> bool
+    ensures { result ≡ takes_expressions kind }
+{
+    matches!(
+        kind,
+        AttributeKind::Confirm
+            | AttributeKind::Doc
+            | AttributeKind::Env
+            | AttributeKind::Timestamp
+            | AttributeKind::WorkingDirectory
+    )
+}
+
+/// How many arguments by position there are at least, and at most. The greatest number stands for no bound.
+fn argument_range(kind: AttributeKind) -> (usize, usize)
+    ensures least { result.0 ≡ least_count kind }
+    ensures most { IsMost (most_count kind) result.1 }
+{
+    match kind {
+        AttributeKind::Confirm | AttributeKind::Doc | AttributeKind::Timestamp => (0, 1),
+        AttributeKind::Continue | AttributeKind::Script => (0, usize::MAX),
+        AttributeKind::Arg
+        | AttributeKind::Extension
+        | AttributeKind::Group
+        | AttributeKind::WorkingDirectory => (1, 1),
+        AttributeKind::Env => (2, 2),
+        AttributeKind::Metadata => (1, usize::MAX),
+        _ => (0, 0),
+    }
+}
+
+/// Refuses too few or too many arguments by position.
+///
+/// # Errors
+///
+/// `Compile` at the name.
+#[tactic(auto, using(crate::proofs::Counts::more_is))]
+pub fn check_count<'src>(name: Name<'src>, kind: AttributeKind, found: usize) -> CompileResult<'src>
+    ensures { Makes (λ _. tt) result (new.check_count sees_leaves name.entry.token kind found) }
+{
+    let (min, max) = argument_range(kind);
+    if found < min || max < found {
+        return Err(Fault::Compile(name.error(CompileErrorKind::AttributeArgumentCountMismatch {
+            attribute: name,
+            found,
+            min,
+            max,
+        })));
+    }
+    Ok(())
+}

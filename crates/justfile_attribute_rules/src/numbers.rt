@@ -1,0 +1,133 @@
+ghost use Rattle.std.specs.Prelude.{◌≡◌, IsTrue, [], string_bytes};
+ghost use Rattle.std.specs.List.{list_all};
+ghost use Rattle.std.specs.Option.{option_map};
+ghost use Rattle.justfile_model.proofs.CountLaws.{is_digit_byte};
+ghost use Rattle.justfile_model.specs.Meaning as means;
+ghost use Rattle.justfile_model.specs.Meaning.{at_key};
+ghost use Rattle.justfile_model.specs.NewAttribute as new;
+ghost use Rattle.justfile_tree.specs.LeafSight.{sees_leaves};
+ghost use Rattle.justfile_tree.specs.LeafTree.{leaf_tree_of};
+ghost use Rattle.justfile_attribute_rules.specs.Keys.{AreKeyed, IsTaken, key_arguments};
+ghost use Rattle.justfile_attribute_rules.specs.Made.{Makes, bound_at, bound_made, count_made, quoted_leaf, within};
+
+use crate::keys::{KeywordArguments, missing_value, take};
+use crate::literals::key_literal;
+use justfile_base::{CompileErrorKind, CompileResult, Fault, Name, StringLiteral};
+use justfile_tree::Expression;
+use std::alloc::Global;
+
+/// Takes the key of `max` or `min`, and reads its number.
+///
+/// # Errors
+///
+/// `Compile` at the key for a value that is absent or no literal, and else at the literal; `Memory` if memory runs out.
+#[tactic(auto, using(crate::proofs::Refused::refused_first))]
+pub(crate) fn take_bound<'src>(
+    alloc: Global,
+    name: Name<'src>,
+    keys: &mut KeywordArguments<'src>,
+    word: &str,
+) -> CompileResult<'src, Option<(Name<'src>, u64)>>
+    requires { AreKeyed keys.old }
+    ensures taken { Makes (option_map bound_at) result
+        (new.if_given (new.bound sees_leaves name.entry.token []) (at_key sees_leaves word.now (key_arguments keys.old))) }
+    ensures left { IsTaken word.now keys.old keys.new }
+{
+    match take(keys, word) {
+        None => Ok(None),
+        Some((key, None)) => Err(missing_value(key)),
+        Some((key, Some(value))) => bound(alloc, name, key, value),
+    }
+}
+
+/// The number that a key has as its value.
+#[tactic(auto, using(crate::proofs::Refused::refused_first))]
+fn bound<'src>(
+    alloc: Global,
+    name: Name<'src>,
+    key: Name<'src>,
+    value: Box<Expression<'src>>,
+) -> CompileResult<'src, Option<(Name<'src>, u64)>>
+    ensures { Makes (option_map bound_at) result (bound_made name.entry.token key.entry.token (leaf_tree_of value.entry.value)) }
+{
+    let literal = key_literal(name, key, value)?;
+    let number = read_count(alloc, key, &literal)?;
+    Ok(Some((key, number)))
+}
+
+/// The number that a literal writes.
+fn read_count<'src>(
+    alloc: Global,
+    key: Name<'src>,
+    literal: &StringLiteral<'src>,
+) -> CompileResult<'src, u64>
+    ensures { Makes (λ number. number) result (count_made key.entry.token (quoted_leaf literal.now)) }
+{
+    let text = literal.cooked.as_str();
+    if !is_count(text.as_bytes()) {
+        let value = text.to_string(alloc)?;
+        return Err(Fault::Compile(
+            literal
+                .token
+                .error(CompileErrorKind::ArgumentCountValue { key, value }),
+        ));
+    }
+    match parse_count(text) {
+        Some(number) => Ok(number),
+        None => {
+            let value = text.to_string(alloc)?;
+            Err(Fault::Compile(
+                literal
+                    .token
+                    .error(CompileErrorKind::ArgumentCountParse { key, value }),
+            ))
+        }
+    }
+}
+
+/// Whether the text is `0`, or digits of which the first is no `0`.
+#[tactic(auto, using(justfile_model::proofs::CountLaws::is_count_by))]
+fn is_count(text: &[u8]) -> bool
+    ensures { result ≡ means.is_count text.now }
+{
+    !text.is_empty() && are_digits(text) && (text.len() == 1 || text[0] != b'0')
+}
+
+/// Whether each byte is a digit.
+#[tactic(auto, using(justfile_model::proofs::CountLaws::digits_are_ascii))]
+fn are_digits(text: &[u8]) -> bool
+    ensures { result ≡ list_all is_digit_byte text.now }
+{
+    text.iter().all(|digit| digit.is_ascii_digit())
+}
+
+/// The number that such a text writes, if it fits.
+#[tactic(auto, using(justfile_model::proofs::CountLaws::count_read))]
+fn parse_count(text: &str) -> Option<u64>
+    requires { IsTrue (means.is_count text.now) }
+    ensures { result ≡ means.count_of text.now }
+{
+    text.parse().ok()
+}
+
+/// Refuses numbers of which the least is above the greatest.
+///
+/// # Errors
+///
+/// `Compile` at the key of the least.
+pub(crate) fn check_bounds<'src>(
+    min: Option<(Name<'src>, u64)>,
+    max: Option<(Name<'src>, u64)>,
+) -> CompileResult<'src>
+    ensures { Makes (λ _. tt) result (within (option_map bound_at min.entry) (option_map bound_at max.entry)) }
+{
+    if let (Some((key, min)), Some((_, max))) = (min, max) {
+        if max < min {
+            return Err(Fault::Compile(key.error(CompileErrorKind::ArgAttributeMinExceedsMax {
+                min,
+                max,
+            })));
+        }
+    }
+    Ok(())
+}

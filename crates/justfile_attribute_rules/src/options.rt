@@ -1,0 +1,150 @@
+ghost use Rattle.std.specs.Prelude.{◌≡◌, ◌==◌, length, IfOk, OnOk, Some, None, string_bytes};
+ghost use Rattle.std.specs.Option.{option_map};
+ghost use Rattle.std.specs.Str.{chars};
+ghost use Rattle.justfile_model.specs.Meaning.{at_key};
+ghost use Rattle.justfile_model.specs.NewAttribute as new;
+ghost use Rattle.justfile_tree.specs.LeafSight.{sees_leaves};
+ghost use Rattle.justfile_tree.specs.LeafTree.{Named, leaf_tree_of};
+ghost use Rattle.justfile_attribute_rules.specs.ArgumentRules.{IsNamedAs, option_of};
+ghost use Rattle.justfile_attribute_rules.specs.Keys.{AreKeyed, IsTaken, key_arguments};
+ghost use Rattle.justfile_attribute_rules.specs.Made.{Makes, option_word, quoted_leaf};
+
+use crate::keys::{KeywordArguments, take};
+use crate::literals::key_literal;
+use justfile_base::{CompileErrorKind, CompileResult, Fault, Name, StringLiteral};
+use justfile_tree::Expression;
+use std::alloc::{AllocError, Global};
+
+/// The literal that names an option, or the key that names it as the argument, or none of them.
+pub(crate) type OptionName<'src> = (Option<StringLiteral<'src>>, Option<Name<'src>>);
+
+/// Takes the key of `long` or `short`, and reads the option's name.
+///
+/// # Errors
+///
+/// `Compile` at the key for a value that is no literal, and else at the literal; `Memory` if memory runs out.
+pub(crate) fn take_option<'src>(
+    alloc: Global,
+    name: Name<'src>,
+    argument: &StringLiteral<'src>,
+    is_short: bool,
+    keys: &mut KeywordArguments<'src>,
+) -> CompileResult<'src, OptionName<'src>>
+    requires { AreKeyed keys.old }
+    ensures taken { Makes (λ p. option_of p.1 p.0) result
+        (new.option sees_leaves name.entry.token (string_bytes argument.now.cooked) is_short (at_key sees_leaves (option_word is_short) (key_arguments keys.old))) }
+    ensures left { IsTaken (option_word is_short) keys.old keys.new }
+{
+    let word = if is_short { "short" } else { "long" };
+    match take(keys, word) {
+        None => Ok((None, None)),
+        Some((key, None)) => Ok((None, Some(key))),
+        Some((key, Some(value))) => option_name(alloc, name, argument, is_short, key, value),
+    }
+}
+
+/// The name of an option, as the value of its key gives it.
+#[tactic(auto, using(crate::proofs::Refused::refused_first))]
+fn option_name<'src>(
+    alloc: Global,
+    name: Name<'src>,
+    argument: &StringLiteral<'src>,
+    is_short: bool,
+    key: Name<'src>,
+    value: Box<Expression<'src>>,
+) -> CompileResult<'src, OptionName<'src>>
+    ensures { Makes (λ p. option_of p.1 p.0) result
+        (new.option_by sees_leaves name.entry.token (string_bytes argument.now.cooked) is_short (Named key.entry.token None) (Some (leaf_tree_of value.entry.value))) }
+{
+    let literal = key_literal(name, key, value)?;
+    check_option_name(alloc, argument, &literal)?;
+    check_short(alloc, argument, is_short, &literal)?;
+    Ok((Some(literal), None))
+}
+
+/// Names an option whose key stands alone as the argument.
+pub(crate) fn name_option<'src>(
+    alloc: Global,
+    argument: &StringLiteral<'src>,
+    key: &Option<Name<'src>>,
+    option: &mut Option<StringLiteral<'src>>,
+) -> Result<(), AllocError>
+    ensures same { option_of key.now option.new ≡ option_of key.now option.old }
+    ensures named { OnOk result (IsNamedAs argument.now key.now option.new) }
+{
+    if key.is_some() {
+        *option = Some(argument.clone(alloc)?);
+    }
+    Ok(())
+}
+
+/// Refuses the name of an option that has a `=`, begins with a `-`, or is empty.
+fn check_option_name<'src>(
+    alloc: Global,
+    argument: &StringLiteral<'src>,
+    literal: &StringLiteral<'src>,
+) -> CompileResult<'src>
+    ensures { Makes (λ _. tt) result
+        (new.check_option_name sees_leaves literal.now.token (string_bytes argument.now.cooked) (quoted_leaf literal.now) (string_bytes literal.now.cooked)) }
+{
+    let option = literal.cooked.as_str().as_bytes();
+    if option.contains(&b'=') {
+        let parameter = argument_text(alloc, argument)?;
+        return Err(Fault::Compile(
+            literal.token.error(CompileErrorKind::OptionNameContainsEqualSign { parameter }),
+        ));
+    }
+    if option.first().copied() == Some(b'-') {
+        let parameter = argument_text(alloc, argument)?;
+        return Err(Fault::Compile(
+            literal
+                .token
+                .error(CompileErrorKind::OptionNameStartsWithDash { parameter }),
+        ));
+    }
+    if option.is_empty() {
+        let parameter = argument_text(alloc, argument)?;
+        return Err(Fault::Compile(
+            literal
+                .token
+                .error(CompileErrorKind::OptionNameEmpty { parameter }),
+        ));
+    }
+    Ok(())
+}
+
+/// Refuses the name of a short option that is more or less than one character.
+fn check_short<'src>(
+    alloc: Global,
+    argument: &StringLiteral<'src>,
+    is_short: bool,
+    literal: &StringLiteral<'src>,
+) -> CompileResult<'src>
+    ensures { Makes (λ _. tt) result
+        (new.check_short sees_leaves literal.now.token (string_bytes argument.now.cooked) is_short (quoted_leaf literal.now) (string_bytes literal.now.cooked)) }
+{
+    if is_short && !has_one_char(literal.cooked.as_str()) {
+        let parameter = argument_text(alloc, argument)?;
+        return Err(Fault::Compile(
+            literal.token.error(CompileErrorKind::ShortOptionWithMultipleCharacters { parameter }),
+        ));
+    }
+    Ok(())
+}
+
+/// Whether the text is one character.
+fn has_one_char(text: &str) -> bool
+    ensures { result ≡ (length (chars text.now) == 1) }
+{
+    text.chars().count() == 1
+}
+
+/// A copy of the text of the argument.
+pub(crate) fn argument_text(
+    alloc: Global,
+    argument: &StringLiteral<'_>,
+) -> Result<String, AllocError>
+    ensures { IfOk result (λ text. string_bytes text ≡ string_bytes argument.now.cooked) }
+{
+    argument.cooked.as_str().to_string(alloc)
+}

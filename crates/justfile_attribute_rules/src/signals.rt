@@ -1,0 +1,42 @@
+ghost use Rattle.std.specs.Prelude.{◌≡◌};
+ghost use Rattle.justfile_attribute_rules.specs.Made.{Makes, quoted_leaf, quoted_leaves, signal_made, signals_made};
+
+use justfile_base::{CompileErrorKind, CompileResult, Fault, Signal, StringLiteral};
+use std::alloc::Global;
+use std::collections::BTreeSet;
+
+/// The signal that a literal names.
+fn signal<'src>(alloc: Global, literal: &StringLiteral<'src>) -> CompileResult<'src, Signal>
+    ensures { Makes (λ signal. signal) result (signal_made (quoted_leaf literal.now)) }
+{
+    match Signal::from_name(literal.cooked.as_str()) {
+        Some(signal) => Ok(signal),
+        None => {
+            let signal = literal.cooked.as_str().to_string(alloc)?;
+            Err(Fault::Compile(
+                literal
+                    .token
+                    .error(CompileErrorKind::InvalidSignal { signal }),
+            ))
+        }
+    }
+}
+
+/// The signals that literals name.
+///
+/// # Errors
+///
+/// `Compile` at the first literal that names none; `Memory` if memory runs out.
+pub fn signal_set<'src>(
+    alloc: Global,
+    literals: Vec<StringLiteral<'src>>,
+) -> CompileResult<'src, BTreeSet<Signal>>
+    ensures { Makes (λ signals. signals.keys) result (signals_made (quoted_leaves literals.entry.items)) }
+{
+    let mut signals = BTreeSet::new(alloc);
+    for literal in literals {
+        let signal = signal(alloc, &literal)?;
+        signals.insert(signal)?;
+    }
+    Ok(signals)
+}

@@ -1,0 +1,159 @@
+ghost use Rattle.std.specs.Prelude.{◌≡◌, ◌&&◌, not, codes, string_bytes};
+ghost use Rattle.std.specs.Option.{is_some, option_map};
+ghost use Rattle.justfile_model.specs.Meaning.{at_key};
+ghost use Rattle.justfile_model.specs.NewAttribute as new;
+ghost use Rattle.justfile_model.specs.Rules as refusals;
+ghost use Rattle.justfile_tree.specs.LeafSight.{sees_leaves};
+ghost use Rattle.justfile_tree.specs.LeafTree.{leaf_tree_of};
+ghost use Rattle.justfile_attribute_rules.specs.ArgumentRules.{rules_of};
+ghost use Rattle.justfile_attribute_rules.specs.Keys.{AreKeyed, IsTaken, key_argument, key_arguments};
+ghost use Rattle.justfile_attribute_rules.specs.Made.{Makes};
+ghost use Rattle.justfile_attribute_rules.specs.Steps.{flag_made, multiple_made, value_made, wants_option};
+
+use crate::argument_rules::ArgumentRules;
+use crate::keys::{KeywordArguments, missing_value, take};
+use crate::options::argument_text;
+use justfile_base::{CompileErrorKind, CompileResult, Fault, Name, Token};
+use justfile_tree::Expression;
+use std::alloc::Global;
+
+/// Whether the argument is no option: neither a literal nor a key names it as one.
+fn wants_option(rules: &ArgumentRules<'_>) -> bool
+    ensures { result ≡ wants_option (rules_of rules.now) }
+{
+    rules.long_key.is_none()
+        && rules.long.is_none()
+        && rules.short_key.is_none()
+        && rules.short.is_none()
+}
+
+/// Refuses a key of an argument that is no option.
+fn check_wanted<'src>(key: Name<'src>, rules: &ArgumentRules<'src>) -> CompileResult<'src>
+    ensures { Makes (λ _. tt) result
+        (new.check (wants_option (rules_of rules.now)) (refusals.ArgAttributeRequiresOption key.entry.token) key.entry.token) }
+{
+    if wants_option(rules) {
+        return Err(Fault::Compile(key.error(CompileErrorKind::ArgAttributeRequiresOption { key })));
+    }
+    Ok(())
+}
+
+/// Takes `value`, of an option.
+///
+/// # Errors
+///
+/// `Compile` at the key.
+pub(crate) fn take_value<'src>(
+    keys: &mut KeywordArguments<'src>,
+    rules: &ArgumentRules<'src>,
+) -> CompileResult<'src, Option<Box<Expression<'src>>>>
+    requires { AreKeyed keys.old }
+    ensures taken { Makes (option_map (λ e. leaf_tree_of e.value)) result
+        (new.if_given (value_made (rules_of rules.now)) (at_key sees_leaves (codes "value") (key_arguments keys.old))) }
+    ensures left { IsTaken (codes "value") keys.old keys.new }
+{
+    match take(keys, "value") {
+        None => Ok(None),
+        Some((key, None)) => Err(missing_value(key)),
+        Some((key, Some(value))) => match check_wanted(key, rules) {
+            Ok(()) => Ok(Some(value)),
+            Err(fault) => Err(fault),
+        },
+    }
+}
+
+/// Takes `flag`, of an option without a value and a pattern.
+///
+/// # Errors
+///
+/// `Compile` at the key; `Memory` if memory runs out.
+pub(crate) fn take_flag<'src>(
+    alloc: Global,
+    keys: &mut KeywordArguments<'src>,
+    rules: &ArgumentRules<'src>,
+) -> CompileResult<'src, Option<Token<'src>>>
+    requires { AreKeyed keys.old }
+    ensures taken { Makes (λ token. token) result
+        (new.if_given (flag_made (rules_of rules.now)) (at_key sees_leaves (codes "flag") (key_arguments keys.old))) }
+    ensures left { IsTaken (codes "flag") keys.old keys.new }
+{
+    match take(keys, "flag") {
+        None => Ok(None),
+        Some((key, value)) => match check_flag(alloc, key, &value, rules) {
+            Ok(()) => Ok(Some(*key)),
+            Err(fault) => Err(fault),
+        },
+    }
+}
+
+/// Refuses `flag` with a value of its own, of no option, or beside `value` or `pattern`.
+#[tactic(auto, using(crate::proofs::Refused::refused_first))]
+fn check_flag<'src>(
+    alloc: Global,
+    key: Name<'src>,
+    value: &Option<Box<Expression<'src>>>,
+    rules: &ArgumentRules<'src>,
+) -> CompileResult<'src>
+    ensures { Makes (λ _. key.entry.token) result (flag_made (rules_of rules.now) (key_argument (key.entry, value.now))) }
+{
+    if value.is_some() {
+        let parameter = argument_text(alloc, &rules.name)?;
+        return Err(Fault::Compile(key.error(CompileErrorKind::FlagAttributeTakesNoValue {
+            parameter,
+        })));
+    }
+    check_wanted(key, rules)?;
+    if rules.value.is_some() {
+        let parameter = argument_text(alloc, &rules.name)?;
+        return Err(Fault::Compile(key.error(CompileErrorKind::FlagAndValueArgAttribute {
+            parameter,
+        })));
+    }
+    if rules.pattern_property.is_some() {
+        let parameter = argument_text(alloc, &rules.name)?;
+        return Err(Fault::Compile(key.error(CompileErrorKind::FlagAndPatternArgAttribute {
+            parameter,
+        })));
+    }
+    Ok(())
+}
+
+/// Takes `multiple`, of an option.
+///
+/// # Errors
+///
+/// `Compile` at the key.
+pub(crate) fn take_multiple<'src>(
+    keys: &mut KeywordArguments<'src>,
+    rules: &ArgumentRules<'src>,
+) -> CompileResult<'src, Option<Token<'src>>>
+    requires { AreKeyed keys.old }
+    ensures taken { Makes (λ token. token) result
+        (new.if_given (multiple_made (rules_of rules.now)) (at_key sees_leaves (codes "multiple") (key_arguments keys.old))) }
+    ensures left { IsTaken (codes "multiple") keys.old keys.new }
+{
+    match take(keys, "multiple") {
+        None => Ok(None),
+        Some((key, value)) => match check_multiple(key, &value, rules) {
+            Ok(()) => Ok(Some(*key)),
+            Err(fault) => Err(fault),
+        },
+    }
+}
+
+/// Refuses `multiple` with a value, or of no option.
+fn check_multiple<'src>(
+    key: Name<'src>,
+    value: &Option<Box<Expression<'src>>>,
+    rules: &ArgumentRules<'src>,
+) -> CompileResult<'src>
+    ensures { Makes (λ _. key.entry.token) result (multiple_made (rules_of rules.now) (key_argument (key.entry, value.now))) }
+{
+    if value.is_some() {
+        return Err(Fault::Compile(key.error(CompileErrorKind::AttributeKeyTakesNoValue { key })));
+    }
+    match check_wanted(key, rules) {
+        Ok(()) => Ok(()),
+        Err(fault) => Err(fault),
+    }
+}

@@ -1,0 +1,53 @@
+-- What a set of attributes holds.
+use Rattle.std.specs.Prelude.{◌≡◌, List, map, Option, Some, None}
+use Rattle.justfile_base.specs.Token.{lexeme_of}
+use Rattle.justfile_base.specs.declared.attribute_kind.AttributeKind.{AttributeKind}
+use Rattle.justfile_base.specs.declared.compile_error.CompileError.{CompileError}
+use Rattle.justfile_base.specs.declared.compile_error_kind.CompileErrorKind.{CompileErrorKind}
+use Rattle.justfile_base.specs.declared.compile_error_kind.CompileErrorKind.TheVariants.{InvalidAttribute}
+use Rattle.justfile_base.specs.declared.item_kind.ItemKind.{ItemKind}
+use Rattle.justfile_base.specs.declared.item_kind.ItemKind.TheVariants as items
+use Rattle.justfile_base.specs.declared.name.Name.{Name}
+use Rattle.justfile_base.specs.declared.token.Token.{Token}
+use Rattle.justfile_model.specs.ContentKeys.{kind_of_attribute}
+use Rattle.justfile_model.specs.Tok.{Tok}
+use Rattle.justfile_model.specs.Tree.{Entry}
+use Rattle.justfile_tree.specs.LeafTree.{Leaf}
+use Rattle.justfile_attribute.specs.declared.attribute.Attribute.{Attribute}
+use Rattle.justfile_attribute_set.specs.Keys.{firsts}
+use Rattle.justfile_attribute_set.specs.Pairs.{Pair, entry_of, leaf_entry_of}
+use Rattle.justfile_attribute_set.specs.contracts.pair_set.AttributeContentOrder.TheImpl.{ghosts as content_order}
+use Rattle.justfile_attribute_set.specs.declared.pair_set.PairSet.{PairSet}
+
+abbrev pub AttributeSet : Type 0
+AttributeSet = PairSet Attribute Name content_order
+
+abbrev pub pairs_of : AttributeSet → List Pair
+pairs_of set = set.pairs.items
+
+-- the attributes in their order
+abbrev pub attributes_of : AttributeSet → List Attribute
+attributes_of set = firsts (pairs_of set)
+
+-- each with the token of its name
+abbrev pub entries_of : AttributeSet → List (Entry Tok Tok)
+entries_of set = map entry_of (pairs_of set)
+
+abbrev pub leaf_entries_of : AttributeSet → List (Entry Leaf Token)
+leaf_entries_of set = map leaf_entry_of (pairs_of set)
+
+-- the item is one that may have attributes
+abbrev pub IsConstruct : ItemKind → Type 0
+IsConstruct items.Comment = ⊥
+IsConstruct items.Newline = ⊥
+IsConstruct _ = Unit {0}
+
+-- an item of this kind, named by this token, may not have an attribute of that kind
+abbrev pub SaysInvalid : ItemKind → (name : Token) → AttributeKind → CompileErrorKind → Type 0
+SaysInvalid item name kind (InvalidAttribute item' name' kind') = (item' ≡ item) × (name'.now ≡ lexeme_of name) × (kind' ≡ kind)
+SaysInvalid item name kind _ = ⊥
+
+-- the refusal of what is the first that such an item may not have
+abbrev pub IsInvalidBy : Option (Entry Leaf Token) → ItemKind → (name : Token) → CompileError → Type 0
+IsInvalidBy None item name e = ⊥
+IsInvalidBy (Some first) item name e = (e.token ≡ name) × SaysInvalid item name (kind_of_attribute first.attribute) e.kind

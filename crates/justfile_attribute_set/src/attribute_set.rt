@@ -1,0 +1,221 @@
+ghost use Rattle.std.specs.Prelude.{◌≡◌, [], length, find, map, not, None, IfErr, IfOk, OnOk};
+ghost use Rattle.std.specs.Cmp.{on_per};
+ghost use Rattle.std.specs.Cmp.Lexicographic.{lists_per, pointwise};
+ghost use Rattle.std.specs.List.{AllZip};
+ghost use Rattle.std.specs.Option.{option_copied, option_map};
+ghost use Rattle.std.specs.Vec.Iter.{into_iter_items};
+ghost use Rattle.justfile_base.specs.StringLiteral.{IsSameLiteral};
+ghost use Rattle.justfile_base.specs.declared.attribute_kind.AttributeKind.TheVariants as kinds;
+ghost use Rattle.justfile_model.specs.AttributeKinds.{is_allowed};
+ghost use Rattle.justfile_model.specs.AttributeRules.{first_invalid};
+ghost use Rattle.justfile_model.specs.ContentKeys.{entry_cmp};
+ghost use Rattle.justfile_model.specs.Distinct.{kept_last};
+ghost use Rattle.justfile_model.specs.Order.{in_order};
+ghost use Rattle.justfile_attribute.specs.contracts.attribute.AttributePartialEq.TheImpl.Laws.{laws-law as attribute_per};
+ghost use Rattle.justfile_tree.specs.LeafSight.{sees_leaves};
+ghost use Rattle.justfile_attribute_set.specs.Pairs.{leaf_entry_of, pair_cmp, same, same_attributes};
+ghost use Rattle.justfile_attribute_set.specs.Attributes as wanted;
+ghost use Rattle.justfile_attribute_set.specs.Attributes.{are_enabled, groups_in, has_kind};
+ghost use Rattle.justfile_attribute_set.specs.Keys.{keys_left};
+
+use crate::copied::copy_pairs;
+use crate::keys::Keys;
+use crate::kinds::{first_of_kind, has_enabler, has_kind, is_here, kind_of, may_have};
+use crate::pair_set::PairSet;
+use crate::pairs::{find_key, have_same_keys, last_of_each, sort_pairs};
+use justfile_attribute::Attribute;
+use justfile_base::{
+    AttributeKind, CompileError, CompileErrorKind, ItemKind, Name, StringLiteral, Token,
+};
+use std::alloc::{AllocError, Global};
+use std::vec;
+
+/// The attributes of a construct in the order of their content, each with the name that it was
+/// written with.
+pub type AttributeSet<'src> = PairSet<Attribute<'src>, Name<'src>>;
+
+impl<'src> PairSet<Attribute<'src>, Name<'src>> {
+    ghost use Rattle.justfile_attribute_set.specs.AttributeSet.{IsConstruct, IsInvalidBy, attributes_of, leaf_entries_of, pairs_of};
+    ghost use Rattle.justfile_attribute_set.specs.Copies.{IsSameSet};
+
+    /// No attributes.
+    #[tactic(auto, unfolding(crate::specs::InOrder::AreInOrder))]
+    pub fn new(alloc: Global) -> Self
+        ensures { pairs_of result ≡ [] }
+    {
+        PairSet {
+            pairs: Vec::new(alloc),
+        }
+    }
+
+    /// The attributes of these pairs in the order of their content, where those that tie stay as
+    /// they stood. Of attributes that are equal, with their places, the last one is kept.
+    ///
+    /// # Errors
+    ///
+    /// `AllocError` if the program is out of memory.
+    pub fn from_pairs(
+        alloc: Global,
+        pairs: Vec<(Attribute<'src>, Name<'src>)>,
+    ) -> Result<Self, AllocError>
+        ensures { IfOk result (λ set. pairs_of set ≡ in_order pair_cmp (kept_last same_attributes pairs.entry.items)) }
+    {
+        let mut kept = last_of_each(alloc, pairs)?;
+        sort_pairs(&mut kept)?;
+        Ok(PairSet { pairs: kept })
+    }
+
+    /// The attributes of pairs of which no two are equal, as those that are read, in the order of
+    /// their content: all are kept, and those that tie stay as they stood.
+    ///
+    /// # Errors
+    ///
+    /// `AllocError` if the program is out of memory.
+    #[tactic(auto, using(crate::proofs::Sorts::entries_sorted))]
+    pub fn from_read(pairs: Vec<(Attribute<'src>, Name<'src>)>) -> Result<Self, AllocError>
+        ensures { IfOk result (λ set. leaf_entries_of set ≡ in_order (entry_cmp sees_leaves) (map leaf_entry_of pairs.entry.items)) }
+    {
+        let mut pairs = pairs;
+        sort_pairs(&mut pairs)?;
+        Ok(PairSet { pairs })
+    }
+
+    /// A copy of the set.
+    ///
+    /// # Errors
+    ///
+    /// `AllocError` if the program is out of memory.
+    #[tactic(auto, using(crate::proofs::CopiedPairs::copies_in_order))]
+    pub fn clone(&self, alloc: Global) -> Result<Self, AllocError>
+        ensures { IfOk result (λ copy. IsSameSet copy self.now) }
+    {
+        let pairs = copy_pairs(alloc, &self.pairs)?;
+        Ok(PairSet { pairs })
+    }
+
+    /// How many attributes there are.
+    pub fn len(&self) -> usize
+        ensures { result ≡ length (attributes_of self.now) }
+    {
+        self.pairs.len()
+    }
+
+    /// Whether there is an attribute of this kind.
+    pub fn contains(&self, kind: AttributeKind) -> bool
+        ensures { result ≡ has_kind kind (attributes_of self.now) }
+    {
+        has_kind(&self.pairs, kind)
+    }
+
+    /// The first attribute of this kind.
+    pub fn get(&self, kind: AttributeKind) -> Option<&Attribute<'src>>
+        ensures { option_copied result ≡ find (wanted.is_of_kind kind) (attributes_of self.now) }
+    {
+        match first_of_kind(&self.pairs, kind) {
+            Some(pair) => Some(&pair.0),
+            None => None,
+        }
+    }
+
+    /// The name that this attribute was written with.
+    pub fn name(&self, attribute: &Attribute<'src>) -> Option<Name<'src>>
+        ensures { result ≡ option_map (λ p. p.1) (find (λ p. same attribute.now p.0) (pairs_of self.now)) }
+    {
+        let pair = find_key(&self.pairs, attribute)?;
+        Some(pair.1)
+    }
+
+    /// Copies of the names of the groups, in order.
+    ///
+    /// # Errors
+    ///
+    /// `AllocError` if the program is out of memory.
+    pub fn groups(&self, alloc: Global) -> Result<Vec<StringLiteral<'src>>, AllocError>
+        ensures { IfOk result (λ copies. AllZip IsSameLiteral copies.items (groups_in (attributes_of self.now))) }
+    {
+        let mut groups = Vec::new(alloc);
+        for pair in &self.pairs {
+            if let Attribute::Group(name) = &pair.0 {
+                groups.push(name.clone(alloc)?)?;
+            }
+        }
+        Ok(groups)
+    }
+
+    /// Whether there is the attribute `private`.
+    pub fn private(&self) -> bool
+        ensures { result ≡ has_kind kinds.Private (attributes_of self.now) }
+    {
+        self.contains(AttributeKind::Private)
+    }
+
+    /// Whether the item is there on this system, which is Linux.
+    pub fn is_enabled(&self) -> bool
+        ensures { result ≡ are_enabled (attributes_of self.now) }
+    {
+        is_here(
+            has_enabler(&self.pairs),
+            self.contains(AttributeKind::Linux),
+            self.contains(AttributeKind::Unix),
+        )
+    }
+
+    /// The attributes in their order.
+    pub fn iter(&self) -> Keys<'_, Attribute<'src>, Name<'src>>
+        ensures { keys_left result ≡ attributes_of self.now }
+    {
+        Keys::new(&self.pairs)
+    }
+
+    /// The attributes in their order, each with its name.
+    pub fn into_items(self) -> vec::IntoIter<(Attribute<'src>, Name<'src>)>
+        ensures { into_iter_items result ≡ pairs_of self.entry }
+    {
+        self.pairs.into_iter()
+    }
+
+    /// Refuses what an item of this kind, with its name at this token, may not have.
+    ///
+    /// # Errors
+    ///
+    /// `InvalidAttribute` at the token, with the first attribute that the item may not have.
+    pub fn ensure_valid_attributes(
+        &self,
+        item_kind: ItemKind,
+        item_token: Token<'src>,
+    ) -> Result<(), CompileError<'src>>
+        requires construct { IsConstruct item_kind }
+        ensures valid { OnOk result (first_invalid sees_leaves item_kind (leaf_entries_of self.now) ≡ None) }
+        ensures invalid { IfErr result (λ e. IsInvalidBy (first_invalid sees_leaves item_kind (leaf_entries_of self.now)) item_kind item_token.entry e) }
+    {
+        match self.first_invalid(item_kind) {
+            None => Ok(()),
+            Some(pair) => Err(item_token.error(CompileErrorKind::InvalidAttribute {
+                item_kind,
+                item_name: item_token.lexeme(),
+                attribute: kind_of(&pair.0),
+            })),
+        }
+    }
+
+    /// The first pair whose attribute such an item may not have.
+    fn first_invalid(&self, item_kind: ItemKind) -> Option<&(Attribute<'src>, Name<'src>)>
+        ensures { option_copied result ≡ find (λ p. not (is_allowed item_kind (wanted.kind_of p.0))) (pairs_of self.now) }
+    {
+        self.pairs
+            .iter()
+            .find(|pair| !may_have(item_kind, kind_of(&pair.0)))
+    }
+}
+
+impl PartialEq for PairSet<Attribute<'_>, Name<'_>> {
+    ghost use Rattle.justfile_attribute_set.specs.AttributeSet.{attributes_of};
+
+    ghost eq = { λ a b. pointwise same (attributes_of a) (attributes_of b) };
+
+    ghost laws = { on_per attributes_of (lists_per attribute_per) };
+
+    fn eq(&self, other: &Self) -> bool {
+        have_same_keys(&self.pairs, &other.pairs)
+    }
+}

@@ -1,0 +1,77 @@
+ghost use Rattle.std.specs.Prelude.{◌≡◌};
+ghost use Rattle.std.specs.Iterator.{YieldsFirst, YieldsFirstRef, item_count};
+ghost use Rattle.std.specs.Slice.Iter.{iter_rest};
+ghost use Rattle.std.specs.Vec.Iter.{into_iter_items};
+
+use std::{slice, vec};
+
+/// The first of each pair.
+#[derive(Drop)]
+pub struct Keys<'set, K, V> {
+    pairs: slice::Iter<'set, (K, V)>,
+}
+
+impl<'set, K, V> Keys<'set, K, V> {
+    ghost use Rattle.justfile_attribute_set.specs.Keys.{firsts, keys_left};
+
+    pub(crate) fn new(pairs: &'set [(K, V)]) -> Self
+        ensures { keys_left result ≡ firsts pairs.now }
+    {
+        Keys {
+            pairs: pairs.iter(),
+        }
+    }
+}
+
+impl<'set, K, V> Iterator for Keys<'set, K, V> {
+    ghost use Rattle.justfile_attribute_set.specs.Keys.{keys_left};
+
+    type Item = &'set K;
+
+    ghost next_gives = { YieldsFirstRef keys_left };
+
+    ghost remaining = { item_count keys_left };
+
+    fn next(&mut self) -> Option<&'set K> {
+        match self.pairs.next() {
+            Some(pair) => Some(&pair.0),
+            None => None,
+        }
+    }
+}
+
+/// The first of each pair, by value.
+#[derive(Drop)]
+pub struct IntoKeys<K, V> {
+    pairs: vec::IntoIter<(K, V)>,
+}
+
+impl<K, V> IntoKeys<K, V> {
+    ghost use Rattle.justfile_attribute_set.specs.Keys.{firsts};
+    ghost use Rattle.justfile_attribute_set.specs.IntoKeys.{owned_left};
+
+    pub(crate) fn new(pairs: Vec<(K, V)>) -> Self
+        ensures { owned_left result ≡ firsts pairs.items }
+    {
+        IntoKeys {
+            pairs: pairs.into_iter(),
+        }
+    }
+}
+
+impl<K: Drop, V: Drop> Iterator for IntoKeys<K, V> {
+    ghost use Rattle.justfile_attribute_set.specs.IntoKeys.{owned_left};
+
+    type Item = K;
+
+    ghost next_gives = { YieldsFirst owned_left };
+
+    ghost remaining = { item_count owned_left };
+
+    fn next(&mut self) -> Option<K> {
+        match self.pairs.next() {
+            Some((key, _value)) => Some(key),
+            None => None,
+        }
+    }
+}

@@ -1,0 +1,15 @@
+//! The attributes of a construct, in the order of their content.
+#![tactic(auto)]
+
+mod attribute_set;
+mod copied;
+mod keys;
+mod kinds;
+mod pair_set;
+mod pairs;
+
+pub use crate::attribute_set::AttributeSet;
+pub use crate::keys::{IntoKeys, Keys};
+pub use crate::pair_set::{ContentOrder, PairSet};
+pub use justfile_attribute::Attribute;
+pub use justfile_base::AttributeKind;

@@ -1,0 +1,71 @@
+-- What the definitions see of the attributes of a construct.
+use Rattle.std.specs.Prelude.{ℕ, List, [], ◌∷◌, ◌++◌, map, codes, Option, Some, None, string_bytes}
+use Rattle.std.specs.Global.{Box}
+use Rattle.std.specs.List.{flat_map}
+use Rattle.justfile_base.specs.declared.name.Name.{Name}
+use Rattle.justfile_base.specs.declared.string_literal.StringLiteral.{StringLiteral}
+use Rattle.justfile_model.specs.Printing.{attribute_text, entries_text, fixed_text}
+use Rattle.justfile_model.specs.Tree.{Entry, lexeme, nothing, over_entry}
+use Rattle.justfile_attribute.specs.Attribute.{attribute_shape}
+use Rattle.justfile_attribute.specs.declared.attribute.Attribute.{Attribute}
+use Rattle.justfile_attribute.specs.declared.attribute.Attribute.TheVariants as attributes
+use Rattle.justfile_attribute.specs.declared.interpreter.Interpreter.{Interpreter}
+use Rattle.justfile_attribute_set.specs.AttributeSet.{AttributeSet, attributes_of, entries_of}
+use Rattle.justfile_tree.specs.Expression.{expr_cooked}
+use Rattle.justfile_tree.specs.declared.expression.Expression.{Expression}
+
+-- attributes as entries without places
+abbrev pub entry_shapes : AttributeSet → List (Entry (List ℕ) (Unit {0}))
+entry_shapes set = map (over_entry lexeme nothing) (entries_of set)
+
+-- an attribute in brackets, on a line of its own
+abbrev pub attribute_line : Attribute → List ℕ
+attribute_line a = fixed_text (codes "[") ++ attribute_text (attribute_shape a) ++ fixed_text (codes "]\n")
+
+-- the lines of attributes
+abbrev pub attributes_text : AttributeSet → List ℕ
+attributes_text set = entries_text (entry_shapes set)
+
+-- what is seen of a part that may be missing
+abbrev pub optional : {X : Type 0} → (X → List (List ℕ)) → Option X → List (List ℕ)
+optional cooked None = []
+optional cooked (Some x) = cooked x
+
+abbrev pub literal_cooked : StringLiteral → List (List ℕ)
+literal_cooked l = string_bytes l.cooked ∷ []
+
+-- the text of the literal that names an option; a key that stands alone has none
+abbrev pub option_cooked : (key : Option Name) → Option StringLiteral → List (List ℕ)
+option_cooked (Some key) literal = []
+option_cooked None literal = optional literal_cooked literal
+
+-- the texts of an expression in a box
+abbrev pub boxed_cooked : Box Expression → List (List ℕ)
+boxed_cooked e = expr_cooked e.value
+
+abbrev pub property_cooked : Name × Box Expression → List (List ℕ)
+property_cooked p = boxed_cooked p.1
+
+abbrev pub interpreter_cooked : Interpreter StringLiteral → List (List ℕ)
+interpreter_cooked i = literal_cooked i.command ++ flat_map literal_cooked i.arguments.items
+
+-- the texts of an attribute's literals, in the order of printing
+abbrev pub attribute_cooked : Attribute → List (List ℕ)
+attribute_cooked (attributes.Arg flag help help_property long long_key max max_key min min_key multiple name pattern short short_key value) =
+    literal_cooked name ++ option_cooked long_key long ++ option_cooked short_key short ++ optional property_cooked pattern ++ optional boxed_cooked value
+    ++ optional property_cooked help_property
+attribute_cooked (attributes.Cache extra inputs outputs) = optional boxed_cooked extra ++ optional boxed_cooked inputs ++ optional boxed_cooked outputs
+attribute_cooked (attributes.Confirm value) = optional boxed_cooked value
+attribute_cooked (attributes.Doc value) = optional boxed_cooked value
+attribute_cooked (attributes.Env key value) = boxed_cooked key ++ boxed_cooked value
+attribute_cooked (attributes.Extension literal) = literal_cooked literal
+attribute_cooked (attributes.Group literal) = literal_cooked literal
+attribute_cooked (attributes.Metadata literals) = flat_map literal_cooked literals.items
+attribute_cooked (attributes.Script interpreter) = optional interpreter_cooked interpreter
+attribute_cooked (attributes.Timestamp value) = optional boxed_cooked value
+attribute_cooked (attributes.WorkingDirectory value) = boxed_cooked value
+attribute_cooked _ = []
+
+-- the texts of the literals of attributes, in their order
+abbrev pub set_cooked : AttributeSet → List (List ℕ)
+set_cooked set = flat_map attribute_cooked (attributes_of set)

@@ -1,0 +1,506 @@
+-- Two sights that differ in the texts of literals alone: where the literals of attributes have texts, and the same ones in both, the attributes
+-- mean the same, in the same order, and break no rule of which they break none in the first.
+use Rattle.std.proofs.Common.{◌≡◌, ◌∙◌, ℕ, Bool, true, false, List, [], ◌∷◌, ◌++◌, Option, Some, Ok, is_some, refl, sym, ap, subst}
+use Rattle.std.proofs.lemmas.List.Elements.{All-from_recursion}
+use Rattle.std.specs.List.{AllByRecursion, flat_map}
+use Rattle.justfile_base.specs.AttributeKind.{kind_named}
+use Rattle.justfile_base.specs.declared.attribute_kind.AttributeKind.{AttributeKind}
+use Rattle.justfile_model.specs.AttributeRules.{arguments_broken, attribute_broken, attributes_broken, construct_broken, duplicate_broken, duplicates_broken, known_broken, meaning_broken, named_broken, of_some, order_broken, repeats_broken}
+use Rattle.justfile_model.specs.ContentKeys.{entry_cmp}
+use Rattle.justfile_model.specs.ContentLeaf.{LiteralContent}
+use Rattle.justfile_model.specs.Files.{all_literals, argument_literals, content_literals, expr_literals, exprs_literals, ordered, parts_literals, written_literals}
+use Rattle.justfile_model.specs.Files.{broken as broken_of}
+use Rattle.justfile_model.specs.Literals as literals
+use Rattle.justfile_model.specs.Literals.{Literal, string_of}
+use Rattle.justfile_model.specs.Meaning.{KeyArgument, all_of, at_key, attribute_of, by_key, by_position, entries_of, entry_of, quoted_text}
+use Rattle.justfile_model.specs.NewAttribute as new
+use Rattle.justfile_model.specs.NewAttribute.{Made}
+use Rattle.justfile_model.specs.Order.{in_order}
+use Rattle.justfile_model.specs.Rules.{AttributePositionalFollowsKeyword, Broken, DuplicateAttributeKey, broken_if}
+use Rattle.justfile_model.specs.Sight.{Sight}
+use Rattle.justfile_model.specs.Tree as tree
+use Rattle.justfile_model.specs.Tree.{Argument, Attribute, Content, Entry, Expr, Exprs, OptionName, OrderedItem, Parts, Quoted, WrittenAttribute, WrittenItem}
+use Rattle.justfile_model.proofs.AlikeAttributes as alike
+use Rattle.justfile_model.proofs.AlikeAttributes.{AlikeArgument, AlikeAttribute, AlikeBound, AlikeEntry, AlikeLiteral, AlikeOptionName, AlikeProperty, AlikeQuoted, SeesAlike, keys_alike, ordered_alike, positions_alike}
+use Rattle.justfile_model.proofs.Binds.{bind_back, never_nil, nothing_in, some_back}
+use Rattle.justfile_model.proofs.EachLaws.{AlikeOption, absent, present}
+use Rattle.justfile_model.proofs.MakesAlike.{Makes, broken, made}
+use Rattle.justfile_model.specs.ArgumentTexts.{GivenHasText, HasText, HasTexts}
+use Rattle.justfile_model.proofs.NewAttributeLaws.{attribute_made, attribute_unbroken, distinct_passes}
+use Rattle.justfile_model.proofs.NewAttributesAlike.{AlikeContent, an_assignment, a_recipe, meaning_alike, new_attribute_alike, repeated_alike}
+use Rattle.justfile_model.proofs.NewAttributeSteps.{first_of_all}
+use Rattle.justfile_model.proofs.Ordered.{construct_meant, meanings_of}
+use Rattle.justfile_model.proofs.Related as a
+use Rattle.justfile_model.proofs.Related.{Alike, AlikeAll, AlikeParts, Each, Relations, each_both}
+use Rattle.justfile_model.proofs.RewrittenLiterals.{parts}
+
+module _ {A B : Type 0} (sight : Sight A B) (cooked : Literal A → Option (List ℕ)) (content : Literal A → LiteralContent) where
+  -- the other sight
+  abbrev pub other : Sight A B
+  other = record {
+    bytes = sight.bytes;
+    place = sight.place;
+    cooked = cooked;
+    leaf_content = sight.leaf_content;
+    spot_content = sight.spot_content;
+    literal_content = content;
+  }
+
+  -- a literal has the same text in both
+  abbrev pub Agreed : Literal A → Type 0
+  Agreed l = sight.cooked l ≡ cooked l
+
+  -- of a literal that is expanded alone
+  abbrev AgreedIf : Literal (List ℕ) → A → Type 0
+  AgreedIf (literals.Expanded lexeme) t = Agreed (literals.Expanded t)
+  AgreedIf _ t = Unit {0}
+
+  -- literals that are not expanded have the same text, and those that have the same text have the same content
+  pub record SeeSame : Type 0 where
+    pub plain : (t : A) → Agreed (literals.Plain t)
+    pub command : (t : A) → Agreed (literals.Command t)
+    pub single : (t : A) → Agreed (literals.Single t)
+    pub start : (t : A) → Agreed (literals.Start t)
+    pub continue : (s t : A) → Agreed (literals.Continue s t)
+    pub end : (s t : A) → Agreed (literals.End s t)
+    pub contents : (l : Literal A) → Agreed l → sight.literal_content l ≡ content l
+
+  -- related leaves are the same
+  same : Relations (Unit {0}) (Unit {0}) A B (Unit {0}) (Unit {0}) (Unit {0}) (Unit {0}) A B (Unit {0}) (Unit {0})
+  same = record {
+    run = λ r r'. Unit {0};
+    token = λ t t'. Unit {0};
+    spot = λ b b'. b ≡ b';
+    name = λ n n'. n ≡ n';
+    literal = λ l t t'. (t ≡ t') × AgreedIf l t;
+    text = λ t t'. Unit {0};
+    star = λ s s'. Unit {0};
+    attributes = λ d d'. Unit {0};
+    assignment = λ number n n'. n ≡ n';
+    recipe = λ number n body n' body'. Unit {0};
+  }
+
+  -- ---- alike things are the same
+
+  mutual
+    unfolding same
+
+    expr_same : {e e' : Expr A B} → Alike same e e' → e ≡ e'
+    expr_same (a.or l r) = λ i. tree.Or (expr_same l i) (expr_same r i)
+    expr_same (a.and l r) = λ i. tree.And (expr_same l i) (expr_same r i)
+    expr_same (a.comparison {by = by} l b r) = λ i. tree.Comparison (expr_same l i) by (b i) (expr_same r i)
+    expr_same (a.concatenation l b r) = λ i. tree.Concatenation (expr_same l i) (b i) (expr_same r i)
+    expr_same (a.list_concatenation l b r) = λ i. tree.ListConcatenation (expr_same l i) (b i) (expr_same r i)
+    expr_same (a.join l b r) = λ i. tree.Join (expr_same l i) (b i) (expr_same r i)
+    expr_same (a.root b r) = λ i. tree.Root (b i) (expr_same r i)
+    expr_same (a.if_only c e) = λ i. tree.If (expr_same c i) (expr_same e i)
+    expr_same (a.if_else c e o) = λ i. tree.IfElse (expr_same c i) (expr_same e i) (expr_same o i)
+    expr_same (a.not e) = λ i. tree.Not (expr_same e i)
+    expr_same (a.string {expanded = expanded} lexeme h) = λ i. tree.StringLiteral expanded (h.0 i)
+    expr_same (a.format_literal lexeme h) = λ i. tree.FormatLiteral (h.0 i)
+    expr_same (a.format_string lexeme h e ps) = λ i. tree.FormatString (h.0 i) (expr_same e i) (parts_same ps i)
+    expr_same (a.backtick lexeme h) = λ i. tree.Backtick (h.0 i)
+    expr_same (a.assert b c) = λ i. tree.Assert (b i) (expr_same c i)
+    expr_same (a.assert_message b c m) = λ i. tree.AssertMessage (b i) (expr_same c i) (expr_same m i)
+    expr_same (a.variable h) = λ i. tree.Variable (h i)
+    expr_same (a.call h es) = λ i. tree.Call (h i) (exprs_same es i)
+    expr_same (a.group e) = λ i. tree.Group (expr_same e i)
+    expr_same (a.list b es) = λ i. tree.ListOf (b i) (exprs_same es i)
+
+    exprs_same : {es es' : Exprs A B} → AlikeAll same es es' → es ≡ es'
+    exprs_same a.none = refl
+    exprs_same (a.more e es) = λ i. tree.more (expr_same e i) (exprs_same es i)
+
+    parts_same : {start : List ℕ} {ps ps' : Parts A B} → AlikeParts same start ps ps' → ps ≡ ps'
+    parts_same (a.last lexeme h) = λ i. tree.Last (h.0 i)
+    parts_same (a.continue lexeme h e ps) = λ i. tree.Continue (h.0 i) (expr_same e i) (parts_same ps i)
+
+  option_same : {X : Type 0} {Q : X → X → Type 0} → ((x y : X) → Q x y → x ≡ y) → {o o' : Option X} → AlikeOption Q o o' → o ≡ o'
+  option_same f absent = refl
+  option_same f (present {x = x} {y = y} h) = ap Some (f x y h)
+
+  list_same : {X : Type 0} {Q : X → X → Type 0} → ((x y : X) → Q x y → x ≡ y) → {xs ys : List X} → Each Q xs ys → xs ≡ ys
+  list_same f a.nil = refl
+  list_same f (a.cons {x = x} {y = y} h hs) = λ i. f x y h i ∷ list_same f hs i
+
+  value_same : (e e' : Expr A B) → Alike same e e' → e ≡ e'
+  value_same e e' h = expr_same h
+
+  quoted_same : (q q' : Quoted A) → AlikeQuoted same q q' → q ≡ q'
+  unfolding same
+  quoted_same q q' h = λ i. record { expanded = h.expanded i; token = h.token.0 i }
+
+  name_same : {o o' : OptionName A B} → AlikeOptionName same o o' → o ≡ o'
+  unfolding same
+  name_same alike.no_option = refl
+  name_same (alike.own_name h) = ap tree.OwnName h
+  name_same (alike.option_named {q = q} {q' = q'} h) = ap tree.Named (quoted_same q q' h)
+
+  spot_same : (b b' : B) → (same.spot b b') → b ≡ b'
+  unfolding same
+  spot_same b b' h = h
+
+  property_same : (p p' : tree.Property A B) → AlikeProperty same p p' → p ≡ p'
+  unfolding same
+  property_same p p' h = λ i. record { key = h.key i; value = expr_same h.value i }
+
+  bound_same : (b b' : tree.Bound B) → AlikeBound same b b' → b ≡ b'
+  unfolding same
+  bound_same b b' h = λ i. record { key = h.key i; number = h.number i }
+
+  attribute_same : {x x' : Attribute A B} → AlikeAttribute same x x' → x ≡ x'
+  attribute_same (alike.plain kind) = refl
+  attribute_same (alike.single kind e) = ap (tree.Single kind) (expr_same e)
+  attribute_same (alike.texts kind qs) = ap (tree.Texts kind) (list_same quoted_same qs)
+  attribute_same (alike.env k v) = λ i. tree.Env (expr_same k i) (expr_same v i)
+  attribute_same (alike.signals given) = refl
+  attribute_same (alike.cache x i o) =
+      λ j. tree.Cache (option_same value_same x j) (option_same value_same i j) (option_same value_same o j)
+  attribute_same (alike.arg {r = r} {r' = r'} h) = λ i. tree.Arg (record {
+    flag = option_same spot_same h.flag i;
+    help = option_same property_same h.help i;
+    long = name_same h.long i;
+    max = option_same bound_same h.max i;
+    min = option_same bound_same h.min i;
+    multiple = option_same spot_same h.multiple i;
+    name = quoted_same r.name r'.name h.name i;
+    pattern = option_same property_same h.pattern i;
+    short = name_same h.short i;
+    value = option_same value_same h.value i;
+  })
+
+  entry_same : (e e' : Entry A B) → AlikeEntry same e e' → e ≡ e'
+  entry_same e e' h = λ i. record { name = spot_same e.name e'.name h.name i; attribute = attribute_same h.attribute i }
+
+  -- ---- what is written is alike to itself, where all literals agree
+
+  abbrev AllAgreed : List (Literal A) → Type 0
+  AllAgreed ls = AllByRecursion Agreed ls
+
+  string_agreed : (expanded : Bool) (t : A) → Agreed (string_of expanded t) → same.literal (string_of expanded (sight.bytes t)) t t
+  unfolding same
+  string_agreed true t h = (refl, h)
+  string_agreed false t h = (refl, tt)
+
+  mutual
+    unfolding same
+
+    expr_alike : (e : Expr A B) → AllAgreed (expr_literals e) → Alike same e e
+    expr_alike (tree.Or l r) h = let p = parts Agreed (expr_literals l) (expr_literals r) h in a.or (expr_alike l p.0) (expr_alike r p.1)
+    expr_alike (tree.And l r) h = let p = parts Agreed (expr_literals l) (expr_literals r) h in a.and (expr_alike l p.0) (expr_alike r p.1)
+    expr_alike (tree.Comparison l by b r) h =
+        let p = parts Agreed (expr_literals l) (expr_literals r) h in a.comparison (expr_alike l p.0) refl (expr_alike r p.1)
+    expr_alike (tree.Concatenation l b r) h =
+        let p = parts Agreed (expr_literals l) (expr_literals r) h in a.concatenation (expr_alike l p.0) refl (expr_alike r p.1)
+    expr_alike (tree.ListConcatenation l b r) h =
+        let p = parts Agreed (expr_literals l) (expr_literals r) h in a.list_concatenation (expr_alike l p.0) refl (expr_alike r p.1)
+    expr_alike (tree.Join l b r) h = let p = parts Agreed (expr_literals l) (expr_literals r) h in a.join (expr_alike l p.0) refl (expr_alike r p.1)
+    expr_alike (tree.Root b r) h = a.root refl (expr_alike r h)
+    expr_alike (tree.If c e) h = let p = parts Agreed (expr_literals c) (expr_literals e) h in a.if_only (expr_alike c p.0) (expr_alike e p.1)
+    expr_alike (tree.IfElse c e o) h =
+        let p = parts Agreed (expr_literals c ++ expr_literals e) (expr_literals o) h in
+        let q = parts Agreed (expr_literals c) (expr_literals e) p.0 in
+        a.if_else (expr_alike c q.0) (expr_alike e q.1) (expr_alike o p.1)
+    expr_alike (tree.Not e) h = a.not (expr_alike e h)
+    expr_alike (tree.StringLiteral expanded t) h = a.string (sight.bytes t) (string_agreed expanded t h.0)
+    expr_alike (tree.FormatLiteral t) h = a.format_literal (sight.bytes t) (refl, tt)
+    expr_alike (tree.FormatString t e ps) h =
+        let p = parts Agreed (expr_literals e) (parts_literals t ps) h.1 in
+        a.format_string (sight.bytes t) (refl, tt) (expr_alike e p.0) (parts_alike t ps p.1)
+    expr_alike (tree.Backtick t) h = a.backtick (sight.bytes t) (refl, tt)
+    expr_alike (tree.Assert b c) h = a.assert refl (expr_alike c h)
+    expr_alike (tree.AssertMessage b c m) h =
+        let p = parts Agreed (expr_literals c) (expr_literals m) h in a.assert_message refl (expr_alike c p.0) (expr_alike m p.1)
+    expr_alike (tree.Variable n) h = a.variable refl
+    expr_alike (tree.Call n es) h = a.call refl (exprs_alike es h)
+    expr_alike (tree.Group e) h = a.group (expr_alike e h)
+    expr_alike (tree.ListOf b es) h = a.list refl (exprs_alike es h)
+
+    exprs_alike : (es : Exprs A B) → AllAgreed (exprs_literals es) → AlikeAll same es es
+    exprs_alike tree.none h = a.none
+    exprs_alike (tree.more e es) h = let p = parts Agreed (expr_literals e) (exprs_literals es) h in a.more (expr_alike e p.0) (exprs_alike es p.1)
+
+    parts_alike : (start : A) (ps : Parts A B) → AllAgreed (parts_literals start ps) → {lexeme : List ℕ} → AlikeParts same lexeme ps ps
+    parts_alike start (tree.Last t) h = a.last (sight.bytes t) (refl, tt)
+    parts_alike start (tree.Continue t e ps) h =
+        let p = parts Agreed (expr_literals e) (parts_literals start ps) h.1 in
+        a.continue (sight.bytes t) (refl, tt) (expr_alike e p.0) (parts_alike start ps p.1)
+
+  argument_alike : (x : Argument A B) → AllAgreed (argument_literals x) → AlikeArgument same x x
+  unfolding same
+  argument_alike (tree.Positional b e) h = alike.positional refl (expr_alike e h)
+  argument_alike (tree.Bare k) h = alike.bare refl
+  argument_alike (tree.Keyed k e) h = alike.keyed refl (expr_alike e h)
+
+  arguments_alike : (xs : List (Argument A B)) → AllAgreed (flat_map argument_literals xs) → Each (AlikeArgument same) xs xs
+  arguments_alike [] h = a.nil
+  arguments_alike (x ∷ xs) h =
+      let p = parts Agreed (argument_literals x) (flat_map argument_literals xs) h in a.cons (argument_alike x p.0) (arguments_alike xs p.1)
+
+  -- ---- what is seen of them
+
+  module _ (seen : SeeSame) where
+    -- a literal that is alike to another is that one, and agrees
+    record IsSame (l l' : Literal A) : Type 0 where
+      same_is : l ≡ l'
+      agreed : Agreed l
+
+    literal_same : (l l' : Literal A) → AlikeLiteral same l l' → IsSame l l'
+    unfolding same
+    literal_same l l' (alike.plain_literal {l = t} h) = record { same_is = ap literals.Plain h.0; agreed = seen.plain t }
+    literal_same l l' (alike.expanded_literal h) = record { same_is = ap literals.Expanded h.0; agreed = h.1 }
+    literal_same l l' (alike.command_literal {l = t} h) = record { same_is = ap literals.Command h.0; agreed = seen.command t }
+    literal_same l l' (alike.single_literal {l = t} h) = record { same_is = ap literals.Single h.0; agreed = seen.single t }
+    literal_same l l' (alike.start_literal {l = t} h) = record { same_is = ap literals.Start h.0; agreed = seen.start t }
+    literal_same l l' (alike.continue_literal {s = s} {l = t} h k) = record { same_is = λ i. literals.Continue (h.0 i) (k.0 i); agreed = seen.continue s t }
+    literal_same l l' (alike.end_literal {s = s} {l = t} h k) = record { same_is = λ i. literals.End (h.0 i) (k.0 i); agreed = seen.end s t }
+
+    sees : SeesAlike same sight other
+    unfolding same
+    sees = record {
+      bytes = λ n n' h. ap sight.bytes h;
+      name_place = λ n n' h. ap sight.place h;
+      literal_place = λ l t t' h. ap sight.place h.0;
+      assignment_place = λ number n n' h. ap sight.place h;
+      cooked = λ l l' h. (literal_same l l' h).agreed ∙ ap cooked (literal_same l l' h).same_is;
+      name_content = λ n n' h. ap (sight.leaf_content _) h;
+      command_content = λ lexeme t t' h. ap (sight.leaf_content _) h.0;
+      spot_content = λ kind spelled b b' h. ap (sight.spot_content kind spelled) h;
+      literal_content = λ l l' h. seen.contents l (literal_same l l' h).agreed ∙ ap content (literal_same l l' h).same_is;
+    }
+
+    -- ---- one attribute
+
+    order_same : (at : B) (after : Bool) (xs : List (Argument A B)) → order_broken sight at after xs ≡ [] → order_broken other at after xs ≡ []
+    order_same at after xs h = sym (go after xs) ∙ h
+      where
+        go : (after : Bool) (xs : List (Argument A B)) → order_broken sight at after xs ≡ order_broken other at after xs
+        go after [] = refl
+        go after (tree.Positional first value ∷ xs) = ap (λ l. broken_if after AttributePositionalFollowsKeyword first ++ l) (go after xs)
+        go after (tree.Bare key ∷ xs) = go true xs
+        go after (tree.Keyed key value ∷ xs) = go true xs
+
+    repeats_same : (at : B) (before keys : List (KeyArgument A B)) → repeats_broken sight at before keys ≡ repeats_broken other at before keys
+    repeats_same at before [] = refl
+    repeats_same at before (k ∷ ks) =
+        let first : List (Broken B) =
+        broken_if (is_some (at_key sight (sight.bytes k.key) before)) (DuplicateAttributeKey at (sight.place k.key)) (sight.place k.key) in
+        ap (λ l. first ++ l) (repeats_same at (before ++ k ∷ []) ks)
+
+    -- what is made in the one is made in the other
+    record MadeToo {X : Type 0} (Q : X → X → Type 0) (m : Made B X) (x : X) : Type 0 where
+      value : X
+      is : m ≡ Ok value
+      alike : Q x value
+
+    made_too : {X : Type 0} {Q : X → X → Type 0} {m m' : Made B X} (x : X) → Makes same.spot Q m m' → m ≡ Ok x → MadeToo Q m' x
+    made_too {X} {Q} x (made {x = y} {x' = y'} h) e = let e' : y ≡ x = cc in record { value = y'; is = refl; alike = subst (λ z. Q z y') e' h }
+    made_too x (broken h) e = cc
+
+    -- ---- texts
+
+    -- the literals have texts
+    abbrev Texted : Literal A → Type 0
+    Texted l = is_some (sight.cooked l) ≡ true
+
+    has_text : (e : Expr A B) → AllByRecursion Texted (expr_literals e) → HasText sight e
+    has_text (tree.StringLiteral expanded t) h q is =
+        let e : record { expanded = expanded; token = t } ≡ q = some_back _ q is in
+        subst (λ (q : Quoted A). is_some (quoted_text sight q) ≡ true) e h.0
+    has_text _ h q is = cc
+
+    given_text : (o : Option (Expr A B)) (e : Expr A B) → o ≡ Some e → HasText sight e → GivenHasText sight o
+    given_text o e is h d is2 = subst (HasText sight) (some_back e d (sym is ∙ is2)) h
+
+    placed_texts : (xs : List (Argument A B)) → AllByRecursion Texted (flat_map argument_literals xs)
+        → AllByRecursion (λ p. HasText sight p.value) (by_position xs)
+    placed_texts [] h = tt
+    placed_texts (tree.Positional first value ∷ xs) h =
+        let p = parts Texted (expr_literals value) (flat_map argument_literals xs) h in (has_text value p.0, placed_texts xs p.1)
+    placed_texts (tree.Bare key ∷ xs) h = placed_texts xs h
+    placed_texts (tree.Keyed key value ∷ xs) h = placed_texts xs (parts Texted (expr_literals value) (flat_map argument_literals xs) h).1
+
+    key_texts : (xs : List (Argument A B)) → AllByRecursion Texted (flat_map argument_literals xs)
+        → AllByRecursion (λ (k : KeyArgument A B). GivenHasText sight k.value) (by_key xs)
+    key_texts [] h = tt
+    key_texts (tree.Positional first value ∷ xs) h = key_texts xs (parts Texted (expr_literals value) (flat_map argument_literals xs) h).1
+    key_texts (tree.Bare key ∷ xs) h = ((λ e is. cc), key_texts xs h)
+    key_texts (tree.Keyed key value ∷ xs) h =
+        let p = parts Texted (expr_literals value) (flat_map argument_literals xs) h in
+        (given_text (Some value) value refl (has_text value p.0), key_texts xs p.1)
+
+    have_texts : (xs : List (Argument A B)) → AllByRecursion Texted (flat_map argument_literals xs) → HasTexts sight (by_position xs) (by_key xs)
+    have_texts xs h = record {
+      values = All-from_recursion _ (by_position xs) (placed_texts xs h);
+      given = All-from_recursion _ (by_key xs) (key_texts xs h);
+    }
+
+    -- ---- attributes
+
+    -- the entry is the same in the other sight, and breaks no rule there
+    record KeptOne (before : List (Entry A B)) (w : WrittenAttribute A B) (e : Entry A B) : Type 0 where
+      means : entry_of other w ≡ Some e
+      unbroken : attribute_broken other w ≡ []
+      distinct : duplicate_broken other before e ≡ []
+      itself : AlikeEntry same e e
+
+    -- an attribute of this kind
+    record KeptKind (at : B) (kind : AttributeKind) (xs : List (Argument A B)) (attribute : Attribute A B) : Type 0 where
+      means : attribute_of other kind (by_position xs) (by_key xs) ≡ Some attribute
+      unbroken : arguments_broken other at kind (by_position xs) (by_key xs) ≡ []
+      itself : AlikeAttribute same attribute attribute
+
+    kind_kept : (at : B) (kind : AttributeKind) (xs : List (Argument A B)) (attribute : Attribute A B)
+        → AllByRecursion Agreed (flat_map argument_literals xs) → AllByRecursion Texted (flat_map argument_literals xs)
+        → attribute_of sight kind (by_position xs) (by_key xs) ≡ Some attribute → arguments_broken sight at kind (by_position xs) (by_key xs) ≡ []
+        → KeptKind at kind xs attribute
+    unfolding same
+    kind_kept at kind xs attribute agreed texts means unbroken =
+        let is = attribute_unbroken sight at kind (by_position xs) (by_key xs) unbroken (have_texts xs texts) in
+        let first : is.attribute ≡ attribute = some_back is.attribute attribute (sym is.meant ∙ means) in
+        let each = arguments_alike xs agreed in
+        let too = made_too is.attribute (new_attribute_alike same sight other sees at at refl kind (positions_alike same each) (keys_alike same each)) is.made in
+        let equal : is.attribute ≡ too.value = attribute_same too.alike in
+        let known = attribute_made other at kind (by_position xs) (by_key xs) too.value too.is in
+        record {
+          means = known.0 ∙ ap Some (sym equal ∙ first);
+          unbroken = known.1;
+          itself = subst (λ x. AlikeAttribute same x x) first (subst (λ x. AlikeAttribute same is.attribute x) (sym equal) too.alike);
+        }
+
+    one_kept : (before : List (Entry A B)) (w : WrittenAttribute A B) (e : Entry A B) → Each (AlikeEntry same) before before
+        → AllByRecursion Agreed (flat_map argument_literals w.arguments) → AllByRecursion Texted (flat_map argument_literals w.arguments)
+        → entry_of sight w ≡ Some e → attribute_broken sight w ≡ [] → duplicate_broken sight before e ≡ [] → KeptOne before w e
+    unfolding same
+    one_kept before w e earlier agreed texts means unbroken distinct =
+        let k = bind_back (kind_named (sight.bytes w.name)) _ e means in
+        let kind : AttributeKind = k.first in
+        let named : kind_named (sight.bytes w.name) ≡ Some kind = k.is in
+        let m = bind_back (attribute_of sight kind (by_position w.arguments) (by_key w.arguments)) _ e k.gives in
+        let at : B = sight.place w.name in
+        let known : known_broken sight w kind ≡ [] = sym (ap (named_broken sight w) named) ∙ unbroken in
+        let orders = order_broken sight at false w.arguments in
+        let repeats = repeats_broken sight at [] (by_key w.arguments) in
+        let own = nothing_in (orders ++ repeats) (arguments_broken sight at kind (by_position w.arguments) (by_key w.arguments)) known in
+        let two = nothing_in orders repeats own.0 in
+        let made : KeptKind at kind w.arguments m.first = kind_kept at kind w.arguments m.first agreed texts m.is own.1 in
+        let entry : Entry A B = record { name = at; attribute = m.first } in
+        let is : entry ≡ e = some_back entry e m.gives in
+        let itself : AlikeEntry same e e = subst (λ x. AlikeEntry same x x) is (record { name = refl; attribute = made.itself }) in
+        let checked = made_too {Q = λ x y. Unit {0}} tt (repeated_too earlier itself) ((distinct_passes sight before e).1 distinct) in
+        record {
+          means = rw (named, made.means) (ap Some is);
+          unbroken = rw (named, order_same at false w.arguments two.0, sym (repeats_same at [] (by_key w.arguments)) ∙ two.1, made.unbroken) refl;
+          distinct = (distinct_passes other before e).0 checked.is;
+          itself = itself;
+        }
+      where
+        repeated_too : {ds : List (Entry A B)} {e : Entry A B} → Each (AlikeEntry same) ds ds → AlikeEntry same e e
+            → Makes same.spot (λ x y. Unit {0}) (new.check_repeated sight ds e) (new.check_repeated other ds e)
+        repeated_too d k = repeated_alike same sight other sees d k
+
+    -- ---- the attributes of an item
+
+    record KeptAll (before : List (Entry A B)) (ws : List (WrittenAttribute A B)) (es : List (Entry A B)) : Type 0 where
+      means : all_of (entry_of other) ws ≡ Some es
+      unbroken : flat_map (attribute_broken other) ws ≡ []
+      distinct : duplicates_broken other before ws ≡ []
+      itself : Each (AlikeEntry same) es es
+
+    all_kept : (before : List (Entry A B)) (ws : List (WrittenAttribute A B)) (es : List (Entry A B)) → Each (AlikeEntry same) before before
+        → AllByRecursion Agreed (written_literals ws) → AllByRecursion Texted (written_literals ws) → all_of (entry_of sight) ws ≡ Some es
+        → flat_map (attribute_broken sight) ws ≡ [] → duplicates_broken sight before ws ≡ [] → KeptAll before ws es
+    all_kept before [] es earlier agreed texts means unbroken distinct =
+        let e : [] ≡ es = some_back [] es means in
+        record { means = means; unbroken = refl; distinct = refl; itself = subst (λ l. Each (AlikeEntry same) l l) e a.nil }
+    all_kept before (w ∷ ws) es earlier agreed texts means unbroken distinct =
+        let m = first_of_all (entry_of sight) w ws es means in
+        let own : List (Literal A) = flat_map argument_literals w.arguments in
+        let g = parts Agreed own (written_literals ws) agreed in
+        let t = parts Texted own (written_literals ws) texts in
+        let u = nothing_in (attribute_broken sight w) (flat_map (attribute_broken sight) ws) unbroken in
+        let after : duplicate_broken sight before m.first ++ duplicates_broken sight (before ++ m.first ∷ []) ws ≡ [] =
+        sym (ap (λ o. of_some (duplicate_broken sight before) o ++ duplicates_broken sight (before ++ of_some (λ e. e ∷ []) o) ws) m.first_is) ∙ distinct in
+        let d = nothing_in (duplicate_broken sight before m.first) (duplicates_broken sight (before ++ m.first ∷ []) ws) after in
+        let one = one_kept before w m.first earlier g.0 t.0 m.first_is u.0 d.0 in
+        let others = all_kept (before ++ m.first ∷ []) ws m.others (each_both earlier (a.cons one.itself a.nil)) g.1 t.1 m.others_are u.1 d.1 in
+        record {
+          means = rw (one.means, others.means) (ap Some (sym m.all_are));
+          unbroken = rw (one.unbroken, others.unbroken) refl;
+          distinct = rw (one.means, one.distinct, others.distinct) refl;
+          itself = subst (λ l. Each (AlikeEntry same) l l) (sym m.all_are) (a.cons one.itself others.itself);
+        }
+
+    none_alike : {X Y : Type 0} {Q : X → Y → Type 0} {xs : List X} {ys : List Y} → Each Q xs ys → xs ≡ [] → ys ≡ []
+    none_alike a.nil e = refl
+    none_alike (a.cons h hs) e = never_nil _ _ e
+
+    content_alike : {C S : Type 0} (c : Content A B C S) → AlikeContent same sight other sees c c
+    unfolding same
+    content_alike (tree.Assignment p) = an_assignment {number = 0} refl
+    content_alike (tree.Recipe r) = a_recipe
+
+    -- the attributes of a construct mean the same, and break no rule
+    pub record KeptConstruct {C S : Type 0} (ws : List (WrittenAttribute A B)) (c : Content A B C S) (entries : List (Entry A B)) : Type 0 where
+      pub means : entries_of other ws ≡ Some entries
+      pub unbroken : construct_broken other ws c ≡ []
+
+    pub construct_kept : {C S : Type 0} (ws : List (WrittenAttribute A B)) (c : Content A B C S) (entries : List (Entry A B))
+        → AllByRecursion Agreed (written_literals ws) → AllByRecursion Texted (written_literals ws) → entries_of sight ws ≡ Some entries
+        → construct_broken sight ws c ≡ [] → KeptConstruct ws c entries
+    construct_kept ws c entries agreed texts means unbroken =
+        let m = bind_back (all_of (entry_of sight) ws) _ entries means in
+        let sorted : in_order (entry_cmp sight) m.first ≡ entries = some_back _ entries m.gives in
+        let u = nothing_in (attributes_broken sight ws) (of_some (meaning_broken sight c) (entries_of sight ws)) unbroken in
+        let two = nothing_in (flat_map (attribute_broken sight) ws) (duplicates_broken sight [] ws) u.0 in
+        let all = all_kept [] ws m.first a.nil agreed texts m.is two.0 two.1 in
+        let order : Each (AlikeEntry same) (in_order (entry_cmp sight) m.first) (in_order (entry_cmp other) m.first) =
+        ordered_alike same sight other sees all.itself in
+        let equal : in_order (entry_cmp sight) m.first ≡ in_order (entry_cmp other) m.first = list_same entry_same order in
+        let meaning : meaning_broken sight c (in_order (entry_cmp sight) m.first) ≡ [] =
+        sym (ap (λ o. of_some (meaning_broken sight c) o) (means ∙ ap Some (sym sorted))) ∙ u.1 in
+        let same_meaning : meaning_broken other c (in_order (entry_cmp other) m.first) ≡ [] =
+        none_alike (meaning_alike same sight other sees (content_alike c) order) meaning in
+        record {
+          means = rw all.means (ap Some (sym equal ∙ sorted));
+          unbroken = rw (all.unbroken, all.distinct, all.means) same_meaning;
+        }
+
+    -- ---- items
+
+    pub record KeptItems {C S : Type 0} (items : List (WrittenItem A B C S)) (all : List (OrderedItem A B C)) : Type 0 where
+      pub means : ordered other items ≡ Some all
+      pub unbroken : broken_of other items ≡ []
+
+    pub items_kept : {C S : Type 0} (items : List (WrittenItem A B C S)) (all : List (OrderedItem A B C))
+        → AllByRecursion Agreed (all_literals items) → AllByRecursion Texted (all_literals items) → ordered sight items ≡ Some all
+        → broken_of sight items ≡ [] → KeptItems items all
+    items_kept [] all agreed texts means unbroken = record { means = means; unbroken = refl }
+    items_kept (tree.Newline ∷ items) all agreed texts means unbroken =
+        let m = meanings_of sight tree.Newline items all means in
+        let others = items_kept items m.others agreed texts m.others_are unbroken in
+        record {
+          means = rw others.means (ap (λ x. Some (x ∷ m.others)) (some_back tree.Newline m.first m.first_is) ∙ ap Some (sym m.all_are));
+          unbroken = others.unbroken;
+        }
+    items_kept (tree.Comment text ∷ items) all agreed texts means unbroken =
+        let m = meanings_of sight (tree.Comment text) items all means in
+        let others = items_kept items m.others agreed texts m.others_are unbroken in
+        record {
+          means = rw others.means (ap (λ x. Some (x ∷ m.others)) (some_back (tree.Comment text) m.first m.first_is) ∙ ap Some (sym m.all_are));
+          unbroken = others.unbroken;
+        }
+    items_kept (tree.Construct ws c ∷ items) all agreed texts means unbroken =
+        let m = meanings_of sight (tree.Construct ws c) items all means in
+        let i = construct_meant sight ws c m.first m.first_is in
+        let own : List (Literal A) = written_literals ws ++ content_literals c in
+        let g = parts Agreed own (all_literals items) agreed in
+        let t = parts Texted own (all_literals items) texts in
+        let u = nothing_in (construct_broken sight ws c) (broken_of sight items) unbroken in
+        let one = construct_kept ws c i.entries (parts Agreed (written_literals ws) (content_literals c) g.0).0
+        (parts Texted (written_literals ws) (content_literals c) t.0).0 i.means u.0 in
+        let others = items_kept items m.others g.1 t.1 m.others_are u.1 in
+        record {
+          means = rw (one.means, others.means) (ap (λ x. Some (x ∷ m.others)) (sym i.item_is) ∙ ap Some (sym m.all_are));
+          unbroken = rw (one.unbroken, others.unbroken) refl;
+        }

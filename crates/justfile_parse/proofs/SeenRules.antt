@@ -1,0 +1,40 @@
+-- Broken rules of a table's tokens beside those of the tokens that the definitions see.
+use Rattle.std.proofs.Common.{◌≡◌, ap, refl}
+use Rattle.justfile_base.specs.declared.token.Token.{Token}
+use Rattle.justfile_model.specs.Rules as rules
+use Rattle.justfile_model.specs.Rules.{Broken, Rule, over_broken, over_rule}
+use Rattle.justfile_model.specs.Tok.{Tok, tok_of}
+use Rattle.justfile_model.proofs.AlikeRules as alike
+use Rattle.justfile_model.proofs.AlikeRules.{AlikeBroken, AlikeRule}
+
+module _ (Spot : Token → Tok → Type 0) (is : (t : Token) (k : Tok) → Spot t k → tok_of t ≡ k) where
+  same_rule : {r : Rule Token} {s : Rule Tok} → AlikeRule Spot r s → over_rule tok_of r ≡ s
+  same_rule (alike.unknown_attribute a) = ap rules.UnknownAttribute (is _ _ a)
+  same_rule (alike.count_mismatch {least = least} {most = most} a e) = λ i. rules.AttributeArgumentCountMismatch (is _ _ a i) (e i) least most
+  same_rule (alike.argument_expression a) = ap rules.AttributeArgumentExpression (is _ _ a)
+  same_rule alike.positional_follows = refl
+  same_rule (alike.duplicate_key a k) = λ i. rules.DuplicateAttributeKey (is _ _ a i) (is _ _ k i)
+  same_rule (alike.unknown_key a k) = λ i. rules.UnknownAttributeKey (is _ _ a i) (is _ _ k i)
+  same_rule (alike.missing_value k) = ap rules.AttributeKeyMissingValue (is _ _ k)
+  same_rule (alike.takes_no_value k) = ap rules.AttributeKeyTakesNoValue (is _ _ k)
+  same_rule (alike.invalid_signal e) = λ i. rules.InvalidSignal (e i)
+  same_rule (alike.has_equal_sign e) = λ i. rules.OptionNameContainsEqualSign (e i)
+  same_rule (alike.has_dash e) = λ i. rules.OptionNameStartsWithDash (e i)
+  same_rule (alike.empty_name e) = λ i. rules.OptionNameEmpty (e i)
+  same_rule (alike.long_short e) = λ i. rules.ShortOptionWithMultipleCharacters (e i)
+  same_rule (alike.requires_option k) = ap rules.ArgAttributeRequiresOption (is _ _ k)
+  same_rule (alike.flag_value e) = λ i. rules.FlagAttributeTakesNoValue (e i)
+  same_rule (alike.flag_and_value e) = λ i. rules.FlagAndValueArgAttribute (e i)
+  same_rule (alike.flag_and_pattern e) = λ i. rules.FlagAndPatternArgAttribute (e i)
+  same_rule (alike.no_count k e) = λ i. rules.ArgumentCountValue (is _ _ k i) (e i)
+  same_rule (alike.big_count k e) = λ i. rules.ArgumentCountParse (is _ _ k i) (e i)
+  same_rule (alike.min_exceeds e f) = λ i. rules.ArgAttributeMinExceedsMax (e i) (f i)
+  same_rule (alike.duplicate a f) = λ i. rules.DuplicateAttribute (is _ _ a i) (is _ _ f i)
+  same_rule (alike.duplicate_arg e f) = λ i. rules.DuplicateArgAttribute (e i) (is _ _ f i)
+  same_rule (alike.duplicate_group b g f) = λ i. rules.DuplicateGroupAttribute (b i) (is _ _ g i) (is _ _ f i)
+  same_rule (alike.invalid_attribute {item = item} e) = λ i. rules.InvalidAttribute item (e i)
+  same_rule (alike.undefined_arg e) = λ i. rules.UndefinedArgAttribute (e i)
+
+  -- the same rule, of the tokens that are seen
+  pub same_broken : {b : Broken Token} {c : Broken Tok} → AlikeBroken Spot b c → over_broken tok_of b ≡ c
+  same_broken h = λ i. record { rule = same_rule h.rule i; token = is _ _ h.token i }

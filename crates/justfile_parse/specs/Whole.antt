@@ -1,0 +1,44 @@
+-- What follows, of a construct, from its name, its attributes and its body.
+use Rattle.std.specs.Prelude.{◌≡◌, ℕ, All, Bool, ◌||◌, ◌==◌, List, slice_index, map}
+use Rattle.justfile_attribute_set.specs.AttributeSet.{AttributeSet, attributes_of}
+use Rattle.justfile_attribute_set.specs.Attributes.{has_kind}
+use Rattle.justfile_base.specs.Token.{lexeme_of}
+use Rattle.justfile_base.specs.declared.attribute_kind.AttributeKind.TheVariants as kinds
+use Rattle.justfile_base.specs.declared.token.Token.{Token}
+use Rattle.justfile_file.specs.declared.binding.Binding.{Binding}
+use Rattle.justfile_file.specs.declared.item.Item.{Item}
+use Rattle.justfile_file.specs.declared.item.Item.TheVariants.{Assignment, Comment, Newline, Recipe}
+use Rattle.justfile_file.specs.declared.recipe.UnresolvedRecipe.{UnresolvedRecipe}
+use Rattle.justfile_parse.specs.TableReader.{has_shebang}
+use Rattle.justfile_parse.specs.Tree.{line_tree}
+use Rattle.justfile_tree.specs.declared.expression.Expression.{Expression}
+
+-- a name that begins with `_` is private
+abbrev pub is_private : List ℕ → Bool
+is_private name = slice_index name 0 == 95
+
+-- what has a private name, or the attribute `private`, is private
+abbrev pub is_hidden : (name : Token) → AttributeSet → Bool
+is_hidden name set = is_private (lexeme_of name) || has_kind kinds.Private (attributes_of set)
+
+abbrev pub IsWholeAssignment : Binding Expression → Type 0
+IsWholeAssignment a = a.private ≡ is_hidden a.name.token a.attributes
+
+-- a recipe with the attribute `script`, or whose first line begins `#!`, is run by a program of its own
+pub record IsWholeRecipe (r : UnresolvedRecipe) : Type 0 where
+  pub private : r.private ≡ is_hidden r.name.token r.attributes
+  pub shebang : r.shebang ≡ has_kind kinds.Script (attributes_of r.attributes) || has_shebang (map line_tree r.body.items)
+
+abbrev pub IsWholeItem : Item → Type 0
+IsWholeItem (Assignment a) = IsWholeAssignment a
+IsWholeItem (Comment text) = Unit {0}
+IsWholeItem Newline = Unit {0}
+IsWholeItem (Recipe r) = IsWholeRecipe r
+
+-- all of them are
+unfoldable pub AreWhole : List Item → Type 0
+AreWhole items = All IsWholeItem items
+
+-- where the old ones are, so are the new ones
+unfoldable pub KeepsWhole : (old new : List Item) → Type 0
+KeepsWhole old new = AreWhole old → AreWhole new

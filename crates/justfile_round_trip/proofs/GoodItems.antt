@@ -1,0 +1,59 @@
+-- What is known of the items of a shape that is printed: they stand in lines, and their attributes and their contents are good.
+use Rattle.std.proofs.Common.{◌≡◌, ℕ, Bool, true, false, List, [], ◌∷◌}
+use Rattle.std.specs.Prelude.{◌||◌, not}
+use Rattle.justfile_model.specs.Modes.{is_empty}
+use Rattle.justfile_model.specs.Tree as tree
+use Rattle.justfile_model.specs.Tree.{Shape}
+use Rattle.justfile_round_trip.proofs.Canon.{Value, Row}
+use Rattle.justfile_round_trip.proofs.CanonAttributes.{ShapeEntry}
+use Rattle.justfile_round_trip.proofs.CanonItems.{assignment_item, recipe_item}
+use Rattle.justfile_round_trip.proofs.Good.{GoodName, GoodComment, GoodExpression, GoodRecipe, pale_after}
+use Rattle.justfile_round_trip.proofs.GoodAttributes.{GoodEntries}
+
+-- line ends alone
+abbrev pub blank_only : Shape → Bool
+blank_only [] = true
+blank_only (tree.Newline ∷ items) = blank_only items
+blank_only (i ∷ items) = false
+
+-- nothing, or not line ends alone
+abbrev pub follows_body : Shape → Bool
+follows_body items = is_empty items || not (blank_only items)
+
+module _ (limit : ℕ) where
+  mutual
+    -- items from the start of a line on; so far all contents are plain
+    pub data AtStart : Shape → Type 0 where
+      end : AtStart []
+      newline : {items : Shape} → AtStart items → AtStart (tree.Newline ∷ items)
+      comment : {t : List ℕ} {items : Shape} → GoodComment t → AtEnd items → AtStart (tree.Comment t ∷ items)
+      assignment : {entries : List ShapeEntry} {name : List ℕ} {value : Value} {items : Shape} → GoodEntries limit entries → GoodName name
+          → GoodExpression limit value → ItemRest items
+          → AtStart (assignment_item entries name value ∷ items)
+      header : {entries : List ShapeEntry} {name : List ℕ} {items : Shape} → GoodEntries limit entries → GoodName name → ItemRest items
+          → AtStart (recipe_item entries name [] ∷ items)
+      recipe : {entries : List ShapeEntry} {name : List ℕ} {l : Row} {ls : List Row} {items : Shape} → GoodEntries limit entries
+          → GoodRecipe limit name (l ∷ ls) → AfterBody (l ∷ ls) items
+          → AtStart (recipe_item entries name (l ∷ ls) ∷ items)
+
+    -- after an item a comment may trail it
+    pub data ItemRest : Shape → Type 0 where
+      trailing : {t : List ℕ} {items : Shape} → GoodComment t → AtEnd items → ItemRest (tree.Comment t ∷ items)
+      bare : {items : Shape} → AtEnd items → ItemRest items
+
+    -- then the line ends, and after the last line too
+    pub data AtEnd : Shape → Type 0 where
+      line_end : {items : Shape} → AtStart items → AtEnd (tree.Newline ∷ items)
+
+    -- after a body its last line ends; then levels close, and if they would close before that, nothing follows
+    pub data AfterBody : List Row → Shape → Type 0 where
+      body_end : {body : List Row} {items : Shape} → follows_body items ≡ true → (pale_after body ≡ true → items ≡ []) → AtStart items
+          → AfterBody body (tree.Newline ∷ items)
+
+  -- after a comment, or after another item
+  abbrev pub After : Bool → Shape → Type 0
+  After true items = AtEnd items
+  After false items = ItemRest items
+
+  pub past_newline : {items : Shape} → AtStart (tree.Newline ∷ items) → AtStart items
+  past_newline (newline h) = h
