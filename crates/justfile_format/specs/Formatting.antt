@@ -11,7 +11,7 @@ use Rattle.justfile_model.specs.Tree.{Tree, shape_of}
 use Rattle.justfile_file.specs.Ast.{features_of, tree_of}
 use Rattle.justfile_file.specs.declared.ast.Ast.{Ast}
 use Rattle.justfile_round_trip.specs.RoundTrip.{TextDerives, printed}
-use Rattle.justfile_parse.specs.Conditions.{depth_limit}
+use Rattle.justfile_parse_expression.specs.Conditions.{depth_limit}
 
 -- the expander that leaves each text as it is
 abbrev pub unchanged : Expansions

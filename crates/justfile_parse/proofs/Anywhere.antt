@@ -1,35 +1,20 @@
 -- What is read from any place of a table on, side by side with what the definitions read of its tokens.
-use Rattle.std.proofs.Common.{◌≡◌, false, List, [], ◌∷◌, map, Ok, Err, refl, sym, ap, ◌∙◌, subst}
 use Rattle.justfile_base.specs.declared.token.Token.{Token}
-use Rattle.justfile_file.specs.Ast.{noted_of}
-use Rattle.justfile_model.specs.ExpressionReader as expressions
-use Rattle.justfile_model.specs.Expressions as grammar
-use Rattle.justfile_model.specs.Expressions.{Free}
-use Rattle.justfile_model.specs.Features.{Noted}
-use Rattle.justfile_model.specs.SignificantTokens.{SignificantToken}
-use Rattle.justfile_model.specs.Tok.{Tok}
 use Rattle.justfile_model.specs.ReadAttribute.{ReadAttribute}
-use Rattle.justfile_model.specs.Tree.{Entry, Expr, itself}
-use Rattle.justfile_model.specs.TreeReader as model
+use Rattle.justfile_model.specs.Tree.{Entry}
 use Rattle.justfile_model.specs.TreeReader.{token_attributes, token_leaves}
-use Rattle.justfile_model.specs.declared.level.Level.TheVariants as levels
-use Rattle.justfile_model.specs.declared.list_feature.ListFeature.{ListFeature}
-use Rattle.justfile_model.proofs.Depth.{expression_freed}
-use Rattle.justfile_model.proofs.ExpressionSound.{expression_derives}
 use Rattle.justfile_model.proofs.Natural as natural
-use Rattle.justfile_model.proofs.NaturalExpressions.{expression_natural}
 use Rattle.justfile_model.proofs.Related as a
-use Rattle.justfile_model.proofs.Related.{Each, Never, Related, States}
-use Rattle.justfile_parse.specs.TableReader.{At, ReadExpr, Refusal, Run, State, kept, leaves, read}
-use Rattle.justfile_parse.specs.Significant.{significant_of}
+use Rattle.justfile_model.proofs.Related.{States}
+use Rattle.justfile_parse_expression.specs.TableReader.{Run, State, leaves}
+use Rattle.justfile_parse.specs.ItemTable.{kept}
 use Rattle.justfile_tree.specs.LeafTree.{Leaf}
-use Rattle.justfile_parse.specs.declared.significant.TableEntry.{TableEntry}
-use Rattle.justfile_parse.proofs.Seen.{IsEntry, Relates, respects, seen}
+use Rattle.justfile_parse_expression.proofs.Seen.{Relates}
+use Rattle.justfile_parse.proofs.Seen.{respects, seen}
 use Rattle.justfile_parse.proofs.SeenAttributes.{IsKept, attributed}
-
--- any token
-abbrev pub Any : Token → Type 0
-Any token = Unit {0}
+use Rattle.justfile_parse_expression.proofs.Anywhere as table
+use Rattle.justfile_parse_expression.proofs.Anywhere.{Any, state_seen}
+use Rattle.justfile_parse.proofs.Seen.{AreMeant}
 
 module _ (run : Run) where
   abbrev pub rel : Relates
@@ -45,41 +30,5 @@ module _ (run : Run) where
   abbrev pub keeps : natural.RespectsAttributes rel leaves token_leaves kept token_attributes Keeps
   keeps = attributed run.conditions Any run.file_depth run.import_offsets
 
-  each_entry : (es : List TableEntry) → Each (IsEntry run.conditions Any run.file_depth run.import_offsets) es (map significant_of es)
-  each_entry [] = a.nil
-  each_entry (e ∷ es) = a.cons (record { among = tt; is = refl }) (each_entry es)
-
-  each_noted : (fs : List (ListFeature × Token)) → Each (a.AlikeNoted rel) fs (map noted_of fs)
-  each_noted [] = a.nil
-  each_noted (f ∷ fs) = a.cons (refl, record { among = tt; is = refl }) (each_noted fs)
-
-  pub entries_are : {es : List TableEntry} {ts : List SignificantToken} → Each (IsEntry run.conditions Any run.file_depth run.import_offsets) es ts → ts ≡ map significant_of es
-  entries_are a.nil = refl
-  entries_are (a.cons h hs) = λ i. sym h.is i ∷ entries_are hs i
-
--- the state as the definitions see it
-abbrev pub state_seen : State → model.State
-state_seen s = record { run = s.run.conditions; depth = s.depth; left = map significant_of s.left; noted = map noted_of s.noted }
-
 pub state_alike : (s : State) → States (rel s.run) s (state_seen s)
-state_alike s = record { run = record { conditions_are = refl; same = refl; file_depth_is = refl; import_offsets_are = refl }; depth = refl; left = each_entry s.run s.left; noted = each_noted s.run s.noted }
-
--- an expression that is read derives, also without the limit
-pub derives : (s : State) (e : Expr Leaf Token) (rest : State) → read (At levels.Expression false s) ≡ Ok (e, rest)
-    → (tree : Expr Tok Tok) × (features : List (Noted Tok)) × grammar.Expression itself itself Free false s.depth tree features (map significant_of s.left) (map significant_of rest.left)
-derives s e rest found = by_law (read (At levels.Expression false s)) (expressions.read token_leaves (expressions.At levels.Expression false (state_seen s))) refl (expression_natural (rel s.run) leaves token_leaves (agree s.run) false (state_alike s)) found
-  where
-    inside : (x y : Expr Leaf Token × State) → ◌≡◌ {A = ReadExpr} (Ok x) (Ok y) → x ≡ y
-    inside x y h = cc
-
-    no_read : (f : Refusal) (y : Expr Leaf Token × State) → ◌≡◌ {A = ReadExpr} (Err f) (Ok y) → ⊥
-    no_read f y h = cc
-
-    by_law : (o : ReadExpr) (o' : model.Read (Expr Tok Tok)) → expressions.read token_leaves (expressions.At levels.Expression false (state_seen s)) ≡ o' → Related (rel s.run) (a.Alike (rel s.run)) (Never (rel s.run)) o o' → o ≡ Ok (e, rest)
-        → (tree : Expr Tok Tok) × (features : List (Noted Tok)) × grammar.Expression itself itself Free false s.depth tree features (map significant_of s.left) (map significant_of rest.left)
-    by_law o o' is (a.both {x = x} {y = y} q k) same =
-        let d = expression_derives s.run.conditions false s.depth (state_seen s) y is (refl, refl) in
-        let left : y.1.left ≡ map significant_of rest.left = entries_are s.run k.left ∙ ap (λ (z : Expr Leaf Token × State). map significant_of z.1.left) (inside x (e, rest) same) in
-        (y.0, d.features, subst (λ (ts : List SignificantToken). grammar.Expression itself itself Free false s.depth y.0 d.features (map significant_of s.left) ts) left (expression_freed s.run.conditions.limit itself itself d.derives))
-    by_law o o' is (a.neither {e = f} h) same = absurd (no_read f (e, rest) same)
-    by_law o o' is (a.short h) same = absurd h
+state_alike s = table.state_alike (AreMeant s.run.conditions Any s.run.file_depth s.run.import_offsets) s

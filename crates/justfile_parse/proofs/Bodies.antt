@@ -9,17 +9,18 @@ use Rattle.justfile_model.specs.Tree as tree
 use Rattle.justfile_model.specs.Tree.{BodyLine, trimmed}
 use Rattle.justfile_model.specs.Reader as files
 use Rattle.justfile_model.specs.Reading.{◌>>=◌, Unexpected, prepend, at, choose, refused}
-use Rattle.justfile_parse.specs.TableReader.{Read, Refusal, State, accept, body, optional_body, body_line, enclosed, expect, fragment, leaves, line_rest, lines, next_are, read, At}
-use Rattle.justfile_parse.specs.MethodResults.{StopsAt, literal_refusal, refusal_at}
+use Rattle.justfile_parse_expression.specs.TableReader.{Read, Refusal, State, accept, enclosed, expect, leaves, next_are, read, At}
+use Rattle.justfile_parse.specs.ItemTable.{body, optional_body, body_line, fragment, line_rest, lines}
+use Rattle.justfile_parse_expression.specs.MethodResults.{StopsAt, literal_refusal, refusal_at}
 use Rattle.justfile_parse.specs.Tree.{fragment_tree, line_tree}
 use Rattle.justfile_tree.specs.LeafTree.{Leaf, Text}
 use Rattle.justfile_model.specs.declared.level.Level.TheVariants as levels
-use Rattle.justfile_parse.specs.declared.significant.TableEntry.{TableEntry}
-use Rattle.justfile_parse.specs.declared.stop.Stop.{Stop}
-use Rattle.justfile_parse.specs.declared.stop.Stop.TheVariants.{Refused, Literal, Memory, Numbers}
+use Rattle.justfile_parse_expression.specs.declared.significant.TableEntry.{TableEntry}
+use Rattle.justfile_parse_expression.specs.declared.stop.Stop.{Stop}
+use Rattle.justfile_parse_expression.specs.declared.stop.Stop.TheVariants.{Refused, Literal, Memory, Numbers}
 use Rattle.justfile_model.proofs.Reading as laws
 use Rattle.justfile_model.proofs.ReadingSteps.{known}
-use Rattle.justfile_parse.proofs.Rules.{bind_alike, choose_alike, closed_by, then_made}
+use Rattle.justfile_parse_expression.proofs.Rules.{bind_alike, choose_alike, closed_by, then_made}
 
 pub fragment_is : (s : State) → fragment s
     ≡ choose {X = Read (tree.Fragment Leaf Token)} (accept kinds.Text s)

@@ -5,7 +5,7 @@ use Rattle.std.specs.Option.{option_map}
 use Rattle.justfile_attribute.specs.declared.attribute.Attribute.{Attribute}
 use Rattle.justfile_attribute_rules.specs.Made.{IsRefusedBy, quoted_leaf}
 use Rattle.justfile_attribute_rules.specs.RuleErrors.{SaysRule}
-use Rattle.justfile_attribute_set.specs.AttributeSet.{AttributeSet, IsInvalidBy, SaysInvalid, leaf_entries_of}
+use Rattle.justfile_attribute_set.specs.AttributeSet.{IsInvalidBy, SaysInvalid}
 use Rattle.justfile_base.specs.declared.attribute_kind.AttributeKind.{AttributeKind}
 use Rattle.justfile_base.specs.declared.compile_error.CompileError.{CompileError}
 use Rattle.justfile_base.specs.declared.compile_error_kind.CompileErrorKind.{CompileErrorKind}
@@ -17,26 +17,29 @@ use Rattle.justfile_base.specs.declared.name.Name.{Name}
 use Rattle.justfile_base.specs.declared.string_literal.StringLiteral.{StringLiteral}
 use Rattle.justfile_base.specs.declared.token.Token.{Token}
 use Rattle.justfile_base.specs.declared.token_kind.TokenKind.TheVariants as kinds
-use Rattle.justfile_model.specs.AttributeRules.{allowed_broken, arg_rules, first_invalid, least, of_some, undefined_broken}
-use Rattle.justfile_model.specs.ContentKeys.{entry_cmp, kind_of_attribute}
+use Rattle.justfile_model.specs.AttributeRules.{arg_rules, first_invalid, least, of_some}
+use Rattle.justfile_model.specs.ContentKeys.{kind_of_attribute}
 use Rattle.justfile_model.specs.Literals.{string_of}
 use Rattle.justfile_model.specs.Meaning.{text_of}
 use Rattle.justfile_model.specs.NewAttribute as new
-use Rattle.justfile_model.specs.Order.{in_order}
 use Rattle.justfile_model.specs.Reader as files
 use Rattle.justfile_model.specs.Reader.{obeying}
 use Rattle.justfile_model.specs.Reading as reading
 use Rattle.justfile_model.specs.Rules.{Broken, InvalidAttribute, UndefinedArgAttribute}
 use Rattle.justfile_model.specs.Sight.{or_empty}
 use Rattle.justfile_model.specs.Tree.{ArgumentRules, Entry}
-use Rattle.justfile_parse.specs.Attributes.{entry_of_pair}
-use Rattle.justfile_parse.specs.Halting.{HaltsAt, HaltsFor, IsExtraneousFault}
-use Rattle.justfile_parse.specs.TableReader as reader
-use Rattle.justfile_parse.specs.TableReader.{Entries, Read, State, in_content_order, least_argument, leaves}
-use Rattle.justfile_parse.specs.declared.halt.Halt.{Halt}
-use Rattle.justfile_parse.specs.declared.halt.Halt.TheVariants as halts
-use Rattle.justfile_parse.specs.declared.significant.TableEntry.{TableEntry}
-use Rattle.justfile_parse.specs.declared.stop.Stop.TheVariants as stops
+use Rattle.justfile_parse_attribute.specs.Attributes.{entry_of_pair}
+use Rattle.justfile_parse_attribute.specs.Halting.{HaltsAt, HaltsFor}
+use Rattle.justfile_parse.specs.Halting.{IsExtraneousFault}
+use Rattle.justfile_parse_expression.specs.TableReader as tokens
+use Rattle.justfile_parse.specs.ItemTable as reader
+use Rattle.justfile_parse_attribute.specs.AttributeTable.{Entries}
+use Rattle.justfile_parse_expression.specs.TableReader.{Read, State, leaves}
+use Rattle.justfile_parse.specs.ItemTable.{in_content_order, least_argument}
+use Rattle.justfile_parse_attribute.specs.declared.halt.Halt.{Halt}
+use Rattle.justfile_parse_attribute.specs.declared.halt.Halt.TheVariants as halts
+use Rattle.justfile_parse_expression.specs.declared.significant.TableEntry.{TableEntry}
+use Rattle.justfile_parse_expression.specs.declared.stop.Stop.TheVariants as stops
 use Rattle.justfile_tree.specs.LeafSight.{sees_leaves}
 use Rattle.justfile_tree.specs.LeafTree.{Leaf, Literal, literal_of}
 
@@ -157,7 +160,7 @@ module _ (ws : Entries) (s : State) (entries : Entries) (is : entries ≡ in_con
 
 -- ---- the attributes before a construct
 
-module _ (s : State) (opener : TableEntry) (next : State) (opened : reader.accept kinds.BracketL s ≡ Some (opener, next)) where
+module _ (s : State) (opener : TableEntry) (next : State) (opened : tokens.accept kinds.BracketL s ≡ Some (opener, next)) where
   pub before_is : reader.item_attributes s ≡ reading.◌>>=◌ (reader.lines_of_attributes s) (reader.before_item opener)
   unfolding files.attributes
   before_is = rw opened refl

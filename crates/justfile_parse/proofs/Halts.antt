@@ -3,13 +3,13 @@ use Rattle.std.proofs.Common.{◌≡◌, Ok, Err, refl, sym, ap, subst}
 use Rattle.justfile_base.specs.declared.compile_error.CompileError.{CompileError}
 use Rattle.justfile_model.specs.Reading as reading
 use Rattle.justfile_model.specs.Reading.{◌>>=◌}
-use Rattle.justfile_parse.specs.Halting.{HaltsAt, IsBrokenBy}
-use Rattle.justfile_parse.specs.MethodResults.{StopsAt, literal_refusal, refusal_at}
-use Rattle.justfile_parse.specs.TableReader.{Read, Refusal, State}
-use Rattle.justfile_parse.specs.declared.halt.Halt.{Halt}
-use Rattle.justfile_parse.specs.declared.halt.Halt.TheVariants.{Stopped, Broken}
-use Rattle.justfile_parse.specs.declared.stop.Stop.{Stop}
-use Rattle.justfile_parse.specs.declared.stop.Stop.TheVariants.{Refused, Literal, Memory, Numbers}
+use Rattle.justfile_parse_attribute.specs.Halting.{HaltsAt, IsBrokenBy}
+use Rattle.justfile_parse_expression.specs.MethodResults.{StopsAt, literal_refusal, refusal_at}
+use Rattle.justfile_parse_expression.specs.TableReader.{Read, Refusal, State}
+use Rattle.justfile_parse_attribute.specs.declared.halt.Halt.{Halt}
+use Rattle.justfile_parse_attribute.specs.declared.halt.Halt.TheVariants.{Stopped, Broken}
+use Rattle.justfile_parse_expression.specs.declared.stop.Stop.{Stop}
+use Rattle.justfile_parse_expression.specs.declared.stop.Stop.TheVariants.{Refused, Literal, Memory, Numbers}
 
 -- what refuses wherever something else does
 module _ {X Y : Type 0} (found : Read X) (other : Read Y) (fails : (e : Refusal) → found ≡ Err e → other ≡ Err e) where

@@ -15,7 +15,7 @@ use Rattle.justfile_model.specs.AttributeRules.{arg_rules, least, lesser, rules_
 use Rattle.justfile_model.specs.ContentLeaf.{text_cmp}
 use Rattle.justfile_model.specs.Meaning.{text_of}
 use Rattle.justfile_model.specs.Tree.{ArgumentRules, Quoted}
-use Rattle.justfile_parse.specs.TableReader.{argument_in, least_argument, lesser_of}
+use Rattle.justfile_parse.specs.ItemTable.{argument_in, least_argument, lesser_of}
 use Rattle.justfile_tree.specs.LeafSight.{sees_leaves}
 use Rattle.justfile_tree.specs.LeafTree.{Leaf}
 

@@ -12,15 +12,16 @@ use Rattle.justfile_model.specs.Tree.{OrderedItem}
 use Rattle.justfile_model.specs.Reader as files
 use Rattle.justfile_model.specs.Reader.{after_numbered, comment_item, has_body, some_line}
 use Rattle.justfile_model.specs.Reading.{◌>>=◌, Counters, prepend}
-use Rattle.justfile_parse.specs.TableReader.{Read, ReadItems, Refusal, State, accept, item_rest, ended, expect, kept, leaves, line, line_end, on_line}
-use Rattle.justfile_parse.specs.Halting.{HaltsAt}
-use Rattle.justfile_parse.specs.MethodResults.{StopsAt, literal_refusal, refusal_at}
+use Rattle.justfile_parse_expression.specs.TableReader.{Read, Refusal, State, accept, expect, leaves}
+use Rattle.justfile_parse.specs.ItemTable.{ReadItems, item_rest, ended, kept, line, line_end, on_line}
+use Rattle.justfile_parse_attribute.specs.Halting.{HaltsAt}
+use Rattle.justfile_parse_expression.specs.MethodResults.{StopsAt, literal_refusal, refusal_at}
 use Rattle.justfile_parse.specs.Tree.{item_tree, line_tree}
 use Rattle.justfile_tree.specs.LeafTree.{Leaf}
-use Rattle.justfile_parse.specs.declared.halt.Halt.{Halt}
-use Rattle.justfile_parse.specs.declared.significant.TableEntry.{TableEntry}
-use Rattle.justfile_parse.specs.declared.stop.Stop.{Stop}
-use Rattle.justfile_parse.specs.declared.stop.Stop.TheVariants.{Refused, Literal, Memory, Numbers}
+use Rattle.justfile_parse_attribute.specs.declared.halt.Halt.{Halt}
+use Rattle.justfile_parse_expression.specs.declared.significant.TableEntry.{TableEntry}
+use Rattle.justfile_parse_expression.specs.declared.stop.Stop.{Stop}
+use Rattle.justfile_parse_expression.specs.declared.stop.Stop.TheVariants.{Refused, Literal, Memory, Numbers}
 use Rattle.justfile_parse.proofs.Halts.{halted}
 
 abbrev Items : Type 0

@@ -9,18 +9,20 @@ use Rattle.justfile_model.specs.Tree.{OrderedItem}
 use Rattle.justfile_model.specs.Reader as files
 use Rattle.justfile_model.specs.Reader.{after_numbered}
 use Rattle.justfile_model.specs.Reading.{◌>>=◌, Counters}
-use Rattle.justfile_parse.specs.TableReader as reader
+use Rattle.justfile_parse.specs.ItemTable as reader
 use Rattle.justfile_parse.specs.WantsNumber.{counters_of}
-use Rattle.justfile_parse.specs.TableReader.{ReadItems, Refusal, State, accept, after_mark, items, kept, leaves, line, read_nothing, on_line}
-use Rattle.justfile_parse.specs.Halting.{HaltsAt}
-use Rattle.justfile_parse.specs.MethodResults.{IsMoved, StopsAt, literal_refusal, refusal_at}
+use Rattle.justfile_parse.specs.ItemTable.{ReadItems, after_mark, items, kept, line, read_nothing, on_line}
+use Rattle.justfile_parse_expression.specs.TableReader.{Read, Refusal, State, accept, leaves}
+use Rattle.justfile_parse_attribute.specs.Halting.{HaltsAt}
+use Rattle.justfile_parse.specs.MethodResults.{IsMoved}
+use Rattle.justfile_parse_expression.specs.MethodResults.{StopsAt, literal_refusal, refusal_at}
 use Rattle.justfile_parse.specs.Tree.{item_tree}
 use Rattle.justfile_parse.specs.Whole.{AreWhole, KeepsWhole}
 use Rattle.justfile_tree.specs.LeafTree.{Leaf}
-use Rattle.justfile_parse.specs.declared.halt.Halt.{Halt}
-use Rattle.justfile_parse.specs.declared.significant.TableEntry.{TableEntry}
-use Rattle.justfile_parse.specs.declared.stop.Stop.{Stop}
-use Rattle.justfile_parse.specs.declared.stop.Stop.TheVariants.{Refused, Literal, Memory, Numbers}
+use Rattle.justfile_parse_attribute.specs.declared.halt.Halt.{Halt}
+use Rattle.justfile_parse_expression.specs.declared.significant.TableEntry.{TableEntry}
+use Rattle.justfile_parse_expression.specs.declared.stop.Stop.{Stop}
+use Rattle.justfile_parse_expression.specs.declared.stop.Stop.TheVariants.{Refused, Literal, Memory, Numbers}
 use Rattle.justfile_model.proofs.Reading as laws
 use Rattle.justfile_model.proofs.ReadingSteps.{known}
 use Rattle.justfile_parse.proofs.Halts.{halted}
@@ -134,10 +136,10 @@ module _ (s q : State) (first next : Numerator) (done : List file.Item) (so_far 
     at_end_is = sym so_far.read ∙ laws.items_at_end leaves kept (map item_tree done) (counters_of next) q end rest is ∙ ap (after_numbered (map item_tree done)) (end_by rest.left)
 
     pub ends : read_nothing rest ≡ Ok (tt, rest) → items (counters_of first) s ≡ Ok ((map item_tree done, counters_of next), rest)
-    ends h = at_end_is ∙ ap (λ (f : reader.Read (Unit {0})). after_numbered (map item_tree done) (f >>= item_rest_end)) h ∙ laws.numbered_nothing (map item_tree done) (counters_of next) rest
+    ends h = at_end_is ∙ ap (λ (f : Read (Unit {0})). after_numbered (map item_tree done) (f >>= item_rest_end)) h ∙ laws.numbered_nothing (map item_tree done) (counters_of next) rest
 
     past : (e : Refusal) → read_nothing rest ≡ Err e → items (counters_of first) s ≡ Err e
-    past e h = at_end_is ∙ ap (λ (f : reader.Read (Unit {0})). after_numbered (map item_tree done) (f >>= item_rest_end)) h ∙ laws.numbered_refused (map item_tree done) e
+    past e h = at_end_is ∙ ap (λ (f : Read (Unit {0})). after_numbered (map item_tree done) (f >>= item_rest_end)) h ∙ laws.numbered_refused (map item_tree done) e
 
     pub goes_past : (stop : Stop) (IsShort : Type 0) → StopsAt stop rest ⊥ (read_nothing rest) → StopsAt stop rest IsShort (items (counters_of first) s)
     goes_past (Refused r) IsShort h = past (refusal_at r rest) h

@@ -25,12 +25,14 @@ use Rattle.justfile_model.proofs.ReadingSteps.{known}
 use Rattle.justfile_model.proofs.Related as a
 use Rattle.justfile_model.proofs.Related.{AlikeItem, Related}
 use Rattle.justfile_model.proofs.Sound.{Starts, of_block, of_comment, of_line, on_line_at}
-use Rattle.justfile_parse.specs.TableReader.{after_mark, Read, ReadItem, ReadItems, Refusal, State, accept, item_rest, ended, expect, kept, leaves, line, line_end, on_line}
-use Rattle.justfile_parse.specs.Significant.{significant_of}
+use Rattle.justfile_parse.specs.ItemTable.{after_mark, ReadItem, ReadItems, item_rest, ended, kept, line, line_end, on_line}
+use Rattle.justfile_parse_expression.specs.TableReader.{Read, Refusal, State, accept, expect, leaves}
+use Rattle.justfile_parse_expression.specs.Significant.{significant_of}
 use Rattle.justfile_tree.specs.LeafTree.{Leaf}
-use Rattle.justfile_parse.specs.declared.significant.TableEntry.{TableEntry}
-use Rattle.justfile_parse.proofs.Anywhere.{Keeps, agree, entries_are, keeps, rel, state_alike, state_seen}
-use Rattle.justfile_parse.proofs.Formats.{IsExpected, IsNext, Taken, accepted, expected}
+use Rattle.justfile_parse_expression.specs.declared.significant.TableEntry.{TableEntry}
+use Rattle.justfile_parse.proofs.Anywhere.{Keeps, agree, keeps, rel, state_alike}
+use Rattle.justfile_parse_expression.proofs.Anywhere.{entries_are, state_seen}
+use Rattle.justfile_parse_expression.proofs.Formats.{IsExpected, IsNext, Taken, accepted, expected}
 
 -- how many identifiers are left
 abbrev pub names : State → ℕ

@@ -28,7 +28,8 @@ use Rattle.justfile_model.specs.SignificantTokens.{SignificantToken}
 use Rattle.justfile_attribute_rules.specs.RuleErrors.{SaysRule}
 use Rattle.justfile_model.specs.Rules as rules
 use Rattle.justfile_model.specs.Rules.{Rule}
-use Rattle.justfile_parse.specs.Errors.{IsErrorOf, IsExtraneous, IsUnexpected}
+use Rattle.justfile_parse.specs.Errors.{IsErrorOf, IsUnexpected}
+use Rattle.justfile_parse_attribute.specs.Halting.{IsExtraneous}
 use Rattle.justfile_model.specs.LexicalFault.{LexicalFault, NotLexical, LexicalRefusal, Here, Unclosed, lexical_fault_of}
 use Rattle.justfile_model.specs.LiteralText.{raw_len}
 use Rattle.justfile_model.specs.Modes.{Mode, head_of, innermost, is_empty, mode, nested}

@@ -53,11 +53,11 @@ use Rattle.justfile_model.proofs.Ordered.{ordered_bindings, ordered_recipes}
 use Rattle.justfile_parse.specs.Filled.{AreGivenExpressions, AreGivenParts, IsGivenFragment, IsGivenOptional, IsGivenItem, IsGivenExpression, IsGivenLine, IsGivenPart, IsInTable, first_part, later_part}
 use Rattle.justfile_literal.specs.Literal.{IsPartOf, is_framed, is_quoted}
 use Rattle.justfile_parse.specs.Errors.{IsErrorOf}
-use Rattle.justfile_parse.specs.Literal.{is_delimited, is_sound}
+use Rattle.justfile_parse_expression.specs.Literal.{is_delimited, is_sound}
 use Rattle.justfile_parse.specs.Parsing.{HasNoTree, IsOneLex, IsParsed, IsParsedText, IsUnparsed}
 use Rattle.justfile_parse.specs.MethodResults.{IsRead, IsUnread}
-use Rattle.justfile_parse.specs.Significant.{significant_of}
-use Rattle.justfile_parse.specs.declared.significant.TableEntry.{TableEntry}
+use Rattle.justfile_parse_expression.specs.Significant.{significant_of}
+use Rattle.justfile_parse_expression.specs.declared.significant.TableEntry.{TableEntry}
 use Rattle.justfile_parse.specs.Unstable.{unstable_of}
 use Rattle.justfile_parse.specs.WantsNumber.{WantsNumber}
 use Rattle.justfile_parse.proofs.GivenAttributes.{given_set, joined_cook, lexemes, set_cooks, string_cooks, string_tok}

@@ -21,63 +21,28 @@ use Rattle.justfile_model.specs.Meaning.{entries_of}
 use Rattle.justfile_model.specs.Sight.{sees_tokens}
 use Rattle.justfile_model.specs.Literals as literals
 use Rattle.justfile_model.specs.Literals.{cooked_text, format_text, string_of, token_of}
-use Rattle.justfile_model.specs.SignificantTokens.{SignificantToken}
 use Rattle.justfile_model.specs.Tok.{Tok, tok_of}
 use Rattle.justfile_model.specs.Tree as tree
-use Rattle.justfile_model.specs.Tree.{BodyLine, Content, Entry, Expr, Exprs, Parts, WrittenAttribute, WrittenItem, WrittenTree, plain_assignment, plain_recipe, starless}
+use Rattle.justfile_model.specs.Tree.{BodyLine, Entry, Expr, Exprs, Parts, WrittenAttribute}
 use Rattle.justfile_model.specs.TreeReader.{token_leaves}
 use Rattle.justfile_model.proofs.Related as a
-use Rattle.justfile_model.proofs.Related.{Alike, AlikeAll, AlikeFragment, AlikeItem, AlikeItems, AlikeLine, AlikeParts, Each, Relations, Respects}
+use Rattle.justfile_model.proofs.Related.{Alike, AlikeAll, AlikeFragment, AlikeLine, AlikeParts, Each, Respects}
 use Rattle.justfile_tree.specs.Expression as model
 use Rattle.justfile_tree.specs.Expression.{expr_of, exprs_of_row, literal_tok, part_tok}
 use Rattle.justfile_tree.specs.declared.expression.Expression.{Expression, And', Assert', Backtick, Call', Comparison', Concatenation', Conditional', FormatString', Group', Join', List', ListConcatenation', Not', Or', StringLiteral, Variable, None', Some', Row_of-Expression as ExpressionRow, end_of-Expression as row_end, more_of-Expression as row_more, Row_of-Expression-FormatString-1-2 as FormatRow, end_of-Expression-FormatString-1-2 as format_row_end, more_of-Expression-FormatString-1-2 as format_row_more}
 use Rattle.justfile_parse.specs.Filled.{AreGivenAttributes, IsGivenFragment, IsGivenLine, AreGivenExpressions, AreGivenParts, IsGivenCommand, IsGivenExpression, IsGivenLiteral, IsGivenPart, first_part, later_part}
-use Rattle.justfile_parse.specs.TableReader.{Run, assigned_leaf, headed_leaf, leaves, literal_leaf}
-use Rattle.justfile_parse.specs.Significant.{significant_of}
+use Rattle.justfile_parse_expression.specs.TableReader.{leaves, literal_leaf}
 use Rattle.justfile_parse.specs.Tree.{fragment_tree, line_tree}
 use Rattle.justfile_tree.specs.LeafTree.{Leaf, LiteralText, Named, Literal, Command, Text, format_row_tree, literal_of, parts_row_tree, leaf_tree_of, trees_of_row}
-use Rattle.justfile_parse.specs.declared.significant.TableEntry.{TableEntry}
-
--- a reader of a table beside one of significant tokens
-abbrev pub Relates : Type 1
-Relates = Relations Run TableEntry Leaf Token (Unit {0}) (List (Entry Leaf Token)) Conditions SignificantToken Tok Tok Tok (List (WrittenAttribute Tok Tok))
+use Rattle.justfile_parse_expression.proofs.Seen as table
+use Rattle.justfile_parse_expression.proofs.Seen.{Relates}
 
 module _ (conditions : Conditions) (IsToken : Token → Type 0) (file_depth : ℕ) (import_offsets : List ℕ) where
-  -- this run
-  pub record IsRun (run : Run) (C : Conditions) : Type 0 where
-    pub conditions_are : run.conditions ≡ C
-    pub same : C ≡ conditions
-    pub file_depth_is : run.file_depth ≡ file_depth
-    pub import_offsets_are : run.import_offsets ≡ import_offsets
+  abbrev IsLeaf : (make : Token → Leaf) → Leaf → Tok → Type 0
+  IsLeaf = table.IsLeaf conditions IsToken file_depth import_offsets
 
-  -- a token of the table, and the token that the definitions see
-  pub record IsSpot (token : Token) (tok : Tok) : Type 0 where
-    pub among : IsToken token
-    pub is : tok_of token ≡ tok
-
-  pub record IsEntry (entry : TableEntry) (t : SignificantToken) : Type 0 where
-    pub among : IsToken entry.token.now
-    pub is : significant_of entry ≡ t
-
-  -- a leaf that is made of such a token
-  pub record IsLeaf (make : Token → Leaf) (leaf : Leaf) (tok : Tok) : Type 0 where
-    pub token : Token
-    pub among : IsToken token
-    pub is : leaf ≡ make token
-    pub tok_is : tok ≡ tok_of token
-
-  -- a literal with its text
-  pub record IsLiteralLeaf (l : literals.Literal (List ℕ)) (leaf : Leaf) (tok : Tok) : Type 0 where
-    pub token : Token
-    pub among : IsToken token
-    pub lexeme : token_of l ≡ lexeme_of token
-    pub text : List ℕ
-    pub cooked : cooked_text conditions.expander l ≡ Ok text
-    pub is : leaf ≡ literal_leaf token l text
-    pub tok_is : tok ≡ tok_of token
-
-  abbrev pub in_run : Run
-  in_run = record { conditions = conditions; table = []; file_depth = file_depth; import_offsets = import_offsets }
+  abbrev IsLiteralLeaf : literals.Literal (List ℕ) → Leaf → Tok → Type 0
+  IsLiteralLeaf = table.IsLiteralLeaf conditions IsToken file_depth import_offsets
 
   -- a set whose entries are these holds what the written attributes mean, and its parts are given
   abbrev pub AreMeant : List (Entry Leaf Token) → List (WrittenAttribute Tok Tok) → Type 0
@@ -85,54 +50,10 @@ module _ (conditions : Conditions) (IsToken : Token → Type 0) (file_depth : �
       → (entries_of (sees_tokens conditions.expander) ws ≡ Some (set_entries set)) × AreGivenAttributes conditions.expander IsToken set
 
   abbrev pub seen : Relates
-  seen = record {
-    run = IsRun;
-    token = IsEntry;
-    spot = IsSpot;
-    name = IsLeaf (λ token. Named token None);
-    literal = IsLiteralLeaf;
-    text = IsLeaf Text;
-    star = λ star tok. Unit {0};
-    attributes = AreMeant;
-    assignment = λ number. IsLeaf (λ token. assigned_leaf in_run token number);
-    recipe = λ number leaf body tok lines. IsLeaf (λ token. headed_leaf in_run token number) leaf tok;
-  }
-
-  -- ---- what the two make of tokens
-
-  named : (make : Token → Leaf) (entry : TableEntry) (t : SignificantToken) → IsEntry entry t → IsLeaf make (make entry.token.now) t.tok
-  named make entry t h = record { token = entry.token.now; among = h.among; is = refl; tok_is = ap (λ (s : SignificantToken). s.tok) (sym h.is) }
-
-  assigned_is : (run : Run) (C : Conditions) → IsRun run C → (token : Token) (number : ℕ) → assigned_leaf run token number ≡ assigned_leaf in_run token number
-  assigned_is run C h token number = rw h.file_depth_is refl
-
-  headed_is : (run : Run) (C : Conditions) → IsRun run C → (token : Token) (number : ℕ) → headed_leaf run token number ≡ headed_leaf in_run token number
-  headed_is run C h token number = rw (h.file_depth_is, h.import_offsets_are) refl
+  seen = table.seen conditions IsToken file_depth import_offsets AreMeant
 
   pub respects : Respects seen leaves token_leaves
-  unfolding leaves
-  respects = record {
-    conditions = λ run C h. h.conditions_are;
-    see = λ entry t h. h.is;
-    spot = λ entry t h. record { among = h.among; is = ap (λ (s : SignificantToken). s.tok) h.is };
-    name = λ entry t h. named (λ token. Named token None) entry t h;
-    literal = λ run C entry t r h l text lexeme cooked. record {
-      token = entry.token.now;
-      among = h.among;
-      lexeme = lexeme;
-      text = text;
-      cooked = ap (λ (D : Conditions). cooked_text D.expander l) (sym (r.conditions_are ∙ r.same)) ∙ cooked;
-      is = refl;
-      tok_is = ap (λ (s : SignificantToken). s.tok) (sym h.is);
-    };
-    text = λ entry t h. named Text entry t h;
-    star = λ entry t h. tt;
-    assignment = λ run C entry t r h number.
-        subst (λ (leaf : Leaf). IsLeaf (λ token. assigned_leaf in_run token number) leaf t.tok) (sym (assigned_is run C r entry.token.now number)) (named (λ token. assigned_leaf in_run token number) entry t h);
-    recipe = λ run C entry t r h number body lines same.
-        subst (λ (leaf : Leaf). IsLeaf (λ token. headed_leaf in_run token number) leaf t.tok) (sym (headed_is run C r entry.token.now number)) (named (λ token. headed_leaf in_run token number) entry t h);
-    has_number = λ n h. refl;
-  }
+  respects = table.respects conditions IsToken file_depth import_offsets AreMeant
 
   -- ---- what is at the leaves
 

@@ -47,10 +47,13 @@ use Rattle.justfile_tree.specs.LeafSight.{leaf_cooked, leaf_literal, leaf_token,
 use Rattle.justfile_tree.specs.LeafTree.{Leaf, leaf_tree_of}
 use Rattle.justfile_tree.specs.declared.expression.Expression.{Expression}
 use Rattle.justfile_parse.specs.Filled.{AreGivenAttributes, IfThere, IsGivenAttribute, IsGivenBoxed, IsGivenCount, IsGivenLiteral, IsGivenOption, IsGivenProperty}
-use Rattle.justfile_parse.specs.TableReader as reader
-use Rattle.justfile_parse.specs.TableReader.{kept, leaves}
+use Rattle.justfile_parse_expression.specs.TableReader as reader
+use Rattle.justfile_parse.specs.ItemTable.{kept}
+use Rattle.justfile_parse_expression.specs.TableReader.{leaves}
+use Rattle.justfile_parse_expression.proofs.Seen as table
 use Rattle.justfile_parse.proofs.Seen as seeing
-use Rattle.justfile_parse.proofs.Seen.{AreMeant, Relates}
+use Rattle.justfile_parse.proofs.Seen.{AreMeant}
+use Rattle.justfile_parse_expression.proofs.Seen.{Relates}
 
 -- a token stands for its place
 abbrev own : Token → Token
@@ -61,13 +64,13 @@ module _ (conditions : Conditions) (IsToken : Token → Type 0) (file_depth : �
   seen = seeing.seen conditions IsToken file_depth import_offsets
 
   abbrev IsSpot : Token → Tok → Type 0
-  IsSpot = seeing.IsSpot conditions IsToken file_depth import_offsets
+  IsSpot = table.IsSpot conditions IsToken file_depth import_offsets
 
   abbrev IsLeaf : (Token → Leaf) → Leaf → Tok → Type 0
-  IsLeaf = seeing.IsLeaf conditions IsToken file_depth import_offsets
+  IsLeaf = table.IsLeaf conditions IsToken file_depth import_offsets
 
   abbrev IsLiteralLeaf : Literal (List ℕ) → Leaf → Tok → Type 0
-  IsLiteralLeaf = seeing.IsLiteralLeaf conditions IsToken file_depth import_offsets
+  IsLiteralLeaf = table.IsLiteralLeaf conditions IsToken file_depth import_offsets
 
   -- ---- attributes
 

@@ -28,11 +28,13 @@ use Rattle.justfile_tree.specs.declared.expression.Expression.{Expression}
 use Rattle.justfile_attribute_set.specs.AttributeSet as sets
 use Rattle.justfile_attribute_set.specs.AttributeSet.{leaf_entries_of}
 use Rattle.justfile_parse.specs.Filled.{IsGivenItem, IsGivenLine}
-use Rattle.justfile_parse.specs.TableReader.{assigned_leaf, headed_leaf}
+use Rattle.justfile_parse_expression.specs.TableReader.{assigned_leaf, headed_leaf}
 use Rattle.justfile_parse.specs.Tree.{assignment_name, item_tree, line_tree, recipe_name}
 use Rattle.justfile_parse.specs.Whole.{IsWholeItem}
+use Rattle.justfile_parse_expression.proofs.Seen as table
 use Rattle.justfile_parse.proofs.Seen as seeing
-use Rattle.justfile_parse.proofs.Seen.{AreMeant, Relates, in_run}
+use Rattle.justfile_parse_expression.proofs.Seen.{Relates, in_run}
+use Rattle.justfile_parse.proofs.Seen.{AreMeant}
 use Rattle.justfile_parse.proofs.Shebangs.{shebang_given}
 
 -- an item by what its attributes mean
@@ -45,7 +47,7 @@ module _ (conditions : Conditions) (IsToken : Token → Type 0) (file_depth : �
   seen = seeing.seen conditions IsToken file_depth import_offsets
 
   abbrev IsLeaf : (Token → Leaf) → Leaf → Tok → Type 0
-  IsLeaf = seeing.IsLeaf conditions IsToken file_depth import_offsets
+  IsLeaf = table.IsLeaf conditions IsToken file_depth import_offsets
 
   -- ---- items
 

@@ -15,7 +15,7 @@ use Rattle.justfile_file.specs.declared.fragment.Fragment.{Fragment}
 use Rattle.justfile_file.specs.declared.fragment.Fragment.TheVariants as fragments
 use Rattle.justfile_file.specs.declared.line.Line.{Line}
 use Rattle.justfile_model.specs.Tree as tree
-use Rattle.justfile_parse.specs.TableReader.{has_shebang, is_shebang}
+use Rattle.justfile_parse.specs.ItemTable.{has_shebang, is_shebang}
 use Rattle.justfile_parse.specs.Filled.{HasShebang}
 use Rattle.justfile_parse.specs.Tree.{fragment_tree, line_tree}
 

@@ -33,28 +33,34 @@ use Rattle.justfile_model.proofs.Related as a
 use Rattle.justfile_model.proofs.Related.{AlikeItems, AlikeNext, Each, Refusals, Related, States}
 use Rattle.justfile_model.proofs.Renumbered.{file_by, whole}
 use Rattle.justfile_base.specs.declared.compile_error_kind.CompileErrorKind.{CompileErrorKind}
-use Rattle.justfile_parse.specs.Errors.{IsAt, IsErrorOf, IsExtraneous}
-use Rattle.justfile_parse.specs.Halting.{HaltsAt, IsBrokenBy, IsFaultOfHalt}
+use Rattle.justfile_parse.specs.Errors.{IsAt, IsErrorOf}
+use Rattle.justfile_parse_attribute.specs.Halting.{IsExtraneous}
+use Rattle.justfile_parse_attribute.specs.Halting.{HaltsAt, IsBrokenBy}
+use Rattle.justfile_parse.specs.Halting.{IsFaultOfHalt}
 use Rattle.justfile_parse.specs.Whole.{AreWhole}
-use Rattle.justfile_parse.specs.declared.halt.Halt.{Halt}
-use Rattle.justfile_parse.specs.declared.halt.Halt.TheVariants as halts
+use Rattle.justfile_parse_attribute.specs.declared.halt.Halt.{Halt}
+use Rattle.justfile_parse_attribute.specs.declared.halt.Halt.TheVariants as halts
 use Rattle.justfile_parse.specs.Filled.{IsInTable}
-use Rattle.justfile_parse.specs.TableReader as reader
-use Rattle.justfile_parse.specs.TableReader.{ReadItems, Run, State, kept, leaves}
-use Rattle.justfile_parse.specs.MethodResults.{IsFaultOf, IsKindAt, IsNextPlace, IsRead, IsUnread, StopsAt, literal_refusal, refusal_at}
-use Rattle.justfile_parse.specs.Significant.{significant_of}
+use Rattle.justfile_parse_expression.specs.TableReader as table_reader
+use Rattle.justfile_parse.specs.ItemTable as reader
+use Rattle.justfile_parse.specs.ItemTable.{ReadItems, kept}
+use Rattle.justfile_parse_expression.specs.TableReader.{Run, State, leaves}
+use Rattle.justfile_parse.specs.MethodResults.{IsFaultOf, IsKindAt, IsNextPlace, IsRead, IsUnread}
+use Rattle.justfile_parse_expression.specs.MethodResults.{StopsAt, literal_refusal, refusal_at}
+use Rattle.justfile_parse_expression.specs.Significant.{significant_of}
 use Rattle.justfile_parse.specs.Tree.{item_tree}
 use Rattle.justfile_tree.specs.LeafTree.{Leaf}
 use Rattle.justfile_parse.specs.WantsNumber.{AreLines, LacksNumber, WantsNumber, binding, counters_of, more, none, recipe_number}
-use Rattle.justfile_parse.specs.declared.significant.TableEntry.{TableEntry}
-use Rattle.justfile_parse.specs.declared.stop.LiteralRefusal.{LiteralRefusal}
-use Rattle.justfile_parse.specs.declared.stop.Refusal.{Refusal}
-use Rattle.justfile_parse.specs.declared.stop.Refusal.TheVariants.{Unexpected, TooDeep}
-use Rattle.justfile_parse.specs.declared.stop.Stop.{Stop}
-use Rattle.justfile_parse.specs.declared.stop.Stop.TheVariants as stops
-use Rattle.justfile_parse.proofs.Cooked.{kind_is_due}
-use Rattle.justfile_parse.proofs.Rest.{in_table}
-use Rattle.justfile_parse.proofs.Seen.{IsEntry, Relates, respects, seen}
+use Rattle.justfile_parse_expression.specs.declared.significant.TableEntry.{TableEntry}
+use Rattle.justfile_parse_expression.specs.declared.stop.LiteralRefusal.{LiteralRefusal}
+use Rattle.justfile_parse_expression.specs.declared.stop.Refusal.{Refusal}
+use Rattle.justfile_parse_expression.specs.declared.stop.Refusal.TheVariants.{Unexpected, TooDeep}
+use Rattle.justfile_parse_expression.specs.declared.stop.Stop.{Stop}
+use Rattle.justfile_parse_expression.specs.declared.stop.Stop.TheVariants as stops
+use Rattle.justfile_parse_expression.proofs.Cooked.{kind_is_due}
+use Rattle.justfile_parse.proofs.Tables.{in_table}
+use Rattle.justfile_parse_expression.proofs.Seen.{IsEntry, Relates}
+use Rattle.justfile_parse.proofs.Seen.{respects, seen}
 use Rattle.justfile_parse.proofs.SeenAttributes.{IsKept, attributed}
 use Rattle.justfile_parse.proofs.SeenItems.{items_seen, noted_seen}
 use Rattle.justfile_parse.proofs.SeenRules.{same_broken}
@@ -123,33 +129,33 @@ module _ (conditions : Conditions) (table : List TableEntry) (file_depth : ℕ) 
         inside z x e = cc
     got found found' (a.neither {e = e} h) x is = absurd (never e x is)
       where
-        never : (e : reader.Refusal) (x : Pair) → ◌≡◌ {A = ReadItems} (Err e) (Ok x) → ⊥
+        never : (e : table_reader.Refusal) (x : Pair) → ◌≡◌ {A = ReadItems} (Err e) (Ok x) → ⊥
         never e x is = cc
     got found found' (a.short {n = m} h) x is = absurd (never (NoNumber m) x is)
       where
-        never : (e : reader.Refusal) (x : Pair) → ◌≡◌ {A = ReadItems} (Err e) (Ok x) → ⊥
+        never : (e : table_reader.Refusal) (x : Pair) → ◌≡◌ {A = ReadItems} (Err e) (Ok x) → ⊥
         never e x is = cc
 
     -- both are refused, or the one has no number left
-    pub data Lost (e : reader.Refusal) (found' : Found) : Type 0 where
+    pub data Lost (e : table_reader.Refusal) (found' : Found) : Type 0 where
       refused : (e' : model.Refusal) → found' ≡ Err e' → Refusals rel e e' → Lost e found'
       wanting : (m : Counters) → e ≡ NoNumber m → Short m found' → Lost e found'
 
-    lost : (found : ReadItems) (found' : Found) → Related rel Q Short found found' → (e : reader.Refusal) → found ≡ Err e → Lost e found'
+    lost : (found : ReadItems) (found' : Found) → Related rel Q Short found found' → (e : table_reader.Refusal) → found ≡ Err e → Lost e found'
     lost found found' (a.both {x = z} q k) e is = absurd (never z e is)
       where
-        never : (z : Pair) (e : reader.Refusal) → ◌≡◌ {A = ReadItems} (Ok z) (Err e) → ⊥
+        never : (z : Pair) (e : table_reader.Refusal) → ◌≡◌ {A = ReadItems} (Ok z) (Err e) → ⊥
         never z e is = cc
-    lost found found' (a.neither {e = f} {e' = f'} h) e is = subst (λ (g : reader.Refusal). Lost g (Err f')) (inside f e is) (refused f' refl h)
+    lost found found' (a.neither {e = f} {e' = f'} h) e is = subst (λ (g : table_reader.Refusal). Lost g (Err f')) (inside f e is) (refused f' refl h)
       where
-        inside : (f e : reader.Refusal) → ◌≡◌ {A = ReadItems} (Err f) (Err e) → f ≡ e
+        inside : (f e : table_reader.Refusal) → ◌≡◌ {A = ReadItems} (Err f) (Err e) → f ≡ e
         inside f e is = cc
     lost found found' (a.short {n = m} h) e is = wanting m (inside e is) h
       where
-        inside : (e : reader.Refusal) → ◌≡◌ {A = ReadItems} (Err (NoNumber m)) (Err e) → e ≡ NoNumber m
+        inside : (e : table_reader.Refusal) → ◌≡◌ {A = ReadItems} (Err (NoNumber m)) (Err e) → e ≡ NoNumber m
         inside e is = cc
 
-    pub file_lost : (e : reader.Refusal) → reader.file n begin ≡ Err e → Lost e there
+    pub file_lost : (e : table_reader.Refusal) → reader.file n begin ≡ Err e → Lost e there
     file_lost e is = lost (reader.file n begin) there related e is
 
   -- ---- a file that is read
@@ -193,7 +199,7 @@ module _ (conditions : Conditions) (table : List TableEntry) (file_depth : ℕ) 
   literal_at l e' (a.not_cooked h) = ((kind_is_due l.error.kind l.is_literal, h.is), h.among)
 
   -- a rule that is broken, or attributes before no construct
-  broken_at : (error : CompileError) (r : reader.Refusal) (e' : model.Refusal) → IsBrokenBy {Y = Pair} (Err r) error → Refusals rel r e' → IsErrorOf tokens e' error × IsInTable table error.token
+  broken_at : (error : CompileError) (r : table_reader.Refusal) (e' : model.Refusal) → IsBrokenBy {Y = Pair} (Err r) error → Refusals rel r e' → IsErrorOf tokens e' error × IsInTable table error.token
   broken_at error (reading.BreaksRule b) e' says (a.breaks h) =
       (record { rule = b; error = says; same = same_broken rel.spot (λ t k h. h.is) h }, subst (IsInTable table) (sym says.token) h.token.among)
   broken_at error (reading.Extraneous count opener) e' says (a.extraneous {count' = count'} same h) =
@@ -286,7 +292,7 @@ module _ (conditions : Conditions) (table : List TableEntry) (file_depth : ℕ) 
         let over = known x.0 (λ (y : (WrittenTree × Counters) × model.State). natural.Exceeds rel leaves token_leaves agree kept token_attributes Keeps keeps (counters_of new) y.0.1) x.1 exceeds in
         exceeded x.0 t x.2 counts over enough
 
-    same_counters : (m : Counters) → ◌≡◌ {A = reader.Refusal} (NoNumber (counters_of new)) (NoNumber m) → m ≡ counters_of new
+    same_counters : (m : Counters) → ◌≡◌ {A = table_reader.Refusal} (NoNumber (counters_of new)) (NoNumber m) → m ≡ counters_of new
     same_counters m e = cc
 
     no_refusal : (e' : model.Refusal) → Refusals rel (NoNumber (counters_of new)) e' → ⊥
@@ -337,7 +343,7 @@ module _ (conditions : Conditions) (table : List TableEntry) (file_depth : ℕ) 
         go (refused e' there_is h) =
             let x = broken_at error r e' says h in
             record { refusal = e'; read = sym (file_by (counters_of old) conditions tokens) ∙ ap (λ (r : Found (counters_of old)). whole r) there_is; error = x.0; among = x.1 }
-        go (wanting m e short) = absurd (subst (λ (k : reader.Refusal). IsBrokenBy {Y = Pair} (Err k) error) e says)
+        go (wanting m e short) = absurd (subst (λ (k : table_reader.Refusal). IsBrokenBy {Y = Pair} (Err k) error) e says)
 
     pub unread_of : (s : State) (halt : Halt) (fault : Fault) → HaltsAt halt s (reader.file (counters_of old) begin ≡ Err (NoNumber (counters_of new))) (reader.file (counters_of old) begin) → IsFaultOfHalt table (front s.left) halt fault
         → IsUnread conditions tokens (IsInTable table) old new fault

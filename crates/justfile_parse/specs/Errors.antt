@@ -1,5 +1,5 @@
 -- Which error a refusal is.
-use Rattle.std.specs.Prelude.{◌≡◌, ℕ, Bool, IsTrue, List, [], ◌∷◌, ◌++◌, Option, Some, None, Err}
+use Rattle.std.specs.Prelude.{◌≡◌, Bool, IsTrue, List, [], ◌∷◌, ◌++◌, Option, Some, None, Err}
 use Rattle.justfile_attribute_rules.specs.RuleErrors.{IsErrorOfRule}
 use Rattle.justfile_base.specs.declared.compile_error.CompileError.{CompileError}
 use Rattle.justfile_base.specs.declared.compile_error_kind.CompileErrorKind.{CompileErrorKind}
@@ -18,6 +18,7 @@ use Rattle.justfile_model.specs.SignificantTokens.{SignificantToken}
 use Rattle.justfile_model.specs.Tok.{Tok, tok_of}
 use Rattle.justfile_model.specs.Tree.{WrittenTree}
 use Rattle.justfile_model.specs.TreeReader.{Refusal, tree_of_tokens}
+use Rattle.justfile_parse_attribute.specs.Halting.{IsExtraneous}
 
 -- the token is this one, or the last of the tokens where there is none
 abbrev pub IsAt : List SignificantToken → Option SignificantToken → Token → Type 0
@@ -28,11 +29,6 @@ IsAt tokens None token = (before : List SignificantToken) × (last : Significant
 abbrev pub IsUnexpected : CompileErrorKind → Token → Type 0
 IsUnexpected (kinds.UnexpectedToken expected found) token = found ≡ token.kind
 IsUnexpected _ token = ⊥
-
--- the kind says how many attributes stand before a blank line or a comment
-abbrev pub IsExtraneous : ℕ → CompileErrorKind → Type 0
-IsExtraneous count (kinds.ExtraneousAttributes count') = count' ≡ count
-IsExtraneous count kind = ⊥
 
 -- the error is that of a broken rule, over what the definitions see of tokens
 pub record IsErrorOfBroken (broken : Broken Tok) (e : CompileError) : Type 0 where

@@ -33,7 +33,7 @@ use Rattle.justfile_model.specs.Literals.{Expansions, Command, cooked_text, stri
 use Rattle.justfile_model.specs.declared.list_feature.ListFeature.{ListFeature}
 use Rattle.justfile_tree.specs.declared.expression.Expression.{Expression, And', Assert', Backtick, Call', Comparison', Concatenation', Conditional', FormatString', Group', Join', List', ListConcatenation', Not', Or', StringLiteral, Variable, Held-Expression-Assert-1 as OptionalExpression, None', Some', Row_of-Expression as ExpressionRow, end_of-Expression as row_end, more_of-Expression as row_more, Row_of-Expression-FormatString-1-2 as FormatRow, end_of-Expression-FormatString-1-2 as format_row_end, more_of-Expression-FormatString-1-2 as format_row_more}
 use Rattle.justfile_parse.specs.Whole.{is_hidden}
-use Rattle.justfile_parse.specs.declared.significant.TableEntry.{TableEntry}
+use Rattle.justfile_parse_expression.specs.declared.significant.TableEntry.{TableEntry}
 
 -- the table has an entry for the token, by a reference to it
 pub record IsInTable (table : List TableEntry) (token : Token) : Type 0 where

@@ -9,7 +9,7 @@ use Rattle.justfile_file.specs.declared.binding.Binding.{Binding}
 use Rattle.justfile_file.specs.declared.item.Item.{Item}
 use Rattle.justfile_file.specs.declared.item.Item.TheVariants.{Assignment, Comment, Newline, Recipe}
 use Rattle.justfile_file.specs.declared.recipe.UnresolvedRecipe.{UnresolvedRecipe}
-use Rattle.justfile_parse.specs.TableReader.{has_shebang}
+use Rattle.justfile_parse.specs.ItemTable.{has_shebang}
 use Rattle.justfile_parse.specs.Tree.{line_tree}
 use Rattle.justfile_tree.specs.declared.expression.Expression.{Expression}
 

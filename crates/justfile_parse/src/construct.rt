@@ -7,16 +7,17 @@ ghost use Rattle.justfile_model.specs.Rules.{UndefinedArgAttribute};
 ghost use Rattle.justfile_attribute_set.specs.AttributeSet.{attributes_of, leaf_entries_of};
 ghost use Rattle.justfile_attribute_set.specs.Keys.{keys_left};
 ghost use Rattle.justfile_attribute.specs.Attribute.{leaf_attribute_of};
-ghost use Rattle.justfile_parse.specs.Attributes.{entry_of_pair};
-ghost use Rattle.justfile_parse.specs.Halting.{IsExtraneousFault, ReadsRuled};
-ghost use Rattle.justfile_parse.specs.TableReader as reader;
-ghost use Rattle.justfile_parse.specs.TableReader.{State};
+ghost use Rattle.justfile_parse_attribute.specs.Attributes.{entry_of_pair};
+ghost use Rattle.justfile_parse.specs.Halting.{IsExtraneousFault};
+ghost use Rattle.justfile_parse_attribute.specs.Halting.{ReadsRuled};
+ghost use Rattle.justfile_parse.specs.ItemTable as reader;
+ghost use Rattle.justfile_parse_expression.specs.TableReader.{State};
 
-use crate::halt::{Halt, make_halt};
-use crate::significant::TableEntry;
 use justfile_attribute::Attribute;
 use justfile_attribute_set::AttributeSet;
 use justfile_base::{CompileErrorKind, Fault, ItemKind, Name, StringLiteral, Token};
+use justfile_parse_attribute::{Halt, make_halt};
+use justfile_parse_expression::significant::TableEntry;
 use std::alloc::Global;
 
 /// The attributes of an assignment with this name, if it may have them.

@@ -6,22 +6,20 @@ ghost use Rattle.justfile_model.specs.Lexed.{Lexed};
 ghost use Rattle.justfile_model.specs.SignificantTokens.{identifiers, significant_tokens};
 ghost use Rattle.justfile_model.specs.Tok.{Tok, tok_of};
 ghost use Rattle.justfile_parse.specs.Parsing.{HasNoTree, IsOneLex, IsParsed, IsParsedText, IsUnparsed};
-ghost use Rattle.justfile_parse.specs.Conditions.{conditions_of};
-ghost use Rattle.justfile_parse.specs.Formats.{IsTable};
+ghost use Rattle.justfile_parse_expression.specs.Conditions.{conditions_of};
+ghost use Rattle.justfile_parse_expression.specs.Formats.{IsTable};
 ghost use Rattle.justfile_parse.specs.Filled.{IsInTable};
-ghost use Rattle.justfile_parse.specs.TableReader as reader;
-ghost use Rattle.justfile_parse.specs.TableReader.{after_mark};
+ghost use Rattle.justfile_parse.specs.ItemTable as reader;
+ghost use Rattle.justfile_parse.specs.ItemTable.{after_mark};
 ghost use Rattle.justfile_parse.specs.WantsNumber.{counters_of};
 ghost use Rattle.justfile_parse.specs.MethodResults.{IsErrorAt, IsFaultOf, IsMoved, IsNextPlace, IsRead, IsUnread};
 ghost use Rattle.justfile_parse.specs.Halting.{IsFaultOfHalt, ReadsItems};
 ghost use Rattle.justfile_parse.specs.Whole.{AreWhole};
-ghost use Rattle.justfile_parse.specs.Significant.{significant_of};
+ghost use Rattle.justfile_parse_expression.specs.Significant.{significant_of};
 ghost use Rattle.justfile_parse.specs.Tree.{item_tree};
+ghost use Rattle.justfile_parse_expression.specs.View.{state_of};
 
-use crate::halt::Halt;
-use crate::parser::Parser;
-use crate::significant::{TableEntry, significant};
-use crate::stop::{Refusal, Stop};
+use crate::items::parse_items;
 use crate::unstable::with_unstable;
 use justfile_base::{
     CompileError, CompileErrorKind, CompileResult, Expander, Fault, Modulepath, Namepath,
@@ -29,12 +27,16 @@ use justfile_base::{
 };
 use justfile_file::{Ast, Item};
 use justfile_lex::Lexer;
+use justfile_parse_attribute::Halt;
+use justfile_parse_expression::significant::{TableEntry, significant};
+use justfile_parse_expression::{ExpressionParser, Refusal, Stop};
 use justfile_tree::ListFeature;
 use std::alloc::Global;
 
-impl<'run, 'src, X: Expander> Parser<'run, 'src, X> {
-    ghost use Rattle.justfile_parse.specs.View.{state_of};
+/// Reads files.
+pub struct Parser;
 
+impl Parser {
     /// The file whose tokens these are.
     ///
     /// # Errors
@@ -42,7 +44,7 @@ impl<'run, 'src, X: Expander> Parser<'run, 'src, X> {
     /// `Compile` if the tokens are no file, at one of them; `Numbers` if more numbers of bindings or
     /// of recipes are wanted than there are; `Memory` if memory runs out. The numerator's counters
     /// have then moved up by no more than the number of identifiers.
-    pub fn parse(
+    pub fn parse<'src, X: Expander>(
         alloc: Global,
         file_depth: u32,
         import_offsets: &[usize],
@@ -63,7 +65,7 @@ impl<'run, 'src, X: Expander> Parser<'run, 'src, X> {
         ensures moved { IsMoved numerator.old numerator.new (identifiers (significant_tokens (map tok_of tokens.now))) }
     {
         let table = significant(alloc, tokens)?;
-        let (items, list_features) = Parser::parse_table(
+        let (items, list_features) = parse_table(
             alloc,
             file_depth,
             import_offsets,
@@ -88,7 +90,7 @@ impl<'run, 'src, X: Expander> Parser<'run, 'src, X> {
     ///
     /// `Compile` if the text has no tokens or they are no file, at a part of the text; `Numbers` and
     /// `Memory` as for `parse`. The numerator is unchanged where the text has no tokens.
-    pub fn parse_source(
+    pub fn parse_source<'src, X: Expander>(
         alloc: Global,
         numerator: &mut Numerator,
         path: &'src str,
@@ -121,60 +123,60 @@ impl<'run, 'src, X: Expander> Parser<'run, 'src, X> {
             current,
         )
     }
+}
 
-    /// The items of the file that a table of tokens is, and its features.
-    fn parse_table(
-        alloc: Global,
-        file_depth: u32,
-        import_offsets: &'run [usize],
-        numerator: &mut Numerator,
-        tokens: &'run [TableEntry<'run, 'src>],
-        expander: &'run X,
-        current: Version,
-    ) -> CompileResult<'src, (Vec<Item<'src>>, Vec<(ListFeature, Token<'src>)>)>
-        requires { IsTable tokens.now }
-        ensures ok { IfOk result (λ x. IsRead (conditions_of X.answer expander.now current) tokens.now file_depth import_offsets.now
-            (map significant_of tokens.now) numerator.old numerator.new (x.0.items, x.1.items)) }
-        ensures err { IfErr result (IsUnread (conditions_of X.answer expander.now current) (map significant_of tokens.now)
-            (IsInTable tokens.now) numerator.old numerator.new) }
-        ensures moved { IsMoved numerator.old numerator.new (identifiers (map significant_of tokens.now)) }
-    {
-        let mut parser = Parser {
-            alloc,
-            current,
-            depth: 0,
-            expander,
-            file_depth,
-            import_offsets,
-            list_features: Vec::new(alloc),
-            next: 0,
-            tokens,
-        };
-        match parser.parse_file(numerator) {
-            Ok(items) => Ok((items, parser.list_features)),
-            Err(halt) => Err(make_fault(alloc, tokens, parser.peek_front(), halt)),
-        }
+/// The items of the file that a table of tokens is, and its features.
+fn parse_table<'run, 'src, X: Expander>(
+    alloc: Global,
+    file_depth: u32,
+    import_offsets: &'run [usize],
+    numerator: &mut Numerator,
+    tokens: &'run [TableEntry<'run, 'src>],
+    expander: &'run X,
+    current: Version,
+) -> CompileResult<'src, (Vec<Item<'src>>, Vec<(ListFeature, Token<'src>)>)>
+    requires { IsTable tokens.now }
+    ensures ok { IfOk result (λ x. IsRead (conditions_of X.answer expander.now current) tokens.now file_depth import_offsets.now
+        (map significant_of tokens.now) numerator.old numerator.new (x.0.items, x.1.items)) }
+    ensures err { IfErr result (IsUnread (conditions_of X.answer expander.now current) (map significant_of tokens.now)
+        (IsInTable tokens.now) numerator.old numerator.new) }
+    ensures moved { IsMoved numerator.old numerator.new (identifiers (map significant_of tokens.now)) }
+{
+    let mut parser = ExpressionParser::new(
+        alloc,
+        current,
+        expander,
+        file_depth,
+        import_offsets,
+        tokens,
+    );
+    match parse_file(&mut parser, numerator) {
+        Ok(items) => Ok((items, parser.list_features)),
+        Err(halt) => Err(make_fault(alloc, tokens, parser.peek_front(), halt)),
     }
+}
 
-    /// The items of a file, which may begin with a byte order mark, where no expression is open.
-    #[tactic(auto, using(crate::proofs::Loop::file_is))]
-    fn parse_file(&mut self, numerator: &mut Numerator) -> Result<Vec<Item<'src>>, Halt<'src>>
-        requires { (state_of X.answer self.old).depth ≡ 0 }
-        ensures reads { ReadsItems (λ items. map item_tree items.items) result numerator.new (state_of X.answer self.new)
-            (reader.file (counters_of numerator.old) (state_of X.answer self.old)) }
-        ensures whole { IfOk result (λ items. AreWhole items.items) }
-        ensures moved { IsMoved numerator.old numerator.new (identifiers (map significant_of (state_of X.answer self.old).left)) }
-    {
-        self.accept_byte_order_mark();
-        self.parse_items(numerator)
-    }
+/// The items of a file, which may begin with a byte order mark, where no expression is open.
+#[tactic(auto, using(crate::proofs::Loop::file_is))]
+fn parse_file<'src, X: Expander>(
+    parser: &mut ExpressionParser<'_, 'src, X>,
+    numerator: &mut Numerator,
+) -> Result<Vec<Item<'src>>, Halt<'src>>
+    requires { (state_of X.answer parser.old).depth ≡ 0 }
+    ensures reads { ReadsItems (λ items. map item_tree items.items) result numerator.new (state_of X.answer parser.new)
+        (reader.file (counters_of numerator.old) (state_of X.answer parser.old)) }
+    ensures whole { IfOk result (λ items. AreWhole items.items) }
+    ensures moved { IsMoved numerator.old numerator.new (identifiers (map significant_of (state_of X.answer parser.old).left)) }
+{
+    accept_byte_order_mark(parser);
+    parse_items(parser, numerator)
+}
 
-    /// Takes the byte order mark that a file may begin with.
-    fn accept_byte_order_mark(&mut self)
-        ensures { state_of X.answer self.new ≡ after_mark (state_of X.answer self.old) }
-    {
-        let _mark = self.accept(TokenKind::ByteOrderMark);
-    }
+/// Takes the byte order mark that a file may begin with.
+fn accept_byte_order_mark<X: Expander>(parser: &mut ExpressionParser<'_, '_, X>)
+    ensures { state_of X.answer parser.new ≡ after_mark (state_of X.answer parser.old) }
+{
+    let _mark = parser.accept(TokenKind::ByteOrderMark);
 }
 
 /// The fault for which reading halted, where this token is next.
@@ -229,7 +231,7 @@ fn make_error<'src>(alloc: Global, token: Token<'src>, refusal: Refusal) -> Comp
 }
 
 /// Where a refusal stands: at the next token, or at the last where none is left.
-#[tactic(auto, using(crate::proofs::Rest::in_table, crate::proofs::Rest::last_at))]
+#[tactic(auto, using(crate::proofs::Tables::in_table, crate::proofs::Tables::last_at))]
 fn find_place<'src>(
     tokens: &[TableEntry<'_, 'src>],
     next: Option<TableEntry<'_, 'src>>,

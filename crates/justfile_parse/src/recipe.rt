@@ -2,65 +2,62 @@ ghost use Rattle.std.specs.Prelude.{◌≡◌, ◌<◌, ◌||◌, OnErr, OnOk, m
 ghost use Rattle.justfile_attribute_set.specs.AttributeSet.{attributes_of};
 ghost use Rattle.justfile_attribute_set.specs.Attributes.{has_kind};
 ghost use Rattle.justfile_base.specs.declared.attribute_kind.AttributeKind.TheVariants as kinds;
-ghost use Rattle.justfile_parse.specs.TableReader as reader;
+ghost use Rattle.justfile_parse.specs.ItemTable as reader;
 ghost use Rattle.justfile_parse.specs.WantsNumber.{counters_of};
-ghost use Rattle.justfile_parse.specs.TableReader.{State};
+ghost use Rattle.justfile_parse_expression.specs.TableReader.{State};
 ghost use Rattle.std.specs.Prelude.{IfOk};
-ghost use Rattle.justfile_parse.specs.Attributes.{entry_of_pair};
+ghost use Rattle.justfile_parse_attribute.specs.Attributes.{entry_of_pair};
 ghost use Rattle.justfile_parse.specs.Halting.{ReadsItems};
 ghost use Rattle.justfile_parse.specs.MethodResults.{ReadsNumbered};
 ghost use Rattle.justfile_parse.specs.Tree.{line_tree, recipe_tree};
 ghost use Rattle.justfile_parse.specs.Whole.{IsWholeRecipe};
+ghost use Rattle.justfile_parse_expression.specs.View.{left, state_of};
 
+use crate::body::parse_body_after_header;
 use crate::construct::defined;
-use crate::halt::Halt;
 use crate::items::is_hidden;
-use crate::parser::Parser;
-use crate::stop::Stop;
 use justfile_attribute::Attribute;
 use justfile_attribute_set::AttributeSet;
 use justfile_base::{AttributeKind, Expander, Name, Number, Numerator, TokenKind};
 use justfile_file::{Line, UnresolvedRecipe};
+use justfile_parse_attribute::Halt;
+use justfile_parse_expression::{ExpressionParser, Stop};
 
-impl<'src, X: Expander> Parser<'_, 'src, X> {
-    ghost use Rattle.justfile_parse.specs.View.{left, state_of};
-
-    /// NAME `:` after attributes, and the body if it has one. The recipe is numbered after its body.
-    #[tactic(auto, using(crate::proofs::Rest::file_depth_is, crate::proofs::Rest::import_offsets_are), unfolding(justfile_model::specs::Reader::recipe, crate::specs::TableReader::leaves))]
-    pub(crate) fn parse_recipe(
-        &mut self,
-        attributes: Vec<(Attribute<'src>, Name<'src>)>,
-        numerator: &mut Numerator,
-    ) -> Result<UnresolvedRecipe<'src>, Halt<'src>>
-        ensures reads { ReadsItems recipe_tree result numerator.new (state_of X.answer self.new)
-            (reader.recipe (map entry_of_pair attributes.entry.items) (counters_of numerator.old) (state_of X.answer self.old)) }
-        ensures whole { IfOk result IsWholeRecipe }
-        ensures progress { OnOk result (left self.new < left self.old) }
-        ensures unmoved { OnErr result (numerator.new ≡ numerator.old) }
-    {
-        let name = self.expect(TokenKind::Identifier)?;
-        self.expect(TokenKind::Colon)?;
-        let attributes = defined(self.alloc, attributes)?;
-        let body = self.parse_body_after_header()?;
-        let import_offsets = self.import_offsets.to_vec(self.alloc)?;
-        let number = draw_recipe(numerator)?;
-        let private = is_hidden(*name.token, &attributes);
-        let shebang = is_script(&attributes, body.as_slice());
-        Ok(UnresolvedRecipe {
-            attributes,
-            body,
-            file_depth: self.file_depth,
-            import_offsets,
-            name: Name::from_identifier(*name.token),
-            number,
-            private,
-            shebang,
-        })
-    }
+/// NAME `:` after attributes, and the body if it has one. The recipe is numbered after its body.
+#[tactic(auto, using(justfile_parse_expression::proofs::Rest::file_depth_is, justfile_parse_expression::proofs::Rest::import_offsets_are), unfolding(justfile_model::specs::Reader::recipe, justfile_parse_expression::specs::TableReader::leaves))]
+pub(crate) fn parse_recipe<'src, X: Expander>(
+    parser: &mut ExpressionParser<'_, 'src, X>,
+    attributes: Vec<(Attribute<'src>, Name<'src>)>,
+    numerator: &mut Numerator,
+) -> Result<UnresolvedRecipe<'src>, Halt<'src>>
+    ensures reads { ReadsItems recipe_tree result numerator.new (state_of X.answer parser.new)
+        (reader.recipe (map entry_of_pair attributes.entry.items) (counters_of numerator.old) (state_of X.answer parser.old)) }
+    ensures whole { IfOk result IsWholeRecipe }
+    ensures progress { OnOk result (left parser.new < left parser.old) }
+    ensures unmoved { OnErr result (numerator.new ≡ numerator.old) }
+{
+    let name = parser.expect(TokenKind::Identifier)?;
+    parser.expect(TokenKind::Colon)?;
+    let attributes = defined(parser.alloc, attributes)?;
+    let body = parse_body_after_header(parser)?;
+    let import_offsets = parser.import_offsets.to_vec(parser.alloc)?;
+    let number = draw_recipe(numerator)?;
+    let private = is_hidden(*name.token, &attributes);
+    let shebang = is_script(&attributes, body.as_slice());
+    Ok(UnresolvedRecipe {
+        attributes,
+        body,
+        file_depth: parser.file_depth,
+        import_offsets,
+        name: Name::from_identifier(*name.token),
+        number,
+        private,
+        shebang,
+    })
 }
 
 /// The number of the next recipe.
-#[tactic(auto, unfolding(justfile_model::specs::Reader::draw_recipe, crate::specs::TableReader::leaves))]
+#[tactic(auto, unfolding(justfile_model::specs::Reader::draw_recipe, justfile_parse_expression::specs::TableReader::leaves))]
 fn draw_recipe<'src>(numerator: &mut Numerator) -> Result<Number, Stop<'src>>
     ensures reads { (s : State) → ReadsNumbered (λ number. number.0) result numerator.new s
         (reader.draw_recipe (counters_of numerator.old) s) }

@@ -5,7 +5,7 @@
 //! other names are keys. `none` is no argument, and no value of a key.
 ghost use Rattle.std.specs.Prelude.{OnOk};
 ghost use Rattle.justfile_attribute_rules.specs.Keys.{AreKeyed};
-ghost use Rattle.justfile_parse.specs.ArgumentKeys.{IsPut};
+ghost use Rattle.justfile_parse_attribute.specs.ArgumentKeys.{IsPut};
 
 use crate::assignment::Assignment;
 use crate::ast::Ast;
@@ -275,7 +275,7 @@ fn insert_key<'src>(
 }
 
 /// Puts what is assigned, by its name.
-#[tactic(auto, using(justfile_parse::proofs::KeysPut::stays_keyed))]
+#[tactic(auto, using(justfile_parse_attribute::proofs::KeysPut::stays_keyed))]
 fn put_key<'src>(
     rt: &impl Abort,
     alloc: Global,
@@ -293,7 +293,7 @@ fn put_key<'src>(
 }
 
 /// The keys of the attribute with this name.
-#[tactic(auto, using(justfile_parse::proofs::KeysPut::none_keyed))]
+#[tactic(auto, using(justfile_parse_attribute::proofs::KeysPut::none_keyed))]
 fn keys<'ast, 'src>(
     items: &'ast [Item<'src>],
     rt: &impl Abort,

@@ -3,7 +3,7 @@ use Rattle.std.specs.Option.{option_map}
 use Rattle.justfile_attribute_rules.specs.Made.{quoted_leaf}
 use Rattle.justfile_attribute_set.specs.AttributeSet.{leaf_entries_of}
 use Rattle.justfile_attribute_set.specs.Keys.{keys_left}
-use Rattle.justfile_parse.specs.TableReader.{least_argument, lesser_of}
+use Rattle.justfile_parse.specs.ItemTable.{least_argument, lesser_of}
 use Rattle.justfile_parse.proofs.Least.{least_in}
 use Rattle.justfile_parse.proofs.construct.find_argument.Given as goal
 

@@ -1,5 +1,0 @@
-use Rattle.justfile_parse.proofs.Cooked.{part_refused}
-use Rattle.justfile_parse.proofs.parser.Parser.cook_part.Goals as goal
-
-pub returns-in-Err : goal.returns-in-Err
-returns-in-Err g c = record { reads = part_refused g.X.Expander.answer c.args.self.now c.args.entry c.args.kind c.args.part c.in-Err.fault c.make_stop.result c.in-Err.ensures.err c.make_stop.ensures }

@@ -1,9 +1,0 @@
-use Rattle.justfile_parse.specs.View.{left, state_of}
-use Rattle.justfile_parse.proofs.Loop.{IsReadTo}
-use Rattle.justfile_parse.proofs.parser.Parser.parse_items.Given as goal
-
-abbrev pub invariant-lines : goal.invariant-lines
-invariant-lines g l = IsReadTo (state_of g.X.Expander.answer l.fn.self) (state_of g.X.Expander.answer l.self) l.fn.numerator l.numerator l.items.items
-
-abbrev pub decreases-lines : goal.decreases-lines
-decreases-lines g l = left l.self

@@ -1,0 +1,174 @@
+-- Reading the items of a table, with all that the parser's trees hold.
+use Rattle.std.specs.Prelude.{ℕ, Bool, false, List, [], ◌∷◌, Option, Some, None, Ok, Err, codes, nat_eq}
+use Rattle.std.specs.List.{starts_with}
+use Rattle.justfile_base.specs.Token.{lexeme_of}
+use Rattle.justfile_base.specs.declared.token.Token.{Token}
+use Rattle.justfile_model.specs.Meaning.{text_of}
+use Rattle.justfile_model.specs.Tree as tree
+use Rattle.justfile_model.specs.Tree.{Attribute, BodyLine, Entry, Fragment, OrderedItem, Quoted}
+use Rattle.std.specs.Option.{option_map}
+use Rattle.justfile_base.specs.declared.item_kind.ItemKind.TheVariants as item_kinds
+use Rattle.justfile_model.specs.AttributeRules.{allowed_broken, arg_rules, least, lesser, rules_in, undefined_broken}
+use Rattle.justfile_model.specs.Rules.{Broken}
+use Rattle.justfile_model.specs.AttributeReader as attributes
+use Rattle.justfile_model.specs.AttributeReader.{AttributeLeaves}
+use Rattle.justfile_model.specs.ContentKeys.{entry_cmp}
+use Rattle.justfile_model.specs.Order.{in_order}
+use Rattle.justfile_model.specs.Reader as files
+use Rattle.justfile_model.specs.Reading as reading
+use Rattle.justfile_model.specs.Reading.{Counters, refused}
+use Rattle.justfile_tree.specs.LeafSight.{sees_leaves}
+use Rattle.justfile_tree.specs.LeafTree.{Leaf, Text}
+use Rattle.justfile_parse_expression.specs.declared.significant.TableEntry.{TableEntry}
+use Rattle.justfile_parse_attribute.specs.AttributeTable.{Entries}
+use Rattle.justfile_parse_expression.specs.TableReader.{Read, Run, State, leaves}
+
+-- the line begins with a text that begins `#!`
+abbrev pub is_shebang : BodyLine Leaf Token ℕ → Bool
+is_shebang (tree.Line number (tree.Text (Text token) ∷ fragments)) = starts_with nat_eq (lexeme_of token) (codes "#!")
+is_shebang line = false
+
+-- the first line begins with a text that begins `#!`
+abbrev pub has_shebang : List (BodyLine Leaf Token ℕ) → Bool
+has_shebang [] = false
+has_shebang (line ∷ lines) = is_shebang line
+
+-- a construct has what its attributes mean, in the order of their content
+abbrev pub kept : AttributeLeaves Run Leaf Token Entries (Entry Leaf Token)
+kept = record {
+  sight = λ run. sees_leaves;
+  keep = λ written entry. entry;
+  entry = λ entry. entry;
+  attributes = λ run entries. in_order (entry_cmp sees_leaves) entries;
+}
+
+abbrev pub draw_binding : Counters → State → Read (ℕ × Counters)
+draw_binding = files.draw_binding leaves
+
+abbrev pub draw_recipe : Counters → State → Read (ℕ × Counters)
+draw_recipe = files.draw_recipe leaves
+
+abbrev pub fragment : State → Read (Fragment Leaf Token)
+fragment = files.fragment leaves
+
+abbrev pub line_rest : State → Read (List (Fragment Leaf Token))
+line_rest = files.line_rest leaves
+
+abbrev pub body_line : State → Read (BodyLine Leaf Token ℕ)
+body_line = files.body_line leaves
+
+abbrev pub lines : State → Read (List (BodyLine Leaf Token ℕ))
+lines = files.lines leaves
+
+abbrev pub body : State → Read (List (BodyLine Leaf Token ℕ))
+body = files.body leaves
+
+abbrev pub optional_body : State → Read (List (BodyLine Leaf Token ℕ))
+optional_body = files.optional_body leaves
+
+-- an item, and the counters after it
+abbrev pub ReadItem : Type 0
+ReadItem = Read (OrderedItem Leaf Token ℕ × Counters)
+
+-- items, and the counters after them
+abbrev pub ReadItems : Type 0
+ReadItems = Read (List (OrderedItem Leaf Token ℕ) × Counters)
+
+abbrev pub assignment : Entries → Counters → State → ReadItem
+assignment = files.assignment leaves kept
+
+abbrev pub recipe : Entries → Counters → State → ReadItem
+recipe = files.recipe leaves kept
+
+-- the attributes before a construct, which follows them
+abbrev pub item_attributes : State → Read Entries
+item_attributes = files.attributes leaves kept
+
+-- the entries in the order of their content
+abbrev pub in_content_order : Entries → Entries
+in_content_order entries = in_order (entry_cmp sees_leaves) entries
+
+-- what an assignment with this name breaks by attributes that it may not have
+abbrev pub disallowed : Entries → (name : Token) → List (Broken Token)
+disallowed entries name = allowed_broken sees_leaves item_kinds.Assignment name (in_content_order entries)
+
+-- what a recipe breaks by what is said of no parameter
+abbrev pub undefined : Entries → List (Broken Token)
+undefined entries = undefined_broken sees_leaves (arg_rules sees_leaves (in_content_order entries))
+
+-- the argument that an attribute speaks of
+abbrev pub argument_in : Attribute Leaf Token → Option (Quoted Leaf)
+argument_in a = option_map (λ r. r.name) (rules_in sees_leaves a)
+
+-- the one with the lesser text, the first of them where both have the same
+abbrev pub lesser_of : (first second : Option (Quoted Leaf)) → Option (Quoted Leaf)
+lesser_of None second = second
+lesser_of (Some q) second = Some (lesser (text_of sees_leaves) q second)
+
+-- of the arguments that are spoken of, the one with the least text, the first of these
+abbrev pub least_argument : Entries → Option (Quoted Leaf)
+least_argument entries = option_map (λ r. r.name) (least (λ r. text_of sees_leaves r.name) (arg_rules sees_leaves entries))
+
+-- the lines of attributes before a construct
+abbrev pub lines_of_attributes : State → Read Entries
+lines_of_attributes = attributes.attribute_lines leaves kept.sight kept.keep kept.entry
+
+-- attributes that begin with this bracket stand before no blank line and no comment
+abbrev pub before_item : (opener : TableEntry) → Entries × State → Read Entries
+before_item = files.before_item leaves kept
+
+-- a blank line or a comment comes next
+abbrev pub stands_alone : State → Bool
+stands_alone = files.stands_alone leaves kept
+
+-- the attributes of an assignment with this name are those that it may have
+abbrev pub allowed : Entries → TableEntry → State → Read (Unit {0})
+allowed = files.allowed leaves kept
+
+-- attributes speak of no argument that is no parameter
+abbrev pub defined : Entries → State → Read (Unit {0})
+defined = files.defined leaves kept
+
+-- a construct after its attributes
+abbrev pub content : Entries → Counters → State → ReadItem
+content = files.content leaves kept
+
+abbrev pub construct : Counters → State → ReadItem
+construct = files.construct leaves kept
+
+abbrev pub on_line : Counters → State → ReadItem
+on_line = files.on_line leaves kept
+
+abbrev pub line_end : State → Read (List (OrderedItem Leaf Token ℕ))
+line_end = files.line_end leaves kept
+
+abbrev pub item_rest : State → Read (List (OrderedItem Leaf Token ℕ))
+item_rest = files.item_rest leaves kept
+
+abbrev pub ended : (has_body : Bool) → State → Read (List (OrderedItem Leaf Token ℕ))
+ended = files.ended leaves kept
+
+abbrev pub line : Counters → State → ReadItems
+line = files.line leaves kept
+
+abbrev pub items : Counters → State → ReadItems
+items = files.items leaves kept
+
+abbrev pub file : Counters → State → ReadItems
+file = files.file leaves kept
+
+-- what is left after a byte order mark, if one comes first
+abbrev pub after_mark : State → State
+after_mark = files.after_mark leaves kept
+
+-- nothing stands after the end of the file
+abbrev pub nothing_by : State → List TableEntry → Read (Unit {0})
+nothing_by s [] = Ok (tt, s)
+nothing_by s (t ∷ ts) = Err (refused reading.Unexpected s)
+
+unfoldable pub read_nothing : State → Read (Unit {0})
+read_nothing s = nothing_by s s.left
+
+-- the line that the next entry begins on
+abbrev pub line_at : List TableEntry → ℕ
+line_at = files.line_at leaves

@@ -1,0 +1,199 @@
+-- Reading attributes in the steps that the parser takes.
+use Rattle.std.proofs.Common.{◌≡◌, ◌∙◌, ℕ, ◌<◌, Bool, true, false, cond, ◌&&◌, List, [], ◌∷◌, ◌++◌, map, length, Option, None, Result, Ok, Err, refl, sym, ap, arith}
+use Rattle.std.proofs.lemmas.List.{map-append}
+use Rattle.justfile_attribute.specs.declared.attribute.Attribute.{Attribute}
+use Rattle.justfile_attribute_rules.specs.Made.{IsRefusedBy}
+use Rattle.justfile_base.specs.AttributeKind.{kind_named, takes_keys}
+use Rattle.justfile_base.specs.declared.attribute_kind.AttributeKind.{AttributeKind}
+use Rattle.justfile_base.specs.declared.compile_error.CompileError.{CompileError}
+use Rattle.justfile_base.specs.declared.name.Name.{Name}
+use Rattle.justfile_base.specs.declared.fault.Fault.{Fault}
+use Rattle.justfile_base.specs.declared.fault.Fault.TheVariants as faults
+use Rattle.justfile_base.specs.declared.token.Token.{Token}
+use Rattle.justfile_base.specs.declared.token_kind.TokenKind.TheVariants as kinds
+use Rattle.justfile_model.specs.AttributeReader as attributes
+use Rattle.justfile_model.specs.Expressions.{front}
+use Rattle.justfile_model.specs.Meaning.{by_key, by_position}
+use Rattle.justfile_model.specs.NewAttribute as new
+use Rattle.justfile_model.specs.NewAttribute.{Made, check_repeated, new_attribute, new_entry}
+use Rattle.justfile_model.specs.Reading as reading
+use Rattle.justfile_model.specs.Reading.{◌>>=◌, choose}
+use Rattle.justfile_model.specs.Rules.{Rule}
+use Rattle.justfile_model.specs.Tree as tree
+use Rattle.justfile_model.specs.Tree.{Argument, Entry}
+use Rattle.justfile_model.proofs.AttributeReading as laws
+use Rattle.justfile_parse_attribute.specs.AttributeTable as r
+use Rattle.justfile_parse_attribute.specs.AttributeTable.{Arguments, meaning_in, meaning_kept, sight_of, then_last}
+use Rattle.justfile_parse_attribute.specs.AddedAttributes.{ChecksLast, IsAdded}
+use Rattle.justfile_parse_attribute.specs.Attributes.{entry_of_pair}
+use Rattle.justfile_parse_attribute.specs.Halting.{HaltsAt, HaltsFor, IsBrokenBy}
+use Rattle.justfile_parse_expression.specs.MethodResults.{refusal_at}
+use Rattle.justfile_parse_attribute.specs.AttributeTable.{Entries}
+use Rattle.justfile_parse_expression.specs.TableReader.{Read, State, accept, expect, leaves}
+use Rattle.justfile_parse_expression.specs.View.{left, state_of}
+use Rattle.justfile_parse_attribute.specs.declared.halt.Halt.{Halt}
+use Rattle.justfile_parse_attribute.specs.declared.halt.Halt.TheVariants.{Stopped, Broken}
+use Rattle.justfile_parse_expression.specs.declared.parser.ExpressionParser.{ExpressionParser}
+use Rattle.justfile_parse_expression.specs.declared.significant.TableEntry.{TableEntry}
+use Rattle.justfile_parse_expression.specs.declared.stop.Refusal.TheVariants as refusals
+use Rattle.justfile_parse_expression.specs.declared.stop.Stop.TheVariants as stops
+use Rattle.justfile_parse_expression.proofs.Rest.{left_is}
+use Rattle.justfile_tree.specs.LeafSight.{sees_leaves}
+use Rattle.justfile_tree.specs.LeafTree.{Leaf}
+
+-- a rule that is broken first is broken
+pub broken_first : {X Y : Type 0} (found : Read X) (next : X × State → Read Y) (e : CompileError) → IsBrokenBy found e → IsBrokenBy (found >>= next) e
+broken_first (Ok x) next e h = absurd h
+broken_first (Err (reading.Unexpected t)) next e h = absurd h
+broken_first (Err (reading.TooDeep t)) next e h = absurd h
+broken_first (Err (reading.NotCooked fault t)) next e h = absurd h
+broken_first (Err (reading.BreaksRule broken)) next e h = h
+broken_first (Err (reading.Extraneous count opener)) next e h = h
+broken_first (Err (reading.NoNumber counters)) next e h = absurd h
+
+-- reading halts for the fault of a rule
+pub halts_for : (Y : Type 0) (rule : Rule Token) (token : Token) (fault : Fault) (halt : Halt) (s : State)
+    → HaltsFor halt fault → IsRefusedBy (new.refuse {X = Unit {0}} rule token) fault
+    → HaltsAt {Y = Y} halt s ⊥ (Err (reading.BreaksRule (record { rule = rule; token = token })))
+halts_for Y rule token (faults.Compile e) (Broken error) s h k = rw h k
+halts_for Y rule token faults.Memory (Broken error) s h k = absurd h
+halts_for Y rule token faults.Numbers (Broken error) s h k = absurd h
+halts_for Y rule token fault (Stopped stops.Memory) s h k = tt
+halts_for Y rule token (faults.Compile e) (Stopped stops.Numbers) s h k = absurd h
+halts_for Y rule token faults.Memory (Stopped stops.Numbers) s h k = absurd h
+halts_for Y rule token faults.Numbers (Stopped stops.Numbers) s h k = absurd k
+halts_for Y rule token (faults.Compile e) (Stopped (stops.Refused r)) s h k = absurd h
+halts_for Y rule token faults.Memory (Stopped (stops.Refused r)) s h k = absurd h
+halts_for Y rule token faults.Numbers (Stopped (stops.Refused r)) s h k = absurd h
+halts_for Y rule token (faults.Compile e) (Stopped (stops.Literal r)) s h k = absurd h
+halts_for Y rule token faults.Memory (Stopped (stops.Literal r)) s h k = absurd h
+halts_for Y rule token faults.Numbers (Stopped (stops.Literal r)) s h k = absurd h
+
+-- where nothing comes next no expression is read
+pub none_before : {X : Type 0} (answer : X → List ℕ → Result (List ℕ) (List ℕ)) (p q : ExpressionParser X) (s : State) → front (state_of answer p).left ≡ None → left q < left p
+    → ◌≡◌ {A = Read (Argument Leaf Token)} (Err (reading.Unexpected None)) (Err (refusal_at refusals.Unexpected s))
+none_before answer p q s h k = go (state_of answer p).left (left_is answer p) h
+  where
+    go : (l : List TableEntry) → length l ≡ left p → front l ≡ None → ◌≡◌ {A = Read (Argument Leaf Token)} (Err (reading.Unexpected None)) (Err (refusal_at refusals.Unexpected s))
+    go [] e h = absurd (omega (arith, e, k))
+    go (t ∷ ts) e h = cc
+
+-- ---- arguments
+
+pub one_argument_is : (name : TableEntry) (keys : Bool) (before : Arguments) (s : State)
+    → r.one_argument name keys before s ≡ cond (keys && r.begins_key s) (r.one_keyed name before s) (r.one_positional before s)
+unfolding r.one_argument r.one_keyed r.one_positional attributes.argument
+one_argument_is name keys before s = go (keys && r.begins_key s)
+  where
+    go : (b : Bool) → (cond b (r.keyed name before s) (r.positional before s) >>= then_last before) ≡ cond b (r.keyed name before s >>= then_last before) (r.positional before s >>= then_last before)
+    go true = refl
+    go false = refl
+
+pub arguments_is : (name : TableEntry) (keys : Bool) (s : State)
+    → r.arguments name keys s
+    ≡ choose (accept kinds.Colon s) (choose (accept kinds.ParenL s) (Ok ([], s)) (λ opener. r.arguments_from name keys ([], opener.1))) (λ colon. r.single_argument colon.1)
+unfolding r.single_argument attributes.arguments
+arguments_is name keys s = refl
+
+-- ---- an attribute
+
+-- the kind of a name, or its refusal
+abbrev pub kind_or_refused : TableEntry → State → Option AttributeKind → Read AttributeKind
+kind_or_refused = laws.kind_or_refused leaves sight_of meaning_kept meaning_in
+
+pub kind_at_is : (name : TableEntry) (s : State) → r.kind_at name s ≡ kind_or_refused name s (kind_named (leaves.see name).tok.lexeme)
+kind_at_is name s = laws.kind_at_is leaves sight_of meaning_kept meaning_in name s
+
+map_same : (es : Entries) → map meaning_in es ≡ es
+map_same [] = refl
+map_same (e ∷ es) = ap (λ (l : Entries). e ∷ l) (map_same es)
+
+made_after : (before : Entries) (name : TableEntry) (kind : AttributeKind) (all : Arguments) (s : State)
+    → (r.made before name kind all s >>= then_last before) ≡ r.one_made before name.token.now kind all s
+unfolding attributes.made r.one_made leaves
+made_after before name kind all s =
+    step (new_entry sees_leaves (map meaning_in before) name.token.now kind (by_position all) (by_key all)) (new_entry sees_leaves before name.token.now kind (by_position all) (by_key all))
+    (ap (λ (l : Entries). new_entry sees_leaves l name.token.now kind (by_position all) (by_key all)) (map_same before))
+  where
+    step : (m k : Made Token (Entry Leaf Token)) → m ≡ k
+        → ((attributes.read_made m s >>= λ e. Ok (e.0, e.1)) >>= then_last before) ≡ (attributes.read_made k s >>= λ e. Ok (before ++ e.0 ∷ [], e.1))
+    step (Ok e) k h = rw (sym h) refl
+    step (Err e) k h = rw (sym h) refl
+
+pub one_attribute_is : (before : Entries) (s : State)
+    → r.one_attribute before s
+    ≡ (expect kinds.Identifier s >>= λ name. r.kind_at name.0 name.1 >>= λ kind. r.arguments name.0 (takes_keys kind.0) kind.1 >>= λ all.
+    r.one_made before name.0.token.now kind.0 all.0 all.1)
+unfolding r.one_attribute attributes.attribute
+one_attribute_is before s = by_name (expect kinds.Identifier s)
+  where
+    by_all : (name : TableEntry) (kind : AttributeKind) (found : Read Arguments)
+        → ((found >>= λ all. r.made before name kind all.0 all.1) >>= then_last before) ≡ (found >>= λ all. r.one_made before name.token.now kind all.0 all.1)
+    by_all name kind (Ok all) = made_after before name kind all.0 all.1
+    by_all name kind (Err f) = refl
+
+    by_kind : (name : TableEntry) (found : Read AttributeKind)
+        → ((found >>= λ kind. r.arguments name (takes_keys kind.0) kind.1 >>= λ all. r.made before name kind.0 all.0 all.1) >>= then_last before)
+        ≡ (found >>= λ kind. r.arguments name (takes_keys kind.0) kind.1 >>= λ all. r.one_made before name.token.now kind.0 all.0 all.1)
+    by_kind name (Ok kind) = by_all name kind.0 (r.arguments name (takes_keys kind.0) kind.1)
+    by_kind name (Err f) = refl
+
+    by_name : (found : Read TableEntry)
+        → ((found >>= λ name. r.kind_at name.0 name.1 >>= λ kind. r.arguments name.0 (takes_keys kind.0) kind.1 >>= λ all. r.made before name.0 kind.0 all.0 all.1) >>= then_last before)
+        ≡ (found >>= λ name. r.kind_at name.0 name.1 >>= λ kind. r.arguments name.0 (takes_keys kind.0) kind.1 >>= λ all. r.one_made before name.0.token.now kind.0 all.0 all.1)
+    by_name (Ok name) = by_kind name.0 (r.kind_at name.0 name.1)
+    by_name (Err f) = refl
+
+-- ---- what is made of arguments
+
+made_first : {X Y : Type 0} (made : Made Token X) (next : X → Made Token Y) (fault : Fault) → IsRefusedBy made fault → IsRefusedBy (new.◌>>=◌ made next) fault
+made_first made next faults.Memory h = tt
+made_first made next faults.Numbers h = absurd h
+made_first (Ok x) next (faults.Compile e) h = absurd h
+made_first (Err broken) next (faults.Compile e) h = h
+
+-- reading halts where nothing is made
+refused_halts : {X Y : Type 0} (made : Made Token X) (next : X × State → Read Y) (fault : Fault) (halt : Halt) (s : State)
+    → HaltsFor halt fault → IsRefusedBy made fault → HaltsAt halt s ⊥ (attributes.read_made made s >>= next)
+refused_halts (Ok x) next (faults.Compile e) halt s h k = absurd k
+refused_halts (Err broken) next fault halt s h k = halts_for _ broken.rule broken.token fault halt s h k
+refused_halts made next faults.Memory (Stopped stops.Memory) s h k = tt
+refused_halts made next faults.Memory (Stopped stops.Numbers) s h k = absurd h
+refused_halts made next faults.Memory (Stopped (stops.Refused r)) s h k = absurd h
+refused_halts made next faults.Memory (Stopped (stops.Literal r)) s h k = absurd h
+refused_halts made next faults.Memory (Broken error) s h k = absurd h
+refused_halts made next faults.Numbers halt s h k = absurd k
+
+module _ (pairs : List (Attribute × Name)) (name : Name) (kind : AttributeKind) (all : Arguments) (s : State) where
+  abbrev before : Entries
+  before = map entry_of_pair pairs
+
+  abbrev attribute_made : Made Token (tree.Attribute Leaf Token)
+  attribute_made = new_attribute sees_leaves name.token kind (by_position all) (by_key all)
+
+  abbrev checked : tree.Attribute Leaf Token → Made Token (Entry Leaf Token)
+  checked a = new.◌>>=◌ (check_repeated sees_leaves before (record { name = name.token; attribute = a })) (λ distinct. Ok (record { name = name.token; attribute = a }))
+
+  -- no attribute is made of the arguments
+  pub not_made : (fault : Fault) (halt : Halt) → HaltsFor halt fault → IsRefusedBy attribute_made fault → HaltsAt halt s ⊥ (r.one_made before name.token kind all s)
+  unfolding r.one_made
+  not_made fault halt h k = refused_halts (new.◌>>=◌ attribute_made checked) _ fault halt s h (made_first attribute_made checked fault k)
+
+  -- it is made, and may not stand there
+  pub made_refused : (later : List (Attribute × Name)) (fault : Fault) (halt : Halt) → IsAdded attribute_made name pairs later → HaltsFor halt fault
+      → ChecksLast (Err fault) later → HaltsAt halt s ⊥ (r.one_made before name.token kind all s)
+  unfolding r.one_made ChecksLast
+  made_refused later fault halt h halts checks =
+      let a = h.attribute in
+      refused_halts (new.◌>>=◌ attribute_made checked) _ fault halt s halts
+      (rw h.is_made (made_first (check_repeated sees_leaves before (entry_of_pair (a, name))) _ fault (checks pairs (a, name) h.added)))
+
+  pub made_last : (later : List (Attribute × Name)) → IsAdded attribute_made name pairs later → ChecksLast (Ok tt) later
+      → r.one_made before name.token kind all s ≡ Ok (map entry_of_pair later, s)
+  unfolding r.one_made ChecksLast
+  made_last later h checks =
+      let a = h.attribute in
+      let P : List (Attribute × Name) → Read Entries = λ ps. Ok (map entry_of_pair ps, s) in
+      let Q : Entries → Read Entries = λ es. Ok (es, s) in
+      let so_far : r.one_made before name.token kind all s ≡ Q (before ++ entry_of_pair (a, name) ∷ []) = rw (h.is_made, checks pairs (a, name) h.added) refl in
+      so_far ∙ ap Q (sym (map-append entry_of_pair pairs ((a, name) ∷ []))) ∙ sym (ap P h.added)

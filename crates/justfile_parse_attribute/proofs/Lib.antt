@@ -1,0 +1,5 @@
+pub mod ArgumentLists
+pub mod AttributeLoops
+pub mod AttributeSteps
+pub mod KeysPut
+pub mod RepeatedAttributes

@@ -1,0 +1,160 @@
+-- Reading the attributes of a table, with all that the parser's trees hold.
+use Rattle.std.specs.Prelude.{Bool, true, false, List, [], ◌∷◌, ◌++◌, Option, Ok}
+use Rattle.justfile_base.specs.declared.attribute_kind.AttributeKind.{AttributeKind}
+use Rattle.justfile_base.specs.declared.token.Token.{Token}
+use Rattle.justfile_base.specs.declared.token_kind.TokenKind.{TokenKind}
+use Rattle.justfile_base.specs.declared.token_kind.TokenKind.TheVariants as kinds
+use Rattle.justfile_model.specs.AttributeReader as attributes
+use Rattle.justfile_model.specs.Meaning.{by_key, by_position}
+use Rattle.justfile_model.specs.NewAttribute.{new_entry}
+use Rattle.justfile_model.specs.Reading.{◌>>=◌, choose}
+use Rattle.justfile_model.specs.Sight.{Sight}
+use Rattle.justfile_model.specs.Tree.{Argument, Entry, Expr, WrittenAttribute}
+use Rattle.justfile_parse_expression.specs.TableReader.{Read, Run, State, accept, expect, leaves}
+use Rattle.justfile_tree.specs.LeafSight.{sees_leaves}
+use Rattle.justfile_tree.specs.LeafTree.{Leaf}
+use Rattle.justfile_parse_expression.specs.declared.significant.TableEntry.{TableEntry}
+
+-- what is seen of leaves is the same in each run
+abbrev pub sight_of : Run → Sight Leaf Token
+sight_of run = sees_leaves
+
+-- of an attribute its meaning is kept
+abbrev pub meaning_kept : WrittenAttribute Leaf Token → Entry Leaf Token → Entry Leaf Token
+meaning_kept written entry = entry
+
+abbrev pub meaning_in : Entry Leaf Token → Entry Leaf Token
+meaning_in entry = entry
+
+abbrev pub Entries : Type 0
+Entries = List (Entry Leaf Token)
+
+abbrev pub Arguments : Type 0
+Arguments = List (Argument Leaf Token)
+
+abbrev pub argument_of_key : Leaf → Option (Expr Leaf Token) → Argument Leaf Token
+argument_of_key = attributes.argument_of_key leaves sight_of meaning_kept meaning_in
+
+-- there is a key among the arguments
+abbrev pub some_key : Arguments → Bool
+some_key before = attributes.some_key leaves sight_of meaning_kept meaning_in (by_key before)
+
+-- an expression, with its first token
+abbrev pub placed : State → Read (Argument Leaf Token)
+placed = attributes.placed leaves sight_of meaning_kept meaning_in
+
+abbrev pub positional : (before : Arguments) → State → Read (Argument Leaf Token)
+positional = attributes.positional leaves sight_of meaning_kept meaning_in
+
+abbrev pub key_value : State → Read (Option (Expr Leaf Token))
+key_value = attributes.key_value leaves sight_of meaning_kept meaning_in
+
+abbrev pub is_repeated : Run → (before : Arguments) → TableEntry → Bool
+is_repeated = attributes.is_repeated leaves sight_of meaning_kept meaning_in
+
+abbrev pub keyed : (name : TableEntry) (before : Arguments) → State → Read (Argument Leaf Token)
+keyed = attributes.keyed leaves sight_of meaning_kept meaning_in
+
+abbrev pub begins_key : State → Bool
+begins_key = attributes.begins_key leaves sight_of meaning_kept meaning_in
+
+abbrev pub argument : (name : TableEntry) (keys : Bool) (before : Arguments) → State → Read (Argument Leaf Token)
+argument = attributes.argument leaves sight_of meaning_kept meaning_in
+
+-- one after those that were read
+abbrev pub then_last : {X : Type 0} → List X → X × State → Read (List X)
+then_last before x = Ok (before ++ x.0 ∷ [], x.1)
+
+-- an argument after those that were read, and all of them
+unfoldable pub one_argument : (name : TableEntry) (keys : Bool) (before : Arguments) → State → Read Arguments
+one_argument name keys before s = argument name keys before s >>= then_last before
+
+unfoldable pub one_positional : (before : Arguments) → State → Read Arguments
+one_positional before s = positional before s >>= then_last before
+
+unfoldable pub one_keyed : (name : TableEntry) (before : Arguments) → State → Read Arguments
+one_keyed name before s = keyed name before s >>= then_last before
+
+-- the argument after a colon
+unfoldable pub single_argument : State → Read Arguments
+single_argument s = do
+  a ← placed s
+  Ok (a.0 ∷ [], a.1)
+
+-- what stands after an element of a list: a comma, or the closing delimiter, and then the list is at its end
+unfoldable pub separator : (closing : TokenKind) → State → Read Bool
+separator closing s =
+    choose (accept kinds.Comma s)
+    (do
+      closer ← expect closing s
+      Ok (true, closer.1))
+    (λ comma. Ok (false, comma.1))
+
+-- the closing parenthesis, or an argument and what stands after it; whether the arguments are at their end
+unfoldable pub list_step : (name : TableEntry) (keys : Bool) (before : Arguments) → State → Read (Arguments × Bool)
+list_step name keys before s =
+    choose (accept kinds.ParenR s)
+    (do
+      all ← one_argument name keys before s
+      is_last ← separator kinds.ParenR all.1
+      Ok ((all.0, is_last.0), is_last.1))
+    (λ closer. Ok ((before, true), closer.1))
+
+abbrev pub arguments_from : (name : TableEntry) (keys : Bool) → Arguments × State → Read Arguments
+arguments_from = attributes.arguments_from leaves sight_of meaning_kept meaning_in
+
+abbrev pub arguments : (name : TableEntry) (keys : Bool) → State → Read Arguments
+arguments = attributes.arguments leaves sight_of meaning_kept meaning_in
+
+abbrev pub kind_at : TableEntry → State → Read AttributeKind
+kind_at = attributes.kind_at leaves sight_of meaning_kept meaning_in
+
+abbrev pub made : (before : Entries) → TableEntry → AttributeKind → Arguments → State → Read (Entry Leaf Token)
+made = attributes.made leaves sight_of meaning_kept meaning_in
+
+abbrev pub attribute : (before : Entries) → State → Read (Entry Leaf Token)
+attribute = attributes.attribute leaves sight_of meaning_kept meaning_in
+
+-- what is made of these arguments after others, and all of them, at the token of its name
+unfoldable pub one_made : (before : Entries) (name : Token) → AttributeKind → Arguments → State → Read Entries
+one_made before name kind arguments s = do
+  e ← attributes.read_made (new_entry sees_leaves before name kind (by_position arguments) (by_key arguments)) s
+  Ok (before ++ e.0 ∷ [], e.1)
+
+-- an attribute after others, and all of them
+unfoldable pub one_attribute : (before : Entries) → State → Read Entries
+one_attribute before s = attribute before s >>= then_last before
+
+-- an attribute and what stands after it; whether the bracket is at its end
+unfoldable pub bracket_step : (before : Entries) → State → Read (Entries × Bool)
+bracket_step before s = do
+  all ← one_attribute before s
+  is_last ← separator kinds.BracketR all.1
+  Ok ((all.0, is_last.0), is_last.1)
+
+abbrev pub bracketed : Entries × State → Read Entries
+bracketed = attributes.bracketed leaves sight_of meaning_kept meaning_in
+
+abbrev pub attributes_end : State → Read TableEntry
+attributes_end = attributes.attributes_end leaves sight_of meaning_kept meaning_in
+
+-- a line of attributes after its opening bracket, after others
+unfoldable pub attribute_line : (before : Entries) → State → Read Entries
+attribute_line before s = do
+  ws ← bracketed (before, s)
+  end ← attributes_end ws.1
+  Ok (ws.0, end.1)
+
+-- a line of attributes, if a bracket opens; whether the lines are at their end
+unfoldable pub line_step : (before : Entries) → State → Read (Entries × Bool)
+line_step before s =
+    choose (accept kinds.BracketL s) (Ok ((before, true), s)) (λ opener. do
+      ws ← attribute_line before opener.1
+      Ok ((ws.0, false), ws.1))
+
+abbrev pub attribute_lines_from : Entries × State → Read Entries
+attribute_lines_from = attributes.attribute_lines_from leaves sight_of meaning_kept meaning_in
+
+-- the lines of attributes before a construct
+abbrev pub attribute_lines : State → Read Entries
+attribute_lines = attributes.attribute_lines leaves sight_of meaning_kept meaning_in

@@ -1,0 +1,44 @@
+-- What a method returns that reads attributes, and so may find a rule broken.
+use Rattle.std.specs.Prelude.{◌≡◌, ℕ, Result, Ok, Err}
+use Rattle.justfile_base.specs.declared.compile_error.CompileError.{CompileError}
+use Rattle.justfile_base.specs.declared.fault.Fault.{Fault}
+use Rattle.justfile_base.specs.declared.fault.Fault.TheVariants as faults
+use Rattle.justfile_attribute_rules.specs.RuleErrors.{IsErrorOfRule}
+use Rattle.justfile_model.specs.Reading as reading
+use Rattle.justfile_parse_expression.specs.MethodResults.{StopsAt}
+use Rattle.justfile_parse_expression.specs.TableReader as table
+use Rattle.justfile_parse_expression.specs.TableReader.{Read, State}
+use Rattle.justfile_parse_attribute.specs.declared.halt.Halt.{Halt}
+use Rattle.justfile_parse_attribute.specs.declared.halt.Halt.TheVariants as halts
+use Rattle.justfile_parse_expression.specs.declared.stop.Stop.TheVariants as stops
+use Rattle.justfile_base.specs.declared.compile_error_kind.CompileErrorKind.{CompileErrorKind}
+use Rattle.justfile_base.specs.declared.compile_error_kind.CompileErrorKind.TheVariants as kinds
+
+-- the kind says how many attributes stand before a blank line or a comment
+abbrev pub IsExtraneous : ℕ → CompileErrorKind → Type 0
+IsExtraneous count (kinds.ExtraneousAttributes count') = count' ≡ count
+IsExtraneous count kind = ⊥
+
+-- nothing is read, as a rule is broken or attributes stand before no construct, which the error says
+abbrev pub IsBrokenBy : {Y : Type 0} → Result Y table.Refusal → CompileError → Type 0
+IsBrokenBy (Err (reading.BreaksRule broken)) e = IsErrorOfRule broken e
+IsBrokenBy (Err (reading.Extraneous count opener)) e = IsExtraneous count e.kind × (e.token ≡ opener)
+IsBrokenBy _ e = ⊥
+
+-- Where reading halted, the tokens can't be read, or a rule is broken.
+abbrev pub HaltsAt : {Y : Type 0} → Halt → State → (IsShort : Type 0) → Result Y table.Refusal → Type 0
+HaltsAt (halts.Stopped stop) s IsShort found = StopsAt stop s IsShort found
+HaltsAt (halts.Broken error) s IsShort found = IsBrokenBy found error.value
+
+-- What was returned, seen by `view`, and the state after it are what is read, or say why not.
+abbrev pub ReadsRuled : {X Y : Type 0} → (X → Y) → Result X Halt → State → Read Y → Type 0
+ReadsRuled view (Ok x) s found = found ≡ Ok (view x, s)
+ReadsRuled view (Err halt) s found = HaltsAt halt s ⊥ found
+
+-- the fault of making an attribute, as reading halts for it
+abbrev pub HaltsFor : Halt → Fault → Type 0
+HaltsFor (halts.Broken error) (faults.Compile e) = error.value ≡ e
+HaltsFor (halts.Stopped stops.Memory) (faults.Compile e) = Unit {0}
+HaltsFor (halts.Stopped stops.Memory) faults.Memory = Unit {0}
+HaltsFor (halts.Stopped stops.Numbers) faults.Numbers = Unit {0}
+HaltsFor _ _ = ⊥

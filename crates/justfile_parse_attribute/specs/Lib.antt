@@ -1,0 +1,5 @@
+pub mod AddedAttributes
+pub mod ArgumentKeys
+pub mod AttributeTable
+pub mod Attributes
+pub mod Halting

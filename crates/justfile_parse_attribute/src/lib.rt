@@ -1,0 +1,10 @@
+//! From tokens to attributes: the lines of attributes before a construct.
+#![tactic(auto)]
+
+mod arguments;
+mod attributes;
+mod halt;
+mod new_attribute;
+
+pub use crate::attributes::parse_attributes;
+pub use crate::halt::{Halt, make_halt};

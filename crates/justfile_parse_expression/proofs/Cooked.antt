@@ -1,0 +1,130 @@
+-- Literals with their texts, and the refusals of those that have none.
+use Rattle.std.proofs.Common.{◌≡◌, Bool, true, false, IsTrue, ℕ, List, Option, Some, None, is_some, unwrap_or, Result, Ok, Err, refl, sym, ap, ◌∙◌, subst}
+use Rattle.justfile_base.specs.StringKind.{kind_of}
+use Rattle.justfile_base.specs.Token.{lexeme_of}
+use Rattle.justfile_base.specs.declared.format_string_part.FormatStringPart.{FormatStringPart}
+use Rattle.justfile_base.specs.declared.format_string_part.FormatStringPart.TheVariants as parts
+use Rattle.justfile_base.specs.declared.string_kind.StringKind.{StringKind}
+use Rattle.justfile_base.specs.declared.compile_error.CompileError.{CompileError}
+use Rattle.justfile_base.specs.declared.compile_error_kind.CompileErrorKind.{CompileErrorKind}
+use Rattle.justfile_base.specs.declared.fault.Fault.{Fault}
+use Rattle.justfile_base.specs.declared.fault.Fault.TheVariants as faults
+use Rattle.justfile_base.specs.declared.string_literal.StringLiteral.{StringLiteral}
+use Rattle.justfile_base.specs.declared.token.Token.{Token}
+use Rattle.justfile_base.specs.declared.token_kind.TokenKind.{TokenKind}
+use Rattle.justfile_base.specs.declared.token_kind.TokenKind.TheVariants as kinds
+use Rattle.justfile_literal.specs.Literal.{IsKindOf, IsPartOf, IsStringOf, IsTextFault, answers_by, is_part, is_quoted, literal_fault_of}
+use Rattle.justfile_model.specs.ExpressionReader as expressions
+use Rattle.justfile_model.specs.ExpressionReader.{by_text}
+use Rattle.justfile_model.specs.Reading.{NotCooked}
+use Rattle.justfile_parse_expression.specs.TableReader as reader
+use Rattle.justfile_parse_expression.specs.TableReader.{Refusal, State, leaves, part_by}
+use Rattle.justfile_model.specs.Literals as literal
+use Rattle.justfile_model.specs.Literals.{Expansions, LiteralFault, Unasked, cooked_text, format_text, string_of}
+use Rattle.justfile_model.specs.Tree as tree
+use Rattle.justfile_parse_expression.specs.Fault.{IsLiteralFault, is_literal_kind, literal_fault}
+use Rattle.justfile_parse_expression.specs.Literal.{is_delimited, is_sound}
+use Rattle.justfile_parse_expression.specs.MethodResults.{StopsAt, TextStops, literal_refusal}
+use Rattle.justfile_parse_expression.specs.declared.significant.TableEntry.{TableEntry}
+use Rattle.justfile_tree.specs.LeafTree.{Command, Literal, literal_of}
+use Rattle.justfile_parse_expression.specs.View.{state_at, state_of}
+use Rattle.justfile_parse_expression.specs.declared.parser.ExpressionParser.{ExpressionParser}
+use Rattle.justfile_parse_expression.specs.declared.stop.Stop.{Stop}
+use Rattle.justfile_parse_expression.specs.declared.stop.Stop.TheVariants as stops
+
+pub quoted_string : (entry : TableEntry) → entry.token.now.kind ≡ kinds.StringToken → IsTrue (is_sound entry) → IsTrue (is_quoted (lexeme_of entry.token.now))
+quoted_string entry e h = subst (λ (k : TokenKind). IsTrue (is_delimited k (lexeme_of entry.token.now))) e h
+
+pub quoted_command : (entry : TableEntry) → entry.token.now.kind ≡ kinds.Backtick → IsTrue (is_sound entry) → IsTrue (is_quoted (lexeme_of entry.token.now))
+quoted_command entry e h = subst (λ (k : TokenKind). IsTrue (is_delimited k (lexeme_of entry.token.now))) e h
+
+-- ---- the fault of an error
+
+pub fault_is : (fault : LiteralFault) (kind : CompileErrorKind) → IsKindOf fault kind → literal_fault kind ≡ fault
+fault_is fault kind h = rw h refl
+
+due : (fault : LiteralFault) (kind : CompileErrorKind) → IsKindOf fault kind → IsTrue (is_literal_kind kind)
+unfolding is_literal_kind
+due fault kind h = rw h refl
+
+-- the fault that the kind says is that of the kind
+pub kind_is_due : (kind : CompileErrorKind) → IsTrue (is_literal_kind kind) → IsKindOf (literal_fault kind) kind
+unfolding is_literal_kind
+kind_is_due kind h = by_fault (literal_fault_of kind) refl h
+  where
+    by_fault : (found : Option LiteralFault) → literal_fault_of kind ≡ found → IsTrue (is_some found) → IsKindOf (unwrap_or found Unasked) kind
+    by_fault (Some fault) is h = is
+    by_fault None is h = cc
+
+pub is_literal : (text : Result (List ℕ) LiteralFault) (token : Token) (fault : Fault) → IsTextFault text token fault → IsLiteralFault fault
+is_literal text token (faults.Compile error) h = due h.fault error.kind h.kind_is
+is_literal text token faults.Memory h = tt
+is_literal text token faults.Numbers h = absurd h
+
+pub command_is_literal : (expander : Expansions) (token : Token) (fault : Fault) → ((expander : Expansions) → IsTextFault (cooked_text expander (literal.Command (lexeme_of token))) token fault) → IsLiteralFault fault
+command_is_literal expander token fault h = is_literal (cooked_text expander (literal.Command (lexeme_of token))) token fault (h expander)
+
+text_refused : {A : Type 0} (make : List ℕ → A) (s : State) (text : Result (List ℕ) LiteralFault) (entry : TableEntry) (fault : Fault) (stop : Stop) → IsTextFault text entry.token.now fault → TextStops stop fault
+    → StopsAt stop s ⊥ (by_text leaves make (entry, s) text)
+unfolding literal_refusal leaves
+text_refused make s text entry (faults.Compile error) (stops.Literal x) h is =
+    let refusal : CompileError → Refusal = λ e. NotCooked (literal_fault e.kind) e.token in
+    let there : NotCooked h.fault entry.token.now ≡ refusal error
+    = ap (λ (f : LiteralFault). NotCooked f entry.token.now) (sym (fault_is h.fault error.kind h.kind_is)) ∙ ap (λ (t : Token). NotCooked (literal_fault error.kind) t) (sym h.token_is) in
+    rw h.text_is (ap (λ (r : Refusal). Err r) (there ∙ ap refusal (sym is)))
+text_refused make s text entry (faults.Compile error) (stops.Refused r) h is = absurd is
+text_refused make s text entry (faults.Compile error) stops.Memory h is = tt
+text_refused make s text entry (faults.Compile error) stops.Numbers h is = absurd is
+text_refused make s text entry faults.Memory (stops.Literal x) h is = absurd is
+text_refused make s text entry faults.Memory (stops.Refused r) h is = absurd is
+text_refused make s text entry faults.Memory stops.Memory h is = tt
+text_refused make s text entry faults.Memory stops.Numbers h is = absurd is
+text_refused make s text entry faults.Numbers stop h is = absurd h
+
+-- ---- parts of format strings are framed
+
+pub framed_single : (entry : TableEntry) → entry.token.now.kind ≡ kinds.StringToken → IsTrue (is_sound entry) → IsTrue (is_part (kind_of (lexeme_of entry.token.now)) parts.Single (lexeme_of entry.token.now))
+framed_single entry e h = quoted_string entry e h
+
+pub framed_start : (entry : TableEntry) → entry.token.now.kind ≡ kinds.FormatStringStart → IsTrue (is_sound entry) → IsTrue (is_part (kind_of (lexeme_of entry.token.now)) parts.Start (lexeme_of entry.token.now))
+framed_start entry e h = subst (λ (k : TokenKind). IsTrue (is_delimited k (lexeme_of entry.token.now))) e h
+
+pub framed_continue : (entry : TableEntry) (kind : StringKind) → entry.token.now.kind ≡ kinds.FormatStringContinue → IsTrue (is_sound entry) → IsTrue (is_part kind parts.Continue (lexeme_of entry.token.now))
+framed_continue entry kind e h = subst (λ (k : TokenKind). IsTrue (is_delimited k (lexeme_of entry.token.now))) e h
+
+-- ---- texts
+
+module _ {X : Type 0} (answer : X → List ℕ → Result (List ℕ) (List ℕ)) (p : ExpressionParser X) (entry : TableEntry) where
+  abbrev by : Expansions
+  by = answers_by answer p.expander.now
+
+  module _ (expand : Bool) where
+    pub string_given : (l : StringLiteral) → IsStringOf by entry.token.now expand l → reader.literal_string expand (entry, state_of answer p) ≡ Ok (tree.StringLiteral l.expand (Literal (literal_of l)), state_of answer p)
+    unfolding expressions.literal_string expressions.cooked leaves state_of state_at
+    string_given l is = by_expand expand is
+      where
+        by_expand : (expand : Bool) → IsStringOf by entry.token.now expand l → reader.literal_string expand (entry, state_of answer p) ≡ Ok (tree.StringLiteral l.expand (Literal (literal_of l)), state_of answer p)
+        by_expand true is = rw (is.cooked, is.expand_is, is.kind, is.part, is.token_is) refl
+        by_expand false is = rw (is.cooked, is.expand_is, is.kind, is.part, is.token_is) refl
+
+    pub string_refused : (fault : Fault) (stop : Stop) → IsTextFault (cooked_text by (string_of expand (lexeme_of entry.token.now))) entry.token.now fault → TextStops stop fault → StopsAt stop (state_of answer p) ⊥ (reader.literal_string expand (entry, state_of answer p))
+    unfolding expressions.literal_string expressions.cooked leaves state_of state_at
+    string_refused fault stop h is = text_refused _ (state_of answer p) (cooked_text by (string_of expand (lexeme_of entry.token.now))) entry fault stop h is
+
+  pub command_given : (text : List ℕ) → ((expander : Expansions) → cooked_text expander (literal.Command (lexeme_of entry.token.now)) ≡ Ok text) → reader.backtick (entry, state_of answer p) ≡ Ok (tree.Backtick (Command entry.token.now text), state_of answer p)
+  unfolding expressions.backtick expressions.cooked leaves state_of state_at
+  command_given text is = rw (is by) refl
+
+  pub command_refused : (fault : Fault) (stop : Stop) → ((expander : Expansions) → IsTextFault (cooked_text expander (literal.Command (lexeme_of entry.token.now))) entry.token.now fault) → TextStops stop fault
+      → StopsAt stop (state_of answer p) ⊥ (reader.backtick (entry, state_of answer p))
+  unfolding expressions.backtick expressions.cooked leaves state_of state_at
+  command_refused fault stop h is = text_refused _ (state_of answer p) (cooked_text by (literal.Command (lexeme_of entry.token.now))) entry fault stop (h by) is
+
+  module _ (kind : StringKind) (part : FormatStringPart) where
+    pub part_given : (l : StringLiteral) → IsPartOf kind part entry.token.now l → part_by kind part (entry, state_of answer p) ≡ Ok (Literal (literal_of l), state_of answer p)
+    unfolding part_by leaves
+    part_given l is = rw (is.cooked, is.expand_is, is.kind_is, is.part_is, is.token_is) refl
+
+    pub part_refused : (fault : Fault) (stop : Stop) → IsTextFault (format_text kind part (lexeme_of entry.token.now)) entry.token.now fault → TextStops stop fault → StopsAt stop (state_of answer p) ⊥ (part_by kind part (entry, state_of answer p))
+    unfolding part_by
+    part_refused fault stop h is = text_refused _ (state_of answer p) (format_text kind part (lexeme_of entry.token.now)) entry fault stop h is

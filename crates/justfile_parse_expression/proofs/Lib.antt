@@ -1,0 +1,13 @@
+pub mod Anywhere
+pub mod Cooked
+pub mod Elements
+pub mod Formats
+pub mod NextKinds
+pub mod Operators
+pub mod Parts
+pub mod Rest
+pub mod Rows
+pub mod Rules
+pub mod Seen
+pub mod Shapes
+pub mod SignificantLemmas

@@ -1,0 +1,222 @@
+-- Reading a table, with all that the parser's trees hold. That the definitions read the same trees of tokens is a law.
+use Rattle.std.specs.Prelude.{ℕ, ◌-◌, ◌^◌, Bool, true, false, List, [], ◌∷◌, Option, Some, None, Ok, Err, not, ◌==◌, if◌then◌else◌}
+use Rattle.justfile_base.specs.Numerator.{number_of}
+use Rattle.justfile_base.specs.StringKind.{kind_of}
+use Rattle.justfile_base.specs.Token.{lexeme_of}
+use Rattle.justfile_base.specs.declared.format_string_part.FormatStringPart.{FormatStringPart}
+use Rattle.justfile_base.specs.declared.format_string_part.FormatStringPart.TheVariants as string_parts
+use Rattle.justfile_base.specs.declared.string_kind.StringKind.{StringKind}
+use Rattle.justfile_base.specs.declared.token.Token.{Token}
+use Rattle.justfile_base.specs.declared.token_kind.TokenKind.{TokenKind}
+use Rattle.justfile_model.specs.Literals as literals
+use Rattle.justfile_model.specs.Conditions.{Conditions}
+use Rattle.justfile_model.specs.Literals.{format_text}
+use Rattle.justfile_model.specs.Tree as tree
+use Rattle.justfile_model.specs.Tree.{Expr}
+use Rattle.justfile_model.specs.Features.{uncompared}
+use Rattle.justfile_model.specs.ExpressionReader as expressions
+use Rattle.justfile_model.specs.Reading as reading
+use Rattle.justfile_model.specs.Reading.{◌>>=◌, Leaves, refused, with}
+use Rattle.justfile_parse_expression.specs.Significant.{significant_of}
+use Rattle.justfile_tree.specs.LeafTree.{Leaf, Named, Literal, Command, Text, Assigned, Headed}
+use Rattle.justfile_model.specs.declared.level.Level.{Level}
+use Rattle.justfile_model.specs.declared.level.Level.TheVariants.{Expression, Disjunct, Compared}
+use Rattle.justfile_model.specs.Operators.{operator_of}
+use Rattle.justfile_model.specs.declared.operator.Operator.{Operator}
+use Rattle.justfile_parse_expression.specs.declared.significant.TableEntry.{TableEntry}
+
+-- what stays while a file is read
+pub record Run : Type 0 where
+  pub conditions : Conditions
+  pub table : List TableEntry
+  pub file_depth : ℕ
+  pub import_offsets : List ℕ
+
+-- ---- what a tree keeps
+
+-- a literal by its text, and how it was asked for it
+abbrev pub literal_leaf : Token → literals.Literal (List ℕ) → List ℕ → Leaf
+literal_leaf token (literals.Plain lexeme) text = Literal (record { token = token; cooked = text; expand = false; kind = kind_of lexeme; part = None })
+literal_leaf token (literals.Expanded lexeme) text = Literal (record { token = token; cooked = text; expand = true; kind = kind_of lexeme; part = None })
+literal_leaf token (literals.Command lexeme) text = Command token text
+literal_leaf token (literals.Single lexeme) text = Literal (record { token = token; cooked = text; expand = false; kind = kind_of lexeme; part = Some string_parts.Single })
+literal_leaf token (literals.Start lexeme) text = Literal (record { token = token; cooked = text; expand = false; kind = kind_of lexeme; part = Some string_parts.Start })
+literal_leaf token (literals.Continue start lexeme) text = Literal (record { token = token; cooked = text; expand = false; kind = kind_of start; part = Some string_parts.Continue })
+literal_leaf token (literals.End start lexeme) text = Literal (record { token = token; cooked = text; expand = false; kind = kind_of start; part = Some string_parts.End })
+
+abbrev pub assigned_leaf : Run → Token → ℕ → Leaf
+assigned_leaf run name number = Assigned (record { file_depth = run.file_depth; name = name; number = number_of number; prelude = false })
+
+abbrev pub headed_leaf : Run → Token → ℕ → Leaf
+headed_leaf run name number = Headed (record { file_depth = run.file_depth; import_offsets = run.import_offsets; name = name; number = number_of number })
+
+unfoldable pub leaves : Leaves Run TableEntry Leaf Token (Unit {0})
+leaves = record {
+  conditions = λ run. run.conditions;
+  see = significant_of;
+  spot = λ t. t.token.now;
+  name = λ t. Named t.token.now None;
+  literal = λ t literal text. literal_leaf t.token.now literal text;
+  text = λ t. Text t.token.now;
+  star = λ t. tt;
+  assignment = λ run t number. assigned_leaf run t.token.now number;
+  recipe = λ run t number body. headed_leaf run t.token.now number;
+  has_number = λ n. not (n == 2 ^ 32 - 1);
+}
+
+-- ---- the reader of tables
+
+abbrev pub State : Type 0
+State = reading.State Run TableEntry Token
+
+-- where reading begins, with no expression open
+abbrev pub begin : Run → State
+begin run = record { run = run; depth = 0; left = run.table; noted = [] }
+
+abbrev pub Refusal : Type 0
+Refusal = reading.Refusal TableEntry Token
+
+abbrev pub Read : Type 0 → Type 0
+Read X = reading.Read Run TableEntry Token X
+
+abbrev pub ReadExpr : Type 0
+ReadExpr = Read (Expr Leaf Token)
+
+abbrev pub Place : Type 0
+Place = expressions.Place Run TableEntry Token
+
+abbrev pub At : Level → (condition : Bool) → State → Place
+At level condition s = expressions.At level condition s
+
+abbrev pub Conditional : TableEntry → State → Place
+Conditional word s = expressions.Conditional word s
+
+abbrev pub Sequence : TokenKind → State → Place
+Sequence closing s = expressions.Sequence closing s
+
+abbrev pub read : (x : Place) → expressions.Out leaves x
+read = expressions.read leaves
+
+abbrev pub accept : TokenKind → State → Option (TableEntry × State)
+accept = reading.accept leaves
+
+abbrev pub accept_word : List ℕ → State → Option (TableEntry × State)
+accept_word = reading.accept_word leaves
+
+abbrev pub accept_marked : List ℕ → TokenKind → State → Option (TableEntry × State)
+accept_marked = reading.accept_marked leaves
+
+-- an expression may be entered
+abbrev pub is_within : Level → State → Bool
+is_within level s = expressions.is_within s.run.conditions.limit level s
+
+abbrev pub accept_operator : Level → State → Option (Operator × TableEntry × State)
+accept_operator = expressions.accept_operator leaves
+
+abbrev pub expect : TokenKind → State → Read TableEntry
+expect = reading.expect leaves
+
+abbrev pub next_are : List TokenKind → State → Bool
+next_are = reading.next_are leaves
+
+abbrev pub literal_string : (expanded : Bool) → TableEntry × State → ReadExpr
+literal_string = expressions.literal_string leaves
+
+abbrev pub whole_format_string : TableEntry × State → ReadExpr
+whole_format_string = expressions.whole_format_string leaves
+
+abbrev pub backtick : TableEntry × State → ReadExpr
+backtick = expressions.backtick leaves
+
+abbrev pub literal : State → Read (Option (Expr Leaf Token))
+literal = expressions.literal leaves
+
+-- a part of a format string of a kind
+unfoldable pub part_by : StringKind → FormatStringPart → TableEntry × State → Read Leaf
+part_by kind part x =
+    expressions.by_text leaves (λ text. Literal (record { token = x.0.token.now; cooked = text; expand = false; kind = kind; part = Some part })) x (format_text kind part (lexeme_of x.0.token.now))
+
+abbrev pub part : (start : List ℕ) → State → Read (Leaf × Bool)
+part = expressions.part leaves
+
+-- an expression of a level is opened, up to the limit of depth
+unfoldable pub enter : Level → State → Read (Unit {0})
+enter level s = if is_within level s then Ok (tt, expressions.opened level s) else Err (refused reading.TooDeep s)
+
+-- an operator of a level after its left side, and its right side; the left side alone if there is no such operator
+unfoldable pub operation : Level → (condition : Bool) → Expr Leaf Token × State → ReadExpr
+operation level condition lhs = expressions.binary_tail leaves read level condition lhs (accept_operator level lhs.1)
+
+-- the operators of the levels from comparisons up to this one, each with its right side, after a conjunct
+unfoldable pub operations : Level → (condition : Bool) → Expr Leaf Token × State → ReadExpr
+operations Expression condition lhs = operation Compared condition lhs >>= operation Disjunct condition >>= operation Expression condition
+operations Disjunct condition lhs = operation Compared condition lhs >>= operation Disjunct condition
+operations Compared condition lhs = operation Compared condition lhs
+operations _ condition lhs = Ok lhs
+
+-- the operator that comes next, if one does
+abbrev pub front_operator : List TableEntry → Option Operator
+front_operator [] = None
+front_operator (t ∷ ts) = operator_of t.token.now.kind
+
+-- an expression, and the delimiter after it
+unfoldable pub enclosed : TokenKind → State → ReadExpr
+enclosed closing s = do
+  e ← read (At Expression false s)
+  x ← expect closing e.1
+  Ok (e.0, x.1)
+
+abbrev pub condition : State → ReadExpr
+condition = expressions.condition leaves
+
+-- a condition that is no comparison, noted at its first entry
+abbrev pub note_first : Expr Leaf Token → (first : Option TableEntry) → State → State
+note_first e None s = s
+note_first e (Some first) s = with (uncompared e first.token.now) s
+
+abbrev pub braced : State → ReadExpr
+braced = expressions.braced leaves
+
+abbrev pub otherwise : State → ReadExpr
+otherwise = expressions.otherwise leaves
+
+abbrev pub ended_by : Bool → Expr Leaf Token → State → ReadExpr
+ended_by = expressions.ended_by leaves
+
+abbrev pub element : TokenKind → State → Read (Expr Leaf Token × Bool)
+element = expressions.element leaves
+
+-- an expression of a format string and the part after it, and whether that is the last
+unfoldable pub pair : (start : List ℕ) → State → Read (Expr Leaf Token × Leaf × Bool)
+pair start s = do
+  e ← read (At Expression false s)
+  p ← part start e.1
+  Ok ((e.0, p.0.0, p.0.1), p.1)
+
+-- what follows the start of a format string, after any start
+unfoldable pub format_parts : (start : List ℕ) → State → Read (Leaf → Expr Leaf Token)
+format_parts start s = do
+  e ← read (At Expression false s)
+  ps ← read (expressions.FormatParts start e.1)
+  Ok ((λ leaf. tree.FormatString leaf e.0 ps.0), ps.1)
+
+abbrev pub format_string : TableEntry × State → ReadExpr
+format_string = expressions.format_string leaves
+
+abbrev pub value : State → ReadExpr
+value = expressions.value leaves
+
+abbrev pub format : State → ReadExpr
+format = expressions.format leaves
+
+abbrev pub assert : State → ReadExpr
+assert = expressions.assert leaves
+
+abbrev pub name : State → ReadExpr
+name = expressions.name leaves
+
+abbrev pub group : State → ReadExpr
+group = expressions.group leaves
+
+abbrev pub list : State → ReadExpr
+list = expressions.list leaves

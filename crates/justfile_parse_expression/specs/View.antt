@@ -1,0 +1,30 @@
+-- What the definitions see of the parser: all that it holds.
+use Rattle.std.specs.Prelude.{◌≡◌, ℕ, ◌<◌, ◌-◌, List, Option, Some, None, drop, length, Result}
+use Rattle.justfile_base.specs.declared.token.Token.{Token}
+use Rattle.justfile_model.specs.declared.list_feature.ListFeature.{ListFeature}
+use Rattle.justfile_parse_expression.specs.Conditions.{conditions_of}
+use Rattle.justfile_parse_expression.specs.TableReader.{Run, State}
+use Rattle.justfile_parse_expression.specs.declared.parser.ExpressionParser.{ExpressionParser}
+
+unfoldable pub state_at : Run → (depth n : ℕ) → List (ListFeature × Token) → State
+state_at run depth n features = record { run = run; depth = depth; left = drop n run.table; noted = features }
+
+module _ {X : Type 0} (answer : X → List ℕ → Result (List ℕ) (List ℕ)) where
+  abbrev pub run_of : ExpressionParser X → Run
+  run_of p = record { conditions = conditions_of answer p.expander.now p.current; table = p.tokens.now; file_depth = p.file_depth; import_offsets = p.import_offsets.now }
+
+  -- where the parser would be at another entry
+  abbrev pub state_from : ExpressionParser X → ℕ → State
+  state_from p n = state_at (run_of p) p.depth n p.list_features.items
+
+  unfoldable pub state_of : ExpressionParser X → State
+  state_of p = state_from p p.next
+
+-- how many entries are left
+unfoldable pub left : {X : Type 0} → ExpressionParser X → ℕ
+left p = length p.tokens.now - p.next
+
+-- Where something was taken, fewer entries are left. Where nothing was, the parser is as before.
+abbrev pub Moves : {X Y : Type 0} → Option Y → (old new : ExpressionParser X) → Type 0
+Moves (Some y) old new = left new < left old
+Moves None old new = new ≡ old

@@ -1,0 +1,13 @@
+//! From tokens to expressions: the table of significant tokens, how they are taken, and how expressions are read.
+#![tactic(auto)]
+
+mod expression;
+mod feature;
+mod literal;
+mod operator;
+mod parser;
+pub mod significant;
+mod stop;
+
+pub use crate::parser::ExpressionParser;
+pub use crate::stop::{LiteralRefusal, Refusal, Stop};

@@ -1,0 +1,139 @@
+ghost use Rattle.std.specs.Prelude.{◌≡◌, IsTrue, IfOk, option_map};
+ghost use Rattle.justfile_base.specs.StringKind.{kind_of};
+ghost use Rattle.justfile_base.specs.Token.{lexeme_of};
+ghost use Rattle.justfile_base.specs.declared.token_kind.TokenKind.TheVariants as kinds;
+ghost use Rattle.justfile_literal.specs.Literal.{is_part};
+ghost use Rattle.justfile_parse_expression.specs.Fault.{IsLiteralFault};
+ghost use Rattle.justfile_parse_expression.specs.Literal.{IsOf};
+ghost use Rattle.justfile_parse_expression.specs.TableReader as reader;
+ghost use Rattle.justfile_parse_expression.specs.MethodResults.{Reads, TextStops};
+ghost use Rattle.justfile_tree.specs.LeafTree.{Literal, literal_of, leaf_tree_of};
+
+use crate::expression::make_format_string;
+use crate::parser::ExpressionParser;
+use crate::significant::TableEntry;
+use crate::stop::{LiteralRefusal, Stop};
+use justfile_base::{
+    Expander, Fault, FormatStringPart, Keyword, StringKind, StringLiteral, TokenKind,
+};
+use justfile_literal::{command, format_part, string_literal};
+use justfile_tree::Expression;
+use std::alloc::Global;
+
+impl<'run, 'src, X: Expander> ExpressionParser<'run, 'src, X> {
+    ghost use Rattle.justfile_parse_expression.specs.View.{Moves, state_of};
+
+    /// A literal, if one stands next.
+    #[tactic(auto, unfolding(justfile_model::specs::ExpressionReader::literal))]
+    pub(crate) fn parse_literal(&mut self) -> Result<Option<Box<Expression<'src>>>, Stop<'src>>
+        ensures reads { Reads (option_map (λ e. leaf_tree_of e.value)) result (state_of X.answer self.new)
+            (reader.literal (state_of X.answer self.old)) }
+        ensures moves { IfOk result (λ found. Moves found self.old self.new) }
+    {
+        if let Some(entry) = self.accept(TokenKind::StringToken) {
+            return Ok(Some(self.cook_string(entry, false)?));
+        }
+        if let Some(entry) = self.accept_marked(Keyword::X, TokenKind::StringToken) {
+            return Ok(Some(self.cook_string(entry, true)?));
+        }
+        if let Some(entry) = self.accept_marked(Keyword::F, TokenKind::StringToken) {
+            return Ok(Some(self.cook_single(entry)?));
+        }
+        match self.accept(TokenKind::Backtick) {
+            Some(entry) => Ok(Some(self.cook_backtick(entry)?)),
+            None => Ok(None),
+        }
+    }
+
+    /// The literal that a string is.
+    #[tactic(auto, using(crate::proofs::Cooked::quoted_string, crate::proofs::Cooked::string_given, crate::proofs::Cooked::string_refused, crate::proofs::Cooked::is_literal))]
+    fn cook_string(
+        &self,
+        entry: TableEntry<'run, 'src>,
+        expand: bool,
+    ) -> Result<Box<Expression<'src>>, Stop<'src>>
+        requires { IsOf kinds.StringToken entry }
+        ensures reads { Reads (λ e. leaf_tree_of e.value) result (state_of X.answer self.now)
+            (reader.literal_string expand (entry.entry, state_of X.answer self.now)) }
+    {
+        match string_literal(self.alloc, *entry.token, expand, self.expander) {
+            Ok(string_literal) => Ok(self.box_expression(Expression::StringLiteral {
+                string_literal,
+            })?),
+            Err(fault) => Err(make_stop(self.alloc, fault)),
+        }
+    }
+
+    /// The command that a backtick is.
+    #[tactic(auto, using(crate::proofs::Cooked::quoted_command, crate::proofs::Cooked::command_given, crate::proofs::Cooked::command_refused, crate::proofs::Cooked::command_is_literal))]
+    fn cook_backtick(
+        &self,
+        entry: TableEntry<'run, 'src>,
+    ) -> Result<Box<Expression<'src>>, Stop<'src>>
+        requires { IsOf kinds.Backtick entry }
+        ensures reads { Reads (λ e. leaf_tree_of e.value) result (state_of X.answer self.now)
+            (reader.backtick (entry.entry, state_of X.answer self.now)) }
+    {
+        match command(self.alloc, *entry.token) {
+            Ok(contents) => Ok(self.box_expression(Expression::Backtick {
+                contents,
+                token: *entry.token,
+            })?),
+            Err(fault) => Err(make_stop(self.alloc, fault)),
+        }
+    }
+
+    /// A format string with nothing to fill in.
+    #[tactic(auto, using(crate::proofs::Cooked::framed_single, crate::proofs::Rules::single_is))]
+    fn cook_single(
+        &self,
+        entry: TableEntry<'run, 'src>,
+    ) -> Result<Box<Expression<'src>>, Stop<'src>>
+        requires { IsOf kinds.StringToken entry }
+        ensures reads { Reads (λ e. leaf_tree_of e.value) result (state_of X.answer self.now)
+            (reader.whole_format_string (entry.entry, state_of X.answer self.now)) }
+    {
+        let literal = self.cook_part(entry, find_kind(entry), FormatStringPart::Single)?;
+        self.box_expression(make_format_string(literal, Vec::new(self.alloc)))
+    }
+
+    /// A part of a format string of this kind.
+    #[tactic(auto, using(crate::proofs::Cooked::part_given, crate::proofs::Cooked::part_refused, crate::proofs::Cooked::is_literal))]
+    pub(crate) fn cook_part(
+        &self,
+        entry: TableEntry<'run, 'src>,
+        kind: StringKind,
+        part: FormatStringPart,
+    ) -> Result<StringLiteral<'src>, Stop<'src>>
+        requires framed { IsTrue (is_part kind part (lexeme_of entry.token.now)) }
+        ensures reads { Reads (λ l. Literal (literal_of l)) result (state_of X.answer self.now)
+            (reader.part_by kind part (entry.entry, state_of X.answer self.now)) }
+    {
+        match format_part(self.alloc, *entry.token, kind, part) {
+            Ok(literal) => Ok(literal),
+            Err(fault) => Err(make_stop(self.alloc, fault)),
+        }
+    }
+}
+
+/// How the literal is delimited.
+pub(crate) fn find_kind(entry: TableEntry<'_, '_>) -> StringKind
+    ensures { result ≡ kind_of (lexeme_of entry.entry.token.now) }
+{
+    StringKind::of_opening(entry.token.lexeme().as_bytes())
+}
+
+/// Why a literal has no text.
+fn make_stop<'src>(alloc: Global, fault: Fault<'src>) -> Stop<'src>
+    requires { IsLiteralFault fault }
+    ensures { TextStops result fault.entry }
+{
+    match fault {
+        Fault::Compile(error) => match Box::new(alloc, LiteralRefusal { error }) {
+            Ok(refused) => Stop::Literal(refused),
+            Err(_failed) => Stop::Memory,
+        },
+        Fault::Memory => Stop::Memory,
+        Fault::Numbers => Stop::Numbers,
+    }
+}

@@ -1,0 +1,248 @@
+//! The parser, and how it takes tokens.
+ghost use Rattle.std.specs.Option.{is_some};
+ghost use Rattle.std.specs.Prelude.{◌≡◌, ◌<◌, ◌≤◌, ◌+◌, drop, length, map, IsTrue, IfOk, OnOk, OnSome, IfSome};
+ghost use Rattle.std.specs.List.{list_all};
+ghost use Rattle.justfile_base.specs.Keyword.{keyword_text};
+ghost use Rattle.justfile_base.specs.declared.token_kind.TokenKind.TheVariants as kinds;
+ghost use Rattle.justfile_model.specs.Expressions.{front};
+ghost use Rattle.justfile_parse_expression.specs.Conditions.{conditions_of, depth_limit};
+ghost use Rattle.justfile_parse_expression.specs.Formats.{AreEnded, IsTable, prop_ended};
+ghost use Rattle.justfile_parse_expression.specs.Literal.{IsOf, is_sound};
+ghost use Rattle.justfile_model.specs.Reading.{at, is_word, marks};
+ghost use Rattle.justfile_parse_expression.specs.TableReader as reader;
+ghost use Rattle.justfile_parse_expression.specs.MethodResults.{Peeks, Reads, Takes};
+ghost use Rattle.justfile_parse_expression.specs.Significant.{significant_of};
+
+use crate::significant::TableEntry;
+use crate::stop::{Refusal, Stop};
+use justfile_base::{Expander, Keyword, Token, TokenKind, Version};
+use justfile_tree::ListFeature;
+use std::alloc::Global;
+
+/// Reads a table of significant tokens from left to right.
+///
+/// A method's name says what it does with the tokens that come next: `peek_` looks at them and takes none,
+/// `accept_` takes what it names if that is there, `expect_` refuses what is anything else, and `parse_`
+/// reads a construct, or says why there is none.
+#[derive(Drop)]
+pub struct ExpressionParser<'run, 'src, X> {
+    pub alloc: Global,
+    /// The running version.
+    pub(crate) current: Version,
+    /// How many expressions are open.
+    pub(crate) depth: usize,
+    pub(crate) expander: &'run X,
+    /// How many imports and modules lie between the file and the root.
+    pub file_depth: u32,
+    /// The offsets of the imports that lead to the file that is read, the outermost first.
+    pub import_offsets: &'run [usize],
+    /// What was read that needs the setting for lists, each with its token, in order.
+    pub list_features: Vec<(ListFeature, Token<'src>)>,
+    /// The index of the next token.
+    pub(crate) next: usize,
+    pub tokens: &'run [TableEntry<'run, 'src>],
+    ghost within: { next ≤ length tokens.now },
+    ghost shallow: { depth ≤ depth_limit },
+    ghost nonempty: { 0 < length tokens.now },
+    ghost sound: { IsTrue (list_all is_sound tokens.now) },
+    ghost ended: { AreEnded (map significant_of tokens.now) } by { prop_ended (map significant_of tokens.now) },
+}
+
+impl<'run, 'src, X: Expander> ExpressionParser<'run, 'src, X> {
+    ghost use Rattle.justfile_parse_expression.specs.View.{Moves, left, state_from, state_of};
+
+    /// The parser at the first token of a table, where no expression is open.
+    #[tactic(auto, using(crate::proofs::Rest::begin_is), unfolding(crate::specs::View::state_of))]
+    pub fn new(
+        alloc: Global,
+        current: Version,
+        expander: &'run X,
+        file_depth: u32,
+        import_offsets: &'run [usize],
+        tokens: &'run [TableEntry<'run, 'src>],
+    ) -> Self
+        requires { IsTable tokens.now }
+        ensures { state_of X.answer result ≡ reader.begin (record {
+          conditions = conditions_of X.answer expander.now current;
+          table = tokens.now;
+          file_depth = file_depth;
+          import_offsets = import_offsets.now;
+        }) }
+    {
+        ExpressionParser {
+            alloc,
+            current,
+            depth: 0,
+            expander,
+            file_depth,
+            import_offsets,
+            list_features: Vec::new(alloc),
+            next: 0,
+            tokens,
+        }
+    }
+
+    /// The next token; it is not taken yet.
+    #[tactic(auto, using(crate::proofs::Rest::peeked, crate::proofs::Rest::ended, crate::proofs::Rest::sound_at))]
+    pub(crate) fn peek(&self) -> Option<TableEntry<'run, 'src>>
+        ensures within { OnSome result (self.now.next < length self.now.tokens.now) }
+        ensures peeks { Peeks result (state_of X.answer self.now) (state_from X.answer self.now (self.now.next + 1)) }
+        ensures sound { IfSome result (λ entry. IsTrue (is_sound entry)) }
+    {
+        if self.next < self.tokens.len() {
+            Some(self.tokens[self.next])
+        } else {
+            None
+        }
+    }
+
+    /// The next token, for callers that need only that token: `peek`, with the contract that says no
+    /// more.
+    pub fn peek_front(&self) -> Option<TableEntry<'run, 'src>>
+        ensures { result ≡ front (state_of X.answer self.now).left }
+    {
+        self.peek()
+    }
+
+    /// The next token if it is of this kind; it is not taken yet.
+    #[tactic(auto, unfolding(crate::specs::TableReader::leaves, justfile_model::specs::Reading::accept, justfile_model::specs::Reading::same_kind))]
+    pub fn peek_if(&self, kind: TokenKind) -> Option<TableEntry<'run, 'src>>
+        ensures within { OnSome result (self.now.next < length self.now.tokens.now) }
+        ensures takes { Takes result (state_from X.answer self.now (self.now.next + 1)) (reader.accept kind (state_of X.answer self.now)) }
+        ensures entry { IfSome result (λ entry. IsOf kind entry) }
+    {
+        match self.peek() {
+            Some(entry) if entry.token.kind == kind => Some(entry),
+            _ => None,
+        }
+    }
+
+    /// Takes the next token if it is of this kind.
+    #[tactic(auto, unfolding(crate::specs::View::state_of, crate::specs::View::left))]
+    pub fn accept(&mut self, kind: TokenKind) -> Option<TableEntry<'run, 'src>>
+        ensures takes { Takes result (state_of X.answer self.new) (reader.accept kind (state_of X.answer self.old)) }
+        ensures moves { Moves result self.old self.new }
+        ensures entry { IfSome result (λ entry. IsOf kind entry) }
+    {
+        let entry = self.peek_if(kind)?;
+        self.next += 1;
+        Some(entry)
+    }
+
+    /// Takes the next token if it is this keyword.
+    #[tactic(auto, unfolding(crate::specs::TableReader::leaves, justfile_model::specs::Reading::accept_word, crate::specs::View::state_of, crate::specs::View::left))]
+    pub(crate) fn accept_keyword(&mut self, keyword: Keyword) -> Option<TableEntry<'run, 'src>>
+        ensures takes { Takes result (state_of X.answer self.new)
+            (reader.accept_word (keyword_text keyword) (state_of X.answer self.old)) }
+        ensures moves { Moves result self.old self.new }
+        ensures kind { IfSome result (λ entry. entry.token.now.kind ≡ kinds.Identifier) }
+    {
+        let entry = self.peek()?;
+        if is_word(entry, keyword.lexeme()) {
+            self.next += 1;
+            Some(entry)
+        } else {
+            None
+        }
+    }
+
+    /// Takes the next token if it is this mark, and the string of this kind that is glued to it. The
+    /// string is returned.
+    #[tactic(auto, using(crate::proofs::Rest::marked_here, crate::proofs::Rest::marked_end, crate::proofs::Rest::sound_at), unfolding(crate::specs::View::state_of, crate::specs::View::left))]
+    pub(crate) fn accept_marked(
+        &mut self,
+        mark: Keyword,
+        kind: TokenKind,
+    ) -> Option<TableEntry<'run, 'src>>
+        ensures takes { Takes result (state_of X.answer self.new)
+            (reader.accept_marked (keyword_text mark) kind (state_of X.answer self.old)) }
+        ensures moves { Moves result self.old self.new }
+        ensures entry { IfSome result (λ entry. IsOf kind entry) }
+    {
+        if self.tokens.len() - self.next < 2 {
+            return None;
+        }
+        let first = self.tokens[self.next];
+        let entry = self.tokens[self.next + 1];
+        if is_marked(first, mark.lexeme(), entry, kind) {
+            self.next += 2;
+            Some(entry)
+        } else {
+            None
+        }
+    }
+
+    /// Whether the next token is this mark, and a string of this kind is glued to it.
+    #[tactic(auto, using(crate::proofs::Rest::marked_is, crate::proofs::Rest::marked_none), unfolding(crate::specs::View::state_of, crate::specs::View::left))]
+    pub fn peek_marked(&self, mark: Keyword, kind: TokenKind) -> bool
+        ensures { result ≡ is_some (reader.accept_marked (keyword_text mark) kind (state_of X.answer self.now)) }
+    {
+        if self.tokens.len() - self.next < 2 {
+            return false;
+        }
+        let first = self.tokens[self.next];
+        let entry = self.tokens[self.next + 1];
+        is_marked(first, mark.lexeme(), entry, kind)
+    }
+
+    /// Takes the next token, which has to be of this kind.
+    #[tactic(auto, unfolding(justfile_model::specs::Reading::expect))]
+    pub fn expect(&mut self, kind: TokenKind) -> Result<TableEntry<'run, 'src>, Stop<'src>>
+        ensures reads { Reads (λ entry. entry) result (state_of X.answer self.new) (reader.expect kind (state_of X.answer self.old)) }
+        ensures progress { OnOk result (left self.new < left self.old) }
+        ensures kind { IfOk result (λ entry. entry.token.now.kind ≡ kind) }
+    {
+        match self.accept(kind) {
+            Some(entry) => Ok(entry),
+            None => Err(Stop::Refused(Refusal::Unexpected)),
+        }
+    }
+
+    /// Whether the next tokens are of these kinds; none is taken yet.
+    pub fn peek_kinds(&self, kinds: &[TokenKind]) -> bool
+        ensures is { result ≡ reader.next_are kinds.now (state_of X.answer self.now) }
+        ensures within { IsTrue result → length kinds.now ≤ left self.now }
+    {
+        let mut next = self.next;
+        for kind in kinds {
+            match self.tokens.get(next) {
+                Some(entry) if entry.token.kind == *kind => next += 1,
+                _ => return false,
+            }
+        }
+        true
+    }
+
+    /// Takes so many tokens.
+    #[tactic(auto, using(crate::proofs::NextKinds::state_skip), unfolding(crate::specs::View::state_of, crate::specs::View::left))]
+    pub fn skip(&mut self, count: usize)
+        requires { count ≤ left self.old }
+        ensures rest { state_of X.answer self.new ≡ at (state_of X.answer self.old) (drop count (state_of X.answer self.old).left) }
+        ensures progress { left self.new ≤ left self.old }
+    {
+        self.next += count;
+    }
+}
+
+/// Whether the token is this word.
+#[tactic(auto, unfolding(justfile_model::specs::Reading::is_word, justfile_model::specs::Reading::same_kind))]
+pub(crate) fn is_word(entry: TableEntry<'_, '_>, word: &str) -> bool
+    ensures is { result ≡ is_word word.now (significant_of entry.entry) }
+    ensures kind { IsTrue result → entry.entry.token.now.kind ≡ kinds.Identifier }
+{
+    entry.token.kind == TokenKind::Identifier && entry.token.lexeme() == word
+}
+
+/// Whether the token is a string of this kind, directly after a mark that is this word.
+#[tactic(auto, unfolding(justfile_model::specs::Reading::same_kind))]
+pub(crate) fn is_marked(
+    mark: TableEntry<'_, '_>,
+    word: &str,
+    entry: TableEntry<'_, '_>,
+    kind: TokenKind,
+) -> bool
+    ensures is { result ≡ marks word.now kind (significant_of mark.entry) (significant_of entry.entry) }
+    ensures kind { IsTrue result → entry.entry.token.now.kind ≡ kind }
+{
+    entry.token.kind == kind && entry.glued && is_word(mark, word)
+}
