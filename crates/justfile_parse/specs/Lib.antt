@@ -1,6 +1,4 @@
-pub mod Docs
 pub mod Errors
-pub mod Exclusions
 pub mod Filled
 pub mod Halting
 pub mod ItemTable

@@ -3,7 +3,6 @@
 
 mod body;
 mod construct;
-mod docs;
 mod items;
 mod parse;
 mod recipe;

@@ -1,7 +1,6 @@
 pub mod AttributesUtf8
 pub mod Back
 pub mod BackAttributes
-pub mod BackHeaders
 pub mod Bodies
 pub mod BodyDerives
 pub mod BodyFacts
@@ -12,7 +11,6 @@ pub mod BodyTokens
 pub mod BodyUtf8
 pub mod Canon
 pub mod CanonAttributes
-pub mod CanonHeaders
 pub mod CanonItems
 pub mod Comments
 pub mod CountedAttributes
@@ -22,8 +20,6 @@ pub mod DerivesBack
 pub mod Determined
 pub mod DeterminedAttributes
 pub mod DeterminedItems
-pub mod DocsGood
-pub mod DocsNormal
 pub mod Ends
 pub mod Facts
 pub mod Fixed
@@ -31,12 +27,10 @@ pub mod FormatParts
 pub mod FormatScans
 pub mod Good
 pub mod GoodAttributes
-pub mod GoodHeaders
 pub mod GoodItems
 pub mod Inline
 pub mod LexesAttributes
 pub mod LexesBack
-pub mod LexesHeaders
 pub mod LexesValues
 pub mod Lines
 pub mod LiteralModes
@@ -48,12 +42,9 @@ pub mod Quoted
 pub mod RawTexts
 pub mod Reading
 pub mod RoundTrip
-pub mod SideBySide
 pub mod Sound
 pub mod Trimmed
 pub mod Walks
-pub mod WalksHeaders
 pub mod Written
 pub mod WrittenAttributes
-pub mod WrittenHeaders
 pub mod WrittenValues

@@ -14,7 +14,6 @@ mod beginnings;
 mod expansion;
 mod fields;
 mod files;
-mod headers;
 mod items;
 mod judge;
 mod lexing;

@@ -1,3 +1,0 @@
-pub mod Copies
-pub mod Header
-pub mod Parameter
