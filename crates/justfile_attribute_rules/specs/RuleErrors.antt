@@ -4,6 +4,7 @@ use Rattle.justfile_base.specs.Token.{lexeme_of}
 use Rattle.justfile_base.specs.declared.compile_error.CompileError.{CompileError}
 use Rattle.justfile_base.specs.declared.compile_error_kind.CompileErrorKind.{CompileErrorKind}
 use Rattle.justfile_base.specs.declared.compile_error_kind.CompileErrorKind.TheVariants as errors
+use Rattle.justfile_base.specs.declared.switch.Switch.TheVariants as switches
 use Rattle.justfile_base.specs.declared.token.Token.{Token}
 use Rattle.justfile_model.specs.Rules as rules
 use Rattle.justfile_model.specs.Rules.{Broken, Rule}
@@ -42,6 +43,16 @@ SaysRule at (rules.DuplicateGroupAttribute expanded name first) (errors.Duplicat
     (group.expand ≡ expanded) × (group.token ≡ name) × (line ≡ first.line)
 SaysRule at (rules.InvalidAttribute item kind) (errors.InvalidAttribute item' name attribute) = (item' ≡ item) × (name.now ≡ lexeme_of at) × (attribute ≡ kind)
 SaysRule at (rules.UndefinedArgAttribute argument) (errors.UndefinedArgAttribute argument') = string_bytes argument' ≡ argument
+SaysRule at (rules.DuplicateLongOption option recipe) (errors.DuplicateOption recipe' (switches.Long name)) = (recipe'.now ≡ lexeme_of recipe) × (string_bytes name ≡ option)
+SaysRule at (rules.DuplicateShortOption option recipe) (errors.DuplicateOption recipe' (switches.Short character)) = (recipe'.now ≡ lexeme_of recipe) × (character ≡ option)
+SaysRule at (rules.FlagWithDefault parameter) (errors.FlagWithDefault parameter') = string_bytes parameter' ≡ lexeme_of parameter
+SaysRule at (rules.ArgAttributeRequiresMultipleOrVariadic key) (errors.ArgAttributeRequiresMultipleOrVariadic key') = key'.token ≡ key
+SaysRule at (rules.NoCdAndWorkingDirectoryAttribute recipe) (errors.NoCdAndWorkingDirectoryAttribute recipe') = recipe'.now ≡ lexeme_of recipe
+SaysRule at (rules.ExitMessageAndNoExitMessageAttribute recipe) (errors.ExitMessageAndNoExitMessageAttribute recipe') = recipe'.now ≡ lexeme_of recipe
+SaysRule at (rules.ScriptAndShellAttribute recipe) (errors.ScriptAndShellAttribute recipe') = recipe'.now ≡ lexeme_of recipe
+SaysRule at rules.MappedDependencyMultipleStarredArguments errors.MappedDependencyMultipleStarredArguments = Unit {0}
+SaysRule at rules.MappedDependencyWithoutStarredArgument errors.MappedDependencyWithoutStarredArgument = Unit {0}
+SaysRule at rules.StarredArgumentOutsideMappedDependency errors.StarredArgumentOutsideMappedDependency = Unit {0}
 SaysRule at rule kind = ⊥
 
 -- the error is that of the broken rule

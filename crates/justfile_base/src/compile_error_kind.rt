@@ -3,6 +3,7 @@ use crate::delimiter::Delimiter;
 use crate::item_kind::ItemKind;
 use crate::name::Name;
 use crate::string_literal::StringLiteral;
+use crate::switch::Switch;
 use crate::token_kind::TokenKind;
 
 /// Why a text is refused.
@@ -12,6 +13,10 @@ pub enum CompileErrorKind<'src> {
     ArgAttributeMinExceedsMax {
         min: u64,
         max: u64,
+    },
+    /// `max` or `min`, whichever is the key, of an argument that is given once.
+    ArgAttributeRequiresMultipleOrVariadic {
+        key: Name<'src>,
     },
     /// `value`, `flag` or `multiple`, whichever is the key, of an argument that is no option.
     ArgAttributeRequiresOption {
@@ -77,8 +82,17 @@ pub enum CompileErrorKind<'src> {
         first: usize,
         group: StringLiteral<'src>,
     },
+    /// Two options of a recipe are called the same.
+    DuplicateOption {
+        recipe: &'src str,
+        option: Switch,
+    },
     /// A text ends after a backslash.
     EscapeEndOfFile,
+    /// A recipe has attributes that exclude each other.
+    ExitMessageAndNoExitMessageAttribute {
+        recipe: &'src str,
+    },
     /// Attributes stand before a comment or an empty line.
     ExtraneousAttributes {
         /// How many they are.
@@ -94,6 +108,10 @@ pub enum CompileErrorKind<'src> {
     },
     /// The key `flag` has a value, and takes none.
     FlagAttributeTakesNoValue {
+        parameter: String,
+    },
+    /// A parameter is a flag and has a default.
+    FlagWithDefault {
         parameter: String,
     },
     /// A line of a body does not begin as the lines before it.
@@ -119,6 +137,10 @@ pub enum CompileErrorKind<'src> {
     InvalidSignal {
         signal: String,
     },
+    /// Two arguments of a dependency are starred.
+    MappedDependencyMultipleStarredArguments,
+    /// A dependency is starred and none of its arguments is.
+    MappedDependencyWithoutStarredArgument,
     /// A delimiter closes another one.
     MismatchedClosingDelimiter {
         close: Delimiter,
@@ -129,6 +151,10 @@ pub enum CompileErrorKind<'src> {
     /// The blanks that a body begins with are both spaces and tabs.
     MixedLeadingWhitespace {
         whitespace: &'src str,
+    },
+    /// A recipe has attributes that exclude each other.
+    NoCdAndWorkingDirectoryAttribute {
+        recipe: &'src str,
     },
     /// The name of an option has a `=` in it.
     OptionNameContainsEqualSign {
@@ -142,8 +168,16 @@ pub enum CompileErrorKind<'src> {
     OptionNameStartsWithDash {
         parameter: String,
     },
+    /// A parameter follows one that takes several arguments.
+    ParameterFollowsVariadicParameter {
+        parameter: &'src str,
+    },
     /// Too many expressions are open.
     ParsingRecursionDepthExceeded,
+    /// A recipe has attributes that exclude each other.
+    ScriptAndShellAttribute {
+        recipe: &'src str,
+    },
     /// The text of a literal that is marked `x` is not expanded, for the reason that is given.
     ShellExpansion {
         err: String,
@@ -152,6 +186,8 @@ pub enum CompileErrorKind<'src> {
     ShortOptionWithMultipleCharacters {
         parameter: String,
     },
+    /// An argument of a dependency is starred and the dependency isn't.
+    StarredArgumentOutsideMappedDependency,
     /// An `arg` attribute speaks of an argument that the recipe doesn't take.
     UndefinedArgAttribute {
         argument: String,

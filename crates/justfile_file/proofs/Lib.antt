@@ -2,6 +2,8 @@ pub mod AttributeLines
 pub mod AttributeTexts
 pub mod Bodies
 pub mod Gaps
+pub mod HeaderTexts
 pub mod Loops
 pub mod PrintedBack
+pub mod ShownDocs
 pub mod SigilLaws

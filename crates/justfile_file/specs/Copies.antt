@@ -3,6 +3,7 @@ use Rattle.std.specs.Prelude.{◌≡◌, string_bytes}
 use Rattle.std.specs.List.{AllZip}
 use Rattle.justfile_attribute_set.specs.Copies.{IsSameSet}
 use Rattle.justfile_base.specs.Modulepath.{names_of}
+use Rattle.justfile_header.specs.Copies.{IsSameDependency, IsSameParameter, IsSameText}
 use Rattle.justfile_tree.specs.declared.expression.Expression.{Expression}
 use Rattle.justfile_tree.specs.Copies.{IsSameExpression}
 use Rattle.justfile_file.specs.declared.ast.Ast.{Ast}
@@ -35,15 +36,20 @@ pub record IsSameLine (copy original : Line) : Type 0 where
   pub fragments : AllZip IsSameFragment copy.fragments.items original.fragments.items
   pub number : copy.number ≡ original.number
 
--- the copy of a recipe has its fields and its lines
+-- the copy of a recipe has its fields, and copies of its parameters, its dependencies and its lines
 pub record IsSameRecipe (copy original : UnresolvedRecipe) : Type 0 where
   pub attributes : IsSameSet copy.attributes original.attributes
   pub body : AllZip IsSameLine copy.body.items original.body.items
+  pub dependencies : AllZip IsSameDependency copy.dependencies.items original.dependencies.items
+  pub doc : IsSameText copy.doc original.doc
   pub file_depth : copy.file_depth ≡ original.file_depth
   pub import_offsets : copy.import_offsets.items ≡ original.import_offsets.items
   pub name : copy.name ≡ original.name
   pub number : copy.number ≡ original.number
+  pub parameters : AllZip IsSameParameter copy.parameters.items original.parameters.items
+  pub priors : copy.priors ≡ original.priors
   pub «private» : copy.private ≡ original.private
+  pub quiet : copy.quiet ≡ original.quiet
   pub shebang : copy.shebang ≡ original.shebang
 
 -- the copy of an item is of its case and has its fields

@@ -1,14 +1,18 @@
 -- What the definitions see of an item.
-use Rattle.std.specs.Prelude.{ℕ, Bool, true, List, [], ◌∷◌, ◌++◌, map}
+use Rattle.std.specs.Prelude.{ℕ, Bool, true, List, [], ◌∷◌, ◌++◌, map, take, drop, string_bytes}
 use Rattle.std.specs.List.{flat_map}
+use Rattle.std.specs.Option.{option_map}
 use Rattle.justfile_model.specs.Tok.{Tok, tok_of}
 use Rattle.justfile_model.specs.Tree as tree
-use Rattle.justfile_model.specs.Tree.{AssignmentParts, OrderedItem, RecipeParts, item_shape_of, lexeme, nothing, over_assignment, over_fragment, over_line, over_recipe, plain_assignment, plain_recipe}
+use Rattle.justfile_model.specs.Tree.{AssignmentParts, Header, OrderedItem, RecipeParts, item_shape_of, lexeme, nothing, over_assignment, over_fragment, over_header, over_line, over_recipe, plain_assignment}
 use Rattle.justfile_model.specs.Printing.{fragment_text}
 use Rattle.justfile_tree.specs.Expression.{expr_of, expr_cooked}
 use Rattle.justfile_tree.specs.declared.expression.Expression.{Expression}
 use Rattle.justfile_attribute_set.specs.AttributeSet.{attributes_of, entries_of}
 use Rattle.justfile_attribute_set.specs.Attributes.{are_enabled}
+use Rattle.justfile_header.specs.Header.{dependency_cooked, dependency_of, parameter_cooked, parameter_of}
+use Rattle.justfile_header.specs.declared.parameter.Parameter.{Parameter}
+use Rattle.justfile_header.specs.declared.unresolved_dependency.UnresolvedDependency.{UnresolvedDependency}
 use Rattle.justfile_file.specs.Attributes.{set_cooked}
 use Rattle.justfile_file.specs.declared.binding.Binding.{Binding}
 use Rattle.justfile_file.specs.declared.fragment.Fragment.{Fragment}
@@ -31,9 +35,27 @@ body_line_of line = tree.Line line.number (map fragment_of line.fragments.items)
 abbrev pub assignment_of : Binding Expression → AssignmentParts Tok Tok
 assignment_of a = plain_assignment (tok_of a.name.token) (expr_of a.value)
 
+-- the dependencies of a recipe before `&&`, or all of them
+abbrev pub priors_of : UnresolvedRecipe → List UnresolvedDependency
+priors_of r = take r.priors r.dependencies.items
+
+-- the dependencies of a recipe after `&&`
+abbrev pub subsequents_of : UnresolvedRecipe → List UnresolvedDependency
+subsequents_of r = drop r.priors r.dependencies.items
+
+-- the tree of a recipe's header
+abbrev pub header_of : UnresolvedRecipe → Header Tok Tok (Unit {0})
+header_of r = record {
+  quiet = r.quiet;
+  name = tok_of r.name.token;
+  parameters = map parameter_of r.parameters.items;
+  priors = map dependency_of (priors_of r);
+  subsequents = map dependency_of (subsequents_of r);
+}
+
 -- the tree of a recipe
 abbrev pub recipe_of : UnresolvedRecipe → RecipeParts Tok Tok ℕ (Unit {0})
-recipe_of r = plain_recipe (tok_of r.name.token) (map body_line_of r.body.items)
+recipe_of r = record { doc = option_map string_bytes r.doc; header = header_of r; body = map body_line_of r.body.items }
 
 -- the tree of an item
 abbrev pub item_of : Item → OrderedItem Tok Tok ℕ
@@ -73,6 +95,10 @@ line_shapes lines = map (over_line lexeme nothing nothing) (map body_line_of lin
 abbrev pub assignment_shape : Binding Expression → AssignmentParts (List ℕ) (Unit {0})
 assignment_shape a = over_assignment lexeme nothing (assignment_of a)
 
+-- the tree of a recipe's header without places
+abbrev pub header_shape : UnresolvedRecipe → Header (List ℕ) (Unit {0}) (Unit {0})
+header_shape r = over_header lexeme nothing (λ star. star) (header_of r)
+
 -- the tree of a recipe without places
 abbrev pub recipe_shape : UnresolvedRecipe → RecipeParts (List ℕ) (Unit {0}) (Unit {0}) (Unit {0})
 recipe_shape r = over_recipe lexeme nothing nothing (λ star. star) (recipe_of r)
@@ -90,19 +116,27 @@ fragment_cooked (Text token) = []
 abbrev pub line_cooked : Line → List (List ℕ)
 line_cooked line = flat_map fragment_cooked line.fragments.items
 
+-- the texts of the literals of a recipe's header, in order
+abbrev pub header_cooked : UnresolvedRecipe → List (List ℕ)
+header_cooked r = flat_map parameter_cooked r.parameters.items ++ flat_map dependency_cooked (priors_of r) ++ flat_map dependency_cooked (subsequents_of r)
+
 -- the texts of an item's literals, in order
 abbrev pub item_cooked : Item → List (List ℕ)
 item_cooked (Assignment a) = set_cooked a.attributes ++ expr_cooked a.value
 item_cooked (Comment text) = []
 item_cooked Newline = []
-item_cooked (Recipe r) = set_cooked r.attributes ++ flat_map line_cooked r.body.items
+item_cooked (Recipe r) = set_cooked r.attributes ++ header_cooked r ++ flat_map line_cooked r.body.items
 
--- the numbers of an item's bindings, in order
+-- the number of a parameter
+abbrev pub parameter_number : Parameter → ℕ
+parameter_number p = p.number.0
+
+-- the numbers of an item's bindings, in order: those of a recipe are its parameters
 abbrev pub item_numbers : Item → List ℕ
 item_numbers (Assignment a) = a.number.0 ∷ []
 item_numbers (Comment text) = []
 item_numbers Newline = []
-item_numbers (Recipe r) = []
+item_numbers (Recipe r) = map parameter_number r.parameters.items
 
 -- the number of an item that is a recipe
 abbrev pub item_recipe_numbers : Item → List ℕ

@@ -4,6 +4,7 @@ pub mod AttributeParts
 pub mod Attributes
 pub mod Copies
 pub mod Gap
+pub mod HeaderParts
 pub mod Item
 pub mod Line
 pub mod PrintsBack

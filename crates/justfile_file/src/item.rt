@@ -8,7 +8,7 @@ use crate::assignment::{Assignment, write_assignment};
 use crate::attributes::write_attributes;
 use crate::copied::Copied;
 use crate::gap::Gap;
-use crate::recipe::{UnresolvedRecipe, write_recipe};
+use crate::recipe::{UnresolvedRecipe, write_doc, write_recipe};
 use justfile_base::Indentation;
 use justfile_tree::Sink;
 use std::alloc::{AllocError, Global};
@@ -92,7 +92,8 @@ impl Copied for Item<'_> {
     }
 }
 
-/// Puts the text of an item, after a line for each of its attributes.
+/// Puts the text of an item, after a line for its doc and for each of its attributes.
+#[tactic(auto, using(crate::proofs::ShownDocs::no_doc))]
 pub(crate) fn write_item<S: Sink>(
     item: &Item<'_>,
     indentation: Indentation,
@@ -109,6 +110,7 @@ pub(crate) fn write_item<S: Sink>(
         Item::Comment(text) => sink.put(text),
         Item::Newline => Ok(()),
         Item::Recipe(recipe) => {
+            write_doc(recipe, sink)?;
             write_attributes(&recipe.attributes, sink)?;
             write_recipe(recipe, indentation, sink)
         }

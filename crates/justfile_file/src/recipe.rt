@@ -1,16 +1,20 @@
 ghost use Rattle.std.specs.Prelude.{◌≡◌, ◌++◌, OnOk, OnErr, IfOk, codes};
 ghost use Rattle.std.specs.List.{list_all};
+ghost use Rattle.std.specs.Option.{option_copied};
 ghost use Rattle.justfile_base.specs.Indentation.{indentation_text};
-ghost use Rattle.justfile_base.specs.Token.{lexeme_of};
-ghost use Rattle.justfile_model.specs.Printing.{fixed_text, line_text, body_text, printable_fragments, printable_body};
+ghost use Rattle.justfile_model.specs.Printing.{fixed_text, header_text, if_true, line_text, body_text, printable_fragments, printable_body};
 ghost use Rattle.justfile_file.specs.Copies.{IsSameRecipe};
-ghost use Rattle.justfile_file.specs.Item.{fragment_shapes, line_shape, line_shapes};
-ghost use Rattle.justfile_file.specs.Recipe.{unresolved_recipe_text};
+ghost use Rattle.justfile_file.specs.Item.{fragment_shapes, header_shape, line_shape, line_shapes, priors_of, subsequents_of};
+ghost use Rattle.justfile_file.specs.Recipe.{recipe_doc, recipe_doc_text, unresolved_recipe_text};
 
-use crate::copied::all_copied;
+use crate::copied::{Copied, all_copied};
+use crate::doc::{copy_doc, text_of, write_doc_line};
 use crate::line::{Line, write_line};
 use justfile_attribute_set::AttributeSet;
-use justfile_base::{Indentation, Name, Number};
+use justfile_base::{AttributeKind, Indentation, Name, Number};
+use justfile_header::{
+    Parameter, UnresolvedDependency, write_dependencies, write_parameters, write_subsequents,
+};
 use justfile_tree::{Sink, put_piece};
 use std::alloc::{AllocError, Global};
 
@@ -21,6 +25,10 @@ pub struct UnresolvedRecipe<'src> {
     pub attributes: AttributeSet<'src>,
     /// The lines of its body, without the empty ones at the end. There are none if it has no body.
     pub body: Vec<Line<'src>>,
+    /// The recipes that run before it and after it, in order.
+    pub dependencies: Vec<UnresolvedDependency<'src>>,
+    /// What the comment before it says of it, if there is one that does.
+    pub doc: Option<String>,
     /// How many imports and modules lie between its file and the root.
     pub file_depth: u32,
     /// The offsets of the imports that lead to its file, the outermost first.
@@ -29,8 +37,14 @@ pub struct UnresolvedRecipe<'src> {
     pub name: Name<'src>,
     /// The number that no other recipe of the numerator has.
     pub number: Number,
+    /// What it takes as arguments, in order.
+    pub parameters: Vec<Parameter<'src>>,
+    /// How many of the dependencies come before `&&`, or all of them if there is none.
+    pub priors: usize,
     /// Whether lists of recipes leave it out.
     pub private: bool,
+    /// Whether `@` stands before its name.
+    pub quiet: bool,
     /// Whether its body begins with a `#!` line.
     pub shebang: bool,
 }
@@ -41,17 +55,47 @@ impl<'src> UnresolvedRecipe<'src> {
         ensures { IfOk result (λ copy. IsSameRecipe copy self.now) }
     {
         let attributes = self.attributes.clone(alloc)?;
+        let dependencies = all_copied(alloc, &self.dependencies)?;
+        let parameters = all_copied(alloc, &self.parameters)?;
         let import_offsets = self.import_offsets.clone()?;
+        let doc = copy_doc(alloc, &self.doc)?;
         Ok(UnresolvedRecipe {
             attributes,
             body: all_copied(alloc, &self.body)?,
+            dependencies,
+            doc,
             file_depth: self.file_depth,
             import_offsets,
             name: self.name,
             number: self.number,
+            parameters,
+            priors: self.priors,
             private: self.private,
+            quiet: self.quiet,
             shebang: self.shebang,
         })
+    }
+
+    /// The doc that is printed: none where an attribute says it.
+    #[tactic(auto, using(crate::proofs::ShownDocs::recipe_doc_is))]
+    fn shown_doc(&self) -> Option<&str>
+        ensures { option_copied result ≡ recipe_doc self.now }
+    {
+        if self.attributes.contains(AttributeKind::Doc) {
+            None
+        } else {
+            text_of(&self.doc)
+        }
+    }
+
+    /// The dependencies before `&&`, or all of them, and those after it.
+    #[tactic(auto, using(std::proofs::lemmas::List::take_min, std::proofs::lemmas::List::drop_min))]
+    fn split_dependencies(&self) -> (&[UnresolvedDependency<'src>], &[UnresolvedDependency<'src>])
+        ensures priors { result.0.now ≡ priors_of self.now }
+        ensures subsequents { result.1.now ≡ subsequents_of self.now }
+    {
+        let count = self.priors.min(self.dependencies.len());
+        self.dependencies.split_at(count)
     }
 
     /// Whether each line of the printed body reads back.
@@ -60,6 +104,26 @@ impl<'src> UnresolvedRecipe<'src> {
         ensures { result ≡ printable_body (line_shapes self.now.body.items) }
     {
         are_printable(&self.body)
+    }
+}
+
+impl Copied for UnresolvedDependency<'_> {
+    ghost use Rattle.justfile_header.specs.Copies.{IsSameDependency};
+
+    ghost is_copy = { IsSameDependency };
+
+    fn copied(&self, alloc: Global) -> Result<Self, AllocError> {
+        self.clone(alloc)
+    }
+}
+
+impl Copied for Parameter<'_> {
+    ghost use Rattle.justfile_header.specs.Copies.{IsSameParameter};
+
+    ghost is_copy = { IsSameParameter };
+
+    fn copied(&self, alloc: Global) -> Result<Self, AllocError> {
+        self.clone(alloc)
     }
 }
 
@@ -101,7 +165,43 @@ fn write_body<S: Sink>(
     Ok(())
 }
 
-/// Puts the text of a recipe, without its attributes.
+/// Puts what stands before the name of a recipe that is quiet.
+fn write_quiet<S: Sink>(quiet: bool, sink: &mut S) -> Result<(), S::Fault>
+    ensures ok { OnOk result (S.took sink.old (if_true quiet (fixed_text (codes "@"))) sink.new) }
+    ensures err { OnErr result (S.failed sink.old (if_true quiet (fixed_text (codes "@"))) sink.new) }
+{
+    if quiet { put_piece("@", sink) } else { Ok(()) }
+}
+
+/// Puts the header of a recipe.
+fn write_header<S: Sink>(recipe: &UnresolvedRecipe<'_>, sink: &mut S) -> Result<(), S::Fault>
+    ensures ok { OnOk result (S.took sink.old (header_text (header_shape recipe.now)) sink.new) }
+    ensures err { OnErr result (S.failed sink.old (header_text (header_shape recipe.now)) sink.new) }
+{
+    let (priors, subsequents) = recipe.split_dependencies();
+    write_quiet(recipe.quiet, sink)?;
+    sink.put(recipe.name.lexeme())?;
+    write_parameters(&recipe.parameters, sink)?;
+    put_piece(":", sink)?;
+    write_dependencies(priors, sink)?;
+    write_subsequents(subsequents, sink)
+}
+
+/// Puts the doc of a recipe on a line of its own, where no attribute says it.
+pub(crate) fn write_doc<S: Sink>(
+    recipe: &UnresolvedRecipe<'_>,
+    sink: &mut S,
+) -> Result<(), S::Fault>
+    ensures ok { OnOk result (S.took sink.old (recipe_doc_text recipe.now) sink.new) }
+    ensures err { OnErr result (S.failed sink.old (recipe_doc_text recipe.now) sink.new) }
+{
+    match recipe.shown_doc() {
+        Some(doc) => write_doc_line(doc, sink),
+        None => Ok(()),
+    }
+}
+
+/// Puts the text of a recipe, without its doc and its attributes.
 pub(crate) fn write_recipe<S: Sink>(
     recipe: &UnresolvedRecipe<'_>,
     indentation: Indentation,
@@ -110,8 +210,7 @@ pub(crate) fn write_recipe<S: Sink>(
     ensures ok { OnOk result (S.took sink.old (unresolved_recipe_text recipe.now (indentation_text indentation)) sink.new) }
     ensures err { OnErr result (S.failed sink.old (unresolved_recipe_text recipe.now (indentation_text indentation)) sink.new) }
 {
-    sink.put(recipe.name.lexeme())?;
-    put_piece(":", sink)?;
+    write_header(recipe, sink)?;
     write_body(&recipe.body, indentation, sink)?;
     Ok(())
 }

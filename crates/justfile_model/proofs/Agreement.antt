@@ -4,24 +4,22 @@ use Rattle.justfile_model.specs.Conditions.{Conditions}
 use Rattle.justfile_model.specs.SignificantTokens.{SignificantToken}
 use Rattle.justfile_model.specs.Tok.{Tok}
 use Rattle.justfile_model.specs.Tree.{Tree, WrittenTree}
-use Rattle.justfile_model.specs.Features.{Noted}
+use Rattle.justfile_model.specs.Features.{ConstructFeatures, Noted}
 use Rattle.justfile_model.specs.Expressions.{Tokens, Under, Free, Waived}
 use Rattle.justfile_model.specs.Grammar.{File}
-use Rattle.justfile_model.specs.Files.{FileDerives, FileTree, Obeys, all_literals, broken, keeps_tokens, ordered}
+use Rattle.justfile_model.specs.Files.{FileDerives, FileTree, Obeys, all_features, all_literals, broken, keeps_tokens, ordered}
 use Rattle.justfile_model.specs.ReadAttribute.{token_sight}
 use Rattle.justfile_model.specs.Reading.{TooDeep}
 use Rattle.justfile_model.specs.Rules.{Broken}
 use Rattle.justfile_model.specs.Sight.{Sight}
 use Rattle.justfile_model.specs.TreeReader.{Refusal, tree_of_tokens}
 use Rattle.justfile_model.specs.Refusals.{IsDue}
-use Rattle.justfile_model.proofs.CookedTexts.{all_cook, texts_of}
+use Rattle.justfile_model.proofs.CookedTexts.{all_cook}
 use Rattle.justfile_model.proofs.Complete.{file_reached}
 use Rattle.justfile_model.proofs.Depth.{file_loosened}
-use Rattle.justfile_model.proofs.Obeyed.{all_ordered, all_unbroken, meanings}
-use Rattle.justfile_model.proofs.Obeying.{obeyed_at}
 use Rattle.justfile_model.proofs.Reaching.{lacks_none, kept, dropped}
 use Rattle.justfile_model.proofs.ReachingRules.{BreaksOne, DueAmong, ReachesOne, is_refused, only_due, some_read}
-use Rattle.justfile_model.proofs.Sound.{file_at}
+pub use Rattle.justfile_model.proofs.Soundness.{read_derives, sound}
 
 -- a written tree with its features, as the reader gives it
 abbrev Found : Type 0
@@ -57,68 +55,60 @@ module _ (conditions : Conditions) where
   is_due Hit written r (inl (inr h)) = inr (inl h)
   is_due Hit written r (inr h) = inr (inr (record { rule = h.rule; among = h.among; refusal_is = h.refusal_is }))
 
+  -- what is read of items with these features
+  abbrev found_of : WrittenTree → List (ConstructFeatures Tok) → Found
+  found_of written fs = (written, all_features (token_sight conditions) written fs)
+
   module _ (tokens : Tokens) where
-    -- what is read derives, and obeys
-    pub read_derives : (written : WrittenTree) (features : List (Noted Tok)) → tree_of_tokens conditions tokens ≡ Ok (written, features) → File keeps_tokens (Under conditions.limit) written features tokens × Obeys conditions written
-    read_derives written features is =
-        let found = file_at conditions tokens (written, features) is in
-        let texts = texts_of conditions.expander (all_literals written) found.cooks in
-        let obeyed = obeyed_at conditions tokens (written, features) is in
-        (found.derives, record { cooked = texts.0; cooks = texts.1; unbroken = all_unbroken (token_sight conditions) written obeyed })
-
-    pub sound : (written : WrittenTree) (features : List (Noted Tok)) → tree_of_tokens conditions tokens ≡ Ok (written, features)
-        → (tree : Tree) × (ordered (token_sight conditions) written ≡ Some tree) × FileDerives conditions tokens tree features
-    sound written features is =
-        let found = read_derives written features is in
-        let obeyed = obeyed_at conditions tokens (written, features) is in
-        let meaning = all_ordered (token_sight conditions) written obeyed in (
-          meanings (token_sight conditions) written obeyed,
-          meaning,
-          record { written = written; derives = found.0; obeys = found.1; ordered_is = meaning },
-        )
-
     -- what derives and obeys is read
-    pub reached : (written : WrittenTree) (features : List (Noted Tok)) → File keeps_tokens (Under conditions.limit) written features tokens → Obeys conditions written → tree_of_tokens conditions tokens ≡ Ok (written, features)
-    reached written features h obeys =
-        read (read_or_deep (λ at. ⊥) (tree_of_tokens conditions tokens) (written, features) obeys (file_reached conditions (λ at. ⊥)
+    pub reached : (written : WrittenTree) (fs : List (ConstructFeatures Tok)) → File keeps_tokens (Under conditions.limit) written fs tokens
+        → Obeys conditions written → tree_of_tokens conditions tokens ≡ Ok (found_of written fs)
+    reached written fs h obeys =
+        read (read_or_deep (λ at. ⊥) (tree_of_tokens conditions tokens) (found_of written fs) obeys (file_reached conditions (λ at. ⊥)
         (file_loosened (Under conditions.limit) (Waived conditions.limit (λ at. ⊥)) (kept conditions.limit) keeps_tokens h)))
       where
-        read : (tree_of_tokens conditions tokens ≡ Ok (written, features)) ⊎ ((at : Option SignificantToken) × ⊥ × (tree_of_tokens conditions tokens ≡ Err (TooDeep at)))
-            → tree_of_tokens conditions tokens ≡ Ok (written, features)
+        read : (tree_of_tokens conditions tokens ≡ Ok (found_of written fs)) ⊎ ((at : Option SignificantToken) × ⊥ × (tree_of_tokens conditions tokens ≡ Err (TooDeep at)))
+            → tree_of_tokens conditions tokens ≡ Ok (found_of written fs)
         read (inl is) = is
         read (inr x) = absurd x.1
 
+    -- what derives in all is read, with its features
+    derived : (tree : Tree) (features : List (Noted Tok)) (h : FileDerives conditions tokens tree features)
+        → tree_of_tokens conditions tokens ≡ Ok (h.written, features)
+    derived tree features h =
+        reached h.written h.by_construct h.derives h.obeys ∙ ap (λ (fs : List (Noted Tok)). Ok (h.written, fs)) (sym h.features_are)
+
     pub complete : (tree : Tree) (features : List (Noted Tok)) → FileDerives conditions tokens tree features
         → (written : WrittenTree) × (ordered (token_sight conditions) written ≡ Some tree) × (tree_of_tokens conditions tokens ≡ Ok (written, features))
-    complete tree features h = (h.written, h.ordered_is, reached h.written features h.derives h.obeys)
+    complete tree features h = (h.written, h.ordered_is, derived tree features h)
 
     pub one_tree : (tree other : Tree) (features others : List (Noted Tok)) → FileDerives conditions tokens tree features → FileDerives conditions tokens other others → (tree ≡ other) × (features ≡ others)
     one_tree tree other features others h q =
-        let same = ok_inside (h.written, features) (q.written, others) (sym (reached h.written features h.derives h.obeys) ∙ reached q.written others q.derives q.obeys) in
+        let same = ok_inside (h.written, features) (q.written, others) (sym (derived tree features h) ∙ derived other others q) in
         (same_meaning (token_sight conditions) (ap (λ p. p.0) same) h.ordered_is q.ordered_is, ap (λ p. p.1) same)
 
-  module _ (tokens : Tokens) (written : WrittenTree) (features : List (Noted Tok)) where
+  module _ (tokens : Tokens) (written : WrittenTree) (fs : List (ConstructFeatures Tok)) where
     -- where the limit is waived at some tokens
-    module _ (Hit : Option SignificantToken → Bool) (h : File keeps_tokens (Waived conditions.limit (λ at. IsTrue (Hit at))) written features tokens) where
-      pub deep : Obeys conditions written → (tree_of_tokens conditions tokens ≡ Ok (written, features)) ⊎ ((at : Option SignificantToken) × IsTrue (Hit at) × (tree_of_tokens conditions tokens ≡ Err (TooDeep at)))
+    module _ (Hit : Option SignificantToken → Bool) (h : File keeps_tokens (Waived conditions.limit (λ at. IsTrue (Hit at))) written fs tokens) where
+      pub deep : Obeys conditions written → (tree_of_tokens conditions tokens ≡ Ok (found_of written fs)) ⊎ ((at : Option SignificantToken) × IsTrue (Hit at) × (tree_of_tokens conditions tokens ≡ Err (TooDeep at)))
       deep obeys =
-          read_or_deep (λ at. IsTrue (Hit at)) (tree_of_tokens conditions tokens) (written, features) obeys (file_reached conditions (λ at. IsTrue (Hit at)) h)
+          read_or_deep (λ at. IsTrue (Hit at)) (tree_of_tokens conditions tokens) (found_of written fs) obeys (file_reached conditions (λ at. IsTrue (Hit at)) h)
 
       pub due : (r : Refusal) → tree_of_tokens conditions tokens ≡ Err r → IsDue conditions (λ at. IsTrue (Hit at)) written r
       due r is = is_due (λ at. IsTrue (Hit at)) written r (only_due conditions (λ at. IsTrue (Hit at)) is (file_reached conditions (λ at. IsTrue (Hit at)) h))
 
     -- without a limit
-    free_found : FileTree tokens written features → FileReached (λ at. Unit {0}) (tree_of_tokens conditions tokens) (written, features)
+    free_found : FileTree tokens written fs → FileReached (λ at. Unit {0}) (tree_of_tokens conditions tokens) (found_of written fs)
     free_found h = file_reached conditions (λ at. Unit {0}) (file_loosened Free (Waived conditions.limit (λ at. Unit {0})) (dropped conditions.limit) keeps_tokens h)
 
-    pub free : FileTree tokens written features → Obeys conditions written → (tree_of_tokens conditions tokens ≡ Ok (written, features)) ⊎ ((at : Option SignificantToken) × (tree_of_tokens conditions tokens ≡ Err (TooDeep at)))
+    pub free : FileTree tokens written fs → Obeys conditions written → (tree_of_tokens conditions tokens ≡ Ok (found_of written fs)) ⊎ ((at : Option SignificantToken) × (tree_of_tokens conditions tokens ≡ Err (TooDeep at)))
     free h obeys =
-        without (read_or_deep (λ at. Unit {0}) (tree_of_tokens conditions tokens) (written, features) obeys (free_found h))
+        without (read_or_deep (λ at. Unit {0}) (tree_of_tokens conditions tokens) (found_of written fs) obeys (free_found h))
       where
-        without : (tree_of_tokens conditions tokens ≡ Ok (written, features)) ⊎ ((at : Option SignificantToken) × Unit {0} × (tree_of_tokens conditions tokens ≡ Err (TooDeep at)))
-            → (tree_of_tokens conditions tokens ≡ Ok (written, features)) ⊎ ((at : Option SignificantToken) × (tree_of_tokens conditions tokens ≡ Err (TooDeep at)))
+        without : (tree_of_tokens conditions tokens ≡ Ok (found_of written fs)) ⊎ ((at : Option SignificantToken) × Unit {0} × (tree_of_tokens conditions tokens ≡ Err (TooDeep at)))
+            → (tree_of_tokens conditions tokens ≡ Ok (found_of written fs)) ⊎ ((at : Option SignificantToken) × (tree_of_tokens conditions tokens ≡ Err (TooDeep at)))
         without (inl is) = inl is
         without (inr x) = inr (x.0, x.2)
 
-    pub refused : FileTree tokens written features → (r : Refusal) → tree_of_tokens conditions tokens ≡ Err r → IsDue conditions (λ at. Unit {0}) written r
+    pub refused : FileTree tokens written fs → (r : Refusal) → tree_of_tokens conditions tokens ≡ Err r → IsDue conditions (λ at. Unit {0}) written r
     refused h r is = is_due (λ at. Unit {0}) written r (only_due conditions (λ at. Unit {0}) is (free_found h))

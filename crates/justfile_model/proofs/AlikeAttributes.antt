@@ -20,10 +20,10 @@ use Rattle.justfile_model.specs.Order.{in_order}
 use Rattle.justfile_model.specs.Sight.{Sight, or_empty}
 use Rattle.justfile_model.specs.Tree as tree
 use Rattle.justfile_model.specs.Tree.{Argument, ArgumentRules, Attribute, Bound, Entry, Expr, Exprs, OptionName, Parts, Property, Quoted, WrittenAttribute}
-use Rattle.justfile_model.proofs.EachLaws.{AlikeOption, absent, present}
 use Rattle.justfile_model.proofs.OrderMaps.{each_in_order}
 use Rattle.justfile_model.proofs.Related as a
-use Rattle.justfile_model.proofs.Related.{Alike, AlikeAll, AlikeParts, Each, Relations}
+use Rattle.justfile_model.proofs.Related.{Alike, AlikeAll, AlikeOption, AlikeParts, Each, Relations, absent, present}
+pub use Rattle.justfile_model.proofs.Related.{AlikeArgumentRules, AlikeBound, AlikeOptionName, AlikeProperty, AlikeQuoted, no_option, option_named, own_name}
 
 module _ {R T A B S D R' T' A' B' S' D' : Type 0} (rel : Relations R T A B S D R' T' A' B' S' D') where
   -- ---- what is alike
@@ -41,11 +41,6 @@ module _ {R T A B S D R' T' A' B' S' D' : Type 0} (rel : Relations R T A B S D R
         → AlikeLiteral (literals.Continue s l) (literals.Continue s' l')
     end_literal : {start lexeme : List ℕ} {s l : A} {s' l' : A'} → rel.literal (literals.Start start) s s' → rel.literal (literals.End start lexeme) l l'
         → AlikeLiteral (literals.End s l) (literals.End s' l')
-
-  pub record AlikeQuoted (q : Quoted A) (q' : Quoted A') : Type 0 where
-    pub expanded : q.expanded ≡ q'.expanded
-    pub lexeme : List ℕ
-    pub token : rel.literal (string_of q.expanded lexeme) q.token q'.token
 
   pub data AlikeArgument : Argument A B → Argument A' B' → Type 0 where
     positional : {b : B} {b' : B'} {e : Expr A B} {e' : Expr A' B'} → rel.spot b b' → Alike rel e e'
@@ -67,42 +62,17 @@ module _ {R T A B S D R' T' A' B' S' D' : Type 0} (rel : Relations R T A B S D R
     pub key : rel.name k.key k'.key
     pub value : AlikeOption (Alike rel) k.value k'.value
 
-  pub data AlikeOptionName : OptionName A B → OptionName A' B' → Type 0 where
-    no_option : AlikeOptionName tree.NoOption tree.NoOption
-    own_name : {k : B} {k' : B'} → rel.spot k k' → AlikeOptionName (tree.OwnName k) (tree.OwnName k')
-    option_named : {q : Quoted A} {q' : Quoted A'} → AlikeQuoted q q' → AlikeOptionName (tree.Named q) (tree.Named q')
-
-  pub record AlikeProperty (p : Property A B) (p' : Property A' B') : Type 0 where
-    pub key : rel.spot p.key p'.key
-    pub value : Alike rel p.value p'.value
-
-  pub record AlikeBound (b : Bound B) (b' : Bound B') : Type 0 where
-    pub key : rel.spot b.key b'.key
-    pub number : b.number ≡ b'.number
-
-  pub record AlikeArgumentRules (r : ArgumentRules A B) (r' : ArgumentRules A' B') : Type 0 where
-    pub flag : AlikeOption rel.spot r.flag r'.flag
-    pub help : AlikeOption AlikeProperty r.help r'.help
-    pub long : AlikeOptionName r.long r'.long
-    pub max : AlikeOption AlikeBound r.max r'.max
-    pub min : AlikeOption AlikeBound r.min r'.min
-    pub multiple : AlikeOption rel.spot r.multiple r'.multiple
-    pub name : AlikeQuoted r.name r'.name
-    pub pattern : AlikeOption AlikeProperty r.pattern r'.pattern
-    pub short : AlikeOptionName r.short r'.short
-    pub value : AlikeOption (Alike rel) r.value r'.value
-
   pub data AlikeAttribute : Attribute A B → Attribute A' B' → Type 0 where
     plain : (kind : AttributeKind) → AlikeAttribute (tree.Plain kind) (tree.Plain kind)
     single : (kind : AttributeKind) {e : Expr A B} {e' : Expr A' B'} → Alike rel e e' → AlikeAttribute (tree.Single kind e) (tree.Single kind e')
-    texts : (kind : AttributeKind) {qs : List (Quoted A)} {qs' : List (Quoted A')} → Each AlikeQuoted qs qs'
+    texts : (kind : AttributeKind) {qs : List (Quoted A)} {qs' : List (Quoted A')} → Each (AlikeQuoted rel) qs qs'
         → AlikeAttribute (tree.Texts kind qs) (tree.Texts kind qs')
     env : {k v : Expr A B} {k' v' : Expr A' B'} → Alike rel k k' → Alike rel v v' → AlikeAttribute (tree.Env k v) (tree.Env k' v')
     signals : (given : List Signal) → AlikeAttribute (tree.Signals given) (tree.Signals given)
     cache : {x i o : Option (Expr A B)} {x' i' o' : Option (Expr A' B')} → AlikeOption (Alike rel) x x' → AlikeOption (Alike rel) i i'
         → AlikeOption (Alike rel) o o'
         → AlikeAttribute (tree.Cache x i o) (tree.Cache x' i' o')
-    arg : {r : ArgumentRules A B} {r' : ArgumentRules A' B'} → AlikeArgumentRules r r' → AlikeAttribute (tree.Arg r) (tree.Arg r')
+    arg : {r : ArgumentRules A B} {r' : ArgumentRules A' B'} → AlikeArgumentRules rel r r' → AlikeAttribute (tree.Arg r) (tree.Arg r')
 
   pub record AlikeEntry (e : Entry A B) (e' : Entry A' B') : Type 0 where
     pub name : rel.spot e.name e'.name
@@ -114,6 +84,8 @@ module _ {R T A B S D R' T' A' B' S' D' : Type 0} (rel : Relations R T A B S D R
     pub name_place : (n : A) (n' : A') → rel.name n n' → rel.spot (sight.place n) (sight'.place n')
     pub literal_place : (l : Literal (List ℕ)) (t : A) (t' : A') → rel.literal l t t' → rel.spot (sight.place t) (sight'.place t')
     pub assignment_place : (number : ℕ) (n : A) (n' : A') → rel.assignment number n n' → rel.spot (sight.place n) (sight'.place n')
+    pub parameter_bytes : (number : ℕ) (n : A) (rules : Option (ArgumentRules A B)) (n' : A') (rules' : Option (ArgumentRules A' B'))
+        → rel.parameter number n rules n' rules' → sight.bytes n ≡ sight'.bytes n'
     pub cooked : (l : Literal A) (l' : Literal A') → AlikeLiteral l l' → sight.cooked l ≡ sight'.cooked l'
     pub name_content : (n : A) (n' : A') → rel.name n n' → sight.leaf_content kinds.Identifier n ≡ sight'.leaf_content kinds.Identifier n'
     pub command_content : (lexeme : List ℕ) (t : A) (t' : A') → rel.literal (literals.Command lexeme) t t'
@@ -127,7 +99,7 @@ module _ {R T A B S D R' T' A' B' S' D' : Type 0} (rel : Relations R T A B S D R
   string_alike true lexeme h = expanded_literal h
   string_alike false lexeme h = plain_literal h
 
-  pub quoted_literal : {q : Quoted A} {q' : Quoted A'} → AlikeQuoted q q' → AlikeLiteral (string_of q.expanded q.token) (string_of q'.expanded q'.token)
+  pub quoted_literal : {q : Quoted A} {q' : Quoted A'} → AlikeQuoted rel q q' → AlikeLiteral (string_of q.expanded q.token) (string_of q'.expanded q'.token)
   quoted_literal {q} {q'} h =
       subst (λ b. AlikeLiteral (string_of q.expanded q.token) (string_of b q'.token)) h.expanded (string_alike q.expanded h.lexeme h.token)
 
@@ -140,7 +112,7 @@ module _ {R T A B S D R' T' A' B' S' D' : Type 0} (rel : Relations R T A B S D R
   same_kind (cache x i o) = refl
   same_kind (arg r) = refl
 
-  pub quoted_alike : {e : Expr A B} {e' : Expr A' B'} → Alike rel e e' → AlikeOption AlikeQuoted (quoted e) (quoted e')
+  pub quoted_alike : {e : Expr A B} {e' : Expr A' B'} → Alike rel e e' → AlikeOption (AlikeQuoted rel) (quoted e) (quoted e')
   quoted_alike (a.string lexeme l) = present (record { expanded = refl; lexeme = lexeme; token = l })
   quoted_alike (a.or l r) = absent
   quoted_alike (a.and l r) = absent
@@ -236,10 +208,10 @@ module _ {R T A B S D R' T' A' B' S' D' : Type 0} (rel : Relations R T A B S D R
 
     -- ---- attributes
 
-    quoted_is : {q : Quoted A} {q' : Quoted A'} → AlikeQuoted q q' → quoted_key sight q ≡ quoted_key sight' q'
+    quoted_is : {q : Quoted A} {q' : Quoted A'} → AlikeQuoted rel q q' → quoted_key sight q ≡ quoted_key sight' q'
     quoted_is h = literal_is (quoted_literal h)
 
-    each_is : {qs : List (Quoted A)} {qs' : List (Quoted A')} → Each AlikeQuoted qs qs' → keys_of (quoted_key sight) qs ≡ keys_of (quoted_key sight') qs'
+    each_is : {qs : List (Quoted A)} {qs' : List (Quoted A')} → Each (AlikeQuoted rel) qs qs' → keys_of (quoted_key sight) qs ≡ keys_of (quoted_key sight') qs'
     each_is a.nil = refl
     each_is (a.cons h hs) = λ i. next (quoted_is h i) (each_is hs i)
 
@@ -249,13 +221,13 @@ module _ {R T A B S D R' T' A' B' S' D' : Type 0} (rel : Relations R T A B S D R
     option_is f g k absent = refl
     option_is f g k (present {x = x} {y = y} q) = λ i. present_key (k x y q i)
 
-    option_name_is : {q : Quoted A} {q' : Quoted A'} {n : OptionName A B} {n' : OptionName A' B'} → AlikeQuoted q q' → AlikeOptionName n n'
+    option_name_is : {q : Quoted A} {q' : Quoted A'} {n : OptionName A B} {n' : OptionName A' B'} → AlikeQuoted rel q q' → AlikeOptionName rel n n'
         → option_name_key sight q n ≡ option_name_key sight' q' n'
     option_name_is q no_option = refl
     option_name_is q (own_name k) = λ i. present_key (quoted_is q i)
     option_name_is q (option_named n) = λ i. present_key (quoted_is n i)
 
-    own_name_is : (word : List ℕ) {n : OptionName A B} {n' : OptionName A' B'} → AlikeOptionName n n' → own_name_key sight word n ≡ own_name_key sight' word n'
+    own_name_is : (word : List ℕ) {n : OptionName A B} {n' : OptionName A' B'} → AlikeOptionName rel n n' → own_name_key sight word n ≡ own_name_key sight' word n'
     own_name_is word no_option = refl
     own_name_is word (own_name k) = λ i. present_key (spot_is kinds.Identifier word k i)
     own_name_is word (option_named n) = refl
@@ -263,20 +235,20 @@ module _ {R T A B S D R' T' A' B' S' D' : Type 0} (rel : Relations R T A B S D R
     word_is : (word : List ℕ) (b : B) (b' : B') → rel.spot b b' → word_key sight word b ≡ word_key sight' word b'
     word_is word b b' h = spot_is kinds.Identifier word h
 
-    property_is : (word : List ℕ) (p : Property A B) (p' : Property A' B') → AlikeProperty p p' → property_key sight word p ≡ property_key sight' word p'
+    property_is : (word : List ℕ) (p : Property A B) (p' : Property A' B') → AlikeProperty rel p p' → property_key sight word p ≡ property_key sight' word p'
     property_is word p p' h = λ i. row (next (spot_is kinds.Identifier word h.key i) (next (same_key h.value i) end))
 
     expression_is : (e : Expr A B) (e' : Expr A' B') → Alike rel e e' → expr_key sight e ≡ expr_key sight' e'
     expression_is e e' h = same_key h
 
-    number_is : {o : Option (Bound B)} {o' : Option (Bound B')} → AlikeOption AlikeBound o o' → bound_number_key sight o ≡ bound_number_key sight' o'
+    number_is : {o : Option (Bound B)} {o' : Option (Bound B')} → AlikeOption (AlikeBound rel) o o' → bound_number_key sight o ≡ bound_number_key sight' o'
     number_is h = option_is _ _ (λ b b' k i. leaf (count (k.number i))) h
 
-    bound_is : (word : List ℕ) {o : Option (Bound B)} {o' : Option (Bound B')} → AlikeOption AlikeBound o o'
+    bound_is : (word : List ℕ) {o : Option (Bound B)} {o' : Option (Bound B')} → AlikeOption (AlikeBound rel) o o'
         → bound_word_key sight word o ≡ bound_word_key sight' word o'
     bound_is word h = option_is _ _ (λ b b' k. word_is word b.key b'.key k.key) h
 
-    rules_are : {r : ArgumentRules A B} {r' : ArgumentRules A' B'} → AlikeArgumentRules r r' → rules_keys sight r ≡ rules_keys sight' r'
+    rules_are : {r : ArgumentRules A B} {r' : ArgumentRules A' B'} → AlikeArgumentRules rel r r' → rules_keys sight r ≡ rules_keys sight' r'
     rules_are h =
         let flag = option_is _ _ (word_is (codes "flag")) h.flag in
         let help = option_is _ _ (property_is (codes "help")) h.help in
@@ -291,7 +263,7 @@ module _ {R T A B S D R' T' A' B' S' D' : Type 0} (rel : Relations R T A B S D R
         (next (number_is h.min i) (next (bound_is (codes "min") h.min i)
         (next (multiple i) (next (quoted_is h.name i) (next (pattern i) (next (short i) (next (own_short i) (next (value i) end))))))))))))))
 
-    texts_are : (kind : AttributeKind) {qs : List (Quoted A)} {qs' : List (Quoted A')} → Each AlikeQuoted qs qs'
+    texts_are : (kind : AttributeKind) {qs : List (Quoted A)} {qs' : List (Quoted A')} → Each (AlikeQuoted rel) qs qs'
         → texts_keys sight kind qs ≡ texts_keys sight' kind qs'
     texts_are attributes.Script a.nil = refl
     texts_are attributes.Script (a.cons h hs) = λ i. next (present_key (row (next (quoted_is h i) (next (row (each_is hs i)) end)))) end

@@ -33,6 +33,17 @@ module _ {B B' : Type 0} (Spot : B → B' → Type 0) where
     duplicate_group : {b b' : Bool} {g f : B} {g' f' : B'} → b ≡ b' → Spot g g' → Spot f f'
         → AlikeRule (rules.DuplicateGroupAttribute b g f) (rules.DuplicateGroupAttribute b' g' f')
     invalid_attribute : {item : ItemKind} {k k' : AttributeKind} → k ≡ k' → AlikeRule (rules.InvalidAttribute item k) (rules.InvalidAttribute item k')
+    duplicate_long : {s s' : List ℕ} {r : B} {r' : B'} → s ≡ s' → Spot r r' → AlikeRule (rules.DuplicateLongOption s r) (rules.DuplicateLongOption s' r')
+    duplicate_short : {c c' : ℕ} {r : B} {r' : B'} → c ≡ c' → Spot r r' → AlikeRule (rules.DuplicateShortOption c r) (rules.DuplicateShortOption c' r')
+    flag_default : {p : B} {p' : B'} → Spot p p' → AlikeRule (rules.FlagWithDefault p) (rules.FlagWithDefault p')
+    requires_several : {k : B} {k' : B'} → Spot k k'
+        → AlikeRule (rules.ArgAttributeRequiresMultipleOrVariadic k) (rules.ArgAttributeRequiresMultipleOrVariadic k')
+    no_cd_and_directory : {r : B} {r' : B'} → Spot r r' → AlikeRule (rules.NoCdAndWorkingDirectoryAttribute r) (rules.NoCdAndWorkingDirectoryAttribute r')
+    message_and_none : {r : B} {r' : B'} → Spot r r' → AlikeRule (rules.ExitMessageAndNoExitMessageAttribute r) (rules.ExitMessageAndNoExitMessageAttribute r')
+    script_and_shell : {r : B} {r' : B'} → Spot r r' → AlikeRule (rules.ScriptAndShellAttribute r) (rules.ScriptAndShellAttribute r')
+    several_stars : AlikeRule rules.MappedDependencyMultipleStarredArguments rules.MappedDependencyMultipleStarredArguments
+    no_star : AlikeRule rules.MappedDependencyWithoutStarredArgument rules.MappedDependencyWithoutStarredArgument
+    star_outside : AlikeRule rules.StarredArgumentOutsideMappedDependency rules.StarredArgumentOutsideMappedDependency
     undefined_arg : {s s' : List ℕ} → s ≡ s' → AlikeRule (rules.UndefinedArgAttribute s) (rules.UndefinedArgAttribute s')
 
   pub record AlikeBroken (r : Broken B) (r' : Broken B') : Type 0 where

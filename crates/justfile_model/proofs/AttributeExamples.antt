@@ -8,7 +8,7 @@ use Rattle.justfile_base.specs.Signal.{signal_named}
 use Rattle.justfile_model.specs.AttributeKinds.{same_attribute}
 use Rattle.justfile_model.specs.Sight.{Sight, sees_lexemes}
 use Rattle.justfile_model.specs.Tree as tree
-use Rattle.justfile_model.specs.Tree.{Argument, WrittenAttribute, Expr, Entry, Content, plain_recipe, plain_assignment}
+use Rattle.justfile_model.specs.Tree.{Argument, WrittenAttribute, Expr, Entry}
 
 abbrev unasked : Expansions
 unasked text = None

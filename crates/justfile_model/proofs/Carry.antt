@@ -5,14 +5,16 @@ use Rattle.justfile_base.specs.declared.token_kind.TokenKind.{TokenKind}
 use Rattle.justfile_model.specs.AttributeLines.{AttributeLines}
 use Rattle.justfile_model.specs.SignificantTokens.{SignificantToken}
 use Rattle.justfile_model.specs.Tree as tree
-use Rattle.justfile_model.specs.Tree.{Expr, Fragment, BodyLine, Line, Content, Construct, WrittenAttribute, WrittenItem, line_before, plain_assignment, plain_recipe, trimmed, over_expr, over_fragment, over_line, over_written_attribute, over_content, over_item}
-use Rattle.justfile_model.specs.Features.{Noted, over_noted}
+use Rattle.justfile_model.specs.Tree.{Expr, Fragment, BodyLine, Line, Content, Construct, WrittenAttribute, WrittenItem, line_before, Header, bare_recipe, plain_assignment, trimmed, over_expr, over_fragment, over_header, over_line, over_written_attribute, over_content, over_item}
+use Rattle.justfile_model.specs.Features.{ConstructFeatures, Noted, over_features, over_noted}
 use Rattle.justfile_model.specs.Expressions.{Tokens, front, IsKind, Expression}
 use Rattle.justfile_model.specs.Grammar as g
 use Rattle.justfile_model.specs.Grammar.{Kept, LineRest, BeforeBody, NotEmpty, BodyLines, OnLine, Block, Items, ItemRest, LineEnd, File}
+use Rattle.justfile_model.specs.Headers.{HeaderOf}
 use Rattle.justfile_model.proofs.CarryAttributes.{attribute_lines}
 use Rattle.justfile_model.proofs.CarryExpressions as expressions
-use Rattle.justfile_model.proofs.CarryExpressions.{Same, Pairs, nil, cons, first, same_kind_of, both_alike, Carried}
+use Rattle.justfile_model.proofs.CarryExpressions.{Same, Pairs, nil, cons, filled, first, same_kind_of, both_alike, Carried}
+use Rattle.justfile_model.proofs.CarryHeaders as headers
 
 -- what becomes of what is kept of tokens
 pub record Maps (A B C S D E F G : Type 0) : Type 0 where
@@ -33,16 +35,7 @@ pub record Alike {A B C S A' B' C' S' D E F G : Type 0} (kept : Kept A B C S) (m
   pub numbers : (t u : SignificantToken) → Rel t u → m'.number (kept'.number u.tok) ≡ m.number (kept.number t.tok)
   pub stars : (t u : SignificantToken) → Rel t u → m'.star (kept'.star u.tok) ≡ m.star (kept.star t.tok)
 
--- ---- lists that are mapped to the same one
-
-record Filled {X : Type 0} (xs : List X) : Type 0 where
-  one : X
-  more : List X
-  is : xs ≡ one ∷ more
-
-filled : {X X' Y : Type 0} (m : X → Y) (m' : X' → Y) (xs : List X') (x : X) (more : List X) → map m' xs ≡ map m (x ∷ more) → Filled xs
-filled m m' [] x more h = cc
-filled m m' (y ∷ ys) x more h = record { one = y; more = ys; is = refl }
+-- ---- lists that are mapped
 
 not_empty_mapped : {X Y : Type 0} (m : X → Y) (xs : List X) → NotEmpty xs → NotEmpty (map m xs)
 not_empty_mapped m [] n = n
@@ -66,13 +59,13 @@ module _ {A B C D E F : Type 0} (f : A → D) (h : B → E) (k : C → F) where
 
 -- ---- derivations
 
--- a tree with its derivation, which is the other one over some leaves, and so are its features
-pub record Whole {X X' Y B B' D : Type 0} (m : X → Y) (m' : X' → Y) (h : B → D) (h' : B' → D) (R : X' → List (Noted B') → Type 0) (e : X) (fs : List (Noted B)) : Type 0 where
+-- items with their derivation, which are the others over some leaves, and so are their features
+pub record Whole {X X' Y B B' D : Type 0} (m : X → Y) (m' : X' → Y) (h : B → D) (h' : B' → D) (R : X' → List (ConstructFeatures B') → Type 0) (e : X) (fs : List (ConstructFeatures B)) : Type 0 where
   pub tree : X'
-  pub features : List (Noted B')
+  pub features : List (ConstructFeatures B')
   pub derives : R tree features
   pub alike : m' tree ≡ m e
-  pub noted_alike : map (over_noted h') features ≡ map (over_noted h) fs
+  pub noted_alike : map (over_features h') features ≡ map (over_features h) fs
 
 -- what is left where nothing is kept
 record Passed (Rel : SignificantToken → SignificantToken → Type 0) (R : Tokens → Type 0) (rest : Tokens) : Type 0 where
@@ -95,12 +88,6 @@ module _ {A B C S A' B' C' S' D E F G : Type 0} (kept : Kept A B C S) (Open : �
       → map (over_noted m'.spot) (fs' ++ gs') ≡ map (over_noted m.spot) (fs ++ gs)
   both = both_alike (over_noted m.spot) (over_noted m'.spot)
 
-  -- and of three
-  three : (gs cs fs : List (Noted B)) (gs' cs' fs' : List (Noted B')) → map (over_noted m'.spot) gs' ≡ map (over_noted m.spot) gs
-      → map (over_noted m'.spot) cs' ≡ map (over_noted m.spot) cs → map (over_noted m'.spot) fs' ≡ map (over_noted m.spot) fs
-      → map (over_noted m'.spot) (gs' ++ cs' ++ fs') ≡ map (over_noted m.spot) (gs ++ cs ++ fs)
-  three gs cs fs gs' cs' fs' e k l = both (gs ++ cs) fs (gs' ++ cs') fs' (both gs cs gs' cs' e k) l
-
   abbrev FragmentsOf : (List (Fragment A' B') → List (Noted B') → Tokens → Type 0) → List (Fragment A B) → List (Noted B) → Tokens → Type 0
   FragmentsOf R fragments fs rest = Carried Rel (map (over_fragment m.leaf m.spot)) (map (over_fragment m'.leaf m'.spot)) m.spot m'.spot R fragments fs rest
 
@@ -110,7 +97,7 @@ module _ {A B C S A' B' C' S' D E F G : Type 0} (kept : Kept A B C S) (Open : �
   abbrev ContentOf : (Content A' B' C' S' → List (Noted B') → Tokens → Type 0) → Content A B C S → List (Noted B) → Tokens → Type 0
   ContentOf R c fs rest = Carried Rel (over_content m.leaf m.spot m.number m.star) (over_content m'.leaf m'.spot m'.number m'.star) m.spot m'.spot R c fs rest
 
-  abbrev ItemsOf : (List (WrittenItem A' B' C' S') → List (Noted B') → Type 0) → List (WrittenItem A B C S) → List (Noted B) → Type 0
+  abbrev ItemsOf : (List (WrittenItem A' B' C' S') → List (ConstructFeatures B') → Type 0) → List (WrittenItem A B C S) → List (ConstructFeatures B) → Type 0
   ItemsOf R items fs = Whole (over_items m) (over_items m') m.spot m'.spot R items fs
 
   expression : {e : Expr A B} {fs : List (Noted B)} {ts rest : Tokens} → Expression kept.leaf kept.spot Open false 0 e fs ts rest → (us : Tokens) → Pairs Rel ts us
@@ -123,6 +110,13 @@ module _ {A B C S A' B' C' S' D E F G : Type 0} (kept : Kept A B C S) (Open : �
       (λ x n r. AttributeLines kept'.leaf kept'.spot Open' x n us r) ws fs rest
   attributes a us s =
       attribute_lines kept.leaf kept.spot Open Rel weak kept'.leaf kept'.spot Open' m.leaf m.spot m'.leaf m'.spot kept_alike.leaves kept_alike.spots opens a us s
+
+  header : {x : Header A B S} {fs : List (Noted B)} {ts rest : Tokens} → HeaderOf kept.leaf kept.spot kept.star Open x fs ts rest → (us : Tokens) → Pairs Rel ts us
+      → Carried Rel (over_header m.leaf m.spot m.star) (over_header m'.leaf m'.spot m'.star) m.spot m'.spot
+      (λ x n r. HeaderOf kept'.leaf kept'.spot kept'.star Open' x n us r) x fs rest
+  header x us s =
+      headers.header kept.leaf kept.spot kept.star Open Rel weak kept'.leaf kept'.spot kept'.star Open' m.leaf m.spot m.star m'.leaf m'.spot m'.star
+      kept_alike.leaves kept_alike.spots kept_alike.stars opens x us s
 
   pub line_rest : {fragments : List (Fragment A B)} {fs : List (Noted B)} {ts rest : Tokens} → LineRest kept.leaf kept.spot Open fragments fs ts rest → (us : Tokens) → Pairs Rel ts us → FragmentsOf (λ x n r. LineRest kept'.leaf kept'.spot Open' x n us r) fragments fs rest
   line_rest (g.line_ends kind) us (cons s ss) = record { tree = []; features = []; after = _; derives = g.line_ends (kind_of s kind); alike = refl; noted_alike = refl; same = ss }
@@ -210,33 +204,35 @@ module _ {A B C S A' B' C' S' D E F G : Type 0} (kept : Kept A B C S) (Open : �
         noted_alike = x.noted_alike;
         same = x.same;
       }
-  on_line (g.header {name = t} kind kind2) us (cons {u = u} s (cons s2 ss)) =
+  on_line (g.header e) us s =
+      let x = header e us s in
       record {
-        tree = tree.Recipe (plain_recipe (kept'.leaf u.tok) []);
-        features = [];
-        after = _;
-        derives = g.header (kind_of s kind) (kind_of s2 kind2);
-        alike = λ i. tree.Recipe (plain_recipe (kept_alike.leaves t u s i) []);
-        noted_alike = refl;
-        same = ss;
+        tree = tree.Recipe (bare_recipe x.tree []);
+        features = x.features;
+        after = x.after;
+        derives = g.header x.derives;
+        alike = λ i. tree.Recipe (bare_recipe (x.alike i) []);
+        noted_alike = x.noted_alike;
+        same = x.same;
       }
 
   pub block : {c : Content A B C S} {fs : List (Noted B)} {ts rest : Tokens} → Block kept Open c fs ts rest → (us : Tokens) → Pairs Rel ts us → ContentOf (λ x n r. Block kept' Open' x n us r) c fs rest
-  block (g.recipe {lines = lines} {name = t} kind kind2 b ls some) us (cons {u = u} s (cons s2 ss)) =
-      let x = before_body b _ ss in
+  block (g.recipe {lines = lines} {fs = fs} {gs = gs} e b ls some) us s =
+      let w = header e us s in
+      let x = before_body b w.after w.same in
       let y = body_lines ls x.after x.same in
       record {
-        tree = tree.Recipe (plain_recipe (kept'.leaf u.tok) (trimmed y.tree));
-        features = y.features;
+        tree = tree.Recipe (bare_recipe w.tree (trimmed y.tree));
+        features = w.features ++ y.features;
         after = y.after;
-        derives = g.recipe (kind_of s kind) (kind_of s2 kind2) x.derives y.derives (some_left lines y.tree y.alike some);
-        alike = λ i. tree.Recipe (plain_recipe (kept_alike.leaves t u s i) (trimmed_alike lines y.tree y.alike i));
-        noted_alike = y.noted_alike;
+        derives = g.recipe w.derives x.derives y.derives (some_left lines y.tree y.alike some);
+        alike = λ i. tree.Recipe (bare_recipe (w.alike i) (trimmed_alike lines y.tree y.alike i));
+        noted_alike = both fs gs w.features y.features w.noted_alike y.noted_alike;
         same = y.same;
       }
 
   mutual
-    pub items : {all : List (WrittenItem A B C S)} {fs : List (Noted B)} {ts : Tokens} → Items kept Open all fs ts → (us : Tokens) → Pairs Rel ts us → ItemsOf (λ x n. Items kept' Open' x n us) all fs
+    pub items : {all : List (WrittenItem A B C S)} {fs : List (ConstructFeatures B)} {ts : Tokens} → Items kept Open all fs ts → (us : Tokens) → Pairs Rel ts us → ItemsOf (λ x n. Items kept' Open' x n us) all fs
     items (g.end kind) us (cons s nil) = record { tree = []; features = []; derives = g.end (kind_of s kind); alike = refl; noted_alike = refl }
     items (g.blank kind more) us (cons s ss) =
         let x = items more _ ss in
@@ -244,30 +240,30 @@ module _ {A B C S A' B' C' S' D E F G : Type 0} (kept : Kept A B C S) (Open : �
     items (g.comment {token = t} kind b) us (cons {u = u} s ss) =
         let x = following b _ ss in
         record { tree = tree.Comment (trim_end u.tok.lexeme) ∷ x.tree; features = x.features; derives = g.comment (kind_of s kind) x.derives; alike = λ i. tree.Comment (comment_of t u s i) ∷ x.alike i; noted_alike = x.noted_alike }
-    items (g.on_line {gs = gs} {cs = cs} {fs = fs} a o b) us s =
+    items (g.on_line a o b) us s =
         let w = attributes a us s in
         let x = on_line o w.after w.same in
         let y = following b x.after x.same in
         record {
           tree = Construct w.tree x.tree ∷ y.tree;
-          features = w.features ++ x.features ++ y.features;
+          features = record { attributes = w.features; content = x.features } ∷ y.features;
           derives = g.on_line w.derives x.derives y.derives;
           alike = λ i. Construct (w.alike i) (x.alike i) ∷ y.alike i;
-          noted_alike = three gs cs fs w.features x.features y.features w.noted_alike x.noted_alike y.noted_alike;
+          noted_alike = λ i. record { attributes = w.noted_alike i; content = x.noted_alike i } ∷ y.noted_alike i;
         }
-    items (g.block {gs = gs} {cs = cs} {fs = fs} a b more) us s =
+    items (g.block a b more) us s =
         let w = attributes a us s in
         let x = block b w.after w.same in
         let y = items more x.after x.same in
         record {
           tree = Construct w.tree x.tree ∷ tree.Newline ∷ y.tree;
-          features = w.features ++ x.features ++ y.features;
+          features = record { attributes = w.features; content = x.features } ∷ y.features;
           derives = g.block w.derives x.derives y.derives;
           alike = λ i. Construct (w.alike i) (x.alike i) ∷ tree.Newline ∷ y.alike i;
-          noted_alike = three gs cs fs w.features x.features y.features w.noted_alike x.noted_alike y.noted_alike;
+          noted_alike = λ i. record { attributes = w.noted_alike i; content = x.noted_alike i } ∷ y.noted_alike i;
         }
 
-    pub following : {all : List (WrittenItem A B C S)} {fs : List (Noted B)} {ts : Tokens} → ItemRest kept Open all fs ts → (us : Tokens) → Pairs Rel ts us → ItemsOf (λ x n. ItemRest kept' Open' x n us) all fs
+    pub following : {all : List (WrittenItem A B C S)} {fs : List (ConstructFeatures B)} {ts : Tokens} → ItemRest kept Open all fs ts → (us : Tokens) → Pairs Rel ts us → ItemsOf (λ x n. ItemRest kept' Open' x n us) all fs
     following (g.trailing {token = t} kind e) us (cons {u = u} s ss) =
         let x = line_end e _ ss in
         record { tree = tree.Comment (trim_end u.tok.lexeme) ∷ x.tree; features = x.features; derives = g.trailing (kind_of s kind) x.derives; alike = λ i. tree.Comment (comment_of t u s i) ∷ x.alike i; noted_alike = x.noted_alike }
@@ -275,13 +271,13 @@ module _ {A B C S A' B' C' S' D E F G : Type 0} (kept : Kept A B C S) (Open : �
         let x = line_end e us s in
         record { tree = x.tree; features = x.features; derives = g.bare x.derives; alike = x.alike; noted_alike = x.noted_alike }
 
-    pub line_end : {all : List (WrittenItem A B C S)} {fs : List (Noted B)} {ts : Tokens} → LineEnd kept Open all fs ts → (us : Tokens) → Pairs Rel ts us → ItemsOf (λ x n. LineEnd kept' Open' x n us) all fs
+    pub line_end : {all : List (WrittenItem A B C S)} {fs : List (ConstructFeatures B)} {ts : Tokens} → LineEnd kept Open all fs ts → (us : Tokens) → Pairs Rel ts us → ItemsOf (λ x n. LineEnd kept' Open' x n us) all fs
     line_end (g.line_end kind more) us (cons s ss) =
         let x = items more _ ss in
         record { tree = tree.Newline ∷ x.tree; features = x.features; derives = g.line_end (kind_of s kind) x.derives; alike = λ i. tree.Newline ∷ x.alike i; noted_alike = x.noted_alike }
     line_end (g.file_end kind) us (cons s nil) = record { tree = []; features = []; derives = g.file_end (kind_of s kind); alike = refl; noted_alike = refl }
 
-  pub file : {all : List (WrittenItem A B C S)} {fs : List (Noted B)} {ts : Tokens} → File kept Open all fs ts → (us : Tokens) → Pairs Rel ts us → ItemsOf (λ x n. File kept' Open' x n us) all fs
+  pub file : {all : List (WrittenItem A B C S)} {fs : List (ConstructFeatures B)} {ts : Tokens} → File kept Open all fs ts → (us : Tokens) → Pairs Rel ts us → ItemsOf (λ x n. File kept' Open' x n us) all fs
   file (g.marked kind more) us (cons s ss) =
       let x = items more _ ss in
       record { tree = x.tree; features = x.features; derives = g.marked (kind_of s kind) x.derives; alike = x.alike; noted_alike = x.noted_alike }

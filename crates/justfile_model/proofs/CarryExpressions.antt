@@ -78,6 +78,16 @@ pub both_alike : {X X' Y : Type 0} (m : X → Y) (m' : X' → Y) (xs ys : List X
     → map m' (xs' ++ ys') ≡ map m (xs ++ ys)
 both_alike m m' xs ys xs' ys' e k = map-append m' xs' ys' ∙ (λ i. e i ++ k i) ∙ sym (map-append m xs ys)
 
+-- a list that is mapped as one that is not empty
+pub record Filled {X : Type 0} (xs : List X) : Type 0 where
+  pub one : X
+  pub more : List X
+  pub is : xs ≡ one ∷ more
+
+pub filled : {X X' Y : Type 0} (m : X → Y) (m' : X' → Y) (xs : List X') (x : X) (more : List X) → map m' xs ≡ map m (x ∷ more) → Filled xs
+filled m m' [] x more h = cc
+filled m m' (y ∷ ys) x more h = record { one = y; more = ys; is = refl }
+
 -- ---- derivations
 
 -- a tree with its derivation up to some rest, which is the other one over some leaves, and so are its features
@@ -90,6 +100,13 @@ pub record Carried {X X' Y B B' D : Type 0} (Rel : SignificantToken → Signific
   pub alike : m' tree ≡ m e
   pub noted_alike : map (over_noted h') features ≡ map (over_noted h) fs
   pub same : Pairs Rel rest after
+
+-- the same tree, of another derivation
+pub rederived : {X X' Y B B' D : Type 0} {Rel : SignificantToken → SignificantToken → Type 0} {m : X → Y} {m' : X' → Y} {h : B → D} {h' : B' → D}
+    {R R' : X' → List (Noted B') → Tokens → Type 0} {e : X} {fs : List (Noted B)} {rest : Tokens} (x : Carried Rel m m' h h' R e fs rest)
+    → R' x.tree x.features x.after → Carried Rel m m' h h' R' e fs rest
+rederived x derives =
+    record { tree = x.tree; features = x.features; after = x.after; derives = derives; alike = x.alike; noted_alike = x.noted_alike; same = x.same }
 
 -- what is derived before a token is derived before a like token
 pub record Until {X X' Y B B' D : Type 0} (Rel : SignificantToken → SignificantToken → Type 0) (m : X → Y) (m' : X' → Y) (h : B → D) (h' : B' → D)

@@ -1,39 +1,45 @@
 -- What derives where the limit is waived at some tokens is read, or refused: a literal that has no text, or as too deep at one of these
 -- tokens.
-use Rattle.std.proofs.Common.{◌≡◌, ℕ, false, List, [], ◌∷◌, ◌++◌, Option, Ok, Err, refl, sym, subst, ap, ◌∙◌, append_assoc, append-nil, arith}
-use Rattle.justfile_base.specs.declared.token_kind.TokenKind.{TokenKind}
+use Rattle.std.proofs.Common.{◌≡◌, ℕ, ◌+◌, Bool, true, false, List, [], ◌∷◌, ◌++◌, Option, Ok, Err, refl, sym, subst, ap, ◌∙◌, append_assoc, append-nil, arith}
 use Rattle.justfile_base.specs.declared.token_kind.TokenKind.TheVariants as kinds
 use Rattle.justfile_model.specs.AttributeLines as lines_of
 use Rattle.justfile_model.specs.AttributeLines.{AttributeLines}
-use Rattle.justfile_model.specs.AttributeRules.{attributes_broken, meaning_broken, of_some}
+use Rattle.justfile_model.specs.AttributeRules.{arg_rules, attributes_broken, of_some}
 use Rattle.justfile_model.specs.Conditions.{Conditions}
+use Rattle.justfile_model.specs.ConstructRules.{form_broken, meaning_broken}
 use Rattle.justfile_model.specs.Meaning.{entries_of}
 use Rattle.justfile_model.specs.ReadAttribute.{ReadAttribute, token_sight}
+use Rattle.justfile_model.specs.RecipeRules.{exclusions_broken, header_broken, options_broken, parameters_broken, recipe_broken, undefined_broken}
 use Rattle.justfile_model.specs.Rules.{Broken}
 use Rattle.justfile_model.specs.Tok.{Tok}
 use Rattle.justfile_model.specs.SignificantTokens.{SignificantToken}
 use Rattle.justfile_model.specs.Tree as tree
-use Rattle.justfile_model.specs.Tree.{BodyLine, Construct, Content, Fragment, WrittenAttribute, WrittenItem, WrittenTree, itself, plain_assignment, plain_recipe, trimmed}
-use Rattle.justfile_model.specs.Features.{Noted}
+use Rattle.justfile_model.specs.Tree.{BodyLine, Construct, Content, Entry, Fragment, Header, Parameter, WrittenAttribute, WrittenItem, WrittenTree, bare_recipe, itself, plain_assignment, trimmed}
+use Rattle.justfile_model.specs.Features.{ConstructFeatures, Noted}
 use Rattle.justfile_model.specs.Expressions.{Tokens, IsKind, NotNext, Waived}
 use Rattle.justfile_model.specs.Grammar as g
 use Rattle.justfile_model.specs.Grammar.{LineRest, BeforeBody, BodyLines, OnLine, Block, Items, ItemRest, LineEnd, File, NotEmpty}
+use Rattle.justfile_model.specs.HeaderReader.{ReadHeader, draw_binding}
+use Rattle.justfile_model.specs.Headers as headers
+use Rattle.justfile_model.specs.Headers.{HeaderOf, NamedHeader}
 use Rattle.justfile_model.specs.Literals.{Literal}
-use Rattle.justfile_model.specs.Files.{all_literals, body_literals, broken, content_literals, fragments_literals, item_broken, item_literals, keeps_tokens, written_literals}
+use Rattle.justfile_model.specs.Files.{all_features, all_literals, body_literals, broken, construct_features, content_literals, entries_features, fragments_literals, item_broken, item_literals, keeps_tokens, written_literals}
 use Rattle.justfile_model.specs.Reading.{Counters, ◌>>=◌, prepend}
 use Rattle.justfile_model.specs.Reader as reader
-use Rattle.justfile_model.specs.Reader.{after_numbered, assignment, at_end, attributes, before_item, construct, content, entries_read, item_rest, body, optional_body, body_line, comment_item, draw_binding, draw_recipe, ended, fragment, has_body, items, items_rule, line, line_end, line_rest, line_rest_rule, lines, lines_rule, obeying, on_line, recipe, some_lines, stands_alone}
+use Rattle.justfile_model.specs.Reader.{after_numbered, any_recipe, assignment, at_end, attributes, before_item, construct, content, entries_read, headed, item_rest, body, optional_body, body_line, comment_item, draw_recipe, ended, fragment, has_body, items, items_rule, line, line_end, line_rest, line_rest_rule, lines, lines_rule, no_exclusion, on_line, recipe, some_lines, stands_alone, with_recipes}
 use Rattle.justfile_model.specs.TreeReader.{Read, State, tree_of_tokens, token_attributes, token_leaves, unnumbered}
 use Rattle.justfile_model.proofs.AttributeComplete.{attributes_reached}
 use Rattle.justfile_model.proofs.AttributeCovers as covers
 use Rattle.justfile_model.proofs.AttributeCovers.{AreReadings, readings_mean, readings_written}
 use Rattle.justfile_model.proofs.AttributeSound.{written_in}
 use Rattle.justfile_model.proofs.CookedTexts.{trimmed_literals}
-use Rattle.justfile_model.proofs.Counters.{count, count_content, counted}
+use Rattle.justfile_model.proofs.Counters.{after_parameters, count, count_content, counted, parameters_recipes}
 use Rattle.justfile_model.proofs.ExpressionDeep.{expression_deep}
+use Rattle.justfile_model.proofs.HeaderComplete.{CoversHeader, IsHeader, header_reached, obeying_reached}
+use Rattle.justfile_model.proofs.HeaderCovers.{not_there, parameters_start}
 use Rattle.justfile_model.proofs.Reaching.{Reaches, is_read, by, renoted, then, pass}
 use Rattle.justfile_model.proofs.ReachingRules as r
-use Rattle.justfile_model.proofs.ReachingRules.{IsAt, ReachesOne, ReachesSome}
+use Rattle.justfile_model.proofs.ReachingRules.{Among, IsAt, ReachesOne, ReachesSome, all_among, among_first, among_others}
 use Rattle.justfile_model.proofs.Reading.{items_is, line_rest_is, lines_is}
 use Rattle.justfile_model.proofs.Steps.{input, AreNext, accept_taken, accept_left, next_taken, next_left, expect_taken}
 
@@ -50,16 +56,23 @@ record Begins (ts : Tokens) : Type 0 where
 begins_name : {name : SignificantToken} {ts : Tokens} → IsKind kinds.Identifier name → Begins (name ∷ ts)
 begins_name kind = record { no_file_end = λ e. cc; no_line_end = λ e. cc; no_comment = λ e. cc; no_mark = λ e. cc; no_indent = λ e. cc }
 
+begins_at : {mark : SignificantToken} {ts : Tokens} → IsKind kinds.At mark → Begins (mark ∷ ts)
+begins_at kind = record { no_file_end = λ e. cc; no_line_end = λ e. cc; no_comment = λ e. cc; no_mark = λ e. cc; no_indent = λ e. cc }
+
 begins_bracket : {opener : SignificantToken} {ts : Tokens} → IsKind kinds.BracketL opener → Begins (opener ∷ ts)
 begins_bracket kind = record { no_file_end = λ e. cc; no_line_end = λ e. cc; no_comment = λ e. cc; no_mark = λ e. cc; no_indent = λ e. cc }
 
 module _ {Open : ℕ → Option SignificantToken → Type 0} where
+  header_begins : {h : Header Tok Tok Tok} {fs : List (Noted Tok)} {ts rest : Tokens} → HeaderOf itself itself itself Open h fs ts rest → Begins ts
+  header_begins (headers.quiet kind h) = begins_at kind
+  header_begins (headers.loud (headers.header kind ps ds)) = begins_name kind
+
   line_begins : {c : Content Tok Tok ℕ Tok} {fs : List (Noted Tok)} {ts rest : Tokens} → OnLine keeps_tokens Open c fs ts rest → Begins ts
   line_begins (g.assignment kind kind2 e) = begins_name kind
-  line_begins (g.header kind kind2) = begins_name kind
+  line_begins (g.header h) = header_begins h
 
   block_begins : {c : Content Tok Tok ℕ Tok} {fs : List (Noted Tok)} {ts rest : Tokens} → Block keeps_tokens Open c fs ts rest → Begins ts
-  block_begins (g.recipe kind kind2 b lines some) = begins_name kind
+  block_begins (g.recipe h b lines some) = header_begins h
 
   -- with the attributes before it
   attributes_begin : {ws : List (WrittenAttribute Tok Tok)} {fs : List (Noted Tok)} {ts header : Tokens} → AttributeLines itself itself Open ws fs ts header
@@ -67,39 +80,41 @@ module _ {Open : ℕ → Option SignificantToken → Type 0} where
   attributes_begin (lines_of.none not) b = b
   attributes_begin (lines_of.line kind w e others) b = begins_bracket kind
 
-module _ (Open : ℕ → Option SignificantToken → Type 0) where
+module _ (conditions : Conditions) (Open : ℕ → Option SignificantToken → Type 0) where
   -- an item without a body
   data Stands : WrittenItem Tok Tok ℕ Tok → List (Noted Tok) → Tokens → Tokens → Type 0 where
     of_comment : {t : SignificantToken} {rest : Tokens} → IsKind kinds.Comment t → Stands (comment_item token_leaves token_attributes t) [] (t ∷ rest) rest
     of_line : {ws : List (WrittenAttribute Tok Tok)} {c : Content Tok Tok ℕ Tok} {gs fs : List (Noted Tok)} {ts header rest : Tokens}
-        → AttributeLines itself itself Open ws gs ts header → OnLine keeps_tokens Open c fs header rest → Stands (Construct ws c) (gs ++ fs) ts rest
+        → AttributeLines itself itself Open ws gs ts header → OnLine keeps_tokens Open c fs header rest
+        → Stands (Construct ws c) (construct_features (token_sight conditions) ws c (record { attributes = gs; content = fs })) ts rest
 
-module _ {Open : ℕ → Option SignificantToken → Type 0} where
-  no_end_of_file : {i : WrittenItem Tok Tok ℕ Tok} {fs : List (Noted Tok)} {ts rest : Tokens} → Stands Open i fs ts rest → NotNext kinds.Eof ts
+module _ {conditions : Conditions} {Open : ℕ → Option SignificantToken → Type 0} where
+  no_end_of_file : {i : WrittenItem Tok Tok ℕ Tok} {fs : List (Noted Tok)} {ts rest : Tokens} → Stands conditions Open i fs ts rest → NotNext kinds.Eof ts
   no_end_of_file (of_comment kind) = λ e. cc
   no_end_of_file (of_line a o) = (attributes_begin a (line_begins o)).no_file_end
 
-  no_end_of_line : {i : WrittenItem Tok Tok ℕ Tok} {fs : List (Noted Tok)} {ts rest : Tokens} → Stands Open i fs ts rest → NotNext kinds.Eol ts
+  no_end_of_line : {i : WrittenItem Tok Tok ℕ Tok} {fs : List (Noted Tok)} {ts rest : Tokens} → Stands conditions Open i fs ts rest → NotNext kinds.Eol ts
   no_end_of_line (of_comment kind) = λ e. cc
   no_end_of_line (of_line a o) = (attributes_begin a (line_begins o)).no_line_end
 
-  has_none : {i : WrittenItem Tok Tok ℕ Tok} {fs : List (Noted Tok)} {ts rest : Tokens} → Stands Open i fs ts rest → has_body i ≡ false
+  has_none : {i : WrittenItem Tok Tok ℕ Tok} {fs : List (Noted Tok)} {ts rest : Tokens} → Stands conditions Open i fs ts rest → has_body i ≡ false
   has_none (of_comment kind) = refl
   has_none (of_line a (g.assignment kind kind2 e)) = refl
-  has_none (of_line a (g.header kind kind2)) = refl
+  has_none (of_line a (g.header h)) = refl
 
-  no_comment : {items : WrittenTree} {fs : List (Noted Tok)} {ts : Tokens} → LineEnd keeps_tokens Open items fs ts → NotNext kinds.Comment ts
+module _ {Open : ℕ → Option SignificantToken → Type 0} where
+  no_comment : {items : WrittenTree} {fs : List (ConstructFeatures Tok)} {ts : Tokens} → LineEnd keeps_tokens Open items fs ts → NotNext kinds.Comment ts
   no_comment (g.line_end kind more) = λ e. cc
   no_comment (g.file_end kind) = λ e. cc
 
-  no_mark : {items : WrittenTree} {fs : List (Noted Tok)} {ts : Tokens} → Items keeps_tokens Open items fs ts → NotNext kinds.ByteOrderMark ts
+  no_mark : {items : WrittenTree} {fs : List (ConstructFeatures Tok)} {ts : Tokens} → Items keeps_tokens Open items fs ts → NotNext kinds.ByteOrderMark ts
   no_mark (g.end kind) = λ e. cc
   no_mark (g.blank kind more) = λ e. cc
   no_mark (g.comment kind more) = λ e. cc
   no_mark (g.on_line a o more) = (attributes_begin a (line_begins o)).no_mark
   no_mark (g.block a b more) = (attributes_begin a (block_begins b)).no_mark
 
-  no_indent : {items : WrittenTree} {fs : List (Noted Tok)} {ts : Tokens} → Items keeps_tokens Open items fs ts → NotNext kinds.Indent ts
+  no_indent : {items : WrittenTree} {fs : List (ConstructFeatures Tok)} {ts : Tokens} → Items keeps_tokens Open items fs ts → NotNext kinds.Indent ts
   no_indent (g.end kind) = λ e. cc
   no_indent (g.blank kind more) = λ e. cc
   no_indent (g.comment kind more) = λ e. cc
@@ -115,16 +130,12 @@ record NoBody (ts : Tokens) : Type 0 where
   at_once : AreNext (kinds.Eol ∷ kinds.Indent ∷ []) ts → ⊥
   commented : AreNext (kinds.Comment ∷ kinds.Eol ∷ kinds.Indent ∷ []) ts → ⊥
 
-not_there : (kind : TokenKind) (ts : Tokens) → NotNext kind ts → AreNext (kind ∷ []) ts → ⊥
-not_there kind [] not h = h
-not_there kind (t ∷ ts) not h = not h.0
-
 module _ {Open : ℕ → Option SignificantToken → Type 0} where
-  no_body_ends : {items : WrittenTree} {fs : List (Noted Tok)} {ts : Tokens} → LineEnd keeps_tokens Open items fs ts → NoBody ts
+  no_body_ends : {items : WrittenTree} {fs : List (ConstructFeatures Tok)} {ts : Tokens} → LineEnd keeps_tokens Open items fs ts → NoBody ts
   no_body_ends (g.line_end {rest = rest} kind more) = record { at_once = λ h. not_there kinds.Indent rest (no_indent more) h.1; commented = λ h. cc }
   no_body_ends (g.file_end kind) = record { at_once = λ h. cc; commented = λ h. cc }
 
-  no_body_after : {items : WrittenTree} {fs : List (Noted Tok)} {ts : Tokens} → ItemRest keeps_tokens Open items fs ts → NoBody ts
+  no_body_after : {items : WrittenTree} {fs : List (ConstructFeatures Tok)} {ts : Tokens} → ItemRest keeps_tokens Open items fs ts → NoBody ts
   no_body_after (g.trailing {rest = rest} kind e) = record { at_once = λ h. cc; commented = λ h. (no_body_ends e).at_once h.1 }
   no_body_after (g.bare e) = no_body_ends e
 
@@ -196,12 +207,20 @@ module _ (conditions : Conditions) (Hit : Option SignificantToken → Type 0) wh
 
   -- ---- items, where what follows begins no body
 
-  abbrev recipe_content : Tok → List (BodyLine Tok Tok ℕ) → Content Tok Tok ℕ Tok
-  recipe_content name ls = tree.Recipe (plain_recipe name ls)
+  abbrev recipe_content : Header Tok Tok Tok → List (BodyLine Tok Tok ℕ) → Content Tok Tok ℕ Tok
+  recipe_content h ls = tree.Recipe (bare_recipe h ls)
 
-  -- what a construct breaks by what its attributes mean
+  -- what the attributes mean that were read
+  abbrev meant_by : List ReadAttribute → List (Entry Tok Tok)
+  meant_by xs = entries_read token_leaves token_attributes conditions xs
+
+  -- what a construct breaks beside its attributes
   abbrev breaks_by : List ReadAttribute → Content Tok Tok ℕ Tok → List (Broken Tok)
-  breaks_by xs c = meaning_broken (token_sight conditions) c (entries_read token_leaves token_attributes conditions xs)
+  breaks_by xs c = meaning_broken (token_sight conditions) c (meant_by xs) ++ form_broken c
+
+  -- what its attributes note at the name of a recipe
+  abbrev noted_by : List ReadAttribute → Content Tok Tok ℕ Tok → List (Noted Tok)
+  noted_by xs c = entries_features c (meant_by xs)
 
   -- the construct is read after these attributes, or a refusal that is due is given
   abbrev ContentReached : List ReadAttribute → Content Tok Tok ℕ Tok → State → State → Type 0
@@ -209,35 +228,94 @@ module _ (conditions : Conditions) (Hit : Option SignificantToken → Type 0) wh
       (n : Counters) → ReachesOne conditions Hit (content token_leaves token_attributes xs n s) ((Construct (written_in xs) c, count_content n c), rest)
       (content_literals c) (breaks_by xs c)
 
-  -- rules that are broken
-  obeying_reached : (rules : List (Broken Tok)) (s : State) → ReachesOne conditions Hit (obeying rules s) (tt, s) [] rules
-  obeying_reached [] s = r.read_now conditions Hit (tt, s) refl refl
-  obeying_reached (b ∷ bs) s = r.breaks_one conditions Hit b (0, omega arith, refl) refl
+  -- what a header breaks is among what its recipe breaks
+  header_covered : (xs : List ReadAttribute) (h : Header Tok Tok Tok) (ls : List (BodyLine Tok Tok ℕ))
+      → CoversHeader conditions Hit (arg_rules (meant_by xs)) h (breaks_by xs (recipe_content h ls))
+  header_covered xs h ls =
+      let said = arg_rules (meant_by xs) in
+      let options : List (Broken Tok) = options_broken (token_sight conditions) h.name said in
+      let each : List (Broken Tok) = parameters_broken (token_sight conditions) said [] h.parameters in
+      let undefined : List (Broken Tok) = undefined_broken (token_sight conditions) h.parameters said in
+      let exclusions : List (Broken Tok) = exclusions_broken (token_sight conditions) h.name (meant_by xs) in
+      let all = all_among (breaks_by xs (recipe_content h ls)) in
+      let meaning = among_first (options ++ each ++ undefined ++ exclusions) (header_broken h) all in
+      let said_first = among_first (options ++ each ++ undefined) exclusions meaning in
+      let both = among_first (options ++ each) undefined said_first in
+      record {
+        options = among_first options each both;
+        each = among_others options each both;
+        undefined = among_others (options ++ each) undefined said_first;
+        starred = among_others (options ++ each ++ undefined ++ exclusions) (header_broken h) all;
+      }
 
-  headed : (xs : List ReadAttribute) (n : Counters) (name colon : SignificantToken) (ts : Tokens) (ns : List (Noted Tok)) → IsKind kinds.Identifier name
-      → IsKind kinds.Colon colon
-      → content token_leaves token_attributes xs n (input conditions 0 (name ∷ colon ∷ ts) ns)
-      ≡ recipe token_leaves token_attributes xs n (input conditions 0 (name ∷ colon ∷ ts) ns)
-  unfolding content
-  headed xs n name colon ts ns kind kind2 =
-      rw (next_left (kinds.Identifier ∷ kinds.ColonEquals ∷ []) (input conditions 0 (name ∷ colon ∷ ts) ns) (λ h. cc)) refl
+  exclusions_covered : (xs : List ReadAttribute) (h : Header Tok Tok Tok) (ls : List (BodyLine Tok Tok ℕ))
+      → Among (exclusions_broken (token_sight conditions) h.name (meant_by xs)) (breaks_by xs (recipe_content h ls))
+  exclusions_covered xs h ls =
+      let said = arg_rules (meant_by xs) in
+      let others : List (Broken Tok) = options_broken (token_sight conditions) h.name said ++ parameters_broken (token_sight conditions) said [] h.parameters
+          ++ undefined_broken (token_sight conditions) h.parameters said in
+      among_others others (exclusions_broken (token_sight conditions) h.name (meant_by xs))
+      (among_first (recipe_broken (token_sight conditions) h (meant_by xs)) (header_broken h) (all_among (breaks_by xs (recipe_content h ls))))
 
-  recipe_reached : (xs : List ReadAttribute) (name colon : SignificantToken) (ts : Tokens) (ns : List (Noted Tok)) (rest : State)
-      (ls : List (BodyLine Tok Tok ℕ)) → IsKind kinds.Identifier name → IsKind kinds.Colon colon
-      → BodyReached (optional_body token_leaves) ls (input conditions 0 ts ns) rest
-      → ContentReached xs (recipe_content name.tok ls) (input conditions 0 (name ∷ colon ∷ ts) ns) rest
-  unfolding recipe draw_recipe
-  recipe_reached xs name colon ts ns rest ls kind kind2 h n =
-      let c : Content Tok Tok ℕ Tok = recipe_content name.tok ls in
-      let y : (WrittenItem Tok Tok ℕ Tok × Counters) × State = ((Construct (written_in xs) c, count_content n c), rest) in
-      r.by conditions Hit (headed xs n name colon ts ns kind kind2)
-      (rw (expect_taken kinds.Identifier name (colon ∷ ts) conditions 0 ns kind, expect_taken kinds.Colon colon ts conditions 0 ns kind2)
-      (r.then_one conditions Hit _ (λ z. z ≡ y) (obeying_reached (breaks_by xs c) (input conditions 0 ts ns))
-      (r.pass conditions Hit _ (r.plainly conditions Hit h) refl)))
+  -- a recipe after its attributes and its `@`
+  abbrev RecipeReached : Bool → List ReadAttribute → Content Tok Tok ℕ Tok → State → State → Type 0
+  RecipeReached quiet xs c s rest =
+      (n : Counters) → ReachesOne conditions Hit (recipe token_leaves token_attributes quiet xs n s) ((Construct (written_in xs) c, count_content n c), rest)
+      (content_literals c) (breaks_by xs c)
+
+  counted_is : (n m : Counters) (ps : List (Parameter Tok Tok)) → m ≡ after_parameters n ps
+      → with_recipes (m.recipes + 1) m ≡ with_recipes (n.recipes + 1) (after_parameters n ps)
+  counted_is n m ps is =
+      ap (λ (m : Counters). with_recipes (m.recipes + 1) m) is ∙ ap (λ (k : ℕ). with_recipes (k + 1) (after_parameters n ps)) (parameters_recipes n ps)
+
+  -- a recipe that was read gets its number
+  numbered_reached : (quiet : Bool) (xs : List ReadAttribute) (n : Counters) (h : Header Tok Tok Tok) (ls : List (BodyLine Tok Tok ℕ)) (rest : Tokens)
+      (noted : List (Noted Tok)) (x : ReadHeader SignificantToken Tok Tok Tok × Counters) → IsHeader conditions Hit (arg_rules (meant_by xs)) quiet h n x
+      → ReachesOne conditions Hit
+      (no_exclusion token_leaves token_attributes xs x.0.name (input conditions 0 rest noted) >>= λ checked. draw_recipe token_leaves x.1 checked.1
+      >>= headed token_leaves token_attributes quiet xs x.0 ls)
+      ((Construct (written_in xs) (recipe_content h ls), count_content n (recipe_content h ls)), input conditions 0 rest noted) []
+      (breaks_by xs (recipe_content h ls))
+  unfolding draw_recipe
+  numbered_reached quiet xs n h ls rest noted x is =
+      let end : State = input conditions 0 rest noted in
+      let rules : List (Broken Tok) = breaks_by xs (recipe_content h ls) in
+      r.then_one conditions Hit _ _
+      (obeying_reached conditions Hit (exclusions_broken (token_sight conditions) x.0.name.tok (meant_by xs)) end
+      (subst (λ (name : Tok). Among (exclusions_broken (token_sight conditions) name (meant_by xs)) rules) (sym (ap (λ (h : Header Tok Tok Tok). h.name) is.0))
+      (exclusions_covered xs h ls)))
+      (r.read_now conditions Hit _ (λ i. ((Construct (written_in xs) (recipe_content (is.0 i) ls), counted_is n x.1 h.parameters is.1 i), end)) refl)
+
+  recipe_reached : (quiet : Bool) (xs : List ReadAttribute) (ns : List (Noted Tok)) {h : Header Tok Tok Tok} {fs : List (Noted Tok)} {ts next : Tokens}
+      (rest : Tokens) (noted : List (Noted Tok)) (ls : List (BodyLine Tok Tok ℕ)) → NamedHeader itself itself itself (Waived conditions.limit Hit) quiet h fs ts next
+      → BodyReached (optional_body token_leaves) ls (input conditions 0 next (ns ++ (noted_by xs (recipe_content h ls) ++ fs))) (input conditions 0 rest noted)
+      → RecipeReached quiet xs (recipe_content h ls) (input conditions 0 ts ns) (input conditions 0 rest noted)
+  unfolding recipe
+  recipe_reached quiet xs ns {h = h} {fs = fs} rest noted ls q b n =
+      let said = arg_rules (meant_by xs) in
+      r.then_at conditions Hit _ _ (header_reached conditions Hit said quiet n ns q (header_covered xs h ls)) (λ x is.
+      r.last_one conditions Hit _ _ (r.plainly conditions Hit b) (λ _. numbered_reached quiet xs n h ls rest noted x is))
+
+  any_reached : (xs : List ReadAttribute) (ns : List (Noted Tok)) {h : Header Tok Tok Tok} {fs : List (Noted Tok)} {ts next : Tokens}
+      (rest : Tokens) (noted : List (Noted Tok)) (ls : List (BodyLine Tok Tok ℕ)) → HeaderOf itself itself itself (Waived conditions.limit Hit) h fs ts next
+      → BodyReached (optional_body token_leaves) ls (input conditions 0 next (ns ++ (noted_by xs (recipe_content h ls) ++ fs))) (input conditions 0 rest noted)
+      → ContentReached xs (recipe_content h ls) (input conditions 0 ts ns) (input conditions 0 rest noted)
+  unfolding content any_recipe
+  any_reached xs ns rest noted ls (headers.quiet {at = mark} {tokens = ts} kind q) b n =
+      rw (
+        next_left (kinds.Identifier ∷ kinds.ColonEquals ∷ []) (input conditions 0 (mark ∷ ts) ns) (λ k. let first = k.0 in cc),
+        accept_taken kinds.At mark ts conditions 0 ns kind,
+      ) (recipe_reached true xs ns rest noted ls q b n)
+  any_reached xs ns rest noted ls (headers.loud (headers.header {name = name} {tokens = ts} kind ps ds)) b n =
+      rw (
+        next_left (kinds.Identifier ∷ kinds.ColonEquals ∷ []) (input conditions 0 (name ∷ ts) ns)
+            (λ k. not_there kinds.ColonEquals ts (parameters_start itself itself (Waived conditions.limit Hit) ps) k.1),
+        accept_left kinds.At (name ∷ ts) conditions 0 ns (λ e. cc),
+      ) (recipe_reached false xs ns rest noted ls (headers.header {name = name} kind ps ds) b n)
 
   content_reached : (xs : List ReadAttribute) (ns : List (Noted Tok)) {c : Content Tok Tok ℕ Tok} {fs : List (Noted Tok)} {ts rest : Tokens}
       → OnLine keeps_tokens (Waived conditions.limit Hit) c fs ts rest → NoBody rest
-      → ContentReached xs c (input conditions 0 ts ns) (input conditions 0 rest (ns ++ fs))
+      → ContentReached xs c (input conditions 0 ts ns) (input conditions 0 rest (ns ++ (noted_by xs c ++ fs)))
   unfolding content assignment draw_binding
   content_reached xs ns {rest = rest} (g.assignment {e = e} {fs = fs} {name = name} {operator = operator} {tokens = ts} kind kind2 h) none n =
       let c : Content Tok Tok ℕ Tok = tree.Assignment (plain_assignment name.tok e) in
@@ -249,10 +327,12 @@ module _ (conditions : Conditions) (Hit : Option SignificantToken → Type 0) wh
         expect_taken kinds.ColonEquals operator ts conditions 0 ns kind2,
       )
       (r.last_one conditions Hit _ (λ z. z ≡ y) (r.plainly conditions Hit (expression_deep conditions Hit ns false (omega arith) h))
-      (λ _. r.pass conditions Hit _ (obeying_reached (breaks_by xs c) end) refl))
-  content_reached xs ns {rest = rest} (g.header {name = name} {colon = colon} kind kind2) none n =
-      r.renoted conditions Hit (sym (append-nil ns))
-      (recipe_reached xs name colon rest ns (input conditions 0 rest ns) [] kind kind2 (is_read tt (no_body_read (input conditions 0 rest ns) none)) n)
+      (λ _. r.pass conditions Hit _
+      (obeying_reached conditions Hit (meaning_broken (token_sight conditions) c (meant_by xs)) end
+      (among_first (meaning_broken (token_sight conditions) c (meant_by xs)) [] (all_among (breaks_by xs c)))) refl))
+  content_reached xs ns {rest = rest} (g.header {h = h} {fs = fs} q) none n =
+      let noted : List (Noted Tok) = ns ++ (noted_by xs (recipe_content h []) ++ fs) in
+      any_reached xs ns rest noted [] q (is_read tt (no_body_read (input conditions 0 rest noted) none)) n
 
   -- ---- attributes, and a construct after them
 
@@ -290,8 +370,23 @@ module _ (conditions : Conditions) (Hit : Option SignificantToken → Type 0) wh
 
   -- what the attributes mean is what is read of them
   meant : (ws : List (WrittenAttribute Tok Tok)) (c : Content Tok Tok ℕ Tok) (xs : List ReadAttribute) → AreReadings (token_sight conditions) ws xs
-      → breaks_by xs c ≡ of_some (meaning_broken (token_sight conditions) c) (entries_of (token_sight conditions) ws)
+      → breaks_by xs c ≡ of_some (meaning_broken (token_sight conditions) c) (entries_of (token_sight conditions) ws) ++ form_broken c
   meant ws c xs h = rw (readings_mean (token_sight conditions) h) refl
+
+  noted_is : (ws : List (WrittenAttribute Tok Tok)) (c : Content Tok Tok ℕ Tok) (xs : List ReadAttribute) → AreReadings (token_sight conditions) ws xs
+      → noted_by xs c ≡ of_some (entries_features c) (entries_of (token_sight conditions) ws)
+  noted_is ws c xs h = rw (readings_mean (token_sight conditions) h) refl
+
+  -- the features of a construct, in the order in which they are noted
+  abbrev features_of : List (WrittenAttribute Tok Tok) → Content Tok Tok ℕ Tok → (attributes content : List (Noted Tok)) → List (Noted Tok)
+  features_of ws c gs fs = construct_features (token_sight conditions) ws c (record { attributes = gs; content = fs })
+
+  features_are : (ns : List (Noted Tok)) (ws : List (WrittenAttribute Tok Tok)) (c : Content Tok Tok ℕ Tok) (gs fs : List (Noted Tok))
+      (xs : List ReadAttribute) → AreReadings (token_sight conditions) ws xs → (ns ++ gs) ++ (noted_by xs c ++ fs) ≡ ns ++ features_of ws c gs fs
+  features_are ns ws c gs fs xs h =
+      let said : List (Noted Tok) = of_some (entries_features c) (entries_of (token_sight conditions) ws) in
+      ap (λ (l : List (Noted Tok)). (ns ++ gs) ++ (l ++ fs)) (noted_is ws c xs h) ∙ append_assoc ns gs (said ++ fs)
+      ∙ ap (λ (l : List (Noted Tok)). ns ++ l) (sym (append_assoc gs said fs))
 
   abbrev ItemReached : WrittenItem Tok Tok ℕ Tok → State → State → Type 0
   ItemReached i s rest =
@@ -300,35 +395,39 @@ module _ (conditions : Conditions) (Hit : Option SignificantToken → Type 0) wh
 
   -- the construct after the attributes that were read
   after_attributes : (n : Counters) (ws : List (WrittenAttribute Tok Tok)) (c : Content Tok Tok ℕ Tok) (s rest : State)
-      → ((xs : List ReadAttribute) → ContentReached xs c s rest) → (x : List ReadAttribute × State) → AreReadAt ws s x
+      (x : List ReadAttribute × State) → AreReadAt ws s x → ContentReached x.0 c s rest
       → ReachesOne conditions Hit (content token_leaves token_attributes x.0 n x.1) ((Construct ws c, count_content n c), rest) (content_literals c)
-      (of_some (meaning_broken (token_sight conditions) c) (entries_of (token_sight conditions) ws))
-  after_attributes n ws c s rest h x is =
+      (of_some (meaning_broken (token_sight conditions) c) (entries_of (token_sight conditions) ws) ++ form_broken c)
+  after_attributes n ws c s rest x is h =
       subst (λ t. ReachesOne conditions Hit (content token_leaves token_attributes x.0 n t) ((Construct ws c, count_content n c), rest) (content_literals c)
-      (of_some (meaning_broken (token_sight conditions) c) (entries_of (token_sight conditions) ws))) (sym is.1)
-      (subst (λ rules. ReachesOne conditions Hit (content token_leaves token_attributes x.0 n s) ((Construct ws c, count_content n c), rest)
-      (content_literals c) rules) (meant ws c x.0 is.0)
-      (r.same_one conditions Hit (λ i. ((Construct (readings_written (token_sight conditions) is.0 i) c, count_content n c), rest)) (h x.0 n)))
+      (of_some (meaning_broken (token_sight conditions) c) (entries_of (token_sight conditions) ws) ++ form_broken c)) (sym is.1)
+      (r.same_rules conditions Hit (meant ws c x.0 is.0)
+      (r.same_one conditions Hit (λ i. ((Construct (readings_written (token_sight conditions) is.0 i) c, count_content n c), rest)) (h n)))
 
   construct_reached : (ns : List (Noted Tok)) {ws : List (WrittenAttribute Tok Tok)} {gs : List (Noted Tok)} {ts header : Tokens}
-      (c : Content Tok Tok ℕ Tok) (rest : State) → AttributeLines itself itself (Waived conditions.limit Hit) ws gs ts header → Begins header
-      → ((xs : List ReadAttribute) → ContentReached xs c (input conditions 0 header (ns ++ gs)) rest)
-      → ItemReached (Construct ws c) (input conditions 0 ts ns) rest
+      (c : Content Tok Tok ℕ Tok) (fs : List (Noted Tok)) (rest : Tokens) → AttributeLines itself itself (Waived conditions.limit Hit) ws gs ts header
+      → Begins header
+      → ((xs : List ReadAttribute) → ContentReached xs c (input conditions 0 header (ns ++ gs)) (input conditions 0 rest ((ns ++ gs) ++ (noted_by xs c ++ fs))))
+      → ItemReached (Construct ws c) (input conditions 0 ts ns) (input conditions 0 rest (ns ++ features_of ws c gs fs))
   unfolding on_line construct
-  construct_reached ns {ws = ws} {gs = gs} {ts = ts} {header = header} c rest a b h n =
-      let y : (WrittenItem Tok Tok ℕ Tok × Counters) × State = ((Construct ws c, count_content n c), rest) in
+  construct_reached ns {ws = ws} {gs = gs} {ts = ts} {header = header} c fs rest a b h n =
+      let end : State = input conditions 0 rest (ns ++ features_of ws c gs fs) in
+      let y : (WrittenItem Tok Tok ℕ Tok × Counters) × State = ((Construct ws c, count_content n c), end) in
+      let meaning : List (Broken Tok) = of_some (meaning_broken (token_sight conditions) c) (entries_of (token_sight conditions) ws) in
       rw (accept_left kinds.Comment ts conditions 0 ns (attributes_begin a b).no_comment)
+      (r.same_rules conditions Hit (sym (append_assoc (attributes_broken (token_sight conditions) ws) meaning (form_broken c)))
       (r.then_more conditions Hit _ (λ z. z ≡ y) (before_reached ns a b)
-      (λ x is _. after_attributes n ws c (input conditions 0 header (ns ++ gs)) rest h x is))
+      (λ x is _. after_attributes n ws c (input conditions 0 header (ns ++ gs)) end x is
+      (λ m. r.renoted conditions Hit (features_are ns ws c gs fs x.0 is.0) (h x.0 m)))))
 
-  on_line_reached : (ns : List (Noted Tok)) {i : WrittenItem Tok Tok ℕ Tok} {fs : List (Noted Tok)} {ts rest : Tokens} → Stands (Waived conditions.limit Hit) i fs ts rest → NoBody rest
+  on_line_reached : (ns : List (Noted Tok)) {i : WrittenItem Tok Tok ℕ Tok} {fs : List (Noted Tok)} {ts rest : Tokens}
+      → Stands conditions (Waived conditions.limit Hit) i fs ts rest → NoBody rest
       → ItemReached i (input conditions 0 ts ns) (input conditions 0 rest (ns ++ fs))
   unfolding on_line
   on_line_reached ns {rest = rest} (of_comment {t = token} kind) none n =
       r.renoted conditions Hit (sym (append-nil ns)) (r.read_now conditions Hit _ refl (rw (accept_taken kinds.Comment token rest conditions 0 ns kind) refl))
   on_line_reached ns {rest = rest} (of_line {c = c} {gs = gs} {fs = fs} a o) none n =
-      r.renoted conditions Hit (append_assoc ns gs fs)
-      (construct_reached ns c (input conditions 0 rest (ns ++ gs ++ fs)) a (line_begins o) (λ xs. content_reached xs (ns ++ gs) o none) n)
+      construct_reached ns c fs rest a (line_begins o) (λ xs. content_reached xs (ns ++ gs) o none) n
 
   -- all items are reached, with what is drawn for them, and their features
   abbrev AllReached : (n : Counters) → Read (WrittenTree × Counters) → WrittenTree → List (Noted Tok) → Type 0
@@ -357,7 +456,8 @@ module _ (conditions : Conditions) (Hit : Option SignificantToken → Type 0) wh
       → ReachesOne conditions Hit (after_numbered (i ∷ l) found) ((i ∷ m, n), input conditions 0 [] noted) ls rules
   front_more i l m n noted found h = r.by conditions Hit (front_is i l found) (r.pass conditions Hit _ h refl)
 
-  line_reached : (n : Counters) (ns : List (Noted Tok)) (i : WrittenItem Tok Tok ℕ Tok) (all : WrittenTree) (is fs : List (Noted Tok)) (ts rest : Tokens) → Stands (Waived conditions.limit Hit) i is ts rest
+  line_reached : (n : Counters) (ns : List (Noted Tok)) (i : WrittenItem Tok Tok ℕ Tok) (all : WrittenTree) (is fs : List (Noted Tok)) (ts rest : Tokens)
+      → Stands conditions (Waived conditions.limit Hit) i is ts rest
       → ItemReached i (input conditions 0 ts ns) (input conditions 0 rest (ns ++ is))
       → Continued (item_rest token_leaves token_attributes) all fs rest (ns ++ is) → AllReached n (items token_leaves token_attributes n (input conditions 0 ts ns)) (i ∷ all) (ns ++ (is ++ fs))
   unfolding items_rule line
@@ -367,74 +467,87 @@ module _ (conditions : Conditions) (Hit : Option SignificantToken → Type 0) wh
       (r.then_both conditions Hit _ (r.pass conditions Hit _ (h n) (rw (ended_after i (input conditions 0 rest (ns ++ is)) (has_none o), c.first_read) refl))
       (front_more i c.first all (counted (count n i) all) ((ns ++ is) ++ fs) (items token_leaves token_attributes (count n i) (input conditions 0 c.rest (ns ++ is))) (c.goes_on (count n i))))))
 
-  some_body : (ws : List (WrittenAttribute Tok Tok)) (name : SignificantToken) (ls : List (BodyLine Tok Tok ℕ)) (s : State) → NotEmpty ls
-      → ended token_leaves token_attributes (has_body (Construct ws (recipe_content name.tok ls))) s ≡ Ok (tree.Newline ∷ [], s)
+  some_body : (ws : List (WrittenAttribute Tok Tok)) (h : Header Tok Tok Tok) (ls : List (BodyLine Tok Tok ℕ)) (s : State) → NotEmpty ls
+      → ended token_leaves token_attributes (has_body (Construct ws (recipe_content h ls))) s ≡ Ok (tree.Newline ∷ [], s)
   unfolding ended
-  some_body ws name [] s some = absurd some
-  some_body ws name (l ∷ ls) s some = refl
+  some_body ws h [] s some = absurd some
+  some_body ws h (l ∷ ls) s some = refl
+
+  block_content : (xs : List ReadAttribute) (ns : List (Noted Tok)) {c : Content Tok Tok ℕ Tok} {fs : List (Noted Tok)} {ts rest : Tokens}
+      → Block keeps_tokens (Waived conditions.limit Hit) c fs ts rest
+      → ContentReached xs c (input conditions 0 ts ns) (input conditions 0 rest (ns ++ (noted_by xs c ++ fs)))
+  block_content xs ns {rest = rest} (g.recipe {h = h} {lines = ls} {fs = fs} {gs = gs} q b lines some) n =
+      let said : List (Noted Tok) = noted_by xs (recipe_content h (trimmed ls)) in
+      let noted : List (Noted Tok) = ns ++ (said ++ fs) in
+      r.renoted conditions Hit (append_assoc ns (said ++ fs) gs ∙ ap (λ (l : List (Noted Tok)). ns ++ l) (append_assoc said fs gs))
+      (any_reached xs ns rest (noted ++ gs) (trimmed ls) q (optional_body_reached noted b lines some) n)
 
   -- a recipe with a body and its attributes
-  block_item : (ns : List (Noted Tok)) {ws : List (WrittenAttribute Tok Tok)} {c : Content Tok Tok ℕ Tok} {gs is : List (Noted Tok)}
+  block_item : (ns : List (Noted Tok)) {ws : List (WrittenAttribute Tok Tok)} {c : Content Tok Tok ℕ Tok} {gs fs : List (Noted Tok)}
       {ts header rest : Tokens} → AttributeLines itself itself (Waived conditions.limit Hit) ws gs ts header
-      → Block keeps_tokens (Waived conditions.limit Hit) c is header rest
-      → ItemReached (Construct ws c) (input conditions 0 ts ns) (input conditions 0 rest (ns ++ gs ++ is))
-  block_item ns {gs = gs} {is = is} {rest = rest} a (g.recipe {lines = ls} {name = name} {colon = colon} {tokens = ts} kind kind2 b h some) =
-      let end : State = input conditions 0 rest (ns ++ gs ++ is) in
-      construct_reached ns (recipe_content name.tok (trimmed ls)) end a (begins_name kind)
-      (λ xs. recipe_reached xs name colon ts (ns ++ gs) end (trimmed ls) kind kind2 (optional_body_reached (ns ++ gs) b h some))
+      → Block keeps_tokens (Waived conditions.limit Hit) c fs header rest
+      → ItemReached (Construct ws c) (input conditions 0 ts ns) (input conditions 0 rest (ns ++ features_of ws c gs fs))
+  block_item ns {c = c} {gs = gs} {fs = fs} {rest = rest} a o = construct_reached ns c fs rest a (block_begins o) (λ xs. block_content xs (ns ++ gs) o)
 
   block_ends : (ws : List (WrittenAttribute Tok Tok)) {c : Content Tok Tok ℕ Tok} {is : List (Noted Tok)} {ts rest : Tokens} (s : State)
       → Block keeps_tokens (Waived conditions.limit Hit) c is ts rest
       → ended token_leaves token_attributes (has_body (Construct ws c)) s ≡ Ok (tree.Newline ∷ [], s)
-  block_ends ws s (g.recipe {lines = ls} {name = name} kind kind2 b h some) = some_body ws name (trimmed ls) s some
+  block_ends ws s (g.recipe {h = h} {lines = ls} q b lines some) = some_body ws h (trimmed ls) s some
 
   block_reached : (n : Counters) (ns : List (Noted Tok)) {ws : List (WrittenAttribute Tok Tok)} {c : Content Tok Tok ℕ Tok} {gs is : List (Noted Tok)}
       {ts header rest : Tokens} (all : WrittenTree) (fs : List (Noted Tok)) → AttributeLines itself itself (Waived conditions.limit Hit) ws gs ts header
       → Block keeps_tokens (Waived conditions.limit Hit) c is header rest
-      → ((m : Counters) → AllReached m (items token_leaves token_attributes m (input conditions 0 rest (ns ++ (gs ++ is)))) all (ns ++ (gs ++ is) ++ fs))
-      → AllReached n (items token_leaves token_attributes n (input conditions 0 ts ns)) (Construct ws c ∷ tree.Newline ∷ all) (ns ++ (gs ++ is ++ fs))
+      → ((m : Counters) → AllReached m (items token_leaves token_attributes m (input conditions 0 rest (ns ++ features_of ws c gs is))) all
+      ((ns ++ features_of ws c gs is) ++ fs))
+      → AllReached n (items token_leaves token_attributes n (input conditions 0 ts ns)) (Construct ws c ∷ tree.Newline ∷ all)
+      (ns ++ (features_of ws c gs is ++ fs))
   unfolding items_rule line after_numbered
   block_reached n ns {ws = ws} {c = c} {gs = gs} {is = is} {ts = ts} {rest = rest} all fs a o more =
-      let end : State = input conditions 0 rest (ns ++ (gs ++ is)) in
+      let end : State = input conditions 0 rest (ns ++ features_of ws c gs is) in
       let i : WrittenItem Tok Tok ℕ Tok = Construct ws c in
       let b : Begins ts = attributes_begin a (block_begins o) in
-      r.renoted conditions Hit (append_assoc ns (gs ++ is) fs) (r.by conditions Hit (items_is token_leaves token_attributes n (input conditions 0 ts ns))
+      r.renoted conditions Hit (append_assoc ns (features_of ws c gs is) fs)
+      (r.by conditions Hit (items_is token_leaves token_attributes n (input conditions 0 ts ns))
       (rw (accept_left kinds.Eof ts conditions 0 ns b.no_file_end, accept_left kinds.Eol ts conditions 0 ns b.no_line_end)
       (r.then_both conditions Hit {x = ((i ∷ tree.Newline ∷ [], count n i), end)} _
-      (r.pass conditions Hit _ (r.renoted conditions Hit (append_assoc ns gs is) (block_item ns a o n)) (rw (block_ends ws end o) refl))
+      (r.pass conditions Hit _ (block_item ns a o n) (rw (block_ends ws end o) refl))
       (r.pass conditions Hit _ (more (count n i)) refl))))
+
+  -- the features of items
+  abbrev features : WrittenTree → List (ConstructFeatures Tok) → List (Noted Tok)
+  features = all_features (token_sight conditions)
 
   mutual
     unfolding items_rule line item_rest line_end after_numbered at_end
 
-    pub items_reached : (n : Counters) (ns : List (Noted Tok)) {all : WrittenTree} {fs : List (Noted Tok)} {ts : Tokens} → Items keeps_tokens (Waived conditions.limit Hit) all fs ts → AllReached n (items token_leaves token_attributes n (input conditions 0 ts ns)) all (ns ++ fs)
+    pub items_reached : (n : Counters) (ns : List (Noted Tok)) {all : WrittenTree} {fs : List (ConstructFeatures Tok)} {ts : Tokens} → Items keeps_tokens (Waived conditions.limit Hit) all fs ts → AllReached n (items token_leaves token_attributes n (input conditions 0 ts ns)) all (ns ++ features all fs)
     items_reached n ns (g.end {token = t} kind) =
         r.renoted conditions Hit (sym (append-nil ns)) (r.read_now conditions Hit _ refl (items_is token_leaves token_attributes n (input conditions 0 (t ∷ []) ns) ∙ rw (accept_taken kinds.Eof t [] conditions 0 ns kind) refl))
     items_reached n ns (g.blank {token = t} {rest = rest} kind h) =
         r.by conditions Hit (items_is token_leaves token_attributes n (input conditions 0 (t ∷ rest) ns))
         (rw (accept_left kinds.Eof (t ∷ rest) conditions 0 ns (λ e. cc), accept_taken kinds.Eol t rest conditions 0 ns kind) (r.pass conditions Hit _ (items_reached n ns h) refl))
     items_reached n ns (g.comment {items = more} {fs = fs} {token = t} {rest = rest} kind b) =
-        line_reached n ns (comment_item token_leaves token_attributes t) more [] fs (t ∷ rest) rest (of_comment kind) (on_line_reached ns (of_comment kind) (no_body_after b)) (item_rest_reached (ns ++ []) b)
+        line_reached n ns (comment_item token_leaves token_attributes t) more [] (features more fs) (t ∷ rest) rest (of_comment kind) (on_line_reached ns (of_comment kind) (no_body_after b)) (item_rest_reached (ns ++ []) b)
     items_reached n ns (g.on_line {ws = ws} {c = c} {items = more} {gs = gs} {cs = is} {fs = fs} {tokens = ts} {rest = rest} a o b) =
-        line_reached n ns (Construct ws c) more (gs ++ is) fs ts rest (of_line a o) (on_line_reached ns (of_line a o) (no_body_after b))
-        (item_rest_reached (ns ++ (gs ++ is)) b)
-    items_reached n ns (g.block {items = more} {gs = gs} {cs = is} {fs = fs} a o h) =
-        block_reached n ns more fs a o (λ m. items_reached m (ns ++ (gs ++ is)) h)
+        line_reached n ns (Construct ws c) more (features_of ws c gs is) (features more fs) ts rest (of_line a o) (on_line_reached ns (of_line a o) (no_body_after b))
+        (item_rest_reached (ns ++ features_of ws c gs is) b)
+    items_reached n ns (g.block {ws = ws} {c = c} {items = more} {gs = gs} {cs = is} {fs = fs} a o h) =
+        block_reached n ns more (features more fs) a o (λ m. items_reached m (ns ++ features_of ws c gs is) h)
 
-    item_rest_reached : (ns : List (Noted Tok)) {all : WrittenTree} {fs : List (Noted Tok)} {ts : Tokens} → ItemRest keeps_tokens (Waived conditions.limit Hit) all fs ts → Continued (item_rest token_leaves token_attributes) all fs ts ns
+    item_rest_reached : (ns : List (Noted Tok)) {all : WrittenTree} {fs : List (ConstructFeatures Tok)} {ts : Tokens} → ItemRest keeps_tokens (Waived conditions.limit Hit) all fs ts → Continued (item_rest token_leaves token_attributes) all (features all fs) ts ns
     item_rest_reached ns (g.trailing {items = more} {fs = fs} {token = t} {rest = rest} kind e) =
         let c = line_end_reached ns e in
         record {
           first = _ ∷ c.first;
           rest = c.rest;
           first_read = rw (accept_taken kinds.Comment t rest conditions 0 ns kind, c.first_read) refl;
-          goes_on = λ n. front_more _ c.first more (counted n more) (ns ++ fs) (items token_leaves token_attributes n (input conditions 0 c.rest ns)) (c.goes_on n);
+          goes_on = λ n. front_more _ c.first more (counted n more) (ns ++ features more fs) (items token_leaves token_attributes n (input conditions 0 c.rest ns)) (c.goes_on n);
         }
     item_rest_reached ns (g.bare {tokens = ts} e) =
         let c = line_end_reached ns e in
         record { first = c.first; rest = c.rest; first_read = rw (accept_left kinds.Comment ts conditions 0 ns (no_comment e)) c.first_read; goes_on = c.goes_on }
 
-    line_end_reached : (ns : List (Noted Tok)) {all : WrittenTree} {fs : List (Noted Tok)} {ts : Tokens} → LineEnd keeps_tokens (Waived conditions.limit Hit) all fs ts → Continued (line_end token_leaves token_attributes) all fs ts ns
+    line_end_reached : (ns : List (Noted Tok)) {all : WrittenTree} {fs : List (ConstructFeatures Tok)} {ts : Tokens} → LineEnd keeps_tokens (Waived conditions.limit Hit) all fs ts → Continued (line_end token_leaves token_attributes) all (features all fs) ts ns
     line_end_reached ns (g.line_end {token = t} {rest = rest} kind h) =
         record {
           first = tree.Newline ∷ [];
@@ -450,8 +563,8 @@ module _ (conditions : Conditions) (Hit : Option SignificantToken → Type 0) wh
           goes_on = λ n. r.renoted conditions Hit (sym (append-nil ns)) (r.read_now conditions Hit _ refl (rw (items_is token_leaves token_attributes n (input conditions 0 (t ∷ []) ns), accept_taken kinds.Eof t [] conditions 0 ns kind) refl));
         }
 
-  pub file_reached : {all : WrittenTree} {fs : List (Noted Tok)} {ts : Tokens} → File keeps_tokens (Waived conditions.limit Hit) all fs ts
-      → ReachesOne conditions Hit (tree_of_tokens conditions ts) (all, fs) (all_literals all) (broken (token_sight conditions) all)
+  pub file_reached : {all : WrittenTree} {fs : List (ConstructFeatures Tok)} {ts : Tokens} → File keeps_tokens (Waived conditions.limit Hit) all fs ts
+      → ReachesOne conditions Hit (tree_of_tokens conditions ts) (all, features all fs) (all_literals all) (broken (token_sight conditions) all)
   unfolding tree_of_tokens reader.file
   file_reached (g.marked {token = t} {rest = rest} kind h) = rw (accept_taken kinds.ByteOrderMark t rest conditions 0 [] kind) (r.pass conditions Hit _ (items_reached unnumbered [] h) refl)
   file_reached (g.unmarked {tokens = ts} h) = rw (accept_left kinds.ByteOrderMark ts conditions 0 [] (no_mark h)) (r.pass conditions Hit _ (items_reached unnumbered [] h) refl)

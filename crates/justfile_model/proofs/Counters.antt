@@ -1,21 +1,32 @@
 -- Counters grow by what is read.
-use Rattle.std.proofs.Common.{◌≡◌, ℕ, ◌+◌, Bool, true, false, cond, List, [], ◌∷◌, ◌++◌, length, Some, None, Ok, Err, IfOk, refl, sym, ap, ◌∙◌, arith}
+use Rattle.std.proofs.Common.{◌≡◌, ℕ, ◌+◌, Bool, true, false, cond, List, [], ◌∷◌, ◌++◌, length, Option, Some, None, Ok, Err, IfOk, refl, sym, ap, ◌∙◌, arith}
 use Rattle.justfile_base.specs.declared.token_kind.TokenKind.TheVariants as kinds
 use Rattle.justfile_model.specs.Files.{bindings, item_bindings, item_recipes, recipes}
 use Rattle.justfile_model.specs.AttributeReader.{AttributeLeaves}
-use Rattle.justfile_model.specs.Reader.{Start, after_numbered, allowed, assigned, assignment, at_end, attributes, construct, content, defined, item_rest, optional_body, draw_binding, draw_recipe, ended, expression, has_body, headed, items, items_from, items_rule, line, line_end, end_of_tokens, on_line, recipe, no_items, with_bindings, with_recipes}
-use Rattle.justfile_model.specs.Reading.{Counters, ◌>>=◌, Leaves, NoNumber, Read, State, Taken, accept, choose, expect, next_are}
+use Rattle.justfile_model.specs.declared.parameter_kind.ParameterKind.{ParameterKind}
+use Rattle.justfile_model.specs.declared.parameter_kind.ParameterKind.TheVariants.{Plus, Singular, Star}
+use Rattle.justfile_model.specs.HeaderReader as r
+use Rattle.justfile_model.specs.HeaderReader.{ReadHeader, draw_binding, expression, obeying, with_bindings}
+use Rattle.justfile_model.specs.Reader.{Start, after_numbered, allowed, any_recipe, argument_rules, assigned, assignment, at_end, attributes, construct, content, draw_recipe, end_of_tokens, ended, has_body, headed, item_rest, items, items_from, items_rule, line, line_end, no_exclusion, no_items, on_line, optional_body, recipe, with_recipes}
+use Rattle.justfile_model.specs.Reading.{Counters, ◌>>=◌, Leaves, NoNumber, Read, State, Taken, accept, accepted, choose, expect, next_are}
+use Rattle.justfile_model.specs.RecipeRules.{parameter_broken, undefined_broken}
+use Rattle.justfile_model.specs.Sight.{Sight}
 use Rattle.justfile_model.specs.Tree as tree
-use Rattle.justfile_model.specs.Tree.{BodyLine, Construct, Content, Expr, Item, Parameter}
+use Rattle.justfile_model.specs.Tree.{ArgumentRules, BodyLine, Construct, Content, Expr, Item, Parameter}
 use Rattle.justfile_model.proofs.ReadingSteps.{after_test, known}
 use Rattle.justfile_model.proofs.Turns.{recursive_keeps}
 
 -- ---- the counters after items
 
 -- after the numbers of parameters
-abbrev after_parameters : {A B : Type 0} → Counters → List (Parameter A B) → Counters
+abbrev pub after_parameters : {A B : Type 0} → Counters → List (Parameter A B) → Counters
 after_parameters n [] = n
 after_parameters n (p ∷ ps) = after_parameters (with_bindings (n.bindings + 1) n) ps
+
+pub after_more : {A B : Type 0} (n : Counters) (ps : List (Parameter A B)) (p : Parameter A B)
+    → after_parameters n (ps ++ p ∷ []) ≡ with_bindings ((after_parameters n ps).bindings + 1) (after_parameters n ps)
+after_more n [] p = refl
+after_more n (q ∷ ps) p = after_more (with_bindings (n.bindings + 1) n) ps p
 
 abbrev pub count_content : {A B C S : Type 0} → Counters → Content A B C S → Counters
 count_content n (tree.Assignment parts) = with_bindings (n.bindings + 1) n
@@ -38,7 +49,7 @@ parameters_bindings : {A B : Type 0} (n : Counters) (ps : List (Parameter A B)) 
 parameters_bindings n [] = omega arith
 parameters_bindings n (p ∷ ps) = omega (arith, parameters_bindings (with_bindings (n.bindings + 1) n) ps)
 
-parameters_recipes : {A B : Type 0} (n : Counters) (ps : List (Parameter A B)) → (after_parameters n ps).recipes ≡ n.recipes
+pub parameters_recipes : {A B : Type 0} (n : Counters) (ps : List (Parameter A B)) → (after_parameters n ps).recipes ≡ n.recipes
 parameters_recipes n [] = refl
 parameters_recipes n (p ∷ ps) = parameters_recipes (with_bindings (n.bindings + 1) n) ps
 
@@ -78,6 +89,109 @@ counted_constants n (i ∷ is) = counted_constants (count n i) is ∙ count_cons
 
 -- ---- what is read
 
+module _ {R T A B S : Type 0} (leaves : Leaves R T A B S) where
+  after_all : {X Y : Type 0} (found : Read R T B X) (f : X × State R T B → Read R T B Y) (Q : Y → Type 0) → ((x : X × State R T B) → found ≡ Ok x → IfOk (f x) (λ y. Q y.0)) → IfOk (found >>= f) (λ y. Q y.0)
+  after_all (Ok x) f Q h = h x refl
+  after_all (Err e) f Q h = tt
+
+  after_choice : {Y : Type 0} (o : Taken R T B) (x : Read R T B Y) (f : T × State R T B → Read R T B Y) (Q : Y → Type 0) → IfOk x (λ y. Q y.0) → ((p : T × State R T B) → IfOk (f p) (λ y. Q y.0)) → IfOk (choose o x f) (λ y. Q y.0)
+  after_choice None x f Q h g = h
+  after_choice (Some p) x f Q h g = g p
+
+  module _ (sight : R → Sight A B) (rules : List (ArgumentRules A B)) where
+    abbrev ParameterPlace : Type 0
+    ParameterPlace = r.ParameterPlace leaves sight rules
+
+    abbrev Parameters : Type 0
+    Parameters = r.Parameters leaves sight rules
+
+    -- where these parameters drew their numbers from there on, those that are read do too
+    abbrev After : Parameters → Read R T B Parameters → Type 0
+    After x found = IfOk found (λ y. (n : Counters) → x.1 ≡ after_parameters n x.0 → y.0.1 ≡ after_parameters n y.0.0)
+
+    number_counted : (kind : ParameterKind) (export : Bool) (x : Parameters) (name : T) (default : Option (Expr A B)) (s : State R T B)
+        → After x (draw_binding leaves x.1 s >>= r.numbered leaves sight rules kind export x.0 name default)
+    unfolding draw_binding
+    number_counted kind export x name default s = go (leaves.has_number x.1.bindings)
+      where
+        go : (b : Bool)
+            → After x (cond b (Ok ((x.1.bindings, with_bindings (x.1.bindings + 1) x.1), s)) (Err (NoNumber x.1)) >>= r.numbered leaves sight rules kind export x.0
+            name default)
+        go true = λ n is. ap (λ (m : Counters). with_bindings (m.bindings + 1) m) is ∙ sym (after_more n x.0 _)
+        go false = tt
+
+    named_parameter_counts : (kind : ParameterKind) (export : Bool) (x : Parameters) (s : State R T B)
+        → After x (r.named_parameter leaves sight rules kind export x s)
+    unfolding r.named_parameter
+    named_parameter_counts kind export x s =
+        let Q : Parameters → Type 0 = λ y. (n : Counters) → x.1 ≡ after_parameters n x.0 → y.1 ≡ after_parameters n y.0 in
+        after_all (expect leaves kinds.Identifier s) _ Q (λ name _. after_all (r.default_value leaves name.1) _ Q (λ default _.
+        let broken = parameter_broken (sight default.1.run) rules x.0 (r.parameter_of leaves kind export (leaves.name name.0) default.0) in
+        after_all (obeying broken default.1) _ Q (λ checked _. number_counted kind export x name.0 default.0 checked.1)))
+
+    parameter_counts : (kind : ParameterKind) (x : ParameterPlace) → After x.0 (r.parameter leaves sight rules kind x)
+    unfolding r.parameter
+    parameter_counts kind x = named_parameter_counts kind (accepted leaves kinds.Dollar x.1).0 x.0 (accepted leaves kinds.Dollar x.1).1
+
+    singulars_rule_counts : (f : ParameterPlace → Read R T B Parameters) → ((x : ParameterPlace) → After x.0 (f x)) → (x : ParameterPlace)
+        → After x.0 (r.singulars_rule leaves sight rules f x)
+    unfolding r.singulars_rule
+    singulars_rule_counts f h x =
+        let Q : Parameters → Type 0 = λ y. (n : Counters) → x.0.1 ≡ after_parameters n x.0.0 → y.1 ≡ after_parameters n y.0 in
+        after_test (r.begins_parameter leaves x.1) _ _ (After x.0)
+        (λ _. after_all (r.parameter leaves sight rules Singular x) _ Q (λ p is. one_more x.0 p.0 (f p)
+        (known p (λ y. Q y.0) is (parameter_counts Singular x)) (h p)))
+        (λ _ n is. is)
+      where
+        one_more : (x p : Parameters) (found : Read R T B Parameters) → ((n : Counters) → x.1 ≡ after_parameters n x.0 → p.1 ≡ after_parameters n p.0)
+            → After p found → After x found
+        one_more x p (Ok y) h k = λ n is. k n (h n is)
+        one_more x p (Err e) h k = tt
+
+    singulars_count : (x : ParameterPlace) → After x.0 (r.singulars leaves sight rules x)
+    unfolding r.singulars
+    singulars_count =
+        recursive_keeps (λ (x : ParameterPlace). length x.1.left) (r.no_parameters leaves sight rules) (r.singulars_rule leaves sight rules)
+        (λ x found. After x.0 found) (λ x. tt) singulars_rule_counts
+
+    variadic_counts : (kind : ParameterKind) (x : ParameterPlace) → After x.0 (r.variadic leaves sight rules kind x)
+    unfolding r.variadic
+    variadic_counts kind x =
+        let Q : Parameters → Type 0 = λ y. (n : Counters) → x.0.1 ≡ after_parameters n x.0.0 → y.1 ≡ after_parameters n y.0 in
+        after_all (r.parameter leaves sight rules kind x) _ Q (λ p is. after_all (r.nothing_after leaves p.1) _ Q
+        (λ end _. known p (λ y. Q y.0) is (parameter_counts kind x)))
+
+    last_parameter_counts : (x : ParameterPlace) → After x.0 (r.last_parameter leaves sight rules x)
+    unfolding r.last_parameter
+    last_parameter_counts x =
+        let Q : Parameters → Type 0 = λ y. (n : Counters) → x.0.1 ≡ after_parameters n x.0.0 → y.1 ≡ after_parameters n y.0 in
+        after_choice (accept leaves kinds.Plus x.1) _ _ Q
+        (after_choice (accept leaves kinds.Asterisk x.1) _ _ Q (λ n is. is) (λ prefix. variadic_counts Star (x.0, prefix.1)))
+        (λ prefix. variadic_counts Plus (x.0, prefix.1))
+
+    abbrev pub ParametersCounted : Counters → Read R T B Parameters → Type 0
+    ParametersCounted n found = IfOk found (λ x. x.0.1 ≡ after_parameters n x.0.0)
+
+    pub parameters_count : (n : Counters) (s : State R T B) → ParametersCounted n (r.parameters leaves sight rules n s)
+    unfolding r.parameters
+    parameters_count n s =
+        let Q : Parameters → Type 0 = λ y. y.1 ≡ after_parameters n y.0 in
+        let I : Parameters → Parameters → Type 0 = λ x y. (n : Counters) → x.1 ≡ after_parameters n x.0 → y.1 ≡ after_parameters n y.0 in
+        after_all (r.singulars leaves sight rules (([], n), s)) _ Q (λ ps is. after_all (r.last_parameter leaves sight rules ps) _ Q (λ all is2.
+        after_all (expect leaves kinds.Colon all.1) _ Q (λ colon _.
+        known all (λ y. I ps.0 y.0) is2 (last_parameter_counts ps) n (known ps (λ y. I ([], n) y.0) is (singulars_count (([], n), s)) n refl))))
+
+    -- a header draws the numbers of its parameters
+    pub header_counts : (n : Counters) (s : State R T B) → IfOk (r.header leaves sight rules n s) (λ x. x.0.1 ≡ after_parameters n x.0.0.parameters)
+    unfolding r.header
+    header_counts n s =
+        let Q : ReadHeader T A B S × Counters → Type 0 = λ x. x.1 ≡ after_parameters n x.0.parameters in
+        after_all (expect leaves kinds.Identifier s) _ Q (λ name _. after_all (r.distinct_options leaves sight rules name.0 name.1) _ Q (λ options _.
+        after_all (r.parameters leaves sight rules n options.1) _ Q (λ ps is.
+        after_all (obeying (undefined_broken (sight ps.1.run) ps.0.0 rules) ps.1) _ Q (λ checked _.
+        after_all (r.dependencies leaves checked.1) _ Q (λ priors _. after_all (r.subsequents leaves priors.1) _ Q (λ others _.
+        known ps (λ x. x.0.1 ≡ after_parameters n x.0.0) is (parameters_count n options.1)))))))
+
 module _ {R T A B S D W : Type 0} (leaves : Leaves R T A B S) (kept : AttributeLeaves R A B D W) where
   abbrev pub ItemCounted : Counters → Read R T B (Item A B ℕ S D × Counters) → Type 0
   ItemCounted n found = IfOk found (λ x. x.0.1 ≡ count n x.0.0)
@@ -89,14 +203,6 @@ module _ {R T A B S D W : Type 0} (leaves : Leaves R T A B S) (kept : AttributeL
   abbrev pub Uncounted : Read R T B (List (Item A B ℕ S D)) → Type 0
   Uncounted found = IfOk found (λ x. (n : Counters) → counted n x.0 ≡ n)
 
-  after_all : {X Y : Type 0} (found : Read R T B X) (f : X × State R T B → Read R T B Y) (Q : Y → Type 0) → ((x : X × State R T B) → found ≡ Ok x → IfOk (f x) (λ y. Q y.0)) → IfOk (found >>= f) (λ y. Q y.0)
-  after_all (Ok x) f Q h = h x refl
-  after_all (Err e) f Q h = tt
-
-  after_choice : {Y : Type 0} (o : Taken R T B) (x : Read R T B Y) (f : T × State R T B → Read R T B Y) (Q : Y → Type 0) → IfOk x (λ y. Q y.0) → ((p : T × State R T B) → IfOk (f p) (λ y. Q y.0)) → IfOk (choose o x f) (λ y. Q y.0)
-  after_choice None x f Q h g = h
-  after_choice (Some p) x f Q h g = g p
-
   binding_counted : (ws : List W) (n : Counters) (s : State R T B) (name : T) (value : Expr A B)
       → ItemCounted n (draw_binding leaves n s >>= assigned leaves kept ws name value)
   unfolding draw_binding
@@ -107,56 +213,67 @@ module _ {R T A B S D W : Type 0} (leaves : Leaves R T A B S) (kept : AttributeL
       go true = refl
       go false = tt
 
-  recipe_counted : (ws : List W) (n : Counters) (s : State R T B) (name : T) (body : List (BodyLine A B ℕ))
-      → ItemCounted n (draw_recipe leaves n s >>= headed leaves kept ws name body)
+  recipe_counted : (quiet : Bool) (ws : List W) (n : Counters) (s : State R T B) (h : ReadHeader T A B S) (m : Counters) (body : List (BodyLine A B ℕ))
+      → m ≡ after_parameters n h.parameters → ItemCounted n (draw_recipe leaves m s >>= headed leaves kept quiet ws h body)
   unfolding draw_recipe
-  recipe_counted ws n s name body = go (leaves.has_number n.recipes)
+  recipe_counted quiet ws n s h m body is = go (leaves.has_number m.recipes)
     where
-      go : (b : Bool) → ItemCounted n (cond b (Ok ((n.recipes, with_recipes (n.recipes + 1) n), s)) (Err (NoNumber n)) >>= headed leaves kept ws name body)
-      go true = refl
+      go : (b : Bool) → ItemCounted n (cond b (Ok ((m.recipes, with_recipes (m.recipes + 1) m), s)) (Err (NoNumber m)) >>= headed leaves kept quiet ws h body)
+      go true =
+          ap (λ (m : Counters). with_recipes (m.recipes + 1) m) is
+          ∙ ap (λ (k : ℕ). with_recipes (k + 1) (after_parameters n h.parameters)) (parameters_recipes n h.parameters)
       go false = tt
 
   pub assignment_counts : (ws : List W) (n : Counters) (s : State R T B) → ItemCounted n (assignment leaves kept ws n s)
   unfolding assignment
   assignment_counts ws n s =
       let Q : Item A B ℕ S D × Counters → Type 0 = λ x. x.1 ≡ count n x.0 in
-      after_all (expect leaves kinds.Identifier s) _ Q (λ name _. after_all (expect leaves kinds.ColonEquals name.1) _ Q (λ operator _.
-      after_all (expression leaves operator.1) _ Q (λ e _. after_all (allowed leaves kept ws name.0 e.1) _ Q (λ checked _.
+      after_all leaves (expect leaves kinds.Identifier s) _ Q (λ name _. after_all leaves (expect leaves kinds.ColonEquals name.1) _ Q (λ operator _.
+      after_all leaves (expression leaves operator.1) _ Q (λ e _. after_all leaves (allowed leaves kept ws name.0 e.1) _ Q (λ checked _.
       binding_counted ws n checked.1 name.0 e.0))))
 
-  pub recipe_counts : (ws : List W) (n : Counters) (s : State R T B) → ItemCounted n (recipe leaves kept ws n s)
+  pub recipe_counts : (quiet : Bool) (ws : List W) (n : Counters) (s : State R T B) → ItemCounted n (recipe leaves kept quiet ws n s)
   unfolding recipe
-  recipe_counts ws n s =
+  recipe_counts quiet ws n s =
       let Q : Item A B ℕ S D × Counters → Type 0 = λ x. x.1 ≡ count n x.0 in
-      after_all (expect leaves kinds.Identifier s) _ Q (λ name _. after_all (expect leaves kinds.Colon name.1) _ Q (λ colon _.
-      after_all (defined leaves kept ws colon.1) _ Q (λ checked _. after_all (optional_body leaves checked.1) _ Q (λ b _.
-      recipe_counted ws n b.1 name.0 b.0))))
+      let rules = argument_rules leaves kept s.run ws in
+      after_all leaves (r.header leaves kept.sight rules n s) _ Q (λ h is. after_all leaves (optional_body leaves h.1) _ Q (λ b _.
+      after_all leaves (no_exclusion leaves kept ws h.0.0.name b.1) _ Q (λ checked _.
+      recipe_counted quiet ws n checked.1 h.0.0 h.0.1 b.0
+      (known h (λ x. x.0.1 ≡ after_parameters n x.0.0.parameters) is (header_counts leaves kept.sight rules n s)))))
+
+  pub any_recipe_counts : (ws : List W) (n : Counters) (s : State R T B) → ItemCounted n (any_recipe leaves kept ws n s)
+  unfolding any_recipe
+  any_recipe_counts ws n s =
+      let Q : Item A B ℕ S D × Counters → Type 0 = λ x. x.1 ≡ count n x.0 in
+      after_choice leaves (accept leaves kinds.At s) _ _ Q (recipe_counts false ws n s) (λ at. recipe_counts true ws n at.1)
 
   pub construct_counts : (n : Counters) (s : State R T B) → ItemCounted n (construct leaves kept n s)
   unfolding construct content
   construct_counts n s =
       let Q : Item A B ℕ S D × Counters → Type 0 = λ x. x.1 ≡ count n x.0 in
-      after_all (attributes leaves kept s) _ Q (λ ws _. after_test (next_are leaves (kinds.Identifier ∷ kinds.ColonEquals ∷ []) ws.1) _ _ (ItemCounted n)
-      (λ _. assignment_counts ws.0 n ws.1) (λ _. recipe_counts ws.0 n ws.1))
+      after_all leaves (attributes leaves kept s) _ Q
+      (λ ws _. after_test (next_are leaves (kinds.Identifier ∷ kinds.ColonEquals ∷ []) ws.1) _ _ (ItemCounted n)
+      (λ _. assignment_counts ws.0 n ws.1) (λ _. any_recipe_counts ws.0 n ws.1))
 
   pub on_line_counts : (n : Counters) (s : State R T B) → ItemCounted n (on_line leaves kept n s)
   unfolding on_line
   on_line_counts n s =
       let Q : Item A B ℕ S D × Counters → Type 0 = λ x. x.1 ≡ count n x.0 in
-      after_choice (accept leaves kinds.Comment s) _ _ Q (construct_counts n s) (λ c. refl)
+      after_choice leaves (accept leaves kinds.Comment s) _ _ Q (construct_counts n s) (λ c. refl)
 
   pub line_end_counts : (s : State R T B) → Uncounted (line_end leaves kept s)
   unfolding line_end
   line_end_counts s =
       let Q : List (Item A B ℕ S D) → Type 0 = λ x. (n : Counters) → counted n x ≡ n in
-      after_choice (accept leaves kinds.Eof s) _ _ Q (after_all (expect leaves kinds.Eol s) _ Q (λ newline _ n. refl)) (λ x n. refl)
+      after_choice leaves (accept leaves kinds.Eof s) _ _ Q (after_all leaves (expect leaves kinds.Eol s) _ Q (λ newline _ n. refl)) (λ x n. refl)
 
   pub item_rest_counts : (s : State R T B) → Uncounted (item_rest leaves kept s)
   unfolding item_rest
   item_rest_counts s =
       let Q : List (Item A B ℕ S D) → Type 0 = λ x. (n : Counters) → counted n x ≡ n in
-      after_choice (accept leaves kinds.Comment s) _ _ Q (line_end_counts s)
-      (λ c. after_all (line_end leaves kept c.1) _ Q (λ end is. known end (λ x. Q x.0) is (line_end_counts c.1)))
+      after_choice leaves (accept leaves kinds.Comment s) _ _ Q (line_end_counts s)
+      (λ c. after_all leaves (line_end leaves kept c.1) _ Q (λ end is. known end (λ x. Q x.0) is (line_end_counts c.1)))
 
   pub ended_counts : (b : Bool) (s : State R T B) → Uncounted (ended leaves kept b s)
   unfolding ended
@@ -166,8 +283,8 @@ module _ {R T A B S D W : Type 0} (leaves : Leaves R T A B S) (kept : AttributeL
   unfolding line
   line_counts n s =
       let Q : List (Item A B ℕ S D) × Counters → Type 0 = λ x. x.1 ≡ counted n x.0 in
-      after_choice (accept leaves kinds.Eol s) _ _ Q
-      (after_all (on_line leaves kept n s) _ Q (λ i is. after_all (ended leaves kept (has_body i.0.0) i.1) _ Q (λ b is2.
+      after_choice leaves (accept leaves kinds.Eol s) _ _ Q
+      (after_all leaves (on_line leaves kept n s) _ Q (λ i is. after_all leaves (ended leaves kept (has_body i.0.0) i.1) _ Q (λ b is2.
       known i (λ x. x.0.1 ≡ count n x.0.0) is (on_line_counts n s) ∙ sym (known b (λ x. (n : Counters) → counted n x.0 ≡ n) is2 (ended_counts (has_body i.0.0) i.1) (count n i.0.0)))))
       (λ newline. refl)
 
@@ -179,8 +296,8 @@ module _ {R T A B S D W : Type 0} (leaves : Leaves R T A B S) (kept : AttributeL
   unfolding items_rule after_numbered at_end
   rule_counts f h x =
       let Q : List (Item A B ℕ S D) × Counters → Type 0 = λ y. y.1 ≡ counted x.0 y.0 in
-      after_choice (accept leaves kinds.Eof x.1) _ _ Q
-      (after_all (line leaves kept x.0 x.1) _ Q (λ l is. after_all (f (l.0.1, l.1)) _ Q (λ more is2.
+      after_choice leaves (accept leaves kinds.Eof x.1) _ _ Q
+      (after_all leaves (line leaves kept x.0 x.1) _ Q (λ l is. after_all leaves (f (l.0.1, l.1)) _ Q (λ more is2.
       known more (λ y. y.0.1 ≡ counted l.0.1 y.0.0) is2 (h (l.0.1, l.1))
       ∙ ap (λ n. counted n more.0.0) (known l (λ y. y.0.1 ≡ counted x.0 y.0.0) is (line_counts x.0 x.1))
       ∙ sym (counted_both x.0 l.0.0 more.0.0))))

@@ -1,11 +1,9 @@
 -- As many bindings and recipes as identifiers, or fewer.
-use Rattle.std.proofs.Common.{◌≡◌, ℕ, ◌+◌, ◌≤◌, cond, List, [], ◌∷◌, ◌++◌, Option, Ok, ap, ◌∙◌, arith}
-use Rattle.justfile_base.specs.declared.token_kind.TokenKind.{TokenKind}
-use Rattle.justfile_base.specs.declared.token_kind.TokenKind.TheVariants as kinds
+use Rattle.std.proofs.Common.{◌≡◌, ℕ, ◌+◌, ◌≤◌, List, [], ◌∷◌, ◌++◌, Option, Ok, ap, ◌∙◌, arith}
 use Rattle.justfile_model.specs.Tok.{Tok}
-use Rattle.justfile_model.specs.SignificantTokens.{SignificantToken, is_identifier, identifiers}
+use Rattle.justfile_model.specs.SignificantTokens.{SignificantToken, identifiers}
 use Rattle.justfile_model.specs.Tree.{Fragment, BodyLine, Content, Item, WrittenItem, WrittenTree}
-use Rattle.justfile_model.specs.Features.{Noted}
+use Rattle.justfile_model.specs.Features.{ConstructFeatures, Noted}
 use Rattle.justfile_model.specs.Expressions.{Tokens, Under}
 use Rattle.justfile_model.specs.Grammar as g
 use Rattle.justfile_model.specs.Grammar.{Kept, LineRest, BeforeBody, BodyLines, OnLine, Block, Items, ItemRest, LineEnd, File}
@@ -17,6 +15,7 @@ use Rattle.justfile_model.specs.TreeReader.{State, tree_of_tokens, token_attribu
 use Rattle.justfile_model.proofs.AttributeProgress.{attribute_lines_count}
 use Rattle.justfile_model.proofs.Counters.{counted, counted_bindings, counted_constants, counted_recipes, items_count}
 use Rattle.justfile_model.proofs.ExpressionProgress.{expression_counts}
+use Rattle.justfile_model.proofs.HeaderProgress.{counts_one, header_counts}
 use Rattle.justfile_model.proofs.ReadingSteps.{known}
 use Rattle.justfile_model.proofs.Sound.{file_at}
 
@@ -27,10 +26,6 @@ bindings_append (i ∷ is) js = omega (arith, bindings_append is js)
 pub recipes_append : {A B C S D : Type 0} (is js : List (Item A B C S D)) → recipes (is ++ js) ≡ recipes is + recipes js
 recipes_append [] js = omega arith
 recipes_append (i ∷ is) js = omega (arith, recipes_append is js)
-
--- an identifier counts one
-counts_one : (kind : TokenKind) → kind ≡ kinds.Identifier → ◌≡◌ {A = ℕ} (cond (is_identifier kind) 1 0) 1
-counts_one kind e = ap (λ (k : TokenKind). cond (is_identifier k) 1 0) e
 
 -- ---- what derives
 
@@ -53,28 +48,28 @@ module _ {A B C S : Type 0} (kept : Kept A B C S) (Open : ℕ → Option Signifi
 
   pub on_line_counts : {c : Content A B C S} {fs : List (Noted B)} {ts rest : Tokens} → OnLine kept Open c fs ts rest → content_bindings c + content_recipes c + identifiers rest ≤ identifiers ts
   on_line_counts (g.assignment {name = name} kind kind2 e) = omega (arith, counts_one name.tok.kind kind, expression_counts kept.leaf kept.spot Open e)
-  on_line_counts (g.header {name = name} kind kind2) = omega (arith, counts_one name.tok.kind kind)
+  on_line_counts (g.header h) = header_counts kept.leaf kept.spot kept.star Open h
 
   pub block_counts : {c : Content A B C S} {fs : List (Noted B)} {ts rest : Tokens} → Block kept Open c fs ts rest → content_bindings c + content_recipes c + identifiers rest ≤ identifiers ts
-  block_counts (g.recipe {name = name} kind kind2 b lines some) = omega (arith, counts_one name.tok.kind kind, before_counts b, body_lines_count lines)
+  block_counts (g.recipe h b lines some) = omega (arith, header_counts kept.leaf kept.spot kept.star Open h, before_counts b, body_lines_count lines)
 
   mutual
-    pub all_count : {all : List (WrittenItem A B C S)} {fs : List (Noted B)} {ts : Tokens} → Items kept Open all fs ts → bindings all + recipes all ≤ identifiers ts
+    pub all_count : {all : List (WrittenItem A B C S)} {fs : List (ConstructFeatures B)} {ts : Tokens} → Items kept Open all fs ts → bindings all + recipes all ≤ identifiers ts
     all_count (g.end kind) = omega arith
     all_count (g.blank kind h) = omega (arith, all_count h)
     all_count (g.comment kind h) = omega (arith, item_rest_counts h)
     all_count (g.on_line a o b) = omega (arith, attribute_lines_count kept.leaf kept.spot Open a, on_line_counts o, item_rest_counts b)
     all_count (g.block a o h) = omega (arith, attribute_lines_count kept.leaf kept.spot Open a, block_counts o, all_count h)
 
-    item_rest_counts : {all : List (WrittenItem A B C S)} {fs : List (Noted B)} {ts : Tokens} → ItemRest kept Open all fs ts → bindings all + recipes all ≤ identifiers ts
+    item_rest_counts : {all : List (WrittenItem A B C S)} {fs : List (ConstructFeatures B)} {ts : Tokens} → ItemRest kept Open all fs ts → bindings all + recipes all ≤ identifiers ts
     item_rest_counts (g.trailing kind e) = omega (arith, line_end_counts e)
     item_rest_counts (g.bare e) = line_end_counts e
 
-    line_end_counts : {all : List (WrittenItem A B C S)} {fs : List (Noted B)} {ts : Tokens} → LineEnd kept Open all fs ts → bindings all + recipes all ≤ identifiers ts
+    line_end_counts : {all : List (WrittenItem A B C S)} {fs : List (ConstructFeatures B)} {ts : Tokens} → LineEnd kept Open all fs ts → bindings all + recipes all ≤ identifiers ts
     line_end_counts (g.line_end kind h) = omega (arith, all_count h)
     line_end_counts (g.file_end kind) = omega arith
 
-  pub file_counts : {all : List (WrittenItem A B C S)} {fs : List (Noted B)} {ts : Tokens} → File kept Open all fs ts → bindings all + recipes all ≤ identifiers ts
+  pub file_counts : {all : List (WrittenItem A B C S)} {fs : List (ConstructFeatures B)} {ts : Tokens} → File kept Open all fs ts → bindings all + recipes all ≤ identifiers ts
   file_counts (g.marked kind h) = omega (arith, all_count h)
   file_counts (g.unmarked h) = all_count h
 

@@ -3,7 +3,7 @@ use Rattle.std.proofs.Common.{◌≡◌, ℕ, ◌≤◌, Bool, List, Option, sym
 use Rattle.justfile_model.specs.Tok.{Tok}
 use Rattle.justfile_model.specs.SignificantTokens.{SignificantToken}
 use Rattle.justfile_model.specs.Tree.{Expr, WrittenItem, WrittenTree}
-use Rattle.justfile_model.specs.Features.{Noted}
+use Rattle.justfile_model.specs.Features.{ConstructFeatures, Noted}
 use Rattle.justfile_model.specs.Expressions.{Tokens, front, Expression, Under, Free}
 use Rattle.justfile_model.specs.Grammar.{File, Kept}
 use Rattle.justfile_model.specs.Files.{FileTree, keeps_tokens}
@@ -11,7 +11,8 @@ use Rattle.justfile_model.proofs.CarryExpressions as expressions
 use Rattle.justfile_model.proofs.CarryExpressions.{Pairs}
 use Rattle.justfile_model.proofs.Carry as c
 use Rattle.justfile_model.proofs.Carry.{Alike}
-use Rattle.justfile_model.proofs.Leaves.{same_leaf, unchanged, expr_itself, items_itself, noted_itself, equal_pairs, pairs_equal, equal_same}
+use Rattle.justfile_model.proofs.Leaves.{unchanged, features_itself, items_itself, noted_itself, equal_pairs, pairs_equal, equal_same}
+use Rattle.justfile_model.proofs.Unchanged.{expr_itself, same_leaf}
 
 -- what is kept of a token is the same of the same token
 kept_same : {X : Type 0} (keep : Tok → X) (t u : SignificantToken) → t ≡ u → keep u.tok ≡ keep t.tok
@@ -30,13 +31,13 @@ module _ (Open Open' : ℕ → Option SignificantToken → Type 0) (opens : (dep
         (subst (λ n. Expression leaf spot Open' condition depth x.tree n ts rest) (sym (noted_itself x.features) ∙ x.noted_alike ∙ noted_itself fs)
         (subst (λ r. Expression leaf spot Open' condition depth x.tree x.features ts r) (sym (pairs_equal x.same)) x.derives))
 
-  pub file_loosened : {A B C S : Type 0} (kept : Kept A B C S) {items : List (WrittenItem A B C S)} {fs : List (Noted B)} {ts : Tokens}
+  pub file_loosened : {A B C S : Type 0} (kept : Kept A B C S) {items : List (WrittenItem A B C S)} {fs : List (ConstructFeatures B)} {ts : Tokens}
       → File kept Open items fs ts → File kept Open' items fs ts
   file_loosened kept {items} {fs} {ts} h =
       let alike : Alike kept unchanged kept unchanged (λ t u. t ≡ u) = record { leaves = kept_same kept.leaf; spots = kept_same kept.spot; numbers = kept_same kept.number; stars = kept_same kept.star } in
       let x = c.file kept Open unchanged (λ t u. t ≡ u) equal_same kept Open' unchanged alike moved h ts (equal_pairs ts) in
       subst (λ y. File kept Open' y fs ts) (sym (items_itself x.tree) ∙ x.alike ∙ items_itself items)
-      (subst (λ n. File kept Open' x.tree n ts) (sym (noted_itself x.features) ∙ x.noted_alike ∙ noted_itself fs) x.derives)
+      (subst (λ n. File kept Open' x.tree n ts) (sym (features_itself x.features) ∙ x.noted_alike ∙ features_itself fs) x.derives)
 
 -- under a greater limit
 module _ (limit higher : ℕ) (below : limit ≤ higher) where
@@ -47,7 +48,7 @@ module _ (limit higher : ℕ) (below : limit ≤ higher) where
       → Expression leaf spot (Under limit) condition depth e fs ts rest → Expression leaf spot (Under higher) condition depth e fs ts rest
   expression_raised leaf spot h = expression_loosened (Under limit) (Under higher) raised leaf spot h
 
-  pub file_raised : {A B C S : Type 0} (kept : Kept A B C S) {items : List (WrittenItem A B C S)} {fs : List (Noted B)} {ts : Tokens}
+  pub file_raised : {A B C S : Type 0} (kept : Kept A B C S) {items : List (WrittenItem A B C S)} {fs : List (ConstructFeatures B)} {ts : Tokens}
       → File kept (Under limit) items fs ts → File kept (Under higher) items fs ts
   file_raised kept h = file_loosened (Under limit) (Under higher) raised kept h
 
@@ -57,10 +58,10 @@ module _ (limit : ℕ) where
       → Expression leaf spot (Under limit) condition depth e fs ts rest → Expression leaf spot Free condition depth e fs ts rest
   expression_freed leaf spot h = expression_loosened (Under limit) Free (λ depth at o. tt) leaf spot h
 
-  pub file_freed : {A B C S : Type 0} (kept : Kept A B C S) {items : List (WrittenItem A B C S)} {fs : List (Noted B)} {ts : Tokens}
+  pub file_freed : {A B C S : Type 0} (kept : Kept A B C S) {items : List (WrittenItem A B C S)} {fs : List (ConstructFeatures B)} {ts : Tokens}
       → File kept (Under limit) items fs ts → File kept Free items fs ts
   file_freed kept h = file_loosened (Under limit) Free (λ depth at o. tt) kept h
 
 -- a written tree of a file is one of the grammar alone
-pub file_tree : (limit : ℕ) (ts : Tokens) (written : WrittenTree) (fs : List (Noted Tok)) → File keeps_tokens (Under limit) written fs ts → FileTree ts written fs
+pub file_tree : (limit : ℕ) (ts : Tokens) (written : WrittenTree) (fs : List (ConstructFeatures Tok)) → File keeps_tokens (Under limit) written fs ts → FileTree ts written fs
 file_tree limit ts written fs h = file_freed limit keeps_tokens h

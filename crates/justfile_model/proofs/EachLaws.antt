@@ -1,17 +1,13 @@
 -- Lists and options side by side: what is found, kept and least of related lists is related.
-use Rattle.std.proofs.Common.{◌≡◌, ℕ, Bool, true, false, cond, List, ◌∷◌, map, Option, Some, None, is_some, refl, subst}
+use Rattle.std.proofs.Common.{◌≡◌, ℕ, Bool, true, false, cond, List, ◌∷◌, map, Option, Some, is_some, refl, subst}
 use Rattle.std.specs.List.{cons_option, filter, filter_map, find}
 use Rattle.std.specs.Ordering.{is_gt}
 use Rattle.justfile_model.specs.AttributeRules.{least, lesser, of_some}
 use Rattle.justfile_model.specs.ContentLeaf.{text_cmp}
 use Rattle.justfile_model.specs.Meaning.{first_of}
 use Rattle.justfile_model.proofs.Related.{Each}
+pub use Rattle.justfile_model.proofs.Related.{AlikeOption, absent, present}
 use Rattle.justfile_model.proofs.Related.Each.{cons, nil}
-
--- neither, or both and they are related
-pub data AlikeOption {X Y : Type 0} (Rel : X → Y → Type 0) : Option X → Option Y → Type 0 where
-  absent : AlikeOption Rel None None
-  present : {x : X} {y : Y} → Rel x y → AlikeOption Rel (Some x) (Some y)
 
 with_given : {X Y : Type 0} {Rel : X → Y → Type 0} {o : Option X} {o' : Option Y} {xs : List X} {ys : List Y} → AlikeOption Rel o o' → Each Rel xs ys
     → Each Rel (cons_option o xs) (cons_option o' ys)

@@ -14,6 +14,7 @@ use Rattle.justfile_model.specs.Sight.{content_as_read, or_empty, sees_lexemes, 
 use Rattle.justfile_model.specs.SignificantTokens.{SignificantToken}
 use Rattle.justfile_model.specs.Tok.{Tok}
 use Rattle.justfile_model.specs.Tree.{Tree, Shape, lexeme}
+use Rattle.justfile_model.proofs.FeaturesMeant.{features_same}
 use Rattle.justfile_model.proofs.Mapped.{map_same}
 use Rattle.justfile_model.proofs.SameTexts.{SeeSame, items_kept}
 
@@ -121,7 +122,14 @@ module _ (conditions : Conditions) (all : Expansions) (within : Within condition
       (texted some all within lexeme (λ kind t. tok_content t) ls h.obeys.cooked h.obeys.cooks) h.ordered_is h.obeys.unbroken in
       let obeys : Obeys (with_expander all conditions) h.written =
       record { cooked = h.obeys.cooked; cooks = texts_kept some all within _ h.obeys.cooked h.obeys.cooks; unbroken = kept.unbroken } in
-      record { written = h.written; derives = h.derives; obeys = obeys; ordered_is = kept.means }
+      record {
+        written = h.written;
+        by_construct = h.by_construct;
+        derives = h.derives;
+        features_are = h.features_are ∙ features_same (sees_tokens some) (sees_tokens all) h.written tree h.ordered_is kept.means h.by_construct;
+        obeys = obeys;
+        ordered_is = kept.means;
+      }
 
   same_lexemes : (l : Literal (List ℕ)) → over_literal (λ x. x) l ≡ l
   same_lexemes (Plain t) = refl
@@ -142,7 +150,9 @@ module _ (conditions : Conditions) (all : Expansions) (within : Within condition
       (texted some all within (λ l. l) (λ kind l. record { kind = kind; lexeme = l }) ls h.cooked cooks) h.ordered_is h.unbroken in
       record {
         written = h.written;
+        by_construct = h.by_construct;
         derives = h.derives;
+        features_are = h.features_are ∙ features_same (sees_lexemes some) (sees_lexemes all) h.written shape h.ordered_is kept.means h.by_construct;
         cooked = h.cooked;
         cooks = texts_kept some all within _ h.cooked h.cooks;
         unbroken = kept.unbroken;

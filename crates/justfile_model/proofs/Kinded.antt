@@ -162,7 +162,7 @@ module _ (Open : ℕ → Option SignificantToken → Type 0) where
         let z = conditional_kinded o y.after.1.1 in
         record { kinded = (x.kinded, y.kinded, z.kinded); after = z.after }
 
-    value_kinded : {depth : ℕ} {e : Expr Tok Tok} {fs : List (Noted Tok)} {tokens rest : Tokens}
+    pub value_kinded : {depth : ℕ} {e : Expr Tok Tok} {fs : List (Noted Tok)} {tokens rest : Tokens}
         → Value itself itself Open depth e fs tokens rest → AllSpelled tokens → Kinds (KindedExpr e) rest
     value_kinded (g.not k e) s = value_kinded e s.1
     value_kinded (g.literal k) s = record { kinded = k; after = s.1 }

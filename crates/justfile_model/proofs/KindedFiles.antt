@@ -1,16 +1,19 @@
 -- The attributes of a file that is derived from spelled tokens have tokens of the kinds, and where it is fixed with the lexemes, that the
 -- grammar asks for.
-use Rattle.std.proofs.Common.{ℕ, List, [], ◌∷◌, Option}
+use Rattle.std.proofs.Common.{ℕ, Bool, List, [], ◌∷◌, Option}
+use Rattle.justfile_model.specs.declared.parameter_kind.ParameterKind.{ParameterKind}
 use Rattle.justfile_model.specs.Expressions.{Tokens}
-use Rattle.justfile_model.specs.Features.{Noted}
+use Rattle.justfile_model.specs.Features.{ConstructFeatures, Noted}
 use Rattle.justfile_model.specs.Files.{keeps_tokens}
 use Rattle.justfile_model.specs.Grammar as g
 use Rattle.justfile_model.specs.Grammar.{BeforeBody, Block, BodyLines, File, ItemRest, Items, LineEnd, LineRest, OnLine}
+use Rattle.justfile_model.specs.Headers as heads
+use Rattle.justfile_model.specs.Headers.{AllDependencies, Dependencies, DependencyArguments, DependencyOf, HeaderOf, NamedHeader, NamedParameter, ParameterOf, Parameters, PathOf, PathRest}
 use Rattle.justfile_model.specs.SignificantTokens.{AllSpelled, SignificantToken}
 use Rattle.justfile_model.specs.Tok.{Tok}
 use Rattle.justfile_model.specs.Tree as tree
-use Rattle.justfile_model.specs.Tree.{BodyLine, Construct, Content, Fragment, WrittenItem, WrittenTree, itself}
-use Rattle.justfile_model.proofs.Kinded.{KindedWritten, expression_kinded, lines_kinded}
+use Rattle.justfile_model.specs.Tree.{BodyLine, Construct, Content, Dependency, DependencyArgument, Fragment, Header, Parameter, WrittenItem, WrittenTree, itself}
+use Rattle.justfile_model.proofs.Kinded.{KindedWritten, expression_kinded, lines_kinded, value_kinded}
 
 -- the attributes of an item are so
 abbrev pub KindedItem : WrittenItem Tok Tok ℕ Tok → Type 0
@@ -26,7 +29,64 @@ before_spelled : {comment : Option (List ℕ)} {ts rest : Tokens} → BeforeBody
 before_spelled (g.at_once kind kind2) s = s.1.1
 before_spelled (g.commented kind kind2 kind3) s = s.1.1.1
 
+rest_spelled : {names : List Tok} {ts rest : Tokens} → PathRest itself names ts rest → AllSpelled ts → AllSpelled rest
+rest_spelled (heads.last n) s = s
+rest_spelled (heads.next k l names) s = rest_spelled names s.1.1
+
+path_spelled : {names : List Tok} {ts rest : Tokens} → PathOf itself names ts rest → AllSpelled ts → AllSpelled rest
+path_spelled (heads.path k names) s = rest_spelled names s.1
+
 module _ (Open : ℕ → Option SignificantToken → Type 0) where
+  -- ---- what is after a header
+
+  named_spelled : {kind : ParameterKind} {export : Bool} {p : Parameter Tok Tok} {fs : List (Noted Tok)} {ts rest : Tokens}
+      → NamedParameter itself itself Open kind export p fs ts rest → AllSpelled ts → AllSpelled rest
+  named_spelled (heads.required k n) s = s.1
+  named_spelled (heads.optional k l e) s = (value_kinded Open e s.1.1).after
+
+  parameter_spelled : {kind : ParameterKind} {p : Parameter Tok Tok} {fs : List (Noted Tok)} {ts rest : Tokens}
+      → ParameterOf itself itself Open kind p fs ts rest → AllSpelled ts → AllSpelled rest
+  parameter_spelled (heads.exported k p) s = named_spelled p s.1
+  parameter_spelled (heads.unexported p) s = named_spelled p s
+
+  parameters_spelled : {ps : List (Parameter Tok Tok)} {fs : List (Noted Tok)} {ts rest : Tokens} → Parameters itself itself Open ps fs ts rest
+      → AllSpelled ts → AllSpelled rest
+  parameters_spelled (heads.none k) s = s.1
+  parameters_spelled (heads.more p ps) s = parameters_spelled ps (parameter_spelled p s)
+  parameters_spelled (heads.plus k p l) s = (parameter_spelled p s.1).1
+  parameters_spelled (heads.star k p l) s = (parameter_spelled p s.1).1
+
+  arguments_spelled : {arguments : List (DependencyArgument Tok Tok Tok)} {fs : List (Noted Tok)} {ts rest : Tokens}
+      → DependencyArguments itself itself itself Open arguments fs ts rest → AllSpelled ts → AllSpelled rest
+  arguments_spelled (heads.none k) s = s.1
+  arguments_spelled (heads.plain e others) s = arguments_spelled others (expression_kinded Open e s).after
+  arguments_spelled (heads.starred k e others) s = arguments_spelled others (value_kinded Open e s.1).after
+
+  dependency_spelled : {d : Dependency Tok Tok Tok} {fs : List (Noted Tok)} {ts rest : Tokens} → DependencyOf itself itself itself Open d fs ts rest
+      → AllSpelled ts → AllSpelled rest
+  dependency_spelled (heads.bare names) s = path_spelled names s
+  dependency_spelled (heads.plain k names arguments) s = arguments_spelled arguments (path_spelled names s.1)
+  dependency_spelled (heads.starred k l names arguments) s = arguments_spelled arguments (path_spelled names s.1.1)
+
+  dependencies_spelled : {ds : List (Dependency Tok Tok Tok)} {fs : List (Noted Tok)} {ts rest : Tokens}
+      → Dependencies itself itself itself Open ds fs ts rest → AllSpelled ts → AllSpelled rest
+  dependencies_spelled (heads.none n n2 n3) s = s
+  dependencies_spelled (heads.more d ds) s = dependencies_spelled ds (dependency_spelled d s)
+
+  all_spelled : {ds ss : List (Dependency Tok Tok Tok)} {fs : List (Noted Tok)} {ts rest : Tokens}
+      → AllDependencies itself itself itself Open ds ss fs ts rest → AllSpelled ts → AllSpelled rest
+  all_spelled (heads.priors ds n) s = dependencies_spelled ds s
+  all_spelled (heads.both ds k ss) s = dependencies_spelled ss (dependencies_spelled ds s).1
+
+  named_header_spelled : {quiet : Bool} {h : Header Tok Tok Tok} {fs : List (Noted Tok)} {ts rest : Tokens}
+      → NamedHeader itself itself itself Open quiet h fs ts rest → AllSpelled ts → AllSpelled rest
+  named_header_spelled (heads.header k ps ds) s = all_spelled ds (parameters_spelled ps s.1)
+
+  header_spelled : {h : Header Tok Tok Tok} {fs : List (Noted Tok)} {ts rest : Tokens} → HeaderOf itself itself itself Open h fs ts rest → AllSpelled ts
+      → AllSpelled rest
+  header_spelled (heads.quiet k h) s = named_header_spelled h s.1
+  header_spelled (heads.loud h) s = named_header_spelled h s
+
   -- ---- what is after a construct
 
   line_spelled : {fragments : List (Fragment Tok Tok)} {fs : List (Noted Tok)} {ts rest : Tokens} → LineRest itself itself Open fragments fs ts rest
@@ -45,16 +105,16 @@ module _ (Open : ℕ → Option SignificantToken → Type 0) where
   on_line_spelled : {c : Content Tok Tok ℕ Tok} {fs : List (Noted Tok)} {ts rest : Tokens} → OnLine keeps_tokens Open c fs ts rest → AllSpelled ts
       → AllSpelled rest
   on_line_spelled (g.assignment kind kind2 e) s = (expression_kinded Open e s.1.1).after
-  on_line_spelled (g.header kind kind2) s = s.1.1
+  on_line_spelled (g.header h) s = header_spelled h s
 
   block_spelled : {c : Content Tok Tok ℕ Tok} {fs : List (Noted Tok)} {ts rest : Tokens} → Block keeps_tokens Open c fs ts rest → AllSpelled ts
       → AllSpelled rest
-  block_spelled (g.recipe kind kind2 b lines some) s = body_spelled lines (before_spelled b s.1.1)
+  block_spelled (g.recipe h b lines some) s = body_spelled lines (before_spelled b (header_spelled h s))
 
   -- ---- items
 
   mutual
-    pub items_kinded : {all : WrittenTree} {fs : List (Noted Tok)} {ts : Tokens} → Items keeps_tokens Open all fs ts → AllSpelled ts → KindedItems all
+    pub items_kinded : {all : WrittenTree} {fs : List (ConstructFeatures Tok)} {ts : Tokens} → Items keeps_tokens Open all fs ts → AllSpelled ts → KindedItems all
     items_kinded (g.end kind) s = tt
     items_kinded (g.blank kind h) s = (tt, items_kinded h s.1)
     items_kinded (g.comment kind h) s = (tt, rest_kinded h s.1)
@@ -65,14 +125,14 @@ module _ (Open : ℕ → Option SignificantToken → Type 0) where
         let x = lines_kinded Open a s in
         (x.kinded, (tt, items_kinded h (block_spelled b x.after)))
 
-    rest_kinded : {all : WrittenTree} {fs : List (Noted Tok)} {ts : Tokens} → ItemRest keeps_tokens Open all fs ts → AllSpelled ts → KindedItems all
+    rest_kinded : {all : WrittenTree} {fs : List (ConstructFeatures Tok)} {ts : Tokens} → ItemRest keeps_tokens Open all fs ts → AllSpelled ts → KindedItems all
     rest_kinded (g.trailing kind h) s = (tt, end_kinded h s.1)
     rest_kinded (g.bare h) s = end_kinded h s
 
-    end_kinded : {all : WrittenTree} {fs : List (Noted Tok)} {ts : Tokens} → LineEnd keeps_tokens Open all fs ts → AllSpelled ts → KindedItems all
+    end_kinded : {all : WrittenTree} {fs : List (ConstructFeatures Tok)} {ts : Tokens} → LineEnd keeps_tokens Open all fs ts → AllSpelled ts → KindedItems all
     end_kinded (g.line_end kind h) s = (tt, items_kinded h s.1)
     end_kinded (g.file_end kind) s = tt
 
-  pub file_kinded : {all : WrittenTree} {fs : List (Noted Tok)} {ts : Tokens} → File keeps_tokens Open all fs ts → AllSpelled ts → KindedItems all
+  pub file_kinded : {all : WrittenTree} {fs : List (ConstructFeatures Tok)} {ts : Tokens} → File keeps_tokens Open all fs ts → AllSpelled ts → KindedItems all
   file_kinded (g.marked kind h) s = items_kinded h s.1
   file_kinded (g.unmarked h) s = items_kinded h s

@@ -4,60 +4,34 @@ use Rattle.std.specs.List.{flat_map}
 use Rattle.std.specs.Option.{option_map}
 use Rattle.std.proofs.lemmas.List.{map-append}
 use Rattle.justfile_model.specs.Tok.{Tok}
-use Rattle.justfile_model.specs.Sight.{sees_lexemes}
+use Rattle.justfile_model.specs.Sight.{sees_lexemes, sees_tokens}
 use Rattle.justfile_model.specs.SignificantTokens.{AllSpelled, SignificantToken}
 use Rattle.justfile_model.specs.Conditions.{Conditions}
 use Rattle.justfile_model.specs.Tree as tree
 use Rattle.justfile_model.specs.Tree.{Expr, Exprs, Parts, Fragment, BodyLine, Line, Quoted, Argument, WrittenAttribute, OptionName, Property, ArgumentRules, Attribute, Entry, Parameter, DependencyArgument, Dependency, Header, AssignmentParts, Content, Item, WrittenItem, WrittenTree, WrittenShape, Tree, Shape, over_expr, over_exprs, over_parts, over_fragment, over_argument, over_written_attribute, over_entry, over_quoted, over_option, over_property, over_rules, over_attribute, over_parameter, over_assignment, over_line, over_dependency_argument, over_dependency, over_header, over_content, over_item, lexeme, nothing, shape_of, written_shape_of}
-use Rattle.justfile_model.specs.Features.{Noted, over_noted}
+use Rattle.justfile_model.specs.Features.{ConstructFeatures, Noted, over_features, over_noted}
 use Rattle.justfile_model.specs.Expressions.{Tokens, front, Under}
 use Rattle.justfile_model.specs.Grammar.{File}
 use Rattle.justfile_model.specs.Literals as literal
 use Rattle.justfile_model.specs.Literals.{Literal, over_literal, AreCookedTexts}
-use Rattle.justfile_model.specs.Files.{expr_literals, exprs_literals, parts_literals, fragments_literals, body_literals, optional_literals, argument_literals, written_literals, entries_literals, parameter_literals, dependency_literals, header_literals, content_literals, item_literals, items_literals, all_literals, literals, broken, ordered, keeps_tokens, keeps_lexemes, Obeys, FileDerives, ShapeDerives, quoted_literals, option_literals, rules_literals, attribute_literals}
+use Rattle.justfile_model.specs.Files.{expr_literals, exprs_literals, parts_literals, fragments_literals, body_literals, optional_literals, argument_literals, written_literals, entries_literals, parameter_literals, dependency_literals, header_literals, content_literals, item_literals, items_literals, all_features, all_literals, literals, broken, ordered, keeps_tokens, keeps_lexemes, Obeys, FileDerives, ShapeDerives, quoted_literals, option_literals, rules_literals, attribute_literals}
 use Rattle.justfile_model.proofs.CarryExpressions.{Same, Pairs, nil, cons}
 use Rattle.justfile_model.proofs.Carry as c
 use Rattle.justfile_model.proofs.Carry.{Maps, over_items, Alike}
 use Rattle.justfile_model.proofs.Mapped.{map_same, option_same, flat_mapped}
 use Rattle.justfile_model.proofs.KindedFiles.{file_kinded}
-use Rattle.justfile_model.proofs.Ordered.{shape_ordered, shape_unbroken, tree_ordered, tree_unbroken}
-
-abbrev pub same_leaf : {A : Type 0} → A → A
-same_leaf x = x
+use Rattle.justfile_model.proofs.Ordered.{all_features_seen, shape_ordered, shape_unbroken, tree_ordered, tree_unbroken}
+use Rattle.justfile_model.proofs.Unchanged.{expr_itself, same_leaf}
 
 -- ---- leaves replaced by themselves
-
-mutual
-  pub expr_itself : {A B : Type 0} (e : Expr A B) → over_expr same_leaf same_leaf e ≡ e
-  expr_itself (tree.Or l r) = λ i. tree.Or (expr_itself l i) (expr_itself r i)
-  expr_itself (tree.And l r) = λ i. tree.And (expr_itself l i) (expr_itself r i)
-  expr_itself (tree.Comparison l operator token r) = λ i. tree.Comparison (expr_itself l i) operator token (expr_itself r i)
-  expr_itself (tree.Concatenation l operator r) = λ i. tree.Concatenation (expr_itself l i) operator (expr_itself r i)
-  expr_itself (tree.ListConcatenation l operator r) = λ i. tree.ListConcatenation (expr_itself l i) operator (expr_itself r i)
-  expr_itself (tree.Join l operator r) = λ i. tree.Join (expr_itself l i) operator (expr_itself r i)
-  expr_itself (tree.Root operator r) = λ i. tree.Root operator (expr_itself r i)
-  expr_itself (tree.If c b) = λ i. tree.If (expr_itself c i) (expr_itself b i)
-  expr_itself (tree.IfElse c b o) = λ i. tree.IfElse (expr_itself c i) (expr_itself b i) (expr_itself o i)
-  expr_itself (tree.Not e) = λ i. tree.Not (expr_itself e i)
-  expr_itself (tree.FormatString start e parts) = λ i. tree.FormatString start (expr_itself e i) (parts_itself parts i)
-  expr_itself (tree.Assert name c) = λ i. tree.Assert name (expr_itself c i)
-  expr_itself (tree.AssertMessage name c m) = λ i. tree.AssertMessage name (expr_itself c i) (expr_itself m i)
-  expr_itself (tree.Call name arguments) = λ i. tree.Call name (exprs_itself arguments i)
-  expr_itself (tree.Group e) = λ i. tree.Group (expr_itself e i)
-  expr_itself (tree.ListOf opener elements) = λ i. tree.ListOf opener (exprs_itself elements i)
-  expr_itself _ = refl
-
-  exprs_itself : {A B : Type 0} (es : Exprs A B) → over_exprs same_leaf same_leaf es ≡ es
-  exprs_itself tree.none = refl
-  exprs_itself (tree.more e es) = λ i. tree.more (expr_itself e i) (exprs_itself es i)
-
-  parts_itself : {A B : Type 0} (ps : Parts A B) → over_parts same_leaf same_leaf ps ≡ ps
-  parts_itself (tree.Last token) = refl
-  parts_itself (tree.Continue token e ps) = λ i. tree.Continue token (expr_itself e i) (parts_itself ps i)
 
 pub noted_itself : {B : Type 0} (fs : List (Noted B)) → map (over_noted same_leaf) fs ≡ fs
 noted_itself [] = refl
 noted_itself (n ∷ fs) = λ i. n ∷ noted_itself fs i
+
+pub features_itself : {B : Type 0} (fs : List (ConstructFeatures B)) → map (over_features same_leaf) fs ≡ fs
+features_itself =
+    map_same (over_features same_leaf) (λ f i. record { attributes = noted_itself f.attributes i; content = noted_itself f.content i })
 
 fragments_itself : {A B : Type 0} (fragments : List (Fragment A B)) → map (over_fragment same_leaf same_leaf) fragments ≡ fragments
 fragments_itself [] = refl
@@ -292,49 +266,54 @@ module _ (Open : ℕ → Option SignificantToken → Type 0) where
   still d ts us s o = subst (λ x. Open d (front x)) (pairs_equal s) o
 
   -- a derivation of a written tree is one of its shape
-  pub forget : {all : WrittenTree} {fs : List (Noted Tok)} {ts : Tokens} → File keeps_tokens Open all fs ts → File keeps_lexemes Open (written_shape_of all) (map (over_noted nothing) fs) ts
+  pub forget : {all : WrittenTree} {fs : List (ConstructFeatures Tok)} {ts : Tokens} → File keeps_tokens Open all fs ts
+      → File keeps_lexemes Open (written_shape_of all) (map (over_features nothing) fs) ts
   forget {all} {fs} {ts} h =
       let alike : Alike keeps_tokens forgotten keeps_lexemes unchanged (λ t u. t ≡ u) = record { leaves = equal_lexemes; spots = λ t u s. refl; numbers = λ t u s. refl; stars = λ t u s. refl } in
       let x = c.file keeps_tokens Open forgotten (λ t u. t ≡ u) equal_same keeps_lexemes Open unchanged alike still h ts (equal_pairs ts) in
-      subst (λ y. File keeps_lexemes Open y (map (over_noted nothing) fs) ts) (sym (items_itself x.tree) ∙ x.alike)
-      (subst (λ n. File keeps_lexemes Open x.tree n ts) (sym (noted_itself x.features) ∙ x.noted_alike) x.derives)
+      subst (λ y. File keeps_lexemes Open y (map (over_features nothing) fs) ts) (sym (items_itself x.tree) ∙ x.alike)
+      (subst (λ n. File keeps_lexemes Open x.tree n ts) (sym (features_itself x.features) ∙ x.noted_alike) x.derives)
 
   -- a written tree with this shape, and its features
-  pub record Lifted (shape : WrittenShape) (fs : List (Noted (Unit {0}))) (ts : Tokens) : Type 0 where
+  pub record Lifted (shape : WrittenShape) (fs : List (ConstructFeatures (Unit {0}))) (ts : Tokens) : Type 0 where
     pub tree : WrittenTree
-    pub features : List (Noted Tok)
+    pub features : List (ConstructFeatures Tok)
     pub derives : File keeps_tokens Open tree features ts
     pub alike : written_shape_of tree ≡ shape
-    pub noted_alike : map (over_noted nothing) features ≡ fs
+    pub noted_alike : map (over_features nothing) features ≡ fs
 
   -- a shape's derivation is that of a written tree with this shape
-  pub lift : {shape : WrittenShape} {fs : List (Noted (Unit {0}))} {ts : Tokens} → File keeps_lexemes Open shape fs ts → Lifted shape fs ts
+  pub lift : {shape : WrittenShape} {fs : List (ConstructFeatures (Unit {0}))} {ts : Tokens} → File keeps_lexemes Open shape fs ts → Lifted shape fs ts
   lift {shape} {fs} {ts} h =
       let alike : Alike keeps_lexemes unchanged keeps_tokens forgotten (λ t u. t ≡ u) = record { leaves = equal_lexemes; spots = λ t u s. refl; numbers = λ t u s. refl; stars = λ t u s. refl } in
       let x = c.file keeps_lexemes Open unchanged (λ t u. t ≡ u) equal_same keeps_tokens Open forgotten alike still h ts (equal_pairs ts) in
-      record { tree = x.tree; features = x.features; derives = x.derives; alike = x.alike ∙ items_itself shape; noted_alike = x.noted_alike ∙ noted_itself fs }
+      record { tree = x.tree; features = x.features; derives = x.derives; alike = x.alike ∙ items_itself shape; noted_alike = x.noted_alike ∙ features_itself fs }
 
 -- a shape derives from tokens wherever they stand
-pub elsewhere : (limit : ℕ) {shape : WrittenShape} {fs : List (Noted (Unit {0}))} {ts us : Tokens} → File keeps_lexemes (Under limit) shape fs ts → Pairs Same ts us
+pub elsewhere : (limit : ℕ) {shape : WrittenShape} {fs : List (ConstructFeatures (Unit {0}))} {ts us : Tokens} → File keeps_lexemes (Under limit) shape fs ts → Pairs Same ts us
     → File keeps_lexemes (Under limit) shape fs us
 elsewhere limit {shape} {fs} {ts} {us} h s =
     let alike : Alike keeps_lexemes unchanged keeps_lexemes unchanged Same = record { leaves = λ t u same. sym same.lexeme; spots = λ t u same. refl; numbers = λ t u same. refl; stars = λ t u same. refl } in
     let x = c.file keeps_lexemes (Under limit) unchanged Same (λ t u same. same) keeps_lexemes (Under limit) unchanged alike (λ d ts us same opened. opened) h us s in
     subst (λ y. File keeps_lexemes (Under limit) y fs us) (sym (items_itself x.tree) ∙ x.alike ∙ items_itself shape)
-    (subst (λ n. File keeps_lexemes (Under limit) x.tree n us) (sym (noted_itself x.features) ∙ x.noted_alike ∙ noted_itself fs) x.derives)
+    (subst (λ n. File keeps_lexemes (Under limit) x.tree n us) (sym (features_itself x.features) ∙ x.noted_alike ∙ features_itself fs) x.derives)
 
 -- ---- files
 
 module _ (conditions : Conditions) (tokens : Tokens) (spelled : AllSpelled tokens) where
   pub file_forgets : (all : Tree) (fs : List (Noted Tok)) → FileDerives conditions tokens all fs → ShapeDerives conditions tokens (shape_of all) (map (over_noted nothing) fs)
-  file_forgets all fs h = record {
-    written = written_shape_of h.written;
-    derives = forget _ h.derives;
-    cooked = h.obeys.cooked;
-    cooks = subst (λ l. AreCookedTexts conditions.expander l h.obeys.cooked) (sym (all_lexemes h.written)) h.obeys.cooks;
-    unbroken = shape_unbroken conditions.expander h.written (file_kinded (Under conditions.limit) h.derives spelled) h.obeys.unbroken;
-    ordered_is = shape_ordered conditions.expander h.written all (file_kinded (Under conditions.limit) h.derives spelled) h.ordered_is;
-  }
+  file_forgets all fs h =
+      let kinded = file_kinded (Under conditions.limit) h.derives spelled in
+      record {
+        written = written_shape_of h.written;
+        by_construct = map (over_features nothing) h.by_construct;
+        derives = forget _ h.derives;
+        features_are = ap (map (over_noted nothing)) h.features_are ∙ sym (all_features_seen conditions.expander h.written h.by_construct kinded);
+        cooked = h.obeys.cooked;
+        cooks = subst (λ l. AreCookedTexts conditions.expander l h.obeys.cooked) (sym (all_lexemes h.written)) h.obeys.cooks;
+        unbroken = shape_unbroken conditions.expander h.written kinded h.obeys.unbroken;
+        ordered_is = shape_ordered conditions.expander h.written all kinded h.ordered_is;
+      }
 
   pub file_lifts : (shape : Shape) (fs : List (Noted (Unit {0}))) → ShapeDerives conditions tokens shape fs
       → (all : Tree) × (features : List (Noted Tok)) × FileDerives conditions tokens all features × (shape_of all ≡ shape) × (map (over_noted nothing) features ≡ fs)
@@ -343,12 +322,16 @@ module _ (conditions : Conditions) (tokens : Tokens) (spelled : AllSpelled token
       let kinded = file_kinded (Under conditions.limit) x.derives spelled in
       let sight = sees_lexemes conditions.expander in
       let t = tree_ordered conditions.expander x.tree shape kinded (ap (ordered sight) x.alike ∙ h.ordered_is) in
+      let features = all_features (sees_tokens conditions.expander) x.tree x.features in
       let obeys : Obeys conditions x.tree = record {
         cooked = h.cooked;
         cooks = subst (λ l. AreCookedTexts conditions.expander l h.cooked) (ap all_literals (sym x.alike) ∙ all_lexemes x.tree) h.cooks;
         unbroken = tree_unbroken conditions.expander x.tree kinded (ap (broken sight) x.alike ∙ h.unbroken);
       } in
-      (t.0, x.features, record { written = x.tree; derives = x.derives; obeys = obeys; ordered_is = t.1 }, t.2, x.noted_alike)
+      let same : map (over_noted nothing) features ≡ fs =
+          sym (all_features_seen conditions.expander x.tree x.features kinded) ∙ (λ i. all_features sight (x.alike i) (x.noted_alike i)) ∙ sym h.features_are
+      in
+      (t.0, features, record { written = x.tree; by_construct = x.features; derives = x.derives; features_are = refl; obeys = obeys; ordered_is = t.1 }, t.2, same)
 
   -- tokens derive at most one tree with its features
   abbrev pub OneTree : Type 0

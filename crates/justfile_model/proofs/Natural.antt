@@ -1,25 +1,26 @@
 -- The reader of files is natural in its tokens and leaves: readers whose tokens are related read related items, and draw the same numbers. Where
 -- the one has no number left, the other goes on: then the counter is exceeded in all that the other reads.
-use Rattle.std.proofs.Common.{◌≡◌, ℕ, zero, suc, ◌+◌, ◌<◌, ◌≤◌, Bool, true, false, ◌||◌, cond, List, [], ◌∷◌, ◌++◌, length, drop, Ok, Err, IfOk, refl, sym, subst, ap, ◌∙◌, arith, IsOk}
+use Rattle.std.proofs.Common.{◌≡◌, ℕ, zero, suc, ◌+◌, ◌<◌, ◌≤◌, Bool, true, false, ◌||◌, cond, List, [], ◌∷◌, ◌++◌, length, drop, Some, Ok, Err, IfOk, refl, sym, subst, ap, ◌∙◌, arith, IsOk}
 use Rattle.std.specs.Str.{trim_end}
 use Rattle.justfile_base.specs.declared.item_kind.ItemKind.TheVariants as item_kinds
 use Rattle.justfile_base.specs.declared.token_kind.TokenKind.{TokenKind}
 use Rattle.justfile_base.specs.declared.token_kind.TokenKind.TheVariants as kinds
 use Rattle.justfile_model.specs.AttributeReader.{AttributeLeaves}
-use Rattle.justfile_model.specs.Reader.{Start, after_mark, after_numbered, assigned, assignment, at_end, attributes, body, construct, content, optional_body, body_line, draw_binding, draw_recipe, ended, expression, file, fragment, has_body, headed, items, items_from, items_rule, line, line_at, line_end, line_rest, line_rest_rule, lines, lines_rule, no_line_rest, no_lines, end_of_tokens, obeying, on_line, recipe, some_lines, with_bindings, with_recipes}
+use Rattle.justfile_model.specs.HeaderReader.{ReadHeader, draw_binding, header, with_bindings}
+use Rattle.justfile_model.specs.Reader.{Start, after_mark, after_numbered, any_recipe, argument_rules, assigned, assignment, at_end, attributes, body, body_line, construct, content, draw_recipe, end_of_tokens, ended, file, fragment, has_body, headed, items, items_from, items_rule, line, line_at, line_end, line_rest, line_rest_rule, lines, lines_rule, no_exclusion, no_line_rest, no_lines, on_line, optional_body, recipe, some_lines, with_recipes}
 use Rattle.justfile_model.specs.Reader as r
-use Rattle.justfile_model.specs.Reading.{◌>>=◌, Counters, Leaves, NoNumber, Read, State, Taken, prepend, choose, next_are}
-use Rattle.justfile_model.specs.Rules.{Broken}
+use Rattle.justfile_model.specs.Reading.{◌>>=◌, Counters, Leaves, NoNumber, Read, State, Taken, accept, choose, next_are}
 use Rattle.justfile_model.specs.SignificantTokens.{SignificantToken}
 use Rattle.justfile_model.specs.Tree as tree
-use Rattle.justfile_model.specs.Tree.{BodyLine, Expr, Fragment, Item, Line, trimmed}
-use Rattle.justfile_model.proofs.AlikeAttributes.{AlikeEntry, ordered_alike}
-use Rattle.justfile_model.proofs.AlikeRules.{AlikeBroken}
+use Rattle.justfile_model.specs.Tree.{ArgumentRules, BodyLine, Expr, Fragment, Item, Line, Parameter, trimmed}
+use Rattle.justfile_model.proofs.AlikeAttributes.{AlikeArgumentRules, AlikeEntry, ordered_alike}
+use Rattle.justfile_model.proofs.AlikeRecipes.{exclusions_alike}
 use Rattle.justfile_model.proofs.EachLaws.{each_mapped}
 use Rattle.justfile_model.proofs.NaturalAttributes.{Keeping, attribute_lines_natural}
-use Rattle.justfile_model.proofs.NewAttributesAlike.{allowed_alike, arg_rules_alike, undefined_alike}
-use Rattle.justfile_model.proofs.Counters.{Counted, count, counted, counted_bindings, counted_both, counted_recipes, items_count}
-use Rattle.justfile_model.proofs.NaturalExpressions.{Reads, expression_natural}
+use Rattle.justfile_model.proofs.NewAttributesAlike.{allowed_alike, arg_rules_alike}
+use Rattle.justfile_model.proofs.Counters.{Counted, after_parameters, count, counted, counted_bindings, counted_both, counted_recipes, items_count}
+use Rattle.justfile_model.proofs.NaturalExpressions.{Reads}
+use Rattle.justfile_model.proofs.NaturalHeaders.{AlikeRead, LacksHeader, after_alike, header_natural, obeying_natural, pick_known, value_alike}
 use Rattle.justfile_model.proofs.ReadingSteps.{past}
 use Rattle.justfile_model.proofs.Reading.{items_is, line_goes}
 use Rattle.justfile_model.proofs.Related as a
@@ -34,21 +35,13 @@ dropped (suc n) (a.cons h hs) = dropped n hs
 module _ {R T A B S D R' T' A' B' S' D' : Type 0} (rel : Relations R T A B S D R' T' A' B' S' D') (one : Leaves R T A B S) (other : Leaves R' T' A' B' S') (agree : Respects rel one other) where
   -- ---- bodies
 
-  value_alike : {s : State R T B} {s' : State R' T' B'} → States rel s s' → Reads rel (Alike rel) (expression one s) (expression other s')
-  value_alike h = expression_natural rel one other agree false h
-
   pub fragment_natural : {s : State R T B} {s' : State R' T' B'} → States rel s s' → Reads rel (AlikeFragment rel) (fragment one s) (fragment other s')
   unfolding fragment
   fragment_natural h =
       pick rel _ _ (accepted rel one other agree kinds.Text h)
-      (bind rel _ _ (expected rel one other agree kinds.InterpolationStart h) (λ x x' t k. bind rel _ _ (value_alike k) (λ e e' v j.
+      (bind rel _ _ (expected rel one other agree kinds.InterpolationStart h) (λ x x' t k. bind rel _ _ (value_alike rel one other agree k) (λ e e' v j.
       bind rel _ _ (expected rel one other agree kinds.InterpolationEnd j) (λ y y' t2 i. both (a.a_value v) i))))
       (λ x x' t k. both (a.a_text (agree.text x.0 x'.0 t)) k)
-
-  -- what is read after a part
-  after_alike : {X Y : Type 0} {Q : X → Y → Type 0} {xs : List X} {ys : List Y} {found : Read R T B (List X)} {found' : Read R' T' B' (List Y)} → Each Q xs ys → Reads rel (Each Q) found found' → Reads rel (Each Q) (prepend xs found) (prepend ys found')
-  unfolding prepend
-  after_alike q h = bind rel _ _ h (λ x y k j. both (each_both q k) j)
 
   rest_agrees : (f : State R T B → Read R T B (List (Fragment A B))) (g : State R' T' B' → Read R' T' B' (List (Fragment A' B'))) → ((s : State R T B) (s' : State R' T' B') → States rel s s' → Reads rel (Each (AlikeFragment rel)) (f s) (g s'))
       → (s : State R T B) (s' : State R' T' B') → States rel s s' → Reads rel (Each (AlikeFragment rel)) (line_rest_rule one f s) (line_rest_rule other g s')
@@ -56,7 +49,7 @@ module _ {R T A B S D R' T' A' B' S' D' : Type 0} (rel : Relations R T A B S D R
   rest_agrees f g alike s s' h =
       pick rel _ _ (accepted rel one other agree kinds.Eol h)
       (by_tests rel (next_are one (kinds.Dedent ∷ []) s) (next_are other (kinds.Dedent ∷ []) s') (same_next rel one other agree (kinds.Dedent ∷ []) h) (both a.nil h)
-      (bind rel _ _ (fragment_natural h) (λ x x' q k. after_alike (a.cons q a.nil) (alike x.1 x'.1 k))))
+      (bind rel _ _ (fragment_natural h) (λ x x' q k. after_alike rel (a.cons q a.nil) (alike x.1 x'.1 k))))
       (λ x x' t k. both a.nil k)
 
   pub line_rest_natural : (s : State R T B) (s' : State R' T' B') → States rel s s' → Reads rel (Each (AlikeFragment rel)) (line_rest one s) (line_rest other s')
@@ -79,7 +72,7 @@ module _ {R T A B S D R' T' A' B' S' D' : Type 0} (rel : Relations R T A B S D R
   unfolding lines_rule
   lines_agree f g alike s s' h =
       pick rel _ _ (accepted rel one other agree kinds.Dedent h)
-      (bind rel _ _ (body_line_natural h) (λ x x' q k. after_alike (a.cons q a.nil) (alike x.1 x'.1 k)))
+      (bind rel _ _ (body_line_natural h) (λ x x' q k. after_alike rel (a.cons q a.nil) (alike x.1 x'.1 k)))
       (λ x x' t k. both a.nil k)
 
   pub lines_natural : (s : State R T B) (s' : State R' T' B') → States rel s s' → Reads rel (Each (AlikeLine rel)) (lines one s) (lines other s')
@@ -126,16 +119,28 @@ module _ {R T A B S D W R' T' A' B' S' D' W' : Type 0} (rel : Relations R T A B 
   exceeds_then (bindings_end e l) h j = bindings_end e (omega (arith, l, h))
   exceeds_then (recipes_end e l) h j = recipes_end e (omega (arith, l, j))
 
-  -- what comes next wants a number that is not left; the other reader reads it if it has one
-  pub data Lacks (n : Counters) (s' : State R' T' B') : Type 0 where
+  -- where a header begins, after `@` or not
+  pub data AtHeader (s' : State R' T' B') : State R' T' B' → Type 0 where
+    at_once : AtHeader s' s'
+    after_at : {p : T' × State R' T' B'} → accept other kinds.At s' ≡ Some p → AtHeader s' p.1
+
+  -- what attributes say of parameters lacks a number in the header that comes next
+  abbrev pub LacksIn : (ws : List W') → Counters → State R' T' B' → Counters → Type 0
+  LacksIn ws n s' m = LacksHeader other kept'.sight (argument_rules other kept' s'.run ws) n s' m
+
+  -- what comes next, where the counters stand here, wants a number that is not left where they stand there; the other reader reads it if it has one
+  pub data Lacks (n : Counters) (s' : State R' T' B') : Counters → Type 0 where
     binding : {ws : List W'} {rest : State R' T' B'} → attributes other kept' s' ≡ Ok (ws, rest) → one.has_number n.bindings ≡ false
-        → (other.has_number n.bindings ≡ true → IsOk (assignment other kept' ws n rest)) → Lacks n s'
-    recipe_number : {ws : List W'} {rest : State R' T' B'} → attributes other kept' s' ≡ Ok (ws, rest) → one.has_number n.recipes ≡ false
-        → (other.has_number n.recipes ≡ true → IsOk (recipe other kept' ws n rest)) → Lacks n s'
+        → (other.has_number n.bindings ≡ true → IsOk (assignment other kept' ws n rest)) → Lacks n s' n
+    parameter : {ws : List W'} {rest from : State R' T' B'} {m : Counters} → attributes other kept' s' ≡ Ok (ws, rest) → AtHeader rest from
+        → one.has_number m.bindings ≡ false → LacksIn ws n from m → Lacks n s' m
+    recipe_number : {ws : List W'} {rest : State R' T' B'} {m : Counters} → attributes other kept' s' ≡ Ok (ws, rest) → one.has_number m.recipes ≡ false
+        → (other.has_number m.recipes ≡ true → IsOk (any_recipe other kept' ws n rest))
+        → IfOk (any_recipe other kept' ws n rest) (λ y. y.0.1 ≡ with_recipes (m.recipes + 1) m) → Lacks n s' m
 
   -- after lines that the other reader reads
   pub data Wants : Counters → State R' T' B' → Counters → Type 0 where
-    here : {n : Counters} {s' : State R' T' B'} → Lacks n s' → Wants n s' n
+    here : {n m : Counters} {s' : State R' T' B'} → Lacks n s' m → Wants n s' m
     later : {n m k : Counters} {s' rest : State R' T' B'} {is : List (Item A' B' ℕ S' D')} → line other kept' n s' ≡ Ok ((is, m), rest) → Wants m rest k → Wants n s' k
 
   -- what is read exceeds these counters
@@ -152,8 +157,11 @@ module _ {R T A B S D W R' T' A' B' S' D' W' : Type 0} (rel : Relations R T A B 
   abbrev NoBinding : Counters → Counters → Read R' T' B' (Item A' B' ℕ S' D' × Counters) → Type 0
   NoBinding n m found = (m ≡ n) × (one.has_number n.bindings ≡ false) × (other.has_number n.bindings ≡ true → IsOk found) × AllExceed n found
 
-  abbrev NoRecipe : Counters → Counters → Read R' T' B' (Item A' B' ℕ S' D' × Counters) → Type 0
-  NoRecipe n m found = (m ≡ n) × (one.has_number n.recipes ≡ false) × (other.has_number n.recipes ≡ true → IsOk found) × AllExceed n found
+  -- a number of a recipe is wanting: that of a parameter, or its own
+  pub data NoRecipe (Lacking : Counters → Type 0) (m : Counters) (found : Read R' T' B' (Item A' B' ℕ S' D' × Counters)) : Type 0 where
+    no_parameter : one.has_number m.bindings ≡ false → Lacking m → AllExceed m found → NoRecipe Lacking m found
+    no_number : one.has_number m.recipes ≡ false → (other.has_number m.recipes ≡ true → IsOk found)
+        → IfOk found (λ y. y.0.1 ≡ with_recipes (m.recipes + 1) m) → NoRecipe Lacking m found
 
   binding_alike : {ws : List W} {ws' : List W'} (n : Counters) (name : T) (name' : T') → Each Keeps ws ws' → {e : Expr A B} {e' : Expr A' B'} {s : State R T B} {s' : State R' T' B'} → rel.token name name' → Alike rel e e' → States rel s s'
       → Related rel (AlikeNumbered n) (NoBinding n) (draw_binding one n s >>= assigned one kept ws name e) (draw_binding other n s' >>= assigned other kept' ws' name' e')
@@ -167,24 +175,47 @@ module _ {R T A B S D W R' T' A' B' S' D' W' : Type 0} (rel : Relations R T A B 
       go false true is is' = short {found = Ok ((n.bindings, with_bindings (n.bindings + 1) n), s') >>= assigned other kept' ws' name' e'} (refl, is, (λ _. refl), bindings_end is (omega arith))
       go false false is is' = short {found = Err (NoNumber n)} (refl, is, (λ has. cc), tt)
 
-  recipe_alike : {ws : List W} {ws' : List W'} (n : Counters) (name : T) (name' : T') → Each Keeps ws ws' → {body : List (BodyLine A B ℕ)} {body' : List (BodyLine A' B' ℕ)} {s : State R T B} {s' : State R' T' B'} → rel.token name name' → Each (AlikeLine rel) body body' → States rel s s'
-      → Related rel (AlikeNumbered n) (NoRecipe n) (draw_recipe one n s >>= headed one kept ws name body) (draw_recipe other n s' >>= headed other kept' ws' name' body')
+  recipes_stay : (n : Counters) (ps : List (Parameter A B)) → (after_parameters n ps).recipes ≡ n.recipes
+  recipes_stay n [] = refl
+  recipes_stay n (p ∷ ps) = recipes_stay (with_bindings (n.bindings + 1) n) ps
+
+  recipe_numbered : {Lacking : Counters → Type 0} {ws : List W} {ws' : List W'} (quiet : Bool) (n c : Counters) (x : ReadHeader T A B S) (x' : ReadHeader T' A' B' S') → Each Keeps ws ws'
+      → AlikeRead rel n (x, c) (x', c) → {body : List (BodyLine A B ℕ)} {body' : List (BodyLine A' B' ℕ)}
+      {s : State R T B} {s' : State R' T' B'} → Each (AlikeLine rel) body body' → States rel s s'
+      → Related rel (AlikeNumbered n) (NoRecipe Lacking) (draw_recipe one c s >>= headed one kept quiet ws x body) (draw_recipe other c s' >>= headed other kept' quiet ws' x' body')
   unfolding draw_recipe
-  recipe_alike {ws} {ws'} n name name' q {body} {body'} {s} {s'} t ls h = go (one.has_number n.recipes) (other.has_number n.recipes) refl refl
+  recipe_numbered {Lacking} {ws} {ws'} quiet n c x x' q k {body} {body'} {s} {s'} ls h = go (one.has_number c.recipes) (other.has_number c.recipes) refl refl
     where
-      go : (b b' : Bool) → one.has_number n.recipes ≡ b → other.has_number n.recipes ≡ b'
-          → Related rel (AlikeNumbered n) (NoRecipe n) (cond b (Ok ((n.recipes, with_recipes (n.recipes + 1) n), s)) (Err (NoNumber n)) >>= headed one kept ws name body) (cond b' (Ok ((n.recipes, with_recipes (n.recipes + 1) n), s')) (Err (NoNumber n)) >>= headed other kept' ws' name' body')
-      go true true is is' = both (a.recipe (attributed.attributes s.run s'.run h.run q) (agree.recipe s.run s'.run name name' h.run t n.recipes body body' ls) ls, refl, refl) h
-      go true false is is' = let left = agree.has_number n.recipes is in cc
-      go false true is is' = short {found = Ok ((n.recipes, with_recipes (n.recipes + 1) n), s') >>= headed other kept' ws' name' body'} (refl, is, (λ _. refl), recipes_end is (omega arith))
-      go false false is is' = short {found = Err (NoNumber n)} (refl, is, (λ has. cc), tt)
+      unmoved : c.recipes ≡ n.recipes
+      unmoved = ap (λ (m : Counters). m.recipes) k.counts ∙ recipes_stay n x.parameters
+
+      go : (b b' : Bool) → one.has_number c.recipes ≡ b → other.has_number c.recipes ≡ b'
+          → Related rel (AlikeNumbered n) (NoRecipe Lacking) (cond b (Ok ((c.recipes, with_recipes (c.recipes + 1) c), s)) (Err (NoNumber c)) >>= headed one kept quiet ws x body)
+          (cond b' (Ok ((c.recipes, with_recipes (c.recipes + 1) c), s')) (Err (NoNumber c)) >>= headed other kept' quiet ws' x' body')
+      go true true is is' =
+          both (a.recipe (attributed.attributes s.run s'.run h.run q) (record {
+            quiet = refl;
+            name = subst (λ (number : ℕ). rel.recipe number (one.recipe s.run x.name c.recipes body) body (other.recipe s'.run x'.name c.recipes body') body') unmoved
+            (agree.recipe s.run s'.run x.name x'.name h.run k.name c.recipes body body' ls);
+            parameters = k.parameters;
+            priors = k.priors;
+            subsequents = k.subsequents;
+          }) ls, refl, λ i. with_recipes (unmoved i + 1) (k.counts i)) h
+      go true false is is' = let left = agree.has_number c.recipes is in cc
+      go false true is is' =
+          short {found = Ok ((c.recipes, with_recipes (c.recipes + 1) c), s') >>= headed other kept' quiet ws' x' body'} (no_number is (λ _. refl) refl)
+      go false false is is' = short {found = Err (NoNumber c)} (no_number is (λ has. cc) tt)
+
+  recipe_alike : {Lacking : Counters → Type 0} {ws : List W} {ws' : List W'} (quiet : Bool) (n : Counters) (x : ReadHeader T A B S × Counters) (x' : ReadHeader T' A' B' S' × Counters) → Each Keeps ws ws'
+      → AlikeRead rel n x x' → {body : List (BodyLine A B ℕ)} {body' : List (BodyLine A' B' ℕ)}
+      {s : State R T B} {s' : State R' T' B'} → Each (AlikeLine rel) body body' → States rel s s'
+      → Related rel (AlikeNumbered n) (NoRecipe Lacking) (draw_recipe one x.1 s >>= headed one kept quiet ws x.0 body) (draw_recipe other x'.1 s' >>= headed other kept' quiet ws' x'.0 body')
+  recipe_alike {Lacking} {ws} {ws'} quiet n x x' q k {body} {body'} {s} {s'} ls h =
+      subst (λ (c : Counters). Related rel (AlikeNumbered n) (NoRecipe Lacking) (draw_recipe one x.1 s >>= headed one kept quiet ws x.0 body) (draw_recipe other c s' >>= headed other kept' quiet ws' x'.0 body')) k.same
+      (recipe_numbered quiet n x.1 x.0 x'.0 q
+      (record { name = k.name; parameters = k.parameters; priors = k.priors; subsequents = k.subsequents; same = refl; counts = k.counts }) ls h)
 
   -- ---- items
-
-  obeying_natural : {rules : List (Broken B)} {rules' : List (Broken B')} {s : State R T B} {s' : State R' T' B'} → Each (AlikeBroken rel.spot) rules rules'
-      → States rel s s' → Reads rel (λ x y. Unit {0}) (obeying rules s) (obeying rules' s')
-  obeying_natural a.nil h = both tt h
-  obeying_natural (a.cons b bs) h = neither (a.breaks b)
 
   -- what attributes mean, in order
   entries_alike : {ws : List W} {ws' : List W'} (run : R) (run' : R') → rel.run run run' → Each Keeps ws ws'
@@ -196,15 +227,19 @@ module _ {R T A B S D W R' T' A' B' S' D' W' : Type 0} (rel : Relations R T A B 
   allowed_natural : {ws : List W} {ws' : List W'} (name : T) (name' : T') → rel.token name name' → Each Keeps ws ws' → {s : State R T B}
       {s' : State R' T' B'} → States rel s s' → Reads rel (λ x y. Unit {0}) (r.allowed one kept ws name s) (r.allowed other kept' ws' name' s')
   allowed_natural name name' t q {s} {s'} h =
-      obeying_natural (allowed_alike rel (kept.sight s.run) (kept'.sight s'.run) (attributed.keeping.sees s.run s'.run h.run) item_kinds.Assignment
+      obeying_natural rel (allowed_alike rel (kept.sight s.run) (kept'.sight s'.run) (attributed.keeping.sees s.run s'.run h.run) item_kinds.Assignment
       (agree.spot name name' t) (entries_alike s.run s'.run h.run q)) h
 
-  defined_natural : {ws : List W} {ws' : List W'} → Each Keeps ws ws' → {s : State R T B} {s' : State R' T' B'} → States rel s s'
-      → Reads rel (λ x y. Unit {0}) (r.defined one kept ws s) (r.defined other kept' ws' s')
-  defined_natural q {s} {s'} h =
-      let sees = attributed.keeping.sees s.run s'.run h.run in
-      obeying_natural (undefined_alike rel (kept.sight s.run) (kept'.sight s'.run) sees
-      (arg_rules_alike rel (kept.sight s.run) (kept'.sight s'.run) sees (entries_alike s.run s'.run h.run q))) h
+  exclusion_natural : {ws : List W} {ws' : List W'} (name : T) (name' : T') → rel.token name name' → Each Keeps ws ws' → {s : State R T B}
+      {s' : State R' T' B'} → States rel s s' → Reads rel (λ x y. Unit {0}) (no_exclusion one kept ws name s) (no_exclusion other kept' ws' name' s')
+  exclusion_natural name name' t q {s} {s'} h =
+      obeying_natural rel (exclusions_alike rel (kept.sight s.run) (kept'.sight s'.run) (attributed.keeping.sees s.run s'.run h.run)
+      (agree.spot name name' t) (entries_alike s.run s'.run h.run q)) h
+
+  rules_alike : {ws : List W} {ws' : List W'} (run : R) (run' : R') → rel.run run run' → Each Keeps ws ws'
+      → Each (AlikeArgumentRules rel) (argument_rules one kept run ws) (argument_rules other kept' run' ws')
+  rules_alike run run' same q =
+      arg_rules_alike rel (kept.sight run) (kept'.sight run') (attributed.keeping.sees run run' same) (entries_alike run run' same q)
 
   pub assignment_natural : {ws : List W} {ws' : List W'} (n : Counters) → Each Keeps ws ws' → {s : State R T B} {s' : State R' T' B'} → States rel s s'
       → Related rel (AlikeNumbered n) (NoBinding n) (assignment one kept ws n s) (assignment other kept' ws' n s')
@@ -214,13 +249,62 @@ module _ {R T A B S D W R' T' A' B' S' D' W' : Type 0} (rel : Relations R T A B 
       bind rel _ _ (value_alike rel one other agree j) (λ e e' v i. bind rel _ _ (allowed_natural name.0 name'.0 t q i) (λ u u' c l.
       binding_alike n name.0 name'.0 q t v l))))
 
-  pub recipe_natural : {ws : List W} {ws' : List W'} (n : Counters) → Each Keeps ws ws' → {s : State R T B} {s' : State R' T' B'} → States rel s s'
-      → Related rel (AlikeNumbered n) (NoRecipe n) (recipe one kept ws n s) (recipe other kept' ws' n s')
+  exceed_after : {X : Type 0} (m : Counters) (found : Read R' T' B' X) (f : X × State R' T' B' → Read R' T' B' (Item A' B' ℕ S' D' × Counters))
+      → ((x : X × State R' T' B') → AllExceed m (f x)) → AllExceed m (found >>= f)
+  exceed_after m (Ok x) f h = h x
+  exceed_after m (Err e) f h = tt
+
+  -- a recipe whose header exceeds a counter does too
+  drawn_exceeds : (m c : Counters) (quiet : Bool) (ws : List W') (x : ReadHeader T' A' B' S') (body : List (BodyLine A' B' ℕ)) (s : State R' T' B')
+      → one.has_number m.bindings ≡ false → m.bindings < c.bindings → AllExceed m (draw_recipe other c s >>= headed other kept' quiet ws x body)
+  unfolding draw_recipe
+  drawn_exceeds m c quiet ws x body s ends less = go (other.has_number c.recipes)
+    where
+      go : (b : Bool) → AllExceed m (cond b (Ok ((c.recipes, with_recipes (c.recipes + 1) c), s)) (Err (NoNumber c)) >>= headed other kept' quiet ws x body)
+      go true = bindings_end ends less
+      go false = tt
+
+  abbrev Rest : (quiet : Bool) → List W' → (ReadHeader T' A' B' S' × Counters) × State R' T' B' → Read R' T' B' (Item A' B' ℕ S' D' × Counters)
+  Rest quiet ws h =
+      optional_body other h.1 >>= λ b. no_exclusion other kept' ws h.0.0.name b.1 >>= λ checked. draw_recipe other h.0.1 checked.1 >>= headed other kept' quiet ws h.0.0 b.0
+
+  header_carried : (m : Counters) (quiet : Bool) (ws : List W') (found : Read R' T' B' (ReadHeader T' A' B' S' × Counters)) → one.has_number m.bindings ≡ false
+      → IfOk found (λ y. m.bindings < y.0.1.bindings) → AllExceed m (found >>= Rest quiet ws)
+  header_carried m quiet ws (Err e) ends less = tt
+  header_carried m quiet ws (Ok h) ends less =
+      exceed_after m (optional_body other h.1) _ (λ b. exceed_after m (no_exclusion other kept' ws h.0.0.name b.1) _ (λ checked.
+      drawn_exceeds m h.0.1 quiet ws h.0.0 b.0 checked.1 ends less))
+
+  pub recipe_natural : {ws : List W} {ws' : List W'} (quiet : Bool) (n : Counters) → Each Keeps ws ws' → {s : State R T B} {s' : State R' T' B'} → States rel s s'
+      → Related rel (AlikeNumbered n) (NoRecipe (LacksIn ws' n s')) (recipe one kept quiet ws n s) (recipe other kept' quiet ws' n s')
   unfolding recipe
-  recipe_natural n q h =
-      bind rel _ _ (expected rel one other agree kinds.Identifier h) (λ name name' t k. bind rel _ _ (expected rel one other agree kinds.Colon k) (λ x x' t2 j.
-      bind rel _ _ (defined_natural q j) (λ u u' c l. bind rel _ _ (optional_body_natural rel one other agree l) (λ b b' ls i.
-      recipe_alike n name.0 name'.0 q t ls i))))
+  recipe_natural {ws} {ws'} quiet n q {s} {s'} h =
+      let rules = argument_rules one kept s.run ws in
+      let rules' = argument_rules other kept' s'.run ws' in
+      bind_short rel _ _ (header_natural rel one other agree kept.sight kept'.sight attributed.keeping.sees rules rules' (rules_alike s.run s'.run h.run q) n h)
+      (λ m w. no_parameter w.ends w.lacks (header_carried m quiet ws' (header other kept'.sight rules' n s') w.ends w.exceeds))
+      (λ x x' is is' k j. bind rel _ _ (optional_body_natural rel one other agree j) (λ b b' ls i.
+      bind rel _ _ (exclusion_natural x.0.0.name x'.0.0.name k.name q i) (λ u u' c l. recipe_alike quiet n x.0 x'.0 q k ls l)))
+
+  -- the same is wanting of what is the same
+  no_recipe : {Lacking Other : Counters → Type 0} {m : Counters} {found : Read R' T' B' (Item A' B' ℕ S' D' × Counters)} → ((m : Counters) → Lacking m → Other m)
+      → NoRecipe Lacking m found → NoRecipe Other m found
+  no_recipe {m = m} f (no_parameter ends lacks exceeds) = no_parameter ends (f m lacks) exceeds
+  no_recipe f (no_number ends reads counts) = no_number ends reads counts
+
+  -- a header that lacks a number, after `@` or not
+  pub record LacksAfter (ws : List W') (n : Counters) (s' : State R' T' B') (m : Counters) : Type 0 where
+    pub from : State R' T' B'
+    pub begins : AtHeader s' from
+    pub lacks : LacksIn ws n from m
+
+  pub any_recipe_natural : {ws : List W} {ws' : List W'} (n : Counters) → Each Keeps ws ws' → {s : State R T B} {s' : State R' T' B'} → States rel s s'
+      → Related rel (AlikeNumbered n) (NoRecipe (LacksAfter ws' n s')) (any_recipe one kept ws n s) (any_recipe other kept' ws' n s')
+  unfolding any_recipe
+  any_recipe_natural n q {s} {s'} h =
+      pick_known rel _ _ (accepted rel one other agree kinds.At h)
+      (weaken rel (λ x y q. q) (λ m k. no_recipe (λ m w. record { from = s'; begins = at_once; lacks = w }) k) (recipe_natural false n q h))
+      (λ p p' is k. weaken rel (λ x y q. q) (λ m w. no_recipe (λ m w. record { from = p'.1; begins = after_at is; lacks = w }) w) (recipe_natural true n q k))
 
   same_alone : {s : State R T B} {s' : State R' T' B'} → States rel s s' → r.stands_alone one kept s ≡ r.stands_alone other kept' s'
   same_alone h = λ i. same_next rel one other agree (kinds.Eol ∷ []) h i || same_next rel one other agree (kinds.Comment ∷ []) h i
@@ -236,22 +320,34 @@ module _ {R T A B S D W R' T' A' B' S' D' W' : Type 0} (rel : Relations R T A B 
 
   -- a number is wanting where these counters stand
   abbrev NoItem : Counters → State R' T' B' → Counters → Read R' T' B' (Item A' B' ℕ S' D' × Counters) → Type 0
-  NoItem n s' m found = (m ≡ n) × Lacks n s' × AllExceed n found
+  NoItem n s' m found = Lacks n s' m × AllExceed m found
 
   abbrev NoLine : Counters → State R' T' B' → Counters → Read R' T' B' (List (Item A' B' ℕ S' D') × Counters) → Type 0
-  NoLine n s' m found = (m ≡ n) × Lacks n s' × AllExceed n found
+  NoLine n s' m found = Lacks n s' m × AllExceed m found
 
   comment_alike : (n : Counters) (t : T) (t' : T') → rel.token t t' → AlikeItem rel n (r.comment_item one kept t) (r.comment_item other kept' t')
   comment_alike n t t' h = subst (λ (x : SignificantToken). AlikeItem rel n (r.comment_item one kept t) (tree.Comment (trim_end x.tok.lexeme))) (agree.see t t' h) a.comment
 
+  -- what exceeds by its own number
+  own_exceeds : (m : Counters) (found : Read R' T' B' (Item A' B' ℕ S' D' × Counters)) → one.has_number m.recipes ≡ false
+      → IfOk found (λ y. y.0.1 ≡ with_recipes (m.recipes + 1) m) → AllExceed m found
+  own_exceeds m (Ok x) ends is = recipes_end ends (omega (arith, ap (λ (c : Counters). c.recipes) is))
+  own_exceeds m (Err e) ends is = tt
+
+  recipe_lacks : {ws' : List W'} (n m : Counters) {s' from : State R' T' B'} → attributes other kept' from ≡ Ok (ws', s')
+      → NoRecipe (LacksAfter ws' n s') m (any_recipe other kept' ws' n s') → NoItem n from m (any_recipe other kept' ws' n s')
+  recipe_lacks n m is (no_parameter ends lacks exceeds) = (parameter is lacks.begins ends lacks.lacks, exceeds)
+  recipe_lacks {ws'} n m {s'} is (no_number ends reads counts) = (recipe_number is ends reads counts, own_exceeds m (any_recipe other kept' ws' n s') ends counts)
+
   content_natural : {ws : List W} {ws' : List W'} (n : Counters) → Each Keeps ws ws' → {s : State R T B} {s' from : State R' T' B'} → States rel s s'
       → attributes other kept' from ≡ Ok (ws', s') → Related rel (AlikeNumbered n) (NoItem n from) (content one kept ws n s) (content other kept' ws' n s')
   unfolding content
-  content_natural n q {s} {s'} h is =
+  content_natural {ws} {ws'} n q {s} {s'} {from} h is =
       let named : List TokenKind = kinds.Identifier ∷ kinds.ColonEquals ∷ [] in
       by_tests rel (next_are one named s) (next_are other named s') (same_next rel one other agree named h)
-      (weaken rel (λ x y q. q) (λ m k. (k.0, binding is k.1 k.2, k.3)) (assignment_natural n q h))
-      (weaken rel (λ x y q. q) (λ m k. (k.0, recipe_number is k.1 k.2, k.3)) (recipe_natural n q h))
+      (weaken rel (λ x y q. q) (λ m k. (subst (λ (c : Counters). Lacks n from c) (sym k.0) (binding is k.1 k.2),
+      subst (λ (c : Counters). AllExceed c (assignment other kept' ws' n s')) (sym k.0) k.3)) (assignment_natural n q h))
+      (weaken rel (λ x y q. q) (λ m k. recipe_lacks n m is k) (any_recipe_natural n q h))
 
   pub construct_natural : (n : Counters) {s : State R T B} {s' : State R' T' B'} → States rel s s'
       → Related rel (AlikeNumbered n) (NoItem n s') (construct one kept n s) (construct other kept' n s')
@@ -297,7 +393,7 @@ module _ {R T A B S D W R' T' A' B' S' D' W' : Type 0} (rel : Relations R T A B 
   unfolding line
   line_natural n {s} {s'} h =
       pick rel _ _ (accepted rel one other agree kinds.Eol h)
-      (bind_short rel _ _ (on_line_natural n h) (λ m k. (k.0, k.1, carried n (on_line other kept' n s') (λ i. ended other kept' (has_body i.0.0) i.1) k.2))
+      (bind_short rel _ _ (on_line_natural n h) (λ m k. (k.0, carried m (on_line other kept' n s') (λ i. ended other kept' (has_body i.0.0) i.1) k.1))
       (λ i i' is is' q k. bind rel _ _ (ended_natural (has_body i.0.0) (has_body i'.0.0) (same_body rel q.0) k) (λ b b' u j.
       both (an_item q.0 (u (count n i.0.0)).0, q.1, q.2 ∙ sym (u (count n i.0.0)).1) j)))
       (λ x x' t k. both (an_item a.newline no_item, refl, refl) k)
@@ -349,7 +445,7 @@ module _ {R T A B S D W R' T' A' B' S' D' W' : Type 0} (rel : Relations R T A B 
     step n s s' few h =
         rw (items_is one kept n s, items_is other kept' n s')
         (pick rel _ _ (accepted rel one other agree kinds.Eof h)
-        (bind_short rel _ _ (line_natural n h) (λ m k. (subst (λ (c : Counters). Wants n s' c) (sym k.0) (here k.1), subst (λ (c : Counters). AllExceed c (line other kept' n s' >>= λ l. after_numbered l.0.0 (items_from other kept' (l.0.1, l.1)))) (sym k.0) (line_exceeds n (line other kept' n s') k.2)))
+        (bind_short rel _ _ (line_natural n h) (λ m k. (here k.0, line_exceeds m (line other kept' n s') k.1))
         (λ l l' is is' q k. others_alike n l l' s' (omega (arith, few, (past s _ l (line_goes one kept n s) is).0)) is' q k))
         (λ x x' t k. end_alike n s' k k.left))
 

@@ -288,3 +288,6 @@ module _ {R T A B S D R' T' A' B' S' D' : Type 0} (rel : Relations R T A B S D R
 
     pub expression_natural : (c : Bool) {s : State R T B} {s' : State R' T' B'} → States rel s s' → Reads (Alike rel) (read one (r.At levels.Expression c s)) (read other (r.At levels.Expression c s'))
     expression_natural c {s} {s'} h = natural (r.At levels.Expression c s) (r.At levels.Expression c s') (at h)
+
+    pub value_natural : {s : State R T B} {s' : State R' T' B'} → States rel s s' → Reads (Alike rel) (r.value one s) (r.value other s')
+    value_natural h = value_alike (read one) (read other) natural h

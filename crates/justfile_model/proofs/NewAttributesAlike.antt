@@ -8,9 +8,8 @@ use Rattle.justfile_base.specs.declared.attribute_kind.AttributeKind.{AttributeK
 use Rattle.justfile_base.specs.declared.attribute_kind.AttributeKind.TheVariants as attributes
 use Rattle.justfile_base.specs.declared.signal.Signal.{Signal}
 use Rattle.justfile_base.specs.declared.item_kind.ItemKind.{ItemKind}
-use Rattle.justfile_base.specs.declared.item_kind.ItemKind.TheVariants as items
 use Rattle.justfile_model.specs.AttributeKinds.{is_allowed, is_repeatable, known_keys, least_count, most_count, same_attribute, takes_expressions}
-use Rattle.justfile_model.specs.AttributeRules.{allowed_broken, arg_rules, duplicate_rule, excludes, first_invalid, has_more, label_of, meaning_broken, rules_in, same_label, same_text, undefined_broken}
+use Rattle.justfile_model.specs.AttributeRules.{allowed_broken, arg_rules, duplicate_rule, excludes, first_invalid, has_more, label_of, rules_in, same_label, same_text}
 use Rattle.justfile_model.specs.ContentKeys.{kind_of_attribute}
 use Rattle.justfile_model.specs.Literals.{string_of}
 use Rattle.justfile_model.specs.Meaning.{KeyArgument, Placed, at_key, count_of, is_count, quoted_text, signal_set, single_of, text_of, texts_of}
@@ -18,7 +17,7 @@ use Rattle.justfile_model.specs.NewAttribute as new
 use Rattle.justfile_model.specs.NewAttribute.{Made}
 use Rattle.justfile_model.specs.Sight.{Sight, or_empty}
 use Rattle.justfile_model.specs.Tree as tree
-use Rattle.justfile_model.specs.Tree.{ArgumentRules, AssignmentParts, Attribute, Bound, Content, Entry, Expr, OptionName, Property, Quoted, RecipeParts}
+use Rattle.justfile_model.specs.Tree.{ArgumentRules, Attribute, Bound, Entry, Expr, OptionName, Property, Quoted}
 use Rattle.justfile_model.proofs.AlikeAttributes as alike
 use Rattle.justfile_model.proofs.AlikeAttributes.{AlikeArgumentRules, AlikeAttribute, AlikeBound, AlikeEntry, AlikeKey, AlikeOptionName, AlikePlaced, AlikeProperty, AlikeQuoted, SeesAlike, quoted_alike, quoted_literal, same_kind}
 use Rattle.justfile_model.proofs.AlikeRules as broken
@@ -327,7 +326,7 @@ module _ {R T A B S D R' T' A' B' S' D' : Type 0} (rel : Relations R T A B S D R
       listed_alike _ _ (λ e e' k. a.cons (record { rule = broken.invalid_attribute (same_kind rel k.attribute); token = n }) a.nil) (invalid_alike item h)
 
   rules_in_alike : {x : Attribute A B} {x' : Attribute A' B'} → AlikeAttribute rel x x'
-      → AlikeOption (AlikeArgumentRules rel) (rules_in sight x) (rules_in sight' x')
+      → AlikeOption (AlikeArgumentRules rel) (rules_in x) (rules_in x')
   rules_in_alike (alike.plain kind) = absent
   rules_in_alike (alike.single kind e) = absent
   rules_in_alike (alike.texts kind qs) = absent
@@ -337,23 +336,5 @@ module _ {R T A B S D R' T' A' B' S' D' : Type 0} (rel : Relations R T A B S D R
   rules_in_alike (alike.arg r) = present r
 
   pub arg_rules_alike : {es : List (Entry A B)} {es' : List (Entry A' B')} → Each (AlikeEntry rel) es es'
-      → Each (AlikeArgumentRules rel) (arg_rules sight es) (arg_rules sight' es')
+      → Each (AlikeArgumentRules rel) (arg_rules es) (arg_rules es')
   arg_rules_alike h = each_given _ _ (λ e e' k. rules_in_alike k.attribute) h
-
-  pub undefined_alike : {rs : List (ArgumentRules A B)} {rs' : List (ArgumentRules A' B')} → Each (AlikeArgumentRules rel) rs rs'
-      → Each (AlikeBroken rel.spot) (undefined_broken sight rs) (undefined_broken sight' rs')
-  undefined_alike h =
-      listed_alike _ _ (λ r r' k. a.cons (record { rule = broken.undefined_arg (same_text_of k.name); token = quoted_place k.name }) a.nil)
-      (least_alike _ _ (λ r r' k. same_text_of k.name) h)
-
-  -- contents whose names are related, as far as their attributes look at them
-  pub data AlikeContent {C C' E E' : Type 0} : Content A B C E → Content A' B' C' E' → Type 0 where
-    an_assignment : {number : ℕ} {p : AssignmentParts A B} {p' : AssignmentParts A' B'} → rel.assignment number p.name p'.name
-        → AlikeContent (tree.Assignment p) (tree.Assignment p')
-    a_recipe : {r : RecipeParts A B C E} {r' : RecipeParts A' B' C' E'} → AlikeContent (tree.Recipe r) (tree.Recipe r')
-
-  pub meaning_alike : {C C' E E' : Type 0} {c : Content A B C E} {c' : Content A' B' C' E'} {es : List (Entry A B)} {es' : List (Entry A' B')}
-      → AlikeContent c c' → Each (AlikeEntry rel) es es'
-      → Each (AlikeBroken rel.spot) (meaning_broken sight c es) (meaning_broken sight' c' es')
-  meaning_alike (an_assignment {number = number} {p = p} {p' = p'} n) h = allowed_alike items.Assignment (sees.assignment_place number p.name p'.name n) h
-  meaning_alike a_recipe h = undefined_alike (arg_rules_alike h)

@@ -1,21 +1,24 @@
 -- Written items whose attributes have a meaning, and which break no rule.
-use Rattle.std.proofs.Common.{◌≡◌, ℕ, List, [], ◌∷◌, ◌++◌, Some, refl}
-use Rattle.justfile_model.specs.AttributeRules.{attributes_broken, meaning_broken}
+use Rattle.std.proofs.Common.{◌≡◌, ℕ, List, [], ◌∷◌, ◌++◌, Some, refl, ap}
+use Rattle.std.specs.Option.{option_map}
+use Rattle.justfile_model.specs.AttributeRules.{attributes_broken}
+use Rattle.justfile_model.specs.ConstructRules.{form_broken, meaning_broken}
 use Rattle.justfile_model.specs.ContentKeys.{entry_cmp}
-use Rattle.justfile_model.specs.Files.{broken, if_both, item_broken, ordered, ordered_item}
+use Rattle.justfile_model.specs.Docs.{Nothing, documented}
+use Rattle.justfile_model.specs.Files.{broken, if_both, item_broken, ordered, ordered_item, says_doc, undocumented}
 use Rattle.justfile_model.specs.Meaning.{all_of, entry_of}
 use Rattle.justfile_model.specs.Order.{in_order}
 use Rattle.justfile_model.specs.Sight.{Sight}
 use Rattle.justfile_model.specs.Tree as tree
 use Rattle.justfile_model.specs.Tree.{Construct, Content, Entry, OrderedItem, WrittenAttribute, WrittenItem, starless}
 
-module _ {A B C S : Type 0} (sight : Sight A B) where
-  pub record Obeyed (i : WrittenItem A B C S) : Type 0 where
+module _ {A B C : Type 0} (sight : Sight A B) where
+  pub record Obeyed (i : WrittenItem A B C B) : Type 0 where
     pub unbroken : item_broken sight i ≡ []
     pub meaning : OrderedItem A B C
     pub means : ordered_item sight i ≡ Some meaning
 
-  abbrev pub AllObeyed : List (WrittenItem A B C S) → Type 0
+  abbrev pub AllObeyed : List (WrittenItem A B C B) → Type 0
   AllObeyed [] = Unit {0}
   AllObeyed (i ∷ items) = Obeyed i × AllObeyed items
 
@@ -26,28 +29,31 @@ module _ {A B C S : Type 0} (sight : Sight A B) where
   comment_obeyed text = record { unbroken = refl; meaning = tree.Comment text; means = refl }
 
   -- a construct whose attributes mean these entries
-  pub construct_obeyed : (ws : List (WrittenAttribute A B)) (content : Content A B C S) (entries : List (Entry A B))
+  pub construct_obeyed : (ws : List (WrittenAttribute A B)) (content : Content A B C B) (entries : List (Entry A B))
       → all_of (entry_of sight) ws ≡ Some entries → attributes_broken sight ws ≡ []
-      → meaning_broken sight content (in_order (entry_cmp sight) entries) ≡ [] → Obeyed (Construct ws content)
-  construct_obeyed ws content entries means unbroken allowed = record {
-    unbroken = rw (unbroken, means) allowed;
+      → meaning_broken sight content (in_order (entry_cmp sight) entries) ≡ [] → form_broken content ≡ [] → Obeyed (Construct ws content)
+  construct_obeyed ws content entries means unbroken allowed formed = record {
+    unbroken = rw (unbroken, means, allowed) formed;
     meaning = Construct (in_order (entry_cmp sight) entries) (starless content);
     means = rw means refl;
   }
 
-  pub both_obeyed : (is js : List (WrittenItem A B C S)) → AllObeyed is → AllObeyed js → AllObeyed (is ++ js)
+  pub both_obeyed : (is js : List (WrittenItem A B C B)) → AllObeyed is → AllObeyed js → AllObeyed (is ++ js)
   both_obeyed [] js h k = k
   both_obeyed (i ∷ is) js h k = (h.0, both_obeyed is js h.1 k)
 
-  pub all_unbroken : (items : List (WrittenItem A B C S)) → AllObeyed items → broken sight items ≡ []
+  pub all_unbroken : (items : List (WrittenItem A B C B)) → AllObeyed items → broken sight items ≡ []
   all_unbroken [] h = refl
   all_unbroken (i ∷ items) h = rw (h.0.unbroken, all_unbroken items h.1) refl
 
   -- all that is meant
-  abbrev pub meanings : (items : List (WrittenItem A B C S)) → AllObeyed items → List (OrderedItem A B C)
+  abbrev pub meanings : (items : List (WrittenItem A B C B)) → AllObeyed items → List (OrderedItem A B C)
   meanings [] h = []
   meanings (i ∷ items) h = h.0.meaning ∷ meanings items h.1
 
-  pub all_ordered : (items : List (WrittenItem A B C S)) (h : AllObeyed items) → ordered sight items ≡ Some (meanings items h)
-  all_ordered [] h = refl
-  all_ordered (i ∷ items) h = λ j. if_both (h.0.means j) (all_ordered items h.1 j)
+  pub all_undocumented : (items : List (WrittenItem A B C B)) (h : AllObeyed items) → undocumented sight items ≡ Some (meanings items h)
+  all_undocumented [] h = refl
+  all_undocumented (i ∷ items) h = λ j. if_both (h.0.means j) (all_undocumented items h.1 j)
+
+  pub all_ordered : (items : List (WrittenItem A B C B)) (h : AllObeyed items) → ordered sight items ≡ Some (documented says_doc Nothing (meanings items h))
+  all_ordered items h = ap (option_map (documented says_doc Nothing)) (all_undocumented items h)

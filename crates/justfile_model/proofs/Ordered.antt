@@ -4,7 +4,10 @@ use Rattle.std.proofs.Common.{◌≡◌, ℕ, ◌+◌, List, [], ◌∷◌, ◌+
 use Rattle.std.proofs.lemmas.List.{map-append}
 use Rattle.std.specs.List.{AllByRecursion, flat_map}
 use Rattle.std.specs.Option.{option_map}
-use Rattle.justfile_model.specs.Files.{expr_literals, dependency_literals, parameter_literals, header_literals, body_literals, content_literals, entries_literals, item_literals, written_literals, all_literals, literals, content_bindings, item_bindings, bindings, content_recipes, item_recipes, recipes, ordered_item, if_both, with_entries, ordered, item_broken, broken}
+use Rattle.justfile_model.specs.AttributeRules.{of_some}
+use Rattle.justfile_model.specs.Docs.{Nothing, documented}
+use Rattle.justfile_model.specs.Features.{ConstructFeatures, over_features, over_noted}
+use Rattle.justfile_model.specs.Files.{expr_literals, dependency_literals, parameter_literals, header_literals, body_literals, content_literals, entries_literals, item_literals, written_literals, all_literals, literals, content_bindings, item_bindings, bindings, content_recipes, item_recipes, recipes, ordered_item, if_both, with_entries, undocumented, ordered, says_doc, entries_features, construct_features, all_features, item_broken, broken}
 use Rattle.justfile_model.specs.Literals.{Expansions, Literal}
 use Rattle.justfile_model.specs.Meaning.{entries_of}
 use Rattle.justfile_model.specs.Rules.{over_broken}
@@ -12,28 +15,46 @@ use Rattle.justfile_model.specs.Sight.{Sight, sees_lexemes, sees_tokens}
 use Rattle.justfile_model.specs.Tok.{Tok}
 use Rattle.justfile_model.specs.Tree.{Newline, Comment, Construct, Content, Assignment, Recipe, Entry, Header, Dependency, DependencyArgument, WrittenAttribute, WrittenItem, OrderedItem, WrittenTree, Tree, Shape, over_written_attribute, over_entry, over_dependency_argument, over_dependency, over_header, over_line, over_content, over_item, starless_argument, starless_dependency, starless_header, starless, item_shape_of, shape_of, written_shape_of, lexeme, nothing}
 use Rattle.justfile_model.proofs.Binds.{never_some, some_back}
+use Rattle.justfile_model.proofs.DocsKept.{bindings_count, documented_counts, documented_shape, literals_count, recipes_count}
+use Rattle.justfile_model.proofs.Kinded.{KindedWritten}
 use Rattle.justfile_model.proofs.KindedFiles.{KindedItem, KindedItems}
 use Rattle.justfile_model.proofs.Mapped.{map_both, option_both, flat_kept}
 use Rattle.justfile_model.proofs.RewrittenLiterals.{both, literals_meant, parts}
 use Rattle.justfile_model.proofs.SeenShapes.{construct_broken_seen, entries_seen}
+use Rattle.justfile_model.proofs.SeesRecipes.{entries_features_over}
+use Rattle.justfile_model.proofs.SeesRules.{both_over, some_over}
 use Rattle.justfile_model.proofs.ShapesMean.{none_of_none}
 
 -- ---- the meaning of the first item, and of the others
 
 module _ {A B C S : Type 0} (sight : Sight A B) where
+  -- what is written means these items, whose docs are comments still
+  pub record Undocumented (written : List (WrittenItem A B C S)) (all : List (OrderedItem A B C)) : Type 0 where
+    pub items : List (OrderedItem A B C)
+    pub items_are : undocumented sight written ≡ Some items
+    pub all_are : all ≡ documented says_doc Nothing items
+
+  pub undocumented_of : (written : List (WrittenItem A B C S)) (all : List (OrderedItem A B C)) → ordered sight written ≡ Some all → Undocumented written all
+  undocumented_of written all h = go (undocumented sight written) refl h
+    where
+      go : (o : Option (List (OrderedItem A B C))) → undocumented sight written ≡ o → option_map (documented says_doc Nothing) o ≡ Some all
+          → Undocumented written all
+      go None e k = never_some all k
+      go (Some items) e k = record { items = items; items_are = e; all_are = sym (some_back (documented says_doc Nothing items) all k) }
+
   -- an item and those after it, which have a meaning
   pub record Meanings (i : WrittenItem A B C S) (items : List (WrittenItem A B C S)) (all : List (OrderedItem A B C)) : Type 0 where
     pub first : OrderedItem A B C
     pub first_is : ordered_item sight i ≡ Some first
     pub others : List (OrderedItem A B C)
-    pub others_are : ordered sight items ≡ Some others
+    pub others_are : undocumented sight items ≡ Some others
     pub all_are : all ≡ first ∷ others
 
-  pub meanings_of : (i : WrittenItem A B C S) (items : List (WrittenItem A B C S)) (all : List (OrderedItem A B C)) → ordered sight (i ∷ items) ≡ Some all
+  pub meanings_of : (i : WrittenItem A B C S) (items : List (WrittenItem A B C S)) (all : List (OrderedItem A B C)) → undocumented sight (i ∷ items) ≡ Some all
       → Meanings i items all
-  meanings_of i items all h = go (ordered_item sight i) (ordered sight items) refl refl h
+  meanings_of i items all h = go (ordered_item sight i) (undocumented sight items) refl refl h
     where
-      go : (o : Option (OrderedItem A B C)) (os : Option (List (OrderedItem A B C))) → ordered_item sight i ≡ o → ordered sight items ≡ os
+      go : (o : Option (OrderedItem A B C)) (os : Option (List (OrderedItem A B C))) → ordered_item sight i ≡ o → undocumented sight items ≡ os
           → if_both o os ≡ Some all → Meanings i items all
       go None os e es k = never_some all k
       go (Some x) None e es k = never_some all k
@@ -89,19 +110,29 @@ module _ {A B C S : Type 0} (sight : Sight A B) where
   item_recipes_kept (Comment text) j h = ap item_recipes (sym (some_back (Comment text) j h))
   item_recipes_kept (Construct ws content) j h = ap item_recipes (construct_meant sight ws content j h).item_is ∙ starless_recipes content
 
-  pub ordered_bindings : (items : List (WrittenItem A B C S)) (all : List (OrderedItem A B C)) → ordered sight items ≡ Some all
+  undocumented_bindings : (items : List (WrittenItem A B C S)) (all : List (OrderedItem A B C)) → undocumented sight items ≡ Some all
       → bindings all ≡ bindings items
-  ordered_bindings [] all h = ap bindings (sym (some_back [] all h))
-  ordered_bindings (i ∷ items) all h =
+  undocumented_bindings [] all h = ap bindings (sym (some_back [] all h))
+  undocumented_bindings (i ∷ items) all h =
       let m = meanings_of sight i items all h in
-      ap bindings m.all_are ∙ (λ j. item_bindings_kept i m.first m.first_is j + ordered_bindings items m.others m.others_are j)
+      ap bindings m.all_are ∙ (λ j. item_bindings_kept i m.first m.first_is j + undocumented_bindings items m.others m.others_are j)
 
-  pub ordered_recipes : (items : List (WrittenItem A B C S)) (all : List (OrderedItem A B C)) → ordered sight items ≡ Some all
+  pub ordered_bindings : (items : List (WrittenItem A B C S)) (all : List (OrderedItem A B C)) → ordered sight items ≡ Some all → bindings all ≡ bindings items
+  ordered_bindings items all h =
+      let d = undocumented_of sight items all h in
+      ap bindings d.all_are ∙ documented_counts bindings bindings_count says_doc Nothing d.items ∙ undocumented_bindings items d.items d.items_are
+
+  undocumented_recipes : (items : List (WrittenItem A B C S)) (all : List (OrderedItem A B C)) → undocumented sight items ≡ Some all
       → recipes all ≡ recipes items
-  ordered_recipes [] all h = ap recipes (sym (some_back [] all h))
-  ordered_recipes (i ∷ items) all h =
+  undocumented_recipes [] all h = ap recipes (sym (some_back [] all h))
+  undocumented_recipes (i ∷ items) all h =
       let m = meanings_of sight i items all h in
-      ap recipes m.all_are ∙ (λ j. item_recipes_kept i m.first m.first_is j + ordered_recipes items m.others m.others_are j)
+      ap recipes m.all_are ∙ (λ j. item_recipes_kept i m.first m.first_is j + undocumented_recipes items m.others m.others_are j)
+
+  pub ordered_recipes : (items : List (WrittenItem A B C S)) (all : List (OrderedItem A B C)) → ordered sight items ≡ Some all → recipes all ≡ recipes items
+  ordered_recipes items all h =
+      let d = undocumented_of sight items all h in
+      ap recipes d.all_are ∙ documented_counts recipes recipes_count says_doc Nothing d.items ∙ undocumented_recipes items d.items d.items_are
 
   -- what holds of the literals that are written, holds of those that are meant
   module _ (P : Literal A → Type 0) where
@@ -116,15 +147,22 @@ module _ {A B C S : Type 0} (sight : Sight A B) where
         (both P (entries_literals m.entries) (content_literals (starless content)) (literals_meant P sight ws m.entries m.means r.0)
         (subst (AllByRecursion P) (sym (starless_literals content)) r.1))
 
-    pub ordered_literals : (items : List (WrittenItem A B C S)) (all : List (OrderedItem A B C)) → ordered sight items ≡ Some all
+    pub undocumented_literals : (items : List (WrittenItem A B C S)) (all : List (OrderedItem A B C)) → undocumented sight items ≡ Some all
         → AllByRecursion P (all_literals items) → AllByRecursion P (literals all)
-    ordered_literals [] all h k = subst (λ x. AllByRecursion P (literals x)) (some_back [] all h) tt
-    ordered_literals (i ∷ items) all h k =
+    undocumented_literals [] all h k = subst (λ x. AllByRecursion P (literals x)) (some_back [] all h) tt
+    undocumented_literals (i ∷ items) all h k =
         let m = meanings_of sight i items all h in
         let r = parts P (item_literals written_literals i) (all_literals items) k in
         subst (λ x. AllByRecursion P (literals x)) (sym m.all_are)
         (both P (item_literals entries_literals m.first) (literals m.others) (item_literals_meant i m.first m.first_is r.0)
-        (ordered_literals items m.others m.others_are r.1))
+        (undocumented_literals items m.others m.others_are r.1))
+
+    pub ordered_literals : (items : List (WrittenItem A B C S)) (all : List (OrderedItem A B C)) → ordered sight items ≡ Some all
+        → AllByRecursion P (all_literals items) → AllByRecursion P (literals all)
+    ordered_literals items all h k =
+        let d = undocumented_of sight items all h in
+        subst (AllByRecursion P) (sym (ap literals d.all_are ∙ documented_counts literals (literals_count entries_literals) says_doc Nothing d.items))
+        (undocumented_literals items d.items d.items_are k)
 
 -- ---- over other leaves
 
@@ -191,11 +229,19 @@ module _ (expander : Expansions) where
       ap (with_entries (over_content lexeme nothing nothing nothing content)) (entries_seen expander ws k)
       ∙ with_entries_seen content (entries_of tokens ws)
 
+  undocumented_seen : (written : WrittenTree) → KindedItems written
+      → undocumented lexemes (written_shape_of written) ≡ option_map shape_of (undocumented tokens written)
+  undocumented_seen [] k = refl
+  undocumented_seen (i ∷ items) k =
+      (λ j. if_both (item_seen i k.0 j) (undocumented_seen items k.1 j)) ∙ both_mapped item_shape_of (ordered_item tokens i) (undocumented tokens items)
+
+  documented_seen : (o : Option Tree) → option_map (documented says_doc Nothing) (option_map shape_of o) ≡ option_map shape_of (option_map (documented says_doc Nothing) o)
+  documented_seen None = refl
+  documented_seen (Some items) = ap Some (documented_shape Nothing items)
+
   ordered_seen : (written : WrittenTree) → KindedItems written
       → ordered lexemes (written_shape_of written) ≡ option_map shape_of (ordered tokens written)
-  ordered_seen [] k = refl
-  ordered_seen (i ∷ items) k =
-      (λ j. if_both (item_seen i k.0 j) (ordered_seen items k.1 j)) ∙ both_mapped item_shape_of (ordered_item tokens i) (ordered tokens items)
+  ordered_seen written k = ap (option_map (documented says_doc Nothing)) (undocumented_seen written k) ∙ documented_seen (undocumented tokens written)
 
   -- what a written shape means is the shape of what the written tree means
 
@@ -212,6 +258,30 @@ module _ (expander : Expansions) where
       go None e m = never_some shape m
       go (Some tree) e m = (tree, e, some_back (shape_of tree) shape m)
 
+  -- the one notes what the other notes
+
+  construct_features_seen : (ws : List (WrittenAttribute Tok Tok)) (content : Content Tok Tok ℕ Tok) (f : ConstructFeatures Tok) → KindedWritten ws
+      → construct_features lexemes (map (over_written_attribute lexeme nothing) ws) (over_content lexeme nothing nothing nothing content) (over_features nothing f)
+      ≡ map (over_noted nothing) (construct_features tokens ws content f)
+  construct_features_seen ws content f k =
+      let meant = of_some (entries_features content) (entries_of tokens ws) in
+      both_over (over_noted nothing) (f.attributes ++ meant) f.content _ _
+      (both_over (over_noted nothing) f.attributes meant _ _ refl
+      (some_over (map (over_entry lexeme nothing)) (over_noted nothing) (entries_features content)
+      (entries_features (over_content lexeme nothing nothing nothing content)) (entries_of tokens ws) _ (entries_seen expander ws k)
+      (entries_features_over lexeme nothing nothing nothing content)))
+      refl
+
+  pub all_features_seen : (written : WrittenTree) (fs : List (ConstructFeatures Tok)) → KindedItems written
+      → all_features lexemes (written_shape_of written) (map (over_features nothing) fs) ≡ map (over_noted nothing) (all_features tokens written fs)
+  all_features_seen [] fs k = refl
+  all_features_seen (Newline ∷ items) fs k = all_features_seen items fs k.1
+  all_features_seen (Comment text ∷ items) fs k = all_features_seen items fs k.1
+  all_features_seen (Construct ws content ∷ items) [] k = refl
+  all_features_seen (Construct ws content ∷ items) (f ∷ fs) k =
+      both_over (over_noted nothing) (construct_features tokens ws content f) (all_features tokens items fs) _ _
+      (construct_features_seen ws content f k.0) (all_features_seen items fs k.1)
+
   -- the one breaks the rules that the other breaks
 
   item_broken_seen : (i : WrittenItem Tok Tok ℕ Tok) → KindedItem i
@@ -219,7 +289,7 @@ module _ (expander : Expansions) where
       ≡ map (over_broken nothing) (item_broken tokens i)
   item_broken_seen Newline k = refl
   item_broken_seen (Comment text) k = refl
-  item_broken_seen (Construct ws content) k = construct_broken_seen expander nothing nothing ws content k
+  item_broken_seen (Construct ws content) k = construct_broken_seen expander nothing ws content k
 
   broken_seen : (written : WrittenTree) → KindedItems written
       → broken lexemes (written_shape_of written) ≡ map (over_broken nothing) (broken tokens written)

@@ -9,6 +9,7 @@ use Rattle.justfile_model.specs.Expressions.{Tokens, NotNext}
 use Rattle.justfile_model.specs.Grammar as g
 use Rattle.justfile_model.specs.Grammar.{Kept, LineRest, BeforeBody, BodyLines, OnLine, Block}
 use Rattle.justfile_model.proofs.ExpressionProgress.{expression_progress}
+use Rattle.justfile_model.proofs.HeaderProgress.{header_progress}
 
 module _ {A B : Type 0} (leaf : Tok → A) (spot : Tok → B) (Open : ℕ → Option SignificantToken → Type 0) where
   -- the end of a body is left
@@ -36,7 +37,7 @@ module _ {A B C S : Type 0} (kept : Kept A B C S) (Open : ℕ → Option Signifi
 
   pub on_line_progress : {c : Content A B C S} {fs : List (Noted B)} {ts rest : Tokens} → OnLine kept Open c fs ts rest → length rest < length ts
   on_line_progress (g.assignment kind kind2 e) = omega (arith, expression_progress kept.leaf kept.spot Open e)
-  on_line_progress (g.header kind kind2) = omega arith
+  on_line_progress (g.header h) = header_progress kept.leaf kept.spot kept.star Open h
 
   pub block_progress : {c : Content A B C S} {fs : List (Noted B)} {ts rest : Tokens} → Block kept Open c fs ts rest → length rest < length ts
-  block_progress (g.recipe kind kind2 b lines some) = omega (arith, before_progress b, lines_progress lines)
+  block_progress (g.recipe h b lines some) = omega (arith, header_progress kept.leaf kept.spot kept.star Open h, before_progress b, lines_progress lines)

@@ -62,6 +62,11 @@ module _ (conditions : Conditions) (Hit : Option SignificantToken → Type 0) wh
       → ReachesSome found Is ls rules → ReachesSome found Is ms rules
   regrouped {found = found} {Is = Is} {rules = rules} same h = subst (λ ls. ReachesSome found Is ls rules) same h
 
+  -- with the same rules, put together otherwise
+  pub same_rules : {X : Type 0} {found : Result X Refusal} {Is : X → Type 0} {ls : List (Literal Tok)} {rules all : List (Broken Tok)} → rules ≡ all
+      → ReachesSome found Is ls rules → ReachesSome found Is ls all
+  same_rules {found = found} {Is = Is} {ls = ls} same h = subst (λ rules. ReachesSome found Is ls rules) same h
+
   -- of which this holds as well
   pub known_as : {X : Type 0} {found : Result X Refusal} {Is : X → Type 0} (As : X → Type 0) {ls : List (Literal Tok)} {rules : List (Broken Tok)}
       → ((x : X) → Is x → As x) → ReachesSome found Is ls rules → ReachesSome found As ls rules

@@ -3,51 +3,23 @@ use Rattle.std.proofs.Common.{◌≡◌, ℕ, ◌<◌, true, false, Bool, ◌&&�
 use Rattle.std.proofs.lemmas.List.{append-nil, append_assoc, length-drop}
 use Rattle.justfile_base.specs.declared.token_kind.TokenKind.{TokenKind}
 use Rattle.justfile_base.specs.declared.token_kind.TokenKind.TheVariants as kinds
-use Rattle.justfile_model.specs.declared.level.Level.TheVariants.{Expression}
-use Rattle.justfile_model.specs.ExpressionReader as expressions
 use Rattle.justfile_model.specs.AttributeReader.{AttributeLeaves, attribute_lines}
-use Rattle.justfile_model.specs.Reader.{Start, after_numbered, allowed, assignment, at_end, attributes, before_item, construct, content, defined, item_rest, body, optional_body, body_line, draw_binding, draw_recipe, ended, expression, fragment, has_body, items, items_from, items_rule, line, line_end, line_rest, line_rest_rule, lines, lines_rule, no_line_rest, no_lines, obeying, on_line, recipe, some_lines, stands_alone, no_items}
+use Rattle.justfile_model.specs.HeaderReader.{draw_binding, expression, header}
+use Rattle.justfile_model.specs.Reader.{Start, after_numbered, allowed, any_recipe, argument_rules, assignment, at_end, attributes, before_item, body, body_line, construct, content, draw_recipe, ended, fragment, has_body, item_rest, items, items_from, items_rule, line, line_end, line_rest, line_rest_rule, lines, lines_rule, no_exclusion, no_items, no_line_rest, no_lines, on_line, optional_body, recipe, some_lines, stands_alone}
 use Rattle.justfile_model.specs.Reading.{◌>>=◌, Counters, Leaves, Read, Refusal, State, Taken, accept, accept_by, prepend, at, begin_with, choose, expect, next_are, same_kind}
 use Rattle.justfile_model.specs.Recursive.{below}
-use Rattle.justfile_model.specs.Rules.{Broken}
 use Rattle.justfile_model.specs.Tree.{Fragment, BodyLine, Item, trimmed}
 use Rattle.justfile_model.proofs.AttributeReading.{attribute_lines_keep}
-use Rattle.justfile_model.proofs.ExpressionReading.{advances}
+use Rattle.justfile_model.proofs.HeaderReading.{header_goes, obeying_keeps}
+pub use Rattle.justfile_model.proofs.HeaderReading.{binding_keeps, expression_goes}
+use Rattle.justfile_model.proofs.Prepended.{after_goes, after_keeps}
+pub use Rattle.justfile_model.proofs.Prepended.{after_begin, after_nothing, after_refused, after_regroups}
 use Rattle.justfile_model.proofs.ReadingSteps.{ItemRest, Goes, Keeps, accepts, after_test, bind_alike, choose_alike, either, either_goes, expects, first, from_there, keeps, past, test_alike, then, then_goes, there}
 use Rattle.justfile_model.proofs.Turns.{below_smaller, recursive_is, recursive_keeps}
 
 -- ---- what was read before, and what is read after it
 
 module _ {R T B : Type 0} where
-  -- nothing is read yet
-  pub after_begin : {X : Type 0} (found : Read R T B (List X)) → prepend [] found ≡ found
-  unfolding prepend
-  after_begin (Ok x) = refl
-  after_begin (Err e) = refl
-
-  pub after_regroups : {X : Type 0} (done more : List X) (found : Read R T B (List X)) → prepend done (prepend more found) ≡ prepend (done ++ more) found
-  unfolding prepend
-  after_regroups {X} done more (Ok x) = ap (λ (l : List X). Ok (l, x.1)) (sym (append_assoc done more x.0))
-  after_regroups done more (Err e) = refl
-
-  pub after_nothing : {X : Type 0} (done : List X) (rest : State R T B) → prepend done (Ok ([], rest)) ≡ Ok (done, rest)
-  unfolding prepend
-  after_nothing {X} done rest = ap (λ (l : List X). Ok (l, rest)) (append-nil done)
-
-  pub after_refused : {X : Type 0} (done : List X) (e : Refusal T B) → prepend {R = R} done (Err e) ≡ Err e
-  unfolding prepend
-  after_refused done e = refl
-
-  after_keeps : {X : Type 0} (done : List X) (s : State R T B) (found : Read R T B (List X)) → Keeps s found → Keeps s (prepend done found)
-  unfolding prepend
-  after_keeps done s (Ok x) h = h
-  after_keeps done s (Err e) h = tt
-
-  after_goes : {X : Type 0} (done : List X) (s : State R T B) (found : Read R T B (List X)) → Goes s found → Goes s (prepend done found)
-  unfolding prepend
-  after_goes done s (Ok x) h = h
-  after_goes done s (Err e) h = tt
-
   -- nothing before what is read with its numbers leaves it as it is
   pub numbered_begin : {X : Type 0} (found : Read R T B (List X × Counters)) → after_numbered [] found ≡ found
   unfolding after_numbered
@@ -73,15 +45,12 @@ module _ {R T B : Type 0} where
 module _ {R T A B S : Type 0} (leaves : Leaves R T A B S) where
   -- ---- what is read leaves fewer tokens, in the same run and at the same depth
 
-  pub expression_goes : (s : State R T B) → Goes s (expression leaves s)
-  expression_goes s = advances leaves (expressions.At Expression false s)
-
   pub fragment_goes : (s : State R T B) → Goes s (fragment leaves s)
   unfolding fragment
   fragment_goes s =
       either_goes s (accept leaves kinds.Text s) _ _ (accepts leaves kinds.Text s)
       (first s (expect leaves kinds.InterpolationStart s) _ (expects leaves kinds.InterpolationStart s) (λ start.
-      then start.1 (expression leaves start.1) _ (keeps start.1 _ (expression_goes start.1)) (λ e.
+      then start.1 (expression leaves start.1) _ (keeps start.1 _ (expression_goes leaves start.1)) (λ e.
       then e.1 (expect leaves kinds.InterpolationEnd e.1) _ (keeps e.1 _ (expects leaves kinds.InterpolationEnd e.1)) (λ end. there end.1))))
       (λ t. there t.1)
 
@@ -202,10 +171,6 @@ module _ {R T A B S : Type 0} (leaves : Leaves R T A B S) where
   -- ---- numbers
 
   -- a number takes no token
-  pub binding_keeps : (n : Counters) (s : State R T B) → Keeps s (draw_binding leaves n s)
-  unfolding draw_binding
-  binding_keeps n s = after_test (leaves.has_number n.bindings) _ _ (Keeps {X = ℕ × Counters} s) (λ _. there s) (λ _. tt)
-
   pub recipe_number_keeps : (n : Counters) (s : State R T B) → Keeps s (draw_recipe leaves n s)
   unfolding draw_recipe
   recipe_number_keeps n s = after_test (leaves.has_number n.recipes) _ _ (Keeps {X = ℕ × Counters} s) (λ _. there s) (λ _. tt)
@@ -251,18 +216,14 @@ module _ {R T A B S : Type 0} (leaves : Leaves R T A B S) where
     unfolding lines_rule
     lines_fail e h1 h2 = rw (lines_is s, h1, h2) (after_refused done e)
 
-obeying_keeps : {R T B : Type 0} (rules : List (Broken B)) (s : State R T B) → Keeps s (obeying rules s)
-obeying_keeps [] s = there s
-obeying_keeps (b ∷ bs) s = tt
-
 module _ {R T A B S D W : Type 0} (leaves : Leaves R T A B S) (kept : AttributeLeaves R A B D W) where
   -- ---- items
 
   allowed_keeps : (ws : List W) (name : T) (s : State R T B) → Keeps s (allowed leaves kept ws name s)
   allowed_keeps ws name s = obeying_keeps _ s
 
-  defined_keeps : (ws : List W) (s : State R T B) → Keeps s (defined leaves kept ws s)
-  defined_keeps ws s = obeying_keeps _ s
+  no_exclusion_keeps : (ws : List W) (name : T) (s : State R T B) → Keeps s (no_exclusion leaves kept ws name s)
+  no_exclusion_keeps ws name s = obeying_keeps _ s
 
   pub assignment_goes : (ws : List W) (n : Counters) (s : State R T B) → Goes s (assignment leaves kept ws n s)
   unfolding assignment
@@ -273,20 +234,25 @@ module _ {R T A B S D W : Type 0} (leaves : Leaves R T A B S) (kept : AttributeL
       then e.1 (allowed leaves kept ws name.0 e.1) _ (allowed_keeps ws name.0 e.1) (λ checked.
       then checked.1 (draw_binding leaves n checked.1) _ (binding_keeps leaves n checked.1) (λ number. there number.1)))))
 
-  pub recipe_goes : (ws : List W) (n : Counters) (s : State R T B) → Goes s (recipe leaves kept ws n s)
+  pub recipe_goes : (quiet : Bool) (ws : List W) (n : Counters) (s : State R T B) → Goes s (recipe leaves kept quiet ws n s)
   unfolding recipe
-  recipe_goes ws n s =
-      first s (expect leaves kinds.Identifier s) _ (expects leaves kinds.Identifier s) (λ name.
-      then name.1 (expect leaves kinds.Colon name.1) _ (keeps name.1 _ (expects leaves kinds.Colon name.1)) (λ colon.
-      then colon.1 (defined leaves kept ws colon.1) _ (defined_keeps ws colon.1) (λ checked.
-      then checked.1 (optional_body leaves checked.1) _ (optional_body_keeps leaves checked.1) (λ b.
-      then b.1 (draw_recipe leaves n b.1) _ (recipe_number_keeps leaves n b.1) (λ number. there number.1)))))
+  recipe_goes quiet ws n s =
+      let rules = argument_rules leaves kept s.run ws in
+      first s (header leaves kept.sight rules n s) _ (header_goes leaves kept.sight rules n s) (λ h.
+      then h.1 (optional_body leaves h.1) _ (optional_body_keeps leaves h.1) (λ b.
+      then b.1 (no_exclusion leaves kept ws h.0.0.name b.1) _ (no_exclusion_keeps ws h.0.0.name b.1) (λ checked.
+      then checked.1 (draw_recipe leaves h.0.1 checked.1) _ (recipe_number_keeps leaves h.0.1 checked.1) (λ number. there number.1))))
+
+  pub any_recipe_goes : (ws : List W) (n : Counters) (s : State R T B) → Goes s (any_recipe leaves kept ws n s)
+  unfolding any_recipe
+  any_recipe_goes ws n s =
+      either_goes s (accept leaves kinds.At s) _ _ (accepts leaves kinds.At s) (recipe_goes false ws n s) (λ at. keeps at.1 _ (recipe_goes true ws n at.1))
 
   pub content_goes : (ws : List W) (n : Counters) (s : State R T B) → Goes s (content leaves kept ws n s)
   unfolding content
   content_goes ws n s =
       after_test (next_are leaves (kinds.Identifier ∷ kinds.ColonEquals ∷ []) s) _ _ (Goes {X = Item A B ℕ S D × Counters} s) (λ _. assignment_goes ws n s)
-      (λ _. recipe_goes ws n s)
+      (λ _. any_recipe_goes ws n s)
 
   before_item_keeps : (opener : T) (x : List W × State R T B) → Keeps x.1 (before_item leaves kept opener x)
   before_item_keeps opener x = after_test (stands_alone leaves kept x.1) _ _ (Keeps {X = List W} x.1) (λ _. tt) (λ _. there x.1)

@@ -16,11 +16,11 @@ use Rattle.justfile_model.specs.Literals as literals
 use Rattle.justfile_model.specs.Literals.{Expansions, Literal, LiteralFault, cooked_text, string_of, token_of}
 use Rattle.justfile_model.specs.Operators.{binary, is_at, operator_of}
 use Rattle.justfile_model.specs.Reader.{has_body}
-use Rattle.justfile_model.specs.Reading.{◌>>=◌, BreaksRule, Counters, Extraneous, Leaves, NoNumber, NotCooked, Read, Refusal, State, Taken, TooDeep, Unexpected, accept, accept_by, accept_marked, accept_word, at, begin_with, choose, expect, is_word, marked_by, marks, next_are, refused, same_kind, with}
+use Rattle.justfile_model.specs.Reading.{◌>>=◌, AfterVariadic, BreaksRule, Counters, Extraneous, Leaves, NoNumber, NotCooked, Read, Refusal, State, Taken, TooDeep, Unexpected, accept, accept_by, accept_marked, accept_word, at, begin_with, choose, expect, is_word, marked_by, marks, next_are, refused, same_kind, with}
 use Rattle.justfile_model.specs.Rules.{Broken}
 use Rattle.justfile_model.specs.SignificantTokens.{SignificantToken}
 use Rattle.justfile_model.specs.Tree as tree
-use Rattle.justfile_model.specs.Tree.{BodyLine, Construct, Expr, Exprs, Fragment, Item, Line, Parts, line_before, plain_assignment, plain_recipe, trimmed}
+use Rattle.justfile_model.specs.Tree.{ArgumentRules, BodyLine, Bound, Construct, Dependency, DependencyArgument, Expr, Exprs, Fragment, Header, Item, Line, OptionName, Parameter, Parts, Property, Quoted, bare_recipe, line_before, plain_assignment, trimmed}
 use Rattle.justfile_model.proofs.AlikeRules.{AlikeBroken}
 use Rattle.justfile_model.proofs.Counters.{count}
 
@@ -41,11 +41,18 @@ pub record Relations (R T A B S D R' T' A' B' S' D' : Type 0) : Type 1 where
   -- the names of assignments, and of recipes before their bodies, which got this number
   pub assignment : (number : ℕ) → A → A' → Type 0
   pub recipe : (number : ℕ) → A → List (BodyLine A B ℕ) → A' → List (BodyLine A' B' ℕ) → Type 0
+  -- the names of parameters, of which that is said, and which got this number
+  pub parameter : (number : ℕ) → A → Option (ArgumentRules A B) → A' → Option (ArgumentRules A' B') → Type 0
 
 -- as many of each, one related to the other
 pub data Each {X Y : Type 0} (Rel : X → Y → Type 0) : List X → List Y → Type 0 where
   nil : Each Rel [] []
   cons : {x : X} {y : Y} {xs : List X} {ys : List Y} → Rel x y → Each Rel xs ys → Each Rel (x ∷ xs) (y ∷ ys)
+
+-- neither, or both and they are related
+pub data AlikeOption {X Y : Type 0} (Rel : X → Y → Type 0) : Option X → Option Y → Type 0 where
+  absent : AlikeOption Rel None None
+  present : {x : X} {y : Y} → Rel x y → AlikeOption Rel (Some x) (Some y)
 
 pub each_both : {X Y : Type 0} {Rel : X → Y → Type 0} {xs zs : List X} {ys us : List Y} → Each Rel xs ys → Each Rel zs us → Each Rel (xs ++ zs) (ys ++ us)
 each_both nil k = k
@@ -99,14 +106,85 @@ module _ {R T A B S D R' T' A' B' S' D' : Type 0} (rel : Relations R T A B S D R
   pub data AlikeLine : BodyLine A B ℕ → BodyLine A' B' ℕ → Type 0 where
     line : {number : ℕ} {fs : List (Fragment A B)} {fs' : List (Fragment A' B')} → Each AlikeFragment fs fs' → AlikeLine (Line number fs) (Line number fs')
 
+  -- ---- what is said of parameters
+
+  pub record AlikeQuoted (q : Quoted A) (q' : Quoted A') : Type 0 where
+    pub expanded : q.expanded ≡ q'.expanded
+    pub lexeme : List ℕ
+    pub token : rel.literal (string_of q.expanded lexeme) q.token q'.token
+
+  pub data AlikeOptionName : OptionName A B → OptionName A' B' → Type 0 where
+    no_option : AlikeOptionName tree.NoOption tree.NoOption
+    own_name : {k : B} {k' : B'} → rel.spot k k' → AlikeOptionName (tree.OwnName k) (tree.OwnName k')
+    option_named : {q : Quoted A} {q' : Quoted A'} → AlikeQuoted q q' → AlikeOptionName (tree.Named q) (tree.Named q')
+
+  pub record AlikeProperty (p : Property A B) (p' : Property A' B') : Type 0 where
+    pub key : rel.spot p.key p'.key
+    pub value : Alike p.value p'.value
+
+  pub record AlikeBound (b : Bound B) (b' : Bound B') : Type 0 where
+    pub key : rel.spot b.key b'.key
+    pub number : b.number ≡ b'.number
+
+  pub record AlikeArgumentRules (r : ArgumentRules A B) (r' : ArgumentRules A' B') : Type 0 where
+    pub flag : AlikeOption rel.spot r.flag r'.flag
+    pub help : AlikeOption AlikeProperty r.help r'.help
+    pub long : AlikeOptionName r.long r'.long
+    pub max : AlikeOption AlikeBound r.max r'.max
+    pub min : AlikeOption AlikeBound r.min r'.min
+    pub multiple : AlikeOption rel.spot r.multiple r'.multiple
+    pub name : AlikeQuoted r.name r'.name
+    pub pattern : AlikeOption AlikeProperty r.pattern r'.pattern
+    pub short : AlikeOptionName r.short r'.short
+    pub value : AlikeOption Alike r.value r'.value
+
+  -- ---- headers
+
+  -- a parameter with this number
+  pub record AlikeParameter (number : ℕ) (p : Parameter A B) (p' : Parameter A' B') : Type 0 where
+    pub kind : p.kind ≡ p'.kind
+    pub export : p.export ≡ p'.export
+    -- what is said of it
+    pub rules : Option (ArgumentRules A B)
+    pub others : Option (ArgumentRules A' B')
+    pub ruled : AlikeOption AlikeArgumentRules rules others
+    pub name : rel.parameter number p.name rules p'.name others
+    pub default : AlikeOption Alike p.default p'.default
+
+  -- parameters, of which the first has this number
+  pub data AlikeParameters : (number : ℕ) → List (Parameter A B) → List (Parameter A' B') → Type 0 where
+    no_parameter : {number : ℕ} → AlikeParameters number [] []
+    a_parameter : {number : ℕ} {p : Parameter A B} {p' : Parameter A' B'} {ps : List (Parameter A B)} {ps' : List (Parameter A' B')}
+        → AlikeParameter number p p' → AlikeParameters (number + 1) ps ps' → AlikeParameters number (p ∷ ps) (p' ∷ ps')
+
+  -- an argument of a dependency, whose star is kept in any way
+  pub record AlikeDependencyArgument {X X' : Type 0} (Star : X → X' → Type 0) (d : DependencyArgument A B X) (d' : DependencyArgument A' B' X') : Type 0 where
+    pub star : AlikeOption Star d.star d'.star
+    pub value : Alike d.value d'.value
+
+  pub record AlikeDependency (d : Dependency A B S) (d' : Dependency A' B' S') : Type 0 where
+    pub star : AlikeOption rel.star d.star d'.star
+    pub path : Each rel.name d.path d'.path
+    pub arguments : Each (AlikeDependencyArgument rel.star) d.arguments d'.arguments
+
+  -- a header before a body, where the counters stand before it
+  pub record AlikeHeader (n : Counters) (h : Header A B S) (body : List (BodyLine A B ℕ)) (h' : Header A' B' S') (body' : List (BodyLine A' B' ℕ)) : Type 0 where
+    pub quiet : h.quiet ≡ h'.quiet
+    pub name : rel.recipe n.recipes h.name body h'.name body'
+    pub parameters : AlikeParameters n.bindings h.parameters h'.parameters
+    pub priors : Each AlikeDependency h.priors h'.priors
+    pub subsequents : Each AlikeDependency h.subsequents h'.subsequents
+
+  -- ---- items
+
   -- an item, where the counters stand before it
   pub data AlikeItem (n : Counters) : Item A B ℕ S D → Item A' B' ℕ S' D' → Type 0 where
     newline : AlikeItem n tree.Newline tree.Newline
     comment : {text : List ℕ} → AlikeItem n (tree.Comment text) (tree.Comment text)
     assignment : {d : D} {d' : D'} {a : A} {a' : A'} {e : Expr A B} {e' : Expr A' B'} → rel.attributes d d' → rel.assignment n.bindings a a' → Alike e e'
         → AlikeItem n (Construct d (tree.Assignment (plain_assignment a e))) (Construct d' (tree.Assignment (plain_assignment a' e')))
-    recipe : {d : D} {d' : D'} {a : A} {a' : A'} {body : List (BodyLine A B ℕ)} {body' : List (BodyLine A' B' ℕ)} → rel.attributes d d' → rel.recipe n.recipes a body a' body' → Each AlikeLine body body'
-        → AlikeItem n (Construct d (tree.Recipe (plain_recipe a body))) (Construct d' (tree.Recipe (plain_recipe a' body')))
+    recipe : {d : D} {d' : D'} {h : Header A B S} {h' : Header A' B' S'} {body : List (BodyLine A B ℕ)} {body' : List (BodyLine A' B' ℕ)} → rel.attributes d d' → AlikeHeader n h body h' body' → Each AlikeLine body body'
+        → AlikeItem n (Construct d (tree.Recipe (bare_recipe h body))) (Construct d' (tree.Recipe (bare_recipe h' body')))
 
   -- items, where the counters stand before the first
   pub data AlikeItems : Counters → List (Item A B ℕ S D) → List (Item A' B' ℕ S' D') → Type 0 where
@@ -248,6 +326,7 @@ module _ {R T A B S D R' T' A' B' S' D' : Type 0} (rel : Relations R T A B S D R
     too_deep : {o : Option T} {o' : Option T'} → AlikeNext o o' → Refusals (TooDeep o) (TooDeep o')
     not_cooked : {fault : LiteralFault} {b : B} {b' : B'} → rel.spot b b' → Refusals (NotCooked fault b) (NotCooked fault b')
     breaks : {r : Broken B} {r' : Broken B'} → AlikeBroken rel.spot r r' → Refusals (BreaksRule r) (BreaksRule r')
+    after_variadic : {b : B} {b' : B'} → rel.spot b b' → Refusals (AfterVariadic b) (AfterVariadic b')
     extraneous : {count count' : ℕ} {b : B} {b' : B'} → count ≡ count' → rel.spot b b' → Refusals (Extraneous count b) (Extraneous count' b')
 
   -- Both are read and related, or refused for the same reason. Where a number is wanting in the one, `Short` is known of the other.
@@ -326,6 +405,8 @@ module _ {R T A B S D R' T' A' B' S' D' : Type 0} (rel : Relations R T A B S D R
     pub assignment : (r : R) (r' : R') (t : T) (t' : T') → rel.run r r' → rel.token t t' → (number : ℕ) → rel.assignment number (one.assignment r t number) (other.assignment r' t' number)
     pub recipe : (r : R) (r' : R') (t : T) (t' : T') → rel.run r r' → rel.token t t' → (number : ℕ) (body : List (BodyLine A B ℕ)) (body' : List (BodyLine A' B' ℕ)) → Each AlikeLine body body'
         → rel.recipe number (one.recipe r t number body) body (other.recipe r' t' number body') body'
+    pub parameter : (r : R) (r' : R') (t : T) (t' : T') → rel.run r r' → rel.token t t' → {rules : Option (ArgumentRules A B)} {rules' : Option (ArgumentRules A' B')} → AlikeOption AlikeArgumentRules rules rules' → (number : ℕ)
+        → rel.parameter number (one.parameter r t rules number) rules (other.parameter r' t' rules' number) rules'
     pub has_number : (n : ℕ) → one.has_number n ≡ true → other.has_number n ≡ true
 
   module _ (one : Leaves R T A B S) (other : Leaves R' T' A' B' S') (agree : Respects one other) where

@@ -1,15 +1,21 @@
 -- A tree of tokens keeps no numbers: wherever the counters stand, the same is read.
-use Rattle.std.proofs.Common.{◌≡◌, Bool, true, false, cond, List, [], ◌∷◌, length, Some, None, Result, Ok, Err, refl}
+use Rattle.std.proofs.Common.{◌≡◌, Bool, true, false, cond, List, [], ◌∷◌, length, Option, Some, None, Result, Ok, Err, refl}
 use Rattle.justfile_base.specs.declared.token_kind.TokenKind.TheVariants as kinds
+use Rattle.justfile_model.specs.declared.parameter_kind.ParameterKind.{ParameterKind}
+use Rattle.justfile_model.specs.declared.parameter_kind.ParameterKind.TheVariants.{Plus, Singular, Star}
 use Rattle.justfile_model.specs.ReadAttribute.{ReadAttribute}
 use Rattle.justfile_model.specs.Reader as reader
-use Rattle.justfile_model.specs.Reader.{Start, after_mark, after_numbered, allowed, assignment, at_end, attributes, construct, content, defined, optional_body, draw_binding, draw_recipe, ended, expression, has_body, items, items_from, items_rule, line, end_of_tokens, on_line, recipe, no_items}
+use Rattle.justfile_model.specs.HeaderReader as r
+use Rattle.justfile_model.specs.HeaderReader.{draw_binding, expression, header, obeying}
+use Rattle.justfile_model.specs.Reader.{Start, after_mark, after_numbered, allowed, any_recipe, argument_rules, assignment, at_end, attributes, construct, content, draw_recipe, end_of_tokens, ended, has_body, items, items_from, items_rule, line, no_exclusion, no_items, on_line, optional_body, recipe}
 use Rattle.justfile_model.specs.Conditions.{Conditions}
 use Rattle.justfile_model.specs.Features.{Noted}
-use Rattle.justfile_model.specs.Reading.{◌>>=◌, Counters, accept, choose, expect, next_are}
+use Rattle.justfile_model.specs.Reading.{◌>>=◌, Counters, accept, accepted, choose, expect, next_are}
+use Rattle.justfile_model.specs.RecipeRules.{parameter_broken, undefined_broken}
+use Rattle.justfile_model.specs.Sight.{Sight}
 use Rattle.justfile_model.specs.SignificantTokens.{SignificantToken}
 use Rattle.justfile_model.specs.Tok.{Tok}
-use Rattle.justfile_model.specs.Tree.{WrittenTree}
+use Rattle.justfile_model.specs.Tree.{ArgumentRules, Expr, Parameter, WrittenTree}
 use Rattle.justfile_model.specs.TreeReader.{Read, Refusal, State, Taken, tree_of_tokens, start_state, token_attributes, token_leaves, unnumbered}
 use Rattle.justfile_model.proofs.Turns.{both_recur}
 
@@ -41,18 +47,101 @@ assignments ws n m s =
     bind (expect token_leaves kinds.Identifier s) _ _ (λ name. bind (expect token_leaves kinds.ColonEquals name.1) _ _ (λ operator.
     bind (expression token_leaves operator.1) _ _ (λ e. bind (allowed token_leaves token_attributes ws name.0 e.1) _ _ (λ checked. both))))
 
-recipes : (ws : List ReadAttribute) (n m : Counters) (s : State)
-    → Alike (recipe token_leaves token_attributes ws n s) (recipe token_leaves token_attributes ws m s)
+-- ---- headers
+
+module _ (sight : Conditions → Sight Tok Tok) (rules : List (ArgumentRules Tok Tok)) where
+  abbrev Place : Type 0
+  Place = r.ParameterPlace token_leaves sight rules
+
+  numbers : (kind : ParameterKind) (export : Bool) (ps : List (Parameter Tok Tok)) (n m : Counters) (name : SignificantToken) (default : Option (Expr Tok Tok)) (s : State)
+      → Alike (draw_binding token_leaves n s >>= r.numbered token_leaves sight rules kind export ps name default)
+      (draw_binding token_leaves m s >>= r.numbered token_leaves sight rules kind export ps name default)
+  unfolding draw_binding
+  numbers kind export ps n m name default s = both
+
+  named_parameters : (kind : ParameterKind) (export : Bool) (ps : List (Parameter Tok Tok)) (n m : Counters) (s : State)
+      → Alike (r.named_parameter token_leaves sight rules kind export (ps, n) s) (r.named_parameter token_leaves sight rules kind export (ps, m) s)
+  unfolding r.named_parameter
+  named_parameters kind export ps n m s =
+      bind (expect token_leaves kinds.Identifier s) _ _ (λ name. bind (r.default_value token_leaves name.1) _ _ (λ default.
+      bind (obeying (parameter_broken (sight default.1.run) rules ps (r.parameter_of token_leaves kind export (token_leaves.name name.0) default.0)) default.1) _ _
+      (λ checked. numbers kind export ps n m name.0 default.0 checked.1)))
+
+  each_parameter : (kind : ParameterKind) (ps : List (Parameter Tok Tok)) (n m : Counters) (s : State)
+      → Alike (r.parameter token_leaves sight rules kind ((ps, n), s)) (r.parameter token_leaves sight rules kind ((ps, m), s))
+  unfolding r.parameter
+  each_parameter kind ps n m s = named_parameters kind (accepted token_leaves kinds.Dollar s).0 ps n m (accepted token_leaves kinds.Dollar s).1
+
+  -- where a parameter begins, whatever the counters
+  data Stands : Place → Place → Type 0 where
+    stands : (ps : List (Parameter Tok Tok)) (n m : Counters) (s : State) → Stands ((ps, n), s) ((ps, m), s)
+
+  singular_rules : (f g : Place → Read (r.Parameters token_leaves sight rules)) → ((x y : Place) → Stands x y → Alike (f x) (g y)) → (x y : Place) → Stands x y
+      → Alike (r.singulars_rule token_leaves sight rules f x) (r.singulars_rule token_leaves sight rules g y)
+  unfolding r.singulars_rule
+  singular_rules f g alike x y (stands ps n m s) =
+      by_test (r.begins_parameter token_leaves s) _ _ _ _
+      (then _ _ (each_parameter Singular ps n m s) (λ qs k j t. alike ((qs, k), t) ((qs, j), t) (stands qs k j t)))
+      both
+
+  all_singulars : (ps : List (Parameter Tok Tok)) (n m : Counters) (s : State)
+      → Alike (r.singulars token_leaves sight rules ((ps, n), s)) (r.singulars token_leaves sight rules ((ps, m), s))
+  unfolding r.singulars
+  all_singulars ps n m s =
+      both_recur (λ (x : Place). length x.1.left) (r.no_parameters token_leaves sight rules) (r.singulars_rule token_leaves sight rules)
+      (λ (x : Place). length x.1.left) (r.no_parameters token_leaves sight rules) (r.singulars_rule token_leaves sight rules)
+      Stands same_size (λ x y found found'. Alike found found') (λ x y h. neither) singular_rules ((ps, n), s) ((ps, m), s) (stands ps n m s)
+    where
+      same_size : (x y : Place) → Stands x y → length x.1.left ≡ length y.1.left
+      same_size x y (stands ps n m s) = refl
+
+  variadics : (kind : ParameterKind) (ps : List (Parameter Tok Tok)) (n m : Counters) (s : State)
+      → Alike (r.variadic token_leaves sight rules kind ((ps, n), s)) (r.variadic token_leaves sight rules kind ((ps, m), s))
+  unfolding r.variadic
+  variadics kind ps n m s =
+      then _ _ (each_parameter kind ps n m s) (λ qs k j t. bind (r.nothing_after token_leaves t) _ _ (λ end. both))
+
+  last_parameters : (ps : List (Parameter Tok Tok)) (n m : Counters) (s : State)
+      → Alike (r.last_parameter token_leaves sight rules ((ps, n), s)) (r.last_parameter token_leaves sight rules ((ps, m), s))
+  unfolding r.last_parameter
+  last_parameters ps n m s =
+      pick (accept token_leaves kinds.Plus s) _ _ _ _
+      (pick (accept token_leaves kinds.Asterisk s) _ _ _ _ both (λ prefix. variadics Star ps n m prefix.1))
+      (λ prefix. variadics Plus ps n m prefix.1)
+
+  all_parameters : (n m : Counters) (s : State)
+      → Alike (r.parameters token_leaves sight rules n s) (r.parameters token_leaves sight rules m s)
+  unfolding r.parameters
+  all_parameters n m s =
+      then _ _ (all_singulars [] n m s) (λ ps k j t. then _ _ (last_parameters ps k j t) (λ qs k j u.
+      bind (expect token_leaves kinds.Colon u) _ _ (λ colon. both)))
+
+  headers : (n m : Counters) (s : State) → Alike (header token_leaves sight rules n s) (header token_leaves sight rules m s)
+  unfolding r.header
+  headers n m s =
+      bind (expect token_leaves kinds.Identifier s) _ _ (λ name. bind (r.distinct_options token_leaves sight rules name.0 name.1) _ _ (λ options.
+      then _ _ (all_parameters n m options.1) (λ ps k j t. bind (obeying (undefined_broken (sight t.run) ps rules) t) _ _ (λ checked.
+      bind (r.dependencies token_leaves checked.1) _ _ (λ priors. bind (r.subsequents token_leaves priors.1) _ _ (λ others. both))))))
+
+-- ---- items
+
+recipes : (quiet : Bool) (ws : List ReadAttribute) (n m : Counters) (s : State)
+    → Alike (recipe token_leaves token_attributes quiet ws n s) (recipe token_leaves token_attributes quiet ws m s)
 unfolding recipe draw_recipe
-recipes ws n m s =
-    bind (expect token_leaves kinds.Identifier s) _ _ (λ name. bind (expect token_leaves kinds.Colon name.1) _ _ (λ colon.
-    bind (defined token_leaves token_attributes ws colon.1) _ _ (λ checked. bind (optional_body token_leaves checked.1) _ _ (λ b. both))))
+recipes quiet ws n m s =
+    then _ _ (headers token_attributes.sight (argument_rules token_leaves token_attributes s.run ws) n m s) (λ h k j t.
+    bind (optional_body token_leaves t) _ _ (λ b. bind (no_exclusion token_leaves token_attributes ws h.name b.1) _ _ (λ checked. both)))
+
+any_recipes : (ws : List ReadAttribute) (n m : Counters) (s : State)
+    → Alike (any_recipe token_leaves token_attributes ws n s) (any_recipe token_leaves token_attributes ws m s)
+unfolding any_recipe
+any_recipes ws n m s = pick (accept token_leaves kinds.At s) _ _ _ _ (recipes false ws n m s) (λ at. recipes true ws n m at.1)
 
 constructs : (n m : Counters) (s : State) → Alike (construct token_leaves token_attributes n s) (construct token_leaves token_attributes m s)
 unfolding construct content
 constructs n m s =
     bind (attributes token_leaves token_attributes s) _ _ (λ ws.
-    by_test (next_are token_leaves (kinds.Identifier ∷ kinds.ColonEquals ∷ []) ws.1) _ _ _ _ (assignments ws.0 n m ws.1) (recipes ws.0 n m ws.1))
+    by_test (next_are token_leaves (kinds.Identifier ∷ kinds.ColonEquals ∷ []) ws.1) _ _ _ _ (assignments ws.0 n m ws.1) (any_recipes ws.0 n m ws.1))
 
 on_lines : (n m : Counters) (s : State) → Alike (on_line token_leaves token_attributes n s) (on_line token_leaves token_attributes m s)
 unfolding on_line

@@ -1,12 +1,15 @@
 -- Examples of the rules that attributes break, computed from the definitions: each once, with the token that it is refused at.
-use Rattle.std.proofs.Common.{◌≡◌, ℕ, false, List, [], ◌∷◌, Some, None, Err, codes, refl}
+use Rattle.std.proofs.Common.{◌≡◌, ℕ, false, List, [], ◌∷◌, Option, Some, None, Err, codes, refl}
 use Rattle.std.specs.Str.{chars}
 use Rattle.justfile_base.specs.AttributeKind.{kind_named}
 use Rattle.justfile_base.specs.Signal.{signal_named}
 use Rattle.justfile_base.specs.declared.attribute_kind.AttributeKind.TheVariants as kinds
 use Rattle.justfile_base.specs.declared.item_kind.ItemKind.TheVariants as items
+use Rattle.justfile_model.specs.declared.parameter_kind.ParameterKind.{ParameterKind}
+use Rattle.justfile_model.specs.declared.parameter_kind.ParameterKind.TheVariants.{Plus, Singular}
 use Rattle.justfile_model.specs.AttributeKinds.{same_attribute}
-use Rattle.justfile_model.specs.AttributeRules.{attribute_broken, attributes_broken, construct_broken}
+use Rattle.justfile_model.specs.AttributeRules.{attribute_broken, attributes_broken}
+use Rattle.justfile_model.specs.ConstructRules.{construct_broken}
 use Rattle.justfile_model.specs.Literals.{Expansions}
 use Rattle.justfile_model.specs.Meaning.{by_key, by_position}
 use Rattle.justfile_model.specs.NewAttribute.{Made, new_attribute}
@@ -15,7 +18,7 @@ use Rattle.justfile_model.specs.Rules.{Broken, Rule}
 use Rattle.justfile_model.specs.Sight.{Sight, content_as_read, text_under}
 use Rattle.justfile_model.specs.Unindent.{unindented}
 use Rattle.justfile_model.specs.Tree as tree
-use Rattle.justfile_model.specs.Tree.{Argument, Attribute, Content, Expr, WrittenAttribute, plain_assignment, plain_recipe}
+use Rattle.justfile_model.specs.Tree.{Argument, Attribute, Content, Dependency, DependencyArgument, Expr, Header, Parameter, WrittenAttribute, bare_recipe, plain_assignment}
 
 abbrev unasked : Expansions
 unasked text = None
@@ -229,8 +232,22 @@ group_twice = refl
 abbrev assignment : Content (List ℕ) (List ℕ) (List ℕ) (List ℕ)
 assignment = tree.Assignment (plain_assignment (codes "x") (string (codes "'a'")))
 
+abbrev parameter : ParameterKind → List ℕ → Parameter (List ℕ) (List ℕ)
+parameter kind name = record { kind = kind; export = false; name = name; default = None }
+
+-- `name='text'`
+abbrev optional : (name lexeme : List ℕ) → Parameter (List ℕ) (List ℕ)
+optional name lexeme = record { kind = Singular; export = false; name = name; default = Some (string lexeme) }
+
+abbrev headed : List (Parameter (List ℕ) (List ℕ)) → (priors subsequents : List (Dependency (List ℕ) (List ℕ) (List ℕ))) → Header (List ℕ) (List ℕ) (List ℕ)
+headed parameters priors subsequents = record { quiet = false; name = codes "foo"; parameters = parameters; priors = priors; subsequents = subsequents }
+
+-- the recipe `foo` with these parameters
+abbrev recipe_of : List (Parameter (List ℕ) (List ℕ)) → Content (List ℕ) (List ℕ) (List ℕ) (List ℕ)
+recipe_of parameters = tree.Recipe (bare_recipe (headed parameters [] []) [])
+
 abbrev recipe : Content (List ℕ) (List ℕ) (List ℕ) (List ℕ)
-recipe = tree.Recipe (plain_recipe (codes "foo") [])
+recipe = recipe_of []
 
 -- the first in the order of content is refused, at the item's name
 on_assignment : construct_broken sees (plain (codes "script") ∷ plain (codes "private") ∷ labelled (codes "group") (codes "'a'") ∷ []) assignment
@@ -238,12 +255,135 @@ on_assignment : construct_broken sees (plain (codes "script") ∷ plain (codes "
 unfolding kind_named same_attribute
 on_assignment = refl
 
--- so far a recipe has no parameters; the least text is refused
-no_parameter : construct_broken sees (labelled (codes "arg") (codes "'b'") ∷ labelled (codes "arg") (codes "'a'") ∷ []) recipe
-    ≡ one (rule.UndefinedArgAttribute (codes "a")) (codes "'a'")
-unfolding kind_named same_attribute
-no_parameter = refl
-
 allowed : construct_broken sees (plain (codes "windows") ∷ plain (codes "private") ∷ []) assignment ≡ []
 unfolding kind_named same_attribute
 allowed = refl
+
+-- ---- of recipes, by what their attributes mean
+
+-- `arg` with these arguments
+abbrev arg : (lexeme : List ℕ) → List (Argument (List ℕ) (List ℕ)) → WrittenAttribute (List ℕ) (List ℕ)
+arg lexeme arguments = given (codes "arg") (literal lexeme ∷ arguments)
+
+abbrev a_and_b : Content (List ℕ) (List ℕ) (List ℕ) (List ℕ)
+a_and_b = recipe_of (parameter Singular (codes "a") ∷ parameter Singular (codes "b") ∷ [])
+
+-- of two that speak of no parameter the least text is refused, at its literal
+no_parameter : construct_broken sees (labelled (codes "arg") (codes "'c'") ∷ labelled (codes "arg") (codes "'a'") ∷ labelled (codes "arg") (codes "'b'") ∷ [])
+    (recipe_of (parameter Singular (codes "a") ∷ []))
+    ≡ one (rule.UndefinedArgAttribute (codes "b")) (codes "'b'")
+unfolding kind_named same_attribute
+no_parameter = refl
+
+-- content order puts `b` first, since it names its option; so the key of `a` is refused
+long_twice : construct_broken sees (arg (codes "'a'") (bare (codes "long") ∷ []) ∷ arg (codes "'b'") (keyed (codes "long") (codes "'a'") ∷ []) ∷ []) a_and_b
+    ≡ one (rule.DuplicateLongOption (codes "a") (codes "foo")) (codes "long")
+unfolding kind_named same_attribute
+long_twice = refl
+
+-- an option that is named is refused at its literal
+long_literal_twice : construct_broken sees (arg (codes "'a'") (keyed (codes "long") (codes "'x'") ∷ []) ∷ arg (codes "'b'") (keyed (codes "long") (codes "'''x'''") ∷ []) ∷ []) a_and_b
+    ≡ one (rule.DuplicateLongOption (codes "x") (codes "foo")) (codes "'''x'''")
+unfolding kind_named same_attribute unindented
+long_literal_twice = refl
+
+short_twice : construct_broken sees (arg (codes "'a'") (keyed (codes "short") (codes "'x'") ∷ []) ∷ arg (codes "'b'") (keyed (codes "short") (codes "'''x'''") ∷ []) ∷ []) a_and_b
+    ≡ one (rule.DuplicateShortOption 120 (codes "foo")) (codes "'''x'''")
+unfolding kind_named same_attribute unindented chars
+short_twice = refl
+
+-- a long option and a short one may be called the same
+long_and_short : construct_broken sees (arg (codes "'a'") (bare (codes "long") ∷ []) ∷ arg (codes "'b'") (keyed (codes "short") (codes "'a'") ∷ []) ∷ []) a_and_b ≡ []
+unfolding kind_named same_attribute chars
+long_and_short = refl
+
+-- a flag is on already if its parameter has a value by default
+flag_with_default : construct_broken sees (arg (codes "'a'") (bare (codes "long") ∷ bare (codes "flag") ∷ []) ∷ []) (recipe_of (optional (codes "a") (codes "'x'") ∷ []))
+    ≡ one (rule.FlagWithDefault (codes "a")) (codes "a")
+unfolding kind_named same_attribute
+flag_with_default = refl
+
+max_alone : construct_broken sees (arg (codes "'a'") (keyed (codes "max") (codes "'2'") ∷ []) ∷ []) (recipe_of (parameter Singular (codes "a") ∷ []))
+    ≡ one (rule.ArgAttributeRequiresMultipleOrVariadic (codes "max")) (codes "max")
+unfolding kind_named same_attribute
+max_alone = refl
+
+-- the key of `max` before that of `min`, wherever it stands
+max_before_min : construct_broken sees (arg (codes "'a'") (keyed (codes "min") (codes "'1'") ∷ keyed (codes "max") (codes "'2'") ∷ []) ∷ []) (recipe_of (parameter Singular (codes "a") ∷ []))
+    ≡ one (rule.ArgAttributeRequiresMultipleOrVariadic (codes "max")) (codes "max")
+unfolding kind_named same_attribute
+max_before_min = refl
+
+min_alone : construct_broken sees (arg (codes "'a'") (keyed (codes "min") (codes "'1'") ∷ []) ∷ []) (recipe_of (parameter Singular (codes "a") ∷ []))
+    ≡ one (rule.ArgAttributeRequiresMultipleOrVariadic (codes "min")) (codes "min")
+unfolding kind_named same_attribute
+min_alone = refl
+
+max_of_several : construct_broken sees (arg (codes "'a'") (keyed (codes "max") (codes "'2'") ∷ []) ∷ []) (recipe_of (parameter Plus (codes "a") ∷ [])) ≡ []
+unfolding kind_named same_attribute
+max_of_several = refl
+
+max_of_multiple : construct_broken sees (arg (codes "'a'") (bare (codes "long") ∷ bare (codes "multiple") ∷ keyed (codes "max") (codes "'2'") ∷ []) ∷ [])
+    (recipe_of (parameter Singular (codes "a") ∷ [])) ≡ []
+unfolding kind_named same_attribute
+max_of_multiple = refl
+
+-- of two parameters with one name the first is spoken of
+first_of_name : construct_broken sees (arg (codes "'a'") (bare (codes "long") ∷ bare (codes "flag") ∷ []) ∷ [])
+    (recipe_of (parameter Singular (codes "a") ∷ optional (codes "a") (codes "'x'") ∷ [])) ≡ []
+unfolding kind_named same_attribute
+first_of_name = refl
+
+directories : construct_broken sees (plain (codes "no-cd") ∷ labelled (codes "working-directory") (codes "'a'") ∷ []) recipe
+    ≡ one (rule.NoCdAndWorkingDirectoryAttribute (codes "foo")) (codes "foo")
+unfolding kind_named same_attribute
+directories = refl
+
+exit_messages : construct_broken sees (plain (codes "exit-message") ∷ plain (codes "no-exit-message") ∷ []) recipe
+    ≡ one (rule.ExitMessageAndNoExitMessageAttribute (codes "foo")) (codes "foo")
+unfolding kind_named same_attribute
+exit_messages = refl
+
+shells : construct_broken sees (plain (codes "script") ∷ plain (codes "shell") ∷ []) recipe
+    ≡ one (rule.ScriptAndShellAttribute (codes "foo")) (codes "foo")
+unfolding kind_named same_attribute
+shells = refl
+
+-- ---- of the stars of dependencies, each of which stands for itself by a text
+
+abbrev argument_of : Option (List ℕ) → (name : List ℕ) → DependencyArgument (List ℕ) (List ℕ) (List ℕ)
+argument_of star name = record { star = star; value = tree.Variable name }
+
+-- a dependency on `b`
+abbrev on_b : (star : Option (List ℕ)) → List (DependencyArgument (List ℕ) (List ℕ) (List ℕ)) → Dependency (List ℕ) (List ℕ) (List ℕ)
+on_b star arguments = record { star = star; path = codes "b" ∷ []; arguments = arguments }
+
+-- what such a dependency breaks, before `&&` and after it
+abbrev star_breaks : Dependency (List ℕ) (List ℕ) (List ℕ) → List (Broken (List ℕ))
+star_breaks d = construct_broken sees {C = List ℕ} [] (tree.Recipe (bare_recipe (headed [] (d ∷ []) []) []))
+
+abbrev later_star_breaks : Dependency (List ℕ) (List ℕ) (List ℕ) → List (Broken (List ℕ))
+later_star_breaks d = construct_broken sees {C = List ℕ} [] (tree.Recipe (bare_recipe (headed [] (on_b None [] ∷ []) (d ∷ [])) []))
+
+-- `*(b x)`
+star_without : star_breaks (on_b (Some (codes "first")) (argument_of None (codes "x") ∷ []))
+    ≡ one rule.MappedDependencyWithoutStarredArgument (codes "first")
+star_without = refl
+
+-- `(b *x)`
+star_outside : star_breaks (on_b None (argument_of (Some (codes "first")) (codes "x") ∷ []))
+    ≡ one rule.StarredArgumentOutsideMappedDependency (codes "first")
+star_outside = refl
+
+-- `*(b *x *y)`
+star_twice : star_breaks (on_b (Some (codes "first")) (argument_of (Some (codes "second")) (codes "x") ∷ argument_of (Some (codes "third")) (codes "y") ∷ []))
+    ≡ one rule.MappedDependencyMultipleStarredArguments (codes "third")
+star_twice = refl
+
+later_star : later_star_breaks (on_b (Some (codes "first")) (argument_of None (codes "x") ∷ []))
+    ≡ one rule.MappedDependencyWithoutStarredArgument (codes "first")
+later_star = refl
+
+-- `*(b x *y)`
+star_once : star_breaks (on_b (Some (codes "first")) (argument_of None (codes "x") ∷ argument_of (Some (codes "second")) (codes "y") ∷ [])) ≡ []
+star_once = refl

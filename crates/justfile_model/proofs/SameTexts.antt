@@ -3,12 +3,15 @@
 use Rattle.std.proofs.Common.{◌≡◌, ◌∙◌, ℕ, Bool, true, false, List, [], ◌∷◌, ◌++◌, Option, Some, Ok, is_some, refl, sym, ap, subst}
 use Rattle.std.proofs.lemmas.List.Elements.{All-from_recursion}
 use Rattle.std.specs.List.{AllByRecursion, flat_map}
+use Rattle.std.specs.Option.{option_map}
 use Rattle.justfile_base.specs.AttributeKind.{kind_named}
 use Rattle.justfile_base.specs.declared.attribute_kind.AttributeKind.{AttributeKind}
-use Rattle.justfile_model.specs.AttributeRules.{arguments_broken, attribute_broken, attributes_broken, construct_broken, duplicate_broken, duplicates_broken, known_broken, meaning_broken, named_broken, of_some, order_broken, repeats_broken}
+use Rattle.justfile_model.specs.AttributeRules.{arguments_broken, attribute_broken, duplicate_broken, duplicates_broken, known_broken, named_broken, of_some, order_broken, repeats_broken}
+use Rattle.justfile_model.specs.ConstructRules.{construct_broken, meaning_broken}
 use Rattle.justfile_model.specs.ContentKeys.{entry_cmp}
 use Rattle.justfile_model.specs.ContentLeaf.{LiteralContent}
-use Rattle.justfile_model.specs.Files.{all_literals, argument_literals, content_literals, expr_literals, exprs_literals, ordered, parts_literals, written_literals}
+use Rattle.justfile_model.specs.Docs.{Nothing, documented}
+use Rattle.justfile_model.specs.Files.{all_literals, argument_literals, content_literals, expr_literals, exprs_literals, ordered, parts_literals, says_doc, undocumented, written_literals}
 use Rattle.justfile_model.specs.Files.{broken as broken_of}
 use Rattle.justfile_model.specs.Literals as literals
 use Rattle.justfile_model.specs.Literals.{Literal, string_of}
@@ -22,29 +25,24 @@ use Rattle.justfile_model.specs.Tree as tree
 use Rattle.justfile_model.specs.Tree.{Argument, Attribute, Content, Entry, Expr, Exprs, OptionName, OrderedItem, Parts, Quoted, WrittenAttribute, WrittenItem}
 use Rattle.justfile_model.proofs.AlikeAttributes as alike
 use Rattle.justfile_model.proofs.AlikeAttributes.{AlikeArgument, AlikeAttribute, AlikeBound, AlikeEntry, AlikeLiteral, AlikeOptionName, AlikeProperty, AlikeQuoted, SeesAlike, keys_alike, ordered_alike, positions_alike}
-use Rattle.justfile_model.proofs.Binds.{bind_back, never_nil, nothing_in, some_back}
+use Rattle.justfile_model.proofs.Binds.{bind_back, nothing_in, some_back}
 use Rattle.justfile_model.proofs.EachLaws.{AlikeOption, absent, present}
 use Rattle.justfile_model.proofs.MakesAlike.{Makes, broken, made}
 use Rattle.justfile_model.specs.ArgumentTexts.{GivenHasText, HasText, HasTexts}
 use Rattle.justfile_model.proofs.NewAttributeLaws.{attribute_made, attribute_unbroken, distinct_passes}
-use Rattle.justfile_model.proofs.NewAttributesAlike.{AlikeContent, an_assignment, a_recipe, meaning_alike, new_attribute_alike, repeated_alike}
+use Rattle.justfile_model.proofs.NewAttributesAlike.{new_attribute_alike, repeated_alike}
 use Rattle.justfile_model.proofs.NewAttributeSteps.{first_of_all}
-use Rattle.justfile_model.proofs.Ordered.{construct_meant, meanings_of}
+use Rattle.justfile_model.proofs.Ordered.{construct_meant, meanings_of, undocumented_of}
 use Rattle.justfile_model.proofs.Related as a
 use Rattle.justfile_model.proofs.Related.{Alike, AlikeAll, AlikeParts, Each, Relations, each_both}
-use Rattle.justfile_model.proofs.RewrittenLiterals.{parts}
+use Rattle.justfile_model.proofs.RewrittenEntries.{unbroken_parts}
+use Rattle.justfile_model.proofs.RewrittenLiterals.{literals_meant, parts}
+use Rattle.justfile_model.proofs.SameRecipes.{meaning_broken_same, with_texts}
 
 module _ {A B : Type 0} (sight : Sight A B) (cooked : Literal A → Option (List ℕ)) (content : Literal A → LiteralContent) where
   -- the other sight
   abbrev pub other : Sight A B
-  other = record {
-    bytes = sight.bytes;
-    place = sight.place;
-    cooked = cooked;
-    leaf_content = sight.leaf_content;
-    spot_content = sight.spot_content;
-    literal_content = content;
-  }
+  other = with_texts sight cooked content
 
   -- a literal has the same text in both
   abbrev pub Agreed : Literal A → Type 0
@@ -75,6 +73,7 @@ module _ {A B : Type 0} (sight : Sight A B) (cooked : Literal A → Option (List
     literal = λ l t t'. (t ≡ t') × AgreedIf l t;
     text = λ t t'. Unit {0};
     star = λ s s'. Unit {0};
+    parameter = λ number n rules n' rules'. n ≡ n';
     attributes = λ d d'. Unit {0};
     assignment = λ number n n'. n ≡ n';
     recipe = λ number n body n' body'. Unit {0};
@@ -259,6 +258,7 @@ module _ {A B : Type 0} (sight : Sight A B) (cooked : Literal A → Option (List
     unfolding same
     sees = record {
       bytes = λ n n' h. ap sight.bytes h;
+      parameter_bytes = λ number n rules n' rules' h. ap sight.bytes h;
       name_place = λ n n' h. ap sight.place h;
       literal_place = λ l t t' h. ap sight.place h.0;
       assignment_place = λ number n n' h. ap sight.place h;
@@ -431,66 +431,57 @@ module _ {A B : Type 0} (sight : Sight A B) (cooked : Literal A → Option (List
           itself = subst (λ l. Each (AlikeEntry same) l l) (sym m.all_are) (a.cons one.itself others.itself);
         }
 
-    none_alike : {X Y : Type 0} {Q : X → Y → Type 0} {xs : List X} {ys : List Y} → Each Q xs ys → xs ≡ [] → ys ≡ []
-    none_alike a.nil e = refl
-    none_alike (a.cons h hs) e = never_nil _ _ e
-
-    content_alike : {C S : Type 0} (c : Content A B C S) → AlikeContent same sight other sees c c
-    unfolding same
-    content_alike (tree.Assignment p) = an_assignment {number = 0} refl
-    content_alike (tree.Recipe r) = a_recipe
-
     -- the attributes of a construct mean the same, and break no rule
-    pub record KeptConstruct {C S : Type 0} (ws : List (WrittenAttribute A B)) (c : Content A B C S) (entries : List (Entry A B)) : Type 0 where
+    pub record KeptConstruct {C : Type 0} (ws : List (WrittenAttribute A B)) (c : Content A B C B) (entries : List (Entry A B)) : Type 0 where
       pub means : entries_of other ws ≡ Some entries
       pub unbroken : construct_broken other ws c ≡ []
 
-    pub construct_kept : {C S : Type 0} (ws : List (WrittenAttribute A B)) (c : Content A B C S) (entries : List (Entry A B))
+    pub construct_kept : {C : Type 0} (ws : List (WrittenAttribute A B)) (c : Content A B C B) (entries : List (Entry A B))
         → AllByRecursion Agreed (written_literals ws) → AllByRecursion Texted (written_literals ws) → entries_of sight ws ≡ Some entries
         → construct_broken sight ws c ≡ [] → KeptConstruct ws c entries
     construct_kept ws c entries agreed texts means unbroken =
         let m = bind_back (all_of (entry_of sight) ws) _ entries means in
         let sorted : in_order (entry_cmp sight) m.first ≡ entries = some_back _ entries m.gives in
-        let u = nothing_in (attributes_broken sight ws) (of_some (meaning_broken sight c) (entries_of sight ws)) unbroken in
+        let u = unbroken_parts sight ws c unbroken in
         let two = nothing_in (flat_map (attribute_broken sight) ws) (duplicates_broken sight [] ws) u.0 in
         let all = all_kept [] ws m.first a.nil agreed texts m.is two.0 two.1 in
         let order : Each (AlikeEntry same) (in_order (entry_cmp sight) m.first) (in_order (entry_cmp other) m.first) =
         ordered_alike same sight other sees all.itself in
         let equal : in_order (entry_cmp sight) m.first ≡ in_order (entry_cmp other) m.first = list_same entry_same order in
-        let meaning : meaning_broken sight c (in_order (entry_cmp sight) m.first) ≡ [] =
-        sym (ap (λ o. of_some (meaning_broken sight c) o) (means ∙ ap Some (sym sorted))) ∙ u.1 in
-        let same_meaning : meaning_broken other c (in_order (entry_cmp other) m.first) ≡ [] =
-        none_alike (meaning_alike same sight other sees (content_alike c) order) meaning in
+        let other_means : entries_of other ws ≡ Some entries = rw all.means (ap Some (sym equal ∙ sorted)) in
+        let meaning : meaning_broken sight c entries ≡ [] = sym (ap (of_some (meaning_broken sight c)) means) ∙ u.1 in
+        let same_meaning : meaning_broken other c entries ≡ [] =
+        sym (meaning_broken_same sight cooked content c entries (literals_meant Agreed sight ws entries means agreed)) ∙ meaning in
         record {
-          means = rw all.means (ap Some (sym equal ∙ sorted));
-          unbroken = rw (all.unbroken, all.distinct, all.means) same_meaning;
+          means = other_means;
+          unbroken = rw (all.unbroken, all.distinct, other_means) (λ i. same_meaning i ++ u.2 i);
         }
 
     -- ---- items
 
-    pub record KeptItems {C S : Type 0} (items : List (WrittenItem A B C S)) (all : List (OrderedItem A B C)) : Type 0 where
-      pub means : ordered other items ≡ Some all
-      pub unbroken : broken_of other items ≡ []
+    record KeptMeanings {C : Type 0} (items : List (WrittenItem A B C B)) (all : List (OrderedItem A B C)) : Type 0 where
+      means : undocumented other items ≡ Some all
+      unbroken : broken_of other items ≡ []
 
-    pub items_kept : {C S : Type 0} (items : List (WrittenItem A B C S)) (all : List (OrderedItem A B C))
-        → AllByRecursion Agreed (all_literals items) → AllByRecursion Texted (all_literals items) → ordered sight items ≡ Some all
-        → broken_of sight items ≡ [] → KeptItems items all
-    items_kept [] all agreed texts means unbroken = record { means = means; unbroken = refl }
-    items_kept (tree.Newline ∷ items) all agreed texts means unbroken =
+    meanings_kept : {C : Type 0} (items : List (WrittenItem A B C B)) (all : List (OrderedItem A B C))
+        → AllByRecursion Agreed (all_literals items) → AllByRecursion Texted (all_literals items) → undocumented sight items ≡ Some all
+        → broken_of sight items ≡ [] → KeptMeanings items all
+    meanings_kept [] all agreed texts means unbroken = record { means = means; unbroken = refl }
+    meanings_kept (tree.Newline ∷ items) all agreed texts means unbroken =
         let m = meanings_of sight tree.Newline items all means in
-        let others = items_kept items m.others agreed texts m.others_are unbroken in
+        let others = meanings_kept items m.others agreed texts m.others_are unbroken in
         record {
           means = rw others.means (ap (λ x. Some (x ∷ m.others)) (some_back tree.Newline m.first m.first_is) ∙ ap Some (sym m.all_are));
           unbroken = others.unbroken;
         }
-    items_kept (tree.Comment text ∷ items) all agreed texts means unbroken =
+    meanings_kept (tree.Comment text ∷ items) all agreed texts means unbroken =
         let m = meanings_of sight (tree.Comment text) items all means in
-        let others = items_kept items m.others agreed texts m.others_are unbroken in
+        let others = meanings_kept items m.others agreed texts m.others_are unbroken in
         record {
           means = rw others.means (ap (λ x. Some (x ∷ m.others)) (some_back (tree.Comment text) m.first m.first_is) ∙ ap Some (sym m.all_are));
           unbroken = others.unbroken;
         }
-    items_kept (tree.Construct ws c ∷ items) all agreed texts means unbroken =
+    meanings_kept (tree.Construct ws c ∷ items) all agreed texts means unbroken =
         let m = meanings_of sight (tree.Construct ws c) items all means in
         let i = construct_meant sight ws c m.first m.first_is in
         let own : List (Literal A) = written_literals ws ++ content_literals c in
@@ -499,8 +490,23 @@ module _ {A B : Type 0} (sight : Sight A B) (cooked : Literal A → Option (List
         let u = nothing_in (construct_broken sight ws c) (broken_of sight items) unbroken in
         let one = construct_kept ws c i.entries (parts Agreed (written_literals ws) (content_literals c) g.0).0
         (parts Texted (written_literals ws) (content_literals c) t.0).0 i.means u.0 in
-        let others = items_kept items m.others g.1 t.1 m.others_are u.1 in
+        let others = meanings_kept items m.others g.1 t.1 m.others_are u.1 in
         record {
           means = rw (one.means, others.means) (ap (λ x. Some (x ∷ m.others)) (sym i.item_is) ∙ ap Some (sym m.all_are));
           unbroken = rw (one.unbroken, others.unbroken) refl;
+        }
+
+    pub record KeptItems {C : Type 0} (items : List (WrittenItem A B C B)) (all : List (OrderedItem A B C)) : Type 0 where
+      pub means : ordered other items ≡ Some all
+      pub unbroken : broken_of other items ≡ []
+
+    pub items_kept : {C : Type 0} (items : List (WrittenItem A B C B)) (all : List (OrderedItem A B C))
+        → AllByRecursion Agreed (all_literals items) → AllByRecursion Texted (all_literals items) → ordered sight items ≡ Some all
+        → broken_of sight items ≡ [] → KeptItems items all
+    items_kept items all agreed texts means unbroken =
+        let d = undocumented_of sight items all means in
+        let kept = meanings_kept items d.items agreed texts d.items_are unbroken in
+        record {
+          means = ap (option_map (documented says_doc Nothing)) kept.means ∙ ap Some (sym d.all_are);
+          unbroken = kept.unbroken;
         }

@@ -11,8 +11,9 @@ use Rattle.justfile_base.specs.declared.attribute_kind.AttributeKind.TheVariants
 use Rattle.justfile_base.specs.declared.format_string_part.FormatStringPart.TheVariants as string_parts
 use Rattle.justfile_base.specs.declared.token_kind.TokenKind.{TokenKind}
 use Rattle.justfile_base.specs.declared.token_kind.TokenKind.TheVariants as kinds
-use Rattle.justfile_model.specs.AttributeRules.{attributes_broken, construct_broken}
+use Rattle.justfile_model.specs.AttributeRules.{attributes_broken}
 use Rattle.justfile_model.specs.ConditionalOperator.{operator_sign}
+use Rattle.justfile_model.specs.ConstructRules.{construct_broken}
 use Rattle.justfile_model.specs.ContentKeys.{name_key, spot_key, literal_key, expr_key, exprs_keys, parts_keys, quoted_key, option_name_key, word_key, own_name_key, property_key, bound_number_key, bound_word_key, rules_keys, texts_keys, is_optional, single_keys, attribute_keys, attribute_key, entry_cmp}
 use Rattle.justfile_model.specs.ContentLeaf.{ContentLeaf, token, literal, operator, text, unseen, content_cmp}
 use Rattle.justfile_model.specs.Expressions.{operator_kind}
@@ -31,7 +32,8 @@ use Rattle.justfile_model.proofs.OrderMaps.{in_order_map_where}
 use Rattle.justfile_model.proofs.Binds.{of_some_is, never_some}
 use Rattle.justfile_model.proofs.MeaningParts.{InOption, InBare, InProperty, InBound, InValue, InRules, InMeaning, entries_in}
 use Rattle.justfile_model.proofs.Sees.{Sees, all_over}
-use Rattle.justfile_model.proofs.SeesRules.{kind_over, attributes_broken_over, construct_broken_over}
+use Rattle.justfile_model.proofs.SeesRecipes.{construct_broken_over}
+use Rattle.justfile_model.proofs.SeesRules.{kind_over, attributes_broken_over}
 
 module _ (expander : Expansions) where
   abbrev tokens : Sight Tok Tok
@@ -320,8 +322,7 @@ module _ (expander : Expansions) where
       → attributes_broken lexemes (map (over_written_attribute lexeme nothing) ws) ≡ map (over_broken nothing) (attributes_broken tokens ws)
   attributes_broken_seen ws = attributes_broken_over seen ws
 
-  pub construct_broken_seen : {C S C' S' : Type 0} (h : C → C') (k : S → S') (ws : List (WrittenAttribute Tok Tok)) (content : Content Tok Tok C S)
-      → KindedWritten ws
-      → construct_broken lexemes (map (over_written_attribute lexeme nothing) ws) (over_content lexeme nothing h k content)
+  pub construct_broken_seen : {C C' : Type 0} (h : C → C') (ws : List (WrittenAttribute Tok Tok)) (content : Content Tok Tok C Tok) → KindedWritten ws
+      → construct_broken lexemes (map (over_written_attribute lexeme nothing) ws) (over_content lexeme nothing h nothing content)
       ≡ map (over_broken nothing) (construct_broken tokens ws content)
-  construct_broken_seen h k ws content kinded = construct_broken_over seen h k ws content (entries_seen ws kinded)
+  construct_broken_seen h ws content kinded = construct_broken_over seen h ws content (entries_seen ws kinded)

@@ -10,27 +10,26 @@ use Rattle.justfile_base.specs.Signal.{signal_named}
 use Rattle.justfile_base.specs.declared.attribute_kind.AttributeKind.{AttributeKind}
 use Rattle.justfile_base.specs.declared.attribute_kind.AttributeKind.TheVariants as kinds
 use Rattle.justfile_base.specs.declared.item_kind.ItemKind.{ItemKind}
-use Rattle.justfile_base.specs.declared.item_kind.ItemKind.TheVariants as items
 use Rattle.justfile_model.specs.AttributeKinds.{same_attribute, known_keys, takes_expressions, least_count, most_count, is_repeatable, is_allowed}
-use Rattle.justfile_model.specs.AttributeRules.{has_more, is_literal, of_some, lesser, least, count_broken, expression_broken, expressions_broken, order_broken, repeats_broken, is_known, unknown_broken, missing_broken, literal_broken, signal_broken, signals_broken, has, key_broken, option_broken, option_key_broken, count_text_broken, bound_broken, wants_option, value_broken, flag_broken, multiple_broken, number_of, exceeds_broken, arg_broken, kind_broken, arguments_broken, known_broken, named_broken, attribute_broken, label_of, same_text, same_label, excludes, duplicate_rule, duplicate_broken, duplicates_broken, attributes_broken, first_invalid, allowed_broken, rules_in, arg_rules, undefined_broken, meaning_broken, construct_broken}
+use Rattle.justfile_model.specs.AttributeRules.{has_more, is_literal, of_some, lesser, least, count_broken, expression_broken, expressions_broken, order_broken, repeats_broken, is_known, unknown_broken, missing_broken, literal_broken, signal_broken, signals_broken, has, key_broken, option_broken, option_key_broken, count_text_broken, bound_broken, wants_option, value_broken, flag_broken, multiple_broken, number_of, exceeds_broken, arg_broken, kind_broken, arguments_broken, known_broken, named_broken, attribute_broken, label_of, same_text, same_label, excludes, duplicate_rule, duplicate_broken, duplicates_broken, attributes_broken, first_invalid, allowed_broken}
 use Rattle.justfile_model.specs.ContentKeys.{kind_of_attribute}
 use Rattle.justfile_model.specs.ContentLeaf.{text_cmp}
-use Rattle.justfile_model.specs.Meaning.{quoted, Placed, KeyArgument, by_position, by_key, quoted_text, text_of, at_key, is_count, count_of, entry_of, entries_of}
-use Rattle.justfile_model.specs.Rules.{Rule, UnknownAttribute, AttributeArgumentCountMismatch, AttributeArgumentExpression, AttributePositionalFollowsKeyword, DuplicateAttributeKey, UnknownAttributeKey, AttributeKeyMissingValue, AttributeKeyTakesNoValue, InvalidSignal, OptionNameContainsEqualSign, OptionNameStartsWithDash, OptionNameEmpty, ShortOptionWithMultipleCharacters, ArgAttributeRequiresOption, FlagAttributeTakesNoValue, FlagAndValueArgAttribute, FlagAndPatternArgAttribute, ArgumentCountValue, ArgumentCountParse, ArgAttributeMinExceedsMax, DuplicateArgAttribute, DuplicateGroupAttribute, InvalidAttribute, UndefinedArgAttribute, Broken, broken_if, over_rule, over_broken}
+use Rattle.justfile_model.specs.Meaning.{quoted, Placed, KeyArgument, by_position, by_key, quoted_text, at_key, is_count, count_of, entry_of}
+use Rattle.justfile_model.specs.Rules.{Rule, UnknownAttribute, AttributeArgumentCountMismatch, AttributeArgumentExpression, AttributePositionalFollowsKeyword, DuplicateAttributeKey, UnknownAttributeKey, AttributeKeyMissingValue, AttributeKeyTakesNoValue, InvalidSignal, OptionNameContainsEqualSign, OptionNameStartsWithDash, OptionNameEmpty, ShortOptionWithMultipleCharacters, ArgAttributeRequiresOption, FlagAttributeTakesNoValue, FlagAndValueArgAttribute, FlagAndPatternArgAttribute, ArgumentCountValue, ArgumentCountParse, ArgAttributeMinExceedsMax, DuplicateArgAttribute, DuplicateGroupAttribute, InvalidAttribute, Broken, broken_if, over_rule, over_broken}
 use Rattle.justfile_model.specs.Sight.{Sight, or_empty}
 use Rattle.justfile_model.specs.Tree as tree
-use Rattle.justfile_model.specs.Tree.{Expr, Quoted, Argument, WrittenAttribute, ArgumentRules, Attribute, Content, Entry, over_expr, over_argument, over_written_attribute, over_quoted, over_rules, over_attribute, over_entry, over_content}
+use Rattle.justfile_model.specs.Tree.{Expr, Quoted, Argument, WrittenAttribute, Attribute, Entry, over_expr, over_argument, over_written_attribute, over_quoted, over_attribute, over_entry}
 use Rattle.justfile_model.proofs.Mapped.{flat_mapped}
 use Rattle.justfile_model.proofs.Sees.{Sees, find_over, over_placed, over_key, quoted_over, by_position_over, by_key_over, text_over, at_key_over, entry_over}
 
 -- ---- options and lists
 
 module _ {X Y : Type 0} (h : X → Y) where
-  is_some_over : (o : Option X) → is_some (option_map h o) ≡ is_some o
+  pub is_some_over : (o : Option X) → is_some (option_map h o) ≡ is_some o
   is_some_over None = refl
   is_some_over (Some x) = refl
 
-  filter_over : (p : X → Bool) (q : Y → Bool) → ((x : X) → q (h x) ≡ p x) → (xs : List X) → filter q (map h xs) ≡ map h (filter p xs)
+  pub filter_over : (p : X → Bool) (q : Y → Bool) → ((x : X) → q (h x) ≡ p x) → (xs : List X) → filter q (map h xs) ≡ map h (filter p xs)
   filter_over p q same [] = refl
   filter_over p q same (x ∷ xs) = (λ i. cond (same x i) (h x ∷ filter_over p q same xs i) (filter_over p q same xs i)) ∙ within (p x)
     where
@@ -47,7 +46,7 @@ module _ {X Y : Type 0} (h : X → Y) where
         within true = refl
         within false = refl
 
-    least_over : (xs : List X) → least text' (map h xs) ≡ option_map h (least text xs)
+    pub least_over : (xs : List X) → least text' (map h xs) ≡ option_map h (least text xs)
     least_over [] = refl
     least_over (x ∷ xs) = ap Some (ap (lesser text' (h x)) (least_over xs) ∙ lesser_over x (least text xs))
 
@@ -56,7 +55,7 @@ pub both_over : {X Y : Type 0} (h : X → Y) (xs ys : List X) (xs' ys' : List Y)
 both_over h xs ys xs' ys' p q = (λ i. p i ++ q i) ∙ sym (map-append h xs ys)
 
 -- what there is
-some_over : {X Y Z W : Type 0} (h : X → Y) (k : Z → W) (p : X → List Z) (q : Y → List W) (o : Option X) (o' : Option Y)
+pub some_over : {X Y Z W : Type 0} (h : X → Y) (k : Z → W) (p : X → List Z) (q : Y → List W) (o : Option X) (o' : Option Y)
     → o' ≡ option_map h o → ((x : X) → q (h x) ≡ map k (p x)) → of_some q o' ≡ map k (of_some p o)
 some_over {X = X} h k p q o o' e same = ap (of_some q) e ∙ within o
   where
@@ -65,7 +64,7 @@ some_over {X = X} h k p q o o' e same = ap (of_some q) e ∙ within o
     within (Some x) = same x
 
 -- the same thing in both
-also_over : {X Z W : Type 0} (k : Z → W) (p : X → List Z) (q : X → List W) (o o' : Option X)
+pub also_over : {X Z W : Type 0} (k : Z → W) (p : X → List Z) (q : X → List W) (o o' : Option X)
     → o' ≡ o → ((x : X) → q x ≡ map k (p x)) → of_some q o' ≡ map k (of_some p o)
 also_over {X = X} k p q o o' e same = ap (of_some q) e ∙ within o
   where
@@ -76,7 +75,7 @@ also_over {X = X} k p q o o' e same = ap (of_some q) e ∙ within o
 -- ---- rules
 
 module _ {T U : Type 0} (g : T → U) where
-  if_over : (b b' : Bool) (rule : Rule T) (rule' : Rule U) (token : T) (token' : U) → b' ≡ b → rule' ≡ over_rule g rule → token' ≡ g token
+  pub if_over : (b b' : Bool) (rule : Rule T) (rule' : Rule U) (token : T) (token' : U) → b' ≡ b → rule' ≡ over_rule g rule → token' ≡ g token
       → broken_if b' rule' token' ≡ map (over_broken g) (broken_if b rule token)
   if_over b b' rule rule' token token' e r t = (λ i. broken_if (e i) (r i) (t i)) ∙ within b
     where
@@ -501,7 +500,7 @@ module _ {A B C D : Type 0} {f : A → C} {g : B → D} {sight : Sight A B} {oth
 
   -- ---- by the item
 
-  allowed_over : (item : ItemKind) (name : B) (es : List (Entry A B))
+  pub allowed_over : (item : ItemKind) (name : B) (es : List (Entry A B))
       → allowed_broken other item (g name) (map (over_entry f g) es) ≡ over (allowed_broken sight item name es)
   allowed_over item name es =
       some_over (over_entry f g) (over_broken g)
@@ -512,54 +511,3 @@ module _ {A B C D : Type 0} {f : A → C} {g : B → D} {sight : Sight A B} {oth
       (λ (e : Entry C D). not (is_allowed item (kind_of_attribute e.attribute)))
       (λ e. ap (λ kind. not (is_allowed item kind)) (kind_over f g e.attribute)) es)
       (λ e. λ i. record { rule = InvalidAttribute item (kind_over f g e.attribute i); token = g name } ∷ [])
-
-  rules_in_over : (a : Attribute A B) → rules_in other (over_attribute f g a) ≡ option_map (over_rules f g) (rules_in sight a)
-  rules_in_over (tree.Plain kind) = refl
-  rules_in_over (tree.Single kind value) = refl
-  rules_in_over (tree.Texts kind texts) = refl
-  rules_in_over (tree.Env key value) = refl
-  rules_in_over (tree.Signals given) = refl
-  rules_in_over (tree.Cache extra inputs outputs) = refl
-  rules_in_over (tree.Arg rules) = refl
-
-  arg_rules_over : (es : List (Entry A B)) → arg_rules other (map (over_entry f g) es) ≡ map (over_rules f g) (arg_rules sight es)
-  arg_rules_over [] = refl
-  arg_rules_over (e ∷ es) = within e.attribute (arg_rules_over es)
-    where
-      within : (a : Attribute A B) → arg_rules other (map (over_entry f g) es) ≡ map (over_rules f g) (arg_rules sight es)
-          → arg_rules other (record { name = g e.name; attribute = over_attribute f g a } ∷ map (over_entry f g) es)
-          ≡ map (over_rules f g) (arg_rules sight (record { name = e.name; attribute = a } ∷ es))
-      within (tree.Plain kind) h = h
-      within (tree.Single kind value) h = h
-      within (tree.Texts kind texts) h = h
-      within (tree.Env key value) h = h
-      within (tree.Signals given) h = h
-      within (tree.Cache extra inputs outputs) h = h
-      within (tree.Arg rules) h = ap (λ l. over_rules f g rules ∷ l) h
-
-  undefined_over : (rules : List (ArgumentRules A B)) → undefined_broken other (map (over_rules f g) rules) ≡ over (undefined_broken sight rules)
-  undefined_over rules =
-      some_over (over_rules f g) (over_broken g)
-      (λ (a : ArgumentRules A B). record { rule = UndefinedArgAttribute (text_of sight a.name); token = sight.place a.name.token } ∷ [])
-      (λ (a : ArgumentRules C D). record { rule = UndefinedArgAttribute (text_of other a.name); token = other.place a.name.token } ∷ [])
-      (least (λ (a : ArgumentRules A B). text_of sight a.name) rules) _
-      (least_over (over_rules f g) (λ (a : ArgumentRules A B). text_of sight a.name) (λ (a : ArgumentRules C D). text_of other a.name)
-      (λ a. ap or_empty (text_over sees a.name)) rules)
-      (λ a. λ i. record { rule = UndefinedArgAttribute (or_empty (text_over sees a.name i)); token = sees.place a.name.token i } ∷ [])
-
-  -- by what the attributes of a construct mean
-  pub meaning_broken_over : {Z S Z' S' : Type 0} (h : Z → Z') (k : S → S') (content : Content A B Z S) (es : List (Entry A B))
-      → meaning_broken other (over_content f g h k content) (map (over_entry f g) es) ≡ over (meaning_broken sight content es)
-  meaning_broken_over h k (tree.Assignment parts) es =
-      ap (λ name. allowed_broken other items.Assignment name (map (over_entry f g) es)) (sees.place parts.name)
-      ∙ allowed_over items.Assignment (sight.place parts.name) es
-  meaning_broken_over h k (tree.Recipe parts) es = ap (undefined_broken other) (arg_rules_over es) ∙ undefined_over (arg_rules sight es)
-
-  -- where the attributes mean the same in order
-  pub construct_broken_over : {Z S Z' S' : Type 0} (h : Z → Z') (k : S → S') (ws : List (WrittenAttribute A B)) (content : Content A B Z S)
-      → entries_of other (map (over_written_attribute f g) ws) ≡ option_map (map (over_entry f g)) (entries_of sight ws)
-      → construct_broken other (map (over_written_attribute f g) ws) (over_content f g h k content) ≡ over (construct_broken sight ws content)
-  construct_broken_over h k ws content same =
-      both_over (over_broken g) (attributes_broken sight ws) (of_some (meaning_broken sight content) (entries_of sight ws)) _ _ (attributes_broken_over ws)
-      (some_over (map (over_entry f g)) (over_broken g) (meaning_broken sight content) (meaning_broken other (over_content f g h k content))
-      (entries_of sight ws) _ same (meaning_broken_over h k content))

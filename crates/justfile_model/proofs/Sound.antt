@@ -1,28 +1,34 @@
 -- What is read of a file derives, with the features that are noted on the way, and its literals have texts.
-use Rattle.std.proofs.Common.{◌≡◌, ℕ, Bool, true, false, cond, List, [], ◌∷◌, ◌++◌, length, drop, Option, Some, None, Ok, Err, IfOk, refl, sym, subst, ap, ◌∙◌, append_assoc}
+use Rattle.std.proofs.Common.{◌≡◌, ℕ, Bool, true, false, cond, List, [], ◌∷◌, ◌++◌, length, drop, Option, Some, None, Ok, Err, IfOk, refl, sym, subst, ap, ◌∙◌, append_assoc, append-nil}
 use Rattle.std.specs.Str.{trim_end}
 use Rattle.justfile_base.specs.declared.token_kind.TokenKind.TheVariants as kinds
 use Rattle.justfile_base.specs.declared.item_kind.ItemKind.TheVariants as item_kinds
 use Rattle.justfile_model.specs.AttributeLines as attributes_of
-use Rattle.justfile_model.specs.AttributeRules.{allowed_broken, arg_rules, meaning_broken, undefined_broken}
+use Rattle.justfile_model.specs.AttributeRules.{allowed_broken}
 use Rattle.justfile_model.specs.Conditions.{Conditions}
+use Rattle.justfile_model.specs.ConstructRules.{form_broken, meaning_broken}
 use Rattle.justfile_model.specs.ReadAttribute.{ReadAttribute, token_sight}
+use Rattle.justfile_model.specs.RecipeRules.{exclusions_broken}
 use Rattle.justfile_model.specs.Rules.{Broken}
 use Rattle.justfile_model.specs.Tok.{Tok}
 use Rattle.justfile_model.specs.SignificantTokens.{SignificantToken}
 use Rattle.justfile_model.specs.Tree as tree
-use Rattle.justfile_model.specs.Tree.{BodyLine, Construct, Content, Expr, Fragment, Line, WrittenAttribute, WrittenItem, WrittenTree, itself, plain_assignment, plain_recipe, trimmed}
-use Rattle.justfile_model.specs.Features.{Noted}
+use Rattle.justfile_model.specs.Tree.{BodyLine, Construct, Content, Entry, Expr, Fragment, Header, Line, WrittenAttribute, WrittenItem, WrittenTree, bare_recipe, itself, plain_assignment, trimmed}
+use Rattle.justfile_model.specs.Features.{ConstructFeatures, Noted}
 use Rattle.justfile_model.specs.Expressions.{Tokens, IsKind, NotNext, Under}
 use Rattle.justfile_model.specs.Grammar as g
+use Rattle.justfile_model.specs.Headers as headers
 use Rattle.justfile_model.specs.Grammar.{BeforeBody, NotEmpty}
+use Rattle.justfile_model.specs.HeaderReader.{draw_binding, expression, header}
 use Rattle.justfile_model.specs.Literals.{Literal}
-use Rattle.justfile_model.specs.Files.{all_literals, body_literals, content_literals, fragments_literals, item_literals, keeps_tokens, written_literals}
-use Rattle.justfile_model.specs.Reading.{◌>>=◌, BreaksRule, Counters, at, next_are, prepend}
+use Rattle.justfile_model.specs.Meaning.{entries_of}
+use Rattle.justfile_model.specs.Files.{all_features, all_literals, body_literals, content_literals, entries_features, fragments_literals, keeps_tokens}
+use Rattle.justfile_model.specs.Reading.{Counters, at, next_are, prepend}
 use Rattle.justfile_model.specs.Reader as reader
-use Rattle.justfile_model.specs.Reader.{Start, after_numbered, assignment, at_end, attributes, construct, content, content_has_body, entries_read, item_rest, body, optional_body, body_line, comment_item, draw_binding, draw_recipe, ended, expression, fragment, has_body, items, items_from, items_rule, line, line_at, line_end, line_rest, line_rest_rule, lines, lines_rule, no_line_rest, no_lines, obeying, on_line, recipe, some_lines, stands_alone, no_items}
-use Rattle.justfile_model.specs.TreeReader.{Read, Refusal, State, read_attributes, tree_of_tokens, start_state, token_attributes, token_leaves, unnumbered}
+use Rattle.justfile_model.specs.Reader.{Start, after_numbered, any_recipe, argument_rules, assignment, at_end, attributes, body, body_line, comment_item, construct, content, content_has_body, draw_recipe, ended, entries_read, fragment, has_body, item_rest, items, items_from, items_rule, line, line_at, line_end, line_rest, line_rest_rule, lines, lines_rule, no_items, no_line_rest, no_lines, on_line, optional_body, recipe, some_lines, stands_alone}
+use Rattle.justfile_model.specs.TreeReader.{Read, State, read_attributes, tree_of_tokens, start_state, token_attributes, token_leaves, unnumbered}
 use Rattle.justfile_model.proofs.AttributeSound.{AttributeLines, IsRead, attributes_at, entries_in, written_in}
+use Rattle.justfile_model.proofs.HeaderSound.{HeaderOf, IsHeader, NamedHeader, after_obeying, header_of, header_sound}
 use Rattle.justfile_model.proofs.Obeyed.{Obeyed, comment_obeyed, construct_obeyed}
 use Rattle.justfile_model.proofs.ReadingSteps.{after_test, known}
 use Rattle.justfile_model.proofs.Turns.{recursive_keeps}
@@ -46,16 +52,16 @@ module _ (conditions : Conditions) where
   abbrev pub Block : Content Tok Tok ℕ Tok → List (Noted Tok) → Tokens → Tokens → Type 0
   Block = g.Block keeps_tokens (Under conditions.limit)
 
-  abbrev pub Items : WrittenTree → List (Noted Tok) → Tokens → Type 0
+  abbrev pub Items : WrittenTree → List (ConstructFeatures Tok) → Tokens → Type 0
   Items = g.Items keeps_tokens (Under conditions.limit)
 
-  abbrev pub ItemRest : WrittenTree → List (Noted Tok) → Tokens → Type 0
+  abbrev pub ItemRest : WrittenTree → List (ConstructFeatures Tok) → Tokens → Type 0
   ItemRest = g.ItemRest keeps_tokens (Under conditions.limit)
 
-  abbrev pub LineEnd : WrittenTree → List (Noted Tok) → Tokens → Type 0
+  abbrev pub LineEnd : WrittenTree → List (ConstructFeatures Tok) → Tokens → Type 0
   LineEnd = g.LineEnd keeps_tokens (Under conditions.limit)
 
-  abbrev pub File : WrittenTree → List (Noted Tok) → Tokens → Type 0
+  abbrev pub File : WrittenTree → List (ConstructFeatures Tok) → Tokens → Type 0
   File = g.File keeps_tokens (Under conditions.limit)
 
   -- what is read of a file's expressions
@@ -63,12 +69,14 @@ module _ (conditions : Conditions) where
   Expression = e.Expression conditions
 
   -- an item with a body, or without one, before what ends it
-  pub data Starts : Bool → WrittenItem Tok Tok ℕ Tok → List (Noted Tok) → Tokens → Tokens → Type 0 where
+  pub data Starts : Bool → WrittenItem Tok Tok ℕ Tok → List (ConstructFeatures Tok) → Tokens → Tokens → Type 0 where
     of_comment : {t : SignificantToken} {rest : Tokens} → IsKind kinds.Comment t → Starts false (comment_item token_leaves token_attributes t) [] (t ∷ rest) rest
     of_line : {ws : List (WrittenAttribute Tok Tok)} {c : Content Tok Tok ℕ Tok} {gs fs : List (Noted Tok)} {ts header rest : Tokens}
-        → AttributeLines conditions ws gs ts header → OnLine c fs header rest → Starts false (Construct ws c) (gs ++ fs) ts rest
+        → AttributeLines conditions ws gs ts header → OnLine c fs header rest
+        → Starts false (Construct ws c) (record { attributes = gs; content = fs } ∷ []) ts rest
     of_block : {ws : List (WrittenAttribute Tok Tok)} {c : Content Tok Tok ℕ Tok} {gs fs : List (Noted Tok)} {ts header rest : Tokens}
-        → AttributeLines conditions ws gs ts header → Block c fs header rest → Starts true (Construct ws c) (gs ++ fs) ts rest
+        → AttributeLines conditions ws gs ts header → Block c fs header rest
+        → Starts true (Construct ws c) (record { attributes = gs; content = fs } ∷ []) ts rest
 
   -- a construct with a body, or without one, before its end
   pub data Contents : Bool → Content Tok Tok ℕ Tok → List (Noted Tok) → Tokens → Tokens → Type 0 where
@@ -76,20 +84,26 @@ module _ (conditions : Conditions) where
     a_block : {c : Content Tok Tok ℕ Tok} {fs : List (Noted Tok)} {ts rest : Tokens} → Block c fs ts rest → Contents true c fs ts rest
 
   starts : {b : Bool} {ws : List (WrittenAttribute Tok Tok)} {c : Content Tok Tok ℕ Tok} {gs fs : List (Noted Tok)} {ts header rest : Tokens}
-      → AttributeLines conditions ws gs ts header → Contents b c fs header rest → Starts b (Construct ws c) (gs ++ fs) ts rest
+      → AttributeLines conditions ws gs ts header → Contents b c fs header rest → Starts b (Construct ws c) (record { attributes = gs; content = fs } ∷ []) ts rest
   starts a (a_line o) = of_line a o
   starts a (a_block b) = of_block a b
 
+  -- no header begins with `Eof`
+  no_header : {h : Header Tok Tok Tok} {fs : List (Noted Tok)} {t : SignificantToken} {ts rest : Tokens} → IsKind kinds.Eof t → HeaderOf conditions h fs (t ∷ ts) rest → ⊥
+  no_header kind (headers.quiet kind2 h) = cc
+  no_header kind (headers.loud (headers.header kind2 ps ds)) = cc
+
   -- at `Eof` a line's end is the file's
-  at_eof : {items : WrittenTree} {fs : List (Noted Tok)} {t : SignificantToken} {rest : Tokens} → IsKind kinds.Eof t → Items items fs (t ∷ rest) → LineEnd items fs (t ∷ rest)
+  at_eof : {items : WrittenTree} {fs : List (ConstructFeatures Tok)} {t : SignificantToken} {rest : Tokens} → IsKind kinds.Eof t → Items items fs (t ∷ rest)
+      → LineEnd items fs (t ∷ rest)
   at_eof kind (g.end kind2) = g.file_end kind2
   at_eof kind (g.blank kind2 more) = cc
   at_eof kind (g.comment kind2 more) = cc
   at_eof kind (g.on_line (attributes_of.line kind2 b e others) o more) = cc
   at_eof kind (g.on_line (attributes_of.none not) (g.assignment kind2 kind3 e) more) = cc
-  at_eof kind (g.on_line (attributes_of.none not) (g.header kind2 kind3) more) = cc
+  at_eof kind (g.on_line (attributes_of.none not) (g.header h) more) = absurd (no_header kind h)
   at_eof kind (g.block (attributes_of.line kind2 b e others) o more) = cc
-  at_eof kind (g.block (attributes_of.none not) (g.recipe kind2 kind3 first ls some) more) = cc
+  at_eof kind (g.block (attributes_of.none not) (g.recipe h first ls some) more) = absurd (no_header kind h)
 
   -- where a body ends, its last line does
   at_dedent : (ts : Tokens) → AreNext (kinds.Dedent ∷ []) ts → LineRest [] [] ts ts
@@ -115,13 +129,13 @@ module _ (conditions : Conditions) where
   starts_commented (t ∷ u ∷ []) h = absurd h.1.1
   starts_commented (t ∷ u ∷ v ∷ ts) h = (Some (trim_end t.tok.lexeme), g.commented h.0 h.1.0 h.1.1.0)
 
-  abbrev recipe_content : SignificantToken → List (BodyLine Tok Tok ℕ) → Content Tok Tok ℕ Tok
-  recipe_content name ls = tree.Recipe (plain_recipe name.tok ls)
+  abbrev recipe_content : Header Tok Tok Tok → List (BodyLine Tok Tok ℕ) → Content Tok Tok ℕ Tok
+  recipe_content h ls = tree.Recipe (bare_recipe h ls)
 
-  starts_block : (name : SignificantToken) (fs : List (Noted Tok)) (ts rest : Tokens) (ls : List (BodyLine Tok Tok ℕ))
-      → Block (recipe_content name ls) fs ts rest → NotEmpty ls → Contents (content_has_body (recipe_content name ls)) (recipe_content name ls) fs ts rest
-  starts_block name fs ts rest [] b some = absurd some
-  starts_block name fs ts rest (l ∷ ls) b some = a_block b
+  starts_block : (h : Header Tok Tok Tok) (fs : List (Noted Tok)) (ts rest : Tokens) (ls : List (BodyLine Tok Tok ℕ))
+      → Block (recipe_content h ls) fs ts rest → NotEmpty ls → Contents (content_has_body (recipe_content h ls)) (recipe_content h ls) fs ts rest
+  starts_block h fs ts rest [] b some = absurd some
+  starts_block h fs ts rest (l ∷ ls) b some = a_block b
 
   -- one after the other, with all their literals
   joined : {fs gs : List (Noted Tok)} {ls ms all : List (Literal Tok)} {a b c : List (Noted Tok)} → Met conditions.expander fs ls a b → Met conditions.expander gs ms b c → AllCook conditions.expander all → Met conditions.expander (fs ++ gs) all a c
@@ -162,48 +176,75 @@ module _ (conditions : Conditions) where
     no_body : IsOptionalBody s ([], s)
     a_body : {comment : Option (List ℕ)} {first : Tokens} {x : List (BodyLine Tok Tok ℕ) × State} → BeforeBody comment s.left first → IsBody (at s first) x → IsOptionalBody s x
 
-  -- a construct that was read after its attributes
+  -- what attributes that were read mean, in the order of their content
+  abbrev meant : List ReadAttribute → List (Entry Tok Tok)
+  meant ws = entries_read token_leaves token_attributes conditions ws
+
+  -- a construct that was read after its attributes; what these say of parameters is noted with its features
   pub record IsContent (ws : List ReadAttribute) (s : State) (x : (WrittenItem Tok Tok ℕ Tok × Counters) × State) : Type 0 where
     pub content : Content Tok Tok ℕ Tok
     pub is : x.0.0 ≡ Construct (written_in ws) content
-    pub derived : Derived conditions (Contents (content_has_body content) content) (content_literals content) 0 s x.1
-    pub unbroken : meaning_broken (token_sight conditions) content (entries_read token_leaves token_attributes conditions ws) ≡ []
+    pub features : List (Noted Tok)
+    pub derives : Contents (content_has_body content) content features s.left x.1.left
+    pub met : Met conditions.expander (entries_features content (meant ws) ++ features) (content_literals content) s.noted x.1.noted
+    pub stays : Here conditions 0 x.1
+    pub unbroken : meaning_broken (token_sight conditions) content (meant ws) ≡ []
+    pub formed : form_broken content ≡ []
+
+  -- items note these features, whatever follows them
+  abbrev Note : WrittenTree → List (ConstructFeatures Tok) → List (Noted Tok) → Type 0
+  Note items bs fs =
+      (more : WrittenTree) (cs : List (ConstructFeatures Tok)) → all_features (token_sight conditions) (items ++ more) (bs ++ cs) ≡ fs ++ all_features (token_sight conditions) more cs
+
+  both_note : (is js : WrittenTree) (bs cs : List (ConstructFeatures Tok)) (fs gs : List (Noted Tok)) → Note is bs fs → Note js cs gs
+      → Note (is ++ js) (bs ++ cs) (fs ++ gs)
+  both_note is js bs cs fs gs h k more ds =
+      let after : List (Noted Tok) = all_features (token_sight conditions) more ds in
+      ap (λ l. all_features (token_sight conditions) l ((bs ++ cs) ++ ds)) (append_assoc is js more)
+      ∙ ap (λ l. all_features (token_sight conditions) (is ++ (js ++ more)) l) (append_assoc bs cs ds)
+      ∙ h (js ++ more) (cs ++ ds) ∙ ap (λ l. fs ++ l) (k more ds) ∙ sym (append_assoc fs gs after)
+
+  -- what is read from one place up to another derives these items by the rule, with the features of each construct
+  pub record DerivedItems (rule : List (ConstructFeatures Tok) → Tokens → Tokens → Type 0) (items : WrittenTree) (s rest : State) : Type 0 where
+    pub by_construct : List (ConstructFeatures Tok)
+    pub derives : rule by_construct s.left rest.left
+    pub features : List (Noted Tok)
+    pub note : Note items by_construct features
+    pub met : Met conditions.expander features (all_literals items) s.noted rest.noted
+    pub stays : Here conditions 0 rest
 
   -- an item that was read: it derives, and obeys the rules
   pub record IsOnLine (s : State) (x : (WrittenItem Tok Tok ℕ Tok × Counters) × State) : Type 0 where
-    pub derived : Derived conditions (Starts (has_body x.0.0) x.0.0) (item_literals written_literals x.0.0) 0 s x.1
+    pub derived : DerivedItems (Starts (has_body x.0.0) x.0.0) (x.0.0 ∷ []) s x.1
     pub obeys : Obeyed (token_sight conditions) x.0.0
 
   -- items that were read, before any that may follow
-  abbrev pub Leads : (WrittenTree → List (Noted Tok) → Tokens → Type 0) → State → WrittenTree × State → Type 0
-  Leads Rule s x = Derived conditions (λ fs ts between. (more : WrittenTree) (gs : List (Noted Tok)) → Items more gs between → Rule (x.0 ++ more) (fs ++ gs) ts) (all_literals x.0) 0 s x.1
+  abbrev pub Leads : (WrittenTree → List (ConstructFeatures Tok) → Tokens → Type 0) → State → WrittenTree × State → Type 0
+  Leads Rule s x =
+      DerivedItems (λ fs ts between. (more : WrittenTree) (gs : List (ConstructFeatures Tok)) → Items more gs between → Rule (x.0 ++ more) (fs ++ gs) ts) x.0 s x.1
 
   -- items that were read and numbered, before any that may follow
   abbrev pub LeadsNumbered : State → (WrittenTree × Counters) × State → Type 0
   LeadsNumbered s x = Leads Items s (x.0.0, x.1)
 
   -- all items up to the end of the file
-  abbrev pub IsWhole : (WrittenTree → List (Noted Tok) → Tokens → Type 0) → State → (WrittenTree × Counters) × State → Type 0
-  IsWhole Rule s x = Derived conditions (λ fs ts end. Rule x.0.0 fs ts) (all_literals x.0.0) 0 s x.1
+  abbrev pub IsWhole : (WrittenTree → List (ConstructFeatures Tok) → Tokens → Type 0) → State → (WrittenTree × Counters) × State → Type 0
+  IsWhole Rule s x = DerivedItems (λ fs ts end. Rule x.0.0 fs ts) x.0.0 s x.1
 
   -- a file and its features
   pub record IsFile (ts : Tokens) (x : WrittenTree × List (Noted Tok)) : Type 0 where
-    pub derives : File x.0 x.1 ts
+    pub by_construct : List (ConstructFeatures Tok)
+    pub derives : File x.0 by_construct ts
+    pub features_are : x.1 ≡ all_features (token_sight conditions) x.0 by_construct
     pub cooks : AllCook conditions.expander (all_literals x.0)
-
-  -- rules that are obeyed are none that are broken
-  after_obeying : {X : Type 0} (rules : List (Broken Tok)) (s : State) (f : Unit {0} × State → Read X) (P : Read X → Type 0) → ((e : Refusal) → P (Err e))
-      → (rules ≡ [] → P (f (tt, s))) → P (obeying rules s >>= f)
-  after_obeying [] s f P fails goes = goes refl
-  after_obeying (r ∷ rs) s f P fails goes = fails (BreaksRule r)
 
   -- what an assignment with this name breaks by its attributes
   abbrev name_breaks : List ReadAttribute → Tok → Conditions → List (Broken Tok)
   name_breaks ws name run = allowed_broken (token_sight run) item_kinds.Assignment name (entries_read token_leaves token_attributes run ws)
 
-  -- what a recipe breaks
-  abbrev recipe_breaks : List ReadAttribute → Conditions → List (Broken Tok)
-  recipe_breaks ws run = undefined_broken (token_sight run) (arg_rules (token_sight run) (entries_read token_leaves token_attributes run ws))
+  -- what a recipe with this name breaks by kinds that exclude each other
+  abbrev exclusion_breaks : List ReadAttribute → Tok → Conditions → List (Broken Tok)
+  exclusion_breaks ws name run = exclusions_broken (token_sight run) name (entries_read token_leaves token_attributes run ws)
 
   pub assignment_sound : (ws : List ReadAttribute) (n : Counters) (s : State) → Here conditions 0 s
       → IfOk (assignment token_leaves token_attributes ws n s) (IsContent ws s)
@@ -220,13 +261,12 @@ module _ (conditions : Conditions) where
       record {
         content = c;
         is = refl;
-        derived = record {
-          features = found.features;
-          derives = a_line (subst R (sym split) (subst (λ (ts : Tokens). R (name ∷ ts)) (sym split2) (g.assignment kind kind2 found.derives)));
-          met = found.met;
-          stays = found.stays;
-        };
+        features = found.features;
+        derives = a_line (subst R (sym split) (subst (λ (ts : Tokens). R (name ∷ ts)) (sym split2) (g.assignment kind kind2 found.derives)));
+        met = found.met;
+        stays = found.stays;
         unbroken = subst (λ run. name_breaks ws name.tok run ≡ []) found.stays.1 none;
+        formed = refl;
       }))))
 
   -- ---- bodies
@@ -355,44 +395,69 @@ module _ (conditions : Conditions) where
 
   -- ---- items
 
-  headed : (name colon : SignificantToken) (s : State) (x : List (BodyLine Tok Tok ℕ) × State) → Here conditions 0 s → IsKind kinds.Identifier name
-      → IsKind kinds.Colon colon → IsOptionalBody s x
-      → Derived conditions (Contents (content_has_body (recipe_content name x.0)) (recipe_content name x.0)) (content_literals (recipe_content name x.0)) 0
-      (at s (name ∷ colon ∷ s.left)) x.1
-  headed name colon s x here kind kind2 no_body = record { features = []; derives = a_line (g.header kind kind2); met = nothing_met; stays = here }
-  headed name colon s x here kind kind2 (a_body b h) =
-      let ts : Tokens = name ∷ colon ∷ s.left in
-      let R : List (BodyLine Tok Tok ℕ) → Type 0 = λ ls. Block (recipe_content name ls) h.features ts x.1.left in
+  -- a header with its body, or without one
+  record IsHeaded (h : Header Tok Tok Tok) (fs : List (Noted Tok)) (ts : Tokens) (s : State) (x : List (BodyLine Tok Tok ℕ) × State) : Type 0 where
+    features : List (Noted Tok)
+    derives : Contents (content_has_body (recipe_content h x.0)) (recipe_content h x.0) (fs ++ features) ts x.1.left
+    met : Met conditions.expander features (body_literals x.0) s.noted x.1.noted
+    stays : Here conditions 0 x.1
+
+  headed : (h : Header Tok Tok Tok) (fs : List (Noted Tok)) (ts : Tokens) (s : State) (x : List (BodyLine Tok Tok ℕ) × State) → Here conditions 0 s
+      → HeaderOf conditions h fs ts s.left → IsOptionalBody s x → IsHeaded h fs ts s x
+  headed h fs ts s x here o no_body = record {
+    features = [];
+    derives = subst (λ l. Contents false (recipe_content h []) l ts s.left) (sym (append-nil fs)) (a_line (g.header o));
+    met = nothing_met;
+    stays = here;
+  }
+  headed h fs ts s x here o (a_body b k) =
+      let R : List (BodyLine Tok Tok ℕ) → Type 0 = λ ls. Block (recipe_content h ls) (fs ++ k.features) ts x.1.left in
       record {
-        features = h.features;
-        derives = starts_block name h.features ts x.1.left x.0 (subst R h.left (g.recipe kind kind2 b h.lines (subst NotEmpty (sym h.left) h.some))) h.some;
-        met = h.met;
-        stays = h.stays;
+        features = k.features;
+        derives = starts_block h (fs ++ k.features) ts x.1.left x.0 (subst R k.left (g.recipe o b k.lines (subst NotEmpty (sym k.left) k.some))) k.some;
+        met = k.met;
+        stays = k.stays;
       }
 
-  pub recipe_sound : (ws : List ReadAttribute) (n : Counters) (s : State) → Here conditions 0 s
-      → IfOk (recipe token_leaves token_attributes ws n s) (IsContent ws s)
+  -- a recipe from its name on, where a header begins so
+  recipe_sound : (quiet : Bool) (ws : List ReadAttribute) (n : Counters) (s : State) (ts : Tokens) → Here conditions 0 s
+      → ((h : Header Tok Tok Tok) (fs : List (Noted Tok)) (rest : Tokens) → NamedHeader conditions quiet h fs s.left rest → HeaderOf conditions h fs ts rest)
+      → IfOk (recipe token_leaves token_attributes quiet ws n s) (IsContent ws (at s ts))
   unfolding recipe draw_recipe
-  recipe_sound ws n s here =
-      let P : Read (WrittenItem Tok Tok ℕ Tok × Counters) → Type 0 = λ o. IfOk o (IsContent ws s) in
-      after_expect kinds.Identifier s _ P (λ e. tt) (λ name t1 split kind.
-      after_expect kinds.Colon (at s t1) _ P (λ e. tt) (λ colon t2 split2 kind2.
-      after_obeying (recipe_breaks ws s.run) (at s t2) _ P (λ e. tt) (λ none.
-      after_bind (optional_body token_leaves (at s t2)) _ P (λ e. tt) (λ b is.
-      let found = headed name colon (at s t2) b here kind kind2 (optional_body_at (at s t2) b is here) in
-      let c = recipe_content name b.0 in
-      let R : Tokens → Type 0 = λ ts. Contents (content_has_body c) c found.features ts b.1.left in
+  recipe_sound quiet ws n s ts here begins =
+      let P : Read (WrittenItem Tok Tok ℕ Tok × Counters) → Type 0 = λ o. IfOk o (IsContent ws (at s ts)) in
+      let rules_in = argument_rules token_leaves token_attributes in
+      after_bind (header token_leaves token_sight (rules_in s.run ws) n s) _ P (λ e. tt) (λ h is.
+      let head : IsHeader conditions (rules_in conditions ws) s h =
+      subst (λ run. IsHeader conditions (rules_in run ws) s h) here.1
+      (known h (IsHeader conditions (rules_in s.run ws) s) is (header_sound conditions (rules_in s.run ws) n s here)) in
+      let all : Header Tok Tok Tok = header_of conditions (rules_in conditions ws) quiet h.0.0 in
+      after_bind (optional_body token_leaves h.1) _ P (λ e. tt) (λ b is2.
+      let found = headed all head.features ts h.1 b head.stays (begins all head.features h.1.left (head.derives quiet)) (optional_body_at h.1 b is2 head.stays) in
+      let said : List (Noted Tok) = entries_features (recipe_content all b.0) (meant ws) in
+      after_obeying (exclusion_breaks ws h.0.0.name.tok b.1.run) b.1 _ P (λ e. tt) (λ none.
       record {
-        content = c;
+        content = recipe_content all b.0;
         is = refl;
-        derived = record {
-          features = found.features;
-          derives = subst R (sym split) (subst (λ (ts : Tokens). R (name ∷ ts)) (sym split2) found.derives);
-          met = found.met;
-          stays = found.stays;
-        };
-        unbroken = subst (λ run. recipe_breaks ws run ≡ []) here.1 none;
-      }))))
+        features = head.features ++ found.features;
+        derives = found.derives;
+        met = subst (λ fs. Met conditions.expander fs (content_literals (recipe_content all b.0)) s.noted b.1.noted)
+            (append_assoc said head.features found.features) (both_met head.met found.met);
+        stays = found.stays;
+        unbroken = rw (head.options_unbroken, head.parameters_unbroken, head.none_undefined)
+            (subst (λ run. exclusion_breaks ws h.0.0.name.tok run ≡ []) found.stays.1 none);
+        formed = head.stars_unbroken;
+      })))
+
+  pub any_recipe_sound : (ws : List ReadAttribute) (n : Counters) (s : State) → Here conditions 0 s
+      → IfOk (any_recipe token_leaves token_attributes ws n s) (IsContent ws s)
+  unfolding any_recipe
+  any_recipe_sound ws n s here =
+      let P : Read (WrittenItem Tok Tok ℕ Tok × Counters) → Type 0 = λ o. IfOk o (IsContent ws s) in
+      after_choose kinds.At s _ _ P
+      (λ _. recipe_sound false ws n s s.left here (λ h fs rest named. headers.loud named))
+      (λ sign t1 split kind. recipe_sound true ws n (at s t1) s.left here
+      (λ h fs rest named. subst (λ (ts : Tokens). HeaderOf conditions h fs ts rest) (sym split) (headers.quiet kind named)))
 
   pub content_sound : (ws : List ReadAttribute) (n : Counters) (s : State) → Here conditions 0 s
       → IfOk (content token_leaves token_attributes ws n s) (IsContent ws s)
@@ -400,7 +465,7 @@ module _ (conditions : Conditions) where
   content_sound ws n s here =
       let P : Read (WrittenItem Tok Tok ℕ Tok × Counters) → Type 0 = λ o. IfOk o (IsContent ws s) in
       after_test (next_are token_leaves (kinds.Identifier ∷ kinds.ColonEquals ∷ []) s) _ _ P (λ _. assignment_sound ws n s here)
-      (λ _. recipe_sound ws n s here)
+      (λ _. any_recipe_sound ws n s here)
 
   -- the attributes before a construct
   pub before_sound : (s : State) → Here conditions 0 s → IfOk (attributes token_leaves token_attributes s) (IsRead conditions s)
@@ -412,19 +477,30 @@ module _ (conditions : Conditions) where
       (λ opener rest split kind. after_bind (read_attributes s) _ P (λ e. tt) (λ ws is.
       after_test (stands_alone token_leaves token_attributes ws.1) _ _ P (λ _. tt) (λ _. attributes_at conditions s ws is here)))
 
+  -- what a construct notes
+  construct_notes : (ws : List (WrittenAttribute Tok Tok)) (c : Content Tok Tok ℕ Tok) (entries : List (Entry Tok Tok)) (gs fs : List (Noted Tok))
+      → entries_of (token_sight conditions) ws ≡ Some entries
+      → Note (Construct ws c ∷ []) (record { attributes = gs; content = fs } ∷ []) (gs ++ (entries_features c entries ++ fs))
+  construct_notes ws c entries gs fs means more cs =
+      let after : List (Noted Tok) = all_features (token_sight conditions) more cs in
+      rw (means) (ap (λ l. l ++ after) (append_assoc gs (entries_features c entries) fs))
+
   -- a construct with its attributes
   with_attributes : (s : State) (ws : List ReadAttribute × State) (x : (WrittenItem Tok Tok ℕ Tok × Counters) × State) → IsRead conditions s ws
       → IsContent ws.0 ws.1 x → IsOnLine s x
   with_attributes s ws x h k =
       let a = h.derived in
-      let c = k.derived in
       let I : WrittenItem Tok Tok ℕ Tok → Type 0 = λ i. IsOnLine s ((i, x.0.1), x.1) in
-      let derived : Derived conditions (Starts (content_has_body k.content) (Construct (written_in ws.0) k.content))
-      (written_literals (written_in ws.0) ++ content_literals k.content) 0 s x.1 =
-      record { features = a.features ++ c.features; derives = starts a.derives c.derives; met = both_met a.met c.met; stays = c.stays } in
       subst I (sym k.is) (record {
-        derived = derived;
-        obeys = construct_obeyed (token_sight conditions) (written_in ws.0) k.content (entries_in ws.0) h.means h.unbroken k.unbroken;
+        derived = record {
+          by_construct = record { attributes = a.features; content = k.features } ∷ [];
+          derives = starts a.derives k.derives;
+          features = a.features ++ (entries_features k.content (meant ws.0) ++ k.features);
+          note = construct_notes (written_in ws.0) k.content (meant ws.0) a.features k.features (rw (h.means) refl);
+          met = all_met (both_met a.met k.met);
+          stays = k.stays;
+        };
+        obeys = construct_obeyed (token_sight conditions) (written_in ws.0) k.content (entries_in ws.0) h.means h.unbroken k.unbroken k.formed;
       })
 
   pub construct_sound : (n : Counters) (s : State) → Here conditions 0 s → IfOk (construct token_leaves token_attributes n s) (IsOnLine s)
@@ -443,8 +519,10 @@ module _ (conditions : Conditions) where
       after_choose kinds.Comment s _ _ P (λ _. construct_sound n s here)
       (λ c rest split kind. record {
         derived = record {
-          features = [];
+          by_construct = [];
           derives = subst (λ (ts : Tokens). Starts false (comment_item token_leaves token_attributes c) [] ts rest) (sym split) (of_comment kind);
+          features = [];
+          note = λ more cs. refl;
           met = nothing_met;
           stays = here;
         };
@@ -460,54 +538,92 @@ module _ (conditions : Conditions) where
   line_end_sound s here =
       let P : Read WrittenTree → Type 0 = λ o. IfOk o (Leads LineEnd s) in
       after_choose kinds.Eof s _ _ P
-      (λ _. after_expect kinds.Eol s _ P (λ e. tt) (λ t rest split kind.
-      record { features = []; derives = λ more gs h. subst (LineEnd (tree.Newline ∷ more) gs) (sym split) (g.line_end kind h); met = nothing_met; stays = here }))
-      (λ t rest split kind. record { features = []; derives = λ more gs h. subst (LineEnd more gs) (sym split) (at_eof kind (subst (Items more gs) split h)); met = nothing_met; stays = here })
+      (λ _. after_expect kinds.Eol s _ P (λ e. tt) (λ t rest split kind. record {
+        by_construct = [];
+        derives = λ more gs h. subst (LineEnd (tree.Newline ∷ more) gs) (sym split) (g.line_end kind h);
+        features = [];
+        note = λ more cs. refl;
+        met = nothing_met;
+        stays = here;
+      }))
+      (λ t rest split kind. record {
+        by_construct = [];
+        derives = λ more gs h. subst (LineEnd more gs) (sym split) (at_eof kind (subst (Items more gs) split h));
+        features = [];
+        note = λ more cs. refl;
+        met = nothing_met;
+        stays = here;
+      })
 
   pub line_end_at : (s : State) (x : WrittenTree × State) → line_end token_leaves token_attributes s ≡ Ok x → Here conditions 0 s → Leads LineEnd s x
   line_end_at s x is here = known x (Leads LineEnd s) is (line_end_sound s here)
 
-  bare_end : (s : State) (found : Read WrittenTree) → IfOk found (Leads LineEnd s) → IfOk found (Leads ItemRest s)
-  bare_end s (Ok x) h = record { features = h.features; derives = λ more gs i. g.bare (h.derives more gs i); met = h.met; stays = h.stays }
-  bare_end s (Err e) h = tt
+  bare_end : (s : State) (x : WrittenTree × State) → Leads LineEnd s x → Leads ItemRest s x
+  bare_end s x h = record {
+    by_construct = h.by_construct;
+    derives = λ more gs i. g.bare (h.derives more gs i);
+    features = h.features;
+    note = h.note;
+    met = h.met;
+    stays = h.stays;
+  }
 
   pub item_rest_sound : (s : State) → Here conditions 0 s → IfOk (item_rest token_leaves token_attributes s) (Leads ItemRest s)
   unfolding item_rest
   item_rest_sound s here =
       let P : Read WrittenTree → Type 0 = λ o. IfOk o (Leads ItemRest s) in
       after_choose kinds.Comment s _ _ P
-      (λ _. bare_end s (line_end token_leaves token_attributes s) (line_end_sound s here))
+      (λ _. weaken (line_end token_leaves token_attributes s) (Leads LineEnd s) (Leads ItemRest s) (bare_end s) (line_end_sound s here))
       (λ c rest split kind. after_bind (line_end token_leaves token_attributes (at s rest)) _ P (λ e. tt) (λ x is.
       let found = line_end_at (at s rest) x is here in
       record {
+        by_construct = found.by_construct;
+        derives = λ more gs i.
+            subst (ItemRest (comment_item token_leaves token_attributes c ∷ (x.0 ++ more)) (found.by_construct ++ gs)) (sym split)
+            (g.trailing kind (found.derives more gs i));
         features = found.features;
-        derives = λ more gs i. subst (ItemRest (comment_item token_leaves token_attributes c ∷ (x.0 ++ more)) (found.features ++ gs)) (sym split) (g.trailing kind (found.derives more gs i));
+        note = found.note;
         met = found.met;
         stays = found.stays;
       }))
 
   -- what ends an item, before the items that may follow
-  abbrev Ends : WrittenItem Tok Tok ℕ Tok → List (Noted Tok) → Tokens → State → WrittenTree × State → Type 0
-  Ends i is ts s x = Derived conditions (λ fs between end. (more : WrittenTree) (gs : List (Noted Tok)) → Items more gs end → Items (i ∷ (x.0 ++ more)) (is ++ (fs ++ gs)) ts) (all_literals x.0) 0 s x.1
+  abbrev Ends : WrittenItem Tok Tok ℕ Tok → List (ConstructFeatures Tok) → Tokens → State → WrittenTree × State → Type 0
+  Ends i is ts s x =
+      DerivedItems (λ fs between end. (more : WrittenTree) (gs : List (ConstructFeatures Tok)) → Items more gs end → Items (i ∷ (x.0 ++ more)) (is ++ (fs ++ gs)) ts)
+      x.0 s x.1
 
   -- an item without a body
-  stands : {i : WrittenItem Tok Tok ℕ Tok} {items : WrittenTree} {is fs : List (Noted Tok)} {ts rest : Tokens} → Starts false i is ts rest → ItemRest items fs rest → Items (i ∷ items) (is ++ fs) ts
+  stands : {i : WrittenItem Tok Tok ℕ Tok} {items : WrittenTree} {is fs : List (ConstructFeatures Tok)} {ts rest : Tokens} → Starts false i is ts rest
+      → ItemRest items fs rest → Items (i ∷ items) (is ++ fs) ts
   stands (of_comment kind) h = g.comment kind h
   stands (of_line a o) h = g.on_line a o h
 
   -- an item with a body
-  blocks : {i : WrittenItem Tok Tok ℕ Tok} {items : WrittenTree} {is fs : List (Noted Tok)} {ts rest : Tokens} → Starts true i is ts rest → Items items fs rest → Items (i ∷ tree.Newline ∷ items) (is ++ fs) ts
+  blocks : {i : WrittenItem Tok Tok ℕ Tok} {items : WrittenTree} {is fs : List (ConstructFeatures Tok)} {ts rest : Tokens} → Starts true i is ts rest
+      → Items items fs rest → Items (i ∷ tree.Newline ∷ items) (is ++ fs) ts
   blocks (of_block a b) h = g.block a b h
 
-  ends_line : (i : WrittenItem Tok Tok ℕ Tok) (is : List (Noted Tok)) (ts : Tokens) (s : State) → Starts false i is ts s.left → (found : Read WrittenTree) → IfOk found (Leads ItemRest s) → IfOk found (Ends i is ts s)
-  ends_line i is ts s o (Ok x) h = record { features = h.features; derives = λ more gs m. stands o (h.derives more gs m); met = h.met; stays = h.stays }
-  ends_line i is ts s o (Err e) h = tt
+  ends_line : (i : WrittenItem Tok Tok ℕ Tok) (is : List (ConstructFeatures Tok)) (ts : Tokens) (s : State) → Starts false i is ts s.left
+      → (x : WrittenTree × State) → Leads ItemRest s x → Ends i is ts s x
+  ends_line i is ts s o x h = record {
+    by_construct = h.by_construct;
+    derives = λ more gs m. stands o (h.derives more gs m);
+    features = h.features;
+    note = h.note;
+    met = h.met;
+    stays = h.stays;
+  }
 
-  ends_by : (i : WrittenItem Tok Tok ℕ Tok) (is : List (Noted Tok)) (ts : Tokens) (s : State) (b : Bool) → Here conditions 0 s → Starts b i is ts s.left → IfOk (cond b (Ok (tree.Newline ∷ [], s)) (item_rest token_leaves token_attributes s)) (Ends i is ts s)
-  ends_by i is ts s true here h = record { features = []; derives = λ more gs m. blocks h m; met = nothing_met; stays = here }
-  ends_by i is ts s false here h = ends_line i is ts s h (item_rest token_leaves token_attributes s) (item_rest_sound s here)
+  ends_by : (i : WrittenItem Tok Tok ℕ Tok) (is : List (ConstructFeatures Tok)) (ts : Tokens) (s : State) (b : Bool) → Here conditions 0 s → Starts b i is ts s.left
+      → IfOk (cond b (Ok (tree.Newline ∷ [], s)) (item_rest token_leaves token_attributes s)) (Ends i is ts s)
+  ends_by i is ts s true here h =
+      record { by_construct = []; derives = λ more gs m. blocks h m; features = []; note = λ more cs. refl; met = nothing_met; stays = here }
+  ends_by i is ts s false here h =
+      weaken (item_rest token_leaves token_attributes s) (Leads ItemRest s) (Ends i is ts s) (ends_line i is ts s h) (item_rest_sound s here)
 
-  ended_sound : (i : WrittenItem Tok Tok ℕ Tok) (is : List (Noted Tok)) (ts : Tokens) (s : State) → Here conditions 0 s → Starts (has_body i) i is ts s.left → IfOk (ended token_leaves token_attributes (has_body i) s) (Ends i is ts s)
+  ended_sound : (i : WrittenItem Tok Tok ℕ Tok) (is : List (ConstructFeatures Tok)) (ts : Tokens) (s : State) → Here conditions 0 s
+      → Starts (has_body i) i is ts s.left → IfOk (ended token_leaves token_attributes (has_body i) s) (Ends i is ts s)
   unfolding ended
   ended_sound i is ts s here h = ends_by i is ts s (has_body i) here h
 
@@ -516,30 +632,52 @@ module _ (conditions : Conditions) where
   line_sound n s here =
       let P : Read (WrittenTree × Counters) → Type 0 = λ o. IfOk o (LeadsNumbered s) in
       after_choose kinds.Eol s _ _ P
-      (λ _. after_bind (on_line token_leaves token_attributes n s) _ P (λ e. tt) (λ i is. after_bind (ended token_leaves token_attributes (has_body i.0.0) i.1) _ P (λ e. tt) (λ b is2.
+      (λ _. after_bind (on_line token_leaves token_attributes n s) _ P (λ e. tt) (λ i is.
+      after_bind (ended token_leaves token_attributes (has_body i.0.0) i.1) _ P (λ e. tt) (λ b is2.
       let one = (on_line_at n s i is here).derived in
-      let found = known b (Ends i.0.0 one.features s.left i.1) is2 (ended_sound i.0.0 one.features s.left i.1 one.stays one.derives) in
+      let found = known b (Ends i.0.0 one.by_construct s.left i.1) is2 (ended_sound i.0.0 one.by_construct s.left i.1 one.stays one.derives) in
       record {
+        by_construct = one.by_construct ++ found.by_construct;
+        derives = λ more gs m.
+            subst (λ (l : List (ConstructFeatures Tok)). Items (i.0.0 ∷ (b.0 ++ more)) l s.left) (sym (append_assoc one.by_construct found.by_construct gs))
+            (found.derives more gs m);
         features = one.features ++ found.features;
-        derives = λ more gs m. subst (λ (l : List (Noted Tok)). Items (i.0.0 ∷ (b.0 ++ more)) l s.left) (sym (append_assoc one.features found.features gs)) (found.derives more gs m);
-        met = both_met one.met found.met;
+        note = both_note (i.0.0 ∷ []) b.0 one.by_construct found.by_construct one.features found.features one.note found.note;
+        met = joined one.met found.met (items_cook conditions.expander (i.0.0 ∷ []) b.0 one.met.cooks found.met.cooks);
         stays = found.stays;
       })))
-      (λ t rest split kind. record { features = []; derives = λ more gs h. subst (Items (tree.Newline ∷ more) gs) (sym split) (g.blank kind h); met = nothing_met; stays = here })
+      (λ t rest split kind. record {
+        by_construct = [];
+        derives = λ more gs h. subst (Items (tree.Newline ∷ more) gs) (sym split) (g.blank kind h);
+        features = [];
+        note = λ more cs. refl;
+        met = nothing_met;
+        stays = here;
+      })
 
-  pub line_at_start : (n : Counters) (s : State) (x : (WrittenTree × Counters) × State) → line token_leaves token_attributes n s ≡ Ok x → Here conditions 0 s → LeadsNumbered s x
+  pub line_at_start : (n : Counters) (s : State) (x : (WrittenTree × Counters) × State) → line token_leaves token_attributes n s ≡ Ok x → Here conditions 0 s
+      → LeadsNumbered s x
   line_at_start n s x is here = known x (LeadsNumbered s) is (line_sound n s here)
 
-  last_token : (n : Counters) (s : State) (rest : Tokens) (t : SignificantToken) → Here conditions 0 s → s.left ≡ t ∷ rest → IsKind kinds.Eof t → IfOk (at_end token_leaves token_attributes n (at s rest)) (IsWhole Items s)
+  last_token : (n : Counters) (s : State) (rest : Tokens) (t : SignificantToken) → Here conditions 0 s → s.left ≡ t ∷ rest → IsKind kinds.Eof t
+      → IfOk (at_end token_leaves token_attributes n (at s rest)) (IsWhole Items s)
   unfolding at_end
-  last_token n s [] t here split kind = record { features = []; derives = subst (Items [] []) (sym split) (g.end kind); met = nothing_met; stays = here }
+  last_token n s [] t here split kind = record {
+    by_construct = [];
+    derives = subst (Items [] []) (sym split) (g.end kind);
+    features = [];
+    note = λ more cs. refl;
+    met = nothing_met;
+    stays = here;
+  }
   last_token n s (u ∷ rest) t here split kind = tt
 
   -- all that is left is read
   abbrev AllRead : Start token_leaves token_attributes → Read (WrittenTree × Counters) → Type 0
   AllRead x found = Here conditions 0 x.1 → IfOk found (IsWhole Items x.1)
 
-  rule_keeps : (f : Start token_leaves token_attributes → Read (WrittenTree × Counters)) → ((x : Start token_leaves token_attributes) → AllRead x (f x)) → (x : Start token_leaves token_attributes) → AllRead x (items_rule token_leaves token_attributes f x)
+  rule_keeps : (f : Start token_leaves token_attributes → Read (WrittenTree × Counters)) → ((x : Start token_leaves token_attributes) → AllRead x (f x))
+      → (x : Start token_leaves token_attributes) → AllRead x (items_rule token_leaves token_attributes f x)
   unfolding items_rule after_numbered
   rule_keeps f h x here =
       let P : Read (WrittenTree × Counters) → Type 0 = λ o. IfOk o (IsWhole Items x.1) in
@@ -548,8 +686,10 @@ module _ (conditions : Conditions) where
       let first = line_at_start x.0 x.1 l is here in
       let rest = known more (IsWhole Items l.1) is2 (h (l.0.1, l.1) first.stays) in
       record {
+        by_construct = first.by_construct ++ rest.by_construct;
+        derives = first.derives more.0.0 rest.by_construct rest.derives;
         features = first.features ++ rest.features;
-        derives = first.derives more.0.0 rest.features rest.derives;
+        note = both_note l.0.0 more.0.0 first.by_construct rest.by_construct first.features rest.features first.note rest.note;
         met = joined first.met rest.met (items_cook conditions.expander l.0.0 more.0.0 first.met.cooks rest.met.cooks);
         stays = rest.stays;
       })))
@@ -557,31 +697,53 @@ module _ (conditions : Conditions) where
 
   pub items_sound : (n : Counters) (s : State) → Here conditions 0 s → IfOk (items token_leaves token_attributes n s) (IsWhole Items s)
   unfolding items_from
-  items_sound n s = recursive_keeps (λ x. length x.1.left) (no_items token_leaves token_attributes) (items_rule token_leaves token_attributes) AllRead (λ x here. tt) rule_keeps (n, s)
+  items_sound n s =
+      recursive_keeps (λ (x : Start token_leaves token_attributes). length x.1.left) (no_items token_leaves token_attributes)
+      (items_rule token_leaves token_attributes) AllRead (λ x here. tt) rule_keeps (n, s)
 
-  unmarked_file : (s : State) (found : Read (WrittenTree × Counters)) → IfOk found (IsWhole Items s) → IfOk found (IsWhole File s)
-  unmarked_file s (Ok x) h = record { features = h.features; derives = g.unmarked h.derives; met = h.met; stays = h.stays }
-  unmarked_file s (Err e) h = tt
+  unmarked_file : (s : State) (x : (WrittenTree × Counters) × State) → IsWhole Items s x → IsWhole File s x
+  unmarked_file s x h =
+      record { by_construct = h.by_construct; derives = g.unmarked h.derives; features = h.features; note = h.note; met = h.met; stays = h.stays }
 
-  marked_file : (s : State) (rest : Tokens) (t : SignificantToken) → s.left ≡ t ∷ rest → IsKind kinds.ByteOrderMark t → (found : Read (WrittenTree × Counters)) → IfOk found (IsWhole Items (at s rest)) → IfOk found (IsWhole File s)
-  marked_file s rest t split kind (Ok x) h = record { features = h.features; derives = subst (File x.0.0 h.features) (sym split) (g.marked kind h.derives); met = h.met; stays = h.stays }
-  marked_file s rest t split kind (Err e) h = tt
+  marked_file : (s : State) (rest : Tokens) (t : SignificantToken) → s.left ≡ t ∷ rest → IsKind kinds.ByteOrderMark t
+      → (x : (WrittenTree × Counters) × State) → IsWhole Items (at s rest) x → IsWhole File s x
+  marked_file s rest t split kind x h = record {
+    by_construct = h.by_construct;
+    derives = subst (File x.0.0 h.by_construct) (sym split) (g.marked kind h.derives);
+    features = h.features;
+    note = h.note;
+    met = h.met;
+    stays = h.stays;
+  }
 
-  whole_file : (ts : Tokens) → IfOk (reader.file token_leaves token_attributes unnumbered (start_state conditions ts)) (IsWhole File (start_state conditions ts))
+  whole_file : (ts : Tokens)
+      → IfOk (reader.file token_leaves token_attributes unnumbered (start_state conditions ts)) (IsWhole File (start_state conditions ts))
   unfolding reader.file
   whole_file ts =
       let s : State = start_state conditions ts in
       let P : Read (WrittenTree × Counters) → Type 0 = λ o. IfOk o (IsWhole File s) in
       after_choose kinds.ByteOrderMark s s (λ mark. mark.1) (λ (t : State). P (items token_leaves token_attributes unnumbered t))
-      (λ _. unmarked_file s (items token_leaves token_attributes unnumbered s) (items_sound unnumbered s (refl, refl)))
-      (λ t rest split kind. marked_file s rest t split kind (items token_leaves token_attributes unnumbered (at s rest)) (items_sound unnumbered (at s rest) (refl, refl)))
+      (λ _. weaken (items token_leaves token_attributes unnumbered s) (IsWhole Items s) (IsWhole File s) (unmarked_file s) (items_sound unnumbered s (refl, refl)))
+      (λ t rest split kind. weaken (items token_leaves token_attributes unnumbered (at s rest)) (IsWhole Items (at s rest)) (IsWhole File s)
+      (marked_file s rest t split kind) (items_sound unnumbered (at s rest) (refl, refl)))
+
+  -- the features of a file are all that were noted
+  all_noted : (items : WrittenTree) (bs : List (ConstructFeatures Tok)) (fs : List (Noted Tok)) → Note items bs fs → fs ≡ all_features (token_sight conditions) items bs
+  all_noted items bs fs h =
+      sym (append-nil fs) ∙ sym (h [] []) ∙ ap (λ l. all_features (token_sight conditions) l (bs ++ [])) (append-nil items)
+      ∙ ap (λ l. all_features (token_sight conditions) items l) (append-nil bs)
 
   pub file_sound : (ts : Tokens) → IfOk (tree_of_tokens conditions ts) (IsFile ts)
   unfolding tree_of_tokens
   file_sound ts =
       after_bind (reader.file token_leaves token_attributes unnumbered (start_state conditions ts)) _ (λ o. IfOk o (IsFile ts)) (λ e. tt) (λ x is.
       let found = known x (IsWhole File (start_state conditions ts)) is (whole_file ts) in
-      record { derives = subst (λ (fs : List (Noted Tok)). File x.0.0 fs ts) (sym found.met.noted_is) found.derives; cooks = found.met.cooks })
+      record {
+        by_construct = found.by_construct;
+        derives = found.derives;
+        features_are = found.met.noted_is ∙ all_noted x.0.0 found.by_construct found.features found.note;
+        cooks = found.met.cooks;
+      })
 
   pub file_at : (ts : Tokens) (x : WrittenTree × List (Noted Tok)) → tree_of_tokens conditions ts ≡ Ok x → IsFile ts x
   file_at ts x is = known x (IsFile ts) is (file_sound ts)

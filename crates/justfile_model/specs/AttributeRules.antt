@@ -9,15 +9,14 @@ use Rattle.justfile_base.specs.Signal.{signal_named}
 use Rattle.justfile_base.specs.declared.attribute_kind.AttributeKind.{AttributeKind}
 use Rattle.justfile_base.specs.declared.attribute_kind.AttributeKind.TheVariants as kinds
 use Rattle.justfile_base.specs.declared.item_kind.ItemKind.{ItemKind}
-use Rattle.justfile_base.specs.declared.item_kind.ItemKind.TheVariants as items
 use Rattle.justfile_model.specs.AttributeKinds.{same_attribute, known_keys, takes_expressions, least_count, most_count, is_repeatable, is_allowed}
 use Rattle.justfile_model.specs.ContentKeys.{kind_of_attribute}
 use Rattle.justfile_model.specs.ContentLeaf.{text_cmp}
 use Rattle.justfile_model.specs.Meaning.{quoted, Placed, KeyArgument, by_position, by_key, first_of, quoted_text, text_of, at_key, is_count, count_of, entry_of, entries_of}
-use Rattle.justfile_model.specs.Rules.{Rule, UnknownAttribute, AttributeArgumentCountMismatch, AttributeArgumentExpression, AttributePositionalFollowsKeyword, DuplicateAttributeKey, UnknownAttributeKey, AttributeKeyMissingValue, AttributeKeyTakesNoValue, InvalidSignal, OptionNameContainsEqualSign, OptionNameStartsWithDash, OptionNameEmpty, ShortOptionWithMultipleCharacters, ArgAttributeRequiresOption, FlagAttributeTakesNoValue, FlagAndValueArgAttribute, FlagAndPatternArgAttribute, ArgumentCountValue, ArgumentCountParse, ArgAttributeMinExceedsMax, DuplicateAttribute, DuplicateArgAttribute, DuplicateGroupAttribute, InvalidAttribute, UndefinedArgAttribute, Broken, broken_if}
+use Rattle.justfile_model.specs.Rules.{Rule, UnknownAttribute, AttributeArgumentCountMismatch, AttributeArgumentExpression, AttributePositionalFollowsKeyword, DuplicateAttributeKey, UnknownAttributeKey, AttributeKeyMissingValue, AttributeKeyTakesNoValue, InvalidSignal, OptionNameContainsEqualSign, OptionNameStartsWithDash, OptionNameEmpty, ShortOptionWithMultipleCharacters, ArgAttributeRequiresOption, FlagAttributeTakesNoValue, FlagAndValueArgAttribute, FlagAndPatternArgAttribute, ArgumentCountValue, ArgumentCountParse, ArgAttributeMinExceedsMax, DuplicateAttribute, DuplicateArgAttribute, DuplicateGroupAttribute, InvalidAttribute, Broken, broken_if}
 use Rattle.justfile_model.specs.Sight.{Sight}
 use Rattle.justfile_model.specs.Tree as tree
-use Rattle.justfile_model.specs.Tree.{Expr, Quoted, Argument, WrittenAttribute, ArgumentRules, Attribute, Content, Entry}
+use Rattle.justfile_model.specs.Tree.{Expr, Quoted, Argument, WrittenAttribute, ArgumentRules, Attribute, Entry}
 
 -- more are found than the bound allows
 abbrev pub has_more : ℕ → Option ℕ → Bool
@@ -242,24 +241,12 @@ module _ {A B : Type 0} (sight : Sight A B) where
   allowed_broken item name entries =
       of_some (λ (e : Entry A B). record { rule = InvalidAttribute item (kind_of_attribute e.attribute); token = name } ∷ []) (first_invalid item entries)
 
-  abbrev pub rules_in : Attribute A B → Option (ArgumentRules A B)
-  rules_in (tree.Arg rules) = Some rules
-  rules_in _ = None
+-- ---- of `arg`
 
-  -- what they say of parameters, in their order
-  abbrev pub arg_rules : List (Entry A B) → List (ArgumentRules A B)
-  arg_rules entries = filter_map (λ (e : Entry A B). rules_in e.attribute) entries
+abbrev pub rules_in : {A B : Type 0} → Attribute A B → Option (ArgumentRules A B)
+rules_in (tree.Arg rules) = Some rules
+rules_in _ = None
 
-  -- What is said of no parameter: the least text is refused, at its literal. So far a recipe has no parameters.
-  abbrev pub undefined_broken : List (ArgumentRules A B) → List (Broken B)
-  undefined_broken rules =
-      of_some (λ (a : ArgumentRules A B). record { rule = UndefinedArgAttribute (text_of sight a.name); token = sight.place a.name.token } ∷ [])
-      (least (λ (a : ArgumentRules A B). text_of sight a.name) rules)
-
-  -- by what the attributes of a construct mean
-  abbrev pub meaning_broken : {C S : Type 0} → Content A B C S → List (Entry A B) → List (Broken B)
-  meaning_broken (tree.Assignment parts) entries = allowed_broken items.Assignment (sight.place parts.name) entries
-  meaning_broken (tree.Recipe parts) entries = undefined_broken (arg_rules entries)
-
-  abbrev pub construct_broken : {C S : Type 0} → List (WrittenAttribute A B) → Content A B C S → List (Broken B)
-  construct_broken ws content = attributes_broken ws ++ of_some (meaning_broken content) (entries_of sight ws)
+-- what attributes say of parameters, in their order
+abbrev pub arg_rules : {A B : Type 0} → List (Entry A B) → List (ArgumentRules A B)
+arg_rules entries = filter_map (λ (e : Entry _ _). rules_in e.attribute) entries

@@ -2,12 +2,14 @@
 -- kind and its lexeme, wherever it stands; the number of a variable is not looked at.
 use Rattle.std.specs.Prelude.{ℕ, Bool, true, false, List, ◌∷◌, Option, codes}
 use denote.Enum.Declared.{tag_of}
+use Rattle.std.specs.List.{list_any}
 use Rattle.std.specs.declared.cmp.Ordering.{Ordering}
 use Rattle.justfile_base.specs.contracts.attribute_kind.AttributeKind as attribute_kinds
 use Rattle.justfile_base.specs.declared.attribute_kind.AttributeKind.{AttributeKind}
 use Rattle.justfile_base.specs.declared.attribute_kind.AttributeKind.TheVariants as attributes
 use Rattle.justfile_base.specs.declared.token_kind.TokenKind.{TokenKind}
 use Rattle.justfile_base.specs.declared.token_kind.TokenKind.TheVariants as kinds
+use Rattle.justfile_model.specs.AttributeKinds.{same_attribute}
 use Rattle.justfile_model.specs.ConditionalOperator.{operator_sign}
 use Rattle.justfile_model.specs.ContentLeaf.{ContentLeaf, token, literal, operator, text, count, signal, unseen, content_cmp}
 use Rattle.justfile_model.specs.Expressions.{operator_kind}
@@ -26,6 +28,10 @@ kind_of_attribute (tree.Env key value) = attributes.Env
 kind_of_attribute (tree.Signals given) = attributes.Continue
 kind_of_attribute (tree.Cache extra inputs outputs) = attributes.Cache
 kind_of_attribute (tree.Arg rules) = attributes.Arg
+
+-- an attribute of this kind is among them
+abbrev pub has_attribute : {A B : Type 0} → AttributeKind → List (Entry A B) → Bool
+has_attribute kind entries = list_any (λ (e : Entry _ _). same_attribute (kind_of_attribute e.attribute) kind) entries
 
 module _ {A B : Type 0} (sight : Sight A B) where
   abbrev pub name_key : A → Key ContentLeaf

@@ -1,16 +1,21 @@
 -- What a file derives.
-use Rattle.std.specs.Prelude.{◌≡◌, ℕ, ◌+◌, ◌-◌, ◌^◌, ◌≤◌, List, [], ◌∷◌, ◌++◌, map, length, Option, Some, None}
+use Rattle.std.specs.Prelude.{◌≡◌, ℕ, Bool, ◌+◌, ◌-◌, ◌^◌, ◌≤◌, List, [], ◌∷◌, ◌++◌, map, length, Option, Some, None}
 use Rattle.std.specs.List.{flat_map}
+use Rattle.std.specs.Option.{option_map}
+use Rattle.justfile_base.specs.declared.attribute_kind.AttributeKind.TheVariants.{Doc}
 use Rattle.justfile_model.specs.SignificantTokens.{SignificantToken}
 use Rattle.justfile_model.specs.Tree.{Expr, Or, And, Comparison, Concatenation, ListConcatenation, Join, Root, If, IfElse, Not, StringLiteral, FormatLiteral, FormatString, Backtick, Assert, AssertMessage, Variable, Call, Group, ListOf, Exprs, none, more, Parts, Last, Continue, Fragment, Text, Interpolation, BodyLine, Line, Quoted, Argument, Positional, Bare, Keyed, WrittenAttribute, OptionName, NoOption, OwnName, Named, ArgumentRules, Attribute, Plain, Single, Texts, Env, Signals, Cache, Arg, Entry, Parameter, Dependency, Header, Content, Assignment, Recipe, Item, Newline, Comment, Construct, WrittenItem, OrderedItem, WrittenTree, WrittenShape, Tree, Shape, starless, lexeme, nothing, itself, line_of}
 use Rattle.justfile_model.specs.Tok.{Tok}
-use Rattle.justfile_model.specs.Features.{Noted}
+use Rattle.justfile_model.specs.Features.{ConstructFeatures, Noted, rules_features}
+use Rattle.justfile_model.specs.Docs.{Nothing, documented}
 use Rattle.justfile_model.specs.Conditions.{Conditions}
 use Rattle.justfile_model.specs.Expressions.{Free, Under}
 use Rattle.justfile_model.specs.Grammar.{File, Kept}
 use Rattle.justfile_model.specs.Literals as literal
 use Rattle.justfile_model.specs.Literals.{Literal, over_literal, AreCookedTexts}
-use Rattle.justfile_model.specs.AttributeRules.{construct_broken}
+use Rattle.justfile_model.specs.AttributeRules.{arg_rules, of_some}
+use Rattle.justfile_model.specs.ConstructRules.{construct_broken}
+use Rattle.justfile_model.specs.ContentKeys.{has_attribute}
 use Rattle.justfile_model.specs.Meaning.{entries_of}
 use Rattle.justfile_model.specs.Rules.{Broken}
 use Rattle.justfile_model.specs.Sight.{Sight, sees_lexemes, sees_tokens}
@@ -181,24 +186,50 @@ if_both None others = None
 if_both (Some x) None = None
 if_both (Some x) (Some xs) = Some (x ∷ xs)
 
+-- an attribute says the doc
+abbrev pub says_doc : {A B : Type 0} → List (Entry A B) → Bool
+says_doc entries = has_attribute Doc entries
+
+-- what a construct's attributes note at the name of a recipe
+abbrev pub entries_features : {A B C S : Type 0} → Content A B C S → List (Entry A B) → List (Noted B)
+entries_features (Assignment parts) entries = []
+entries_features (Recipe parts) entries = flat_map rules_features (arg_rules entries)
+
 module _ {A B C S : Type 0} (sight : Sight A B) where
+  -- the features of a construct, in the order in which they are noted
+  abbrev pub construct_features : List (WrittenAttribute A B) → Content A B C S → ConstructFeatures B → List (Noted B)
+  construct_features ws content f = f.attributes ++ of_some (entries_features content) (entries_of sight ws) ++ f.content
+
+  -- the features of a file, by those of its constructs
+  abbrev pub all_features : List (WrittenItem A B C S) → List (ConstructFeatures B) → List (Noted B)
+  all_features [] fs = []
+  all_features (Newline ∷ items) fs = all_features items fs
+  all_features (Comment text ∷ items) fs = all_features items fs
+  all_features (Construct ws content ∷ items) [] = []
+  all_features (Construct ws content ∷ items) (f ∷ fs) = construct_features ws content f ++ all_features items fs
+
   abbrev pub ordered_item : WrittenItem A B C S → Option (OrderedItem A B C)
   ordered_item Newline = Some Newline
   ordered_item (Comment text) = Some (Comment text)
   ordered_item (Construct ws content) = with_entries content (entries_of sight ws)
 
-  -- a written tree with what its attributes mean
-  abbrev pub ordered : List (WrittenItem A B C S) → Option (List (OrderedItem A B C))
-  ordered [] = Some []
-  ordered (i ∷ items) = if_both (ordered_item i) (ordered items)
+  -- a written tree with what its attributes mean, whose docs are comments still
+  abbrev pub undocumented : List (WrittenItem A B C S) → Option (List (OrderedItem A B C))
+  undocumented [] = Some []
+  undocumented (i ∷ items) = if_both (ordered_item i) (undocumented items)
 
-  abbrev pub item_broken : WrittenItem A B C S → List (Broken B)
+  -- a written tree with what its attributes mean, and with its docs
+  abbrev pub ordered : List (WrittenItem A B C S) → Option (List (OrderedItem A B C))
+  ordered items = option_map (documented says_doc Nothing) (undocumented items)
+
+module _ {A B C : Type 0} (sight : Sight A B) where
+  abbrev pub item_broken : WrittenItem A B C B → List (Broken B)
   item_broken Newline = []
   item_broken (Comment text) = []
   item_broken (Construct ws content) = construct_broken sight ws content
 
   -- all rules that written items break, each at what is kept of its token
-  abbrev pub broken : List (WrittenItem A B C S) → List (Broken B)
+  abbrev pub broken : List (WrittenItem A B C B) → List (Broken B)
   broken items = flat_map item_broken items
 
 -- a written tree keeps tokens, and the lines on which bodies' lines begin
@@ -210,7 +241,7 @@ abbrev pub keeps_lexemes : Kept (List ℕ) (Unit {0}) (Unit {0}) (Unit {0})
 keeps_lexemes = record { leaf = lexeme; spot = nothing; number = nothing; star = nothing }
 
 -- the grammar alone: no limit of depth, any text in a literal, and no other rule
-abbrev pub FileTree : List SignificantToken → WrittenTree → List (Noted Tok) → Type 0
+abbrev pub FileTree : List SignificantToken → WrittenTree → List (ConstructFeatures Tok) → Type 0
 FileTree tokens written features = File keeps_tokens Free written features tokens
 
 -- a written tree under the conditions: its literals have texts, and no rule is broken
@@ -222,14 +253,18 @@ pub record Obeys (conditions : Conditions) (written : WrittenTree) : Type 0 wher
 -- the tree of a file's tokens, and its features
 pub record FileDerives (conditions : Conditions) (tokens : List SignificantToken) (tree : Tree) (features : List (Noted Tok)) : Type 0 where
   pub written : WrittenTree
-  pub derives : File keeps_tokens (Under conditions.limit) written features tokens
+  pub by_construct : List (ConstructFeatures Tok)
+  pub derives : File keeps_tokens (Under conditions.limit) written by_construct tokens
+  pub features_are : features ≡ all_features (sees_tokens conditions.expander) written by_construct
   pub obeys : Obeys conditions written
   pub ordered_is : ordered (sees_tokens conditions.expander) written ≡ Some tree
 
 -- a shape of a file's tokens, and its features
 pub record ShapeDerives (conditions : Conditions) (tokens : List SignificantToken) (shape : Shape) (features : List (Noted (Unit {0}))) : Type 0 where
   pub written : WrittenShape
-  pub derives : File keeps_lexemes (Under conditions.limit) written features tokens
+  pub by_construct : List (ConstructFeatures (Unit {0}))
+  pub derives : File keeps_lexemes (Under conditions.limit) written by_construct tokens
+  pub features_are : features ≡ all_features (sees_lexemes conditions.expander) written by_construct
   pub cooked : List (List ℕ)
   pub cooks : AreCookedTexts conditions.expander (all_literals written) cooked
   pub unbroken : broken (sees_lexemes conditions.expander) written ≡ []

@@ -1,6 +1,7 @@
 -- The grammar of files: which significant tokens are which items. In `Relation kept Open item features tokens rest` the tokens begin with
 -- the item, and rest is what follows it; `kept` says what the tree keeps of a token, and `Open` at which depth, before which token, an
--- expression may be entered. The features are those of the expressions. The trees are written ones: no rule is looked at but those of form.
+-- expression may be entered. The features are those of the expressions, of files by construct. The trees are written ones: no rule is
+-- looked at but those of form.
 use Rattle.std.specs.Prelude.{ℕ, false, List, [], ◌∷◌, ◌++◌, Option, Some, None}
 use Rattle.std.specs.Str.{trim_end}
 use Rattle.justfile_base.specs.declared.token_kind.TokenKind.TheVariants as kinds
@@ -8,8 +9,9 @@ use Rattle.justfile_model.specs.AttributeLines.{AttributeLines}
 use Rattle.justfile_model.specs.Tok.{Tok}
 use Rattle.justfile_model.specs.SignificantTokens.{SignificantToken}
 use Rattle.justfile_model.specs.Tree as tree
-use Rattle.justfile_model.specs.Tree.{Expr, Fragment, BodyLine, Line, WrittenAttribute, WrittenItem, Content, Construct, plain_assignment, plain_recipe, trimmed}
-use Rattle.justfile_model.specs.Features.{Noted}
+use Rattle.justfile_model.specs.Tree.{Expr, Fragment, BodyLine, Line, WrittenAttribute, WrittenItem, Content, Construct, Header, bare_recipe, plain_assignment, trimmed}
+use Rattle.justfile_model.specs.Features.{ConstructFeatures, Noted}
+use Rattle.justfile_model.specs.Headers.{HeaderOf}
 use Rattle.justfile_model.specs.Expressions.{IsKind, Expression}
 
 -- what a tree keeps of tokens
@@ -64,63 +66,63 @@ module _ {A B C S : Type 0} (kept : Kept A B C S) (Open : ℕ → Option Signifi
         → BodyLines lines gs between rest
         → BodyLines (Line (kept.number first.tok) (f ∷ fragments) ∷ lines) (fs ++ gs) (first ∷ tokens) rest
 
-  -- a construct on one line: NAME `:=` expression, or NAME `:` for a recipe without a body
+  -- a construct on one line: NAME `:=` expression, or the header of a recipe without a body
   pub data OnLine : Content A B C S → List (Noted B) → List SignificantToken → List SignificantToken → Type 0 where
     assignment : {e : Expr A B} {fs : List (Noted B)} {name operator : SignificantToken} {tokens rest : List SignificantToken} → IsKind kinds.Identifier name
         → IsKind kinds.ColonEquals operator → Expression kept.leaf kept.spot Open false 0 e fs tokens rest
         → OnLine (tree.Assignment (plain_assignment (kept.leaf name.tok) e)) fs (name ∷ operator ∷ tokens) rest
-    header : {name colon : SignificantToken} {rest : List SignificantToken} → IsKind kinds.Identifier name → IsKind kinds.Colon colon
-        → OnLine (tree.Recipe (plain_recipe (kept.leaf name.tok) [])) [] (name ∷ colon ∷ rest) rest
+    header : {h : Header A B S} {fs : List (Noted B)} {tokens rest : List SignificantToken} → HeaderOf kept.leaf kept.spot kept.star Open h fs tokens rest
+        → OnLine (tree.Recipe (bare_recipe h [])) fs tokens rest
 
-  -- A recipe with a body: NAME `:` and lines, of which empty ones at the end are left out and some are left. A comment after the header is
+  -- A recipe with a body: a header and lines, of which empty ones at the end are left out and some are left. A comment after the header is
   -- dropped.
   pub data Block : Content A B C S → List (Noted B) → List SignificantToken → List SignificantToken → Type 0 where
-    recipe : {lines : List (BodyLine A B C)} {fs : List (Noted B)} {comment : Option (List ℕ)} {name colon : SignificantToken}
-        {tokens body rest : List SignificantToken} → IsKind kinds.Identifier name → IsKind kinds.Colon colon → BeforeBody comment tokens body
-        → BodyLines lines fs body rest → NotEmpty (trimmed lines)
-        → Block (tree.Recipe (plain_recipe (kept.leaf name.tok) (trimmed lines))) fs (name ∷ colon ∷ tokens) rest
+    recipe : {h : Header A B S} {lines : List (BodyLine A B C)} {fs gs : List (Noted B)} {comment : Option (List ℕ)}
+        {tokens next body rest : List SignificantToken} → HeaderOf kept.leaf kept.spot kept.star Open h fs tokens next → BeforeBody comment next body
+        → BodyLines lines gs body rest → NotEmpty (trimmed lines)
+        → Block (tree.Recipe (bare_recipe h (trimmed lines))) (fs ++ gs) tokens rest
 
   mutual
     -- items from the start of a line to the end of the file
-    pub data Items : List (WrittenItem A B C S) → List (Noted B) → List SignificantToken → Type 0 where
+    pub data Items : List (WrittenItem A B C S) → List (ConstructFeatures B) → List SignificantToken → Type 0 where
       end : {token : SignificantToken} → IsKind kinds.Eof token
           → Items [] [] (token ∷ [])
-      blank : {items : List (WrittenItem A B C S)} {fs : List (Noted B)} {token : SignificantToken} {rest : List SignificantToken} → IsKind kinds.Eol token
+      blank : {items : List (WrittenItem A B C S)} {fs : List (ConstructFeatures B)} {token : SignificantToken} {rest : List SignificantToken} → IsKind kinds.Eol token
           → Items items fs rest
           → Items (tree.Newline ∷ items) fs (token ∷ rest)
-      comment : {items : List (WrittenItem A B C S)} {fs : List (Noted B)} {token : SignificantToken} {rest : List SignificantToken} → IsKind kinds.Comment token
+      comment : {items : List (WrittenItem A B C S)} {fs : List (ConstructFeatures B)} {token : SignificantToken} {rest : List SignificantToken} → IsKind kinds.Comment token
           → ItemRest items fs rest
           → Items (tree.Comment (trim_end token.tok.lexeme) ∷ items) fs (token ∷ rest)
-      on_line : {ws : List (WrittenAttribute A B)} {c : Content A B C S} {items : List (WrittenItem A B C S)} {gs cs fs : List (Noted B)}
+      on_line : {ws : List (WrittenAttribute A B)} {c : Content A B C S} {items : List (WrittenItem A B C S)} {gs cs : List (Noted B)} {fs : List (ConstructFeatures B)}
           {tokens header rest : List SignificantToken} → AttributeLines kept.leaf kept.spot Open ws gs tokens header → OnLine c cs header rest
           → ItemRest items fs rest
-          → Items (Construct ws c ∷ items) (gs ++ cs ++ fs) tokens
+          → Items (Construct ws c ∷ items) (record { attributes = gs; content = cs } ∷ fs) tokens
       -- after a body a line starts, and a line end is made
-      block : {ws : List (WrittenAttribute A B)} {c : Content A B C S} {items : List (WrittenItem A B C S)} {gs cs fs : List (Noted B)}
+      block : {ws : List (WrittenAttribute A B)} {c : Content A B C S} {items : List (WrittenItem A B C S)} {gs cs : List (Noted B)} {fs : List (ConstructFeatures B)}
           {tokens header rest : List SignificantToken} → AttributeLines kept.leaf kept.spot Open ws gs tokens header → Block c cs header rest
           → Items items fs rest
-          → Items (Construct ws c ∷ tree.Newline ∷ items) (gs ++ cs ++ fs) tokens
+          → Items (Construct ws c ∷ tree.Newline ∷ items) (record { attributes = gs; content = cs } ∷ fs) tokens
 
     -- after an item a comment may trail it, which is an item of its own
-    pub data ItemRest : List (WrittenItem A B C S) → List (Noted B) → List SignificantToken → Type 0 where
-      trailing : {items : List (WrittenItem A B C S)} {fs : List (Noted B)} {token : SignificantToken} {rest : List SignificantToken} → IsKind kinds.Comment token
+    pub data ItemRest : List (WrittenItem A B C S) → List (ConstructFeatures B) → List SignificantToken → Type 0 where
+      trailing : {items : List (WrittenItem A B C S)} {fs : List (ConstructFeatures B)} {token : SignificantToken} {rest : List SignificantToken} → IsKind kinds.Comment token
           → LineEnd items fs rest
           → ItemRest (tree.Comment (trim_end token.tok.lexeme) ∷ items) fs (token ∷ rest)
-      bare : {items : List (WrittenItem A B C S)} {fs : List (Noted B)} {tokens : List SignificantToken} → LineEnd items fs tokens
+      bare : {items : List (WrittenItem A B C S)} {fs : List (ConstructFeatures B)} {tokens : List SignificantToken} → LineEnd items fs tokens
           → ItemRest items fs tokens
 
     -- then the line ends, or the file does
-    pub data LineEnd : List (WrittenItem A B C S) → List (Noted B) → List SignificantToken → Type 0 where
-      line_end : {items : List (WrittenItem A B C S)} {fs : List (Noted B)} {token : SignificantToken} {rest : List SignificantToken} → IsKind kinds.Eol token
+    pub data LineEnd : List (WrittenItem A B C S) → List (ConstructFeatures B) → List SignificantToken → Type 0 where
+      line_end : {items : List (WrittenItem A B C S)} {fs : List (ConstructFeatures B)} {token : SignificantToken} {rest : List SignificantToken} → IsKind kinds.Eol token
           → Items items fs rest
           → LineEnd (tree.Newline ∷ items) fs (token ∷ rest)
       file_end : {token : SignificantToken} → IsKind kinds.Eof token
           → LineEnd [] [] (token ∷ [])
 
   -- a file may begin with a byte order mark
-  pub data File : List (WrittenItem A B C S) → List (Noted B) → List SignificantToken → Type 0 where
-    marked : {items : List (WrittenItem A B C S)} {fs : List (Noted B)} {token : SignificantToken} {rest : List SignificantToken} → IsKind kinds.ByteOrderMark token
+  pub data File : List (WrittenItem A B C S) → List (ConstructFeatures B) → List SignificantToken → Type 0 where
+    marked : {items : List (WrittenItem A B C S)} {fs : List (ConstructFeatures B)} {token : SignificantToken} {rest : List SignificantToken} → IsKind kinds.ByteOrderMark token
         → Items items fs rest
         → File items fs (token ∷ rest)
-    unmarked : {items : List (WrittenItem A B C S)} {fs : List (Noted B)} {tokens : List SignificantToken} → Items items fs tokens
+    unmarked : {items : List (WrittenItem A B C S)} {fs : List (ConstructFeatures B)} {tokens : List SignificantToken} → Items items fs tokens
         → File items fs tokens

@@ -9,11 +9,13 @@ pub mod Bodies
 pub mod Bytes
 pub mod ConditionalOperator
 pub mod Conditions
+pub mod ConstructRules
 pub mod ContentKeys
 pub mod ContentLeaf
 pub mod ContentLeafLaws
 pub mod Cook
 pub mod Distinct
+pub mod Docs
 pub mod EscapeFault
 pub mod ExpressionReader
 pub mod Expressions
@@ -21,6 +23,8 @@ pub mod Features
 pub mod Files
 pub mod FirstPiece
 pub mod Grammar
+pub mod HeaderReader
+pub mod Headers
 pub mod Key
 pub mod KeyLaws
 pub mod Lexed
@@ -36,12 +40,14 @@ pub mod Next
 pub mod NormalShape
 pub mod Operators
 pub mod Order
+pub mod ParameterKind
 pub mod Pieces
 pub mod Places
 pub mod Printing
 pub mod ReadAttribute
 pub mod Reader
 pub mod Reading
+pub mod RecipeRules
 pub mod Recursive
 pub mod Refusals
 pub mod Rewritten

@@ -1,12 +1,14 @@
 -- The printed text, of a normal shape at an indentation.
-use Rattle.std.specs.Prelude.{ℕ, Bool, true, not, ◌&&◌, List, [], ◌∷◌, ◌++◌, ◌==◌, false, codes, Option, Some, None, map}
+use Rattle.std.specs.Prelude.{ℕ, Bool, true, not, ◌&&◌, List, [], ◌∷◌, ◌++◌, ◌==◌, false, codes, Option, Some, None, map, if◌then◌else◌}
 use Rattle.std.specs.Fmt.{decimal}
 use Rattle.std.specs.List.{flat_map}
 use Rattle.justfile_base.specs.AttributeKind.{attribute_name}
 use Rattle.justfile_base.specs.Path.{path_text}
 use Rattle.justfile_base.specs.Signal.{signal_name}
 use Rattle.justfile_base.specs.declared.signal.Signal.{Signal}
-use Rattle.justfile_model.specs.ContentKeys.{kind_of_attribute}
+use Rattle.justfile_base.specs.declared.attribute_kind.AttributeKind.TheVariants.{Doc}
+use Rattle.justfile_model.specs.ContentKeys.{has_attribute, kind_of_attribute}
+use Rattle.justfile_model.specs.Docs.{doc_of}
 use Rattle.justfile_model.specs.declared.conditional_operator.ConditionalOperator.{ConditionalOperator}
 use Rattle.justfile_model.specs.declared.conditional_operator.ConditionalOperator.TheVariants.{Equality, Inequality, RegexMatch, RegexMismatch}
 use Rattle.justfile_model.specs.declared.parameter_kind.ParameterKind.{ParameterKind}
@@ -166,10 +168,14 @@ entry_text e = fixed_text (codes "[") ++ attribute_text e.attribute ++ fixed_tex
 abbrev pub entries_text : List (Entry (List ℕ) (Unit {0})) → List ℕ
 entries_text = flat_map entry_text
 
+-- the comment that a doc is printed as
+abbrev pub doc_comment : List ℕ → List ℕ
+doc_comment [] = fixed_text (codes "#")
+doc_comment doc = fixed_text (codes "# ") ++ doc
+
 -- a doc on a line of its own
 abbrev pub doc_line : List ℕ → List ℕ
-doc_line [] = fixed_text (codes "#\n")
-doc_line doc = fixed_text (codes "# ") ++ doc ++ fixed_text (codes "\n")
+doc_line doc = doc_comment doc ++ fixed_text (codes "\n")
 
 abbrev pub prefix_text : ParameterKind → List ℕ
 prefix_text Plus = fixed_text (codes "+")
@@ -213,15 +219,14 @@ abbrev pub content_text : Content (List ℕ) (Unit {0}) (Unit {0}) (Unit {0}) �
 content_text (Assignment parts) indentation = assignment_text parts
 content_text (Recipe parts) indentation = recipe_text parts indentation
 
--- the line of a recipe's doc, if it has one; so far no attribute says it in its place
-abbrev pub content_doc : Content (List ℕ) (Unit {0}) (Unit {0}) (Unit {0}) → List ℕ
-content_doc (Assignment parts) = []
-content_doc (Recipe parts) = if_some doc_line parts.doc
+-- the doc of a construct, where no attribute says it
+abbrev pub shown_doc : {A B C S : Type 0} → List (Entry A B) → Content A B C S → Option (List ℕ)
+shown_doc entries content = if has_attribute Doc entries then None else doc_of content
 
 abbrev pub item_text : OrderedItem (List ℕ) (Unit {0}) (Unit {0}) → (indentation : List ℕ) → List ℕ
 item_text Newline indentation = []
 item_text (Comment text) indentation = text
-item_text (Construct entries content) indentation = content_doc content ++ entries_text entries ++ content_text content indentation
+item_text (Construct entries content) indentation = if_some doc_line (shown_doc entries content) ++ entries_text entries ++ content_text content indentation
 
 -- what stands after an item: a newline after a line end, a space between two others
 abbrev pub item_end : {A B C S D : Type 0} → Item A B C S D → List (Item A B C S D) → List ℕ

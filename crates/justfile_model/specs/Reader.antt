@@ -4,21 +4,17 @@ use Rattle.std.specs.Prelude.{ℕ, ◌+◌, Bool, true, false, ◌||◌, List, [
 use Rattle.std.specs.Str.{trim_end}
 use Rattle.justfile_base.specs.declared.item_kind.ItemKind.TheVariants as item_kinds
 use Rattle.justfile_base.specs.declared.token_kind.TokenKind.TheVariants as kinds
-use Rattle.justfile_model.specs.declared.level.Level.TheVariants.{Expression}
 use Rattle.justfile_model.specs.AttributeReader as attribute_reader
 use Rattle.justfile_model.specs.AttributeReader.{AttributeLeaves}
-use Rattle.justfile_model.specs.AttributeRules.{allowed_broken, arg_rules, undefined_broken}
+use Rattle.justfile_model.specs.AttributeRules.{allowed_broken, arg_rules}
 use Rattle.justfile_model.specs.ContentKeys.{entry_cmp}
 use Rattle.justfile_model.specs.Order.{in_order}
-use Rattle.justfile_model.specs.Rules.{Broken}
+use Rattle.justfile_model.specs.RecipeRules.{exclusions_broken}
 use Rattle.justfile_model.specs.Tree as tree
-use Rattle.justfile_model.specs.Tree.{BodyLine, Construct, Content, Entry, Expr, Fragment, Item, Line, plain_assignment, plain_recipe, trimmed}
-use Rattle.justfile_model.specs.ExpressionReader as expressions
+use Rattle.justfile_model.specs.HeaderReader.{ReadHeader, draw_binding, expression, header, obeying}
+use Rattle.justfile_model.specs.Tree.{ArgumentRules, BodyLine, Construct, Content, Entry, Expr, Fragment, Header, Item, Line, bare_recipe, plain_assignment, trimmed}
 use Rattle.justfile_model.specs.Recursive.{recursive}
-use Rattle.justfile_model.specs.Reading.{◌>>=◌, BreaksRule, Counters, Extraneous, Leaves, NoNumber, Read, State, Unexpected, accept, prepend, at, choose, expect, next_are, refused}
-
-abbrev pub with_bindings : ℕ → Counters → Counters
-with_bindings bindings n = record { bindings = bindings; constants = n.constants; recipes = n.recipes }
+use Rattle.justfile_model.specs.Reading.{◌>>=◌, Counters, Extraneous, Leaves, NoNumber, Read, State, Unexpected, accept, prepend, at, choose, expect, next_are, refused}
 
 abbrev pub with_recipes : ℕ → Counters → Counters
 with_recipes recipes n = record { bindings = n.bindings; constants = n.constants; recipes = recipes }
@@ -45,19 +41,12 @@ after_numbered done found = do
   Ok ((done ++ more.0.0, more.0.1), more.1)
 
 module _ {R T A B S : Type 0} (leaves : Leaves R T A B S) where
-  abbrev pub expression : State R T B → Read R T B (Expr A B)
-  expression s = expressions.read leaves (expressions.At Expression false s)
-
   -- the line that the next token begins on
   abbrev pub line_at : List T → ℕ
   line_at [] = 0
   line_at (t ∷ ts) = (leaves.see t).tok.line
 
   -- ---- numbers
-
-  -- the next number of a binding
-  unfoldable pub draw_binding : Counters → State R T B → Read R T B (ℕ × Counters)
-  draw_binding n s = if leaves.has_number n.bindings then Ok ((n.bindings, with_bindings (n.bindings + 1) n), s) else Err (NoNumber n)
 
   -- the next number of a recipe
   unfoldable pub draw_recipe : Counters → State R T B → Read R T B (ℕ × Counters)
@@ -71,7 +60,7 @@ module _ {R T A B S : Type 0} (leaves : Leaves R T A B S) where
       choose (accept leaves kinds.Text s)
       (do
         start ← expect leaves kinds.InterpolationStart s
-        e ← expression start.1
+        e ← expression leaves start.1
         end ← expect leaves kinds.InterpolationEnd e.1
         Ok (tree.Interpolation e.0, end.1))
       (λ t. Ok (tree.Text (leaves.text t.0), t.1))
@@ -130,11 +119,6 @@ module _ {R T A B S : Type 0} (leaves : Leaves R T A B S) where
       else if next_are leaves (kinds.Comment ∷ kinds.Eol ∷ kinds.Indent ∷ []) s then body (at s (drop 3 s.left))
       else Ok ([], s)
 
--- the first of the rules that are broken is refused
-abbrev pub obeying : {R T B : Type 0} → List (Broken B) → State R T B → Read R T B (Unit {0})
-obeying [] s = Ok (tt, s)
-obeying (b ∷ bs) s = Err (BreaksRule b)
-
 module _ {R T A B S D W : Type 0} (leaves : Leaves R T A B S) (kept : AttributeLeaves R A B D W) where
   -- ---- attributes
 
@@ -182,28 +166,39 @@ module _ {R T A B S D W : Type 0} (leaves : Leaves R T A B S) (kept : AttributeL
     number ← draw_binding leaves n checked.1
     assigned ws name.0 e.0 number
 
+  -- the header of a recipe, after `@` or not, whose name keeps what is known at the recipe's end
+  abbrev pub header_kept : (quiet : Bool) → ReadHeader T A B S → A → Header A B S
+  header_kept quiet h name = record { quiet = quiet; name = name; parameters = h.parameters; priors = h.priors; subsequents = h.subsequents }
+
   -- a recipe with a body and its attributes, which got a number
-  abbrev pub headed : List W → T → List (BodyLine A B ℕ) → (ℕ × Counters) × State R T B → Read R T B (Item A B ℕ S D × Counters)
-  headed ws name body x =
-      Ok ((Construct (kept.attributes x.1.run ws) (tree.Recipe (plain_recipe (leaves.recipe x.1.run name x.0.0 body) body)), x.0.1), x.1)
+  abbrev pub headed : (quiet : Bool) → List W → ReadHeader T A B S → List (BodyLine A B ℕ) → (ℕ × Counters) × State R T B → Read R T B (Item A B ℕ S D × Counters)
+  headed quiet ws h body x =
+      Ok ((Construct (kept.attributes x.1.run ws) (tree.Recipe (bare_recipe (header_kept quiet h (leaves.recipe x.1.run h.name x.0.0 body)) body)), x.0.1), x.1)
 
-  -- attributes speak of no argument that is no parameter
-  abbrev pub defined : List W → State R T B → Read R T B (Unit {0})
-  defined ws s = obeying (undefined_broken (kept.sight s.run) (arg_rules (kept.sight s.run) (entries_read s.run ws))) s
+  -- no two attributes of the recipe with this name exclude each other
+  abbrev pub no_exclusion : List W → T → State R T B → Read R T B (Unit {0})
+  no_exclusion ws name s = obeying (exclusions_broken (kept.sight s.run) (leaves.spot name) (entries_read s.run ws)) s
 
-  -- a recipe after its attributes, up to its end; then it gets its number
-  unfoldable pub recipe : List W → Counters → State R T B → Read R T B (Item A B ℕ S D × Counters)
-  recipe ws n s = do
-    name ← expect leaves kinds.Identifier s
-    colon ← expect leaves kinds.Colon name.1
-    checked ← defined ws colon.1
-    b ← optional_body leaves checked.1
-    number ← draw_recipe leaves n b.1
-    headed ws name.0 b.0 number
+  -- what attributes say of parameters
+  abbrev pub argument_rules : R → List W → List (ArgumentRules A B)
+  argument_rules run ws = arg_rules (entries_read run ws)
+
+  -- a recipe after its attributes and its `@`, up to its end; then it gets its number
+  unfoldable pub recipe : (quiet : Bool) → List W → Counters → State R T B → Read R T B (Item A B ℕ S D × Counters)
+  recipe quiet ws n s = do
+    h ← header leaves kept.sight (argument_rules s.run ws) n s
+    b ← optional_body leaves h.1
+    checked ← no_exclusion ws h.0.0.name b.1
+    number ← draw_recipe leaves h.0.1 checked.1
+    headed quiet ws h.0.0 b.0 number
+
+  -- a recipe after its attributes
+  unfoldable pub any_recipe : List W → Counters → State R T B → Read R T B (Item A B ℕ S D × Counters)
+  any_recipe ws n s = choose (accept leaves kinds.At s) (recipe false ws n s) (λ at. recipe true ws n at.1)
 
   -- a construct after its attributes
   unfoldable pub content : List W → Counters → State R T B → Read R T B (Item A B ℕ S D × Counters)
-  content ws n s = if next_are leaves (kinds.Identifier ∷ kinds.ColonEquals ∷ []) s then assignment ws n s else recipe ws n s
+  content ws n s = if next_are leaves (kinds.Identifier ∷ kinds.ColonEquals ∷ []) s then assignment ws n s else any_recipe ws n s
 
   -- a construct with its attributes
   unfoldable pub construct : Counters → State R T B → Read R T B (Item A B ℕ S D × Counters)

@@ -13,7 +13,7 @@ use Rattle.justfile_model.specs.Features.{Noted, noted}
 use Rattle.justfile_model.specs.Conditions.{Conditions}
 use Rattle.justfile_model.specs.Literals.{Literal, LiteralFault}
 use Rattle.justfile_model.specs.Rules.{Broken}
-use Rattle.justfile_model.specs.Tree.{BodyLine}
+use Rattle.justfile_model.specs.Tree.{ArgumentRules, BodyLine}
 
 -- How tokens `T` are seen, and what a tree keeps of them: `A` at its leaves, `B` of a place, and `S` of a star. `R` is what stays while a
 -- file is read.
@@ -32,6 +32,8 @@ pub record Leaves (R T A B S : Type 0) : Type 0 where
   pub text : T → A
   -- the star of a dependency
   pub star : T → S
+  -- the name of a parameter, of which that is said, and which got a number
+  pub parameter : R → T → Option (ArgumentRules A B) → (number : ℕ) → A
   -- the name of an assignment, which got a number
   pub assignment : R → T → (number : ℕ) → A
   -- the name of a recipe, which got a number, before its body
@@ -64,6 +66,8 @@ pub data Refusal (T B : Type 0) : Type 0 where
   BreaksRule : (rule : Broken B) → Refusal T B
   -- so many attributes stand before a blank line or a comment, and the first of their lines begins there
   Extraneous : (count : ℕ) (opener : B) → Refusal T B
+  -- a name after a parameter that takes several arguments
+  AfterVariadic : (name : B) → Refusal T B
   -- a number is wanted, and its counter, one of these, has none left
   NoNumber : Counters → Refusal T B
 
@@ -118,6 +122,11 @@ module _ {R T B : Type 0} where
   unfoldable pub refused : (Option T → Refusal T B) → State R T B → Refusal T B
   refused at_token s = at_token (front s.left)
 
+  -- whether a token was taken, and what is left
+  abbrev pub taken_or : State R T B → Taken R T B → Bool × State R T B
+  taken_or s None = (false, s)
+  taken_or s (Some x) = (true, x.1)
+
   -- goes on by whether a token was taken
   abbrev pub choose : {X : Type 0} → Taken R T B → X → (T × State R T B → X) → X
   choose None otherwise taken = otherwise
@@ -155,6 +164,10 @@ module _ {R T A B S : Type 0} (leaves : Leaves R T A B S) where
 
   unfoldable pub accept_marked : List ℕ → TokenKind → State R T B → Taken R T B
   accept_marked word kind s = marked_by word kind s s.left
+
+  -- whether the next token is of this kind; then it is taken
+  unfoldable pub accepted : TokenKind → State R T B → Bool × State R T B
+  accepted kind s = taken_or s (accept kind s)
 
   unfoldable pub expect : TokenKind → State R T B → Read R T B T
   expect kind s = choose (accept kind s) (Err (refused Unexpected s)) (λ x. Ok x)

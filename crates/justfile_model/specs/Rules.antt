@@ -34,6 +34,18 @@ pub data Rule (T : Type 0) : Type 0 where
   InvalidAttribute : (item : ItemKind) (attribute : AttributeKind) → Rule T
   -- of a recipe: an argument of which `arg` speaks is no parameter
   UndefinedArgAttribute : (argument : List ℕ) → Rule T
+  -- two options are called the same
+  DuplicateLongOption : (option : List ℕ) (recipe : T) → Rule T
+  DuplicateShortOption : (option : ℕ) (recipe : T) → Rule T
+  FlagWithDefault : (parameter : T) → Rule T
+  ArgAttributeRequiresMultipleOrVariadic : (key : T) → Rule T
+  NoCdAndWorkingDirectoryAttribute : (recipe : T) → Rule T
+  ExitMessageAndNoExitMessageAttribute : (recipe : T) → Rule T
+  ScriptAndShellAttribute : (recipe : T) → Rule T
+  -- of the stars of a dependency
+  MappedDependencyMultipleStarredArguments : Rule T
+  MappedDependencyWithoutStarredArgument : Rule T
+  StarredArgumentOutsideMappedDependency : Rule T
 
 -- a rule that is broken, and the token of its refusal
 pub record Broken (T : Type 0) : Type 0 where
@@ -72,6 +84,16 @@ module _ {T U : Type 0} (g : T → U) where
   over_rule (DuplicateGroupAttribute expanded group first) = DuplicateGroupAttribute expanded (g group) (g first)
   over_rule (InvalidAttribute item attribute) = InvalidAttribute item attribute
   over_rule (UndefinedArgAttribute argument) = UndefinedArgAttribute argument
+  over_rule (DuplicateLongOption option recipe) = DuplicateLongOption option (g recipe)
+  over_rule (DuplicateShortOption option recipe) = DuplicateShortOption option (g recipe)
+  over_rule (FlagWithDefault parameter) = FlagWithDefault (g parameter)
+  over_rule (ArgAttributeRequiresMultipleOrVariadic key) = ArgAttributeRequiresMultipleOrVariadic (g key)
+  over_rule (NoCdAndWorkingDirectoryAttribute recipe) = NoCdAndWorkingDirectoryAttribute (g recipe)
+  over_rule (ExitMessageAndNoExitMessageAttribute recipe) = ExitMessageAndNoExitMessageAttribute (g recipe)
+  over_rule (ScriptAndShellAttribute recipe) = ScriptAndShellAttribute (g recipe)
+  over_rule MappedDependencyMultipleStarredArguments = MappedDependencyMultipleStarredArguments
+  over_rule MappedDependencyWithoutStarredArgument = MappedDependencyWithoutStarredArgument
+  over_rule StarredArgumentOutsideMappedDependency = StarredArgumentOutsideMappedDependency
 
   abbrev pub over_broken : Broken T → Broken U
   over_broken b = record { rule = over_rule b.rule; token = g b.token }

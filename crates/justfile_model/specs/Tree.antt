@@ -217,13 +217,9 @@ Shape = List (OrderedItem (List ℕ) (Unit {0}) (Unit {0}))
 abbrev pub plain_assignment : {A B : Type 0} → A → Expr A B → AssignmentParts A B
 plain_assignment name value = record { eager = false; export = false; name = name; value = value }
 
--- a header that is a name
-abbrev pub plain_header : {A B S : Type 0} → A → Header A B S
-plain_header name = record { quiet = false; name = name; parameters = []; priors = []; subsequents = [] }
-
--- a recipe without a doc, whose header is a name
-abbrev pub plain_recipe : {A B C S : Type 0} → A → List (BodyLine A B C) → RecipeParts A B C S
-plain_recipe name body = record { doc = None; header = plain_header name; body = body }
+-- a recipe without a doc
+abbrev pub bare_recipe : {A B C S : Type 0} → Header A B S → List (BodyLine A B C) → RecipeParts A B C S
+bare_recipe header body = record { doc = None; header = header; body = body }
 
 -- lines with one more before them; an empty line before none is left out
 abbrev pub line_before : {A B C : Type 0} → BodyLine A B C → List (BodyLine A B C) → List (BodyLine A B C)

@@ -2,8 +2,8 @@
 ghost use Rattle.std.specs.Prelude.{◌≡◌, ◌<◌, ◌≤◌, ◌⊎◌, ℕ, ◌+◌, Bool, IsTrue, List, length, map, slice_index, Option, Some, Ok, Err};
 ghost use Rattle.justfile_model.specs.Conditions.{Conditions, with_expander};
 ghost use Rattle.justfile_model.specs.Expressions.{Under, Waived};
-ghost use Rattle.justfile_model.specs.Features.{Noted, over_noted};
-ghost use Rattle.justfile_model.specs.Files.{FileTree, FileDerives, NumbersFrom, Obeys, ShapeDerives, keeps_tokens, literals, ordered, bindings, recipes};
+ghost use Rattle.justfile_model.specs.Features.{ConstructFeatures, Noted, over_noted};
+ghost use Rattle.justfile_model.specs.Files.{FileTree, FileDerives, NumbersFrom, Obeys, ShapeDerives, all_features, keeps_tokens, literals, ordered, bindings, recipes};
 ghost use Rattle.justfile_model.specs.Grammar.{File};
 ghost use Rattle.justfile_model.specs.Lexed.{Lexed};
 ghost use Rattle.justfile_model.specs.Literals.{Literal, Expansions, Within, AreCookedTexts};
@@ -23,10 +23,11 @@ pub fn reads()
     // A written tree is read exactly where the grammar derives it under the limit, and it obeys the conditions.
     ensures derives { (C : Conditions) (ts : List SignificantToken) (written : WrittenTree) (features : List (Noted Tok))
         → tree_of_tokens C ts ≡ Ok (written, features)
-        → File keeps_tokens (Under C.limit) written features ts × Obeys C written }
-    ensures read { (C : Conditions) (ts : List SignificantToken) (written : WrittenTree) (features : List (Noted Tok))
-        → File keeps_tokens (Under C.limit) written features ts → Obeys C written
-        → tree_of_tokens C ts ≡ Ok (written, features) }
+        → (fs : List (ConstructFeatures Tok)) × File keeps_tokens (Under C.limit) written fs ts × Obeys C written
+        × (features ≡ all_features (sees_tokens C.expander) written fs) }
+    ensures read { (C : Conditions) (ts : List SignificantToken) (written : WrittenTree) (fs : List (ConstructFeatures Tok))
+        → File keeps_tokens (Under C.limit) written fs ts → Obeys C written
+        → tree_of_tokens C ts ≡ Ok (written, all_features (sees_tokens C.expander) written fs) }
     // A tree derives exactly where a written tree is read that means it.
     ensures sound { (C : Conditions) (ts : List SignificantToken) (written : WrittenTree) (features : List (Noted Tok))
         → tree_of_tokens C ts ≡ Ok (written, features)
@@ -35,24 +36,24 @@ pub fn reads()
         → FileDerives C ts tree features
         → (written : WrittenTree) × (ordered (sees_tokens C.expander) written ≡ Some tree) × (tree_of_tokens C ts ≡ Ok (written, features)) }
     // Where the expressions that are entered at the limit begin at some tokens, it is read, or too deep at one of them.
-    ensures deep { (C : Conditions) (ts : List SignificantToken) (written : WrittenTree) (features : List (Noted Tok))
+    ensures deep { (C : Conditions) (ts : List SignificantToken) (written : WrittenTree) (fs : List (ConstructFeatures Tok))
         (Hit : Option SignificantToken → Bool)
-        → File keeps_tokens (Waived C.limit (λ at. IsTrue (Hit at))) written features ts → Obeys C written
-        → (tree_of_tokens C ts ≡ Ok (written, features)) ⊎ ((at : Option SignificantToken) × IsTrue (Hit at)
+        → File keeps_tokens (Waived C.limit (λ at. IsTrue (Hit at))) written fs ts → Obeys C written
+        → (tree_of_tokens C ts ≡ Ok (written, all_features (sees_tokens C.expander) written fs)) ⊎ ((at : Option SignificantToken) × IsTrue (Hit at)
         × (tree_of_tokens C ts ≡ Err (TooDeep at))) }
     // Without the limit: it is read, or some expression is too deep.
-    ensures free { (C : Conditions) (ts : List SignificantToken) (written : WrittenTree) (features : List (Noted Tok))
-        → FileTree ts written features → Obeys C written
-        → (tree_of_tokens C ts ≡ Ok (written, features)) ⊎ ((at : Option SignificantToken) × (tree_of_tokens C ts ≡ Err (TooDeep at))) }
+    ensures free { (C : Conditions) (ts : List SignificantToken) (written : WrittenTree) (fs : List (ConstructFeatures Tok))
+        → FileTree ts written fs → Obeys C written
+        → (tree_of_tokens C ts ≡ Ok (written, all_features (sees_tokens C.expander) written fs)) ⊎ ((at : Option SignificantToken) × (tree_of_tokens C ts ≡ Err (TooDeep at))) }
     // Where they begin at some tokens, it is refused for its first literal without a text, for a rule that it breaks, or as too
     // deep at one of these tokens, and for nothing else.
-    ensures due { (C : Conditions) (ts : List SignificantToken) (written : WrittenTree) (features : List (Noted Tok))
+    ensures due { (C : Conditions) (ts : List SignificantToken) (written : WrittenTree) (fs : List (ConstructFeatures Tok))
         (Hit : Option SignificantToken → Bool)
-        → File keeps_tokens (Waived C.limit (λ at. IsTrue (Hit at))) written features ts
+        → File keeps_tokens (Waived C.limit (λ at. IsTrue (Hit at))) written fs ts
         → (r : Refusal) → tree_of_tokens C ts ≡ Err r → IsDue C (λ at. IsTrue (Hit at)) written r }
     // Of the grammar alone: for its first literal without a text, for a rule that it breaks, or as too deep somewhere.
-    ensures refused { (C : Conditions) (ts : List SignificantToken) (written : WrittenTree) (features : List (Noted Tok))
-        → FileTree ts written features
+    ensures refused { (C : Conditions) (ts : List SignificantToken) (written : WrittenTree) (fs : List (ConstructFeatures Tok))
+        → FileTree ts written fs
         → (r : Refusal) → tree_of_tokens C ts ≡ Err r → IsDue C (λ at. Unit {0}) written r }
     ensures one { (C : Conditions) (ts : List SignificantToken) (tree other : Tree) (features others : List (Noted Tok))
         → FileDerives C ts tree features → FileDerives C ts other others → (tree ≡ other) × (features ≡ others) }

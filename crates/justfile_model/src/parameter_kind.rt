@@ -1,3 +1,9 @@
+//! Kinds of parameters.
+ghost use Rattle.std.specs.Prelude.{◌≡◌};
+ghost use Rattle.std.specs.Option.{option_copied};
+ghost use Rattle.justfile_model.specs.ParameterKind.{kind_prefix};
+ghost use Rattle.justfile_model.specs.RecipeRules.{is_variadic};
+
 /// How many arguments a parameter takes.
 #[derive(Clone, Copy, Debug, PartialEq, Eq)]
 pub enum ParameterKind {
@@ -7,4 +13,27 @@ pub enum ParameterKind {
     Singular,
     /// `*name`: any number.
     Star,
+}
+
+impl ParameterKind {
+    /// What stands before the parameter, if anything does.
+    pub fn prefix(self) -> Option<&'static str>
+        ensures { option_copied result ≡ kind_prefix self }
+    {
+        match self {
+            ParameterKind::Plus => Some("+"),
+            ParameterKind::Singular => None,
+            ParameterKind::Star => Some("*"),
+        }
+    }
+
+    /// Whether it takes several arguments.
+    pub fn is_variadic(self) -> bool
+        ensures { result ≡ is_variadic self }
+    {
+        match self {
+            ParameterKind::Plus | ParameterKind::Star => true,
+            ParameterKind::Singular => false,
+        }
+    }
 }

@@ -1,12 +1,13 @@
 //! What is printed of headers and constructs, computed by the checker.
 ghost use Rattle.std.specs.Prelude.{◌≡◌, false, true, [], ◌∷◌, None, Some, codes};
+ghost use Rattle.justfile_base.specs.declared.attribute_kind.AttributeKind.TheVariants.{Private};
 ghost use Rattle.justfile_model.specs.Printing.{content_text, header_text, item_text};
-ghost use Rattle.justfile_model.specs.Tree.{Assignment, Construct, ListOf, Recipe, Root, StringLiteral, Variable, more, none, plain_header, plain_recipe};
+ghost use Rattle.justfile_model.specs.Tree.{Assignment, Construct, ListOf, Plain, Recipe, Root, StringLiteral, Variable, bare_recipe, more, none};
 ghost use Rattle.justfile_model.specs.declared.parameter_kind.ParameterKind.TheVariants.{Plus, Singular, Star};
 
 /// A header has its parameters before the colon, and its dependencies after it.
 pub fn headers()
-    ensures bare { header_text (plain_header (codes "foo")) ≡ codes "foo:" }
+    ensures bare { header_text (record { quiet = false; name = codes "foo"; parameters = []; priors = []; subsequents = [] }) ≡ codes "foo:" }
     ensures whole { header_text (record {
       quiet = true;
       name = codes "_build";
@@ -44,9 +45,13 @@ pub fn constructs()
         ≡ codes "export a := b" }
     ensures eager { content_text (Assignment (record { eager = true; export = true; name = codes "a"; value = Variable (codes "b") })) []
         ≡ codes "eager export a := b" }
-    ensures doc { item_text (Construct [] (Recipe (record { doc = Some (codes "bar"); header = plain_header (codes "foo"); body = [] }))) []
+    ensures doc { item_text (Construct [] (Recipe (record { doc = Some (codes "bar"); header = record { quiet = false; name = codes "foo"; parameters = []; priors = []; subsequents = [] }; body = [] }))) []
         ≡ codes "# bar\nfoo:" }
-    ensures empty_doc { item_text (Construct [] (Recipe (record { doc = Some []; header = plain_header (codes "foo"); body = [] }))) []
+    // Before the attributes.
+    ensures doc_first { item_text (Construct (record { name = tt; attribute = Plain Private } ∷ [])
+        (Recipe (record { doc = Some (codes "x"); header = record { quiet = false; name = codes "foo"; parameters = []; priors = []; subsequents = [] }; body = [] }))) []
+        ≡ codes "# x\n[private]\nfoo:" }
+    ensures empty_doc { item_text (Construct [] (Recipe (record { doc = Some []; header = record { quiet = false; name = codes "foo"; parameters = []; priors = []; subsequents = [] }; body = [] }))) []
         ≡ codes "#\nfoo:" }
-    ensures no_doc { item_text (Construct [] (Recipe (plain_recipe (codes "foo") []))) [] ≡ codes "foo:" }
+    ensures no_doc { item_text (Construct [] (Recipe (bare_recipe (record { quiet = false; name = codes "foo"; parameters = []; priors = []; subsequents = [] }) []))) [] ≡ codes "foo:" }
 {}

@@ -5,7 +5,7 @@ use Rattle.std.specs.Option.{option_map}
 use Rattle.justfile_attribute.specs.declared.attribute.Attribute.{Attribute}
 use Rattle.justfile_attribute_rules.specs.Made.{IsRefusedBy, quoted_leaf}
 use Rattle.justfile_attribute_rules.specs.RuleErrors.{SaysRule}
-use Rattle.justfile_attribute_set.specs.AttributeSet.{IsInvalidBy, SaysInvalid}
+use Rattle.justfile_attribute_set.specs.AttributeSet.{AttributeSet, IsInvalidBy, SaysInvalid, leaf_entries_of}
 use Rattle.justfile_base.specs.declared.attribute_kind.AttributeKind.{AttributeKind}
 use Rattle.justfile_base.specs.declared.compile_error.CompileError.{CompileError}
 use Rattle.justfile_base.specs.declared.compile_error_kind.CompileErrorKind.{CompileErrorKind}
@@ -17,11 +17,12 @@ use Rattle.justfile_base.specs.declared.name.Name.{Name}
 use Rattle.justfile_base.specs.declared.string_literal.StringLiteral.{StringLiteral}
 use Rattle.justfile_base.specs.declared.token.Token.{Token}
 use Rattle.justfile_base.specs.declared.token_kind.TokenKind.TheVariants as kinds
-use Rattle.justfile_model.specs.AttributeRules.{arg_rules, first_invalid, least, of_some}
-use Rattle.justfile_model.specs.ContentKeys.{kind_of_attribute}
+use Rattle.justfile_model.specs.AttributeRules.{allowed_broken, arg_rules, first_invalid, least, of_some, undefined_broken}
+use Rattle.justfile_model.specs.ContentKeys.{entry_cmp, kind_of_attribute}
 use Rattle.justfile_model.specs.Literals.{string_of}
 use Rattle.justfile_model.specs.Meaning.{text_of}
 use Rattle.justfile_model.specs.NewAttribute as new
+use Rattle.justfile_model.specs.Order.{in_order}
 use Rattle.justfile_model.specs.Reader as files
 use Rattle.justfile_model.specs.Reader.{obeying}
 use Rattle.justfile_model.specs.Reading as reading

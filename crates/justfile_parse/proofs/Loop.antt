@@ -10,9 +10,8 @@ use Rattle.justfile_model.specs.Reader as files
 use Rattle.justfile_model.specs.Reader.{after_numbered}
 use Rattle.justfile_model.specs.Reading.{◌>>=◌, Counters}
 use Rattle.justfile_parse.specs.ItemTable as reader
-use Rattle.justfile_parse.specs.WantsNumber.{counters_of}
 use Rattle.justfile_parse.specs.ItemTable.{ReadItems, after_mark, items, kept, line, read_nothing, on_line}
-use Rattle.justfile_parse_expression.specs.TableReader.{Read, Refusal, State, accept, leaves}
+use Rattle.justfile_parse_expression.specs.TableReader.{Refusal, State, accept, leaves}
 use Rattle.justfile_parse_attribute.specs.Halting.{HaltsAt}
 use Rattle.justfile_parse.specs.MethodResults.{IsMoved}
 use Rattle.justfile_parse_expression.specs.MethodResults.{StopsAt, literal_refusal, refusal_at}
@@ -28,6 +27,7 @@ use Rattle.justfile_model.proofs.ReadingSteps.{known}
 use Rattle.justfile_parse.proofs.Halts.{halted}
 use Rattle.justfile_parse.proofs.Moves.{line_moves, names, on_line_moves}
 use Rattle.justfile_parse.proofs.Wholes.{none_whole, then_whole}
+use Rattle.justfile_parse_header.specs.Counting.{counters_of}
 
 abbrev Items : Type 0
 Items = List (OrderedItem Leaf Token ℕ)

@@ -50,7 +50,7 @@ use Rattle.justfile_parse_expression.specs.MethodResults.{StopsAt, literal_refus
 use Rattle.justfile_parse_expression.specs.Significant.{significant_of}
 use Rattle.justfile_parse.specs.Tree.{item_tree}
 use Rattle.justfile_tree.specs.LeafTree.{Leaf}
-use Rattle.justfile_parse.specs.WantsNumber.{AreLines, LacksNumber, WantsNumber, binding, counters_of, more, none, recipe_number}
+use Rattle.justfile_parse.specs.WantsNumber.{AreLines, LacksNumber, WantsNumber, binding, more, none, recipe_number}
 use Rattle.justfile_parse_expression.specs.declared.significant.TableEntry.{TableEntry}
 use Rattle.justfile_parse_expression.specs.declared.stop.LiteralRefusal.{LiteralRefusal}
 use Rattle.justfile_parse_expression.specs.declared.stop.Refusal.{Refusal}
@@ -64,6 +64,7 @@ use Rattle.justfile_parse.proofs.Seen.{respects, seen}
 use Rattle.justfile_parse.proofs.SeenAttributes.{IsKept, attributed}
 use Rattle.justfile_parse.proofs.SeenItems.{items_seen, noted_seen}
 use Rattle.justfile_parse.proofs.SeenRules.{same_broken}
+use Rattle.justfile_parse_header.specs.Counting.{counters_of}
 
 -- a tree holds as many bindings and recipes whatever stands at its leaves
 same_bindings : (is : List Item) → bindings (map item_tree is) ≡ bindings (map item_of is)

@@ -9,16 +9,11 @@ use Rattle.justfile_parse_attribute.specs.Halting.{IsExtraneous}
 use Rattle.justfile_parse.specs.MethodResults.{IsFaultOf}
 use Rattle.justfile_model.specs.Reading.{Counters}
 use Rattle.justfile_parse_expression.specs.TableReader.{Read, State}
-use Rattle.justfile_parse.specs.WantsNumber.{counters_of}
 use Rattle.justfile_parse_expression.specs.declared.significant.TableEntry.{TableEntry}
 use Rattle.justfile_parse_attribute.specs.declared.halt.Halt.{Halt}
 use Rattle.justfile_parse_attribute.specs.declared.halt.Halt.TheVariants as halts
 use Rattle.justfile_parse_attribute.specs.Halting.{HaltsAt}
-
--- what was returned, and the state and the counters of the numerator after it, are what is read, or say why not
-abbrev pub ReadsItems : {X Y : Type 0} → (X → Y) → Result X Halt → Numerator → State → Read (Y × Counters) → Type 0
-ReadsItems view (Ok x) n s found = found ≡ Ok ((view x, counters_of n), s)
-ReadsItems view (Err halt) n s found = HaltsAt halt s (found ≡ Err (reading.NoNumber (counters_of n))) found
+use Rattle.justfile_parse_header.specs.Counting.{counters_of}
 
 -- the fault of attributes before a blank line or a comment
 abbrev pub IsExtraneousFault : ℕ → (opener : Token) → Fault → Type 0

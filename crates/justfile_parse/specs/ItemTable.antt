@@ -1,14 +1,12 @@
 -- Reading the items of a table, with all that the parser's trees hold.
-use Rattle.std.specs.Prelude.{ℕ, Bool, false, List, [], ◌∷◌, Option, Some, None, Ok, Err, codes, nat_eq}
+use Rattle.std.specs.Prelude.{ℕ, Bool, false, List, [], ◌∷◌, Ok, Err, codes, nat_eq}
 use Rattle.std.specs.List.{starts_with}
 use Rattle.justfile_base.specs.Token.{lexeme_of}
 use Rattle.justfile_base.specs.declared.token.Token.{Token}
-use Rattle.justfile_model.specs.Meaning.{text_of}
 use Rattle.justfile_model.specs.Tree as tree
-use Rattle.justfile_model.specs.Tree.{Attribute, BodyLine, Entry, Fragment, OrderedItem, Quoted}
-use Rattle.std.specs.Option.{option_map}
+use Rattle.justfile_model.specs.Tree.{BodyLine, Entry, Fragment, OrderedItem}
 use Rattle.justfile_base.specs.declared.item_kind.ItemKind.TheVariants as item_kinds
-use Rattle.justfile_model.specs.AttributeRules.{allowed_broken, arg_rules, least, lesser, rules_in, undefined_broken}
+use Rattle.justfile_model.specs.AttributeRules.{allowed_broken}
 use Rattle.justfile_model.specs.Rules.{Broken}
 use Rattle.justfile_model.specs.AttributeReader as attributes
 use Rattle.justfile_model.specs.AttributeReader.{AttributeLeaves}
@@ -42,9 +40,6 @@ kept = record {
   attributes = λ run entries. in_order (entry_cmp sees_leaves) entries;
 }
 
-abbrev pub draw_binding : Counters → State → Read (ℕ × Counters)
-draw_binding = files.draw_binding leaves
-
 abbrev pub draw_recipe : Counters → State → Read (ℕ × Counters)
 draw_recipe = files.draw_recipe leaves
 
@@ -77,8 +72,11 @@ ReadItems = Read (List (OrderedItem Leaf Token ℕ) × Counters)
 abbrev pub assignment : Entries → Counters → State → ReadItem
 assignment = files.assignment leaves kept
 
-abbrev pub recipe : Entries → Counters → State → ReadItem
+abbrev pub recipe : (quiet : Bool) → Entries → Counters → State → ReadItem
 recipe = files.recipe leaves kept
+
+abbrev pub any_recipe : Entries → Counters → State → ReadItem
+any_recipe = files.any_recipe leaves kept
 
 -- the attributes before a construct, which follows them
 abbrev pub item_attributes : State → Read Entries
@@ -91,23 +89,6 @@ in_content_order entries = in_order (entry_cmp sees_leaves) entries
 -- what an assignment with this name breaks by attributes that it may not have
 abbrev pub disallowed : Entries → (name : Token) → List (Broken Token)
 disallowed entries name = allowed_broken sees_leaves item_kinds.Assignment name (in_content_order entries)
-
--- what a recipe breaks by what is said of no parameter
-abbrev pub undefined : Entries → List (Broken Token)
-undefined entries = undefined_broken sees_leaves (arg_rules sees_leaves (in_content_order entries))
-
--- the argument that an attribute speaks of
-abbrev pub argument_in : Attribute Leaf Token → Option (Quoted Leaf)
-argument_in a = option_map (λ r. r.name) (rules_in sees_leaves a)
-
--- the one with the lesser text, the first of them where both have the same
-abbrev pub lesser_of : (first second : Option (Quoted Leaf)) → Option (Quoted Leaf)
-lesser_of None second = second
-lesser_of (Some q) second = Some (lesser (text_of sees_leaves) q second)
-
--- of the arguments that are spoken of, the one with the least text, the first of these
-abbrev pub least_argument : Entries → Option (Quoted Leaf)
-least_argument entries = option_map (λ r. r.name) (least (λ r. text_of sees_leaves r.name) (arg_rules sees_leaves entries))
 
 -- the lines of attributes before a construct
 abbrev pub lines_of_attributes : State → Read Entries
@@ -125,9 +106,9 @@ stands_alone = files.stands_alone leaves kept
 abbrev pub allowed : Entries → TableEntry → State → Read (Unit {0})
 allowed = files.allowed leaves kept
 
--- attributes speak of no argument that is no parameter
-abbrev pub defined : Entries → State → Read (Unit {0})
-defined = files.defined leaves kept
+-- no two attributes of the recipe with this name exclude each other
+abbrev pub no_exclusion : Entries → TableEntry → State → Read (Unit {0})
+no_exclusion = files.no_exclusion leaves kept
 
 -- a construct after its attributes
 abbrev pub content : Entries → Counters → State → ReadItem

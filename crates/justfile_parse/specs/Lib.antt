@@ -1,4 +1,6 @@
+pub mod Docs
 pub mod Errors
+pub mod Exclusions
 pub mod Filled
 pub mod Halting
 pub mod ItemTable

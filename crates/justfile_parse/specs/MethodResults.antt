@@ -26,18 +26,14 @@ use Rattle.justfile_parse_expression.specs.Significant.{significant_of}
 use Rattle.justfile_model.specs.Reading as state
 use Rattle.justfile_model.specs.Reading.{Counters, refused}
 use Rattle.justfile_parse_expression.specs.TableReader.{Read, State}
-use Rattle.justfile_parse.specs.WantsNumber.{WantsNumber, counters_of}
+use Rattle.justfile_parse.specs.WantsNumber.{WantsNumber}
 use Rattle.justfile_parse_expression.specs.declared.significant.TableEntry.{TableEntry}
 use Rattle.justfile_parse_expression.specs.declared.stop.Refusal.{Refusal}
 use Rattle.justfile_parse_expression.specs.declared.stop.Refusal.TheVariants.{Unexpected, TooDeep}
 use Rattle.justfile_parse_expression.specs.declared.stop.Stop.{Stop}
 use Rattle.justfile_parse_expression.specs.declared.stop.Stop.TheVariants as stops
 use Rattle.justfile_parse_expression.specs.MethodResults.{StopsAt}
-
--- what was returned, and the state and the counters of the numerator after it, are what is read, or say why not
-abbrev pub ReadsNumbered : {X Y : Type 0} → (X → Y) → Result X Stop → Numerator → State → Read (Y × Counters) → Type 0
-ReadsNumbered view (Ok x) n s found = found ≡ Ok ((view x, counters_of n), s)
-ReadsNumbered view (Err stop) n s found = StopsAt stop s (found ≡ Err (state.NoNumber (counters_of n))) found
+use Rattle.justfile_parse_header.specs.Counting.{counters_of}
 
 -- bindings and recipes were numbered, together at most so many, and nothing else
 pub record IsMoved (old new : Numerator) (most : ℕ) : Type 0 where

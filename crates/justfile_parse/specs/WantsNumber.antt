@@ -5,15 +5,12 @@ use Rattle.justfile_base.specs.declared.numerator.Numerator.{Numerator}
 use Rattle.justfile_model.specs.Conditions.{Conditions}
 use Rattle.justfile_model.specs.ReadAttribute.{ReadAttribute}
 use Rattle.justfile_model.specs.Reader as files
-use Rattle.justfile_model.specs.Reader.{after_mark, assignment, line, recipe}
+use Rattle.justfile_model.specs.Reader.{after_mark, any_recipe, assignment, line}
 use Rattle.justfile_model.specs.Reading.{Counters}
 use Rattle.justfile_model.specs.SignificantTokens.{SignificantToken}
 use Rattle.justfile_model.specs.Tree.{WrittenTree}
+use Rattle.justfile_parse_header.specs.Counting.{counters_of}
 use Rattle.justfile_model.specs.TreeReader.{Read, State, start_state, token_attributes, token_leaves}
-
--- where the numerator stands
-abbrev pub counters_of : Numerator → Counters
-counters_of n = record { bindings = bindings_of n; constants = constants_of n; recipes = recipes_of n }
 
 -- the attributes before a construct, which follows them
 abbrev pub attributes_at : State → Read (List ReadAttribute)
@@ -32,7 +29,7 @@ pub record LacksRecipe (s : State) (numerator : Numerator) : Type 0 where
   pub attributes : List ReadAttribute
   pub header : State
   pub attributes_read : attributes_at s ≡ Ok (attributes, header)
-  pub is_recipe : IsOk (recipe token_leaves token_attributes attributes (counters_of numerator) header)
+  pub is_recipe : IsOk (any_recipe token_leaves token_attributes attributes (counters_of numerator) header)
   pub at_end : recipes_of numerator ≡ 2 ^ 32 - 1
 
 -- what comes next is no blank line and lacks its number

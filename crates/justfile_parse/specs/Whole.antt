@@ -1,9 +1,11 @@
 -- What follows, of a construct, from its name, its attributes and its body.
 use Rattle.std.specs.Prelude.{◌≡◌, ℕ, All, Bool, ◌||◌, ◌==◌, List, slice_index, map}
+use Rattle.justfile_attribute.specs.declared.attribute.Attribute.{Attribute}
 use Rattle.justfile_attribute_set.specs.AttributeSet.{AttributeSet, attributes_of}
 use Rattle.justfile_attribute_set.specs.Attributes.{has_kind}
 use Rattle.justfile_base.specs.Token.{lexeme_of}
 use Rattle.justfile_base.specs.declared.attribute_kind.AttributeKind.TheVariants as kinds
+use Rattle.justfile_base.specs.declared.name.Name.{Name}
 use Rattle.justfile_base.specs.declared.token.Token.{Token}
 use Rattle.justfile_file.specs.declared.binding.Binding.{Binding}
 use Rattle.justfile_file.specs.declared.item.Item.{Item}
@@ -11,6 +13,9 @@ use Rattle.justfile_file.specs.declared.item.Item.TheVariants.{Assignment, Comme
 use Rattle.justfile_file.specs.declared.recipe.UnresolvedRecipe.{UnresolvedRecipe}
 use Rattle.justfile_parse.specs.ItemTable.{has_shebang}
 use Rattle.justfile_parse.specs.Tree.{line_tree}
+use Rattle.justfile_parse_header.specs.Arguments.{AreKeyed}
+use Rattle.justfile_parse_header.specs.Said.{AreWholeParameters}
+use Rattle.justfile_parse_header.specs.Tree.{rules_of}
 use Rattle.justfile_tree.specs.declared.expression.Expression.{Expression}
 
 -- a name that begins with `_` is private
@@ -24,8 +29,10 @@ is_hidden name set = is_private (lexeme_of name) || has_kind kinds.Private (attr
 abbrev pub IsWholeAssignment : Binding Expression → Type 0
 IsWholeAssignment a = a.private ≡ is_hidden a.name.token a.attributes
 
--- a recipe with the attribute `script`, or whose first line begins `#!`, is run by a program of its own
+-- A recipe with the attribute `script`, or whose first line begins `#!`, is run by a program of its own. Its parameters are what its attributes
+-- say of them.
 pub record IsWholeRecipe (r : UnresolvedRecipe) : Type 0 where
+  pub parameters : AreWholeParameters (rules_of r.attributes) r.parameters.items
   pub private : r.private ≡ is_hidden r.name.token r.attributes
   pub shebang : r.shebang ≡ has_kind kinds.Script (attributes_of r.attributes) || has_shebang (map line_tree r.body.items)
 
@@ -34,6 +41,10 @@ IsWholeItem (Assignment a) = IsWholeAssignment a
 IsWholeItem (Comment text) = Unit {0}
 IsWholeItem Newline = Unit {0}
 IsWholeItem (Recipe r) = IsWholeRecipe r
+
+-- each bound of the attributes that are read stands with its key
+abbrev pub AreKeyedPairs : List (Attribute × Name) → Type 0
+AreKeyedPairs pairs = AreKeyed (map (λ p. p.0) pairs)
 
 -- all of them are
 unfoldable pub AreWhole : List Item → Type 0

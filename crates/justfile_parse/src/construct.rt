@@ -1,21 +1,19 @@
 //! The attributes of a construct, once it is known which construct it is.
-ghost use Rattle.std.specs.Prelude.{◌≡◌, map, string_bytes, IfOk};
-ghost use Rattle.std.specs.Option.{option_map};
-ghost use Rattle.justfile_attribute_rules.specs.Made.{IsRefusedBy, quoted_leaf};
-ghost use Rattle.justfile_model.specs.NewAttribute as new;
-ghost use Rattle.justfile_model.specs.Rules.{UndefinedArgAttribute};
-ghost use Rattle.justfile_attribute_set.specs.AttributeSet.{attributes_of, leaf_entries_of};
-ghost use Rattle.justfile_attribute_set.specs.Keys.{keys_left};
-ghost use Rattle.justfile_attribute.specs.Attribute.{leaf_attribute_of};
-ghost use Rattle.justfile_parse_attribute.specs.Attributes.{entry_of_pair};
+ghost use Rattle.std.specs.Prelude.{◌≡◌, ◌&&◌, IfOk, map};
+ghost use Rattle.justfile_attribute_set.specs.AttributeSet.{leaf_entries_of};
+ghost use Rattle.justfile_model.specs.ContentKeys.{has_attribute};
+ghost use Rattle.justfile_model.specs.HeaderReader.{obeying};
+ghost use Rattle.justfile_model.specs.RecipeRules.{exclusions_broken};
+ghost use Rattle.justfile_parse.specs.Exclusions.{IsExclusion};
 ghost use Rattle.justfile_parse.specs.Halting.{IsExtraneousFault};
-ghost use Rattle.justfile_parse_attribute.specs.Halting.{ReadsRuled};
 ghost use Rattle.justfile_parse.specs.ItemTable as reader;
+ghost use Rattle.justfile_parse_attribute.specs.Attributes.{entry_of_pair};
+ghost use Rattle.justfile_parse_attribute.specs.Halting.{ReadsRuled};
 ghost use Rattle.justfile_parse_expression.specs.TableReader.{State};
 
 use justfile_attribute::Attribute;
 use justfile_attribute_set::AttributeSet;
-use justfile_base::{CompileErrorKind, Fault, ItemKind, Name, StringLiteral, Token};
+use justfile_base::{AttributeKind, CompileErrorKind, Fault, ItemKind, Name, Token};
 use justfile_parse_attribute::{Halt, make_halt};
 use justfile_parse_expression::significant::TableEntry;
 use std::alloc::Global;
@@ -37,82 +35,44 @@ pub(crate) fn allowed<'src>(
     }
 }
 
-/// The attributes of a recipe, if they speak of no argument: it has no parameters.
-#[tactic(auto, using(crate::proofs::Constructs::is_defined, crate::proofs::Constructs::is_undefined))]
-pub(crate) fn defined<'src>(
+/// Refuses attributes of the recipe with this name that exclude each other.
+pub(crate) fn check_exclusions<'src>(
+    attributes: &AttributeSet<'src>,
     alloc: Global,
-    attributes: Vec<(Attribute<'src>, Name<'src>)>,
-) -> Result<AttributeSet<'src>, Halt<'src>>
-    ensures reads { (s : State) → ReadsRuled (λ _. tt) result s (reader.defined (map entry_of_pair attributes.entry.items) s) }
-    ensures entries { IfOk result (λ set. leaf_entries_of set ≡ reader.in_content_order (map entry_of_pair attributes.entry.items)) }
+    recipe: Token<'src>,
+) -> Result<(), Halt<'src>>
+    ensures { (s : State) → ReadsRuled (λ _. tt) result s (obeying (exclusions_broken recipe.entry (leaf_entries_of attributes.now)) s) }
 {
-    let set = AttributeSet::from_read(attributes)?;
-    match find_argument(&set) {
-        None => Ok(set),
-        Some(argument) => Err(make_halt(alloc, undefined_argument(alloc, argument))),
+    match find_exclusion(attributes, recipe) {
+        None => Ok(()),
+        Some(kind) => Err(make_halt(alloc, Fault::Compile(recipe.error(kind)))),
     }
 }
 
-/// Of the arguments that attributes speak of, the one with the least text, the first of these.
-#[tactic(auto, using(crate::proofs::Least::begins, crate::proofs::Least::goes_on, crate::proofs::Least::ends))]
-fn find_argument<'run, 'src>(
-    attributes: &'run AttributeSet<'src>,
-) -> Option<&'run StringLiteral<'src>>
-    ensures { option_map (λ l. quoted_leaf l.now) result ≡ reader.least_argument (leaf_entries_of attributes.now) }
+/// The refusal of the first two kinds of attributes that exclude each other.
+fn find_exclusion<'src>(
+    attributes: &AttributeSet<'src>,
+    recipe: Token<'src>,
+) -> Option<CompileErrorKind<'src>>
+    ensures { IsExclusion recipe.entry (leaf_entries_of attributes.now) result }
 {
-    let mut found: Option<&'run StringLiteral<'src>> = None;
-    let mut left = attributes.iter();
-    'attributes: loop {
-        let Some(attribute) = left.next() else {
-            return found;
-        };
-        found = lesser(found, argument(attribute));
-    }
-}
-
-/// The argument that an attribute speaks of.
-fn argument<'run, 'src>(attribute: &'run Attribute<'src>) -> Option<&'run StringLiteral<'src>>
-    ensures { option_map (λ l. quoted_leaf l.now) result ≡ reader.argument_in (leaf_attribute_of attribute.now) }
-{
-    match attribute {
-        Attribute::Arg { name, .. } => Some(name),
-        _ => None,
-    }
-}
-
-/// The one with the lesser text, the first of them where both have the same.
-fn lesser<'run, 'src>(
-    first: Option<&'run StringLiteral<'src>>,
-    second: Option<&'run StringLiteral<'src>>,
-) -> Option<&'run StringLiteral<'src>>
-    ensures { option_map (λ l. quoted_leaf l.now) result
-        ≡ reader.lesser_of (option_map (λ l. quoted_leaf l.now) first.entry) (option_map (λ l. quoted_leaf l.now) second.entry) }
-{
-    let Some(literal) = first else {
-        return second;
-    };
-    let Some(other) = second else {
-        return first;
-    };
-    if literal.cooked.as_str() > other.cooked.as_str() {
-        second
+    let recipe = recipe.lexeme();
+    if has_both(attributes, AttributeKind::NoCd, AttributeKind::WorkingDirectory) {
+        Some(CompileErrorKind::NoCdAndWorkingDirectoryAttribute { recipe })
+    } else if has_both(attributes, AttributeKind::ExitMessage, AttributeKind::NoExitMessage) {
+        Some(CompileErrorKind::ExitMessageAndNoExitMessageAttribute { recipe })
+    } else if has_both(attributes, AttributeKind::Script, AttributeKind::Shell) {
+        Some(CompileErrorKind::ScriptAndShellAttribute { recipe })
     } else {
-        first
+        None
     }
 }
 
-/// The refusal of what is said of an argument that a recipe doesn't take.
-fn undefined_argument<'src>(alloc: Global, argument: &StringLiteral<'src>) -> Fault<'src>
-    ensures { IsRefusedBy (new.refuse {X = Unit {0}} (UndefinedArgAttribute (string_bytes argument.now.cooked)) argument.now.token) result }
+/// Whether there are attributes of both kinds.
+fn has_both(attributes: &AttributeSet<'_>, first: AttributeKind, second: AttributeKind) -> bool
+    ensures { result ≡ has_attribute first (leaf_entries_of attributes.now) && has_attribute second (leaf_entries_of attributes.now) }
 {
-    match argument.cooked.as_str().to_string(alloc) {
-        Ok(text) => Fault::Compile(
-            argument
-                .token
-                .error(CompileErrorKind::UndefinedArgAttribute { argument: text }),
-        ),
-        Err(_) => Fault::Memory,
-    }
+    attributes.contains(first) && attributes.contains(second)
 }
 
 /// The refusal of so many attributes before a blank line or a comment.

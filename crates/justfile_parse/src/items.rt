@@ -4,30 +4,29 @@ ghost use Rattle.std.specs.Str.{trim_end};
 ghost use Rattle.justfile_base.specs.Token.{lexeme_of};
 ghost use Rattle.justfile_model.specs.SignificantTokens.{identifiers};
 ghost use Rattle.justfile_model.specs.Tree as tree;
-ghost use Rattle.justfile_parse.specs.WantsNumber.{counters_of};
+ghost use Rattle.justfile_parse_header.specs.Counting.{ReadsCounted, counters_of};
 ghost use Rattle.justfile_model.specs.Reading.{prepend};
 ghost use Rattle.justfile_model.specs.Reader.{after_numbered};
 ghost use Rattle.justfile_parse.specs.ItemTable as reader;
-ghost use Rattle.justfile_parse_expression.specs.TableReader.{State};
 ghost use Rattle.std.specs.Prelude.{IfOk};
 ghost use Rattle.justfile_parse_attribute.specs.Attributes.{entry_of_pair};
-ghost use Rattle.justfile_parse.specs.Halting.{ReadsItems};
 ghost use Rattle.justfile_parse_attribute.specs.Halting.{ReadsRuled};
-ghost use Rattle.justfile_parse.specs.MethodResults.{IsMoved, ReadsNumbered};
+ghost use Rattle.justfile_parse.specs.MethodResults.{IsMoved};
 ghost use Rattle.justfile_parse_expression.specs.MethodResults.{Reads, UnlessMemory};
-ghost use Rattle.justfile_parse.specs.Whole.{AreWhole, IsWholeAssignment, IsWholeItem, KeepsWhole, is_hidden, is_private};
+ghost use Rattle.justfile_parse.specs.Whole.{AreKeyedPairs, AreWhole, IsWholeAssignment, IsWholeItem, KeepsWhole, is_hidden, is_private};
 ghost use Rattle.justfile_parse_expression.specs.Significant.{significant_of};
 ghost use Rattle.justfile_parse.specs.Tree.{assignment_tree, item_tree};
 ghost use Rattle.justfile_parse_expression.specs.View.{left, state_of};
 
 use crate::construct::{allowed, extraneous};
-use crate::recipe::parse_recipe;
+use crate::recipe::parse_any_recipe;
 use justfile_attribute::Attribute;
 use justfile_attribute_set::AttributeSet;
-use justfile_base::{Expander, Name, Number, Numerator, Token, TokenKind};
+use justfile_base::{Expander, Name, Numerator, Token, TokenKind};
 use justfile_file::{Assignment, Binding, Item};
 use justfile_parse_attribute::{Halt, make_halt, parse_attributes};
 use justfile_parse_expression::{ExpressionParser, Refusal, Stop};
+use justfile_parse_header::draw_binding;
 
 /// The items up to the end of the file, where no expression is open.
 #[tactic(auto, using(crate::proofs::Loop::moved, crate::proofs::Loop::moved_on))]
@@ -36,7 +35,7 @@ pub(crate) fn parse_items<'src, X: Expander>(
     numerator: &mut Numerator,
 ) -> Result<Vec<Item<'src>>, Halt<'src>>
     requires { (state_of X.answer parser.old).depth ≡ 0 }
-    ensures reads { ReadsItems (λ items. map item_tree items.items) result numerator.new (state_of X.answer parser.new)
+    ensures reads { ReadsCounted (λ items. map item_tree items.items) result numerator.new (state_of X.answer parser.new)
         (reader.items (counters_of numerator.old) (state_of X.answer parser.old)) }
     ensures whole { IfOk result (λ items. AreWhole items.items) }
     ensures moved { IsMoved numerator.old numerator.new (identifiers (map significant_of (state_of X.answer parser.old).left)) }
@@ -72,7 +71,7 @@ fn parse_line<'src, X: Expander>(
     numerator: &mut Numerator,
 ) -> Result<(), Halt<'src>>
     requires { (state_of X.answer parser.old).depth ≡ 0 }
-    ensures reads { ReadsItems (λ _. map item_tree items.new.items) result numerator.new (state_of X.answer parser.new)
+    ensures reads { ReadsCounted (λ _. map item_tree items.new.items) result numerator.new (state_of X.answer parser.new)
         (after_numbered (map item_tree items.old.items) (reader.line (counters_of numerator.old) (state_of X.answer parser.old))) }
     ensures whole { OnOk result (KeepsWhole items.old.items items.new.items) }
     ensures progress { OnOk result (left parser.new < left parser.old) }
@@ -95,11 +94,11 @@ fn parse_item<'src, X: Expander>(
     parser: &mut ExpressionParser<'_, 'src, X>,
     numerator: &mut Numerator,
 ) -> Result<Item<'src>, Halt<'src>>
-    ensures reads { ReadsItems item_tree result numerator.new (state_of X.answer parser.new)
+    ensures reads { ReadsCounted item_tree result numerator.new (state_of X.answer parser.new)
         (reader.on_line (counters_of numerator.old) (state_of X.answer parser.old)) }
     ensures whole { IfOk result IsWholeItem }
     ensures progress { OnOk result (left parser.new < left parser.old) }
-    ensures unmoved { OnErr result (numerator.new ≡ numerator.old) }
+    ensures moved { IsMoved numerator.old numerator.new (identifiers (map significant_of (state_of X.answer parser.old).left)) }
 {
     if let Some(comment) = parser.accept(TokenKind::Comment) {
         return Ok(make_comment(*comment.token));
@@ -113,11 +112,11 @@ fn parse_construct<'src, X: Expander>(
     parser: &mut ExpressionParser<'_, 'src, X>,
     numerator: &mut Numerator,
 ) -> Result<Item<'src>, Halt<'src>>
-    ensures reads { ReadsItems item_tree result numerator.new (state_of X.answer parser.new)
+    ensures reads { ReadsCounted item_tree result numerator.new (state_of X.answer parser.new)
         (reader.construct (counters_of numerator.old) (state_of X.answer parser.old)) }
     ensures whole { IfOk result IsWholeItem }
     ensures progress { OnOk result (left parser.new < left parser.old) }
-    ensures unmoved { OnErr result (numerator.new ≡ numerator.old) }
+    ensures moved { IsMoved numerator.old numerator.new (identifiers (map significant_of (state_of X.answer parser.old).left)) }
 {
     let attributes = parse_item_attributes(parser)?;
     parse_content(parser, attributes, numerator)
@@ -130,6 +129,7 @@ fn parse_item_attributes<'src, X: Expander>(
 ) -> Result<Vec<(Attribute<'src>, Name<'src>)>, Halt<'src>>
     ensures reads { ReadsRuled (λ pairs. map entry_of_pair pairs.items) result (state_of X.answer parser.new)
         (reader.item_attributes (state_of X.answer parser.old)) }
+    ensures keyed { IfOk result (λ pairs. AreKeyedPairs pairs.items) }
     ensures progress { OnOk result (left parser.new ≤ left parser.old) }
 {
     let Some(opener) = parser.peek_if(TokenKind::BracketL) else {
@@ -156,17 +156,18 @@ fn parse_content<'src, X: Expander>(
     attributes: Vec<(Attribute<'src>, Name<'src>)>,
     numerator: &mut Numerator,
 ) -> Result<Item<'src>, Halt<'src>>
-    ensures reads { ReadsItems item_tree result numerator.new (state_of X.answer parser.new)
+    requires { AreKeyedPairs attributes.items }
+    ensures reads { ReadsCounted item_tree result numerator.new (state_of X.answer parser.new)
         (reader.content (map entry_of_pair attributes.entry.items) (counters_of numerator.old) (state_of X.answer parser.old)) }
     ensures whole { IfOk result IsWholeItem }
     ensures progress { OnOk result (left parser.new < left parser.old) }
-    ensures unmoved { OnErr result (numerator.new ≡ numerator.old) }
+    ensures moved { IsMoved numerator.old numerator.new (identifiers (map significant_of (state_of X.answer parser.old).left)) }
 {
     if parser.peek_kinds(&[TokenKind::Identifier, TokenKind::ColonEquals]) {
         let assignment = parse_assignment(parser, attributes, numerator)?;
         return Ok(Item::Assignment(assignment));
     }
-    let recipe = parse_recipe(parser, attributes, numerator)?;
+    let recipe = parse_any_recipe(parser, attributes, numerator)?;
     Ok(Item::Recipe(recipe))
 }
 
@@ -177,7 +178,7 @@ fn parse_assignment<'src, X: Expander>(
     attributes: Vec<(Attribute<'src>, Name<'src>)>,
     numerator: &mut Numerator,
 ) -> Result<Assignment<'src>, Halt<'src>>
-    ensures reads { ReadsItems assignment_tree result numerator.new (state_of X.answer parser.new)
+    ensures reads { ReadsCounted assignment_tree result numerator.new (state_of X.answer parser.new)
         (reader.assignment (map entry_of_pair attributes.entry.items) (counters_of numerator.old) (state_of X.answer parser.old)) }
     ensures whole { IfOk result IsWholeAssignment }
     ensures progress { OnOk result (left parser.new < left parser.old) }
@@ -256,19 +257,6 @@ fn parse_line_end<'src, X: Expander>(
     parser.expect(TokenKind::Eol)?;
     push_item(items, Item::Newline)?;
     Ok(())
-}
-
-/// The number of the next binding.
-#[tactic(auto, unfolding(justfile_model::specs::Reader::draw_binding, justfile_parse_expression::specs::TableReader::leaves))]
-fn draw_binding<'src>(numerator: &mut Numerator) -> Result<Number, Stop<'src>>
-    ensures reads { (s : State) → ReadsNumbered (λ number. number.0) result numerator.new s
-        (reader.draw_binding (counters_of numerator.old) s) }
-    ensures unmoved { OnErr result (numerator.new ≡ numerator.old) }
-{
-    match numerator.next_binding() {
-        Some(number) => Ok(number),
-        None => Err(Stop::Numbers),
-    }
 }
 
 /// Whether what has this name and these attributes is private.

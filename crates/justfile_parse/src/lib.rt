@@ -3,6 +3,7 @@
 
 mod body;
 mod construct;
+mod docs;
 mod items;
 mod parse;
 mod recipe;

@@ -11,14 +11,15 @@ ghost use Rattle.justfile_parse_expression.specs.Formats.{IsTable};
 ghost use Rattle.justfile_parse.specs.Filled.{IsInTable};
 ghost use Rattle.justfile_parse.specs.ItemTable as reader;
 ghost use Rattle.justfile_parse.specs.ItemTable.{after_mark};
-ghost use Rattle.justfile_parse.specs.WantsNumber.{counters_of};
 ghost use Rattle.justfile_parse.specs.MethodResults.{IsErrorAt, IsFaultOf, IsMoved, IsNextPlace, IsRead, IsUnread};
-ghost use Rattle.justfile_parse.specs.Halting.{IsFaultOfHalt, ReadsItems};
+ghost use Rattle.justfile_parse.specs.Halting.{IsFaultOfHalt};
 ghost use Rattle.justfile_parse.specs.Whole.{AreWhole};
 ghost use Rattle.justfile_parse_expression.specs.Significant.{significant_of};
 ghost use Rattle.justfile_parse.specs.Tree.{item_tree};
 ghost use Rattle.justfile_parse_expression.specs.View.{state_of};
+ghost use Rattle.justfile_parse_header.specs.Counting.{ReadsCounted, counters_of};
 
+use crate::docs::take_docs;
 use crate::items::parse_items;
 use crate::unstable::with_unstable;
 use justfile_base::{
@@ -151,7 +152,7 @@ fn parse_table<'run, 'src, X: Expander>(
         tokens,
     );
     match parse_file(&mut parser, numerator) {
-        Ok(items) => Ok((items, parser.list_features)),
+        Ok(items) => Ok((take_docs(alloc, items)?, parser.list_features)),
         Err(halt) => Err(make_fault(alloc, tokens, parser.peek_front(), halt)),
     }
 }
@@ -163,7 +164,7 @@ fn parse_file<'src, X: Expander>(
     numerator: &mut Numerator,
 ) -> Result<Vec<Item<'src>>, Halt<'src>>
     requires { (state_of X.answer parser.old).depth ≡ 0 }
-    ensures reads { ReadsItems (λ items. map item_tree items.items) result numerator.new (state_of X.answer parser.new)
+    ensures reads { ReadsCounted (λ items. map item_tree items.items) result numerator.new (state_of X.answer parser.new)
         (reader.file (counters_of numerator.old) (state_of X.answer parser.old)) }
     ensures whole { IfOk result (λ items. AreWhole items.items) }
     ensures moved { IsMoved numerator.old numerator.new (identifiers (map significant_of (state_of X.answer parser.old).left)) }

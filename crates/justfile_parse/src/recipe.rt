@@ -1,20 +1,17 @@
-ghost use Rattle.std.specs.Prelude.{◌≡◌, ◌<◌, ◌||◌, OnErr, OnOk, map};
+ghost use Rattle.std.specs.Prelude.{◌≡◌, ◌<◌, ◌||◌, IfOk, OnErr, OnOk, map};
 ghost use Rattle.justfile_attribute_set.specs.AttributeSet.{attributes_of};
 ghost use Rattle.justfile_attribute_set.specs.Attributes.{has_kind};
 ghost use Rattle.justfile_base.specs.declared.attribute_kind.AttributeKind.TheVariants as kinds;
 ghost use Rattle.justfile_parse.specs.ItemTable as reader;
-ghost use Rattle.justfile_parse.specs.WantsNumber.{counters_of};
-ghost use Rattle.justfile_parse_expression.specs.TableReader.{State};
-ghost use Rattle.std.specs.Prelude.{IfOk};
-ghost use Rattle.justfile_parse_attribute.specs.Attributes.{entry_of_pair};
-ghost use Rattle.justfile_parse.specs.Halting.{ReadsItems};
-ghost use Rattle.justfile_parse.specs.MethodResults.{ReadsNumbered};
 ghost use Rattle.justfile_parse.specs.Tree.{line_tree, recipe_tree};
-ghost use Rattle.justfile_parse.specs.Whole.{IsWholeRecipe};
+ghost use Rattle.justfile_parse.specs.Whole.{AreKeyedPairs, IsWholeRecipe};
+ghost use Rattle.justfile_parse_attribute.specs.Attributes.{entry_of_pair};
+ghost use Rattle.justfile_parse_expression.specs.TableReader.{State};
 ghost use Rattle.justfile_parse_expression.specs.View.{left, state_of};
+ghost use Rattle.justfile_parse_header.specs.Counting.{ReadsCounted, ReadsNumbered, counters_of};
 
 use crate::body::parse_body_after_header;
-use crate::construct::defined;
+use crate::construct::check_exclusions;
 use crate::items::is_hidden;
 use justfile_attribute::Attribute;
 use justfile_attribute_set::AttributeSet;
@@ -22,36 +19,63 @@ use justfile_base::{AttributeKind, Expander, Name, Number, Numerator, TokenKind}
 use justfile_file::{Line, UnresolvedRecipe};
 use justfile_parse_attribute::Halt;
 use justfile_parse_expression::{ExpressionParser, Stop};
+use justfile_parse_header::parse_header;
 
-/// NAME `:` after attributes, and the body if it has one. The recipe is numbered after its body.
-#[tactic(auto, using(justfile_parse_expression::proofs::Rest::file_depth_is, justfile_parse_expression::proofs::Rest::import_offsets_are), unfolding(justfile_model::specs::Reader::recipe, justfile_parse_expression::specs::TableReader::leaves))]
-pub(crate) fn parse_recipe<'src, X: Expander>(
+/// A recipe after its attributes, with `@` before its name or not.
+#[tactic(auto, unfolding(justfile_model::specs::Reader::any_recipe))]
+pub(crate) fn parse_any_recipe<'src, X: Expander>(
     parser: &mut ExpressionParser<'_, 'src, X>,
     attributes: Vec<(Attribute<'src>, Name<'src>)>,
     numerator: &mut Numerator,
 ) -> Result<UnresolvedRecipe<'src>, Halt<'src>>
-    ensures reads { ReadsItems recipe_tree result numerator.new (state_of X.answer parser.new)
-        (reader.recipe (map entry_of_pair attributes.entry.items) (counters_of numerator.old) (state_of X.answer parser.old)) }
+    requires { AreKeyedPairs attributes.items }
+    ensures reads { ReadsCounted recipe_tree result numerator.new (state_of X.answer parser.new)
+        (reader.any_recipe (map entry_of_pair attributes.entry.items) (counters_of numerator.old) (state_of X.answer parser.old)) }
     ensures whole { IfOk result IsWholeRecipe }
     ensures progress { OnOk result (left parser.new < left parser.old) }
-    ensures unmoved { OnErr result (numerator.new ≡ numerator.old) }
 {
-    let name = parser.expect(TokenKind::Identifier)?;
-    parser.expect(TokenKind::Colon)?;
-    let attributes = defined(parser.alloc, attributes)?;
+    match parser.accept(TokenKind::At) {
+        Some(_at) => parse_recipe(parser, attributes, true, numerator),
+        None => parse_recipe(parser, attributes, false, numerator),
+    }
+}
+
+/// A recipe from its name to its end: its header, and the body if it has one. The recipe is numbered
+/// after its body.
+#[tactic(auto, using(justfile_parse_expression::proofs::Rest::file_depth_is, justfile_parse_expression::proofs::Rest::import_offsets_are), unfolding(justfile_model::specs::Reader::recipe, justfile_parse_expression::specs::TableReader::leaves))]
+fn parse_recipe<'src, X: Expander>(
+    parser: &mut ExpressionParser<'_, 'src, X>,
+    attributes: Vec<(Attribute<'src>, Name<'src>)>,
+    quiet: bool,
+    numerator: &mut Numerator,
+) -> Result<UnresolvedRecipe<'src>, Halt<'src>>
+    requires { AreKeyedPairs attributes.items }
+    ensures reads { ReadsCounted recipe_tree result numerator.new (state_of X.answer parser.new)
+        (reader.recipe quiet (map entry_of_pair attributes.entry.items) (counters_of numerator.old) (state_of X.answer parser.old)) }
+    ensures whole { IfOk result IsWholeRecipe }
+    ensures progress { OnOk result (left parser.new < left parser.old) }
+{
+    let attributes = AttributeSet::from_read(attributes)?;
+    let header = parse_header(&attributes, parser, numerator)?;
     let body = parse_body_after_header(parser)?;
+    check_exclusions(&attributes, parser.alloc, *header.name.token)?;
     let import_offsets = parser.import_offsets.to_vec(parser.alloc)?;
     let number = draw_recipe(numerator)?;
-    let private = is_hidden(*name.token, &attributes);
+    let private = is_hidden(*header.name.token, &attributes);
     let shebang = is_script(&attributes, body.as_slice());
     Ok(UnresolvedRecipe {
         attributes,
         body,
+        dependencies: header.dependencies,
+        doc: None,
         file_depth: parser.file_depth,
         import_offsets,
-        name: Name::from_identifier(*name.token),
+        name: Name::from_identifier(*header.name.token),
         number,
+        parameters: header.parameters,
+        priors: header.priors,
         private,
+        quiet,
         shebang,
     })
 }

@@ -49,6 +49,7 @@ broken_first (Err (reading.TooDeep t)) next e h = absurd h
 broken_first (Err (reading.NotCooked fault t)) next e h = absurd h
 broken_first (Err (reading.BreaksRule broken)) next e h = h
 broken_first (Err (reading.Extraneous count opener)) next e h = h
+broken_first (Err (reading.AfterVariadic name)) next e h = h
 broken_first (Err (reading.NoNumber counters)) next e h = absurd h
 
 -- reading halts for the fault of a rule

@@ -4,6 +4,8 @@ use Rattle.justfile_base.specs.declared.compile_error.CompileError.{CompileError
 use Rattle.justfile_base.specs.declared.fault.Fault.{Fault}
 use Rattle.justfile_base.specs.declared.fault.Fault.TheVariants as faults
 use Rattle.justfile_attribute_rules.specs.RuleErrors.{IsErrorOfRule}
+use Rattle.justfile_base.specs.Token.{lexeme_of}
+use Rattle.justfile_base.specs.declared.token.Token.{Token}
 use Rattle.justfile_model.specs.Reading as reading
 use Rattle.justfile_parse_expression.specs.MethodResults.{StopsAt}
 use Rattle.justfile_parse_expression.specs.TableReader as table
@@ -19,10 +21,16 @@ abbrev pub IsExtraneous : ℕ → CompileErrorKind → Type 0
 IsExtraneous count (kinds.ExtraneousAttributes count') = count' ≡ count
 IsExtraneous count kind = ⊥
 
--- nothing is read, as a rule is broken or attributes stand before no construct, which the error says
+-- the kind names what follows a parameter that takes several arguments
+abbrev pub IsAfterVariadic : (name : Token) → CompileErrorKind → Type 0
+IsAfterVariadic name (kinds.ParameterFollowsVariadicParameter parameter) = parameter.now ≡ lexeme_of name
+IsAfterVariadic name kind = ⊥
+
+-- nothing is read, as a rule is broken, attributes stand before no construct or a name follows the last parameter, which the error says
 abbrev pub IsBrokenBy : {Y : Type 0} → Result Y table.Refusal → CompileError → Type 0
 IsBrokenBy (Err (reading.BreaksRule broken)) e = IsErrorOfRule broken e
 IsBrokenBy (Err (reading.Extraneous count opener)) e = IsExtraneous count e.kind × (e.token ≡ opener)
+IsBrokenBy (Err (reading.AfterVariadic name)) e = IsAfterVariadic name e.kind × (e.token ≡ name)
 IsBrokenBy _ e = ⊥
 
 -- Where reading halted, the tokens can't be read, or a rule is broken.
@@ -42,3 +50,8 @@ HaltsFor (halts.Stopped stops.Memory) (faults.Compile e) = Unit {0}
 HaltsFor (halts.Stopped stops.Memory) faults.Memory = Unit {0}
 HaltsFor (halts.Stopped stops.Numbers) faults.Numbers = Unit {0}
 HaltsFor _ _ = ⊥
+
+-- the fault of a name after a parameter that takes several arguments
+abbrev pub IsAfterVariadicFault : (name : Token) → Fault → Type 0
+IsAfterVariadicFault name (faults.Compile e) = IsAfterVariadic name e.kind × (e.token ≡ name)
+IsAfterVariadicFault name _ = ⊥

@@ -1,5 +1,6 @@
 -- What is read of a table, side by side with what the definitions read of its tokens: each leaf is made of a token of the table.
-use Rattle.std.proofs.Common.{◌≡◌, ℕ, List, [], None, Ok, refl, sym, ap, subst, ◌∙◌}
+use Rattle.std.proofs.Common.{◌≡◌, ℕ, List, [], Some, None, Ok, refl, sym, ap, subst, ◌∙◌}
+use Rattle.justfile_base.specs.Numerator.{number_of}
 use Rattle.justfile_base.specs.Token.{lexeme_of}
 use Rattle.justfile_base.specs.declared.token.Token.{Token}
 use Rattle.justfile_model.specs.Conditions.{Conditions}
@@ -72,6 +73,7 @@ module _ (conditions : Conditions) (IsToken : Token → Type 0) (file_depth : �
     attributes = AreMeant;
     assignment = λ number. IsLeaf (λ token. assigned_leaf in_run token number);
     recipe = λ number leaf body tok lines. IsLeaf (λ token. headed_leaf in_run token number) leaf tok;
+    parameter = λ number leaf rules tok others. IsLeaf (λ token. Named token (Some (number_of number))) leaf tok;
   }
 
   -- ---- what the two make of tokens
@@ -107,5 +109,6 @@ module _ (conditions : Conditions) (IsToken : Token → Type 0) (file_depth : �
         subst (λ (leaf : Leaf). IsLeaf (λ token. assigned_leaf in_run token number) leaf t.tok) (sym (assigned_is run C r entry.token.now number)) (named (λ token. assigned_leaf in_run token number) entry t h);
     recipe = λ run C entry t r h number body lines same.
         subst (λ (leaf : Leaf). IsLeaf (λ token. headed_leaf in_run token number) leaf t.tok) (sym (headed_is run C r entry.token.now number)) (named (λ token. headed_leaf in_run token number) entry t h);
+    parameter = λ run C entry t r h same number. named (λ token. Named token (Some (number_of number))) entry t h;
     has_number = λ n h. refl;
   }

@@ -59,6 +59,7 @@ leaves = record {
   literal = λ t literal text. literal_leaf t.token.now literal text;
   text = λ t. Text t.token.now;
   star = λ t. tt;
+  parameter = λ run t rules number. Named t.token.now (Some (number_of number));
   assignment = λ run t number. assigned_leaf run t.token.now number;
   recipe = λ run t number body. headed_leaf run t.token.now number;
   has_number = λ n. not (n == 2 ^ 32 - 1);

@@ -227,7 +227,7 @@ impl<'run, 'src, X: Expander> ExpressionParser<'run, 'src, X> {
     #[cycle(expression)]
     #[tactic(auto, using(crate::proofs::Operators::value_is))]
     #[inline(never)]
-    fn parse_value(&mut self) -> Result<Box<Expression<'src>>, Stop<'src>>
+    pub fn parse_value(&mut self) -> Result<Box<Expression<'src>>, Stop<'src>>
         ensures reads { Reads (λ e. leaf_tree_of e.value) result (state_of X.answer self.new) (reader.value (state_of X.answer self.old)) }
         ensures progress { OnOk result (left self.new < left self.old) }
     {

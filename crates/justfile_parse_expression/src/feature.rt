@@ -16,7 +16,7 @@ impl<'src, X: Expander> ExpressionParser<'_, 'src, X> {
 
     /// Notes a feature that needs the setting for lists.
     #[tactic(auto, unfolding(crate::specs::View::state_at, crate::specs::View::state_of, crate::specs::View::left))]
-    pub(crate) fn note(
+    pub fn note(
         &mut self,
         feature: ListFeature,
         token: Token<'src>,

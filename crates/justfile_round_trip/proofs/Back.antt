@@ -1,5 +1,5 @@
 -- What derives an expression: so do the printer's tokens of it, with the same features, under every limit under which the source stands.
-use Rattle.std.proofs.Common.{◌≡◌, ◌≢◌, ℕ, ◌+◌, ◌≤◌, Bool, true, false, cond, ◌&&◌, List, [], ◌∷◌, ◌++◌, Option, refl, sym, subst, ap, ◌∙◌, arith, codes}
+use Rattle.std.proofs.Common.{◌≡◌, ℕ, ◌+◌, ◌≤◌, Bool, true, false, cond, ◌&&◌, List, [], ◌∷◌, ◌++◌, Option, refl, sym, subst, ap, ◌∙◌, arith, codes}
 use Rattle.std.proofs.lemmas.List.{append-nil}
 use Rattle.justfile_base.specs.declared.token_kind.TokenKind.{TokenKind}
 use Rattle.justfile_base.specs.declared.token_kind.TokenKind.TheVariants as kinds
@@ -10,40 +10,40 @@ use Rattle.justfile_model.specs.Tree as tree
 use Rattle.justfile_model.specs.Tree.{lexeme, nothing}
 use Rattle.justfile_model.specs.Features.{Noted, uncompared}
 use Rattle.justfile_model.specs.Expressions as g
-use Rattle.justfile_model.specs.Expressions.{Tokens, ends_open, NotNext, IsWord, NotWord, IsMarked, NotMarked, Unmarked, NotCompared, NotJoined, Expression, Disjunct, Compared, Conjunct, Condition, Braced, Conditional, Value, Sequence, FormatParts}
+use Rattle.justfile_model.specs.Expressions.{Tokens, Under, ends_open, NotNext, IsWord, NotWord, IsMarked, NotMarked, Unmarked, NotCompared, NotJoined, Expression, Disjunct, Compared, Conjunct, Condition, Braced, Conditional, Value, Sequence, FormatParts}
 use Rattle.justfile_model.specs.Printing.{is_conditional}
 use Rattle.justfile_round_trip.proofs.Reading.{Mark, mark, placed}
 use Rattle.justfile_round_trip.proofs.Canon as canon
 use Rattle.justfile_round_trip.proofs.Canon.{Shown, Values, Pieces, space, word, brace_left, brace_right, paren_right, expr_marks, exprs_marks, others_marks, parts_marks}
-use Rattle.justfile_round_trip.proofs.Good.{significant, closes}
+use Rattle.justfile_round_trip.proofs.Good.{significant, closes, ends_value}
 use Rattle.justfile_round_trip.proofs.Ends.{End, OfName, OfValue, OfOpen, OfClosed, tail, EndsIn, ValueEndsIn, SameHead, same_head, value_head, expression_head}
 
 -- ---- what follows
 
-abbrev is_string : TokenKind → Bool
+abbrev pub is_string : TokenKind → Bool
 is_string kinds.StringToken = true
 is_string kinds.FormatStringStart = true
 is_string _ = false
 
-abbrev glued_string : Tokens → Bool
+abbrev pub glued_string : Tokens → Bool
 glued_string [] = false
 glued_string (t ∷ ts) = is_string t.tok.kind && t.glued
 
 -- nothing goes on: a string that would be marked, a comparison, `&&`, `||`
-record StopC (ts : Tokens) : Type 0 where
-  apart : glued_string ts ≡ false
+pub record StopC (ts : Tokens) : Type 0 where
+  pub apart : glued_string ts ≡ false
 
-record StopM (ts : Tokens) : Type 0 where
-  conjunct : StopC ts
-  compared : NotCompared ts
+pub record StopM (ts : Tokens) : Type 0 where
+  pub conjunct : StopC ts
+  pub compared : NotCompared ts
 
-record StopD (ts : Tokens) : Type 0 where
-  comparison : StopM ts
-  and : NotNext kinds.AmpersandAmpersand ts
+pub record StopD (ts : Tokens) : Type 0 where
+  pub comparison : StopM ts
+  pub and : NotNext kinds.AmpersandAmpersand ts
 
 pub record StopE (ts : Tokens) : Type 0 where
-  disjunct : StopD ts
-  or : NotNext kinds.BarBar ts
+  pub disjunct : StopD ts
+  pub or : NotNext kinds.BarBar ts
 
 abbrev ends_here : TokenKind → Bool
 ends_here kinds.ParenL = false
@@ -68,6 +68,11 @@ here_too _ h = refl
 
 other : (f : TokenKind → Bool) (t : SignificantToken) (ts : Tokens) (kind : TokenKind) → f t.tok.kind ≡ true → f kind ≡ false → NotNext kind (t ∷ ts)
 other f t ts kind h n = λ e. let c : true ≡ false = sym h ∙ ap f e ∙ n in cc
+
+-- before a token that closes, or the end, no other token comes next
+pub none_but_closing : (kind : TokenKind) (ts : Tokens) → closes kind ≡ false → ends_value ts ≡ true → NotNext kind ts
+none_but_closing kind [] n h = tt
+none_but_closing kind (t ∷ ts) n h = other closes t ts kind h n
 
 pub stop_before : (t : SignificantToken) (ts : Tokens) → closes t.tok.kind ≡ true → StopE (t ∷ ts)
 stop_before t ts h = record {
@@ -95,11 +100,11 @@ ends_before OfValue t ts h = record { is = (tt, not_joined t ts h) }
 ends_before OfOpen t ts h = record { is = (tt, λ i. let c : true ≡ false = sym h ∙ ap ends_here i.is_name in cc) }
 ends_before OfClosed t ts h = record { is = (tt, tt) }
 
-value_before : (x : End) (t : SignificantToken) (ts : Tokens) → t.tok.kind ≢ kinds.ParenL → ValueEndsIn x (t ∷ ts)
-value_before OfName t ts h = record { is = h }
-value_before OfValue t ts h = record { is = tt }
-value_before OfOpen t ts h = record { is = tt }
-value_before OfClosed t ts h = record { is = tt }
+pub value_before : (x : End) (ts : Tokens) → NotNext kinds.ParenL ts → ValueEndsIn x ts
+value_before OfName ts h = record { is = h }
+value_before OfValue ts h = record { is = tt }
+value_before OfOpen ts h = record { is = tt }
+value_before OfClosed ts h = record { is = tt }
 
 -- `)` or `]`
 abbrev closer : (paren : Bool) → Mark
@@ -137,10 +142,10 @@ no_bool e = cc
 
 -- ---- what comes first
 
-next_head : {b : Bool} (kind : TokenKind) {ts us : Tokens} → SameHead b ts us → NotNext kind ts → NotNext kind us
+pub next_head : {b : Bool} (kind : TokenKind) {ts us : Tokens} → SameHead b ts us → NotNext kind ts → NotNext kind us
 next_head kind (same_head e f g) h = λ x. h (e ∙ x)
 
-word_head : {b : Bool} (w : List ℕ) {ts us : Tokens} → SameHead b ts us → NotWord w ts → NotWord w us
+pub word_head : {b : Bool} (w : List ℕ) {ts us : Tokens} → SameHead b ts us → NotWord w ts → NotWord w us
 word_head w (same_head e f g) h = λ i. h (record { is_name = e ∙ i.is_name; spelled = f i.is_name ∙ i.spelled })
 
 -- ---- conditionals
@@ -176,7 +181,11 @@ is_marked w kind l = record { marks = is_word w; is_string = refl; glued = refl 
 no_features : {A B : Type 0} {leaf : Tok → A} {spot : Tok → B} {Open : ℕ → Option SignificantToken → Type 0} {kind : TokenKind} {d : ℕ} {fs : List (Noted B)} {ts rest : Tokens} → Sequence leaf spot Open kind d tree.none fs ts rest → fs ≡ []
 no_features (g.none kind) = refl
 
-module _ (Open Open' : ℕ → Option SignificantToken → Type 0) (lower : (d d' : ℕ) (a b : Option SignificantToken) → d' ≤ d → Open d a → Open' d' b) where
+-- what stands under a limit does so with less above it
+pub lower : (limit d d' : ℕ) (a b : Option SignificantToken) → d' ≤ d → Under limit d a → Under limit d' b
+lower limit d d' a b le h = omega (arith, le, h)
+
+module _ (Open Open' : ℕ → Option SignificantToken → Type 0) (fewer : (d d' : ℕ) (a b : Option SignificantToken) → d' ≤ d → Open d a → Open' d' b) where
   -- from any tokens that it begins alike
   as_condition : {d : ℕ} {e : canon.Value} {fs : Shown} {b : Bool} {ts us rest : Tokens} → SameHead b ts us → Expression lexeme nothing Open' true d e fs us rest → Condition lexeme nothing Open' d e (fs ++ uncompared e tt) us rest
   as_condition (same_head kind spelled glued) x = g.condition x
@@ -262,9 +271,9 @@ module _ (Open Open' : ℕ → Option SignificantToken → Type 0) (lower : (d d
     pub expression_back : {condition : Bool} {d : ℕ} {e : canon.Value} {fs : Shown} {ts rest : Tokens} → Expression lexeme nothing Open condition d e fs ts rest → (d' : ℕ) → d' ≤ d → (b : Bool) (on : List Mark) → EndsIn (tail e) (significant true on) → StopE (significant true on)
         → Expression lexeme nothing Open' condition d' e fs (significant b (expr_marks e on)) (significant true on)
     expression_back {d = d} (g.or o l kind r) d' le b on ends stop =
-        g.or (lower d d' _ _ le o) (disjunct_back l (d' + 1) (omega arith) b _ (ends_before _ _ _ refl) (record { and = λ e. cc; comparison = record { compared = record { equality = λ e. cc; inequality = λ e. cc; regex_match = λ e. cc; regex_mismatch = λ e. cc }; conjunct = record { apart = refl } } })) refl
+        g.or (fewer d d' _ _ le o) (disjunct_back l (d' + 1) (omega arith) b _ (ends_before _ _ _ refl) (record { and = λ e. cc; comparison = record { compared = record { equality = λ e. cc; inequality = λ e. cc; regex_match = λ e. cc; regex_mismatch = λ e. cc }; conjunct = record { apart = refl } } })) refl
         (expression_back r (d' + 1) (omega arith) false on ends stop)
-    expression_back {d = d} (g.disjunct o l next) d' le b on ends stop = g.disjunct (lower d d' _ _ le o) (disjunct_back l (d' + 1) (omega arith) b on ends stop.disjunct) stop.or
+    expression_back {d = d} (g.disjunct o l next) d' le b on ends stop = g.disjunct (fewer d d' _ _ le o) (disjunct_back l (d' + 1) (omega arith) b on ends stop.disjunct) stop.or
 
     disjunct_back : {condition : Bool} {d : ℕ} {e : canon.Value} {fs : Shown} {ts rest : Tokens} → Disjunct lexeme nothing Open condition d e fs ts rest → (d' : ℕ) → d' ≤ d → (b : Bool) (on : List Mark) → EndsIn (tail e) (significant true on) → StopD (significant true on)
         → Disjunct lexeme nothing Open' condition d' e fs (significant b (expr_marks e on)) (significant true on)
@@ -289,11 +298,11 @@ module _ (Open Open' : ℕ → Option SignificantToken → Type 0) (lower : (d d
     conjunct_back (g.conditional i c) d' le b on ends stop = put_if c b on (conditional_back c (if_token b) d' le on ends)
     conjunct_back (g.root kind r) d' le b on ends stop = g.root refl (conjunct_back r d' le false on ends stop)
     conjunct_back (g.join next l kind r) d' le b on ends stop =
-        g.join (word_head (codes "if") (value_head Open l b _) next) (value_back l d' le b _ (value_before _ _ _ (λ e. cc)) refl) refl (conjunct_back r d' le false on ends stop)
+        g.join (word_head (codes "if") (value_head Open l b _) next) (value_back l d' le b _ (value_before _ _ (λ e. cc)) refl) refl (conjunct_back r d' le false on ends stop)
     conjunct_back (g.list_concatenation next l kind r) d' le b on ends stop =
-        g.list_concatenation (word_head (codes "if") (value_head Open l b _) next) (value_back l d' le b _ (value_before _ _ _ (λ e. cc)) refl) refl (conjunct_back r d' le false on ends stop)
+        g.list_concatenation (word_head (codes "if") (value_head Open l b _) next) (value_back l d' le b _ (value_before _ _ (λ e. cc)) refl) refl (conjunct_back r d' le false on ends stop)
     conjunct_back (g.concatenation next l kind r) d' le b on ends stop =
-        g.concatenation (word_head (codes "if") (value_head Open l b _) next) (value_back l d' le b _ (value_before _ _ _ (λ e. cc)) refl) refl (conjunct_back r d' le false on ends stop)
+        g.concatenation (word_head (codes "if") (value_head Open l b _) next) (value_back l d' le b _ (value_before _ _ (λ e. cc)) refl) refl (conjunct_back r d' le false on ends stop)
     conjunct_back (g.value next v unjoined) d' le b on ends stop =
         let x = value_joined v ends in
         g.value (word_head (codes "if") (value_head Open v b _) next) (value_back v d' le b on x.0 stop.apart) x.1
@@ -347,7 +356,7 @@ module _ (Open Open' : ℕ → Option SignificantToken → Type 0) (lower : (d d
     conjunct_conditional (g.concatenation next l kind r) is d' le on ends = absurd (no_bool (sym is))
     conjunct_conditional (g.value next v unjoined) is d' le on ends = absurd (value_no_conditional v is)
 
-    value_back : {d : ℕ} {e : canon.Value} {fs : Shown} {ts rest : Tokens} → Value lexeme nothing Open d e fs ts rest → (d' : ℕ) → d' ≤ d → (b : Bool) (on : List Mark) → ValueEndsIn (tail e) (significant true on) → glued_string (significant true on) ≡ false
+    pub value_back : {d : ℕ} {e : canon.Value} {fs : Shown} {ts rest : Tokens} → Value lexeme nothing Open d e fs ts rest → (d' : ℕ) → d' ≤ d → (b : Bool) (on : List Mark) → ValueEndsIn (tail e) (significant true on) → glued_string (significant true on) ≡ false
         → Value lexeme nothing Open' d' e fs (significant b (expr_marks e on)) (significant true on)
     value_back (g.not kind v) d' le b on ends apart = g.not refl (value_back v d' le true on ends apart)
     value_back (g.literal kind) d' le b on ends apart = g.literal refl

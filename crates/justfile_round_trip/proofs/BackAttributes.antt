@@ -1,6 +1,5 @@
 -- The tokens of good attributes derive them.
-use Rattle.std.proofs.Common.{◌≡◌, ℕ, Bool, true, false, List, [], ◌∷◌, ◌++◌, refl, sym, ap, ◌∙◌, cond}
-use Rattle.justfile_base.specs.declared.token_kind.TokenKind.{TokenKind}
+use Rattle.std.proofs.Common.{◌≡◌, ℕ, Bool, true, false, List, [], ◌∷◌, ◌++◌, refl, sym, ◌∙◌, cond}
 use Rattle.justfile_base.specs.declared.token_kind.TokenKind.TheVariants as kinds
 use Rattle.justfile_model.specs.AttributeKinds.{name_takes_keys}
 use Rattle.justfile_model.specs.AttributeLines as g
@@ -10,11 +9,12 @@ use Rattle.justfile_model.specs.SignificantTokens.{SignificantToken, is_whitespa
 use Rattle.justfile_model.specs.Tree as tree
 use Rattle.justfile_model.specs.Tree.{lexeme, nothing}
 use Rattle.justfile_round_trip.proofs.Reading.{Mark, placed}
+use Rattle.justfile_round_trip.proofs.Back.{none_but_closing}
 use Rattle.justfile_round_trip.proofs.Canon as canon
 use Rattle.justfile_round_trip.proofs.Canon.{Shown, word, paren_right, newline, expr_marks}
 use Rattle.justfile_round_trip.proofs.CanonAttributes.{Argument, Written, ShapeEntry, bracket_right, argument_marks, other_arguments_marks, parenthesized_marks, attributes_marks, entries_marks}
 use Rattle.justfile_model.specs.Rewritten.{rewritten_entries}
-use Rattle.justfile_round_trip.proofs.Good.{significant, closes, ends_value}
+use Rattle.justfile_round_trip.proofs.Good.{significant, ends_value}
 use Rattle.justfile_round_trip.proofs.GoodAttributes.{is_literal, GoodArgument, GoodArguments, AllGoodWritten, GoodEntries}
 
 -- ---- what comes first, and what follows
@@ -33,15 +33,10 @@ begins glued (t ∷ ts) = by (is_whitespace t.kind) (begins false ts)
     by true more = more
     by false more = begun
 
--- a token that closes is no other
-other : (kind : TokenKind) (ts : Tokens) → closes kind ≡ false → ends_value ts ≡ true → NotNext kind ts
-other kind [] n h = tt
-other kind (t ∷ ts) n h = λ e. let c : true ≡ false = sym h ∙ ap closes e ∙ n in cc
-
 -- a name before a token that closes is a key
 is_key : (t : SignificantToken) (ts : Tokens) → IsKind kinds.Identifier t → ends_value ts ≡ true → IsKey (t ∷ ts)
 is_key t [] kind h = kind
-is_key t (u ∷ ts) kind h = (kind, λ m. other kinds.StringToken (u ∷ ts) refl h m.is_string)
+is_key t (u ∷ ts) kind h = (kind, λ m. none_but_closing kinds.StringToken (u ∷ ts) refl h m.is_string)
 
 string_no_key : (t : SignificantToken) (ts : Tokens) → IsKind kinds.StringToken t → IsKey (t ∷ ts) → ⊥
 string_no_key t [] kind k = let bad : kinds.StringToken ≡ kinds.Identifier = sym kind ∙ k in cc
@@ -68,7 +63,7 @@ module _ (limit : ℕ) where
       → (fs : Shown) × ArgumentOf lexeme nothing (Under limit) keys a fs (significant glued (argument_marks a on)) (significant true on)
   argument_back keys (tree.Positional first value) glued on h stop =
       (h.0.features, positional keys (begins glued (expr_marks value on)) (λ k. literal_no_key value glued on (h.1 k)) (h.0.derives.derives glued on stop))
-  argument_back true (tree.Bare key) glued on h stop = ([], g.bare (is_key _ _ refl stop) (other kinds.Equals _ refl stop))
+  argument_back true (tree.Bare key) glued on h stop = ([], g.bare (is_key _ _ refl stop) (none_but_closing kinds.Equals _ refl stop))
   argument_back true (tree.Keyed key value) glued on h stop = (h.2.features, g.keyed refl refl (h.2.derives.derives true on stop))
   argument_back false (tree.Bare key) glued on h stop = let bad = h.1 in cc
   argument_back false (tree.Keyed key value) glued on h stop = let bad = h.1 in cc

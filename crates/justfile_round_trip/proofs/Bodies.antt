@@ -7,11 +7,11 @@ use Rattle.justfile_model.specs.Bytes.{blank, white, line_feed, blank_len, close
 use Rattle.justfile_model.specs.Next.{begins_blank_line}
 use Rattle.justfile_model.specs.Tree.{Text, Interpolation, Line}
 use Rattle.justfile_round_trip.proofs.Reading.{Mark, mark, LexesTo}
-use Rattle.justfile_round_trip.proofs.Inline.{head_is, amid, IsName, space_step}
-use Rattle.justfile_round_trip.proofs.Lines.{at_item, item_name, line_end}
-use Rattle.justfile_round_trip.proofs.BodyLines.{at_line, in_line, IsLevel, colon_step, text_step, body_line_end, interpolation_start, interpolation_end, empty_step, indent_step, level_step, white_blanks, closes_over, closes_feed, closes_nothing, ends_body, dedent_step}
+use Rattle.justfile_round_trip.proofs.Inline.{head_is, amid, space_step}
+use Rattle.justfile_round_trip.proofs.Lines.{at_item, line_end}
+use Rattle.justfile_round_trip.proofs.BodyLines.{at_line, in_line, IsLevel, text_step, body_line_end, interpolation_start, interpolation_end, empty_step, indent_step, level_step, white_blanks, closes_over, closes_feed, closes_nothing, ends_body, dedent_step}
 use Rattle.justfile_round_trip.proofs.RawTexts.{NoFeed, raw_no_feed, not_blank_line, text_no_end}
-use Rattle.justfile_round_trip.proofs.Canon.{Value, Fragment, Row, newline, colon, fragment_on, fragments_on, lines_on, body_on, body_on_is, fragment_marks, fragments_marks, lines_marks, body_marks}
+use Rattle.justfile_round_trip.proofs.Canon.{Value, Fragment, Row, newline, fragment_on, fragments_on, lines_on, body_on, body_on_is, fragment_marks, fragments_marks, lines_marks, body_marks}
 use Rattle.justfile_round_trip.proofs.Good.{GoodExpression, GoodFragments, IsShown, IsFirst, GoodLines, GoodBody, pale, pale_line, all_pale, pale_after}
 use Rattle.justfile_round_trip.proofs.LexesValues.{value_no_blank, lex_value}
 
@@ -30,11 +30,6 @@ over_text (x ∷ xs) rest each = go (white (class_of x)) (line_feed (class_of x)
 both : (a b c : Bool) → cond a (cond b c false) false ≡ cond (a && b) c false
 both true b c = refl
 both false b c = refl
-
--- and without one, in front of its line end or of a blank before a comment
-pub lex_header : (c : Bool) (n : List ℕ) (x : ℕ) (more : List ℕ) (ts : List Mark) → IsName n → eqb x 61 ≡ false → eqb x 58 ≡ false → LexesTo (amid [] [] true None false) (x ∷ more) ts → LexesTo (at_item c) (n ++ (58 ∷ x ∷ more)) (mark kinds.Identifier n ∷ colon ∷ ts)
-unfolding class_of
-lex_header c n x more ts name equals colon k = item_name c n name refl (colon_step x equals colon k)
 
 module _ (limit : ℕ) where
   -- ---- inside a line
@@ -130,10 +125,3 @@ module _ (limit : ℕ) where
       → LexesTo (at_item false) more ts → LexesTo (amid [] [] true None f) (body_on ind ls (10 ∷ more)) (newline ∷ body_marks ind ls ts)
   lex_after_header f ind ls more ts i good following h k =
       subst (λ x. LexesTo (amid [] [] true None f) x (newline ∷ body_marks ind ls ts)) (sym (body_on_is ind ls more)) (line_end true f (lex_body ind ls more ts i good following h k))
-
-  -- a recipe without parameters, with a body
-  pub lex_recipe : (c : Bool) (n ind : List ℕ) (ls : List Row) (more : List ℕ) (ts : List Mark) → IsName n → IsLevel ind → GoodBody limit ls → ends_body more ≡ true → (pale_after ls ≡ true → more ≡ [])
-      → LexesTo (at_item false) more ts → LexesTo (at_item c) (n ++ (58 ∷ body_on ind ls (10 ∷ more))) (mark kinds.Identifier n ∷ colon ∷ newline ∷ body_marks ind ls ts)
-  unfolding class_of
-  lex_recipe c n ind [] more ts name i good following h k = absurd good
-  lex_recipe c n ind (l ∷ ls) more ts name i good following h k = item_name c n name refl (colon_step 10 refl refl (lex_after_header false ind (l ∷ ls) more ts i good following h k))

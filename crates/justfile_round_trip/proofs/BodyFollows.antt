@@ -9,6 +9,7 @@ use Rattle.justfile_model.specs.Tree as tree
 use Rattle.justfile_model.specs.Tree.{Shape}
 use Rattle.justfile_round_trip.proofs.Canon.{ShapeItem}
 use Rattle.justfile_round_trip.proofs.CanonAttributes.{ShapeEntry, entries_on}
+use Rattle.justfile_round_trip.proofs.CanonHeaders.{at_on}
 use Rattle.justfile_round_trip.proofs.CanonItems.{text_on}
 use Rattle.justfile_round_trip.proofs.GoodItems as good
 use Rattle.justfile_round_trip.proofs.GoodItems.{AtStart, blank_only, follows_body}
@@ -73,6 +74,18 @@ construct_follows [] [] more h = absurd h
 construct_follows [] (x ∷ xs) more h = ends_at_item x _ (ap white h.0)
 construct_follows (e ∷ entries) name more h = ends_at_item 91 _ refl
 
+-- so does one that begins with a header
+header_text : (entries : List ShapeEntry) (quiet : Bool) (name more : List ℕ) → IsName name → is_empty (entries_on entries (at_on quiet (name ++ more))) ≡ false
+header_text [] true name more h = refl
+header_text [] false name more h = construct_text [] name more h
+header_text (e ∷ entries) quiet name more h = refl
+
+header_follows : (entries : List ShapeEntry) (quiet : Bool) (name more : List ℕ) → IsName name → ends_body (entries_on entries (at_on quiet (name ++ more))) ≡ true
+unfolding class_of
+header_follows [] true name more h = ends_at_item 64 _ refl
+header_follows [] false name more h = construct_follows [] name more h
+header_follows (e ∷ entries) quiet name more h = ends_at_item 91 _ refl
+
 module _ (limit : ℕ) (ind : List ℕ) where
   -- the text of an item is not empty
   some_text : (j : ShapeItem) (items : Shape) → AtStart limit (j ∷ items) → is_empty (text_on ind (j ∷ items)) ≡ false
@@ -80,8 +93,8 @@ module _ (limit : ℕ) (ind : List ℕ) where
   some_text _ items (good.comment {t = []} h more) = absurd (no_hash h.comment.first)
   some_text _ items (good.comment {t = x ∷ xs} h more) = refl
   some_text _ items (good.assignment {entries = entries} {name = name} attributes named value more) = construct_text entries name _ named.is_name
-  some_text _ items (good.header {entries = entries} {name = name} attributes named more) = construct_text entries name _ named.is_name
-  some_text _ items (good.recipe {entries = entries} {name = name} attributes h more) = construct_text entries name _ h.named.is_name
+  some_text _ items (good.header {entries = entries} {h = h} attributes head more) = header_text entries h.quiet h.name _ head.lexes.is_name
+  some_text _ items (good.recipe {entries = entries} {h = h} attributes head body more) = header_text entries h.quiet h.name _ head.lexes.is_name
 
   -- the printed text of these items may stand after a body
   pub text_follows : {items : Shape} → AtStart limit items → follows_body items ≡ true → ends_body (text_on ind items) ≡ true
@@ -91,5 +104,5 @@ module _ (limit : ℕ) (ind : List ℕ) where
   text_follows (good.comment {t = []} c more) h = absurd (no_hash c.comment.first)
   text_follows (good.comment {t = x ∷ xs} c more) h = ends_at_item x _ (hash_white x c.comment.first)
   text_follows (good.assignment {entries = entries} {name = name} attributes named value more) h = construct_follows entries name _ named.is_name
-  text_follows (good.header {entries = entries} {name = name} attributes named more) h = construct_follows entries name _ named.is_name
-  text_follows (good.recipe {entries = entries} {name = name} attributes r more) h = construct_follows entries name _ r.named.is_name
+  text_follows (good.header {entries = entries} {h = h} attributes head more) f = header_follows entries h.quiet h.name _ head.lexes.is_name
+  text_follows (good.recipe {entries = entries} {h = h} attributes head body more) f = header_follows entries h.quiet h.name _ head.lexes.is_name

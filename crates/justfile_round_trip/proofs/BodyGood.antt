@@ -115,7 +115,7 @@ module _ (P : Outline → Type 0) (keep : (k : TokenKind) (l : List ℕ) (s : Ou
   walk_past : (limit : ℕ) {condition : Bool} {depth : ℕ} {e : Value} {ns : Shown} {tokens rest : Tokens} → Expression lexeme nothing (Under limit) condition depth e ns tokens rest → Walked P tokens → Walked P rest
   walk_past limit = walk lexeme nothing (Under limit) (Walked P) quiet_walk
 
-quiet_stays : (k : TokenKind) → quiet k ≡ true → shifts k ≡ false
+pub quiet_stays : (k : TokenKind) → quiet k ≡ true → shifts k ≡ false
 quiet_stays kinds.Indent h = cc
 quiet_stays kinds.Dedent h = cc
 quiet_stays kinds.InterpolationStart h = cc

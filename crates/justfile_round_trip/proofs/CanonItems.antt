@@ -1,31 +1,36 @@
 -- What the printer means by items: their printed text before more, and their tokens before more.
-use Rattle.std.proofs.Common.{◌≡◌, ℕ, List, [], ◌∷◌, ◌++◌, refl, ap, ◌∙◌, append_assoc, codes}
-use Rattle.std.specs.List.{flat_map}
+use Rattle.std.proofs.Common.{◌≡◌, ℕ, List, [], ◌∷◌, ◌++◌, None, refl, ap, ◌∙◌, append_assoc, codes}
 use Rattle.justfile_base.specs.declared.token_kind.TokenKind.TheVariants as kinds
-use Rattle.justfile_model.specs.Tree.{Header, AssignmentParts, Assignment, Recipe, Comment, Newline, Construct, Shape, plain_assignment, plain_recipe}
-use Rattle.justfile_model.specs.Printing.{fixed_text, expr_text, body_text, if_true, parameter_text, dependency_text, subsequents_text, header_text, assignment_text, content_doc, entries_text, content_text, item_text, item_end, text}
+use Rattle.justfile_model.specs.Docs.{doc_of}
+use Rattle.justfile_model.specs.Tree.{AssignmentParts, Assignment, Recipe, Comment, Newline, Construct, Shape, bare_recipe, plain_assignment}
+use Rattle.justfile_model.specs.Printing.{fixed_text, expr_text, body_text, doc_line, if_some, if_true, header_text, assignment_text, entries_text, content_text, item_text, item_end, text}
+use Rattle.justfile_model.proofs.DocsText.{none_shown}
 use Rattle.justfile_round_trip.proofs.Reading.{Mark, mark}
-use Rattle.justfile_round_trip.proofs.Canon.{Value, Row, ShapeContent, ShapeItem, space, newline, colon, expr_on, expr_marks, body_on, body_marks, then, expr_is, body_is}
+use Rattle.justfile_round_trip.proofs.Canon.{Value, Row, ShapeContent, ShapeItem, space, newline, expr_on, expr_marks, body_on, body_marks, then, expr_is, body_is}
 use Rattle.justfile_round_trip.proofs.CanonAttributes.{ShapeEntry, entries_on, entries_marks, entries_is}
+use Rattle.justfile_round_trip.proofs.CanonHeaders.{ShapeHeader, header_on, header_marks, header_is}
 
 -- `name := value`, after attributes
 abbrev pub assignment_item : List ShapeEntry → List ℕ → Value → ShapeItem
 assignment_item entries name value = Construct entries (Assignment (plain_assignment name value))
 
--- a recipe whose header is a name, after attributes
-abbrev pub recipe_item : List ShapeEntry → List ℕ → List Row → ShapeItem
-recipe_item entries name body = Construct entries (Recipe (plain_recipe name body))
+-- a recipe without a doc, after attributes
+abbrev pub recipe_item : List ShapeEntry → ShapeHeader → List Row → ShapeItem
+recipe_item entries header body = Construct entries (Recipe (bare_recipe header body))
+
+-- the item has no doc
+abbrev pub NoDoc : ShapeItem → Type 0
+NoDoc Newline = Unit {0}
+NoDoc (Comment t) = Unit {0}
+NoDoc (Construct entries content) = doc_of content ≡ None
+
+abbrev pub NoDocs : Shape → Type 0
+NoDocs [] = Unit {0}
+NoDocs (i ∷ items) = NoDoc i × NoDocs items
 
 abbrev pub assignment_on : AssignmentParts (List ℕ) (Unit {0}) → List ℕ → List ℕ
 assignment_on a more =
     if_true a.eager (fixed_text (codes "eager ")) ++ (if_true a.export (fixed_text (codes "export ")) ++ (a.name ++ (32 ∷ 58 ∷ 61 ∷ 32 ∷ expr_on a.value more)))
-
-abbrev pub header_on : Header (List ℕ) (Unit {0}) (Unit {0}) → List ℕ → List ℕ
-header_on h more =
-    if_true h.quiet (fixed_text (codes "@"))
-    ++ (h.name
-    ++ (flat_map (λ p. fixed_text (codes " ") ++ parameter_text p) h.parameters
-    ++ (58 ∷ (flat_map (λ d. fixed_text (codes " ") ++ dependency_text d) h.priors ++ (subsequents_text h.subsequents ++ more)))))
 
 abbrev pub content_on : List ℕ → ShapeContent → List ℕ → List ℕ
 content_on ind (Assignment parts) more = assignment_on parts more
@@ -34,12 +39,12 @@ content_on ind (Recipe parts) more = header_on parts.header (body_on ind parts.b
 abbrev pub item_on : List ℕ → ShapeItem → List ℕ → List ℕ
 item_on ind Newline more = more
 item_on ind (Comment t) more = t ++ more
-item_on ind (Construct entries content) more = content_doc content ++ entries_on entries (content_on ind content more)
+item_on ind (Construct entries content) more = entries_on entries (content_on ind content more)
 
--- Of a recipe the header. The contents that are good so far are plain: `name := value`, or a recipe whose header is a name.
+-- Of a recipe the header. The assignments that are good so far are plain: `name := value`.
 abbrev pub content_marks : ShapeContent → List Mark → List Mark
 content_marks (Assignment parts) ts = mark kinds.Identifier parts.name ∷ space ∷ mark kinds.ColonEquals (58 ∷ 61 ∷ []) ∷ space ∷ expr_marks parts.value ts
-content_marks (Recipe parts) ts = mark kinds.Identifier parts.header.name ∷ colon ∷ ts
+content_marks (Recipe parts) ts = header_marks parts.header ts
 
 abbrev pub item_marks : ShapeItem → List Mark → List Mark
 item_marks Newline ts = ts
@@ -89,26 +94,16 @@ assignment_is a more =
     then (((eager ++ export) ++ a.name) ++ codes " := ") (expr_text a.value) more (expr_is a.value more)
     (then ((eager ++ export) ++ a.name) (codes " := ") _ refl (then (eager ++ export) a.name _ refl (then eager export _ refl refl)))
 
-header_is : (h : Header (List ℕ) (Unit {0}) (Unit {0})) (more : List ℕ) → header_text h ++ more ≡ header_on h more
-unfolding fixed_text
-header_is h more =
-    let named = if_true h.quiet (codes "@") ++ h.name in
-    let parameters = named ++ flat_map (λ p. codes " " ++ parameter_text p) h.parameters in
-    let priors = flat_map (λ d. codes " " ++ dependency_text d) h.priors in
-    then ((parameters ++ codes ":") ++ priors) (subsequents_text h.subsequents) more refl
-    (then (parameters ++ codes ":") priors _ refl
-    (then parameters (codes ":") _ refl (then named _ _ refl (then (if_true h.quiet (codes "@")) h.name _ refl refl))))
-
 content_is : (ind : List ℕ) (c : ShapeContent) (more : List ℕ) → content_text c ind ++ more ≡ content_on ind c more
 content_is ind (Assignment parts) more = assignment_is parts more
 content_is ind (Recipe parts) more = then (header_text parts.header) (body_text ind parts.body) more (body_is ind parts.body more) (header_is parts.header _)
 
-item_is : (ind : List ℕ) (i : ShapeItem) (more : List ℕ) → item_text i ind ++ more ≡ item_on ind i more
-item_is ind Newline more = refl
-item_is ind (Comment t) more = refl
-item_is ind (Construct entries content) more =
-    then (content_doc content ++ entries_text entries) (content_text content ind) more (content_is ind content more)
-    (then (content_doc content) (entries_text entries) _ (entries_is entries _) refl)
+item_is : (ind : List ℕ) (i : ShapeItem) (more : List ℕ) → NoDoc i → item_text i ind ++ more ≡ item_on ind i more
+item_is ind Newline more h = refl
+item_is ind (Comment t) more h = refl
+item_is ind (Construct entries content) more h =
+    ap (λ doc. ((if_some doc_line doc ++ entries_text entries) ++ content_text content ind) ++ more) (none_shown entries content h)
+    ∙ then (entries_text entries) (content_text content ind) more (content_is ind content more) (entries_is entries _)
 
 end_is : (i : ShapeItem) (items : Shape) (more : List ℕ) → item_end i items ++ more ≡ end_on i items more
 unfolding fixed_text
@@ -120,9 +115,9 @@ end_is (Construct entries content) [] more = refl
 end_is (Construct entries content) (Newline ∷ items) more = refl
 end_is (Construct entries content) (j ∷ items) more = refl
 
-pub text_is : (items : Shape) (indentation : List ℕ) → text items indentation ≡ text_on indentation items
-text_is [] indentation = refl
-text_is (i ∷ items) indentation =
+pub text_is : (items : Shape) (indentation : List ℕ) → NoDocs items → text items indentation ≡ text_on indentation items
+text_is [] indentation h = refl
+text_is (i ∷ items) indentation h =
     append_assoc (item_text i indentation) (item_end i items) (text items indentation)
-    ∙ item_is indentation i (item_end i items ++ text items indentation)
-    ∙ ap (item_on indentation i) (end_is i items (text items indentation) ∙ ap (end_on i items) (text_is items indentation))
+    ∙ item_is indentation i (item_end i items ++ text items indentation) h.0
+    ∙ ap (item_on indentation i) (end_is i items (text items indentation) ∙ ap (end_on i items) (text_is items indentation h.1))

@@ -1,30 +1,39 @@
 -- Each feature is noted as often in what is printed of a shape as in what was written.
-use Rattle.std.proofs.Common.{◌≡◌, ℕ, ◌+◌, false, List, [], ◌∷◌, ◌++◌, Some, refl, sym, ap, ◌∙◌, arith}
+use Rattle.std.proofs.Common.{◌≡◌, ℕ, ◌+◌, false, List, [], ◌∷◌, ◌++◌, Option, Some, refl, sym, ap, ◌∙◌, arith}
 use Rattle.std.specs.Prelude.{if◌then◌else◌}
 use denote.Enum.Bare.{sameb}
-use Rattle.justfile_model.specs.AttributeRules.{attributes_broken, construct_broken}
+use Rattle.justfile_model.specs.AttributeRules.{attributes_broken, of_some}
+use Rattle.justfile_model.specs.ConstructRules.{construct_broken, form_broken}
+use Rattle.justfile_model.specs.Docs.{Before, documented, redocumented}
 use Rattle.justfile_model.specs.contracts.list_feature.ListFeature.{the_type}
 use Rattle.justfile_model.specs.declared.list_feature.ListFeature.{ListFeature}
-use Rattle.justfile_model.specs.Features.{Noted}
-use Rattle.justfile_model.specs.Files.{with_entries, ordered_item, ordered, item_broken, broken}
+use Rattle.justfile_model.specs.Features.{ConstructFeatures, Noted}
+use Rattle.justfile_model.specs.Files.{all_features, broken, construct_features, item_broken, ordered_item, says_doc, undocumented}
+use Rattle.justfile_model.specs.Files as files
 use Rattle.justfile_model.specs.Literals.{Expansions}
 use Rattle.justfile_model.specs.Meaning.{entries_of}
-use Rattle.justfile_model.specs.Rewritten.{rewritten_entries}
+use Rattle.justfile_model.specs.NormalShape.{after_newline, normal, normal_rest}
+use Rattle.justfile_model.specs.Rewritten.{docs_written, rewritten_entries}
 use Rattle.justfile_model.specs.Tree as tree
-use Rattle.justfile_model.specs.Tree.{Construct, Shape, WrittenShape, starless}
+use Rattle.justfile_model.specs.Tree.{Construct, Shape, WrittenShape}
 use Rattle.justfile_model.proofs.Binds.{some_back, nothing_in}
+use Rattle.justfile_model.proofs.DocsKept.{CountsConstructs, docs_written_counts, documented_counts}
 use Rattle.justfile_model.proofs.Ordered.{construct_meant, meanings_of}
 use Rattle.justfile_model.proofs.RewrittenEntries.{sees, entries_again, attributes_again}
-use Rattle.justfile_model.proofs.RewrittenItems.{rewritten_item, content_starless}
+use Rattle.justfile_model.proofs.RewrittenItems.{content_starless}
 use Rattle.justfile_round_trip.specs.RoundTrip.{times}
 use Rattle.justfile_round_trip.proofs.Canon as canon
-use Rattle.justfile_round_trip.proofs.Canon.{ShapeContent, ShapeItem}
+use Rattle.justfile_round_trip.proofs.Canon.{ShapeContent, ShapeItem, Shown}
 use Rattle.justfile_round_trip.proofs.CanonAttributes.{Argument, Written, ShapeEntry}
 use Rattle.justfile_round_trip.proofs.CountedAttributes.{arguments_weight, written_weight, same_weight}
 use Rattle.justfile_round_trip.proofs.Determined.{value_features}
 use Rattle.justfile_round_trip.proofs.DeterminedAttributes.{arguments_features, written_features, entries_features}
-use Rattle.justfile_round_trip.proofs.DeterminedItems.{content_features, item_features, items_features, shape_features}
+use Rattle.justfile_round_trip.proofs.DeterminedItems.{content_features, items_features}
 use Rattle.justfile_round_trip.proofs.Means.{ShapeWritten}
+
+-- what attributes note at the name of a recipe
+abbrev noted_at_name : ShapeContent → List ShapeEntry → Shown
+noted_at_name = files.entries_features
 
 module _ (feature : ListFeature) where
   -- in two rows of features
@@ -64,31 +73,86 @@ module _ (feature : ListFeature) where
         (attributes_again expander ws entries means unbroken)
         ∙ sym (written_times (rewritten_entries entries))
 
-    construct_times : (ws : List Written) (content : ShapeContent) (x : ShapeItem) → with_entries content (entries_of (sees expander) ws) ≡ Some x
+    -- how often it is noted in a construct by what its attributes mean
+    abbrev content_weight : List ShapeEntry → ShapeContent → ℕ
+    content_weight entries content = times feature (entries_features entries) + times feature (noted_at_name content entries) + times feature (content_features content)
+
+    -- in the constructs of a shape, each as it is printed
+    abbrev pub shape_weight : Shape → ℕ
+    shape_weight [] = 0
+    shape_weight (tree.Newline ∷ s) = shape_weight s
+    shape_weight (tree.Comment t ∷ s) = shape_weight s
+    shape_weight (Construct entries content ∷ s) = content_weight entries content + shape_weight s
+
+    construct_times : (ws : List Written) (content : ShapeContent) (entries : List ShapeEntry) → entries_of (sees expander) ws ≡ Some entries
         → construct_broken (sees expander) ws content ≡ []
-        → times feature (item_features (Construct ws content)) ≡ times feature (item_features (rewritten_item x))
-    construct_times ws content x h unbroken =
+        → times feature (construct_features (sees expander) ws content (record { attributes = written_features ws; content = content_features content })) ≡ content_weight entries content
+    construct_times ws content entries means unbroken =
+        let n = nothing_in (attributes_broken (sees expander) ws) _ (nothing_in _ (form_broken content) unbroken).0 in
+        let noted = noted_at_name content entries in
+        ap (λ o. times feature (written_features ws ++ of_some (noted_at_name content) o ++ content_features content)) means
+        ∙ times_joined (written_features ws ++ noted) (content_features content)
+        ∙ ap (λ x. x + times feature (content_features content)) (times_joined (written_features ws) noted)
+        ∙ ap (λ x. x + times feature noted + times feature (content_features content)) (attributes_times ws entries means n.0)
+
+    item_times : (i : ShapeWritten) (items : WrittenShape) (x : ShapeItem) (others : Shape) → ordered_item (sees expander) i ≡ Some x
+        → item_broken (sees expander) i ≡ []
+        → times feature (all_features (sees expander) items (items_features items)) ≡ shape_weight others
+        → times feature (all_features (sees expander) (i ∷ items) (items_features (i ∷ items))) ≡ shape_weight (x ∷ others)
+    item_times tree.Newline items x others h unbroken more = more ∙ ap (λ (y : ShapeItem). shape_weight (y ∷ others)) (some_back tree.Newline x h)
+    item_times (tree.Comment t) items x others h unbroken more = more ∙ ap (λ (y : ShapeItem). shape_weight (y ∷ others)) (some_back (tree.Comment t) x h)
+    item_times (Construct ws content) items x others h unbroken more =
         let m = construct_meant (sees expander) ws content x h in
-        let n = nothing_in (attributes_broken (sees expander) ws) _ unbroken in
-        times_joined (written_features ws) (content_features content)
-        ∙ (λ i. attributes_times ws m.entries m.means n.0 i + times feature (content_features (sym (content_starless content) i)))
-        ∙ sym (times_joined (entries_features m.entries) (content_features (starless content)))
-        ∙ ap (λ (x : ShapeItem). times feature (item_features (rewritten_item x))) (sym m.item_is)
+        let f : ConstructFeatures (Unit {0}) = record { attributes = written_features ws; content = content_features content } in
+        times_joined (construct_features (sees expander) ws content f) (all_features (sees expander) items (items_features items))
+        ∙ (λ i. construct_times ws content m.entries m.means unbroken i + more i)
+        ∙ ap (λ (y : ShapeItem). shape_weight (y ∷ others)) (sym (m.item_is ∙ ap (Construct m.entries) (content_starless content)))
 
-    item_times : (i : ShapeWritten) (x : ShapeItem) → ordered_item (sees expander) i ≡ Some x → item_broken (sees expander) i ≡ []
-        → times feature (item_features i) ≡ times feature (item_features (rewritten_item x))
-    item_times tree.Newline x h unbroken = ap (λ (x : ShapeItem). times feature (item_features (rewritten_item x))) (some_back tree.Newline x h)
-    item_times (tree.Comment t) x h unbroken = ap (λ (x : ShapeItem). times feature (item_features (rewritten_item x))) (some_back (tree.Comment t) x h)
-    item_times (Construct ws content) x h unbroken = construct_times ws content x h unbroken
-
-    -- what a written shape means that breaks no rule has each feature as often
-    pub ordered_times : (items : WrittenShape) (all : Shape) → ordered (sees expander) items ≡ Some all → broken (sees expander) items ≡ []
-        → times feature (items_features items) ≡ times feature (shape_features all)
-    ordered_times [] all h unbroken = ap (λ s. times feature (shape_features s)) (some_back [] all h)
-    ordered_times (i ∷ items) all h unbroken =
+    -- what is written has each feature as often as what it means, if that breaks no rule
+    pub undocumented_times : (items : WrittenShape) (all : Shape) → undocumented (sees expander) items ≡ Some all → broken (sees expander) items ≡ []
+        → times feature (all_features (sees expander) items (items_features items)) ≡ shape_weight all
+    undocumented_times [] all h unbroken = ap shape_weight (some_back [] all h)
+    undocumented_times (i ∷ items) all h unbroken =
         let m = meanings_of (sees expander) i items all h in
         let n = nothing_in (item_broken (sees expander) i) (broken (sees expander) items) unbroken in
-        times_joined (item_features i) (items_features items)
-        ∙ (λ j. item_times i m.first m.first_is n.0 j + ordered_times items m.others m.others_are n.1 j)
-        ∙ sym (times_joined (item_features (rewritten_item m.first)) (shape_features m.others))
-        ∙ ap (λ s. times feature (shape_features s)) (sym m.all_are)
+        item_times i items m.first m.others m.first_is n.0 (undocumented_times items m.others m.others_are n.1) ∙ ap shape_weight (sym m.all_are)
+
+    -- ---- docs and line ends have no part in it
+
+    redocumented_weight : (entries : List ShapeEntry) (content : ShapeContent) (doc : Option (List ℕ)) → content_weight entries (redocumented doc content) ≡ content_weight entries content
+    redocumented_weight entries (tree.Assignment parts) doc = refl
+    redocumented_weight entries (tree.Recipe parts) doc = refl
+
+    weight_counts : CountsConstructs shape_weight
+    weight_counts = record {
+      more = λ entries content n. content_weight entries content + n;
+      newline = λ s. refl;
+      comment = λ t s. refl;
+      construct = λ entries content s. refl;
+      doc_apart = λ entries content doc n. ap (λ m. m + n) (redocumented_weight entries content doc);
+    }
+
+    pub documented_weight : (before : Before) (s : Shape) → shape_weight (documented says_doc before s) ≡ shape_weight s
+    documented_weight = documented_counts shape_weight weight_counts says_doc
+
+    pub written_docs_weight : (s : Shape) → shape_weight (docs_written s) ≡ shape_weight s
+    written_docs_weight = docs_written_counts shape_weight weight_counts
+
+    newline_weight : (s : Shape) → shape_weight (after_newline s) ≡ shape_weight s
+    newline_weight [] = refl
+    newline_weight (tree.Newline ∷ []) = refl
+    newline_weight (tree.Newline ∷ tree.Newline ∷ s) = refl
+    newline_weight (tree.Newline ∷ tree.Comment t ∷ s) = refl
+    newline_weight (tree.Newline ∷ Construct entries content ∷ s) = refl
+    newline_weight (tree.Comment t ∷ s) = refl
+    newline_weight (Construct entries content ∷ s) = refl
+
+    rest_weight : (s : Shape) → shape_weight (normal_rest s) ≡ shape_weight s
+    rest_weight [] = refl
+    rest_weight (tree.Newline ∷ s) = newline_weight (normal_rest s) ∙ rest_weight s
+    rest_weight (tree.Comment t ∷ s) = rest_weight s
+    rest_weight (Construct entries content ∷ s) = ap (λ n. content_weight entries content + n) (rest_weight s)
+
+    pub normal_weight : (s : Shape) → shape_weight (normal s) ≡ shape_weight s
+    normal_weight [] = refl
+    normal_weight (i ∷ s) = rest_weight (i ∷ s)

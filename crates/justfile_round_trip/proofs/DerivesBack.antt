@@ -1,27 +1,29 @@
 -- The tokens of a good shape derive it, and its text is UTF-8.
-use Rattle.std.proofs.Common.{◌≡◌, ℕ, Bool, true, false, List, [], ◌∷◌, ◌++◌, refl, sym, subst}
+use Rattle.std.proofs.Common.{◌≡◌, ℕ, Bool, true, false, List, [], ◌∷◌, ◌++◌, map, refl, sym, subst}
 use Rattle.std.specs.Str.{IsUtf8}
 use Rattle.std.proofs.lemmas.Str.{IsUtf8-nil, IsUtf8-append}
 use Rattle.std.proofs.Math.Utf8.{encode}
 use Rattle.justfile_base.specs.declared.token_kind.TokenKind.TheVariants as kinds
 use Rattle.justfile_model.specs.SignificantTokens.{SignificantToken}
 use Rattle.justfile_model.specs.Tree as tree
-use Rattle.justfile_model.specs.Tree.{Shape, Construct, lexeme, nothing, plain_assignment, plain_recipe}
+use Rattle.justfile_model.specs.Tree.{Shape, Construct, bare_recipe, lexeme, nothing, plain_assignment}
 use Rattle.justfile_model.specs.AttributeLines.{AttributeLines}
 use Rattle.justfile_model.specs.Grammar as g
-use Rattle.justfile_model.specs.Expressions.{Under}
+use Rattle.justfile_model.specs.Expressions.{NotNext, Under}
+use Rattle.justfile_model.specs.Features.{ConstructFeatures}
 use Rattle.justfile_model.specs.Files.{keeps_lexemes}
 use Rattle.justfile_model.specs.Grammar.{Items, LineEnd, Block, NotEmpty}
-use Rattle.justfile_model.specs.Rewritten.{rewritten_entries}
-use Rattle.justfile_model.proofs.RewrittenItems.{rewritten}
+use Rattle.justfile_model.specs.Rewritten.{rewritten_entries, rewritten_item}
 use Rattle.justfile_round_trip.proofs.Reading.{Mark, mark}
 use Rattle.justfile_round_trip.proofs.AttributesUtf8.{entries_utf8}
 use Rattle.justfile_round_trip.proofs.BackAttributes.{glued_after, entries_back}
-use Rattle.justfile_round_trip.proofs.Canon.{Shown, Row, ShapeContent, ShapeItem, space, newline, colon, expr_marks, body_marks}
+use Rattle.justfile_round_trip.proofs.Canon.{Shown, Row, ShapeContent, ShapeItem, space, newline, word, expr_marks, body_marks}
 use Rattle.justfile_round_trip.proofs.CanonAttributes.{ShapeEntry, entries_marks}
+use Rattle.justfile_round_trip.proofs.CanonHeaders.{ShapeHeader, at_marks, header_rest_marks, header_marks}
 use Rattle.justfile_round_trip.proofs.CanonItems.{assignment_item, recipe_item, end_on, end_marks, text_on, marks}
-use Rattle.justfile_round_trip.proofs.Good.{significant, ends_value, GoodName, GoodComment, GoodRecipe}
+use Rattle.justfile_round_trip.proofs.Good.{significant, ends_value, GoodComment, EndedBody}
 use Rattle.justfile_round_trip.proofs.GoodAttributes.{GoodEntries}
+use Rattle.justfile_round_trip.proofs.GoodHeaders.{GoodHeader}
 use Rattle.justfile_round_trip.proofs.GoodItems as good
 use Rattle.justfile_round_trip.proofs.GoodItems.{AtStart, ItemRest, AtEnd}
 use Rattle.justfile_round_trip.proofs.BodyLines.{IsLevel}
@@ -33,13 +35,13 @@ use Rattle.justfile_round_trip.proofs.BodyUtf8.{newline_utf8, body_utf8}
 module _ (limit : ℕ) where
   -- what derives, with its features
   abbrev Derived : Shape → List SignificantToken → Type 0
-  Derived items ts = (ns : Shown) × Items keeps_lexemes (Under limit) (rewritten items) ns ts
+  Derived items ts = (ns : List (ConstructFeatures (Unit {0}))) × Items keeps_lexemes (Under limit) (map rewritten_item items) ns ts
 
   abbrev AfterItem : Shape → List SignificantToken → Type 0
-  AfterItem items ts = (ns : Shown) × g.ItemRest keeps_lexemes (Under limit) (rewritten items) ns ts
+  AfterItem items ts = (ns : List (ConstructFeatures (Unit {0}))) × g.ItemRest keeps_lexemes (Under limit) (map rewritten_item items) ns ts
 
   abbrev Ended : Shape → List SignificantToken → Type 0
-  Ended items ts = (ns : Shown) × LineEnd keeps_lexemes (Under limit) (rewritten items) ns ts
+  Ended items ts = (ns : List (ConstructFeatures (Unit {0}))) × LineEnd keeps_lexemes (Under limit) (map rewritten_item items) ns ts
 
   comment_back : (t : List ℕ) (items : Shape) (glued : Bool) (on : List Mark) → GoodComment t → AfterItem items (significant true on) → Derived (tree.Comment t ∷ items) (significant glued (mark kinds.Comment t ∷ on))
   comment_back t items glued on h e = subst (λ x. Derived (tree.Comment x ∷ items) (significant glued (mark kinds.Comment t ∷ on))) h.trimmed (e.0, g.comment refl e.1)
@@ -48,14 +50,14 @@ module _ (limit : ℕ) where
   trailing_back t items on h e = subst (λ x. AfterItem (tree.Comment x ∷ items) (significant true (space ∷ mark kinds.Comment t ∷ on))) h.trimmed (e.0, g.trailing refl e.1)
 
   -- a recipe with a body, up to the Dedent
-  block_back : (ind name : List ℕ) (l : Row) (ls : List Row) (glued : Bool) (on : List Mark) → GoodRecipe limit name (l ∷ ls)
-      → (ns : Shown) × Block keeps_lexemes (Under limit) (tree.Recipe (plain_recipe name (l ∷ ls))) ns (significant glued (mark kinds.Identifier name ∷ colon ∷ newline ∷ body_marks ind (l ∷ ls) on)) (significant true on)
-  block_back ind name (tree.Line n fs) ls glued on h =
+  block_back : (ind : List ℕ) (header : ShapeHeader) (l : Row) (ls : List Row) (glued : Bool) (on : List Mark) → GoodHeader limit header → EndedBody limit (l ∷ ls)
+      → (ns : Shown) × Block keeps_lexemes (Under limit) (tree.Recipe (bare_recipe header (l ∷ ls))) ns (significant glued (header_marks header (newline ∷ body_marks ind (l ∷ ls) on))) (significant true on)
+  block_back ind header (tree.Line n fs) ls glued on h b =
       let body : List Row = tree.Line n fs ∷ ls in
-      let read = body_back limit ind n fs ls on h.good in (
-        read.0,
-        subst (λ x. Block keeps_lexemes (Under limit) (tree.Recipe (plain_recipe name x)) read.0 (significant glued (mark kinds.Identifier name ∷ colon ∷ newline ∷ body_marks ind body on)) (significant true on)) h.ended
-            (g.recipe {lines = body} refl refl (g.at_once refl refl) read.1 (subst NotEmpty (sym h.ended) tt)),
+      let read = body_back limit ind n fs ls on b.good in (
+        h.features ++ read.0,
+        subst (λ x. Block keeps_lexemes (Under limit) (tree.Recipe (bare_recipe header x)) (h.features ++ read.0) (significant glued (header_marks header (newline ∷ body_marks ind body on))) (significant true on)) b.ended
+            (g.recipe {lines = body} (h.derives.derives glued (newline ∷ body_marks ind body on) refl) (g.at_once refl refl) read.1 (subst NotEmpty (sym b.ended) tt)),
       )
 
   -- lines of attributes before a name
@@ -64,6 +66,20 @@ module _ (limit : ℕ) where
       (significant glued (entries_marks entries (mark kinds.Identifier name ∷ on)))
       (significant (glued_after (rewritten_entries entries) glued) (mark kinds.Identifier name ∷ on))
   attributes_before entries name glued on h = entries_back limit entries glued (mark kinds.Identifier name ∷ on) h (λ e. cc)
+
+  -- a header begins with no bracket
+  header_no_bracket : (quiet : Bool) (name : List ℕ) (glued : Bool) (on : List Mark) → NotNext kinds.BracketL (significant glued (at_marks quiet (word name ∷ on)))
+  header_no_bracket true name glued on = λ e. cc
+  header_no_bracket false name glued on = λ e. cc
+
+  -- lines of attributes before a header
+  attributes_before_header : (entries : List ShapeEntry) (header : ShapeHeader) (glued : Bool) (on : List Mark) → GoodEntries limit entries
+      → (ns : Shown) × AttributeLines lexeme nothing (Under limit) (rewritten_entries entries) ns
+      (significant glued (entries_marks entries (header_marks header on)))
+      (significant (glued_after (rewritten_entries entries) glued) (header_marks header on))
+  attributes_before_header entries header glued on h =
+      entries_back limit entries glued (header_marks header on) h
+      (header_no_bracket header.quiet header.name (glued_after (rewritten_entries entries) glued) (header_rest_marks header on))
 
 module _ (limit : ℕ) (ind : List ℕ) where
   -- after a construct on one line nothing goes on with a value
@@ -84,17 +100,19 @@ module _ (limit : ℕ) (ind : List ℕ) where
         let on = end_marks (Construct entries content) items (marks ind items) in
         let a = attributes_before limit entries name glued (space ∷ mark kinds.ColonEquals (58 ∷ 61 ∷ []) ∷ space ∷ expr_marks value on) attributes in
         let r = derive_after entries content more in
-        (a.0 ++ h.features ++ r.0, g.on_line a.1 (g.assignment refl refl (h.derives.derives false on (value_ends entries content more))) r.1)
-    derive_start (good.header {entries = entries} {name = name} {items = items} attributes named more) glued =
-        let content : ShapeContent = tree.Recipe (plain_recipe name []) in
-        let a = attributes_before limit entries name glued (colon ∷ end_marks (Construct entries content) items (marks ind items)) attributes in
+        (record { attributes = a.0; content = h.features } ∷ r.0, g.on_line a.1 (g.assignment refl refl (h.derives.derives false on (value_ends entries content more))) r.1)
+    derive_start (good.header {entries = entries} {h = header} {items = items} attributes h more) glued =
+        let content : ShapeContent = tree.Recipe (bare_recipe header []) in
+        let on = end_marks (Construct entries content) items (marks ind items) in
+        let a = attributes_before_header limit entries header glued on attributes in
         let r = derive_after entries content more in
-        (a.0 ++ [] ++ r.0, g.on_line a.1 (g.header refl refl) r.1)
-    derive_start (good.recipe {entries = entries} {name = name} {l = l} {ls = ls} attributes h (good.body_end {items = items} follows last more)) glued =
-        let a = attributes_before limit entries name glued (colon ∷ newline ∷ body_marks ind (l ∷ ls) (marks ind items)) attributes in
-        let b = block_back limit ind name l ls (glued_after (rewritten_entries entries) glued) (marks ind items) h in
+        (record { attributes = a.0; content = h.features } ∷ r.0,
+        g.on_line a.1 (g.header (h.derives.derives (glued_after (rewritten_entries entries) glued) on (value_ends entries content more))) r.1)
+    derive_start (good.recipe {entries = entries} {h = header} {l = l} {ls = ls} attributes h body (good.body_end {items = items} follows last more)) glued =
+        let a = attributes_before_header limit entries header glued (newline ∷ body_marks ind (l ∷ ls) (marks ind items)) attributes in
+        let b = block_back limit ind header l ls (glued_after (rewritten_entries entries) glued) (marks ind items) h body in
         let r = derive_start more true in
-        (a.0 ++ b.0 ++ r.0, g.block a.1 b.1 r.1)
+        (record { attributes = a.0; content = b.0 } ∷ r.0, g.block a.1 b.1 r.1)
 
     derive_after : (entries : List ShapeEntry) (content : ShapeContent) {items : Shape} → ItemRest limit items
         → AfterItem limit items (significant true (end_marks (Construct entries content) items (marks ind items)))
@@ -111,10 +129,6 @@ space_utf8 : IsUtf8 (32 ∷ [])
 unfolding encode
 space_utf8 = (32 ∷ [], (refl, refl))
 
-colon_utf8 : IsUtf8 (58 ∷ [])
-unfolding encode
-colon_utf8 = (58 ∷ [], (refl, refl))
-
 operator_utf8 : IsUtf8 (32 ∷ 58 ∷ 61 ∷ 32 ∷ [])
 unfolding encode
 operator_utf8 = (32 ∷ 58 ∷ 61 ∷ 32 ∷ [], (refl, refl))
@@ -128,9 +142,6 @@ end_utf8 (Construct entries content) [] more u = u
 end_utf8 (Construct entries content) (tree.Newline ∷ items) more u = u
 end_utf8 (Construct entries content) (_ ∷ items) more u = IsUtf8-append (32 ∷ []) more space_utf8 u
 
-header_utf8 : (name more : List ℕ) → GoodName name → IsUtf8 more → IsUtf8 (name ++ (58 ∷ more))
-header_utf8 name more named u = IsUtf8-append name _ named.utf8 (IsUtf8-append (58 ∷ []) more colon_utf8 u)
-
 module _ (limit : ℕ) (ind : List ℕ) (level : IsLevel ind) where
   mutual
     pub start_utf8 : {items : Shape} → AtStart limit items → IsUtf8 (text_on ind items)
@@ -141,11 +152,10 @@ module _ (limit : ℕ) (ind : List ℕ) (level : IsLevel ind) where
         entries_utf8 limit entries _ attributes
         (IsUtf8-append name _ named.utf8
         (IsUtf8-append (32 ∷ 58 ∷ 61 ∷ 32 ∷ []) _ operator_utf8 (h.utf8 _ (end_utf8 (assignment_item entries name value) items _ (after_utf8 more)))))
-    start_utf8 (good.header {entries = entries} {name = name} {items = items} attributes named more) =
-        entries_utf8 limit entries _ attributes (header_utf8 name _ named (end_utf8 (recipe_item entries name []) items _ (after_utf8 more)))
-    start_utf8 (good.recipe {entries = entries} {name = name} {l = l} {ls = ls} attributes h (good.body_end {items = items} follows last more)) =
-        entries_utf8 limit entries _ attributes
-        (header_utf8 name _ h.named (body_utf8 limit ind (l ∷ ls) _ level h.good (end_utf8 tree.Newline items _ (start_utf8 more))))
+    start_utf8 (good.header {entries = entries} {h = header} {items = items} attributes h more) =
+        entries_utf8 limit entries _ attributes (h.utf8 _ (end_utf8 (recipe_item entries header []) items _ (after_utf8 more)))
+    start_utf8 (good.recipe {entries = entries} {h = header} {l = l} {ls = ls} attributes h body (good.body_end {items = items} follows last more)) =
+        entries_utf8 limit entries _ attributes (h.utf8 _ (body_utf8 limit ind (l ∷ ls) _ level body.good (end_utf8 tree.Newline items _ (start_utf8 more))))
 
     after_utf8 : {items : Shape} → ItemRest limit items → IsUtf8 (text_on ind items)
     after_utf8 (good.trailing {t = t} {items = items} h more) = IsUtf8-append t _ h.utf8 (end_utf8 (tree.Comment t) items _ (line_end_utf8 more))

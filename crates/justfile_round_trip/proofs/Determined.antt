@@ -102,7 +102,7 @@ module _ (Open : ℕ → Option SignificantToken → Type 0) where
     of_conditional (e.if_else c b is o next) = λ i. of_condition c i ++ of_braced b i ++ of_braced o i
     of_conditional (e.else_if c b is again o) = λ i. of_condition c i ++ of_braced b i ++ of_conditional o i
 
-    of_value : {d : ℕ} {v : canon.Value} {fs : Shown} {ts rest : Tokens} → Value lexeme nothing Open d v fs ts rest → fs ≡ value_features false v
+    pub of_value : {d : ℕ} {v : canon.Value} {fs : Shown} {ts rest : Tokens} → Value lexeme nothing Open d v fs ts rest → fs ≡ value_features false v
     of_value (e.not kind v) = λ i. noted features.NegationOperator tt ++ of_value v i
     of_value (e.literal kind) = refl
     of_value (e.expanded m) = refl

@@ -1,18 +1,21 @@
--- The features of what is written are determined by it, and a normal shape has those of its shape.
-use Rattle.std.proofs.Common.{◌≡◌, ℕ, false, List, [], ◌∷◌, ◌++◌, Option, refl, sym, ap, ◌∙◌}
+-- The features of what is written are determined by it, construct by construct.
+use Rattle.std.proofs.Common.{◌≡◌, ℕ, Bool, false, List, [], ◌∷◌, ◌++◌, Option, Some, None, refl, sym, ap, ◌∙◌}
+use Rattle.std.proofs.lemmas.List.{append-nil}
+use Rattle.justfile_model.specs.declared.parameter_kind.ParameterKind.{ParameterKind}
+use Rattle.justfile_model.specs.Features.{ConstructFeatures}
+use Rattle.justfile_model.specs.Headers as h
+use Rattle.justfile_model.specs.Headers.{NamedParameter, ParameterOf, Parameters, DependencyArguments, DependencyOf, Dependencies, AllDependencies, HeaderOf}
 use Rattle.justfile_model.specs.SignificantTokens.{SignificantToken}
 use Rattle.justfile_model.specs.Tree as tree
-use Rattle.justfile_model.specs.Tree.{Construct, Shape, WrittenShape, lexeme, nothing, line_before, trimmed}
+use Rattle.justfile_model.specs.Tree.{Construct, WrittenShape, lexeme, nothing, line_before, trimmed}
 use Rattle.justfile_model.specs.Expressions.{Tokens}
 use Rattle.justfile_model.specs.Grammar as g
 use Rattle.justfile_model.specs.Files.{keeps_lexemes}
 use Rattle.justfile_model.specs.Grammar.{LineRest, BodyLines, OnLine, Block, Items, ItemRest, LineEnd, File}
-use Rattle.justfile_model.specs.NormalShape.{after_newline, normal_rest, normal}
-use Rattle.justfile_model.proofs.RewrittenItems.{rewritten}
-use Rattle.justfile_round_trip.proofs.Canon.{Shown, Fragment, Row, ShapeContent}
-use Rattle.justfile_round_trip.proofs.Determined.{value_features, of_expression}
-use Rattle.justfile_round_trip.proofs.DeterminedAttributes.{written_features, entries_features, of_attribute_lines}
-use Rattle.justfile_round_trip.proofs.Means.{ShapeWritten}
+use Rattle.justfile_round_trip.proofs.Canon.{Shown, Fragment, Row, ShapeContent, Value}
+use Rattle.justfile_round_trip.proofs.CanonHeaders.{ShapeParameter, ShapeArgument, ShapeDependency, ShapeHeader}
+use Rattle.justfile_round_trip.proofs.Determined.{value_features, of_expression, of_value}
+use Rattle.justfile_round_trip.proofs.DeterminedAttributes.{written_features, of_attribute_lines}
 
 abbrev fragments_features : List Fragment → Shown
 fragments_features [] = []
@@ -23,24 +26,35 @@ abbrev pub body_features : List Row → Shown
 body_features [] = []
 body_features (tree.Line number fs ∷ ls) = fragments_features fs ++ body_features ls
 
--- so far no header has a value in it
+abbrev default_features : Option Value → Shown
+default_features None = []
+default_features (Some e) = value_features false e
+
+abbrev parameters_features : List ShapeParameter → Shown
+parameters_features [] = []
+parameters_features (p ∷ ps) = default_features p.default ++ parameters_features ps
+
+abbrev arguments_features : List ShapeArgument → Shown
+arguments_features [] = []
+arguments_features (a ∷ arguments) = value_features false a.value ++ arguments_features arguments
+
+abbrev dependencies_features : List ShapeDependency → Shown
+dependencies_features [] = []
+dependencies_features (d ∷ ds) = arguments_features d.arguments ++ dependencies_features ds
+
+abbrev header_features : ShapeHeader → Shown
+header_features h = parameters_features h.parameters ++ (dependencies_features h.priors ++ dependencies_features h.subsequents)
+
 abbrev pub content_features : ShapeContent → Shown
 content_features (tree.Assignment parts) = value_features false parts.value
-content_features (tree.Recipe parts) = body_features parts.body
-
-abbrev pub item_features : ShapeWritten → Shown
-item_features tree.Newline = []
-item_features (tree.Comment t) = []
-item_features (Construct ws content) = written_features ws ++ content_features content
+content_features (tree.Recipe parts) = header_features parts.header ++ body_features parts.body
 
 -- of what is written
-abbrev pub items_features : WrittenShape → Shown
+abbrev pub items_features : WrittenShape → List (ConstructFeatures (Unit {0}))
 items_features [] = []
-items_features (i ∷ items) = item_features i ++ items_features items
-
--- of a shape: those of what is printed of it
-abbrev pub shape_features : Shape → Shown
-shape_features s = items_features (rewritten s)
+items_features (tree.Newline ∷ items) = items_features items
+items_features (tree.Comment t ∷ items) = items_features items
+items_features (Construct ws content ∷ items) = record { attributes = written_features ws; content = content_features content } ∷ items_features items
 
 trimmed_features : (ls : List Row) → body_features (trimmed ls) ≡ body_features ls
 trimmed_features [] = refl
@@ -63,50 +77,68 @@ module _ (Open : ℕ → Option SignificantToken → Type 0) where
   of_lines (g.empty_line kind r) = of_lines r
   of_lines (g.some_line l r) = λ i. of_line l i ++ of_lines r i
 
+  of_named : {kind : ParameterKind} {export : Bool} {p : ShapeParameter} {ns : Shown} {ts rest : Tokens} → NamedParameter lexeme nothing Open kind export p ns ts rest
+      → ns ≡ default_features p.default
+  of_named (h.required kind next) = refl
+  of_named (h.optional kind kind2 v) = of_value Open v
+
+  of_parameter : {kind : ParameterKind} {p : ShapeParameter} {ns : Shown} {ts rest : Tokens} → ParameterOf lexeme nothing Open kind p ns ts rest → ns ≡ default_features p.default
+  of_parameter (h.exported kind n) = of_named n
+  of_parameter (h.unexported n) = of_named n
+
+  of_parameters : {ps : List ShapeParameter} {ns : Shown} {ts rest : Tokens} → Parameters lexeme nothing Open ps ns ts rest → ns ≡ parameters_features ps
+  of_parameters (h.none kind) = refl
+  of_parameters (h.more p r) = λ i. of_parameter p i ++ of_parameters r i
+  of_parameters (h.plus {fs = ns} kind p kind2) = sym (append-nil ns) ∙ ap (λ x. x ++ []) (of_parameter p)
+  of_parameters (h.star {fs = ns} kind p kind2) = sym (append-nil ns) ∙ ap (λ x. x ++ []) (of_parameter p)
+
+  of_arguments : {arguments : List ShapeArgument} {ns : Shown} {ts rest : Tokens} → DependencyArguments lexeme nothing nothing Open arguments ns ts rest
+      → ns ≡ arguments_features arguments
+  of_arguments (h.none kind) = refl
+  of_arguments (h.plain x r) = λ i. of_expression Open x i ++ of_arguments r i
+  of_arguments (h.starred kind v r) = λ i. of_value Open v i ++ of_arguments r i
+
+  of_dependency : {d : ShapeDependency} {ns : Shown} {ts rest : Tokens} → DependencyOf lexeme nothing nothing Open d ns ts rest → ns ≡ arguments_features d.arguments
+  of_dependency (h.bare p) = refl
+  of_dependency (h.plain kind p r) = of_arguments r
+  of_dependency (h.starred kind kind2 p r) = of_arguments r
+
+  of_dependencies : {ds : List ShapeDependency} {ns : Shown} {ts rest : Tokens} → Dependencies lexeme nothing nothing Open ds ns ts rest → ns ≡ dependencies_features ds
+  of_dependencies (h.none a b c) = refl
+  of_dependencies (h.more d r) = λ i. of_dependency d i ++ of_dependencies r i
+
+  of_all : {ds ss : List ShapeDependency} {ns : Shown} {ts rest : Tokens} → AllDependencies lexeme nothing nothing Open ds ss ns ts rest
+      → ns ≡ dependencies_features ds ++ dependencies_features ss
+  of_all (h.priors {fs = ns} x next) = sym (append-nil ns) ∙ ap (λ y. y ++ []) (of_dependencies x)
+  of_all (h.both x kind y) = λ i. of_dependencies x i ++ of_dependencies y i
+
+  of_header : {header : ShapeHeader} {ns : Shown} {ts rest : Tokens} → HeaderOf lexeme nothing nothing Open header ns ts rest → ns ≡ header_features header
+  of_header (h.quiet kind (h.header kind2 ps all)) = λ i. of_parameters ps i ++ of_all all i
+  of_header (h.loud (h.header kind2 ps all)) = λ i. of_parameters ps i ++ of_all all i
+
   of_item : {c : ShapeContent} {ns : Shown} {ts rest : Tokens} → OnLine keeps_lexemes Open c ns ts rest → ns ≡ content_features c
   of_item (g.assignment kind kind2 x) = of_expression Open x
-  of_item (g.header kind kind2) = refl
+  of_item (g.header {fs = ns} x) = sym (append-nil ns) ∙ ap (λ y. y ++ []) (of_header x)
 
   of_block : {c : ShapeContent} {ns : Shown} {ts rest : Tokens} → Block keeps_lexemes Open c ns ts rest → ns ≡ content_features c
-  of_block (g.recipe {lines = lines} kind kind2 start read some) = of_lines read ∙ sym (trimmed_features lines)
+  of_block (g.recipe {lines = lines} x start read some) = λ i. of_header x i ++ (of_lines read ∙ sym (trimmed_features lines)) i
 
   mutual
-    of_items : {items : WrittenShape} {ns : Shown} {ts : Tokens} → Items keeps_lexemes Open items ns ts → ns ≡ items_features items
+    of_items : {items : WrittenShape} {ns : List (ConstructFeatures (Unit {0}))} {ts : Tokens} → Items keeps_lexemes Open items ns ts → ns ≡ items_features items
     of_items (g.end kind) = refl
     of_items (g.blank kind more) = of_items more
     of_items (g.comment kind more) = of_after more
-    of_items (g.on_line {ws = ws} a i more) = λ j. of_attribute_lines Open a j ++ of_item i j ++ of_after more j
-    of_items (g.block {ws = ws} a i more) = λ j. of_attribute_lines Open a j ++ of_block i j ++ of_items more j
+    of_items (g.on_line {ws = ws} a i more) = λ j. record { attributes = of_attribute_lines Open a j; content = of_item i j } ∷ of_after more j
+    of_items (g.block {ws = ws} a i more) = λ j. record { attributes = of_attribute_lines Open a j; content = of_block i j } ∷ of_items more j
 
-    of_after : {items : WrittenShape} {ns : Shown} {ts : Tokens} → ItemRest keeps_lexemes Open items ns ts → ns ≡ items_features items
+    of_after : {items : WrittenShape} {ns : List (ConstructFeatures (Unit {0}))} {ts : Tokens} → ItemRest keeps_lexemes Open items ns ts → ns ≡ items_features items
     of_after (g.trailing kind more) = of_end more
     of_after (g.bare more) = of_end more
 
-    of_end : {items : WrittenShape} {ns : Shown} {ts : Tokens} → LineEnd keeps_lexemes Open items ns ts → ns ≡ items_features items
+    of_end : {items : WrittenShape} {ns : List (ConstructFeatures (Unit {0}))} {ts : Tokens} → LineEnd keeps_lexemes Open items ns ts → ns ≡ items_features items
     of_end (g.line_end kind more) = of_items more
     of_end (g.file_end kind) = refl
 
-  pub of_file : {items : WrittenShape} {ns : Shown} {ts : Tokens} → File keeps_lexemes Open items ns ts → ns ≡ items_features items
+  pub of_file : {items : WrittenShape} {ns : List (ConstructFeatures (Unit {0}))} {ts : Tokens} → File keeps_lexemes Open items ns ts → ns ≡ items_features items
   of_file (g.marked kind more) = of_items more
   of_file (g.unmarked more) = of_items more
-
--- ---- the normal shape has the same features
-
-after_newline_features : (r : Shape) → shape_features (after_newline r) ≡ shape_features r
-after_newline_features [] = refl
-after_newline_features (tree.Newline ∷ []) = refl
-after_newline_features (tree.Newline ∷ tree.Newline ∷ r) = refl
-after_newline_features (tree.Newline ∷ tree.Comment t ∷ r) = refl
-after_newline_features (tree.Newline ∷ Construct entries content ∷ r) = refl
-after_newline_features (tree.Comment t ∷ r) = refl
-after_newline_features (Construct entries content ∷ r) = refl
-
-normal_rest_features : (s : Shape) → shape_features (normal_rest s) ≡ shape_features s
-normal_rest_features [] = refl
-normal_rest_features (tree.Newline ∷ s) = after_newline_features (normal_rest s) ∙ normal_rest_features s
-normal_rest_features (tree.Comment t ∷ s) = normal_rest_features s
-normal_rest_features (Construct entries content ∷ s) = ap (λ ns. (entries_features entries ++ content_features content) ++ ns) (normal_rest_features s)
-
-pub normal_features : (s : Shape) → shape_features (normal s) ≡ shape_features s
-normal_features [] = refl
-normal_features (i ∷ s) = normal_rest_features (i ∷ s)

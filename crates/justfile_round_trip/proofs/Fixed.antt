@@ -94,6 +94,10 @@ module _ {os : List OpenDelimiter} {ls : List (List ℕ)} {c : Bool} {i : Option
   equals_step k = fixed_step Equals 61 [] refl refl refl (λ e. cc) (λ t. refl) k
 
   -- in front of what makes no other operator of it
+  pub plus_before : (more : List ℕ) {ts : List Mark} → eqb (get_or more 0 0) 43 ≡ false → LexesTo (amid os ls c i false) more ts → LexesTo (amid os ls c i f) (43 ∷ more) (mark Plus (43 ∷ []) ∷ ts)
+  unfolding class_of fixed_token
+  plus_before more plus k = fixed_step Plus 43 [] refl refl (λ j. cond (plus j) (Ok (PlusPlus, 2)) (Ok (Plus, 1))) (λ e. cc) (λ t. refl) k
+
   pub equals_before : (more : List ℕ) {ts : List Mark} → eqb (get_or more 0 0) 61 ≡ false → eqb (get_or more 0 0) 126 ≡ false → LexesTo (amid os ls c i false) more ts → LexesTo (amid os ls c i f) (61 ∷ more) (mark Equals (61 ∷ []) ∷ ts)
   unfolding class_of fixed_token
   equals_before more equals tilde k = fixed_step Equals 61 [] refl refl (λ j. cond (equals j) (Ok (EqualsEquals, 2)) (cond (tilde j) (Ok (EqualsTilde, 2)) (Ok (Equals, 1)))) (λ e. cc) (λ t. refl) k

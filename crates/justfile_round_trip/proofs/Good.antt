@@ -190,8 +190,7 @@ module _ (limit : ℕ) where
   GoodBody [] = ⊥
   GoodBody (Line number fs ∷ ls) = IsFirst fs × GoodFragments fs × GoodLines ls
 
-  -- a recipe with a body, which has no empty line at its end
-  pub record GoodRecipe (name : List ℕ) (body : List Row) : Type 0 where
-    pub named : GoodName name
+  -- the body of a recipe, which has no empty line at its end
+  pub record EndedBody (body : List Row) : Type 0 where
     pub good : GoodBody body
     pub ended : trimmed body ≡ body

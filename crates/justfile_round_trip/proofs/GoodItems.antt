@@ -1,14 +1,16 @@
 -- What is known of the items of a shape that is printed: they stand in lines, and their attributes and their contents are good.
-use Rattle.std.proofs.Common.{◌≡◌, ℕ, Bool, true, false, List, [], ◌∷◌}
+use Rattle.std.proofs.Common.{◌≡◌, ℕ, Bool, true, false, List, [], ◌∷◌, refl}
 use Rattle.std.specs.Prelude.{◌||◌, not}
 use Rattle.justfile_model.specs.Modes.{is_empty}
 use Rattle.justfile_model.specs.Tree as tree
 use Rattle.justfile_model.specs.Tree.{Shape}
 use Rattle.justfile_round_trip.proofs.Canon.{Value, Row}
 use Rattle.justfile_round_trip.proofs.CanonAttributes.{ShapeEntry}
-use Rattle.justfile_round_trip.proofs.CanonItems.{assignment_item, recipe_item}
-use Rattle.justfile_round_trip.proofs.Good.{GoodName, GoodComment, GoodExpression, GoodRecipe, pale_after}
+use Rattle.justfile_round_trip.proofs.CanonHeaders.{ShapeHeader}
+use Rattle.justfile_round_trip.proofs.CanonItems.{NoDocs, assignment_item, recipe_item}
+use Rattle.justfile_round_trip.proofs.Good.{GoodName, GoodComment, GoodExpression, EndedBody, pale_after}
 use Rattle.justfile_round_trip.proofs.GoodAttributes.{GoodEntries}
+use Rattle.justfile_round_trip.proofs.GoodHeaders.{GoodHeader}
 
 -- line ends alone
 abbrev pub blank_only : Shape → Bool
@@ -22,7 +24,7 @@ follows_body items = is_empty items || not (blank_only items)
 
 module _ (limit : ℕ) where
   mutual
-    -- items from the start of a line on; so far all contents are plain
+    -- items from the start of a line on; so far all assignments are plain
     pub data AtStart : Shape → Type 0 where
       end : AtStart []
       newline : {items : Shape} → AtStart items → AtStart (tree.Newline ∷ items)
@@ -30,11 +32,11 @@ module _ (limit : ℕ) where
       assignment : {entries : List ShapeEntry} {name : List ℕ} {value : Value} {items : Shape} → GoodEntries limit entries → GoodName name
           → GoodExpression limit value → ItemRest items
           → AtStart (assignment_item entries name value ∷ items)
-      header : {entries : List ShapeEntry} {name : List ℕ} {items : Shape} → GoodEntries limit entries → GoodName name → ItemRest items
-          → AtStart (recipe_item entries name [] ∷ items)
-      recipe : {entries : List ShapeEntry} {name : List ℕ} {l : Row} {ls : List Row} {items : Shape} → GoodEntries limit entries
-          → GoodRecipe limit name (l ∷ ls) → AfterBody (l ∷ ls) items
-          → AtStart (recipe_item entries name (l ∷ ls) ∷ items)
+      header : {entries : List ShapeEntry} {h : ShapeHeader} {items : Shape} → GoodEntries limit entries → GoodHeader limit h → ItemRest items
+          → AtStart (recipe_item entries h [] ∷ items)
+      recipe : {entries : List ShapeEntry} {h : ShapeHeader} {l : Row} {ls : List Row} {items : Shape} → GoodEntries limit entries → GoodHeader limit h
+          → EndedBody limit (l ∷ ls) → AfterBody (l ∷ ls) items
+          → AtStart (recipe_item entries h (l ∷ ls) ∷ items)
 
     -- after an item a comment may trail it
     pub data ItemRest : Shape → Type 0 where
@@ -54,6 +56,23 @@ module _ (limit : ℕ) where
   abbrev pub After : Bool → Shape → Type 0
   After true items = AtEnd items
   After false items = ItemRest items
+
+  mutual
+    -- they have no docs: what they are printed with are comments
+    pub start_no_doc : {items : Shape} → AtStart items → NoDocs items
+    start_no_doc end = tt
+    start_no_doc (newline more) = (tt, start_no_doc more)
+    start_no_doc (comment c more) = (tt, end_no_doc more)
+    start_no_doc (assignment attributes named value more) = (refl, rest_no_doc more)
+    start_no_doc (header attributes h more) = (refl, rest_no_doc more)
+    start_no_doc (recipe attributes h body (body_end follows last more)) = (refl, (tt, start_no_doc more))
+
+    rest_no_doc : {items : Shape} → ItemRest items → NoDocs items
+    rest_no_doc (trailing c more) = (tt, end_no_doc more)
+    rest_no_doc (bare more) = end_no_doc more
+
+    end_no_doc : {items : Shape} → AtEnd items → NoDocs items
+    end_no_doc (line_end more) = (tt, start_no_doc more)
 
   pub past_newline : {items : Shape} → AtStart (tree.Newline ∷ items) → AtStart items
   past_newline (newline h) = h

@@ -1,5 +1,5 @@
 -- The text of good attributes is lexed back.
-use Rattle.std.proofs.Common.{◌≡◌, ℕ, Bool, false, List, [], ◌∷◌, ◌++◌, Option, None, refl, ap}
+use Rattle.std.proofs.Common.{◌≡◌, ℕ, Bool, false, List, [], ◌∷◌, Option, None, refl}
 use Rattle.justfile_base.specs.declared.delimiter.Delimiter.TheVariants.{Bracket, Paren}
 use Rattle.justfile_base.specs.declared.token_kind.TokenKind.TheVariants.{BracketL}
 use Rattle.justfile_base.specs.ByteClass.{class_of}
@@ -10,12 +10,12 @@ use Rattle.justfile_model.specs.Next.{token_by_class}
 use Rattle.justfile_model.specs.Tok.{Tok}
 use Rattle.justfile_model.specs.Tree.{Positional, Bare, Keyed}
 use Rattle.justfile_round_trip.proofs.Reading.{Mark, mark, LexesTo, step}
-use Rattle.justfile_round_trip.proofs.Inline.{head_is, joins, head_word, amid, IsName, name_step, space_step}
+use Rattle.justfile_round_trip.proofs.Inline.{head_is, joins, head_word, amid, name_step, space_step}
 use Rattle.justfile_round_trip.proofs.Fixed.{comma_step, equals_before, open_paren_step, close_paren_step, close_bracket_step}
 use Rattle.justfile_round_trip.proofs.Lines.{at_item, item_next, line_end}
 use Rattle.justfile_round_trip.proofs.Canon.{paren_right}
 use Rattle.justfile_round_trip.proofs.CanonAttributes.{Argument, Written, ShapeEntry, bracket_right, argument_on, other_arguments_on, parenthesized_on, written_on, attributes_on, entries_on, argument_marks, other_arguments_marks, parenthesized_marks, written_marks, attributes_marks, entries_marks}
-use Rattle.justfile_round_trip.proofs.LexesValues.{value_begins, value_no_blank, lex_value}
+use Rattle.justfile_round_trip.proofs.LexesValues.{name_no_blank, value_begins, value_no_blank, lex_value}
 use Rattle.justfile_round_trip.proofs.GoodAttributes.{GoodArgument, GoodArguments, GoodWritten, AllGoodWritten, GoodEntries}
 
 -- the bracket that begins a line of attributes
@@ -23,10 +23,6 @@ item_bracket : (c : Bool) {more : List ℕ} {ts : List Mark} → ((line : ℕ) �
     → LexesTo (at_item c) (91 ∷ more) (mark BracketL (91 ∷ []) ∷ ts)
 unfolding token_by_class class_of
 item_bracket c {more} {ts} k = step (at_item c) BracketL (91 ∷ []) more ts (item_next c 91 more refl) (λ e. cc) (λ o n col. k n)
-
-name_no_blank : (n more : List ℕ) → IsName n → head_is blank (n ++ more) ≡ false
-name_no_blank [] more h = absurd h
-name_no_blank (x ∷ xs) more h = ap blank h.0
 
 module _ (limit : ℕ) where
   argument_no_blank : (keys : Bool) (a : Argument) (more : List ℕ) → GoodArgument limit keys a → head_is blank (argument_on a more) ≡ false

@@ -11,15 +11,18 @@ use Rattle.justfile_round_trip.proofs.Fixed.{colon_equals_step}
 use Rattle.justfile_round_trip.proofs.Lines.{at_item, item_name, item_comment, comment_step, comment_no_blank, blank_line, line_end}
 use Rattle.justfile_round_trip.proofs.Canon.{Value, Row, space, newline}
 use Rattle.justfile_round_trip.proofs.CanonAttributes.{ShapeEntry}
+use Rattle.justfile_round_trip.proofs.CanonHeaders.{ShapeHeader}
 use Rattle.justfile_round_trip.proofs.CanonItems.{assignment_item, recipe_item, item_on, item_marks, text_on, marks}
-use Rattle.justfile_round_trip.proofs.Good.{GoodName, GoodExpression, GoodComment, GoodRecipe}
+use Rattle.justfile_round_trip.proofs.Good.{GoodName, GoodExpression, GoodComment, EndedBody}
 use Rattle.justfile_round_trip.proofs.GoodAttributes.{GoodEntries}
+use Rattle.justfile_round_trip.proofs.GoodHeaders.{GoodHeader}
 use Rattle.justfile_round_trip.proofs.GoodItems as good
 use Rattle.justfile_round_trip.proofs.GoodItems.{AtStart, ItemRest, AtEnd, AfterBody}
 use Rattle.justfile_round_trip.proofs.LexesAttributes.{lex_entries}
+use Rattle.justfile_round_trip.proofs.LexesHeaders.{lex_header}
 use Rattle.justfile_round_trip.proofs.LexesValues.{value_no_blank, lex_value}
 use Rattle.justfile_round_trip.proofs.BodyLines.{IsLevel}
-use Rattle.justfile_round_trip.proofs.Bodies.{lex_recipe, lex_header}
+use Rattle.justfile_round_trip.proofs.Bodies.{lex_after_header}
 use Rattle.justfile_round_trip.proofs.BodyFollows.{text_follows}
 
 -- a comment, the end of its line, and what is read after that
@@ -50,8 +53,8 @@ module _ (limit : ℕ) (ind : List ℕ) (level : IsLevel ind) where
     lex_start c (good.comment {t = t} h more) = lex_end c t h more
     lex_start c (good.assignment {entries = entries} {name = name} {value = value} attributes named h more) =
         lex_after c entries name value attributes named h more
-    lex_start c (good.header {entries = entries} {name = name} attributes named more) = lex_bare c entries name attributes named more
-    lex_start c (good.recipe {entries = entries} {name = name} {l = l} {ls = ls} attributes h more) = lex_block c entries name l ls attributes h more
+    lex_start c (good.header {entries = entries} {h = header} attributes h more) = lex_bare c entries header attributes h more
+    lex_start c (good.recipe {entries = entries} {h = header} {l = l} {ls = ls} attributes h body more) = lex_block c entries header l ls attributes h body more
 
     -- an assignment, and what follows it
     lex_after : (c : Bool) (entries : List ShapeEntry) (name : List ℕ) (value : Value) {items : Shape} → GoodEntries limit entries → GoodName name
@@ -63,21 +66,21 @@ module _ (limit : ℕ) (ind : List ℕ) (level : IsLevel ind) where
         assigned c entries name value attributes named h refl (λ f. line_end c f (lex_start c more))
 
     -- a recipe without a body, and what follows it
-    lex_bare : (c : Bool) (entries : List ShapeEntry) (name : List ℕ) {items : Shape} → GoodEntries limit entries → GoodName name → ItemRest limit items
-        → LexesTo (at_item c) (text_on ind (recipe_item entries name [] ∷ items)) (marks ind (recipe_item entries name [] ∷ items))
-    lex_bare c entries name attributes named (good.trailing {t = t} commented (good.line_end more)) =
-        lex_entries limit c entries attributes (lex_header c name 32 _ _ named.is_name refl refl (trailing true false t commented (lex_start true more)))
-    lex_bare c entries name attributes named (good.bare (good.line_end more)) =
-        lex_entries limit c entries attributes (lex_header c name 10 _ _ named.is_name refl refl (line_end true false (lex_start true more)))
+    lex_bare : (c : Bool) (entries : List ShapeEntry) (header : ShapeHeader) {items : Shape} → GoodEntries limit entries → GoodHeader limit header → ItemRest limit items
+        → LexesTo (at_item c) (text_on ind (recipe_item entries header [] ∷ items)) (marks ind (recipe_item entries header [] ∷ items))
+    lex_bare c entries header attributes h (good.trailing {t = t} commented (good.line_end more)) =
+        lex_entries limit c entries attributes (lex_header c header 32 h.lexes refl refl refl (λ f. trailing true f t commented (lex_start true more)))
+    lex_bare c entries header attributes h (good.bare (good.line_end more)) =
+        lex_entries limit c entries attributes (lex_header c header 10 h.lexes refl refl refl (λ f. line_end true f (lex_start true more)))
 
     -- a recipe with a body, the end of its last line, and what follows that
-    lex_block : (c : Bool) (entries : List ShapeEntry) (name : List ℕ) (l : Row) (ls : List Row) {items : Shape} → GoodEntries limit entries
-        → GoodRecipe limit name (l ∷ ls) → AfterBody limit (l ∷ ls) items
-        → LexesTo (at_item c) (text_on ind (recipe_item entries name (l ∷ ls) ∷ items)) (marks ind (recipe_item entries name (l ∷ ls) ∷ items))
-    lex_block c entries name l ls attributes h (good.body_end follows last more) =
+    lex_block : (c : Bool) (entries : List ShapeEntry) (header : ShapeHeader) (l : Row) (ls : List Row) {items : Shape} → GoodEntries limit entries
+        → GoodHeader limit header → EndedBody limit (l ∷ ls) → AfterBody limit (l ∷ ls) items
+        → LexesTo (at_item c) (text_on ind (recipe_item entries header (l ∷ ls) ∷ items)) (marks ind (recipe_item entries header (l ∷ ls) ∷ items))
+    lex_block c entries header l ls attributes h body (good.body_end follows last more) =
         lex_entries limit c entries attributes
-        (lex_recipe limit c name ind (l ∷ ls) _ _ h.named.is_name level h.good (text_follows limit ind more follows) (λ p. ap (text_on ind) (last p))
-        (lex_start false more))
+        (lex_header c header 10 h.lexes refl refl refl
+        (λ f. lex_after_header limit f ind (l ∷ ls) _ _ level body.good (text_follows limit ind more follows) (λ p. ap (text_on ind) (last p)) (lex_start false more)))
 
     -- a comment, and what follows it
     lex_end : (c : Bool) (t : List ℕ) {items : Shape} → GoodComment t → AtEnd limit items

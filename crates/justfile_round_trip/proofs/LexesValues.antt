@@ -29,6 +29,10 @@ use Rattle.justfile_round_trip.proofs.Good.{IsDelimited, IsFormatLiteral, IsForm
 
 -- ---- how a value begins
 
+pub name_no_blank : (n more : List ℕ) → IsName n → head_is blank (n ++ more) ≡ false
+name_no_blank [] more h = absurd h
+name_no_blank (x ∷ xs) more h = ap blank h.0
+
 -- with no blank, and with nothing that makes another operator of a `!`
 pub record Begins (t : List ℕ) : Type 0 where
   pub no_blank : head_is blank t ≡ false
@@ -47,7 +51,7 @@ quote_begins delimiters.Backtick xs = record { no_blank = refl; no_equals = refl
 quote_begins delimiters.QuoteDouble xs = record { no_blank = refl; no_equals = refl; no_tilde = refl }
 quote_begins delimiters.QuoteSingle xs = record { no_blank = refl; no_equals = refl; no_tilde = refl }
 
-start_no : (x y : ℕ) → class_of x ≡ classes.IdentifierStart → (class_of y ≡ classes.IdentifierStart → ⊥) → eqb x y ≡ false
+pub start_no : (x y : ℕ) → class_of x ≡ classes.IdentifierStart → (class_of y ≡ classes.IdentifierStart → ⊥) → eqb x y ≡ false
 start_no x y h not = go (eqb x y) refl
   where
     go : (b : Bool) → eqb x y ≡ b → b ≡ false

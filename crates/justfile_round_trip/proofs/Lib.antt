@@ -1,6 +1,7 @@
 pub mod AttributesUtf8
 pub mod Back
 pub mod BackAttributes
+pub mod BackHeaders
 pub mod Bodies
 pub mod BodyDerives
 pub mod BodyFacts
@@ -11,6 +12,7 @@ pub mod BodyTokens
 pub mod BodyUtf8
 pub mod Canon
 pub mod CanonAttributes
+pub mod CanonHeaders
 pub mod CanonItems
 pub mod Comments
 pub mod CountedAttributes
@@ -20,6 +22,8 @@ pub mod DerivesBack
 pub mod Determined
 pub mod DeterminedAttributes
 pub mod DeterminedItems
+pub mod DocsGood
+pub mod DocsNormal
 pub mod Ends
 pub mod Facts
 pub mod Fixed
@@ -27,10 +31,12 @@ pub mod FormatParts
 pub mod FormatScans
 pub mod Good
 pub mod GoodAttributes
+pub mod GoodHeaders
 pub mod GoodItems
 pub mod Inline
 pub mod LexesAttributes
 pub mod LexesBack
+pub mod LexesHeaders
 pub mod LexesValues
 pub mod Lines
 pub mod LiteralModes
@@ -42,9 +48,12 @@ pub mod Quoted
 pub mod RawTexts
 pub mod Reading
 pub mod RoundTrip
+pub mod SideBySide
 pub mod Sound
 pub mod Trimmed
 pub mod Walks
+pub mod WalksHeaders
 pub mod Written
 pub mod WrittenAttributes
+pub mod WrittenHeaders
 pub mod WrittenValues

@@ -30,7 +30,7 @@ use Rattle.justfile_round_trip.proofs.Canon as canon
 use Rattle.justfile_round_trip.proofs.Canon.{paren_right}
 use Rattle.justfile_round_trip.proofs.Good.{IsDelimited, IsString, GoodExpression, significant}
 use Rattle.justfile_round_trip.proofs.WrittenValues.{plain, stops}
-use Rattle.justfile_round_trip.proofs.Back.{expression_back}
+use Rattle.justfile_round_trip.proofs.Back.{expression_back, lower}
 
 -- ---- bytes that are a digit or a capital letter
 
@@ -139,7 +139,7 @@ literal_good limit l some string utf8 = record {
   derives = record {
     derives = λ glued on stop.
         let q = stops _ (significant true on) stop in
-        expression_back (Under limit) (Under limit) (λ d d' a b le o. omega arith) (literal_derives limit l some) 0 (omega arith) glued on q.0 q.1;
+        expression_back (Under limit) (Under limit) (lower limit) (literal_derives limit l some) 0 (omega arith) glued on q.0 q.1;
   };
   utf8 = utf8;
 }

@@ -13,15 +13,21 @@ use Rattle.justfile_model.specs.Tree.{Content, Construct, Tree, Shape, over_cont
 use Rattle.justfile_model.specs.Grammar as g
 use Rattle.justfile_model.specs.contracts.list_feature.ListFeature.{the_type}
 use Rattle.justfile_model.specs.declared.list_feature.ListFeature.{ListFeature}
-use Rattle.justfile_model.specs.Features.{Noted, over_noted}
+use Rattle.justfile_model.specs.Docs.{Nothing, documented}
+use Rattle.justfile_model.specs.Features.{ConstructFeatures, Noted, over_noted}
 use Rattle.justfile_model.specs.Conditions.{Conditions}
 use Rattle.justfile_model.specs.Expressions.{Under}
 use Rattle.justfile_model.specs.Grammar.{File}
 use Rattle.justfile_model.specs.NormalShape.{normal}
 use Rattle.justfile_model.specs.Printing.{text, printable}
 use Rattle.justfile_model.specs.Literals.{over_literal, AreCookedTexts}
-use Rattle.justfile_model.specs.Files.{FileDerives, ShapeDerives, literals, content_bindings, bindings, content_recipes, recipes, keeps_lexemes}
+use Rattle.justfile_model.specs.Files.{FileDerives, ShapeDerives, all_features, says_doc, literals, content_bindings, bindings, content_recipes, recipes, keeps_lexemes}
+use Rattle.justfile_model.specs.Rewritten.{docs_written, rewritten}
 use Rattle.justfile_model.specs.Sight.{sees_lexemes}
+use Rattle.justfile_model.proofs.DocsKept.{documented_counts, printable_count}
+use Rattle.justfile_model.proofs.DocsText.{text_written}
+use Rattle.justfile_model.proofs.Ordered.{undocumented_of}
+use Rattle.justfile_model.proofs.PrintedDocs.{SettledDocs, documented_settled}
 use Rattle.justfile_model.proofs.Agreement.{one_tree}
 use Rattle.justfile_model.proofs.CarryExpressions.{Same, Pairs, nil, cons}
 use Rattle.justfile_model.proofs.Leaves.{lexemes, elsewhere, file_forgets, file_lifts}
@@ -29,22 +35,24 @@ use Rattle.justfile_model.proofs.LexedLaws.{one_list}
 use Rattle.justfile_model.proofs.Normal.{normal_twice, normal_literals, normal_bindings, normal_recipes}
 use Rattle.justfile_round_trip.specs.RoundTrip.{TextDerives, times, ReadsBack, printed}
 use Rattle.justfile_round_trip.proofs.Reading.{Mark, placed, tok_at, toks, lexed}
-use Rattle.justfile_model.proofs.RewrittenItems.{rewritten, AllPrintAgain, items_again, normal_again, rewritten_means, rewritten_unbroken, rewritten_texts}
+use Rattle.justfile_model.proofs.RewrittenItems.{AllPrintAgain, normal_again, rewritten_means, rewritten_texts, rewritten_unbroken, rewritten_undocumented, shape_again}
 use Rattle.justfile_model.proofs.RewrittenLiterals.{texts_are_there, texts_of, texts_cook}
 use Rattle.justfile_model.proofs.Spelled.{lexed_spelled}
 use Rattle.justfile_round_trip.proofs.Canon.{Shown}
 use Rattle.justfile_round_trip.proofs.CanonItems.{text_on, marks, text_is}
-use Rattle.justfile_round_trip.proofs.CountedItems.{ordered_times}
+use Rattle.justfile_round_trip.proofs.CountedItems.{documented_weight, normal_weight, shape_weight, undocumented_times, written_docs_weight}
+use Rattle.justfile_round_trip.proofs.DocsGood.{docs_good, start_comments, start_plain}
+use Rattle.justfile_round_trip.proofs.DocsNormal.{normal_documented}
 use Rattle.justfile_round_trip.proofs.Good.{unplaced, significant}
-use Rattle.justfile_round_trip.proofs.GoodItems.{AtStart}
-use Rattle.justfile_round_trip.proofs.Means.{ordered_meant}
+use Rattle.justfile_round_trip.proofs.GoodItems.{AtStart, start_no_doc}
+use Rattle.justfile_round_trip.proofs.Means.{docs_meant, meant}
 use Rattle.justfile_round_trip.proofs.LexesBack.{lex_start}
 use Rattle.justfile_round_trip.proofs.Sound.{lexed_sound}
 use Rattle.justfile_round_trip.proofs.BodyLines.{IsLevel, level_is}
 use Rattle.justfile_round_trip.proofs.BodyFacts.{lexed_bodies}
 use Rattle.justfile_round_trip.proofs.Written.{file_good}
 use Rattle.justfile_round_trip.proofs.DerivesBack.{derive_start, start_utf8}
-use Rattle.justfile_round_trip.proofs.DeterminedItems.{shape_features, of_file, normal_features}
+use Rattle.justfile_round_trip.proofs.DeterminedItems.{of_file}
 
 -- ---- places
 
@@ -61,18 +69,24 @@ placed_same source (t ∷ ts) offset glued = same_by (is_whitespace t.kind) (pla
 -- ---- a good shape
 
 back_tokens : Shape → (indentation : List ℕ) → List Tok
-back_tokens s indentation = toks (text s indentation) 0 (marks indentation s)
+back_tokens s indentation = toks (text s indentation) 0 (marks indentation (docs_written s))
 
-good_lexed : (limit : ℕ) (s : Shape) (indentation : List ℕ) → IsLevel indentation → AtStart limit s → Lexed (text s indentation) (back_tokens s indentation)
+-- the printed text is that of the items with their docs as comments
+printed_text : (limit : ℕ) (s : Shape) (indentation : List ℕ) → AtStart limit (docs_written s) → text s indentation ≡ text_on indentation (docs_written s)
+printed_text limit s indentation h = text_written indentation s ∙ text_is (docs_written s) indentation (start_no_doc limit h)
+
+good_lexed : (limit : ℕ) (s : Shape) (indentation : List ℕ) → IsLevel indentation → AtStart limit (docs_written s) → Lexed (text s indentation) (back_tokens s indentation)
 unfolding back_tokens
 good_lexed limit s indentation i h =
-    subst (λ x. Lexed x (toks x 0 (marks indentation s))) (sym (text_is s indentation)) (lexed (text_on indentation s) (marks indentation s) (lex_start limit indentation i false h))
+    let ts = marks indentation (docs_written s) in
+    subst (λ x. Lexed x (toks x 0 ts)) (sym (printed_text limit s indentation h)) (lexed (text_on indentation (docs_written s)) ts (lex_start limit indentation i false h))
 
-good_file : (limit : ℕ) (s : Shape) (indentation : List ℕ) → AtStart limit s → (ns : Shown) × File keeps_lexemes (Under limit) (rewritten s) ns (significant_tokens (back_tokens s indentation))
+good_file : (limit : ℕ) (s : Shape) (indentation : List ℕ) → AtStart limit (docs_written s)
+    → (ns : List (ConstructFeatures (Unit {0}))) × File keeps_lexemes (Under limit) (rewritten s) ns (significant_tokens (back_tokens s indentation))
 unfolding back_tokens
 good_file limit s indentation h =
     let found = derive_start limit indentation h false in
-    (found.0, elsewhere limit (g.unmarked found.1) (placed_same (text s indentation) (marks indentation s) 0 false))
+    (found.0, elsewhere limit (g.unmarked found.1) (placed_same (text s indentation) (marks indentation (docs_written s)) 0 false))
 
 -- features are noted as often without their places
 times_over : {A B : Type 0} (f : A → B) (feature : ListFeature) (ns : List (Noted A)) → times feature (map (over_noted f) ns) ≡ times feature ns
@@ -107,44 +121,79 @@ module _ (conditions : Conditions) where
   shape_derives : (source : List ℕ) (t : Tree) (fs : List (Noted Tok)) (h : TextDerives conditions source t fs) → ShapeDerives conditions (significant_tokens h.tokens) (shape_of t) (map (over_noted nothing) fs)
   shape_derives source t fs h = file_forgets conditions (significant_tokens h.tokens) (lexed_spelled source h.tokens h.lexed) t fs h.file
 
+  -- a shape whose docs were taken of good items
+  record Documented (s : Shape) : Type 0 where
+    plain : Shape
+    good : AtStart conditions.limit plain
+    shape_is : s ≡ documented says_doc Nothing plain
+
   -- the normal shape of what a text derives
-  source_good : (source : List ℕ) (t : Tree) (fs : List (Noted Tok)) → TextDerives conditions source t fs → printable (shape_of t) ≡ true → AtStart conditions.limit (normal (shape_of t))
+  source_good : (source : List ℕ) (t : Tree) (fs : List (Noted Tok)) → TextDerives conditions source t fs → printable (shape_of t) ≡ true → Documented (normal (shape_of t))
   source_good source t fs h p =
       let f = shape_derives source t fs h in
       let sight = sees_lexemes conditions.expander in
-      let meant = ordered_meant sight f.written (shape_of t) f.ordered_is in
-      subst (λ s. AtStart conditions.limit (normal s)) (sym meant)
-      (file_good conditions.limit sight f.derives (lexed_sound source h.tokens h.utf8 h.lexed) (lexed_bodies source h.tokens h.lexed) (ap printable (sym meant) ∙ p))
+      let shape_is = docs_meant sight f.written (shape_of t) f.ordered_is in
+      let prints : printable (meant sight f.written) ≡ true = sym (documented_counts printable printable_count says_doc Nothing (meant sight f.written)) ∙ ap printable (sym shape_is) ∙ p in
+      record {
+        plain = normal (meant sight f.written);
+        good = file_good conditions.limit sight f.derives f.unbroken (lexed_sound source h.tokens h.utf8 h.lexed) (lexed_bodies source h.tokens h.lexed) prints;
+        shape_is = ap normal shape_is ∙ sym (normal_documented Nothing (meant sight f.written));
+      }
+
+  -- its items are good with their docs as comments
+  written_good : (s : Shape) → Documented s → AtStart conditions.limit (docs_written s)
+  written_good s d = subst (λ x. AtStart conditions.limit (docs_written x)) (sym d.shape_is) (docs_good conditions.limit Nothing d.good)
+
+  -- and its docs are taken again
+  docs_settled : (s : Shape) → Documented s → SettledDocs Nothing s
+  docs_settled s d = subst (SettledDocs Nothing) (sym d.shape_is) (documented_settled Nothing d.plain (start_plain conditions.limit d.good) (start_comments conditions.limit d.good))
 
   -- and what is printed of it means it again, breaks no rule, and has literals with texts
-  shape_again : (ts : List SignificantToken) (s : Shape) (ns : Shown) → ShapeDerives conditions ts s ns → AllPrintAgain conditions.expander (normal s)
-  shape_again ts s ns f =
+  source_again : (ts : List SignificantToken) (s : Shape) (ns : Shown) → ShapeDerives conditions ts s ns → AllPrintAgain conditions.expander (normal s)
+  source_again ts s ns f =
       normal_again conditions.expander s
-      (items_again conditions.expander f.written s f.ordered_is f.unbroken (texts_are_there conditions.expander _ f.cooked f.cooks))
+      (shape_again conditions.expander f.written s f.ordered_is f.unbroken (texts_are_there conditions.expander _ f.cooked f.cooks))
 
   -- each feature is as often in what a text derives as in what is printed of its shape
   source_times : (feature : ListFeature) (ts : List SignificantToken) (s : Shape) (ns : Shown) → ShapeDerives conditions ts s ns
-      → times feature ns ≡ times feature (shape_features s)
+      → times feature ns ≡ shape_weight feature conditions.expander s
   source_times feature ts s ns f =
-      ap (times feature) (of_file (Under conditions.limit) f.derives) ∙ ordered_times feature conditions.expander f.written s f.ordered_is f.unbroken
+      let sight = sees_lexemes conditions.expander in
+      let m = undocumented_of sight f.written s f.ordered_is in
+      ap (times feature) (f.features_are ∙ ap (all_features sight f.written) (of_file (Under conditions.limit) f.derives))
+      ∙ undocumented_times feature conditions.expander f.written m.items m.items_are f.unbroken
+      ∙ sym (documented_weight feature conditions.expander Nothing m.items)
+      ∙ ap (shape_weight feature conditions.expander) (sym m.all_are)
 
-  -- a good shape derives from its printed tokens, under the same conditions as the source
-  good_derives : (s : Shape) (indentation : List ℕ) → AtStart conditions.limit s → AllPrintAgain conditions.expander s
-      → (ns : Shown) × ShapeDerives conditions (significant_tokens (back_tokens s indentation)) s ns × (ns ≡ shape_features s)
-  good_derives s indentation good again =
-      let file = good_file conditions.limit s indentation good in
-      let texts = rewritten_texts conditions.expander s again in (
-        file.0,
-        record {
+  -- what a good shape derives from its printed tokens, under the same conditions as the source
+  record DerivesAgain (s : Shape) (indentation : List ℕ) : Type 0 where
+    features : Shown
+    derives : ShapeDerives conditions (significant_tokens (back_tokens s indentation)) s features
+    weight : (feature : ListFeature) → times feature features ≡ shape_weight feature conditions.expander s
+
+  good_derives : (s : Shape) (indentation : List ℕ) → Documented s → AllPrintAgain conditions.expander s → DerivesAgain s indentation
+  good_derives s indentation d again =
+      let sight = sees_lexemes conditions.expander in
+      let file = good_file conditions.limit s indentation (written_good s d) in
+      let texts = rewritten_texts conditions.expander s again in
+      let unbroken = rewritten_unbroken conditions.expander s again in
+      record {
+        features = all_features sight (rewritten s) file.0;
+        derives = record {
           written = rewritten s;
+          by_construct = file.0;
           derives = file.1;
+          features_are = refl;
           cooked = texts_of conditions.expander _ texts;
           cooks = texts_cook conditions.expander _ texts;
-          unbroken = rewritten_unbroken conditions.expander s again;
-          ordered_is = rewritten_means conditions.expander s again;
-        },
-        of_file (Under conditions.limit) file.1,
-      )
+          unbroken = unbroken;
+          ordered_is = rewritten_means conditions.expander s again (docs_settled s d);
+        };
+        weight = λ feature.
+            ap (λ fs. times feature (all_features sight (rewritten s) fs)) (of_file (Under conditions.limit) file.1)
+            ∙ undocumented_times feature conditions.expander (rewritten s) (docs_written s) (rewritten_undocumented conditions.expander s again) unbroken
+            ∙ written_docs_weight feature conditions.expander s;
+      }
 
   pub back : (source : List ℕ) (t : Tree) (fs : List (Noted Tok)) (indentation : List ℕ) → IsIndentation indentation → TextDerives conditions source t fs → printable (shape_of t) ≡ true → ReadsBack conditions (shape_of t) fs indentation (printed (shape_of t) indentation)
   back source t fs indentation i h p =
@@ -153,17 +202,18 @@ module _ (conditions : Conditions) where
       let level = level_is indentation i in
       let good = source_good source t fs h p in
       let f = shape_derives source t fs h in
-      let file = good_derives s indentation good (shape_again (significant_tokens h.tokens) (shape_of t) _ f) in
-      let lexed = good_lexed limit s indentation level good in
+      let file = good_derives s indentation good (source_again (significant_tokens h.tokens) (shape_of t) _ f) in
+      let written = written_good s good in
+      let lexed = good_lexed limit s indentation level written in
       let spelled = lexed_spelled (text s indentation) (back_tokens s indentation) lexed in
-      let found = file_lifts conditions (significant_tokens (back_tokens s indentation)) spelled s file.0 file.1 in
+      let found = file_lifts conditions (significant_tokens (back_tokens s indentation)) spelled s file.features file.derives in
       let same : map (over_literal lexeme) (literals found.0) ≡ literals (shape_of t) = sym (lexemes found.0) ∙ ap literals found.3 ∙ normal_literals (shape_of t) in
       let noted : (feature : ListFeature) → times feature (map (over_noted nothing) found.1) ≡ times feature (map (over_noted nothing) fs) =
-      λ feature. ap (times feature) (found.4 ∙ file.2 ∙ normal_features (shape_of t)) ∙ sym (source_times feature (significant_tokens h.tokens) (shape_of t) _ f) in
+      λ feature. ap (times feature) found.4 ∙ file.weight feature ∙ normal_weight feature conditions.expander (shape_of t) ∙ sym (source_times feature (significant_tokens h.tokens) (shape_of t) _ f) in
       record {
         tree = found.0;
         found = found.1;
-        derives = record { utf8 = subst IsUtf8 (sym (text_is s indentation)) (start_utf8 limit indentation level good); tokens = back_tokens s indentation; lexed = lexed; file = found.2 };
+        derives = record { utf8 = subst IsUtf8 (sym (printed_text limit s indentation written)) (start_utf8 limit indentation level written); tokens = back_tokens s indentation; lexed = lexed; file = found.2 };
         same_features = λ feature. sym (times_over nothing feature found.1) ∙ noted feature ∙ times_over nothing feature fs;
         same_shape = found.3;
         same_lexemes = same;

@@ -62,7 +62,7 @@ module _ {A B : Type 0} (leaf : Tok → A) (spot : Tok → B) (Open : ℕ → Op
     walk_conditional (g.if_else {otherwise = t} {other = on} c b is o next) w = walk_braced o (step kinds.Identifier t on is.is_name refl (walk_braced b (walk_condition c w)))
     walk_conditional (g.else_if {otherwise = t} {again = u} {other = on} c b is i o) w = walk_conditional o (step kinds.Identifier u on i.is_name refl (step kinds.Identifier t (u ∷ on) is.is_name refl (walk_braced b (walk_condition c w))))
 
-    walk_value : {d : ℕ} {e : Expr A B} {fs : List (Noted B)} {ts rest : Tokens} → Value leaf spot Open d e fs ts rest → W ts → W rest
+    pub walk_value : {d : ℕ} {e : Expr A B} {fs : List (Noted B)} {ts rest : Tokens} → Value leaf spot Open d e fs ts rest → W ts → W rest
     walk_value (g.not {bang = t} {tokens = on} kind v) w = walk_value v (step kinds.Bang t on kind refl w)
     walk_value (g.literal {token = t} {rest = rest} kind) w = step kinds.StringToken t rest kind refl w
     walk_value (g.expanded {mark = t} {token = u} {rest = rest} m) w = step kinds.StringToken u rest m.is_string refl (step kinds.Identifier t (u ∷ rest) m.marks.is_name refl w)

@@ -1,5 +1,5 @@
 -- The normal shape of what any text derives is good.
-use Rattle.std.proofs.Common.{◌≡◌, ℕ, Bool, true, false, List, [], ◌∷◌, Option, Some, None, refl, sym, ap, ◌∙◌, subst}
+use Rattle.std.proofs.Common.{◌≡◌, ℕ, Bool, true, false, List, [], ◌∷◌, ◌++◌, Option, Some, None, refl, sym, ap, ◌∙◌, subst}
 use Rattle.std.specs.Str.{trim_end}
 use Rattle.std.proofs.lemmas.Bool.{and_parts}
 use Rattle.justfile_base.specs.declared.token_kind.TokenKind.{TokenKind}
@@ -8,39 +8,47 @@ use Rattle.justfile_model.specs.SignificantTokens.{SignificantToken}
 use Rattle.justfile_model.specs.Tree as tree
 use Rattle.justfile_model.specs.AttributeLines as attribute
 use Rattle.justfile_model.specs.AttributeLines.{AttributeLines}
+use Rattle.justfile_model.specs.AttributeRules.{attributes_broken, of_some}
+use Rattle.justfile_model.specs.ConstructRules.{construct_broken, form_broken, meaning_broken}
+use Rattle.justfile_model.specs.Features.{ConstructFeatures}
+use Rattle.justfile_model.specs.Headers as header
+use Rattle.justfile_model.specs.Headers.{HeaderOf}
 use Rattle.justfile_model.specs.Meaning.{entries_of}
+use Rattle.justfile_model.specs.RecipeRules.{header_broken}
 use Rattle.justfile_model.specs.Sight.{Sight}
-use Rattle.justfile_model.specs.Tree.{Shape, WrittenShape, lexeme, nothing, trimmed}
+use Rattle.justfile_model.specs.Tree.{Shape, WrittenShape, bare_recipe, lexeme, nothing, plain_assignment, trimmed}
 use Rattle.justfile_model.specs.Grammar as g
 use Rattle.justfile_model.specs.Expressions.{IsKind, Under}
 use Rattle.justfile_model.specs.Grammar.{BeforeBody, NotEmpty, Items, ItemRest, LineEnd, File}
-use Rattle.justfile_model.specs.Files.{keeps_lexemes}
+use Rattle.justfile_model.specs.Files.{broken, item_broken, keeps_lexemes}
 use Rattle.justfile_model.specs.NormalShape.{after_newline, normal_rest, normal}
 use Rattle.justfile_model.specs.Printing.{printable_body, printable}
-use Rattle.justfile_round_trip.proofs.Canon.{Shown, Fragment, Row}
+use Rattle.justfile_model.proofs.Binds.{nothing_in}
+use Rattle.justfile_round_trip.proofs.Canon.{Shown, Fragment, Row, ShapeContent}
 use Rattle.justfile_round_trip.proofs.CanonAttributes.{Written, ShapeEntry}
+use Rattle.justfile_round_trip.proofs.CanonHeaders.{ShapeHeader}
 use Rattle.justfile_round_trip.proofs.CanonItems.{recipe_item}
-use Rattle.justfile_round_trip.proofs.Good.{GoodName, GoodComment, GoodRecipe, pale_after}
+use Rattle.justfile_round_trip.proofs.Good.{GoodName, GoodComment, EndedBody, pale_after}
 use Rattle.justfile_round_trip.proofs.GoodAttributes.{GoodEntries}
+use Rattle.justfile_round_trip.proofs.GoodHeaders.{GoodHeader}
 use Rattle.justfile_round_trip.proofs.GoodItems as good
 use Rattle.justfile_round_trip.proofs.GoodItems.{follows_body, AtStart, AtEnd, After, AfterBody, past_newline}
-use Rattle.justfile_round_trip.proofs.Means.{entries_or_none, meant}
+use Rattle.justfile_round_trip.proofs.Means.{ShapeWritten, entries_or_none, meant}
 use Rattle.justfile_round_trip.proofs.WrittenAttributes.{attributes_good}
 use Rattle.justfile_round_trip.proofs.Sound.{Around, around, outside, Known, is_comment, Sound}
 use Rattle.justfile_round_trip.proofs.Comments.{good_comment}
 use Rattle.justfile_round_trip.proofs.BodyTokens.{First}
-use Rattle.justfile_round_trip.proofs.BodyFacts.{Outline, outline_after, colon_after, no_body, NextIs, BodySound}
+use Rattle.justfile_round_trip.proofs.BodyFacts.{outline_after, no_body, NextIs, BodySound}
 use Rattle.justfile_round_trip.proofs.BodyGood.{LineOf, LinesOf, PartsGood, AllPartsGood, inner, shifts, IsOutside, outside_after, outside_first, indent_leads, Walked, walk_outside, body_read}
+use Rattle.justfile_round_trip.proofs.WalksHeaders.{IsHeader, header_after, outside_header, past_walked, walk_header}
+use Rattle.justfile_round_trip.proofs.WrittenHeaders.{header_at}
 use Rattle.justfile_round_trip.proofs.Trimmed.{trimmed_twice, trimmed_printable}
 use Rattle.justfile_round_trip.proofs.BodyFollows.{following, newline_follows}
 use Rattle.justfile_round_trip.proofs.WrittenValues.{fact_as, past, value_at, good_expression}
 
 -- ---- along a derivation
 
-past_walked : (P : Outline → Type 0) → ((k : TokenKind) (l : List ℕ) (s : Outline) → shifts k ≡ false → P s → P (outline_after k l s)) → (t : SignificantToken) (ts : List SignificantToken) (k : TokenKind) → IsKind k t → shifts k ≡ false
-    → Walked P (t ∷ ts) → Walked P ts
-past_walked P keep t ts k e stays w = record { outline = outline_after t.tok.kind t.tok.lexeme w.outline; is = keep t.tok.kind t.tok.lexeme w.outline (ap shifts e ∙ stays) w.is; sound = w.sound.1 }
-
+-- lists that are empty together
 -- Of the tokens outside bodies: nothing is open there, and what is known of each of them and of the bodies after them. A comment is the token before them, or not.
 record Ahead (c : Bool) (ts : List SignificantToken) : Type 0 where
   facts : Sound outside c ts
@@ -60,26 +68,6 @@ lexed_name : {s : Around} {c : Bool} (t : SignificantToken) → IsKind kinds.Ide
 lexed_name t kind h = record { is_name = fact_as t kinds.Identifier kind h; utf8 = h.utf8 }
 
 -- ---- bodies
-
--- after the colon of a recipe
-record IsHeader (s : Outline) : Type 0 where
-  is_outside : IsOutside s
-  colon : s.colon ≡ true
-
-colon_stays : (k : TokenKind) (b : Bool) → shifts k ≡ false → b ≡ true → colon_after k b ≡ true
-colon_stays kinds.Colon b stays e = refl
-colon_stays kinds.Dedent b stays e = cc
-colon_stays _ b stays e = e
-
-header_after : (k : TokenKind) (l : List ℕ) (s : Outline) → shifts k ≡ false → IsHeader s → IsHeader (outline_after k l s)
-header_after k l s stays h = record { is_outside = outside_after k l s stays h.is_outside; colon = colon_stays k s.colon stays h.colon }
-
-past_colon : (t : SignificantToken) (ts : List SignificantToken) → IsKind kinds.Colon t → Walked IsOutside (t ∷ ts) → Walked IsHeader ts
-past_colon t ts e w = record {
-  outline = outline_after t.tok.kind t.tok.lexeme w.outline;
-  is = record { is_outside = outside_after t.tok.kind t.tok.lexeme w.outline (ap shifts e) w.is; colon = ap (λ k. colon_after k w.outline.colon) e };
-  sound = w.sound.1;
-}
 
 past_indent : (t : SignificantToken) (ts : List SignificantToken) → IsKind kinds.Indent t → Walked IsHeader (t ∷ ts) → BodySound (inner First false true) ts
 past_indent t ts e w =
@@ -134,21 +122,25 @@ module _ (limit : ℕ) where
       record { parts = (first.parts, m.parts); following = m.following }
 
   -- a recipe with a body; where levels would close within it, the file ends after it
-  record BlockGood (name : List ℕ) (body : List Row) (rest : List SignificantToken) : Type 0 where
-    good : GoodRecipe limit name body
+  record BlockGood (h : ShapeHeader) (body : List Row) (rest : List SignificantToken) : Type 0 where
+    header : GoodHeader limit h
+    good : EndedBody limit body
     some : NotEmpty body
     last : pale_after body ≡ true → NextIs (λ k. k ≡ kinds.Eof) rest
     following : Ahead false rest
 
-  block_good : {ns : Shown} (name colon : SignificantToken) {lines : List Row} {comment : Option (List ℕ)} {tokens body rest : List SignificantToken} → IsKind kinds.Identifier name → IsKind kinds.Colon colon → BeforeBody comment tokens body → LinesOf limit lines ns body rest → NotEmpty (trimmed lines)
-      → (c : Bool) → Ahead c (name ∷ colon ∷ tokens) → printable_body (trimmed lines) ≡ true → BlockGood name.tok.lexeme (trimmed lines) rest
-  block_good name colon {lines} {tokens} kind kind2 before read some c h p =
-      let on = past_token name (colon ∷ tokens) kinds.Identifier kind refl refl h in
-      let start = before_body before (past outside colon tokens kinds.Colon kind2 on.facts.2) (past_colon colon tokens kind2 on.bodies) in
+  block_good : {fs ns : Shown} {h : ShapeHeader} {lines : List Row} {comment : Option (List ℕ)} {tokens next body rest : List SignificantToken}
+      → HeaderOf lexeme nothing nothing (Under limit) h fs tokens next → header_broken h ≡ [] → BeforeBody comment next body → LinesOf limit lines ns body rest
+      → NotEmpty (trimmed lines)
+      → (c : Bool) → Ahead c tokens → printable_body (trimmed lines) ≡ true → BlockGood h (trimmed lines) rest
+  block_good {lines = lines} head unbroken before read some c h p =
+      let named = header_at limit head unbroken c h.facts in
+      let start = before_body before named.following (walk_header limit head h.bodies) in
       let parts = all_parts_good read start.facts in
       let body = body_read limit true read start.body parts.parts (sym (trimmed_printable lines) ∙ p) in
       record {
-        good = record { named = lexed_name name kind h.facts.0; good = body.good; ended = trimmed_twice lines };
+        header = named.good;
+        good = record { good = body.good; ended = trimmed_twice lines };
         some = some;
         last = body.last;
         following = record { facts = parts.following; bodies = record { outline = no_body; is = outside_first; sound = body.sound } };
@@ -185,24 +177,32 @@ module _ (limit : ℕ) where
       by (tree.Newline ∷ _ ∷ r) f l h = good.body_end f l h
       by (_ ∷ r) f l h = good.body_end f l h
 
-  start_block : (entries : List ShapeEntry) (name : List ℕ) (body : List Row) (items : Shape) → NotEmpty body → GoodEntries limit entries
-      → GoodRecipe limit name body → AfterBody limit body items → AtStart limit (recipe_item entries name body ∷ items)
-  start_block entries name [] items some attributes h more = absurd some
-  start_block entries name (l ∷ ls) items some attributes h more = good.recipe attributes h more
+  start_block : (entries : List ShapeEntry) (h : ShapeHeader) (body : List Row) (items : Shape) → NotEmpty body → GoodEntries limit entries
+      → GoodHeader limit h → EndedBody limit body → AfterBody limit body items → AtStart limit (recipe_item entries h body ∷ items)
+  start_block entries h [] items some attributes head b more = absurd some
+  start_block entries h (l ∷ ls) items some attributes head b more = good.recipe attributes head b more
 
-  -- no item is before the end of the file: a construct begins with a bracket or a name
-  no_construct : {P : Type 0} {ws : List Written} {ns : Shown} {ts rest : List SignificantToken} (name : SignificantToken) → IsKind kinds.Identifier name
-      → AttributeLines lexeme nothing (Under limit) ws ns ts (name ∷ rest) → NextIs (λ k. k ≡ kinds.Eof) ts → P
-  no_construct name kind (attribute.none next) e = let bad : kinds.Identifier ≡ kinds.Eof = sym kind ∙ e in cc
-  no_construct name kind (attribute.line kind2 inside end after) e = let bad : kinds.BracketL ≡ kinds.Eof = sym kind2 ∙ e in cc
+  -- no item is before the end of the file: a construct begins with a bracket, or with what its content begins with
+  no_construct : {P : Type 0} {ws : List Written} {ns : Shown} {ts rest : List SignificantToken}
+      → AttributeLines lexeme nothing (Under limit) ws ns ts rest → (NextIs (λ k. k ≡ kinds.Eof) rest → P) → NextIs (λ k. k ≡ kinds.Eof) ts → P
+  no_construct (attribute.none next) other e = other e
+  no_construct (attribute.line kind2 inside end after) other e = let bad : kinds.BracketL ≡ kinds.Eof = sym kind2 ∙ e in cc
 
-  file_ended : {items : WrittenShape} {ns : Shown} {ts : List SignificantToken} → Items keeps_lexemes (Under limit) items ns ts → NextIs (λ k. k ≡ kinds.Eof) ts → items ≡ []
+  no_name : {P : Type 0} (name : SignificantToken) → IsKind kinds.Identifier name → name.tok.kind ≡ kinds.Eof → P
+  no_name name kind e = let bad : kinds.Identifier ≡ kinds.Eof = sym kind ∙ e in cc
+
+  no_header : {P : Type 0} {h : ShapeHeader} {fs : Shown} {ts rest : List SignificantToken} → HeaderOf lexeme nothing nothing (Under limit) h fs ts rest
+      → NextIs (λ k. k ≡ kinds.Eof) ts → P
+  no_header (header.quiet kind named) e = let bad : kinds.At ≡ kinds.Eof = sym kind ∙ e in cc
+  no_header (header.loud (header.header {name = name} kind parameters all)) e = no_name name kind e
+
+  file_ended : {items : WrittenShape} {ns : List (ConstructFeatures (Unit {0}))} {ts : List SignificantToken} → Items keeps_lexemes (Under limit) items ns ts → NextIs (λ k. k ≡ kinds.Eof) ts → items ≡ []
   file_ended (g.end kind) e = refl
   file_ended (g.blank kind more) e = let bad : kinds.Eol ≡ kinds.Eof = sym kind ∙ e in cc
   file_ended (g.comment kind more) e = let bad : kinds.Comment ≡ kinds.Eof = sym kind ∙ e in cc
-  file_ended (g.on_line a (g.assignment {name = name} kind kind2 x) more) e = no_construct name kind a e
-  file_ended (g.on_line a (g.header {name = name} kind kind2) more) e = no_construct name kind a e
-  file_ended (g.block a (g.recipe {name = name} kind kind2 before read some) more) e = no_construct name kind a e
+  file_ended (g.on_line a (g.assignment {name = name} kind kind2 x) more) e = no_construct a (no_name name kind) e
+  file_ended (g.on_line a (g.header head) more) e = no_construct a (no_header head) e
+  file_ended (g.block a (g.recipe head before read some) more) e = no_construct a (no_header head) e
 
   -- ---- items
 
@@ -232,46 +232,65 @@ module _ (limit : ℕ) where
     trailing_good t items true kind h e = absurd (h.apart refl refl kind)
     trailing_good t items false kind h e = good.trailing (lexed_comment t kind h) e
 
+    -- a recipe that breaks no rule has its stars where they may stand
+    stars_placed : (ws : List Written) (h : ShapeHeader) (body : List Row) (items : WrittenShape)
+        → broken sight (tree.Construct ws (tree.Recipe (bare_recipe h body)) ∷ items) ≡ [] → header_broken h ≡ []
+    stars_placed ws h body items unbroken =
+        let content : ShapeContent = tree.Recipe (bare_recipe h body) in
+        let here = nothing_in (construct_broken sight ws content) (broken sight items) unbroken in
+        (nothing_in (attributes_broken sight ws ++ of_some (meaning_broken sight content) (entries_of sight ws)) (form_broken content) here.0).1
+
+    -- others break no rule either
+    others_unbroken : (i : ShapeWritten) (items : WrittenShape) → broken sight (i ∷ items) ≡ [] → broken sight items ≡ []
+    others_unbroken i items unbroken = (nothing_in (item_broken sight i) (broken sight items) unbroken).1
+
     mutual
-      items_good : {items : WrittenShape} {ns : Shown} {ts : List SignificantToken} → Items keeps_lexemes (Under limit) items ns ts → (c : Bool) → Ahead c ts → printable (meant sight items) ≡ true → AtStart limit (rest_of items)
-      items_good (g.end kind) c h p = good.newline good.end
-      items_good (g.blank {items = items} {token = t} {rest = rest} kind more) c h p = start_after_newline (rest_of items) (items_good more false (past_token t rest kinds.Eol kind refl refl h) p)
-      items_good (g.comment {token = t} {rest = rest} kind more) c h p = good.comment (lexed_comment t kind h.facts.0) (after_good more true (past_token t rest kinds.Comment kind refl refl h) p)
-      items_good (g.on_line a (g.assignment {name = name} {operator = operator} {tokens = tokens} kind kind2 x) more) c h p =
+      items_good : {items : WrittenShape} {ns : List (ConstructFeatures (Unit {0}))} {ts : List SignificantToken} → Items keeps_lexemes (Under limit) items ns ts
+          → broken sight items ≡ [] → (c : Bool) → Ahead c ts → printable (meant sight items) ≡ true → AtStart limit (rest_of items)
+      items_good (g.end kind) u c h p = good.newline good.end
+      items_good (g.blank {items = items} {token = t} {rest = rest} kind more) u c h p = start_after_newline (rest_of items) (items_good more u false (past_token t rest kinds.Eol kind refl refl h) p)
+      items_good (g.comment {token = t} {rest = rest} kind more) u c h p = good.comment (lexed_comment t kind h.facts.0) (after_good more u true (past_token t rest kinds.Comment kind refl refl h) p)
+      items_good (g.on_line {ws = ws} {items = items} a (g.assignment {e = e} {name = name} {operator = operator} {tokens = tokens} kind kind2 x) more) u c h p =
           let before = attributes_ahead a c h in
           let named = before.following in
           let on = past_token operator tokens kinds.ColonEquals kind2 refl refl (past_token name (operator ∷ tokens) kinds.Identifier kind refl refl named) in
           let v = value_at (Under limit) x outside false on.facts in
           good.assignment before.entries (lexed_name name kind named.facts.0) (good_expression limit x v)
-          (after_good more false (record { facts = v.following; bodies = walk_outside limit x on.bodies }) p)
-      items_good (g.on_line a (g.header {name = name} {colon = colon} {rest = rest} kind kind2) more) c h p =
+          (after_good more (others_unbroken (tree.Construct ws (tree.Assignment (plain_assignment name.tok.lexeme e))) items u) false (record { facts = v.following; bodies = walk_outside limit x on.bodies }) p)
+      items_good (g.on_line {ws = ws} {items = items} a (g.header {h = header} head) more) u c h p =
           let before = attributes_ahead a c h in
-          let named = before.following in
-          good.header before.entries (lexed_name name kind named.facts.0)
-          (after_good more false (past_token colon rest kinds.Colon kind2 refl refl (past_token name (colon ∷ rest) kinds.Identifier kind refl refl named)) p)
-      items_good (g.block {ws = ws} {items = items} {rest = rest} a (g.recipe {lines = lines} {name = name} {colon = colon} kind kind2 before read some) more) c h p =
+          let found = header_at limit head (stars_placed ws header [] items u) false before.following.facts in
+          good.header before.entries found.good
+          (after_good more (others_unbroken (tree.Construct ws (tree.Recipe (bare_recipe header []))) items u) false
+          (record { facts = found.following; bodies = outside_header (walk_header limit head before.following.bodies) }) p)
+      items_good (g.block {ws = ws} {items = items} {rest = rest} a (g.recipe {h = header} {lines = lines} head before read some) more) u c h p =
           let parts = and_parts (printable_body (trimmed lines)) (printable (meant sight items)) p in
           let attributes = attributes_ahead a c h in
-          let b = block_good name colon kind kind2 before read some false attributes.following parts.0 in
-          start_block (entries_or_none (entries_of sight ws)) name.tok.lexeme (trimmed lines) (after_newline (rest_of items)) b.some attributes.entries b.good
-          (optional_body_newline (trimmed lines) (meant sight items) (λ pale. ap (meant sight) (file_ended more (b.last pale))) (items_good more false b.following parts.1))
+          let b = block_good head (stars_placed ws header (trimmed lines) (tree.Newline ∷ items) u) before read some false attributes.following parts.0 in
+          let others : broken sight items ≡ [] = others_unbroken (tree.Construct ws (tree.Recipe (bare_recipe header (trimmed lines)))) (tree.Newline ∷ items) u in
+          start_block (entries_or_none (entries_of sight ws)) header (trimmed lines) (after_newline (rest_of items)) b.some attributes.entries b.header b.good
+          (optional_body_newline (trimmed lines) (meant sight items) (λ pale. ap (meant sight) (file_ended more (b.last pale))) (items_good more others false b.following parts.1))
 
-      after_good : {items : WrittenShape} {ns : Shown} {ts : List SignificantToken} → ItemRest keeps_lexemes (Under limit) items ns ts → (c : Bool) → Ahead c ts → printable (meant sight items) ≡ true → After limit c (rest_of items)
-      after_good (g.trailing {items = items} {token = t} {rest = rest} kind e) c h p = trailing_good t items c kind h.facts.0 (line_end_good e true (past_token t rest kinds.Comment kind refl refl h) p)
-      after_good (g.bare {items = items} e) c h p = after_end c (rest_of items) (line_end_good e c h p)
+      after_good : {items : WrittenShape} {ns : List (ConstructFeatures (Unit {0}))} {ts : List SignificantToken} → ItemRest keeps_lexemes (Under limit) items ns ts
+          → broken sight items ≡ [] → (c : Bool) → Ahead c ts → printable (meant sight items) ≡ true → After limit c (rest_of items)
+      after_good (g.trailing {items = items} {token = t} {rest = rest} kind e) u c h p = trailing_good t items c kind h.facts.0 (line_end_good e u true (past_token t rest kinds.Comment kind refl refl h) p)
+      after_good (g.bare {items = items} e) u c h p = after_end c (rest_of items) (line_end_good e u c h p)
 
-      line_end_good : {items : WrittenShape} {ns : Shown} {ts : List SignificantToken} → LineEnd keeps_lexemes (Under limit) items ns ts → (c : Bool) → Ahead c ts → printable (meant sight items) ≡ true → AtEnd limit (rest_of items)
-      line_end_good (g.line_end {items = items} {token = t} {rest = rest} kind more) c h p = end_after_newline (rest_of items) (items_good more false (past_token t rest kinds.Eol kind refl refl h) p)
-      line_end_good (g.file_end kind) c h p = good.line_end good.end
+      line_end_good : {items : WrittenShape} {ns : List (ConstructFeatures (Unit {0}))} {ts : List SignificantToken} → LineEnd keeps_lexemes (Under limit) items ns ts
+          → broken sight items ≡ [] → (c : Bool) → Ahead c ts → printable (meant sight items) ≡ true → AtEnd limit (rest_of items)
+      line_end_good (g.line_end {items = items} {token = t} {rest = rest} kind more) u c h p = end_after_newline (rest_of items) (items_good more u false (past_token t rest kinds.Eol kind refl refl h) p)
+      line_end_good (g.file_end kind) u c h p = good.line_end good.end
 
     normal_good : (shape : Shape) → AtStart limit (normal_rest shape) → AtStart limit (normal shape)
     normal_good [] h = good.end
     normal_good (i ∷ shape) h = h
 
-    -- the normal shape of a file
-    pub file_good : {items : WrittenShape} {ns : Shown} {ts : List SignificantToken} → File keeps_lexemes (Under limit) items ns ts → Sound outside false ts → BodySound no_body ts → printable (meant sight items) ≡ true → AtStart limit (normal (meant sight items))
-    file_good {items} {ts = ts} file s b p = normal_good (meant sight items) (by file (record { facts = s; bodies = record { outline = no_body; is = outside_first; sound = b } }) p)
+    -- the normal shape of a file that breaks no rule, before its docs are taken
+    pub file_good : {items : WrittenShape} {ns : List (ConstructFeatures (Unit {0}))} {ts : List SignificantToken} → File keeps_lexemes (Under limit) items ns ts
+        → broken sight items ≡ [] → Sound outside false ts → BodySound no_body ts → printable (meant sight items) ≡ true → AtStart limit (normal (meant sight items))
+    file_good {items} {ts = ts} file u s b p = normal_good (meant sight items) (by file u (record { facts = s; bodies = record { outline = no_body; is = outside_first; sound = b } }) p)
       where
-        by : {items : WrittenShape} {ns : Shown} {ts : List SignificantToken} → File keeps_lexemes (Under limit) items ns ts → Ahead false ts → printable (meant sight items) ≡ true → AtStart limit (rest_of items)
-        by (g.marked {token = t} {rest = rest} kind more) h p = items_good more false (past_token t rest kinds.ByteOrderMark kind refl refl h) p
-        by (g.unmarked more) h p = items_good more false h p
+        by : {items : WrittenShape} {ns : List (ConstructFeatures (Unit {0}))} {ts : List SignificantToken} → File keeps_lexemes (Under limit) items ns ts → broken sight items ≡ []
+            → Ahead false ts → printable (meant sight items) ≡ true → AtStart limit (rest_of items)
+        by (g.marked {token = t} {rest = rest} kind more) u h p = items_good more u false (past_token t rest kinds.ByteOrderMark kind refl refl h) p
+        by (g.unmarked more) u h p = items_good more u false h p

@@ -21,7 +21,7 @@ use Rattle.justfile_round_trip.proofs.Canon.{Shown, Values, Pieces, operator_cod
 use Rattle.justfile_round_trip.proofs.Good.{GoodValue, GoodValues, GoodParts, GoodExpression, significant, ends_value}
 use Rattle.justfile_round_trip.proofs.Sound.{Around, around, Known, LexemeFact, is_comment, Sound}
 use Rattle.justfile_round_trip.proofs.Ends.{End, tail, EndsIn}
-use Rattle.justfile_round_trip.proofs.Back.{StopE, here_too, stop_before, ends_before, expression_back}
+use Rattle.justfile_round_trip.proofs.Back.{StopE, here_too, stop_before, ends_before, expression_back, lower}
 
 -- ---- UTF-8 of fixed texts
 
@@ -170,7 +170,7 @@ module _ (Open : ℕ → Option SignificantToken → Type 0) where
           following = z.following;
         }
 
-    one_at : {d : ℕ} {e : canon.Value} {fs : Shown} {ts rest : Tokens} → Value lexeme nothing Open d e fs ts rest → (s : Around) (c : Bool) → Sound s c ts → ValueAt s e rest
+    pub one_at : {d : ℕ} {e : canon.Value} {fs : Shown} {ts rest : Tokens} → Value lexeme nothing Open d e fs ts rest → (s : Around) (c : Bool) → Sound s c ts → ValueAt s e rest
     one_at (g.not {bang = t} {tokens = ts} kind v) s c h =
         let y = one_at v s false (on s c t ts kinds.Bang kind (λ l. refl) refl h) in
         record { lexes = y.lexes; utf8 = λ more u. plain (codes "!") _ refl (y.utf8 more u); following = y.following }
@@ -256,6 +256,6 @@ pub good_expression : (limit : ℕ) {s : Around} {e : canon.Value} {fs : Shown} 
 good_expression limit {e = e} {fs} x v = record {
   lexes = v.lexes;
   features = fs;
-  derives = record { derives = λ glued on stop. let q = stops (tail e) (significant true on) stop in expression_back (Under limit) (Under limit) (λ d d' a b le o. omega arith) x 0 (omega arith) glued on q.0 q.1 };
+  derives = record { derives = λ glued on stop. let q = stops (tail e) (significant true on) stop in expression_back (Under limit) (Under limit) (lower limit) x 0 (omega arith) glued on q.0 q.1 };
   utf8 = v.utf8;
 }

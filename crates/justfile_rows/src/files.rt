@@ -4,6 +4,7 @@ use crate::attributes::attributes;
 use crate::beginnings::beginnings;
 use crate::expansion::Expansion;
 use crate::fields::indentation_of;
+use crate::headers::docs;
 use crate::items::{
     FILE_DEPTH, IMPORT_OFFSETS, WORKING_DIRECTORY, enabled, features, file, unstable,
 };
@@ -61,12 +62,17 @@ fn push_file(ast: &mut Ast<'_>, answer: &mut Answer, word: Word, fields: &[Strin
     match word {
         Word::Refused => answer.push("taken"),
         Word::Attributes => attributes(&ast.items, answer),
+        Word::Docs => docs(&ast.items, answer),
         Word::Enabled => enabled(&ast.items, answer),
         Word::Features => features(answer, &ast.list_features),
         Word::Items | Word::Numbers => file(ast, answer),
-        Word::Line | Word::Recipe | Word::Sigils => {
-            push_of_recipe(&ast.items, answer, word, fields)
-        }
+        Word::Arguments
+        | Word::Defaults
+        | Word::Dependencies
+        | Word::Line
+        | Word::Parameters
+        | Word::Recipe
+        | Word::Sigils => push_of_recipe(&ast.items, answer, word, fields),
         Word::Expands | Word::Literal | Word::Value => push_of_value(&ast.items, answer, word),
         Word::Unstable => unstable(answer, &ast.unstable_features),
         _ => push_printed(ast, answer, word, indentation_for(word, fields)),

@@ -1,6 +1,7 @@
 //! What is seen of the items of a file.
 
 use crate::attributes::put_attributes;
+use crate::headers::{put_dependencies, put_doc, put_parameters};
 use justfile_syntax::assignment::Assignment;
 use justfile_syntax::ast::Ast;
 use justfile_syntax::expression::Expression;
@@ -23,19 +24,19 @@ pub(crate) const IMPORT_OFFSETS: &[usize] = &[3, 14];
 pub(crate) const WORKING_DIRECTORY: &str = "/home";
 
 /// A word, and a text in ‹›.
-fn put_marked(shown: &mut Text, word: &str, text: &str) {
+pub(crate) fn put_marked(shown: &mut Text, word: &str, text: &str) {
     shown.put(word);
     shown.put("‹");
     shown.put(text);
     shown.put("›");
 }
 
-fn put_name(shown: &mut Text, name: Name<'_>) {
+pub(crate) fn put_name(shown: &mut Text, name: Name<'_>) {
     shown.put_made(name.to_string(shown.alloc()));
 }
 
 /// The text of an expression.
-fn put_expression(shown: &mut Text, expression: &Expression<'_>) {
+pub(crate) fn put_expression(shown: &mut Text, expression: &Expression<'_>) {
     shown.put_made(expression.to_string(shown.alloc()));
 }
 
@@ -60,13 +61,21 @@ fn put_line(shown: &mut Text, line: &Line<'_>) {
     }
 }
 
-/// A recipe: its attributes, its name, its number, and each line of its body.
+/// A recipe: its doc, its attributes, whether it is quiet, its name, its number, its parameters, its
+/// dependencies, and each line of its body.
 fn put_recipe(shown: &mut Text, recipe: &UnresolvedRecipe<'_>) {
+    put_doc(shown, &recipe.doc);
     put_attributes(shown, &recipe.attributes);
-    shown.put("recipe ");
+    shown.put(if recipe.quiet {
+        "quiet recipe "
+    } else {
+        "recipe "
+    });
     put_name(shown, recipe.name);
     shown.put(" ");
     shown.put_number(recipe.number.0 as usize);
+    put_parameters(shown, recipe.parameters.as_slice());
+    put_dependencies(shown, recipe.dependencies.as_slice(), recipe.priors);
     for line in &recipe.body {
         put_line(shown, line);
     }

@@ -14,6 +14,7 @@ mod beginnings;
 mod expansion;
 mod fields;
 mod files;
+mod headers;
 mod items;
 mod judge;
 mod lexing;

@@ -1,5 +1,6 @@
 //! What is seen of the first recipe of a file and of the lines of its body.
 
+use crate::headers::{push_arguments, push_defaults, push_dependencies, push_parameters};
 use crate::items::{FILE_DEPTH, IMPORT_OFFSETS};
 use crate::word::Word;
 use justfile_syntax::item::Item;
@@ -25,15 +26,27 @@ pub(crate) fn push_of_recipe(
     fields: &[String],
 ) {
     match first_recipe(items) {
-        Some(recipe) if word == Word::Recipe => push_recipe(answer, recipe),
-        Some(recipe) => push_of_body(answer, word, fields, recipe.body.as_slice()),
+        Some(recipe) => push_part(recipe, answer, word, fields),
         None => answer.push("none"),
+    }
+}
+
+/// What a row's word asks of a recipe.
+fn push_part(recipe: &UnresolvedRecipe<'_>, answer: &mut Answer, word: Word, fields: &[String]) {
+    match word {
+        Word::Arguments => push_arguments(answer, recipe.dependencies.as_slice()),
+        Word::Defaults => push_defaults(answer, recipe.parameters.as_slice()),
+        Word::Dependencies => push_dependencies(answer, recipe),
+        Word::Parameters => push_parameters(answer, recipe.parameters.as_slice()),
+        Word::Recipe => push_recipe(answer, recipe),
+        _ => push_of_body(answer, word, fields, recipe.body.as_slice()),
     }
 }
 
 /// Which marks a recipe has, and what of it is not as it was handed in.
 fn push_recipe(answer: &mut Answer, recipe: &UnresolvedRecipe<'_>) {
     answer.push_if("private", recipe.private);
+    answer.push_if("quiet", recipe.quiet);
     answer.push_if("shebang", recipe.shebang);
     answer.push_if("depth", recipe.file_depth != FILE_DEPTH);
     answer.push_if(

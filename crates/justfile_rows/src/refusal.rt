@@ -22,6 +22,10 @@ pub(crate) fn place_after(text: &str, before: &str) -> (usize, usize) {
 /// A kind of error that holds the name of a key.
 fn kind_with_key(alloc: Global, kind: &CompileErrorKind<'_>) -> Result<String, AllocError> {
     match kind {
+        CompileErrorKind::ArgAttributeRequiresMultipleOrVariadic { key } => {
+            let at = key.token.offset;
+            format!(in alloc; "ArgAttributeRequiresMultipleOrVariadic {{ key: {key}@{at} }}")
+        }
         CompileErrorKind::ArgAttributeRequiresOption { key } => {
             let at = key.token.offset;
             format!(in alloc; "ArgAttributeRequiresOption {{ key: {key}@{at} }}")

@@ -49,7 +49,7 @@ fn push_place(answer: &mut Answer, value: &Expression<'_>) {
 
 /// What an expression is made of: its outermost form, with the token that is kept of it, and after
 /// it the texts of what stands inside.
-fn push_parts(answer: &mut Answer, expression: &Expression<'_>) {
+pub(crate) fn push_parts(answer: &mut Answer, expression: &Expression<'_>) {
     match expression {
         Expression::FormatString { start, expressions } => {
             push_format_string(answer, start, expressions)

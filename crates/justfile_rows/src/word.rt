@@ -3,6 +3,7 @@
 /// What a row does.
 #[derive(Clone, Copy, PartialEq, Eq)]
 pub(crate) enum Word {
+    Arguments,
     AttributeKind,
     Attributes,
     Beginnings,
@@ -11,6 +12,9 @@ pub(crate) enum Word {
     Class,
     Cooks,
     Copies,
+    Defaults,
+    Dependencies,
+    Docs,
     Enabled,
     Expands,
     ExpandsTo,
@@ -26,6 +30,7 @@ pub(crate) enum Word {
     Literal,
     Numbers,
     Opens,
+    Parameters,
     Prints,
     PrintsAt,
     PrintsItem,
@@ -44,6 +49,7 @@ pub(crate) enum Word {
 
 /// The words as they are written, with the number of fields that a row has at least.
 static WORDS: &[(&str, Word, usize)] = &[
+    ("arguments", Word::Arguments, 1),
     ("attribute_kind", Word::AttributeKind, 1),
     ("attributes", Word::Attributes, 1),
     ("beginnings", Word::Beginnings, 2),
@@ -52,6 +58,9 @@ static WORDS: &[(&str, Word, usize)] = &[
     ("class", Word::Class, 1),
     ("cooks", Word::Cooks, 1),
     ("copies", Word::Copies, 1),
+    ("defaults", Word::Defaults, 1),
+    ("dependencies", Word::Dependencies, 1),
+    ("docs", Word::Docs, 1),
     ("enabled", Word::Enabled, 1),
     ("expands", Word::Expands, 2),
     ("expands_to", Word::ExpandsTo, 2),
@@ -67,6 +76,7 @@ static WORDS: &[(&str, Word, usize)] = &[
     ("literal", Word::Literal, 1),
     ("numbers", Word::Numbers, 3),
     ("opens", Word::Opens, 1),
+    ("parameters", Word::Parameters, 1),
     ("prints", Word::Prints, 1),
     ("prints_at", Word::PrintsAt, 2),
     ("prints_item", Word::PrintsItem, 2),

@@ -1,7 +1,8 @@
 use Rattle.std.proofs.Common.{refl}
+use Rattle.justfile_model.specs.AttributeKinds.{same_attribute}
 use Rattle.justfile_model.specs.Printing.{fixed_text}
 use Rattle.justfile_model.proofs.printed_examples.constructs.Goals as goal
 
 pub returns : goal.returns
-unfolding fixed_text
-returns c = record { exported = refl; eager = refl; doc = refl; empty_doc = refl; no_doc = refl }
+unfolding fixed_text same_attribute
+returns c = record { exported = refl; eager = refl; doc = refl; doc_first = refl; empty_doc = refl; no_doc = refl }

@@ -1,4 +1,4 @@
-use Rattle.std.proofs.Common.{map}
+use Rattle.std.proofs.Common.{ap, map}
 use Rattle.justfile_attribute_set.specs.AttributeSet.{leaf_entries_of}
 use Rattle.justfile_parse_attribute.specs.Attributes.{entry_of_pair}
 use Rattle.justfile_parse.proofs.Constructs.{is_undefined}

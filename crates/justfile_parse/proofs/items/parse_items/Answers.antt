@@ -3,11 +3,11 @@ use Rattle.std.proofs.lemmas.Result.{err_from_is_err_and}
 use Rattle.justfile_base.specs.declared.token_kind.TokenKind.TheVariants as kinds
 use Rattle.justfile_model.specs.Reading as reading
 use Rattle.justfile_parse_expression.specs.TableReader.{accept}
-use Rattle.justfile_parse.specs.WantsNumber.{counters_of}
 use Rattle.justfile_parse_expression.specs.View.{state_of}
 use Rattle.justfile_parse_expression.specs.declared.parser.ExpressionParser.{ExpressionParser}
 use Rattle.justfile_parse.proofs.Loop.{IsReadTo, begins, ends, goes_on, goes_past, halts}
 use Rattle.justfile_parse.proofs.items.parse_items.Goals as goal
+use Rattle.justfile_parse_header.specs.Counting.{counters_of}
 
 pub lines-init : goal.lines-init
 lines-init g c = rw c.new-items.ensures.items (begins (state_of g.X.Expander.answer c.args.parser.now) c.args.numerator.now c.requires)

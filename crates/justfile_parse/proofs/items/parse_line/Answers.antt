@@ -7,7 +7,6 @@ use Rattle.justfile_model.specs.Reading as reading
 use Rattle.justfile_model.specs.Reading.{prepend}
 use Rattle.justfile_parse_expression.specs.TableReader.{Read}
 use Rattle.justfile_parse.specs.ItemTable.{ended, on_line}
-use Rattle.justfile_parse.specs.WantsNumber.{counters_of}
 use Rattle.justfile_parse_attribute.specs.Halting.{HaltsAt}
 use Rattle.justfile_parse.specs.Tree.{item_tree}
 use Rattle.justfile_tree.specs.LeafTree.{Leaf}
@@ -17,6 +16,7 @@ use Rattle.justfile_parse.proofs.Lines.{end_stops, has_body_is, line_goes_on, li
 use Rattle.justfile_parse.proofs.Loop.{moved_by}
 use Rattle.justfile_parse.proofs.Wholes.{both_whole, pushed_whole}
 use Rattle.justfile_parse.proofs.items.parse_line.Goals as goal
+use Rattle.justfile_parse_header.specs.Counting.{counters_of}
 
 pub returns-in_err-push_item-2-clause-moved : goal.returns-in_err-push_item-2-clause-moved
 returns-in_err-push_item-2-clause-moved g c =

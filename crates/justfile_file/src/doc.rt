@@ -1,0 +1,49 @@
+//! Docs, and the comments that they are printed as.
+ghost use Rattle.std.specs.Prelude.{◌≡◌, OnOk, OnErr, IfOk, string_bytes};
+ghost use Rattle.std.specs.Option.{option_copied, option_map};
+ghost use Rattle.justfile_header.specs.Copies.{IsSameText};
+ghost use Rattle.justfile_model.specs.Printing.{doc_comment, doc_line};
+
+use justfile_tree::{Sink, put_piece};
+use std::alloc::{AllocError, Global};
+
+/// A copy of a doc, if there is one.
+pub(crate) fn copy_doc(alloc: Global, doc: &Option<String>) -> Result<Option<String>, AllocError>
+    ensures { IfOk result (λ copy. IsSameText copy doc.now) }
+{
+    match doc {
+        None => Ok(None),
+        Some(text) => Ok(Some(text.as_str().to_string(alloc)?)),
+    }
+}
+
+/// The text of a doc, if there is one.
+pub(crate) fn text_of(doc: &Option<String>) -> Option<&str>
+    ensures { option_copied result ≡ option_map string_bytes doc.now }
+{
+    match doc {
+        None => None,
+        Some(text) => Some(text.as_str()),
+    }
+}
+
+/// Puts the comment that a doc is printed as.
+fn write_doc_comment<S: Sink>(doc: &str, sink: &mut S) -> Result<(), S::Fault>
+    ensures ok { OnOk result (S.took sink.old (doc_comment doc.now) sink.new) }
+    ensures err { OnErr result (S.failed sink.old (doc_comment doc.now) sink.new) }
+{
+    if doc.is_empty() {
+        return put_piece("#", sink);
+    }
+    put_piece("# ", sink)?;
+    sink.put(doc)
+}
+
+/// Puts a doc on a line of its own.
+pub(crate) fn write_doc_line<S: Sink>(doc: &str, sink: &mut S) -> Result<(), S::Fault>
+    ensures ok { OnOk result (S.took sink.old (doc_line doc.now) sink.new) }
+    ensures err { OnErr result (S.failed sink.old (doc_line doc.now) sink.new) }
+{
+    write_doc_comment(doc, sink)?;
+    put_piece("\n", sink)
+}

@@ -1,0 +1,16 @@
+//! Parameters and dependencies of recipes, and how they print.
+#![tactic(auto)]
+
+mod copied;
+pub mod parameter;
+mod parameter_kind;
+mod path;
+mod piece;
+pub mod unresolved_dependency;
+
+pub use crate::parameter::{Parameter, write_parameter, write_parameters};
+pub use crate::unresolved_dependency::{
+    DependencyArgument, UnresolvedDependency, write_dependencies, write_dependency,
+    write_subsequents,
+};
+pub use justfile_model::ParameterKind;

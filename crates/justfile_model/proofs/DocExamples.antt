@@ -1,0 +1,96 @@
+-- Examples of which comments are docs, and of how docs are printed, computed from the definitions.
+use Rattle.std.proofs.Common.{◌≡◌, ℕ, false, List, [], ◌∷◌, Option, Some, None, codes, refl}
+use Rattle.std.specs.Char.{encode_utf8}
+use Rattle.std.specs.Str.{chars, trim_end, trim_start}
+use Rattle.justfile_base.specs.declared.attribute_kind.AttributeKind.TheVariants as kinds
+use Rattle.justfile_model.specs.AttributeKinds.{same_attribute}
+use Rattle.justfile_model.specs.Docs.{Nothing, documented}
+use Rattle.justfile_model.specs.Files.{says_doc}
+use Rattle.justfile_model.specs.Printing.{fixed_text, text}
+use Rattle.justfile_model.specs.Rewritten.{docs_written}
+use Rattle.justfile_model.specs.Tree as tree
+use Rattle.justfile_model.specs.Tree.{Comment, Construct, Entry, Header, Newline, OrderedItem, Shape, plain_assignment}
+
+abbrev with_docs : Shape → Shape
+with_docs = documented says_doc Nothing
+
+abbrev foo : Header (List ℕ) (Unit {0}) (Unit {0})
+foo = record { quiet = false; name = codes "foo"; parameters = []; priors = []; subsequents = [] }
+
+-- `foo:`, with this doc
+abbrev recipe_with : Option (List ℕ) → List (Entry (List ℕ) (Unit {0})) → OrderedItem (List ℕ) (Unit {0}) (Unit {0})
+recipe_with doc entries = Construct entries (tree.Recipe (record { doc = doc; header = foo; body = [] }))
+
+abbrev recipe : OrderedItem (List ℕ) (Unit {0}) (Unit {0})
+recipe = recipe_with None []
+
+-- `x := y`
+abbrev assignment : OrderedItem (List ℕ) (Unit {0}) (Unit {0})
+assignment = Construct [] (tree.Assignment (plain_assignment (codes "x") (tree.Variable (codes "y"))))
+
+-- `[private]`, and `[doc]`
+abbrev private : List (Entry (List ℕ) (Unit {0}))
+private = record { name = tt; attribute = tree.Plain kinds.Private } ∷ []
+
+abbrev doc : List (Entry (List ℕ) (Unit {0}))
+doc = record { name = tt; attribute = tree.Plain kinds.Doc } ∷ []
+
+-- ---- which comments are docs
+
+first : with_docs (Comment (codes "#  a b") ∷ Newline ∷ recipe ∷ Newline ∷ []) ≡ recipe_with (Some (codes "a b")) [] ∷ Newline ∷ []
+unfolding trim_start trim_end chars encode_utf8 same_attribute
+first = refl
+
+-- what begins a script is no doc where the file begins
+script : with_docs (Comment (codes "#!a") ∷ Newline ∷ recipe ∷ []) ≡ Comment (codes "#!a") ∷ Newline ∷ recipe ∷ []
+unfolding trim_start trim_end chars encode_utf8 same_attribute
+script = refl
+
+-- and is one elsewhere
+later_script : with_docs (Newline ∷ Comment (codes "#!a") ∷ Newline ∷ recipe ∷ []) ≡ Newline ∷ recipe_with (Some (codes "!a")) [] ∷ []
+unfolding trim_start trim_end chars encode_utf8 same_attribute
+later_script = refl
+
+-- of two comments the nearest
+nearest : with_docs (Comment (codes "# a") ∷ Newline ∷ Comment (codes "# b") ∷ Newline ∷ recipe ∷ [])
+    ≡ Comment (codes "# a") ∷ Newline ∷ recipe_with (Some (codes "b")) [] ∷ []
+unfolding trim_start trim_end chars encode_utf8 same_attribute
+nearest = refl
+
+blank_between : with_docs (Comment (codes "# a") ∷ Newline ∷ Newline ∷ recipe ∷ []) ≡ Comment (codes "# a") ∷ Newline ∷ Newline ∷ recipe ∷ []
+unfolding trim_start trim_end chars encode_utf8 same_attribute
+blank_between = refl
+
+empty : with_docs (Comment (codes "#") ∷ Newline ∷ recipe ∷ []) ≡ Comment (codes "#") ∷ Newline ∷ recipe ∷ []
+unfolding trim_start trim_end chars encode_utf8 same_attribute
+empty = refl
+
+-- a comment that trails an item is no doc of the next one
+trailing : with_docs (assignment ∷ Comment (codes "# a") ∷ Newline ∷ recipe ∷ []) ≡ assignment ∷ Comment (codes "# a") ∷ Newline ∷ recipe ∷ []
+unfolding trim_start trim_end chars encode_utf8 same_attribute
+trailing = refl
+
+on_assignment : with_docs (Comment (codes "# a") ∷ Newline ∷ assignment ∷ []) ≡ Comment (codes "# a") ∷ Newline ∷ assignment ∷ []
+unfolding trim_start trim_end chars encode_utf8 same_attribute
+on_assignment = refl
+
+-- an attribute says the doc, or that there is none
+said : with_docs (Comment (codes "# a") ∷ Newline ∷ recipe_with None doc ∷ []) ≡ Comment (codes "# a") ∷ Newline ∷ recipe_with None doc ∷ []
+unfolding trim_start trim_end chars encode_utf8 same_attribute
+said = refl
+
+-- ---- how docs are printed
+
+-- on a line before the attributes
+before_attributes : text (recipe_with (Some (codes "x")) private ∷ Newline ∷ []) [] ≡ codes "# x\n[private]\nfoo:\n"
+unfolding fixed_text same_attribute
+before_attributes = refl
+
+as_comment : docs_written (recipe_with (Some (codes "x")) private ∷ []) ≡ Comment (codes "# x") ∷ Newline ∷ recipe_with None private ∷ []
+unfolding fixed_text same_attribute
+as_comment = refl
+
+-- a doc that an attribute hides is not printed
+hidden : text (recipe_with (Some (codes "x")) doc ∷ []) [] ≡ codes "[doc]\nfoo:"
+unfolding fixed_text same_attribute
+hidden = refl

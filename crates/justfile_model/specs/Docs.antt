@@ -1,0 +1,73 @@
+-- Which comments are docs: the one before a recipe, where nothing or a line end stands before it, and one line end after it.
+use Rattle.std.specs.Prelude.{ℕ, Bool, true, false, ◌&&◌, not, List, [], ◌∷◌, drop, Option, Some, None, codes, nat_eq, if◌then◌else◌}
+use Rattle.std.specs.List.{starts_with}
+use Rattle.std.specs.Option.{is_some}
+use Rattle.std.specs.Str.{trim}
+use Rattle.justfile_model.specs.Tree.{Content, Assignment, Recipe, Item, Comment, Construct, Newline}
+
+-- what stands before an item
+pub data Before : Type 0 where
+  Nothing : Before
+  LineEnd : Before
+  Other : Before
+
+-- a text that is not empty
+abbrev pub some_text : List ℕ → Option (List ℕ)
+some_text [] = None
+some_text (b ∷ bs) = Some (b ∷ bs)
+
+-- the doc that a comment is: what follows `#` without the white space around it; `#!` at the start of a file begins none
+abbrev pub doc_in : Before → (comment : List ℕ) → Option (List ℕ)
+doc_in Nothing comment = if starts_with nat_eq comment (codes "#!") then None else some_text (trim (drop 1 comment))
+doc_in LineEnd comment = some_text (trim (drop 1 comment))
+doc_in Other comment = None
+
+-- the doc of a construct, if it has one
+abbrev pub doc_of : {A B C S : Type 0} → Content A B C S → Option (List ℕ)
+doc_of (Assignment parts) = None
+doc_of (Recipe parts) = parts.doc
+
+-- the construct with another doc, or with none
+abbrev pub redocumented : {A B C S : Type 0} → Option (List ℕ) → Content A B C S → Content A B C S
+redocumented doc (Assignment parts) = Assignment parts
+redocumented doc (Recipe parts) = Recipe (record { doc = doc; header = parts.header; body = parts.body })
+
+-- a construct may have a doc
+abbrev pub takes_doc : {A B C S : Type 0} → Content A B C S → Bool
+takes_doc (Assignment parts) = false
+takes_doc (Recipe parts) = true
+
+module _ {A B C S D : Type 0} (has_doc : D → Bool) where
+  abbrev pub after : Item A B C S D → Before
+  after Newline = LineEnd
+  after i = Other
+
+  -- no attribute says a doc, and there is none yet
+  abbrev pub wants_doc : D → Content A B C S → Bool
+  wants_doc attributes content = takes_doc content && not (has_doc attributes) && not (is_some (doc_of content))
+
+  -- an item with this doc; none where it takes no doc
+  abbrev pub item_with_doc : List ℕ → Item A B C S D → Option (Item A B C S D)
+  item_with_doc doc (Construct attributes content) =
+      if wants_doc attributes content then Some (Construct attributes (redocumented (Some doc) content)) else None
+  item_with_doc doc i = None
+
+  -- an item with its doc, or the comment as it stood before the item
+  abbrev pub doc_or_comment : (comment : List ℕ) → Item A B C S D → List (Item A B C S D) → Option (Item A B C S D) → List (Item A B C S D)
+  doc_or_comment comment i items None = Comment comment ∷ Newline ∷ i ∷ items
+  doc_or_comment comment i items (Some documented) = documented ∷ items
+
+  -- a comment and a line end before an item
+  abbrev pub comment_taken : (comment : List ℕ) → Item A B C S D → List (Item A B C S D) → Option (List ℕ) → List (Item A B C S D)
+  comment_taken comment i items None = Comment comment ∷ Newline ∷ i ∷ items
+  comment_taken comment i items (Some doc) = doc_or_comment comment i items (item_with_doc doc i)
+
+  -- an item before others whose docs are taken
+  abbrev pub taken : Before → Item A B C S D → List (Item A B C S D) → List (Item A B C S D)
+  taken before (Comment comment) (Newline ∷ i ∷ items) = comment_taken comment i items (doc_in before comment)
+  taken before i items = i ∷ items
+
+  -- items with their docs, in place of comments
+  abbrev pub documented : Before → List (Item A B C S D) → List (Item A B C S D)
+  documented before [] = []
+  documented before (i ∷ items) = taken before i (documented (after i) items)

@@ -1,0 +1,58 @@
+-- The docs of recipes, as they are taken from the first item to the last.
+use Rattle.std.specs.Prelude.{ℕ, Bool, true, false, ◌&&◌, All, ◌-◌, List, [], ◌∷◌, ◌++◌, IsTrue, length, not, take, Option, Some, None, codes, nat_eq, reverse, if◌then◌else◌}
+use Rattle.std.specs.List.{starts_with}
+use Rattle.std.specs.Option.{is_some}
+use Rattle.justfile_base.specs.declared.token.Token.{Token}
+use Rattle.justfile_file.specs.declared.item.Item as item
+use Rattle.justfile_file.specs.declared.item.Item.TheVariants as items
+use Rattle.justfile_model.specs.Docs.{LineEnd, Nothing, doc_in, item_with_doc, wants_doc}
+use Rattle.justfile_model.specs.Files.{says_doc}
+use Rattle.justfile_model.specs.Tree as tree
+use Rattle.justfile_model.specs.Tree.{OrderedItem}
+use Rattle.justfile_tree.specs.LeafTree.{Leaf}
+
+abbrev pub LeafItem : Type 0
+LeafItem = OrderedItem Leaf Token ℕ
+
+abbrev pub is_newline : LeafItem → Bool
+is_newline tree.Newline = true
+is_newline i = false
+
+abbrev pub comment_of : LeafItem → Option (List ℕ)
+comment_of (tree.Comment text) = Some text
+comment_of i = None
+
+-- neither an attribute nor a comment says a doc of the item yet
+abbrev pub says_no_doc : LeafItem → Bool
+says_no_doc (tree.Construct attributes content) = wants_doc says_doc attributes content
+says_no_doc i = false
+
+-- the doc that these items begin with, of which the last comes first
+abbrev pub doc_first : List LeafItem → Option (List ℕ)
+doc_first (tree.Newline ∷ tree.Comment text ∷ []) = doc_in Nothing text
+doc_first (tree.Newline ∷ tree.Comment text ∷ tree.Newline ∷ others) = doc_in LineEnd text
+doc_first others = None
+
+-- the doc that these items end with: a comment and one line end, after a line end or nothing
+abbrev pub doc_before : List LeafItem → Option (List ℕ)
+doc_before before = doc_first (reverse before)
+
+-- items and one more, which may take the comment at their end as its doc
+abbrev pub with_doc : List LeafItem → LeafItem → Option LeafItem → List LeafItem
+with_doc before i None = before ++ i ∷ []
+with_doc before i (Some documented) = take (length before - 2) before ++ documented ∷ []
+
+abbrev pub doc_taken : LeafItem → Option (List ℕ) → Option LeafItem
+doc_taken i None = None
+doc_taken i (Some doc) = item_with_doc says_doc doc i
+
+abbrev pub with_item : List LeafItem → LeafItem → List LeafItem
+with_item before i = with_doc before i (doc_taken i (doc_before before))
+
+-- a comment begins with `#`
+abbrev pub IsComment : item.Item → Type 0
+IsComment (items.Comment text) = IsTrue (starts_with nat_eq text.now (codes "#"))
+IsComment _ = Unit {0}
+
+unfoldable pub AreComments : List item.Item → Type 0
+AreComments read = All IsComment read

@@ -1,0 +1,52 @@
+-- The names of a path, as a loop reads them.
+use Rattle.std.proofs.Common.{◌≡◌, ◌∙◌, List, [], ◌∷◌, ◌++◌, map, Some, None, Ok, Err, refl, sym, ap}
+use Rattle.std.proofs.lemmas.List.{map-append}
+use Rattle.justfile_base.specs.declared.name.Name.{Name}
+use Rattle.justfile_base.specs.declared.token.Token.{Token}
+use Rattle.justfile_base.specs.declared.token_kind.TokenKind.TheVariants as kinds
+use Rattle.justfile_model.specs.HeaderReader as headers
+use Rattle.justfile_model.specs.Reading.{prepend}
+use Rattle.justfile_model.proofs.HeaderReading as laws
+use Rattle.justfile_parse_expression.specs.MethodResults.{StopsAt, literal_refusal, refusal_at}
+use Rattle.justfile_parse_expression.specs.TableReader.{Read, Refusal, State, accept, expect, leaves}
+use Rattle.justfile_parse_expression.specs.declared.significant.TableEntry.{TableEntry}
+use Rattle.justfile_parse_expression.specs.declared.stop.Stop.{Stop}
+use Rattle.justfile_parse_expression.specs.declared.stop.Stop.TheVariants.{Refused, Literal, Memory, Numbers}
+use Rattle.justfile_parse_header.specs.HeaderTable.{path, path_rest}
+use Rattle.justfile_parse_header.specs.Tree.{name_tree}
+use Rattle.justfile_tree.specs.LeafTree.{Leaf, Named}
+
+-- the first name is read
+pub path_begins : (s : State) (first : TableEntry) (rest : State) (name : Name) → expect kinds.Identifier s ≡ Ok (first, rest) → name.token ≡ first.token.now
+    → prepend (map name_tree (name ∷ [])) (path_rest rest) ≡ path s
+unfolding headers.path leaves
+path_begins s first rest name h is = rw (h, is) refl
+
+-- no name is read
+pub path_fails : (s : State) (stop : Stop) (left : State) → StopsAt stop left ⊥ (expect kinds.Identifier s) → StopsAt stop left ⊥ (path s)
+unfolding headers.path
+path_fails s (Refused r) left h = rw h refl
+path_fails s (Literal refused) left h = rw h refl
+path_fails s Memory left h = tt
+path_fails s Numbers left h = absurd h
+
+module _ (s q : State) (done : List Name) (so_far : prepend (map name_tree done) (path_rest q) ≡ path s) where
+  pub path_ends : accept kinds.ColonColon q ≡ None → path s ≡ Ok (map name_tree done, q)
+  path_ends h = sym so_far ∙ laws.path_rest_end leaves (map name_tree done) q h
+
+  module _ (colons : TableEntry) (next : State) (taken : accept kinds.ColonColon q ≡ Some (colons, next)) where
+    pub path_goes_on : (entry : TableEntry) (name : Name) (new : List Name) (rest : State) → expect kinds.Identifier next ≡ Ok (entry, rest)
+        → name.token ≡ entry.token.now → new ≡ done ++ name ∷ [] → prepend (map name_tree new) (path_rest rest) ≡ path s
+    unfolding leaves
+    path_goes_on entry name new rest h token is =
+        ap (λ (l : List Name). prepend (map name_tree l) (path_rest rest)) is
+        ∙ ap (λ (l : List Leaf). prepend l (path_rest rest)) (map-append name_tree done (name ∷ []))
+        ∙ ap (λ (t : Token). prepend (map name_tree done ++ Named t None ∷ []) (path_rest rest)) token
+        ∙ sym (laws.path_rest_go_on leaves (map name_tree done) q colons entry next rest taken h)
+        ∙ so_far
+
+    pub path_stops : (stop : Stop) (left : State) → StopsAt stop left ⊥ (expect kinds.Identifier next) → StopsAt stop left ⊥ (path s)
+    path_stops (Refused r) left h = sym so_far ∙ laws.path_rest_fail leaves (map name_tree done) q colons next (refusal_at r left) taken h
+    path_stops (Literal refused) left h = sym so_far ∙ laws.path_rest_fail leaves (map name_tree done) q colons next (literal_refusal refused.value.error) taken h
+    path_stops Memory left h = tt
+    path_stops Numbers left h = absurd h

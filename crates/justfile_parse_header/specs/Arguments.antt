@@ -1,0 +1,69 @@
+-- Of which parameter attributes speak.
+use Rattle.std.specs.Prelude.{ℕ, All, Bool, false, IsTrue, List, Option, Some, None, not, if◌then◌else◌}
+use Rattle.std.specs.List.{filter, find}
+use Rattle.std.specs.Option.{is_some, option_map}
+use Rattle.std.specs.Str.{bytes_eq}
+use denote.Ref.{Bor}
+use Rattle.justfile_attribute.specs.Attribute.{leaf_attribute_of}
+use Rattle.justfile_attribute.specs.declared.attribute.Attribute as attributes
+use Rattle.justfile_attribute.specs.declared.attribute.Attribute.TheVariants as variants
+use Rattle.justfile_base.specs.declared.token.Token.{Token}
+use Rattle.justfile_model.specs.AttributeRules.{least, lesser, rules_in}
+use Rattle.justfile_model.specs.Meaning.{text_of}
+use Rattle.justfile_model.specs.RecipeRules.{is_parameter}
+use Rattle.justfile_model.specs.Tree.{Attribute, Quoted}
+use Rattle.justfile_parse_header.specs.HeaderTable.{LeafParameter, Rules}
+use Rattle.justfile_tree.specs.LeafSight.{sees_leaves}
+use Rattle.justfile_tree.specs.LeafTree.{Leaf}
+
+-- what an attribute says, if it is one that speaks of a parameter
+abbrev pub said_by : Option (Bor attributes.Attribute) → Option Rules
+said_by None = None
+said_by (Some a) = rules_in (leaf_attribute_of a.now)
+
+abbrev pub is_rule_of : (name : List ℕ) → Rules → Bool
+is_rule_of name rules = bytes_eq (text_of sees_leaves rules.name) name
+
+-- the attribute speaks of a parameter of this name
+abbrev pub is_of : (name : List ℕ) → Attribute Leaf Token → Bool
+is_of name a = of_rules (rules_in a)
+  where
+    of_rules : Option Rules → Bool
+    of_rules None = false
+    of_rules (Some rules) = is_rule_of name rules
+
+-- the first of the rules that speaks of a parameter of this name
+abbrev pub speaks_of : List Rules → (name : List ℕ) → Option Rules
+speaks_of rules name = find (is_rule_of name) rules
+
+-- the one with the lesser text, the first of them where both have the same
+abbrev pub lesser_of : (first second : Option (Quoted Leaf)) → Option (Quoted Leaf)
+lesser_of None second = second
+lesser_of (Some q) None = Some q
+lesser_of (Some q) (Some r) = Some (lesser (text_of sees_leaves) q (Some r))
+
+-- the argument that an attribute speaks of, if it is no parameter
+abbrev pub undefined_in : List LeafParameter → Attribute Leaf Token → Option (Quoted Leaf)
+undefined_in parameters a = of_rules (rules_in a)
+  where
+    of_rules : Option Rules → Option (Quoted Leaf)
+    of_rules None = None
+    of_rules (Some rules) = if is_parameter sees_leaves parameters rules then None else Some rules.name
+
+-- of the arguments that are spoken of and are no parameters, the one with the least text, the first of these
+abbrev pub least_undefined : List LeafParameter → List Rules → Option (Quoted Leaf)
+least_undefined parameters rules = option_map (λ (r : Rules). r.name) (least (λ (r : Rules). text_of sees_leaves r.name) (filter (λ r. not (is_parameter sees_leaves parameters r)) rules))
+
+-- a bound stands with its key
+abbrev pub IsKeyed : attributes.Attribute → Type 0
+IsKeyed (variants.Arg flag help help_property long long_key max max_key min min_key multiple name pattern short short_key value) =
+    (IsTrue (is_some max) → IsTrue (is_some max_key)) × (IsTrue (is_some min) → IsTrue (is_some min_key))
+IsKeyed _ = Unit {0}
+
+-- each bound of the attributes stands with its key
+unfoldable pub AreKeyed : List attributes.Attribute → Type 0
+AreKeyed attributes = All IsKeyed attributes
+
+abbrev pub IsKeyedOption : Option (Bor attributes.Attribute) → Type 0
+IsKeyedOption None = Unit {0}
+IsKeyedOption (Some a) = IsKeyed a.now

@@ -1,0 +1,25 @@
+-- What a function returns that draws numbers.
+use Rattle.std.specs.Prelude.{◌≡◌, Result, Ok, Err}
+use Rattle.justfile_base.specs.Numerator.{bindings_of, constants_of, recipes_of}
+use Rattle.justfile_base.specs.declared.numerator.Numerator.{Numerator}
+use Rattle.justfile_model.specs.Reading as reading
+use Rattle.justfile_model.specs.Reading.{Counters}
+use Rattle.justfile_parse_attribute.specs.Halting.{HaltsAt}
+use Rattle.justfile_parse_attribute.specs.declared.halt.Halt.{Halt}
+use Rattle.justfile_parse_expression.specs.MethodResults.{StopsAt}
+use Rattle.justfile_parse_expression.specs.TableReader.{Read, State}
+use Rattle.justfile_parse_expression.specs.declared.stop.Stop.{Stop}
+
+-- where the numerator stands
+abbrev pub counters_of : Numerator → Counters
+counters_of n = record { bindings = bindings_of n; constants = constants_of n; recipes = recipes_of n }
+
+-- what was returned, and the state and the counters of the numerator after it, are what is read, or say why not
+abbrev pub ReadsNumbered : {X Y : Type 0} → (X → Y) → Result X Stop → Numerator → State → Read (Y × Counters) → Type 0
+ReadsNumbered view (Ok x) n s found = found ≡ Ok ((view x, counters_of n), s)
+ReadsNumbered view (Err stop) n s found = StopsAt stop s (found ≡ Err (reading.NoNumber (counters_of n))) found
+
+-- the same of a function that may find a rule broken
+abbrev pub ReadsCounted : {X Y : Type 0} → (X → Y) → Result X Halt → Numerator → State → Read (Y × Counters) → Type 0
+ReadsCounted view (Ok x) n s found = found ≡ Ok ((view x, counters_of n), s)
+ReadsCounted view (Err halt) n s found = HaltsAt halt s (found ≡ Err (reading.NoNumber (counters_of n))) found

@@ -1,0 +1,147 @@
+-- Reading the headers of a table, with all that the parser's trees hold.
+use Rattle.std.specs.Prelude.{ℕ, Bool, List, [], ◌∷◌, ◌++◌, map, Option, Ok}
+use Rattle.std.specs.Option.{option_map}
+use Rattle.justfile_base.specs.declared.token.Token.{Token}
+use Rattle.justfile_model.specs.ExpressionReader as expressions
+use Rattle.justfile_model.specs.Features.{rules_features}
+use Rattle.justfile_model.specs.HeaderReader as headers
+use Rattle.justfile_model.specs.HeaderReader.{obeying}
+use Rattle.justfile_model.specs.Reading.{◌>>=◌, Counters}
+use Rattle.justfile_model.specs.RecipeRules.{misplaced_broken, options_broken, parameter_broken, second_broken, stars, undefined_broken}
+use Rattle.justfile_model.specs.Rules.{Broken}
+use Rattle.justfile_model.specs.Tree as tree
+use Rattle.justfile_model.specs.Tree.{ArgumentRules, Dependency, Expr, Parameter}
+use Rattle.justfile_model.specs.declared.parameter_kind.ParameterKind.{ParameterKind}
+use Rattle.justfile_parse_attribute.specs.AttributeTable.{sight_of}
+use Rattle.justfile_parse_expression.specs.TableReader.{Read, Run, State, leaves}
+use Rattle.justfile_parse_expression.specs.declared.significant.TableEntry.{TableEntry}
+use Rattle.justfile_tree.specs.LeafSight.{sees_leaves}
+use Rattle.justfile_tree.specs.LeafTree.{Leaf}
+
+abbrev pub Rules : Type 0
+Rules = ArgumentRules Leaf Token
+
+abbrev pub LeafParameter : Type 0
+LeafParameter = Parameter Leaf Token
+
+abbrev pub LeafDependency : Type 0
+LeafDependency = Dependency Leaf Token (Unit {0})
+
+-- an argument of a dependency, with its star, as it is read
+abbrev pub StarredArgument : Type 0
+StarredArgument = tree.DependencyArgument Leaf Token TableEntry
+
+abbrev pub ReadHeader : Type 0
+ReadHeader = headers.ReadHeader TableEntry Leaf Token (Unit {0})
+
+-- ---- numbers
+
+abbrev pub draw_binding : Counters → State → Read (ℕ × Counters)
+draw_binding = headers.draw_binding leaves
+
+-- ---- paths
+
+abbrev pub path_rest : State → Read (List Leaf)
+path_rest = headers.path_rest leaves
+
+abbrev pub path : State → Read (List Leaf)
+path = headers.path leaves
+
+-- ---- dependencies
+
+abbrev pub dependency_argument : (before : List StarredArgument) → State → Read StarredArgument
+dependency_argument = headers.dependency_argument leaves
+
+-- an argument after those that were read, and all of them
+unfoldable pub one_argument : (before : List StarredArgument) → State → Read (List StarredArgument)
+one_argument before s = do
+  a ← dependency_argument before s
+  Ok (before ++ a.0 ∷ [], a.1)
+
+abbrev pub plain_argument : State → Read StarredArgument
+plain_argument = headers.plain_argument leaves
+
+abbrev pub starred_argument : (before : List StarredArgument) (star : TableEntry) → State → Read StarredArgument
+starred_argument = headers.starred_argument leaves
+
+abbrev pub dependency_arguments : List StarredArgument × State → Read (List StarredArgument)
+dependency_arguments = headers.dependency_arguments leaves
+
+-- a second star is refused
+abbrev pub second_star : (before : List StarredArgument) (star : TableEntry) → List (Broken Token)
+second_star before star = second_broken (map leaves.spot (stars before ++ star ∷ []))
+
+-- a star that goes with no other is refused
+abbrev pub misplaced_star : (star : Option TableEntry) → List StarredArgument → List (Broken Token)
+misplaced_star star arguments = misplaced_broken (option_map leaves.spot star) (map leaves.spot (stars arguments))
+
+abbrev pub parenthesized : (star : Option TableEntry) → State → Read LeafDependency
+parenthesized = headers.parenthesized leaves
+
+abbrev pub bare_dependency : State → Read LeafDependency
+bare_dependency = headers.bare_dependency leaves
+
+abbrev pub dependency : State → Read LeafDependency
+dependency = headers.dependency leaves
+
+abbrev pub begins_dependency : State → Bool
+begins_dependency = headers.begins_dependency leaves
+
+abbrev pub dependencies : State → Read (List LeafDependency)
+dependencies = headers.dependencies leaves
+
+abbrev pub subsequents : State → Read (List LeafDependency)
+subsequents = headers.subsequents leaves
+
+-- ---- parameters
+
+abbrev pub default_value : State → Read (Option (Expr Leaf Token))
+default_value = headers.default_value leaves
+
+abbrev pub begins_parameter : State → Bool
+begins_parameter = headers.begins_parameter leaves
+
+abbrev pub nothing_after : State → Read (Unit {0})
+nothing_after = headers.nothing_after leaves
+
+-- parameters, and the counters after them
+abbrev pub Parameters : Type 0
+Parameters = List LeafParameter × Counters
+
+-- what a parameter breaks that stands after others
+abbrev pub broken_by : List Rules → (before : List LeafParameter) → LeafParameter → List (Broken Token)
+broken_by rules before p = parameter_broken sees_leaves rules before p
+
+abbrev pub named_parameter : List Rules → ParameterKind → (export : Bool) → Parameters → State → Read Parameters
+named_parameter = headers.named_parameter leaves sight_of
+
+abbrev pub parameter : List Rules → ParameterKind → Parameters × State → Read Parameters
+parameter = headers.parameter leaves sight_of
+
+abbrev pub singulars : List Rules → Parameters × State → Read Parameters
+singulars = headers.singulars leaves sight_of
+
+abbrev pub variadic : List Rules → ParameterKind → Parameters × State → Read Parameters
+variadic = headers.variadic leaves sight_of
+
+abbrev pub last_parameter : List Rules → Parameters × State → Read Parameters
+last_parameter = headers.last_parameter leaves sight_of
+
+abbrev pub parameters : List Rules → Counters → State → Read Parameters
+parameters = headers.parameters leaves sight_of
+
+-- ---- headers
+
+-- what the options of a recipe break that are called the same
+abbrev pub same_options : (recipe : Token) → List Rules → List (Broken Token)
+same_options recipe rules = options_broken sees_leaves recipe rules
+
+-- what is said of no parameter
+abbrev pub undefined : List LeafParameter → List Rules → List (Broken Token)
+undefined parameters rules = undefined_broken sees_leaves parameters rules
+
+abbrev pub distinct_options : List Rules → (name : TableEntry) → State → Read (Unit {0})
+distinct_options = headers.distinct_options leaves sight_of
+
+abbrev pub header : List Rules → Counters → State → Read (ReadHeader × Counters)
+header = headers.header leaves sight_of

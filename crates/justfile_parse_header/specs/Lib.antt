@@ -1,0 +1,7 @@
+pub mod Arguments
+pub mod Counting
+pub mod HeaderTable
+pub mod OptionRules
+pub mod Options
+pub mod Said
+pub mod Tree

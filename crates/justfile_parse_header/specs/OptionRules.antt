@@ -1,0 +1,52 @@
+-- The options of a recipe in the steps in which they are checked, and the features that attributes note.
+use Rattle.std.specs.Prelude.{ℕ, Bool, List, [], ◌∷◌, ◌++◌, Option, Some, None, Ok, nat_eq}
+use Rattle.std.specs.List.{list_any}
+use Rattle.std.specs.Str.{bytes_eq}
+use Rattle.justfile_base.specs.declared.name.Name.{Name}
+use Rattle.justfile_base.specs.declared.token.Token.{Token}
+use Rattle.justfile_model.specs.AttributeRules.{rules_in}
+use Rattle.justfile_model.specs.Features.{Noted, rules_features}
+use Rattle.justfile_model.specs.HeaderReader.{obeying}
+use Rattle.justfile_model.specs.Reading.{◌>>=◌}
+use Rattle.justfile_model.specs.RecipeRules.{long_options, repeated_broken, short_options}
+use Rattle.justfile_model.specs.Rules.{Broken, DuplicateLongOption, DuplicateShortOption, broken_if}
+use Rattle.justfile_parse_expression.specs.TableReader.{Read, State}
+use Rattle.justfile_parse_header.specs.HeaderTable.{Rules}
+use Rattle.justfile_parse_header.specs.Options.{Meant, long_in, of_rules, short_in}
+use Rattle.justfile_tree.specs.LeafSight.{sees_leaves}
+
+-- what an attribute notes
+abbrev pub features_in : Meant → List (Noted Token)
+features_in a = of_rules [] rules_features (rules_in a)
+
+-- the place of a number that is there
+abbrev pub bound_place_in : (name : Token) (key : Option Name) (number : Option ℕ) → Option Token
+bound_place_in name key None = None
+bound_place_in name (Some key) (Some number) = Some key.token
+bound_place_in name None (Some number) = Some name
+
+-- the long options that are called as one before them
+abbrev pub longs_from : (recipe : Token) (before : List (List ℕ)) → List Rules → List (Broken Token)
+longs_from recipe before rules = repeated_broken bytes_eq (λ option. DuplicateLongOption option recipe) before (long_options sees_leaves rules)
+
+abbrev pub shorts_from : (recipe : Token) (before : List ℕ) → List Rules → List (Broken Token)
+shorts_from recipe before rules = repeated_broken nat_eq (λ option. DuplicateShortOption option recipe) before (short_options sees_leaves rules)
+
+-- an option after others, which it may not repeat
+unfoldable pub long_step : (recipe : Token) (before : List (List ℕ)) → Meant → State → Read (List (List ℕ))
+long_step recipe before a s = step (long_in a)
+  where
+    step : Option (List ℕ × Token) → Read (List (List ℕ))
+    step None = Ok (before, s)
+    step (Some option) = do
+      new ← obeying (broken_if (list_any (bytes_eq option.0) before) (DuplicateLongOption option.0 recipe) option.1) s
+      Ok (before ++ option.0 ∷ [], new.1)
+
+unfoldable pub short_step : (recipe : Token) (before : List ℕ) → Meant → State → Read (List ℕ)
+short_step recipe before a s = step (short_in a)
+  where
+    step : Option (ℕ × Token) → Read (List ℕ)
+    step None = Ok (before, s)
+    step (Some option) = do
+      new ← obeying (broken_if (list_any (nat_eq option.0) before) (DuplicateShortOption option.0 recipe) option.1) s
+      Ok (before ++ option.0 ∷ [], new.1)

@@ -1,0 +1,270 @@
+//! The dependencies of a recipe.
+ghost use Rattle.std.specs.Prelude.{◌≡◌, ◌<◌, ◌≤◌, ◌∷◌, ◌++◌, [], OnOk, IfOk, map};
+ghost use Rattle.std.specs.Option.{option_map};
+ghost use Rattle.justfile_model.specs.HeaderReader.{obeying};
+ghost use Rattle.justfile_model.specs.Meaning.{first_of};
+ghost use Rattle.justfile_model.specs.Reading.{prepend};
+ghost use Rattle.justfile_model.specs.RecipeRules.{stars};
+ghost use Rattle.justfile_model.specs.Tree.{over_dependency_argument};
+ghost use Rattle.justfile_parse_attribute.specs.Halting.{ReadsRuled};
+ghost use Rattle.justfile_parse_expression.specs.MethodResults.{Reads};
+ghost use Rattle.justfile_parse_expression.specs.TableReader.{State, leaves};
+ghost use Rattle.justfile_parse_expression.specs.View.{left, state_of};
+ghost use Rattle.justfile_parse_header.specs.HeaderTable as reader;
+ghost use Rattle.justfile_parse_header.specs.Tree.{argument_tree, dependency_tree, read_argument};
+
+use crate::namepath::parse_namepath;
+use justfile_base::{CompileErrorKind, Expander, Fault, TokenKind};
+use justfile_header::{DependencyArgument, UnresolvedDependency};
+use justfile_parse_attribute::{Halt, make_halt};
+use justfile_parse_expression::significant::TableEntry;
+use justfile_parse_expression::{ExpressionParser, Refusal, Stop};
+use justfile_tree::Expression;
+use std::alloc::{AllocError, Global};
+
+/// An argument of a dependency while the arguments are read.
+#[derive(Drop)]
+pub(crate) struct ReadArgument<'run, 'src> {
+    /// The star before it, if one is there.
+    pub(crate) star: Option<TableEntry<'run, 'src>>,
+    pub(crate) value: Box<Expression<'src>>,
+}
+
+/// The dependencies up to what begins none, after those before them.
+pub(crate) fn parse_dependencies<'src, X: Expander>(
+    parser: &mut ExpressionParser<'_, 'src, X>,
+    dependencies: &mut Vec<UnresolvedDependency<'src>>,
+) -> Result<(), Halt<'src>>
+    ensures reads { ReadsRuled (λ _. map dependency_tree dependencies.new.items) result (state_of X.answer parser.new)
+        (prepend (map dependency_tree dependencies.old.items) (reader.dependencies (state_of X.answer parser.old))) }
+    ensures progress { OnOk result (left parser.new ≤ left parser.old) }
+{
+    'dependencies: loop {
+        if !begins_dependency(parser) {
+            return Ok(());
+        }
+        let dependency = parse_dependency(parser)?;
+        dependencies.push(dependency)?;
+    }
+}
+
+/// The dependencies after `&&`, one at least, if it comes next. They are added to those before it.
+pub(crate) fn parse_subsequents<'src, X: Expander>(
+    parser: &mut ExpressionParser<'_, 'src, X>,
+    dependencies: &mut Vec<UnresolvedDependency<'src>>,
+) -> Result<(), Halt<'src>>
+    ensures reads { ReadsRuled (λ _. map dependency_tree dependencies.new.items) result (state_of X.answer parser.new)
+        (prepend (map dependency_tree dependencies.old.items) (reader.subsequents (state_of X.answer parser.old))) }
+    ensures progress { OnOk result (left parser.new ≤ left parser.old) }
+{
+    let Some(_operator) = parser.accept(TokenKind::AmpersandAmpersand) else {
+        return Ok(());
+    };
+    let priors = dependencies.len();
+    parse_dependencies(parser, dependencies)?;
+    if dependencies.len() == priors {
+        return Err(Halt::Stopped(Stop::Refused(Refusal::Unexpected)));
+    }
+    Ok(())
+}
+
+/// Whether a dependency begins with the next token.
+fn begins_dependency<X: Expander>(parser: &ExpressionParser<'_, '_, X>) -> bool
+    ensures { result ≡ reader.begins_dependency (state_of X.answer parser.now) }
+{
+    parser.peek_kinds(&[TokenKind::Identifier])
+        || parser.peek_kinds(&[TokenKind::Asterisk])
+        || parser.peek_kinds(&[TokenKind::ParenL])
+}
+
+/// A path alone, or with arguments in parentheses, with a star before them or not.
+#[tactic(auto, unfolding(justfile_model::specs::HeaderReader::dependency))]
+fn parse_dependency<'src, X: Expander>(
+    parser: &mut ExpressionParser<'_, 'src, X>,
+) -> Result<UnresolvedDependency<'src>, Halt<'src>>
+    ensures reads { ReadsRuled dependency_tree result (state_of X.answer parser.new) (reader.dependency (state_of X.answer parser.old)) }
+    ensures progress { OnOk result (left parser.new < left parser.old) }
+{
+    if parser.peek_kinds(&[TokenKind::Identifier]) {
+        return Ok(parse_bare(parser)?);
+    }
+    match parser.accept(TokenKind::Asterisk) {
+        Some(star) => parse_parenthesized(parser, Some(star)),
+        None => parse_parenthesized(parser, None),
+    }
+}
+
+/// A path alone.
+#[tactic(auto, unfolding(justfile_model::specs::HeaderReader::bare_dependency))]
+fn parse_bare<'src, X: Expander>(
+    parser: &mut ExpressionParser<'_, 'src, X>,
+) -> Result<UnresolvedDependency<'src>, Stop<'src>>
+    ensures reads { Reads dependency_tree result (state_of X.answer parser.new) (reader.bare_dependency (state_of X.answer parser.old)) }
+    ensures progress { OnOk result (left parser.new < left parser.old) }
+{
+    let recipe = parse_namepath(parser)?;
+    Ok(UnresolvedDependency {
+        arguments: Vec::new(parser.alloc),
+        recipe,
+    })
+}
+
+/// A path and arguments in parentheses, after a star or not.
+#[tactic(auto, unfolding(justfile_model::specs::HeaderReader::parenthesized))]
+fn parse_parenthesized<'run, 'src, X: Expander>(
+    parser: &mut ExpressionParser<'run, 'src, X>,
+    star: Option<TableEntry<'run, 'src>>,
+) -> Result<UnresolvedDependency<'src>, Halt<'src>>
+    ensures reads { ReadsRuled dependency_tree result (state_of X.answer parser.new) (reader.parenthesized star.entry (state_of X.answer parser.old)) }
+    ensures progress { OnOk result (left parser.new < left parser.old) }
+{
+    parser.expect(TokenKind::ParenL)?;
+    let recipe = parse_namepath(parser)?;
+    let arguments = parse_arguments(parser)?;
+    check_stars(parser.alloc, star, arguments.as_slice())?;
+    let arguments = keep_arguments(parser.alloc, arguments)?;
+    Ok(UnresolvedDependency { arguments, recipe })
+}
+
+/// Arguments side by side, up to the closing parenthesis and with it.
+fn parse_arguments<'run, 'src, X: Expander>(
+    parser: &mut ExpressionParser<'run, 'src, X>,
+) -> Result<Vec<ReadArgument<'run, 'src>>, Halt<'src>>
+    ensures reads { ReadsRuled (λ arguments. map read_argument arguments.items) result (state_of X.answer parser.new)
+        (reader.dependency_arguments ([], state_of X.answer parser.old)) }
+    ensures progress { OnOk result (left parser.new < left parser.old) }
+{
+    let mut arguments = Vec::new(parser.alloc);
+    'arguments: loop {
+        if let Some(_closer) = parser.accept(TokenKind::ParenR) {
+            return Ok(arguments);
+        }
+        let argument = parse_argument(parser, arguments.as_slice())?;
+        arguments.push(argument)?;
+    }
+}
+
+/// An argument after others, with a star before it or not.
+#[tactic(auto, unfolding(justfile_model::specs::HeaderReader::dependency_argument))]
+fn parse_argument<'run, 'src, X: Expander>(
+    parser: &mut ExpressionParser<'run, 'src, X>,
+    before: &[ReadArgument<'run, 'src>],
+) -> Result<ReadArgument<'run, 'src>, Halt<'src>>
+    ensures reads { ReadsRuled read_argument result (state_of X.answer parser.new)
+        (reader.dependency_argument (map read_argument before.now) (state_of X.answer parser.old)) }
+    ensures progress { OnOk result (left parser.new < left parser.old) }
+{
+    match parser.accept(TokenKind::Asterisk) {
+        Some(star) => parse_starred(parser, before, star),
+        None => Ok(parse_plain(parser)?),
+    }
+}
+
+/// An argument without a star.
+#[tactic(auto, unfolding(justfile_model::specs::HeaderReader::plain_argument))]
+fn parse_plain<'run, 'src, X: Expander>(
+    parser: &mut ExpressionParser<'run, 'src, X>,
+) -> Result<ReadArgument<'run, 'src>, Stop<'src>>
+    ensures reads { Reads read_argument result (state_of X.answer parser.new) (reader.plain_argument (state_of X.answer parser.old)) }
+    ensures progress { OnOk result (left parser.new < left parser.old) }
+{
+    let value = parser.parse_expression()?;
+    Ok(ReadArgument { star: None, value })
+}
+
+/// An argument after its star, and after others. A second star is refused.
+#[tactic(auto, unfolding(justfile_model::specs::HeaderReader::starred_argument))]
+fn parse_starred<'run, 'src, X: Expander>(
+    parser: &mut ExpressionParser<'run, 'src, X>,
+    before: &[ReadArgument<'run, 'src>],
+    star: TableEntry<'run, 'src>,
+) -> Result<ReadArgument<'run, 'src>, Halt<'src>>
+    ensures reads { ReadsRuled read_argument result (state_of X.answer parser.new)
+        (reader.starred_argument (map read_argument before.now) star.entry (state_of X.answer parser.old)) }
+    ensures progress { OnOk result (left parser.new < left parser.old) }
+{
+    check_first(parser.alloc, before, star)?;
+    let value = parser.parse_value()?;
+    Ok(ReadArgument {
+        star: Some(star),
+        value,
+    })
+}
+
+/// Refuses a star after another one.
+fn check_first<'run, 'src>(
+    alloc: Global,
+    before: &[ReadArgument<'run, 'src>],
+    star: TableEntry<'run, 'src>,
+) -> Result<(), Halt<'src>>
+    ensures { (s : State) → ReadsRuled (λ _. tt) result s (obeying (reader.second_star (map read_argument before.now) star.entry) s) }
+{
+    match find_star(before) {
+        None => Ok(()),
+        Some(_first) => Err(make_halt(
+            alloc,
+            Fault::Compile(
+                star.token
+                    .error(CompileErrorKind::MappedDependencyMultipleStarredArguments),
+            ),
+        )),
+    }
+}
+
+/// Refuses a star before the parentheses without one in them, and one in them without one before.
+fn check_stars<'run, 'src>(
+    alloc: Global,
+    star: Option<TableEntry<'run, 'src>>,
+    arguments: &[ReadArgument<'run, 'src>],
+) -> Result<(), Halt<'src>>
+    ensures { (s : State) → ReadsRuled (λ _. tt) result s (obeying (reader.misplaced_star star.entry (map read_argument arguments.now)) s) }
+{
+    match (star, find_star(arguments)) {
+        (None, Some(first)) => Err(make_halt(
+            alloc,
+            Fault::Compile(
+                first
+                    .token
+                    .error(CompileErrorKind::StarredArgumentOutsideMappedDependency),
+            ),
+        )),
+        (Some(star), None) => Err(make_halt(
+            alloc,
+            Fault::Compile(
+                star.token
+                    .error(CompileErrorKind::MappedDependencyWithoutStarredArgument),
+            ),
+        )),
+        (None, None) | (Some(_), Some(_)) => Ok(()),
+    }
+}
+
+/// The star of the first argument that has one.
+fn find_star<'run, 'src>(arguments: &[ReadArgument<'run, 'src>]) -> Option<TableEntry<'run, 'src>>
+    ensures { result ≡ first_of (stars (map read_argument arguments.now)) }
+{
+    for argument in arguments {
+        if let Some(star) = argument.star {
+            return Some(star);
+        }
+    }
+    None
+}
+
+/// What is kept of arguments.
+fn keep_arguments<'src>(
+    alloc: Global,
+    arguments: Vec<ReadArgument<'_, 'src>>,
+) -> Result<Vec<DependencyArgument<'src>>, AllocError>
+    ensures { IfOk result (λ kept. map argument_tree kept.items
+        ≡ map (over_dependency_argument (λ x. x) (λ x. x) leaves.star) (map read_argument arguments.entry.items)) }
+{
+    let mut kept = Vec::new(alloc);
+    for argument in arguments {
+        kept.push(DependencyArgument {
+            starred: argument.star.is_some(),
+            expression: argument.value,
+        })?;
+    }
+    Ok(kept)
+}

@@ -1,0 +1,14 @@
+//! From tokens to headers of recipes: their parameters, with what attributes say of these, and their dependencies.
+#![tactic(auto)]
+
+mod arguments;
+mod dependency;
+mod header;
+mod namepath;
+mod number;
+mod options;
+mod parameter;
+mod said;
+
+pub use crate::header::{Header, parse_header};
+pub use crate::number::draw_binding;

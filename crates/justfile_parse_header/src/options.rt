@@ -1,0 +1,239 @@
+//! The options of a recipe, and what attributes say of parameters that needs the setting for lists.
+ghost use Rattle.std.specs.Prelude.{◌≡◌, ◌∷◌, ◌++◌, [], List, Option, OnOk, map};
+ghost use Rattle.std.specs.List.{flat_map, list_any};
+ghost use Rattle.std.specs.Option.{option_map};
+ghost use Rattle.std.specs.Str.{bytes_eq};
+ghost use Rattle.justfile_attribute.specs.Attribute.{leaf_attribute_of};
+ghost use Rattle.justfile_attribute_rules.specs.Made.{IsRefusedBy};
+ghost use Rattle.justfile_model.specs.Features.{noted_at, rules_features};
+ghost use Rattle.justfile_model.specs.HeaderReader.{obeying};
+ghost use Rattle.justfile_model.specs.NewAttribute as new;
+ghost use Rattle.justfile_model.specs.Reading.{with};
+ghost use Rattle.justfile_model.specs.Rules.{DuplicateLongOption, DuplicateShortOption};
+ghost use Rattle.justfile_parse_attribute.specs.Halting.{ReadsRuled};
+ghost use Rattle.justfile_parse_expression.specs.MethodResults.{UnlessMemory};
+ghost use Rattle.justfile_parse_expression.specs.TableReader.{State};
+ghost use Rattle.justfile_parse_expression.specs.View.{left, state_of};
+ghost use Rattle.justfile_parse_header.specs.HeaderTable as reader;
+ghost use Rattle.justfile_parse_header.specs.OptionRules.{bound_place_in, features_in, long_step, longs_from, short_step, shorts_from};
+ghost use Rattle.justfile_parse_header.specs.Tree.{rules_of};
+ghost use Rattle.justfile_tree.specs.LeafSight.{sees_leaves};
+
+use crate::said::{find_long, find_short_option};
+use justfile_attribute::Attribute;
+use justfile_attribute_set::AttributeSet;
+use justfile_base::{CompileErrorKind, Expander, Fault, Name, Switch, Token};
+use justfile_parse_attribute::{Halt, make_halt};
+use justfile_parse_expression::{ExpressionParser, Stop};
+use justfile_tree::ListFeature;
+use std::alloc::Global;
+
+/// Notes what attributes say of parameters that needs the setting for lists.
+pub(crate) fn note_rules<'src, X: Expander>(
+    attributes: &AttributeSet<'src>,
+    parser: &mut ExpressionParser<'_, 'src, X>,
+) -> Result<(), Stop<'src>>
+    ensures notes { UnlessMemory result
+        (λ done. state_of X.answer parser.new ≡ with (flat_map rules_features (rules_of attributes.now)) (state_of X.answer parser.old)) }
+    ensures stays { left parser.new ≡ left parser.old }
+{
+    let mut rest = attributes.iter();
+    'attributes: loop {
+        let Some(attribute) = rest.next() else {
+            return Ok(());
+        };
+        note_attribute(attribute, parser)?;
+    }
+}
+
+/// Notes what an attribute says of its parameter, at its keys.
+fn note_attribute<'src, X: Expander>(
+    attribute: &Attribute<'src>,
+    parser: &mut ExpressionParser<'_, 'src, X>,
+) -> Result<(), Stop<'src>>
+    ensures notes { UnlessMemory result
+        (λ done. state_of X.answer parser.new ≡ with (features_in (leaf_attribute_of attribute.now)) (state_of X.answer parser.old)) }
+    ensures stays { left parser.new ≡ left parser.old }
+{
+    match attribute {
+        Attribute::Arg {
+            flag,
+            max,
+            max_key,
+            min,
+            min_key,
+            multiple,
+            name,
+            ..
+        } => {
+            note_at(parser, ListFeature::Flag, *flag)?;
+            note_at(parser, ListFeature::Multiple, *multiple)?;
+            note_at(
+                parser,
+                ListFeature::ArgMax,
+                find_place(name.token, *max_key, *max),
+            )?;
+            note_at(
+                parser,
+                ListFeature::ArgMin,
+                find_place(name.token, *min_key, *min),
+            )
+        }
+        _ => Ok(()),
+    }
+}
+
+/// Notes a feature at a key, if it is there.
+#[tactic(auto, using(justfile_parse_expression::proofs::Rest::with_none))]
+fn note_at<'src, X: Expander>(
+    parser: &mut ExpressionParser<'_, 'src, X>,
+    feature: ListFeature,
+    key: Option<Token<'src>>,
+) -> Result<(), Stop<'src>>
+    ensures notes { UnlessMemory result
+        (λ done. state_of X.answer parser.new ≡ with (noted_at feature key.entry) (state_of X.answer parser.old)) }
+    ensures stays { left parser.new ≡ left parser.old }
+{
+    match key {
+        Some(key) => parser.note(feature, key),
+        None => Ok(()),
+    }
+}
+
+/// The place of a number that is there: its key, or the name of the argument where it has none.
+fn find_place<'src>(
+    name: Token<'src>,
+    key: Option<Name<'src>>,
+    number: Option<u64>,
+) -> Option<Token<'src>>
+    ensures { result ≡ bound_place_in name.entry key.entry number }
+{
+    match (number, key) {
+        (None, _) => None,
+        (Some(_), Some(key)) => Some(key.token),
+        (Some(_), None) => Some(name),
+    }
+}
+
+/// Refuses options of a recipe that are called the same, long ones before short ones.
+pub(crate) fn check_options<'src>(
+    attributes: &AttributeSet<'src>,
+    alloc: Global,
+    recipe: Token<'src>,
+) -> Result<(), Halt<'src>>
+    ensures { (s : State) → ReadsRuled (λ _. tt) result s (obeying (reader.same_options recipe.entry (rules_of attributes.now)) s) }
+{
+    check_longs(attributes, alloc, recipe)?;
+    check_shorts(attributes, alloc, recipe)
+}
+
+/// Refuses long options that are called the same.
+fn check_longs<'run, 'src>(
+    attributes: &'run AttributeSet<'src>,
+    alloc: Global,
+    recipe: Token<'src>,
+) -> Result<(), Halt<'src>>
+    ensures { (s : State) → ReadsRuled (λ _. tt) result s (obeying (longs_from recipe.entry [] (rules_of attributes.now)) s) }
+{
+    let mut before: Vec<&'run str> = Vec::new(alloc);
+    let mut left = attributes.iter();
+    'attributes: loop {
+        let Some(attribute) = left.next() else {
+            return Ok(());
+        };
+        check_long(attribute, alloc, recipe, &mut before)?;
+    }
+}
+
+/// Refuses the long option of an attribute if one before it is called the same.
+fn check_long<'run, 'src>(
+    attribute: &'run Attribute<'src>,
+    alloc: Global,
+    recipe: Token<'src>,
+    before: &mut Vec<&'run str>,
+) -> Result<(), Halt<'src>>
+    ensures { (s : State) → ReadsRuled (λ _. map (λ t. t.now) before.new.items) result s
+        (long_step recipe.entry (map (λ t. t.now) before.old.items) (leaf_attribute_of attribute.now) s) }
+{
+    let Some((option, place)) = find_long(attribute) else {
+        return Ok(());
+    };
+    if is_among(before.as_slice(), option) {
+        return Err(make_halt(alloc, same_long(alloc, recipe, option, place)));
+    }
+    before.push(option)?;
+    Ok(())
+}
+
+/// Whether the text is among the others.
+fn is_among(texts: &[&str], text: &str) -> bool
+    ensures { result ≡ list_any (bytes_eq text.now) (map (λ t. t.now) texts.now) }
+{
+    texts.iter().any(|other| text == *other)
+}
+
+/// The refusal of a long option that is called as one before it.
+fn same_long<'src>(
+    alloc: Global,
+    recipe: Token<'src>,
+    option: &str,
+    place: Token<'src>,
+) -> Fault<'src>
+    ensures { IsRefusedBy (new.refuse {X = Unit {0}} (DuplicateLongOption option.now recipe.entry) place.entry) result }
+{
+    match option.to_string(alloc) {
+        Ok(option) => Fault::Compile(place.error(CompileErrorKind::DuplicateOption {
+            recipe: recipe.lexeme(),
+            option: Switch::Long(option),
+        })),
+        Err(_) => Fault::Memory,
+    }
+}
+
+/// Refuses short options that are called the same.
+fn check_shorts<'src>(
+    attributes: &AttributeSet<'src>,
+    alloc: Global,
+    recipe: Token<'src>,
+) -> Result<(), Halt<'src>>
+    ensures { (s : State) → ReadsRuled (λ _. tt) result s (obeying (shorts_from recipe.entry [] (rules_of attributes.now)) s) }
+{
+    let mut before: Vec<char> = Vec::new(alloc);
+    let mut left = attributes.iter();
+    'attributes: loop {
+        let Some(attribute) = left.next() else {
+            return Ok(());
+        };
+        check_short(attribute, alloc, recipe, &mut before)?;
+    }
+}
+
+/// Refuses the short option of an attribute if one before it is called the same.
+fn check_short<'src>(
+    attribute: &Attribute<'src>,
+    alloc: Global,
+    recipe: Token<'src>,
+    before: &mut Vec<char>,
+) -> Result<(), Halt<'src>>
+    ensures { (s : State) → ReadsRuled (λ _. before.new.items) result s
+        (short_step recipe.entry before.old.items (leaf_attribute_of attribute.now) s) }
+{
+    let Some((option, place)) = find_short_option(attribute) else {
+        return Ok(());
+    };
+    if before.as_slice().contains(&option) {
+        return Err(make_halt(alloc, same_short(recipe, option, place)));
+    }
+    before.push(option)?;
+    Ok(())
+}
+
+/// The refusal of a short option that is called as one before it.
+fn same_short<'src>(recipe: Token<'src>, option: char, place: Token<'src>) -> Fault<'src>
+    ensures { IsRefusedBy (new.refuse {X = Unit {0}} (DuplicateShortOption option recipe.entry) place.entry) result }
+{
+    Fault::Compile(place.error(CompileErrorKind::DuplicateOption {
+        recipe: recipe.lexeme(),
+        option: Switch::Short(option),
+    }))
+}

@@ -1,0 +1,167 @@
+-- Where items are good, they are with their docs as comments after these were taken.
+use Rattle.std.proofs.Common.{◌≡◌, ℕ, Bool, true, false, cond, List, [], ◌∷◌, Option, Some, None, refl, sym, subst, ap, ◌∙◌}
+use Rattle.std.specs.Prelude.{◌||◌, not}
+use Rattle.std.specs.List.{AllByRecursion}
+use Rattle.justfile_model.specs.Docs.{Before, LineEnd, Other, comment_taken, doc_in, doc_of, doc_or_comment, documented, redocumented, taken, wants_doc}
+use Rattle.justfile_model.specs.Files.{says_doc}
+use Rattle.justfile_model.specs.Modes.{is_empty}
+use Rattle.justfile_model.specs.Printing.{doc_comment, shown_doc}
+use Rattle.justfile_model.specs.Rewritten.{after_doc, doc_written, docs_written}
+use Rattle.justfile_model.specs.Tree.{Assignment, Comment, Construct, Newline, Recipe, Shape, bare_recipe, plain_assignment}
+use Rattle.justfile_model.proofs.DocComments.{doc_comment_ends, doc_comment_first}
+use Rattle.justfile_model.proofs.DocsText.{none_shown}
+use Rattle.justfile_model.proofs.PlainFiles.{InComment, IsPlain}
+use Rattle.justfile_model.proofs.PrintedDocs.{Utf8Comment, wants_is}
+use Rattle.justfile_model.proofs.TrimLaws.{doc_comment_trimmed, doc_comment_utf8, doc_of_comment, past_hash}
+use Rattle.justfile_round_trip.proofs.Canon.{ShapeContent, ShapeItem}
+use Rattle.justfile_round_trip.proofs.CanonAttributes.{ShapeEntry}
+use Rattle.justfile_round_trip.proofs.DocsNormal.{Begun, begun_comment, comment, construct}
+use Rattle.justfile_round_trip.proofs.Good.{GoodComment}
+use Rattle.justfile_round_trip.proofs.GoodItems as good
+use Rattle.justfile_round_trip.proofs.GoodItems.{AtStart, ItemRest, blank_only, follows_body}
+
+-- the comment that a doc is printed as, which was taken of a good one
+good_doc : (before : Before) (t doc : List ℕ) → GoodComment t → doc_in before t ≡ Some doc → GoodComment (doc_comment doc)
+good_doc before t doc h e =
+    let u = past_hash t h.comment.first h.utf8 in
+    let d = doc_of_comment before t doc u e in
+    record {
+      comment = record { first = doc_comment_first doc d; ends = doc_comment_ends before t doc u h.comment.ends e };
+      trimmed = doc_comment_trimmed doc d;
+      utf8 = doc_comment_utf8 doc d;
+    }
+
+-- ---- constructs without docs
+
+-- a construct without a doc is written as it is, without one
+bare_written : (entries : List ShapeEntry) (content : ShapeContent) (items : Shape) → doc_of content ≡ None
+    → doc_written (Construct entries content) items ≡ Construct entries (redocumented None content) ∷ items
+bare_written entries content items e = ap (λ o. after_doc o (Construct entries (redocumented None content) ∷ items)) (none_shown entries content e)
+
+-- one that gets a doc is written after its comment
+doc_put : (doc : List ℕ) (content : ShapeContent) (entries : List ShapeEntry) (items : Shape) → wants_doc says_doc entries content ≡ true
+    → doc_written (Construct entries (redocumented (Some doc) content)) items
+    ≡ Comment (doc_comment doc) ∷ Newline ∷ doc_written (Construct entries content) items
+doc_put doc (Assignment parts) entries items h = cc
+doc_put doc (Recipe parts) entries items h =
+    let w = wants_is entries parts h in
+    ap (λ b. after_doc (cond b None (Some doc)) (Construct entries (redocumented None (Recipe parts)) ∷ items)) w.0
+    ∙ ap (λ x. Comment (doc_comment doc) ∷ Newline ∷ x) (sym (bare_written entries (Recipe parts) items w.1))
+
+module _ (limit : ℕ) where
+  -- ---- a comment before items that are good
+
+  after_comment : (t : List ℕ) (items : Shape) → GoodComment t → AtStart limit items → AtStart limit (Comment t ∷ Newline ∷ items)
+  after_comment t items h more = good.comment h (good.line_end more)
+
+  taken_good : (before : Before) (t : List ℕ) (i : ShapeItem) (items : Shape) (o : Option (List ℕ)) → doc_in before t ≡ o → GoodComment t
+      → AtStart limit (docs_written (i ∷ items)) → AtStart limit (docs_written (comment_taken says_doc t i items o))
+  taken_good before t i items None e h more = after_comment t _ h more
+  taken_good before t Newline items (Some doc) e h more = after_comment t _ h more
+  taken_good before t (Comment u) items (Some doc) e h more = after_comment t _ h more
+  taken_good before t (Construct entries content) items (Some doc) e h more = by (wants_doc says_doc entries content) refl
+    where
+      by : (b : Bool) → wants_doc says_doc entries content ≡ b
+          → AtStart limit (docs_written (doc_or_comment says_doc t (Construct entries content) items (cond b (Some (Construct entries (redocumented (Some doc) content))) None)))
+      by true w = subst (AtStart limit) (sym (doc_put doc content entries (docs_written items) w)) (after_comment (doc_comment doc) _ (good_doc before t doc h e) more)
+      by false w = after_comment t _ h more
+
+  comment_good : (before : Before) (t : List ℕ) (items : Shape) → GoodComment t → AtStart limit (docs_written items)
+      → AtStart limit (docs_written (taken says_doc before (Comment t) (Newline ∷ items)))
+  comment_good before t [] h more = after_comment t _ h more
+  comment_good before t (i ∷ items) h more = taken_good before t i items (doc_in before t) refl h more
+
+  trailing_kept : (t : List ℕ) (items : Shape) → taken says_doc Other (Comment t) (Newline ∷ items) ≡ Comment t ∷ Newline ∷ items
+  trailing_kept t [] = refl
+  trailing_kept t (i ∷ items) = refl
+
+  -- ---- after a body
+
+  -- what is said of items that begin with a comment or a construct, with their docs as comments
+  begun_written : (f : Shape → Bool) → ((t : List ℕ) (items : Shape) → f (Comment t ∷ items) ≡ false)
+      → ((entries : List ShapeEntry) (content : ShapeContent) (items : Shape) → f (Construct entries content ∷ items) ≡ false)
+      → {s : Shape} → Begun s → f (docs_written s) ≡ false
+  begun_written f of_comment of_construct comment = of_comment _ _
+  begun_written f of_comment of_construct (construct {entries = entries} {content = content} {items = items}) = by (shown_doc entries content)
+    where
+      by : (o : Option (List ℕ)) → f (after_doc o (Construct entries (redocumented None content) ∷ docs_written items)) ≡ false
+      by None = of_construct _ _ _
+      by (Some doc) = of_comment _ _
+
+  begun_not_blank : {s : Shape} → Begun s → blank_only (docs_written s) ≡ false
+  begun_not_blank begun = begun_written blank_only (λ t items. refl) (λ entries content items. refl) begun
+
+  blank_kept : (before : Before) (s : Shape) → blank_only (docs_written (documented says_doc before s)) ≡ blank_only s
+  blank_kept before [] = refl
+  blank_kept before (Newline ∷ s) = blank_kept LineEnd s
+  blank_kept before (Comment t ∷ s) = begun_not_blank (begun_comment before t (documented says_doc Other s))
+  blank_kept before (Construct entries content ∷ s) = begun_not_blank (construct {entries = entries} {content = content} {items = documented says_doc Other s})
+
+  begun_some : {s : Shape} → Begun s → is_empty (docs_written s) ≡ false
+  begun_some begun = begun_written is_empty (λ t items. refl) (λ entries content items. refl) begun
+
+  empty_kept : (before : Before) (s : Shape) → is_empty (docs_written (documented says_doc before s)) ≡ is_empty s
+  empty_kept before [] = refl
+  empty_kept before (Newline ∷ s) = refl
+  empty_kept before (Comment t ∷ s) = begun_some (begun_comment before t (documented says_doc Other s))
+  empty_kept before (Construct entries content ∷ s) = begun_some (construct {entries = entries} {content = content} {items = documented says_doc Other s})
+
+  follows_kept : (before : Before) (s : Shape) → follows_body (docs_written (documented says_doc before s)) ≡ follows_body s
+  follows_kept before s = λ i. empty_kept before s i || not (blank_kept before s i)
+
+  -- ---- items
+
+  -- a construct without a doc, whose rest is good
+  construct_good : (entries : List ShapeEntry) (content : ShapeContent) (items : Shape) → doc_of content ≡ None
+      → AtStart limit (Construct entries (redocumented None content) ∷ docs_written items) → AtStart limit (docs_written (Construct entries content ∷ items))
+  construct_good entries content items e h = subst (AtStart limit) (sym (bare_written entries content (docs_written items) e)) h
+
+  mutual
+    pub docs_good : (before : Before) {s : Shape} → AtStart limit s → AtStart limit (docs_written (documented says_doc before s))
+    docs_good before good.end = good.end
+    docs_good before (good.newline more) = good.newline (docs_good LineEnd more)
+    docs_good before (good.comment {t = t} h (good.line_end {items = items} more)) = comment_good before t (documented says_doc LineEnd items) h (docs_good LineEnd more)
+    docs_good before (good.assignment {entries = entries} {name = name} {value = value} {items = items} attributes named h more) =
+        construct_good entries (Assignment (plain_assignment name value)) (documented says_doc Other items) refl (good.assignment attributes named h (rest_good more))
+    docs_good before (good.header {entries = entries} {h = header} {items = items} attributes h more) =
+        construct_good entries (Recipe (bare_recipe header [])) (documented says_doc Other items) refl (good.header attributes h (rest_good more))
+    docs_good before (good.recipe {entries = entries} {h = header} {l = l} {ls = ls} attributes h body (good.body_end {items = items} follows last more)) =
+        construct_good entries (Recipe (bare_recipe header (l ∷ ls))) (documented says_doc Other (Newline ∷ items)) refl
+        (good.recipe attributes h body
+        (good.body_end (follows_kept LineEnd items ∙ follows) (λ p. ap (λ s. docs_written (documented says_doc LineEnd s)) (last p)) (docs_good LineEnd more)))
+
+    rest_good : {s : Shape} → ItemRest limit s → ItemRest limit (docs_written (documented says_doc Other s))
+    rest_good (good.trailing {t = t} h (good.line_end {items = items} more)) =
+        subst (λ s. ItemRest limit (docs_written s)) (sym (trailing_kept t (documented says_doc LineEnd items))) (good.trailing h (good.line_end (docs_good LineEnd more)))
+    rest_good (good.bare (good.line_end more)) = good.bare (good.line_end (docs_good LineEnd more))
+
+  -- ---- what is known of good items, each by itself
+
+  mutual
+    pub start_plain : {s : Shape} → AtStart limit s → AllByRecursion IsPlain s
+    start_plain good.end = tt
+    start_plain (good.newline more) = (tt, start_plain more)
+    start_plain (good.comment h (good.line_end more)) = (tt, (tt, start_plain more))
+    start_plain (good.assignment attributes named h more) = (refl, rest_plain more)
+    start_plain (good.header attributes h more) = (refl, rest_plain more)
+    start_plain (good.recipe attributes h body (good.body_end follows last more)) = (refl, (tt, start_plain more))
+
+    rest_plain : {s : Shape} → ItemRest limit s → AllByRecursion IsPlain s
+    rest_plain (good.trailing h (good.line_end more)) = (tt, (tt, start_plain more))
+    rest_plain (good.bare (good.line_end more)) = (tt, start_plain more)
+
+  comment_utf8 : (t : List ℕ) → GoodComment t → Utf8Comment t
+  comment_utf8 t h = past_hash t h.comment.first h.utf8
+
+  mutual
+    pub start_comments : {s : Shape} → AtStart limit s → AllByRecursion (InComment Utf8Comment) s
+    start_comments good.end = tt
+    start_comments (good.newline more) = (tt, start_comments more)
+    start_comments (good.comment {t = t} h (good.line_end more)) = (comment_utf8 t h, (tt, start_comments more))
+    start_comments (good.assignment attributes named h more) = (tt, rest_comments more)
+    start_comments (good.header attributes h more) = (tt, rest_comments more)
+    start_comments (good.recipe attributes h body (good.body_end follows last more)) = (tt, (tt, start_comments more))
+
+    rest_comments : {s : Shape} → ItemRest limit s → AllByRecursion (InComment Utf8Comment) s
+    rest_comments (good.trailing {t = t} h (good.line_end more)) = (comment_utf8 t h, (tt, start_comments more))
+    rest_comments (good.bare (good.line_end more)) = (tt, start_comments more)

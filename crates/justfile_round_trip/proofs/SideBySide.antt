@@ -1,0 +1,185 @@
+-- Expressions that stand side by side: what follows one in the source, it ends before in the printed text too.
+use Rattle.std.proofs.Common.{◌≡◌, ℕ, Bool, true, false, cond, ◌∷◌, Option, refl, sym, subst, ap, ◌∙◌, codes}
+use Rattle.std.specs.Prelude.{◌&&◌}
+use Rattle.justfile_base.specs.declared.token_kind.TokenKind.{TokenKind}
+use Rattle.justfile_base.specs.declared.token_kind.TokenKind.TheVariants as kinds
+use Rattle.justfile_model.specs.Expressions as g
+use Rattle.justfile_model.specs.Expressions.{Tokens, NotNext, NotJoined, Expression, Disjunct, Compared, Conjunct, Conditional, Value, ends_open}
+use Rattle.justfile_model.specs.SignificantTokens.{SignificantToken}
+use Rattle.justfile_model.specs.Tree.{lexeme, nothing}
+use Rattle.justfile_round_trip.proofs.Back.{StopE, glued_string, is_string, next_head, word_head}
+use Rattle.justfile_round_trip.proofs.Canon as canon
+use Rattle.justfile_round_trip.proofs.Canon.{Shown}
+use Rattle.justfile_round_trip.proofs.Ends.{End, OfName, OfValue, OfOpen, OfClosed, tail, EndsIn, ValueEndsIn, SameHead, same_head}
+
+-- ---- how an expression begins
+
+-- a token that an expression may begin with
+abbrev may_begin : TokenKind → Bool
+may_begin kinds.Identifier = true
+may_begin kinds.StringToken = true
+may_begin kinds.Backtick = true
+may_begin kinds.Bang = true
+may_begin kinds.ParenL = true
+may_begin kinds.BracketL = true
+may_begin kinds.Slash = true
+may_begin _ = false
+
+pub data Begins : Tokens → Type 0 where
+  begins : {t : SignificantToken} {ts : Tokens} → may_begin t.tok.kind ≡ true → Begins (t ∷ ts)
+
+begins_with : {kind : TokenKind} {t : SignificantToken} {ts : Tokens} → t.tok.kind ≡ kind → may_begin kind ≡ true → Begins (t ∷ ts)
+begins_with e h = begins (ap may_begin e ∙ h)
+
+-- what begins with such a token goes on with no operator but `/`
+pub not_begun : (kind : TokenKind) {ts : Tokens} → Begins ts → may_begin kind ≡ false → NotNext kind ts
+not_begun kind (begins h) n = λ e. let bad : true ≡ false = sym h ∙ ap may_begin e ∙ n in cc
+
+module _ (Open : ℕ → Option SignificantToken → Type 0) where
+  value_begins : {d : ℕ} {e : canon.Value} {fs : Shown} {ts rest : Tokens} → Value lexeme nothing Open d e fs ts rest → Begins ts
+  value_begins (g.not kind v) = begins_with kind refl
+  value_begins (g.literal kind) = begins_with kind refl
+  value_begins (g.expanded m) = begins_with m.marks.is_name refl
+  value_begins (g.format_literal m) = begins_with m.marks.is_name refl
+  value_begins (g.format_string m e ps) = begins_with m.marks.is_name refl
+  value_begins (g.backtick kind) = begins_with kind refl
+  value_begins (g.assert w kind c kind2) = begins_with w.is_name refl
+  value_begins (g.assert_message w kind c kind2 m kind3) = begins_with w.is_name refl
+  value_begins (g.variable kind no_assert unmarked next) = begins_with kind refl
+  value_begins (g.call kind no_assert kind2 s) = begins_with kind refl
+  value_begins (g.group kind e kind2) = begins_with kind refl
+  value_begins (g.list kind s) = begins_with kind refl
+
+  conjunct_begins : {d : ℕ} {e : canon.Value} {fs : Shown} {ts rest : Tokens} → Conjunct lexeme nothing Open d e fs ts rest → Begins ts
+  conjunct_begins (g.conditional i c) = begins_with i.is_name refl
+  conjunct_begins (g.root kind r) = begins_with kind refl
+  conjunct_begins (g.join next l kind r) = value_begins l
+  conjunct_begins (g.list_concatenation next l kind r) = value_begins l
+  conjunct_begins (g.concatenation next l kind r) = value_begins l
+  conjunct_begins (g.value next v joined) = value_begins v
+
+  compared_begins : {condition : Bool} {d : ℕ} {e : canon.Value} {fs : Shown} {ts rest : Tokens} → Compared lexeme nothing Open condition d e fs ts rest → Begins ts
+  compared_begins (g.compare by l kind r) = conjunct_begins l
+  compared_begins (g.conjunct l next) = conjunct_begins l
+
+  disjunct_begins : {condition : Bool} {d : ℕ} {e : canon.Value} {fs : Shown} {ts rest : Tokens} → Disjunct lexeme nothing Open condition d e fs ts rest → Begins ts
+  disjunct_begins (g.and l kind r) = compared_begins l
+  disjunct_begins (g.comparison l next) = compared_begins l
+
+  pub expression_begins : {condition : Bool} {d : ℕ} {e : canon.Value} {fs : Shown} {ts rest : Tokens} → Expression lexeme nothing Open condition d e fs ts rest → Begins ts
+  expression_begins (g.or o l kind r) = disjunct_begins l
+  expression_begins (g.disjunct o l next) = disjunct_begins l
+
+  -- ---- how it ends
+
+  pub value_ends : {d : ℕ} {e : canon.Value} {fs : Shown} {ts rest : Tokens} → Value lexeme nothing Open d e fs ts rest → ValueEndsIn (tail e) rest
+  value_ends (g.not kind v) = value_ends v
+  value_ends (g.literal kind) = record { is = tt }
+  value_ends (g.expanded m) = record { is = tt }
+  value_ends (g.format_literal m) = record { is = tt }
+  value_ends (g.format_string m e ps) = record { is = tt }
+  value_ends (g.backtick kind) = record { is = tt }
+  value_ends (g.assert w kind c kind2) = record { is = tt }
+  value_ends (g.assert_message w kind c kind2 m kind3) = record { is = tt }
+  value_ends (g.variable kind no_assert unmarked next) = record { is = next }
+  value_ends (g.call kind no_assert kind2 s) = record { is = tt }
+  value_ends (g.group kind e kind2) = record { is = tt }
+  value_ends (g.list kind s) = record { is = tt }
+
+  value_ends_joined : {d : ℕ} {e : canon.Value} {fs : Shown} {ts rest : Tokens} → Value lexeme nothing Open d e fs ts rest → NotJoined rest → EndsIn (tail e) rest
+  value_ends_joined (g.not kind v) j = value_ends_joined v j
+  value_ends_joined (g.literal kind) j = record { is = (tt, j) }
+  value_ends_joined (g.expanded m) j = record { is = (tt, j) }
+  value_ends_joined (g.format_literal m) j = record { is = (tt, j) }
+  value_ends_joined (g.format_string m e ps) j = record { is = (tt, j) }
+  value_ends_joined (g.backtick kind) j = record { is = (tt, j) }
+  value_ends_joined (g.assert w kind c kind2) j = record { is = (tt, j) }
+  value_ends_joined (g.assert_message w kind c kind2 m kind3) j = record { is = (tt, j) }
+  value_ends_joined (g.variable kind no_assert unmarked next) j = record { is = (next, j) }
+  value_ends_joined (g.call kind no_assert kind2 s) j = record { is = (tt, j) }
+  value_ends_joined (g.group kind e kind2) j = record { is = (tt, j) }
+  value_ends_joined (g.list kind s) j = record { is = (tt, j) }
+
+  open_ends : (b : Bool) {ts : Tokens} → (b ≡ true → g.NotWord (codes "else") ts) → EndsIn (cond b OfOpen OfClosed) ts
+  open_ends true h = record { is = (tt, h refl) }
+  open_ends false h = record { is = (tt, tt) }
+
+  conditional_ends : {d : ℕ} {w : SignificantToken} {e : canon.Value} {fs : Shown} {ts rest : Tokens} → Conditional lexeme nothing Open d w e fs ts rest
+      → EndsIn (cond (ends_open e) OfOpen OfClosed) rest
+  conditional_ends (g.if_only c b next) = record { is = (tt, next) }
+  conditional_ends (g.if_else {o = o'} c b w o next) = open_ends (ends_open o') next
+  conditional_ends (g.else_if c b w i o) = conditional_ends o
+
+  conditional_tail : {d : ℕ} {w : SignificantToken} {e : canon.Value} {fs : Shown} {ts rest : Tokens} → Conditional lexeme nothing Open d w e fs ts rest
+      → cond (ends_open e) OfOpen OfClosed ≡ tail e
+  conditional_tail (g.if_only c b next) = refl
+  conditional_tail (g.if_else c b w o next) = refl
+  conditional_tail (g.else_if c b w i o) = refl
+
+  conjunct_ends : {d : ℕ} {e : canon.Value} {fs : Shown} {ts rest : Tokens} → Conjunct lexeme nothing Open d e fs ts rest → EndsIn (tail e) rest
+  conjunct_ends {rest = rest} (g.conditional i c) = subst (λ x. EndsIn x rest) (conditional_tail c) (conditional_ends c)
+  conjunct_ends (g.root kind r) = conjunct_ends r
+  conjunct_ends (g.join next l kind r) = conjunct_ends r
+  conjunct_ends (g.list_concatenation next l kind r) = conjunct_ends r
+  conjunct_ends (g.concatenation next l kind r) = conjunct_ends r
+  conjunct_ends (g.value next v joined) = value_ends_joined v joined
+
+  compared_ends : {condition : Bool} {d : ℕ} {e : canon.Value} {fs : Shown} {ts rest : Tokens} → Compared lexeme nothing Open condition d e fs ts rest → EndsIn (tail e) rest
+  compared_ends (g.compare by l kind r) = conjunct_ends r
+  compared_ends (g.conjunct l next) = conjunct_ends l
+
+  disjunct_ends : {condition : Bool} {d : ℕ} {e : canon.Value} {fs : Shown} {ts rest : Tokens} → Disjunct lexeme nothing Open condition d e fs ts rest → EndsIn (tail e) rest
+  disjunct_ends (g.and l kind r) = disjunct_ends r
+  disjunct_ends (g.comparison l next) = compared_ends l
+
+  pub expression_ends : {condition : Bool} {d : ℕ} {e : canon.Value} {fs : Shown} {ts rest : Tokens} → Expression lexeme nothing Open condition d e fs ts rest → EndsIn (tail e) rest
+  expression_ends (g.or o l kind r) = expression_ends r
+  expression_ends (g.disjunct o l next) = disjunct_ends l
+
+-- ---- before another first token of the same kind and word
+
+joined_too : {b : Bool} {ts us : Tokens} → SameHead b ts us → NotJoined ts → NotJoined us
+joined_too s j = record { join = next_head kinds.Slash s j.join; list_concatenation = next_head kinds.PlusPlus s j.list_concatenation; concatenation = next_head kinds.Plus s j.concatenation }
+
+pub ends_too : (x : End) {b : Bool} {ts us : Tokens} → SameHead b ts us → EndsIn x ts → EndsIn x us
+ends_too OfName s h = record { is = (next_head kinds.ParenL s h.is.0, joined_too s h.is.1) }
+ends_too OfValue s h = record { is = (tt, joined_too s h.is.1) }
+ends_too OfOpen s h = record { is = (tt, word_head (codes "else") s h.is.1) }
+ends_too OfClosed s h = record { is = (tt, tt) }
+
+pub value_ends_too : (x : End) {b : Bool} {ts us : Tokens} → SameHead b ts us → ValueEndsIn x ts → ValueEndsIn x us
+value_ends_too OfName s h = record { is = next_head kinds.ParenL s h.is }
+value_ends_too OfValue s h = record { is = tt }
+value_ends_too OfOpen s h = record { is = tt }
+value_ends_too OfClosed s h = record { is = tt }
+
+-- a first token that stands apart marks nothing
+pub apart : {ts us : Tokens} → SameHead false ts us → glued_string us ≡ false
+apart (same_head {u = u} e f glued) = no_glue (is_string u.tok.kind) u.glued glued
+  where
+    no_glue : (s g : Bool) → g ≡ false → (s && g) ≡ false
+    no_glue true g e = e
+    no_glue false g e = refl
+
+pub begins_too : {b : Bool} {ts us : Tokens} → SameHead b ts us → Begins ts → Begins us
+begins_too (same_head e f glued) (begins h) = begins (ap may_begin (sym e) ∙ h)
+
+-- before an expression that stands apart another one stops
+pub stop_beside : {ts us : Tokens} → SameHead false ts us → Begins ts → StopE us
+stop_beside s h =
+    let q = begins_too s h in
+    record {
+      or = not_begun kinds.BarBar q refl;
+      disjunct = record {
+        and = not_begun kinds.AmpersandAmpersand q refl;
+        comparison = record {
+          compared = record {
+            equality = not_begun kinds.EqualsEquals q refl;
+            inequality = not_begun kinds.BangEquals q refl;
+            regex_match = not_begun kinds.EqualsTilde q refl;
+            regex_mismatch = not_begun kinds.BangTilde q refl;
+          };
+          conjunct = record { apart = apart s };
+        };
+      };
+    }

@@ -1,0 +1,193 @@
+//! What is seen of the doc, the parameters and the dependencies of a recipe.
+
+use crate::items::{put_expression, put_marked, put_name};
+use crate::values::push_parts;
+use justfile_syntax::expression::Expression;
+use justfile_syntax::item::Item;
+use justfile_syntax::parameter::Parameter;
+use justfile_syntax::recipe::UnresolvedRecipe;
+use justfile_syntax::unresolved_dependency::{DependencyArgument, UnresolvedDependency};
+use row_notation::{Answer, Text};
+
+fn put_if(shown: &mut Text, word: &str, is_so: bool) {
+    if is_so {
+        shown.put(word);
+    }
+}
+
+/// The doc of a recipe in ‹›, if it has one.
+pub(crate) fn put_doc(shown: &mut Text, doc: &Option<String>) {
+    if let Some(text) = doc {
+        put_marked(shown, "doc ", text.as_str());
+        shown.put(" ");
+    }
+}
+
+/// Parameters as they are written, each with its number.
+pub(crate) fn put_parameters(shown: &mut Text, parameters: &[Parameter<'_>]) {
+    for parameter in parameters {
+        shown.put(" ");
+        shown.put_made(parameter.to_string(shown.alloc()));
+        shown.put("@");
+        shown.put_number(parameter.number.0 as usize);
+    }
+}
+
+/// Dependencies as they are written, after a colon if there are some. The first that runs after the
+/// recipe has `&&` before it.
+pub(crate) fn put_dependencies(
+    shown: &mut Text,
+    dependencies: &[UnresolvedDependency<'_>],
+    priors: usize,
+) {
+    put_if(shown, " :", !dependencies.is_empty());
+    for (place, dependency) in dependencies.iter().enumerate() {
+        shown.put(if place == priors { " && " } else { " " });
+        shown.put_made(dependency.to_string(shown.alloc()));
+    }
+}
+
+/// The doc of each recipe of a file's items in ‹›, or `none`.
+pub(crate) fn docs(items: &[Item<'_>], answer: &mut Answer) {
+    for item in items {
+        if let Item::Recipe(recipe) = item {
+            push_doc(answer, &recipe.doc);
+        }
+    }
+}
+
+fn push_doc(answer: &mut Answer, doc: &Option<String>) {
+    let mut shown = Text::new(answer.alloc());
+    match doc {
+        Some(text) => put_marked(&mut shown, "", text.as_str()),
+        None => shown.put("none"),
+    }
+    answer.push_text(shown);
+}
+
+/// Each parameter of a recipe: what it is written as, and what it is.
+pub(crate) fn push_parameters(answer: &mut Answer, parameters: &[Parameter<'_>]) {
+    for parameter in parameters {
+        answer.push_made(parameter.to_string(answer.alloc()));
+        push_parameter(answer, parameter);
+    }
+}
+
+fn push_parameter(answer: &mut Answer, parameter: &Parameter<'_>) {
+    let mut shown = Text::new(answer.alloc());
+    put_name(&mut shown, parameter.name);
+    shown.put(" ");
+    shown.put_number(parameter.number.0 as usize);
+    put_kind(&mut shown, parameter);
+    put_if(&mut shown, " exported", parameter.export);
+    put_value(&mut shown, " default", &parameter.default);
+    put_argument_rules(&mut shown, parameter);
+    put_if(&mut shown, " option", parameter.is_option());
+    put_if(&mut shown, " required", parameter.is_required());
+    answer.push_text(shown);
+}
+
+/// The kind of a parameter, its prefix, and whether it takes several arguments.
+fn put_kind(shown: &mut Text, parameter: &Parameter<'_>) {
+    shown.put_made(format!(in shown.alloc(); " {:?}", parameter.kind));
+    if let Some(prefix) = parameter.kind.prefix() {
+        put_marked(shown, " ", prefix);
+    }
+    put_if(shown, " variadic", parameter.kind.is_variadic());
+}
+
+/// A word and an expression in (), if there is one.
+fn put_value(shown: &mut Text, word: &str, value: &Option<Box<Expression<'_>>>) {
+    if let Some(expression) = value {
+        shown.put(word);
+        shown.put(" (");
+        put_expression(shown, expression);
+        shown.put(")");
+    }
+}
+
+/// A word and a number, if there is one.
+fn put_bound(shown: &mut Text, word: &str, bound: Option<u64>) {
+    if let Some(number) = bound {
+        shown.put_made(format!(in shown.alloc(); " {word} {number}"));
+    }
+}
+
+/// What the attribute of a parameter says of it, in the order of the names.
+fn put_argument_rules(shown: &mut Text, parameter: &Parameter<'_>) {
+    put_if(shown, " flag", parameter.flag);
+    put_if(shown, " help", parameter.help.is_some());
+    if let Some(long) = &parameter.long {
+        put_marked(shown, " long ", long.as_str());
+    }
+    put_bound(shown, "max", parameter.max);
+    put_bound(shown, "min", parameter.min);
+    put_if(shown, " multiple", parameter.multiple);
+    if let Some(short) = parameter.short {
+        shown.put_made(format!(in shown.alloc(); " short ‹{short}›"));
+    }
+    put_value(shown, " value", &parameter.value);
+}
+
+/// What each parameter's default is made of, or `none`.
+pub(crate) fn push_defaults(answer: &mut Answer, parameters: &[Parameter<'_>]) {
+    for parameter in parameters {
+        match &parameter.default {
+            Some(expression) => push_parts(answer, expression),
+            None => answer.push("none"),
+        }
+    }
+}
+
+/// How many dependencies run before a recipe, and each dependency: what it is written as, and what
+/// it is.
+pub(crate) fn push_dependencies(answer: &mut Answer, recipe: &UnresolvedRecipe<'_>) {
+    answer.push_number(recipe.priors);
+    for dependency in &recipe.dependencies {
+        answer.push_made(dependency.to_string(answer.alloc()));
+        push_dependency(answer, dependency);
+    }
+}
+
+/// Whether an argument of a dependency is starred, the names of its path, and its arguments.
+fn push_dependency(answer: &mut Answer, dependency: &UnresolvedDependency<'_>) {
+    let mut shown = Text::new(answer.alloc());
+    shown.put(if dependency.starred() {
+        "starred"
+    } else {
+        "plain"
+    });
+    put_path(&mut shown, dependency);
+    for argument in &dependency.arguments {
+        put_argument(&mut shown, argument);
+    }
+    answer.push_text(shown);
+}
+
+/// The names of a dependency's path, each after a blank.
+fn put_path(shown: &mut Text, dependency: &UnresolvedDependency<'_>) {
+    for name in dependency.recipe.iter() {
+        shown.put(" ");
+        put_name(shown, *name);
+    }
+}
+
+/// An argument in (), as it is written. What is starred has a star there.
+fn put_argument(shown: &mut Text, argument: &DependencyArgument<'_>) {
+    shown.put(" (");
+    shown.put_made(argument.to_string(shown.alloc()));
+    shown.put(")");
+}
+
+/// What each argument of each dependency is made of.
+pub(crate) fn push_arguments(answer: &mut Answer, dependencies: &[UnresolvedDependency<'_>]) {
+    for dependency in dependencies {
+        push_arguments_of(answer, dependency.arguments.as_slice());
+    }
+}
+
+fn push_arguments_of(answer: &mut Answer, arguments: &[DependencyArgument<'_>]) {
+    for argument in arguments {
+        push_parts(answer, &argument.expression);
+    }
+}
