@@ -1,10 +1,6 @@
 -- The docs of recipes, as they are taken from the first item to the last.
-use Rattle.std.specs.Prelude.{ℕ, Bool, true, false, ◌&&◌, All, ◌-◌, List, [], ◌∷◌, ◌++◌, IsTrue, length, not, take, Option, Some, None, codes, nat_eq, reverse, if◌then◌else◌}
-use Rattle.std.specs.List.{starts_with}
-use Rattle.std.specs.Option.{is_some}
+use Rattle.std.specs.Prelude.{ℕ, Bool, true, false, ◌-◌, List, [], ◌∷◌, ◌++◌, length, take, Option, Some, None, reverse}
 use Rattle.justfile_base.specs.declared.token.Token.{Token}
-use Rattle.justfile_file.specs.declared.item.Item as item
-use Rattle.justfile_file.specs.declared.item.Item.TheVariants as items
 use Rattle.justfile_model.specs.Docs.{LineEnd, Nothing, doc_in, item_with_doc, wants_doc}
 use Rattle.justfile_model.specs.Files.{says_doc}
 use Rattle.justfile_model.specs.Tree as tree
@@ -48,11 +44,3 @@ doc_taken i (Some doc) = item_with_doc says_doc doc i
 
 abbrev pub with_item : List LeafItem → LeafItem → List LeafItem
 with_item before i = with_doc before i (doc_taken i (doc_before before))
-
--- a comment begins with `#`
-abbrev pub IsComment : item.Item → Type 0
-IsComment (items.Comment text) = IsTrue (starts_with nat_eq text.now (codes "#"))
-IsComment _ = Unit {0}
-
-unfoldable pub AreComments : List item.Item → Type 0
-AreComments read = All IsComment read

@@ -1,5 +1,6 @@
 -- What follows, of a construct, from its name, its attributes and its body.
-use Rattle.std.specs.Prelude.{◌≡◌, ℕ, All, Bool, ◌||◌, ◌==◌, List, slice_index, map}
+use Rattle.std.specs.Prelude.{◌≡◌, ℕ, All, Bool, IsTrue, ◌||◌, ◌==◌, List, codes, nat_eq, slice_index, map}
+use Rattle.std.specs.List.{starts_with}
 use Rattle.justfile_attribute.specs.declared.attribute.Attribute.{Attribute}
 use Rattle.justfile_attribute_set.specs.AttributeSet.{AttributeSet, attributes_of}
 use Rattle.justfile_attribute_set.specs.Attributes.{has_kind}
@@ -36,9 +37,10 @@ pub record IsWholeRecipe (r : UnresolvedRecipe) : Type 0 where
   pub private : r.private ≡ is_hidden r.name.token r.attributes
   pub shebang : r.shebang ≡ has_kind kinds.Script (attributes_of r.attributes) || has_shebang (map line_tree r.body.items)
 
+-- a comment begins with `#`
 abbrev pub IsWholeItem : Item → Type 0
 IsWholeItem (Assignment a) = IsWholeAssignment a
-IsWholeItem (Comment text) = Unit {0}
+IsWholeItem (Comment text) = IsTrue (starts_with nat_eq text.now (codes "#"))
 IsWholeItem Newline = Unit {0}
 IsWholeItem (Recipe r) = IsWholeRecipe r
 

@@ -4,8 +4,9 @@ ghost use Rattle.std.specs.Option.{option_map};
 ghost use Rattle.justfile_model.specs.Docs.{doc_in, documented};
 ghost use Rattle.justfile_model.specs.Docs as before;
 ghost use Rattle.justfile_model.specs.Files.{says_doc};
-ghost use Rattle.justfile_parse.specs.Docs.{AreComments, comment_of, doc_before, is_newline, says_no_doc, with_item};
+ghost use Rattle.justfile_parse.specs.Docs.{comment_of, doc_before, is_newline, says_no_doc, with_item};
 ghost use Rattle.justfile_parse.specs.Tree.{item_tree, recipe_tree};
+ghost use Rattle.justfile_parse.specs.Whole.{AreWhole};
 
 use justfile_base::AttributeKind;
 use justfile_file::{Item, UnresolvedRecipe};
@@ -20,7 +21,7 @@ pub(crate) fn take_docs<'src>(
     alloc: Global,
     items: Vec<Item<'src>>,
 ) -> Result<Vec<Item<'src>>, AllocError>
-    requires { AreComments items.items }
+    requires { AreWhole items.items }
     ensures { IfOk result (λ docs. map item_tree docs.items ≡ documented says_doc before.Nothing (map item_tree items.entry.items)) }
 {
     let mut documented = Vec::new(alloc);

@@ -1,12 +1,14 @@
 -- What a function returns that draws numbers.
-use Rattle.std.specs.Prelude.{◌≡◌, Result, Ok, Err}
+use Rattle.std.specs.Prelude.{◌≡◌, ℕ, ◌≤◌, ◌+◌, Result, Ok, Err, map}
 use Rattle.justfile_base.specs.Numerator.{bindings_of, constants_of, recipes_of}
 use Rattle.justfile_base.specs.declared.numerator.Numerator.{Numerator}
 use Rattle.justfile_model.specs.Reading as reading
 use Rattle.justfile_model.specs.Reading.{Counters}
+use Rattle.justfile_model.specs.SignificantTokens.{identifiers}
 use Rattle.justfile_parse_attribute.specs.Halting.{HaltsAt}
 use Rattle.justfile_parse_attribute.specs.declared.halt.Halt.{Halt}
 use Rattle.justfile_parse_expression.specs.MethodResults.{StopsAt}
+use Rattle.justfile_parse_expression.specs.Significant.{significant_of}
 use Rattle.justfile_parse_expression.specs.TableReader.{Read, State}
 use Rattle.justfile_parse_expression.specs.declared.stop.Stop.{Stop}
 
@@ -23,3 +25,19 @@ ReadsNumbered view (Err stop) n s found = StopsAt stop s (found ≡ Err (reading
 abbrev pub ReadsCounted : {X Y : Type 0} → (X → Y) → Result X Halt → Numerator → State → Read (Y × Counters) → Type 0
 ReadsCounted view (Ok x) n s found = found ≡ Ok ((view x, counters_of n), s)
 ReadsCounted view (Err halt) n s found = HaltsAt halt s (found ≡ Err (reading.NoNumber (counters_of n))) found
+
+-- how many identifiers are left
+abbrev pub names : State → ℕ
+names s = identifiers (map significant_of s.left)
+
+-- how many are left where reading goes on
+abbrev pub names_after : {X : Type 0} → Result X Halt → State → ℕ
+names_after (Ok x) s = names s
+names_after (Err halt) s = 0
+
+-- bindings were numbered, and nothing else: each has an identifier of its own among those that were taken
+pub record HasDrawn (old new : Numerator) (before following : ℕ) : Type 0 where
+  pub least : bindings_of old ≤ bindings_of new
+  pub most : bindings_of new + following ≤ bindings_of old + before
+  pub recipes : recipes_of new ≡ recipes_of old
+  pub constants : constants_of new ≡ constants_of old

@@ -13,7 +13,7 @@ ghost use Rattle.justfile_parse_expression.specs.MethodResults.{Reads};
 ghost use Rattle.justfile_parse_expression.specs.TableReader.{State};
 ghost use Rattle.justfile_parse_expression.specs.View.{left, state_of};
 ghost use Rattle.justfile_parse_header.specs.Arguments.{AreKeyed, said_by, IsKeyedOption};
-ghost use Rattle.justfile_parse_header.specs.Counting.{ReadsCounted, counters_of};
+ghost use Rattle.justfile_parse_header.specs.Counting.{HasDrawn, ReadsCounted, counters_of, names, names_after};
 ghost use Rattle.justfile_parse_header.specs.HeaderTable as reader;
 ghost use Rattle.justfile_parse_header.specs.Said.{AreWholeParameters, KeepsWholeParameters, said_broken};
 ghost use Rattle.justfile_parse_header.specs.Tree.{parameter_tree, rules_of, value_tree};
@@ -41,6 +41,7 @@ pub(crate) fn parse_parameters<'src, X: Expander>(
     ensures reads { ReadsCounted (λ parameters. map parameter_tree parameters.items) result numerator.new (state_of X.answer parser.new)
         (reader.parameters (rules_of attributes.now) (counters_of numerator.old) (state_of X.answer parser.old)) }
     ensures whole { IfOk result (λ parameters. AreWholeParameters (rules_of attributes.now) parameters.items) }
+    ensures drawn { HasDrawn numerator.old numerator.new (names (state_of X.answer parser.old)) (names_after result (state_of X.answer parser.new)) }
     ensures progress { OnOk result (left parser.new < left parser.old) }
 {
     let mut parameters = Vec::new(parser.alloc);
@@ -61,6 +62,7 @@ fn parse_singulars<'src, X: Expander>(
     ensures reads { ReadsCounted (λ _. map parameter_tree parameters.new.items) result numerator.new (state_of X.answer parser.new)
         (reader.singulars (rules_of attributes.now) ((map parameter_tree parameters.old.items, counters_of numerator.old), state_of X.answer parser.old)) }
     ensures whole { OnOk result (KeepsWholeParameters (rules_of attributes.now) parameters.old.items parameters.new.items) }
+    ensures drawn { HasDrawn numerator.old numerator.new (names (state_of X.answer parser.old)) (names_after result (state_of X.answer parser.new)) }
     ensures progress { OnOk result (left parser.new ≤ left parser.old) }
 {
     'parameters: loop {
@@ -96,6 +98,7 @@ fn parse_last<'src, X: Expander>(
     ensures reads { ReadsCounted (λ _. map parameter_tree parameters.new.items) result numerator.new (state_of X.answer parser.new)
         (reader.last_parameter (rules_of attributes.now) ((map parameter_tree parameters.old.items, counters_of numerator.old), state_of X.answer parser.old)) }
     ensures whole { OnOk result (KeepsWholeParameters (rules_of attributes.now) parameters.old.items parameters.new.items) }
+    ensures drawn { HasDrawn numerator.old numerator.new (names (state_of X.answer parser.old)) (names_after result (state_of X.answer parser.new)) }
     ensures progress { OnOk result (left parser.new ≤ left parser.old) }
 {
     if let Some(_plus) = parser.accept(TokenKind::Plus) {
@@ -132,6 +135,7 @@ fn parse_variadic<'src, X: Expander>(
     ensures reads { ReadsCounted (λ _. map parameter_tree parameters.new.items) result numerator.new (state_of X.answer parser.new)
         (reader.variadic (rules_of attributes.now) kind ((map parameter_tree parameters.old.items, counters_of numerator.old), state_of X.answer parser.old)) }
     ensures whole { OnOk result (KeepsWholeParameters (rules_of attributes.now) parameters.old.items parameters.new.items) }
+    ensures drawn { HasDrawn numerator.old numerator.new (names (state_of X.answer parser.old)) (names_after result (state_of X.answer parser.new)) }
     ensures progress { OnOk result (left parser.new < left parser.old) }
 {
     parse_parameter(attributes, parser, numerator, parameters, kind)?;
@@ -172,6 +176,7 @@ fn parse_parameter<'src, X: Expander>(
     ensures reads { ReadsCounted (λ _. map parameter_tree parameters.new.items) result numerator.new (state_of X.answer parser.new)
         (reader.parameter (rules_of attributes.now) kind ((map parameter_tree parameters.old.items, counters_of numerator.old), state_of X.answer parser.old)) }
     ensures whole { OnOk result (KeepsWholeParameters (rules_of attributes.now) parameters.old.items parameters.new.items) }
+    ensures drawn { HasDrawn numerator.old numerator.new (names (state_of X.answer parser.old)) (names_after result (state_of X.answer parser.new)) }
     ensures progress { OnOk result (left parser.new < left parser.old) }
 {
     match parser.accept(TokenKind::Dollar) {
@@ -194,6 +199,7 @@ fn parse_named<'src, X: Expander>(
     ensures reads { ReadsCounted (λ _. map parameter_tree parameters.new.items) result numerator.new (state_of X.answer parser.new)
         (reader.named_parameter (rules_of attributes.now) kind export (map parameter_tree parameters.old.items, counters_of numerator.old) (state_of X.answer parser.old)) }
     ensures whole { OnOk result (KeepsWholeParameters (rules_of attributes.now) parameters.old.items parameters.new.items) }
+    ensures drawn { HasDrawn numerator.old numerator.new (names (state_of X.answer parser.old)) (names_after result (state_of X.answer parser.new)) }
     ensures progress { OnOk result (left parser.new < left parser.old) }
 {
     let name = parser.expect(TokenKind::Identifier)?;
