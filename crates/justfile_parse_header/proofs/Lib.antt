@@ -1,6 +1,9 @@
+pub mod CopiedTrees
 pub mod Halts
 pub mod Least
+pub mod Notes
 pub mod Paths
 pub mod SameOptions
 pub mod Spoken
+pub mod Texts
 pub mod Undefined

@@ -172,7 +172,7 @@ fn check_long<'run, 'src>(
 fn is_among(texts: &[&str], text: &str) -> bool
     ensures { result ≡ list_any (bytes_eq text.now) (map (λ t. t.now) texts.now) }
 {
-    texts.iter().any(|other| text == *other)
+    texts.contains(&text)
 }
 
 /// The refusal of a long option that is called as one before it.
