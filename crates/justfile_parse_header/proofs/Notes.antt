@@ -1,5 +1,5 @@
 -- What an attribute notes, in the steps in which it is noted.
-use Rattle.std.proofs.Common.{◌≡◌, ◌∙◌, ℕ, List, [], ◌∷◌, ◌++◌, Option, Some, None, Result, Ok, Err, refl, sym, ap, append_assoc}
+use Rattle.std.proofs.Common.{◌≡◌, ◌∙◌, ℕ, List, ◌++◌, Option, Some, None, Result, Ok, Err, refl, sym, ap, append_assoc}
 use Rattle.std.specs.Prelude.{String}
 use Rattle.std.specs.Global.{Box, Global}
 use Rattle.std.specs.Option.{option_map}
@@ -83,13 +83,15 @@ module _ (flag : Option Token) (help : Option (String Global)) (help_property : 
         value = None;
       }) s
 
-  module _ (s s1 s2 s3 : State) (is_1 : s1 ≡ note features.Flag flag s) (is_2 : s2 ≡ note features.Multiple multiple s1) (is_3 : s3 ≡ note features.ArgMax (bound_place_in name.token max_key max) s2) where
+  module _ (s s1 s2 s3 : State) (max_place min_place : Option Token) (max_is : max_place ≡ bound_place_in name.token max_key max) (min_is : min_place ≡ bound_place_in name.token min_key min)
+      (is_1 : s1 ≡ note features.Flag flag s) (is_2 : s2 ≡ note features.Multiple multiple s1) (is_3 : s3 ≡ note features.ArgMax max_place s2) where
     pub arg_noted : (result : Result (Unit {0}) Stop) (s4 : State) (a : Attribute) → a ≡ attribute
-        → UnlessMemory result (λ done. s4 ≡ note features.ArgMin (bound_place_in name.token min_key min) s3) → UnlessMemory result (λ done. s4 ≡ with (features_in (leaf_attribute_of a)) s)
+        → UnlessMemory result (λ done. s4 ≡ note features.ArgMin min_place s3) → UnlessMemory result (λ done. s4 ≡ with (features_in (leaf_attribute_of a)) s)
     arg_noted (Err stop) s4 a is h = h
     arg_noted (Ok done) s4 a is h =
         h
-        ∙ ap (note features.ArgMin (bound_place_in name.token min_key min))
-        (is_3 ∙ ap (note features.ArgMax (bound_place_in name.token max_key max)) (is_2 ∙ ap (note features.Multiple multiple) is_1))
+        ∙ ap (note features.ArgMin min_place) (is_3 ∙ ap (note features.ArgMax max_place) (is_2 ∙ ap (note features.Multiple multiple) is_1))
+        ∙ ap (λ (at : Option Token). note features.ArgMin min_place (note features.ArgMax at (note features.Multiple multiple (note features.Flag flag s)))) max_is
+        ∙ ap (λ (at : Option Token). note features.ArgMin at (note features.ArgMax (bound_place_in name.token max_key max) (note features.Multiple multiple (note features.Flag flag s)))) min_is
         ∙ notes_all s
         ∙ ap (λ (a : Attribute). with (features_in (leaf_attribute_of a)) s) (sym is)

@@ -1,5 +1,5 @@
 -- What is refused of attributes that speak of no parameter.
-use Rattle.std.proofs.Common.{◌≡◌, List, [], ◌∷◌, not, Option, Some, None, Ok, Err, refl, sym, ap, subst, string_bytes}
+use Rattle.std.proofs.Common.{◌≡◌, List, [], ◌∷◌, not, Option, Some, None, Ok, Err, refl, sym, subst, string_bytes}
 use Rattle.std.specs.List.{filter}
 use Rattle.std.specs.Option.{option_map}
 use Rattle.justfile_attribute_rules.specs.Made.{IsRefusedBy, quoted_leaf}

@@ -1,4 +1,4 @@
-use Rattle.std.proofs.Common.{ℕ, List, ◌∷◌, Bor, map, refl, subst, sym}
+use Rattle.std.proofs.Common.{ℕ, List, Bor, map, refl, subst, sym}
 use Rattle.std.proofs.lemmas.Result.{err_from_is_err_and}
 use Rattle.justfile_attribute_set.specs.AttributeSet.{pairs_of}
 use Rattle.justfile_attribute_set.specs.Keys.{keys_left}

@@ -1,4 +1,4 @@
-use Rattle.std.proofs.Common.{◌≡◌, ◌∙◌, ℕ, List, Bool, true, false, Ok, ap, nat_eq, sym}
+use Rattle.std.proofs.Common.{◌≡◌, ◌∙◌, ℕ, List, true, false, Ok, ap, nat_eq, sym}
 use Rattle.std.specs.List.{list_any}
 use Rattle.justfile_attribute.specs.Attribute.{leaf_attribute_of}
 use Rattle.justfile_parse_header.proofs.SameOptions.{short_apart, short_same}
