@@ -1,6 +1,6 @@
 -- What is read of a table, and what that says of the tokens.
 use Rattle.std.proofs.Common.{◌≡◌, ℕ, ◌+◌, ◌<◌, ◌≤◌, Bool, true, false, ◌&&◌, cond, IsTrue, rules, List, [], ◌∷◌, ◌++◌, map, length, All, Contains, Option, Some, None, Result, Ok, Err, inl, inr, refl, sym, ap, ◌∙◌, subst, arith}
-use Rattle.std.specs.Prelude.{◌-◌, ◌^◌, get_or, reverse, string_bytes}
+use Rattle.std.specs.Prelude.{◌-◌, ◌^◌, codes, get_or, nat_eq, reverse, string_bytes}
 use Rattle.std.specs.Global.{Box}
 use Rattle.std.specs.List.{list_all, flat_map, starts_with}
 use Rattle.std.specs.Option.{option_map}
@@ -56,7 +56,8 @@ use Rattle.justfile_model.specs.Tok.{Tok, tok_of}
 use Rattle.justfile_model.specs.Tree as tree
 use Rattle.justfile_model.specs.Tree.{Tree, WrittenTree, lexeme}
 use Rattle.justfile_model.proofs.LexedLaws.{one_list, never_both}
-use Rattle.justfile_model.proofs.Agreement.{sound, complete, due, refused}
+use Rattle.justfile_model.proofs.Agreement.{complete, due, refused}
+use Rattle.justfile_model.proofs.Soundness.{sound}
 use Rattle.justfile_model.proofs.Ordered.{ordered_bindings, ordered_recipes}
 use Rattle.justfile_parse.specs.Filled.{AreGivenExpressions, AreGivenParts, IfThere, IsGivenArgument, IsGivenBoxed, IsGivenDependency, IsGivenName, IsGivenParameter, IsGivenRecipe, IsGivenFragment, IsGivenOptional, IsGivenItem, IsGivenExpression, IsGivenLine, IsGivenPart, IsInTable, first_part, later_part}
 use Rattle.justfile_literal.specs.Literal.{IsPartOf, is_framed, is_quoted}
@@ -68,6 +69,7 @@ use Rattle.justfile_parse_expression.specs.Significant.{significant_of}
 use Rattle.justfile_parse_expression.specs.declared.significant.TableEntry.{TableEntry}
 use Rattle.justfile_parse.specs.Unstable.{unstable_of}
 use Rattle.justfile_parse.specs.WantsNumber.{WantsNumber}
+use Rattle.justfile_parse.proofs.Comments.{AreComments, lexed_comments}
 use Rattle.justfile_parse.proofs.GivenAttributes.{given_set, joined_cook, lexemes, set_cooks, string_cooks, string_tok}
 use Rattle.justfile_parse.proofs.NotInternal.{not_internal, refusal_not_internal}
 use Rattle.justfile_tree.specs.Expression.{assert_of, conditional_of, expr_of, expr_cooked, exprs_cooked, exprs_of_row, format_of, optional_cooked, join_of, literal_tok, part_tok, parts_cooked, parts_of_row}
@@ -106,30 +108,33 @@ quoted_test bytes h = framed_by (delimiter_len (kind_of bytes)) (delimiter_len (
 pub framed_test : (front end : ℕ) (bytes : List ℕ) → IsFramed front end bytes → is_framed front end bytes ≡ true
 framed_test front end bytes h = framed_by front end bytes h.long h.before h.following
 
--- each literal between delimiters, and each part of a format string but the last, is delimited
+-- each literal between delimiters, each part of a format string but the last, and each comment is delimited
 delimited : (kind : TokenKind) (bytes : List ℕ) → (kind ≡ kinds.StringToken → IsQuoted bytes) → (kind ≡ kinds.Backtick → IsQuoted bytes)
     → (kind ≡ kinds.FormatStringStart → IsFramed (delimiter_len (kind_of bytes)) 2 bytes) → (kind ≡ kinds.FormatStringContinue → IsFramed 2 2 bytes)
-    → is_delimited kind bytes ≡ true
-delimited kinds.StringToken bytes string command start part = quoted_test bytes (string refl)
-delimited kinds.Backtick bytes string command start part = quoted_test bytes (command refl)
-delimited kinds.FormatStringStart bytes string command start part = framed_test (delimiter_len (kind_of bytes)) 2 bytes (start refl)
-delimited kinds.FormatStringContinue bytes string command start part = framed_test 2 2 bytes (part refl)
-delimited _ bytes string command start part = refl
+    → (kind ≡ kinds.Comment → starts_with nat_eq bytes (codes "#") ≡ true) → is_delimited kind bytes ≡ true
+delimited kinds.StringToken bytes string command start part comment = quoted_test bytes (string refl)
+delimited kinds.Backtick bytes string command start part comment = quoted_test bytes (command refl)
+delimited kinds.FormatStringStart bytes string command start part comment = framed_test (delimiter_len (kind_of bytes)) 2 bytes (start refl)
+delimited kinds.FormatStringContinue bytes string command start part comment = framed_test 2 2 bytes (part refl)
+delimited kinds.Comment bytes string command start part comment = comment refl
+delimited _ bytes string command start part comment = refl
 
 both : (a b : Bool) → a ≡ true → b ≡ true → (a && b) ≡ true
 both true b h k = k
 both false b h k = cc
 
-sound_table : (table : List TableEntry) → AreQuoted (map significant_of table) → AreFramed (map significant_of table) → list_all is_sound table ≡ true
-sound_table [] h k = refl
-sound_table (entry ∷ table) h k =
-    both (is_sound entry) (list_all is_sound table) (delimited entry.token.now.kind (lexeme_of entry.token.now) h.0 h.1 k.0 k.1) (sound_table table h.2 k.3)
+sound_table : (table : List TableEntry) → AreQuoted (map significant_of table) → AreFramed (map significant_of table) → AreComments (map significant_of table)
+    → list_all is_sound table ≡ true
+sound_table [] h k c = refl
+sound_table (entry ∷ table) h k c =
+    both (is_sound entry) (list_all is_sound table) (delimited entry.token.now.kind (lexeme_of entry.token.now) h.0 h.1 k.0 k.1 c.0) (sound_table table h.2 k.3 c.1)
 
 pub sound_lex : (tokens : List Token) (table : List TableEntry) → IsOneLex tokens → map significant_of table ≡ significant_tokens (map tok_of tokens) → IsTrue (list_all is_sound table)
 sound_lex tokens table l is =
     let ts = map tok_of tokens in
     let e : list_all is_sound table ≡ true
-    = sound_table table (subst AreQuoted (sym is) (lexed_quoted l.text ts l.utf8 l.lexed)) (subst AreFramed (sym is) (lexed_framed l.text ts l.utf8 l.lexed)) in
+    = sound_table table (subst AreQuoted (sym is) (lexed_quoted l.text ts l.utf8 l.lexed)) (subst AreFramed (sym is) (lexed_framed l.text ts l.utf8 l.lexed))
+    (subst AreComments (sym is) (lexed_comments l.text ts l.utf8 l.lexed)) in
     search (rules, e)
 
 -- ---- what was given
