@@ -318,12 +318,12 @@ module _ (expander : Expansions) (P : Token → Type 0) where
       joined_cook expander (parameter_literals (parameter_of p)) _ (parameter_cooked p) _ (default_cooks p.default (All-head (IsGivenParameter expander P) p ps all).1)
       (parameters_cook ps (All-tail (IsGivenParameter expander P) p ps all))
 
-  arguments_cook : (as : List DependencyArgument) → All (IsGivenArgument expander P) as
-      → AreCookedTexts expander (lexemes (flat_map (λ (a : tree.DependencyArgument Tok Tok (Unit {0})). expr_literals a.value) (map dependency_argument_of as))) (flat_map argument_cooked as)
+  arguments_cook : (given : List DependencyArgument) → All (IsGivenArgument expander P) given
+      → AreCookedTexts expander (lexemes (flat_map (λ (a : tree.DependencyArgument Tok Tok (Unit {0})). expr_literals a.value) (map dependency_argument_of given))) (flat_map argument_cooked given)
   arguments_cook [] all = tt
-  arguments_cook (a ∷ as) all =
-      joined_cook expander (expr_literals (expr_of a.expression.value)) _ (argument_cooked a) _ (expression_cooks a.expression.value (All-head (IsGivenArgument expander P) a as all))
-      (arguments_cook as (All-tail (IsGivenArgument expander P) a as all))
+  arguments_cook (a ∷ given) all =
+      joined_cook expander (expr_literals (expr_of a.expression.value)) _ (argument_cooked a) _ (expression_cooks a.expression.value (All-head (IsGivenArgument expander P) a given all))
+      (arguments_cook given (All-tail (IsGivenArgument expander P) a given all))
 
   dependencies_cook : (ds : List UnresolvedDependency) → All (IsGivenDependency expander P) ds → AreCookedTexts expander (lexemes (flat_map dependency_literals (map dependency_of ds))) (flat_map dependency_cooked ds)
   dependencies_cook [] all = tt

@@ -90,19 +90,19 @@ module _ (conditions : Conditions) (IsToken : Token → Type 0) (file_depth : �
   -- ---- docs are taken on both sides
 
   -- a recipe with the doc of the comment before it, unless it has one
-  recipe_alike : (text doc : List ℕ) {n : Counters} {entries : List (Entry Leaf Token)} {others : List (Entry Tok Tok)} {old : Option (List ℕ)} {header : Header Leaf Token (Unit {0})}
+  recipe_alike : (text doc : List ℕ) (old : Option (List ℕ)) {n : Counters} {entries : List (Entry Leaf Token)} {others : List (Entry Tok Tok)} {header : Header Leaf Token (Unit {0})}
       {body : List (BodyLine Leaf Token ℕ)} {other : Header Tok Tok (Unit {0})} {lines : List (BodyLine Tok Tok ℕ)} {t : WrittenItem Tok Tok ℕ Tok} {ls : List LeafItem} {us : Tree}
       (b b' : Bool) → b ≡ b' → says_doc entries ≡ says_doc others → AlikeItem seen n (tree.Construct entries (tree.Recipe (bare_recipe header body))) t
       → meant t ≡ Some (tree.Construct others (tree.Recipe (bare_recipe other lines)))
-      → AllDocs (count n (tree.Construct {C = ℕ} {S = Unit {0}} entries (tree.Recipe (bare_recipe header body)))) ls us
+      → AllDocs (count n (tree.Construct entries (tree.Recipe (bare_recipe header body)))) ls us
       → AllDocs n (doc_or_comment says_doc text (tree.Construct entries (tree.Recipe (record { doc = old; header = header; body = body }))) ls
       (cond b (Some (tree.Construct entries (tree.Recipe (record { doc = Some doc; header = header; body = body })))) None))
       (doc_or_comment says_doc text (tree.Construct others (tree.Recipe (record { doc = old; header = other; body = lines }))) us
       (cond b' (Some (tree.Construct others (tree.Recipe (record { doc = Some doc; header = other; body = lines })))) None))
-  recipe_alike text doc true true same says h means hs = more_docs (recipe says h means) hs
-  recipe_alike text doc false false same says h means hs = more_docs comment (more_docs newline (more_docs (recipe says h means) hs))
-  recipe_alike text doc true false same says h means hs = cc
-  recipe_alike text doc false true same says h means hs = cc
+  recipe_alike text doc old true true same says h means hs = more_docs (recipe says h means) hs
+  recipe_alike text doc old false false same says h means hs = more_docs comment (more_docs newline (more_docs (recipe says h means) hs))
+  recipe_alike text doc old true false same says h means hs = cc
+  recipe_alike text doc old false true same says h means hs = cc
 
   item_alike : (text doc : List ℕ) {n : Counters} {l : LeafItem} {u : TreeItem} {ls : List LeafItem} {us : Tree} → Docs n l u → AllDocs (count n l) ls us
       → AllDocs n (comment_taken says_doc text l ls (Some doc)) (comment_taken says_doc text u us (Some doc))
@@ -110,7 +110,7 @@ module _ (conditions : Conditions) (IsToken : Token → Type 0) (file_depth : �
   item_alike text doc comment hs = more_docs comment (more_docs newline (more_docs comment hs))
   item_alike text doc (assignment h means) hs = more_docs comment (more_docs newline (more_docs (assignment h means) hs))
   item_alike text doc (recipe {doc = old} says h means) hs =
-      recipe_alike text doc _ _ (λ i. true && not (says i) && not (is_some old)) says h means hs
+      recipe_alike text doc old _ _ (λ i. true && not (says i) && not (is_some old)) says h means hs
 
   wanted_alike : (text : List ℕ) (doc : Option (List ℕ)) {n : Counters} {l : LeafItem} {u : TreeItem} {ls : List LeafItem} {us : Tree} → Docs n l u → AllDocs (count n l) ls us
       → AllDocs n (comment_taken says_doc text l ls doc) (comment_taken says_doc text u us doc)
