@@ -1,5 +1,6 @@
 pub mod Anywhere
 pub mod Bodies
+pub mod Comments
 pub mod Constructs
 pub mod Formats
 pub mod GivenAttributes

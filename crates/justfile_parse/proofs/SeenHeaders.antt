@@ -17,7 +17,7 @@ use Rattle.justfile_model.specs.Conditions.{Conditions}
 use Rattle.justfile_model.specs.Files.{NumbersFrom}
 use Rattle.justfile_model.specs.HeaderReader.{with_bindings}
 use Rattle.justfile_model.specs.Reading.{Counters}
-use Rattle.justfile_model.specs.Tok.{Tok, tok_of}
+use Rattle.justfile_model.specs.Tok.{Tok}
 use Rattle.justfile_model.specs.Tree as tree
 use Rattle.justfile_model.specs.Tree.{starless_argument, starless_dependency}
 use Rattle.justfile_model.proofs.Counters.{after_parameters}

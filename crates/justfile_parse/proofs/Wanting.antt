@@ -1,5 +1,5 @@
 -- Where a number is wanting, said as a caller reads it.
-use Rattle.std.proofs.Common.{◌≡◌, ℕ, zero, suc, ◌+◌, ◌<◌, ◌≤◌, Bool, true, false, cond, List, [], length, Result, Ok, Err, IfOk, IsOk, refl, sym, ap, ◌∙◌, subst, arith}
+use Rattle.std.proofs.Common.{◌≡◌, ℕ, zero, suc, ◌+◌, ◌<◌, ◌≤◌, Bool, true, false, cond, List, [], length, Ok, Err, IfOk, IsOk, refl, sym, ap, ◌∙◌, subst, arith}
 use Rattle.std.specs.Prelude.{◌-◌, ◌^◌}
 use Rattle.justfile_model.specs.HeaderReader as r
 use Rattle.justfile_model.specs.ReadAttribute.{ReadAttribute, token_sight}
@@ -7,7 +7,6 @@ use Rattle.justfile_model.specs.Reader.{any_recipe, with_recipes}
 use Rattle.justfile_model.specs.Reading.{◌>>=◌, Counters}
 use Rattle.justfile_model.specs.Tok.{Tok}
 use Rattle.justfile_model.specs.Tree.{WrittenItem}
-use Rattle.justfile_model.specs.TreeReader as model
 use Rattle.justfile_model.specs.TreeReader.{Read, State, token_attributes, token_leaves}
 use Rattle.justfile_model.specs.declared.parameter_kind.ParameterKind.{ParameterKind}
 use Rattle.justfile_model.specs.declared.parameter_kind.ParameterKind.TheVariants.{Plus, Singular, Star}
