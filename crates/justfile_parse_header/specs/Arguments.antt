@@ -11,7 +11,8 @@ use Rattle.justfile_model.specs.AttributeRules.{least, lesser, rules_in}
 use Rattle.justfile_model.specs.Meaning.{text_of}
 use Rattle.justfile_model.specs.RecipeRules.{is_parameter}
 use Rattle.justfile_model.specs.Tree.{Attribute, Quoted}
-unfoldable pub use Rattle.justfile_parse_attribute.specs.KeyedBounds.{AreKeyed, IsKeyed}
+pub use Rattle.justfile_parse_attribute.specs.KeyedBounds.{IsKeyed}
+unfoldable pub use Rattle.justfile_parse_attribute.specs.KeyedBounds.{AreKeyed}
 use Rattle.justfile_parse_header.specs.HeaderTable.{LeafParameter, Rules}
 use Rattle.justfile_tree.specs.LeafSight.{sees_leaves}
 use Rattle.justfile_tree.specs.LeafTree.{Leaf}
