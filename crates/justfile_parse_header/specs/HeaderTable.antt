@@ -1,5 +1,5 @@
 -- Reading the headers of a table, with all that the parser's trees hold.
-use Rattle.std.specs.Prelude.{ℕ, Bool, List, [], ◌∷◌, ◌++◌, map, Option, Ok}
+use Rattle.std.specs.Prelude.{ℕ, Bool, true, false, List, [], ◌∷◌, ◌++◌, map, Option, Some, None, Ok}
 use Rattle.std.specs.Option.{option_map}
 use Rattle.justfile_base.specs.declared.token.Token.{Token}
 use Rattle.justfile_model.specs.ExpressionReader as expressions
@@ -66,6 +66,12 @@ starred_argument = headers.starred_argument leaves
 
 abbrev pub dependency_arguments : List StarredArgument × State → Read (List StarredArgument)
 dependency_arguments = headers.dependency_arguments leaves
+
+-- the second of them, where the first was found already or not
+abbrev pub second_from : {X : Type 0} → (found : Bool) → List X → Option X
+second_from found [] = None
+second_from false (x ∷ xs) = second_from true xs
+second_from true (x ∷ xs) = Some x
 
 -- a second star is refused
 abbrev pub second_star : (before : List StarredArgument) (star : TableEntry) → List (Broken Token)
