@@ -1,20 +1,23 @@
 -- The dependencies of a recipe and their arguments, as loops read them.
-use Rattle.std.proofs.Common.{◌≡◌, ◌∙◌, Bool, true, false, List, [], ◌∷◌, ◌++◌, ◌+◌, length, map, Some, None, Ok, Err, refl, sym, ap, arith}
+use Rattle.std.proofs.Common.{◌≡◌, ◌∙◌, Bool, true, false, List, [], ◌∷◌, ◌++◌, ◌+◌, length, map, Option, Some, None, Ok, Err, refl, sym, ap, arith}
 use Rattle.std.proofs.lemmas.List.{length-append, length-map, map-append}
 use Rattle.justfile_base.specs.declared.token_kind.TokenKind.TheVariants as kinds
 use Rattle.justfile_header.specs.declared.unresolved_dependency.UnresolvedDependency.{UnresolvedDependency}
 use Rattle.justfile_model.specs.HeaderReader as headers
+use Rattle.justfile_model.specs.HeaderReader.{obeying}
 use Rattle.justfile_model.specs.Reading.{◌>>=◌, Unexpected, prepend, refused}
+use Rattle.justfile_model.specs.Tree.{over_dependency_argument}
 use Rattle.justfile_model.proofs.HeaderReading as laws
 use Rattle.justfile_model.proofs.Prepended.{after_nothing}
 use Rattle.justfile_parse_attribute.specs.Halting.{HaltsAt}
 use Rattle.justfile_parse_attribute.specs.declared.halt.Halt.{Halt}
-use Rattle.justfile_parse_expression.specs.TableReader.{Read, Refusal, State, accept, leaves}
+use Rattle.justfile_parse_expression.specs.TableReader.{Read, Refusal, State, accept, expect, leaves}
 use Rattle.justfile_parse_expression.specs.declared.significant.TableEntry.{TableEntry}
-use Rattle.justfile_parse_header.specs.HeaderTable.{LeafDependency, StarredArgument, begins_dependency, dependencies, dependency, dependency_argument, dependency_arguments, subsequents}
-use Rattle.justfile_parse_header.specs.Tree.{dependency_tree, read_argument}
+use Rattle.justfile_parse_header.specs.HeaderTable.{LeafDependency, StarredArgument, begins_dependency, dependencies, dependency, dependency_argument, dependency_arguments, misplaced_star, parenthesized, path, subsequents}
+use Rattle.justfile_parse_header.specs.Tree.{argument_tree, dependency_tree, path_tree, read_argument}
 use Rattle.justfile_parse_header.specs.declared.dependency.ReadArgument.{ReadArgument}
 use Rattle.justfile_parse_header.proofs.Halts.{halted}
+use Rattle.justfile_parse_header.proofs.Stars.{kept_are, star_is}
 
 -- ---- dependencies: `done` stand where reading began with `old`, and `q` is what is left
 
@@ -46,21 +49,21 @@ module _ (done : List ReadArgument) (s q : State) (so_far : dependency_arguments
   pub arguments_end : (closer : TableEntry) (rest : State) → accept kinds.ParenR q ≡ Some (closer, rest) → dependency_arguments ([], s) ≡ Ok (map read_argument done, rest)
   arguments_end closer rest h = sym so_far ∙ laws.dependency_arguments_end leaves (map read_argument done, q) closer rest h
 
-  module _ (open : accept kinds.ParenR q ≡ None) where
+  module _ (none : accept kinds.ParenR q ≡ None) where
     -- an argument is read
     pub arguments_go_on : (a : ReadArgument) (new : List ReadArgument) (rest : State) → dependency_argument (map read_argument done) q ≡ Ok (read_argument a, rest) → new ≡ done ++ a ∷ []
         → dependency_arguments (map read_argument new, rest) ≡ dependency_arguments ([], s)
     arguments_go_on a new rest value is =
         ap (λ (l : List ReadArgument). dependency_arguments (map read_argument l, rest)) is
         ∙ ap (λ (l : List StarredArgument). dependency_arguments (l, rest)) (map-append read_argument done (a ∷ []))
-        ∙ sym (laws.dependency_arguments_go_on leaves (map read_argument done, q) (read_argument a) rest open value)
+        ∙ sym (laws.dependency_arguments_go_on leaves (map read_argument done, q) (read_argument a) rest none value)
         ∙ so_far
 
     -- an argument is not read
     pub arguments_halt : (halt : Halt) (left : State) → HaltsAt halt left ⊥ (dependency_argument (map read_argument done) q) → HaltsAt halt left ⊥ (dependency_arguments ([], s))
     arguments_halt halt left h =
         halted (dependency_argument (map read_argument done) q) (dependency_arguments ([], s))
-        (λ e k. sym so_far ∙ laws.dependency_arguments_fail leaves (map read_argument done, q) e open k) halt left ⊥ ⊥ (λ k. k) h
+        (λ e k. sym so_far ∙ laws.dependency_arguments_fail leaves (map read_argument done, q) e none k) halt left ⊥ ⊥ (λ k. k) h
 
 -- ---- dependencies after `&&`
 
@@ -124,3 +127,16 @@ module _ (old : List UnresolvedDependency) (s : State) where
     subsequents_halt halt left h =
         halted (prepend (map dependency_tree old) (dependencies next)) (prepend (map dependency_tree old) (subsequents s))
         (λ e k. subsequents_are ∙ fails (dependencies next) e k) halt left ⊥ ⊥ (λ k. k) h
+
+-- ---- a dependency in parentheses
+
+pub parenthesized_read : (star : Option TableEntry) (s : State) (opener : TableEntry) (inside : State) (d : UnresolvedDependency) (after : State)
+    (arguments : List ReadArgument) (rest : State)
+    → expect kinds.ParenL s ≡ Ok (opener, inside) → path inside ≡ Ok (path_tree d.recipe, after) → dependency_arguments ([], after) ≡ Ok (map read_argument arguments, rest)
+    → obeying (misplaced_star star (map read_argument arguments)) rest ≡ Ok (tt, rest)
+    → map argument_tree d.arguments.items ≡ map (over_dependency_argument (λ x. x) (λ x. x) leaves.star) (map read_argument arguments)
+    → parenthesized star s ≡ Ok (dependency_tree d, rest)
+unfolding headers.parenthesized
+parenthesized_read star s opener inside d after arguments rest opened named read checked kept =
+    let starred = star_is star arguments d.arguments.items rest rest (kept ∙ kept_are arguments) checked in
+    rw (opened, named, read, checked) (λ i. Ok (record { star = sym starred i; path = path_tree d.recipe; arguments = sym kept i }, rest))

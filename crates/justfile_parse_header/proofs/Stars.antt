@@ -62,10 +62,10 @@ module _ (before : List ReadArgument) (star : TableEntry) where
     second_later h = sym (at_second ∙ rw h refl)
 
     pub second_begins : (first : TableEntry) → found ≡ false → a.star ≡ Some first → second_after true (drop (i + 1) before) ≡ second_after false before
-    second_begins first no h = sym (at_second ∙ rw (no, h) refl)
+    second_begins first unfound h = sym (at_second ∙ rw (unfound, h) refl)
 
     pub second_here : (second : TableEntry) → found ≡ true → a.star ≡ Some second → second_after false before ≡ Some second
-    second_here second yes h = at_second ∙ rw (yes, h) refl
+    second_here second seen h = at_second ∙ rw (seen, h) refl
 
   pub second_end : (found : Bool) (i : ℕ) → second_after found (drop i before) ≡ second_after false before → length before ≤ i → second_after false before ≡ second_from found (star ∷ [])
   second_end found i so_far h = sym so_far ∙ ap (second_after found) (drop_all i before h)
@@ -155,7 +155,7 @@ kept_are arguments = arguments_are leaves.star (map read_argument arguments) ∙
   where
     twice : (l : List ReadArgument) → map (argument_kept leaves.star) (map read_argument l) ≡ map kept_of l
     twice [] = refl
-    twice (a ∷ as) = ap (λ (l : List Kept). kept_of a ∷ l) (twice as)
+    twice (a ∷ others) = ap (λ (l : List Kept). kept_of a ∷ l) (twice others)
 
 -- ---- a dependency is starred where its arguments have a star
 
@@ -171,14 +171,15 @@ unfolding any_starred
 any_tree [] = refl
 any_tree (k ∷ ks) = λ i. sym (some_star k.starred) i || any_tree ks i
 
+any_more : (o : Option TableEntry) (kept : List Kept) (others : List TableEntry) → any_starred kept ≡ is_some (first_of others)
+    → (is_some (option_map leaves.star o) || any_starred kept) ≡ is_some (first_of (cons_option o others))
+any_more None kept others h = h
+any_more (Some star) kept others h = refl
+
 any_read : (arguments : List ReadArgument) → any_starred (map kept_of arguments) ≡ is_some (first_star arguments)
 unfolding any_starred
 any_read [] = refl
-any_read (a ∷ as) = go a.star
-  where
-    go : (o : Option TableEntry) → (is_some (option_map leaves.star o) || any_starred (map kept_of as)) ≡ is_some (first_of (cons_option o (stars (map read_argument as))))
-    go None = any_read as
-    go (Some star) = refl
+any_read (a ∷ others) = any_more a.star (map kept_of others) (stars (map read_argument others)) (any_read others)
 
 pub star_is : (star : Option TableEntry) (arguments : List ReadArgument) (kept : List DependencyArgument) (s rest : State) → map argument_tree kept ≡ map kept_of arguments
     → place_checked s star (stars (map read_argument arguments)) ≡ Ok (tt, rest) → star_of (list_any (λ (a : DependencyArgument). a.starred) kept) ≡ option_map leaves.star star
