@@ -89,22 +89,21 @@ module _ (old : List UnresolvedDependency) (s : State) where
       more_than more is =
           omega (arith, length-append (map dependency_tree old) more, length-map old dependency_tree, length-map new dependency_tree, ap (λ (l : List LeafDependency). length l) is)
 
-      some_read : (found : Read (List LeafDependency)) → IsRead found → (length new ≡ length old → ⊥) → some_of found ≡ Ok (map dependency_tree new, rest)
+      both : (more : List LeafDependency) (t : State) → IsRead (Ok (more, t)) → (map dependency_tree old ++ more ≡ map dependency_tree new) × (t ≡ rest)
       unfolding prepend
-      some_read (Ok ([], t)) k h =
-          let is : map dependency_tree old ++ [] ≡ map dependency_tree new = cc in
-          absurd (h (omega (arith, more_than [] is)))
+      both more t k =
+          let same : ◌≡◌ {A = List LeafDependency × State} (map dependency_tree old ++ more, t) (map dependency_tree new, rest) = cc in
+          (ap (λ (x : List LeafDependency × State). x.0) same, ap (λ (x : List LeafDependency × State). x.1) same)
+
+      some_read : (found : Read (List LeafDependency)) → IsRead found → (length new ≡ length old → ⊥) → some_of found ≡ Ok (map dependency_tree new, rest)
+      some_read (Ok ([], t)) k h = absurd (h (omega (arith, more_than [] (both [] t k).0)))
       some_read (Ok (d ∷ ds, t)) k h = k
       some_read (Err e) k h = k
 
       some_missing : (found : Read (List LeafDependency)) → IsRead found → length new ≡ length old → some_of found ≡ Err (refused Unexpected rest)
       unfolding prepend
-      some_missing (Ok ([], t)) k h =
-          let is : t ≡ rest = cc in
-          ap (λ (r : State). Err (refused Unexpected r)) is
-      some_missing (Ok (d ∷ ds, t)) k h =
-          let is : map dependency_tree old ++ d ∷ ds ≡ map dependency_tree new = cc in
-          absurd (omega (arith, more_than (d ∷ ds) is, h))
+      some_missing (Ok ([], t)) k h = ap (λ (r : State). Err (refused Unexpected r)) (both [] t k).1
+      some_missing (Ok (d ∷ ds, t)) k h = absurd (omega (arith, more_than (d ∷ ds) (both (d ∷ ds) t k).0, h))
       some_missing (Err e) k h = absurd cc
 
       module _ (read : IsRead (dependencies next)) where

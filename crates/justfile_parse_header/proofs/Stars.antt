@@ -89,7 +89,7 @@ module _ (s : State) where
   abbrev second_checked : List TableEntry → Read (Unit {0})
   second_checked xs = obeying (second_broken (map leaves.spot xs)) s
 
-  abbrev place_checked : Option TableEntry → List TableEntry → Read (Unit {0})
+  abbrev pub place_checked : Option TableEntry → List TableEntry → Read (Unit {0})
   place_checked star xs = obeying (misplaced_broken (option_map leaves.spot star) (map leaves.spot xs)) s
 
   -- no star after another one
