@@ -52,12 +52,6 @@ path = headers.path leaves
 abbrev pub dependency_argument : (before : List StarredArgument) → State → Read StarredArgument
 dependency_argument = headers.dependency_argument leaves
 
--- an argument after those that were read, and all of them
-unfoldable pub one_argument : (before : List StarredArgument) → State → Read (List StarredArgument)
-one_argument before s = do
-  a ← dependency_argument before s
-  Ok (before ++ a.0 ∷ [], a.1)
-
 abbrev pub plain_argument : State → Read StarredArgument
 plain_argument = headers.plain_argument leaves
 

@@ -31,7 +31,7 @@ pub(crate) struct ReadArgument<'run, 'src> {
 }
 
 /// The dependencies up to what begins none, after those before them.
-#[tactic(auto, using(crate::proofs::Dependencies::dependencies_end, crate::proofs::Dependencies::dependencies_go_on, crate::proofs::Dependencies::dependencies_halt))]
+#[tactic(auto, using(crate::proofs::Dependencies::dependencies_end, crate::proofs::Dependencies::dependencies_go_on))]
 pub(crate) fn parse_dependencies<'src, X: Expander>(
     parser: &mut ExpressionParser<'_, 'src, X>,
     dependencies: &mut Vec<UnresolvedDependency<'src>>,
@@ -50,7 +50,7 @@ pub(crate) fn parse_dependencies<'src, X: Expander>(
 }
 
 /// The dependencies after `&&`, one at least, if it comes next. They are added to those before it.
-#[tactic(auto, using(crate::proofs::Dependencies::subsequents_none, crate::proofs::Dependencies::subsequents_halt))]
+#[tactic(auto, using(crate::proofs::Dependencies::subsequents_none))]
 pub(crate) fn parse_subsequents<'src, X: Expander>(
     parser: &mut ExpressionParser<'_, 'src, X>,
     dependencies: &mut Vec<UnresolvedDependency<'src>>,
@@ -129,7 +129,7 @@ fn parse_parenthesized<'run, 'src, X: Expander>(
 }
 
 /// Arguments side by side, up to the closing parenthesis and with it.
-#[tactic(auto, using(crate::proofs::Dependencies::arguments_end, crate::proofs::Dependencies::arguments_go_on, crate::proofs::Dependencies::arguments_halt))]
+#[tactic(auto, using(crate::proofs::Dependencies::arguments_end, crate::proofs::Dependencies::arguments_go_on))]
 fn parse_arguments<'run, 'src, X: Expander>(
     parser: &mut ExpressionParser<'run, 'src, X>,
 ) -> Result<Vec<ReadArgument<'run, 'src>>, Halt<'src>>
