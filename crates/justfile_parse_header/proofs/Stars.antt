@@ -25,7 +25,7 @@ use Rattle.justfile_parse_attribute.specs.declared.halt.Halt.{Halt}
 use Rattle.justfile_parse_attribute.proofs.AttributeSteps.{halts_for}
 use Rattle.justfile_parse_expression.specs.TableReader.{Read, State, leaves}
 use Rattle.justfile_parse_expression.specs.declared.significant.TableEntry.{TableEntry}
-use Rattle.justfile_parse_header.specs.HeaderTable.{StarredArgument, misplaced_star, second_from, second_star}
+use Rattle.justfile_parse_header.specs.HeaderTable.{second_from}
 use Rattle.justfile_parse_header.specs.Tree.{argument_tree, read_argument}
 use Rattle.justfile_parse_header.specs.declared.dependency.ReadArgument.{ReadArgument}
 use Rattle.justfile_tree.specs.LeafTree.{Leaf, leaf_tree_of}

@@ -1,19 +1,17 @@
 -- Reading the headers of a table, with all that the parser's trees hold.
-use Rattle.std.specs.Prelude.{ℕ, Bool, true, false, List, [], ◌∷◌, ◌++◌, map, Option, Some, None, Ok}
+use Rattle.std.specs.Prelude.{ℕ, Bool, true, false, List, [], ◌∷◌, ◌++◌, map, Option, Some, None}
 use Rattle.std.specs.Option.{option_map}
 use Rattle.justfile_base.specs.declared.token.Token.{Token}
-use Rattle.justfile_model.specs.ExpressionReader as expressions
-use Rattle.justfile_model.specs.Features.{rules_features}
 use Rattle.justfile_model.specs.HeaderReader as headers
 use Rattle.justfile_model.specs.HeaderReader.{obeying}
-use Rattle.justfile_model.specs.Reading.{◌>>=◌, Counters}
+use Rattle.justfile_model.specs.Reading.{Counters}
 use Rattle.justfile_model.specs.RecipeRules.{misplaced_broken, options_broken, parameter_broken, second_broken, stars, undefined_broken}
 use Rattle.justfile_model.specs.Rules.{Broken}
 use Rattle.justfile_model.specs.Tree as tree
 use Rattle.justfile_model.specs.Tree.{ArgumentRules, Dependency, Expr, Parameter}
 use Rattle.justfile_model.specs.declared.parameter_kind.ParameterKind.{ParameterKind}
 use Rattle.justfile_parse_attribute.specs.AttributeTable.{sight_of}
-use Rattle.justfile_parse_expression.specs.TableReader.{Read, Run, State, leaves}
+use Rattle.justfile_parse_expression.specs.TableReader.{Read, State, leaves}
 use Rattle.justfile_parse_expression.specs.declared.significant.TableEntry.{TableEntry}
 use Rattle.justfile_tree.specs.LeafSight.{sees_leaves}
 use Rattle.justfile_tree.specs.LeafTree.{Leaf}

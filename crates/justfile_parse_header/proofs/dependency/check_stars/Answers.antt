@@ -1,4 +1,4 @@
-use Rattle.std.proofs.Common.{◌≡◌, ◌∙◌, sym, subst, List, Option, map, Some, None}
+use Rattle.std.proofs.Common.{◌≡◌, subst, List, Option, map, Some, None}
 use Rattle.justfile_base.specs.declared.fault.Fault.TheVariants as faults
 use Rattle.justfile_model.specs.Meaning.{first_of}
 use Rattle.justfile_model.specs.RecipeRules.{stars}
