@@ -1,6 +1,5 @@
 //! The dependencies of a recipe.
 ghost use Rattle.std.specs.Prelude.{◌≡◌, false, ◌<◌, ◌≤◌, ◌∷◌, ◌++◌, [], OnOk, IfOk, map};
-ghost use Rattle.std.specs.Option.{option_map};
 ghost use Rattle.justfile_model.specs.HeaderReader.{obeying};
 ghost use Rattle.justfile_model.specs.Meaning.{first_of};
 ghost use Rattle.justfile_model.specs.Reading.{prepend};
