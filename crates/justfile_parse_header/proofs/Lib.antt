@@ -1,1 +1,4 @@
+pub mod Dependencies
+pub mod Halts
 pub mod Paths
+pub mod Stars
