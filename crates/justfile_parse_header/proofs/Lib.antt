@@ -1,9 +1,11 @@
 pub mod CopiedTrees
+pub mod Dependencies
 pub mod Halts
 pub mod Least
 pub mod Notes
 pub mod Paths
 pub mod SameOptions
 pub mod Spoken
+pub mod Stars
 pub mod Texts
 pub mod Undefined
