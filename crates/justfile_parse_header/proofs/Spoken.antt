@@ -11,8 +11,9 @@ use Rattle.justfile_base.specs.declared.token.Token.{Token}
 use Rattle.justfile_model.specs.AttributeRules.{arg_rules, rules_in}
 use Rattle.justfile_model.specs.Features.{Noted, rules_features}
 use Rattle.justfile_model.specs.Reading.{with}
+use Rattle.justfile_parse_attribute.specs.KeyedBounds.{AreKeyed, IsKeyed}
 use Rattle.justfile_parse_expression.specs.TableReader.{State}
-use Rattle.justfile_parse_header.specs.Arguments.{AreKeyed, IsKeyed, is_of, is_rule_of, speaks_of}
+use Rattle.justfile_parse_header.specs.Arguments.{is_of, is_rule_of, speaks_of}
 use Rattle.justfile_parse_header.specs.HeaderTable.{Rules}
 use Rattle.justfile_parse_header.specs.OptionRules.{features_in}
 use Rattle.justfile_parse_header.specs.Options.{of_rules}

@@ -46,7 +46,7 @@ pub(crate) fn find_rules<'run, 'src>(
 }
 
 /// The first attribute that speaks of a parameter of this name.
-#[tactic(auto, using(crate::proofs::Spoken::speaks_begins, crate::proofs::Spoken::speaks_later, crate::proofs::Spoken::speaks_here), unfolding(crate::specs::Arguments::AreKeyed))]
+#[tactic(auto, using(crate::proofs::Spoken::speaks_begins, crate::proofs::Spoken::speaks_later, crate::proofs::Spoken::speaks_here), unfolding(justfile_parse_attribute::specs::KeyedBounds::AreKeyed))]
 fn find_attribute<'run, 'src>(
     attributes: &'run AttributeSet<'src>,
     name: &str,
