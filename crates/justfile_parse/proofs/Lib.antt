@@ -1,6 +1,7 @@
 pub mod Anywhere
 pub mod Bodies
 pub mod Constructs
+pub mod DocSteps
 pub mod Formats
 pub mod GivenAttributes
 pub mod Halts
@@ -17,6 +18,7 @@ pub mod SeenItems
 pub mod SeenRules
 pub mod Shebangs
 pub mod Tables
+pub mod TakenDocs
 pub mod Trims
 pub mod Whole
 pub mod Wholes
