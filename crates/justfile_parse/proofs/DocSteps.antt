@@ -1,10 +1,10 @@
 -- What the functions that take docs know of items.
-use Rattle.std.proofs.Common.{◌≡◌, ◌∙◌, ℕ, ◌+◌, ◌-◌, ◌≤◌, ◌<◌, ◌==◌, Bool, true, false, cond, not, ◌&&◌, ◌||◌, IsTrue, All, List, [], ◌∷◌, ◌++◌, length, map, get_or, take, reverse, OnOk, Option, Some, None, is_some, is_none, Result, Ok, Err, codes, refl, sym, ap, subst, arith, string_bytes}
+use Rattle.std.proofs.Common.{◌≡◌, ◌∙◌, ℕ, ◌+◌, ◌-◌, ◌<◌, Bool, true, false, cond, not, ◌&&◌, ◌||◌, IsTrue, All, List, [], ◌∷◌, ◌++◌, length, map, get_or, take, reverse, OnOk, Option, Some, None, is_some, is_none, Result, Ok, Err, codes, refl, sym, ap, subst, arith, string_bytes}
 use Rattle.std.specs.Prelude.{String, nat_eq}
-use Rattle.std.specs.List.{list_any, slice_get, starts_with}
+use Rattle.std.specs.List.{slice_get, starts_with}
 use Rattle.std.specs.Option.{option_map}
 use Rattle.std.proofs.lemmas.List.{length-map, map-append, reverse-append, take_all, take_more}
-use Rattle.std.proofs.lemmas.List.Elements.{All-get_or, All-push, All-take}
+use Rattle.std.proofs.lemmas.List.Elements.{All-from_recursion, All-get_or, All-take, recursion_from_All}
 use Rattle.std.proofs.lemmas.Option.{slice_get-get_or, slice_get_within}
 use Rattle.std.specs.Global.{Global}
 use Rattle.std.specs.List.{take-map}
@@ -22,10 +22,11 @@ use Rattle.justfile_file.specs.declared.item.Item.TheVariants as items
 use Rattle.justfile_file.specs.declared.recipe.UnresolvedRecipe.{UnresolvedRecipe}
 use Rattle.justfile_model.specs.AttributeKinds.{same_attribute}
 use Rattle.justfile_model.specs.ContentKeys.{kind_of_attribute}
-use Rattle.justfile_model.specs.Docs.{item_with_doc}
+use Rattle.justfile_model.specs.Docs.{Nothing, documented, item_with_doc}
 use Rattle.justfile_model.specs.Files.{says_doc}
 use Rattle.justfile_model.specs.Tree as tree
-use Rattle.justfile_parse.specs.Docs.{LeafItem, comment_of, doc_before, doc_first, is_newline, says_no_doc, with_doc}
+use Rattle.justfile_parse.specs.Docs.{LeafItem, comment_of, doc_before, doc_first, is_newline, says_no_doc, with_doc, with_item}
+use Rattle.justfile_parse.proofs.TakenDocs.{from_first, with_items}
 use Rattle.justfile_parse.specs.Tree.{doc_text, item_tree, recipe_tree}
 use Rattle.justfile_parse.specs.Whole.{AreWhole, IsWholeItem}
 
@@ -161,3 +162,24 @@ module _ {E : Type 0} (result : Result (Unit {0}) E) (old cut new : List Item) (
           → OnOk x (map item_tree new ≡ with_doc (map item_tree old) (recipe_tree r) (item_with_doc says_doc text (recipe_tree r)))
       go (Ok done) h = h ∙ ap (λ (l : List LeafItem). l ++ with_this ∷ []) front ∙ sym (ap (with_doc (map item_tree old) (recipe_tree r)) documented)
       go (Err failed) h = tt
+
+-- ---- one item after another
+
+module _ (all left rest : List Item) (i : Item) (e : left ≡ i ∷ rest) where
+  pub next_whole : AreWhole left → IsWholeItem i × AreWhole rest
+  unfolding AreWhole
+  next_whole h =
+      let each = recursion_from_All IsWholeItem (i ∷ rest) (subst (All IsWholeItem) e h) in
+      (each.0, All-from_recursion IsWholeItem rest each.1)
+
+  -- what is left is added to the items so far
+  pub next_added : (done new : List Item) → map item_tree new ≡ with_item (map item_tree done) (item_tree i)
+      → with_items (map item_tree done) (map item_tree left) ≡ with_items [] (map item_tree all) → with_items (map item_tree new) (map item_tree rest) ≡ with_items [] (map item_tree all)
+  next_added done new added so_far =
+      ap (λ (l : List LeafItem). with_items l (map item_tree rest)) added ∙ ap (λ (l : List Item). with_items (map item_tree done) (map item_tree l)) (sym e)
+      ∙ so_far
+
+pub all_taken : (all left done : List Item) → length left ≡ 0 → with_items (map item_tree done) (map item_tree left) ≡ with_items [] (map item_tree all)
+    → map item_tree done ≡ documented says_doc Nothing (map item_tree all)
+all_taken all [] done none so_far = so_far ∙ from_first (map item_tree all)
+all_taken all (i ∷ left) done none so_far = absurd cc

@@ -1,5 +1,5 @@
 use Rattle.std.proofs.Common.{sym, ◌∙◌}
-use Rattle.justfile_parse.proofs.DocSteps.{ended, front_whole, not_ended}
+use Rattle.justfile_parse.proofs.DocSteps.{front_whole, not_ended}
 use Rattle.justfile_parse.proofs.docs.find_doc.Goals as goal
 
 pub find_ended_doc-requires : goal.find_ended_doc-requires
