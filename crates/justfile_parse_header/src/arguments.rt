@@ -14,7 +14,8 @@ ghost use Rattle.justfile_model.specs.Rules.{UndefinedArgAttribute};
 ghost use Rattle.justfile_parse_attribute.specs.Halting.{ReadsRuled};
 ghost use Rattle.justfile_parse_expression.specs.TableReader.{State};
 ghost use Rattle.justfile_parse_header.specs.HeaderTable as reader;
-ghost use Rattle.justfile_parse_header.specs.Arguments.{is_of, least_undefined, lesser_of, said_by, speaks_of, undefined_in};
+ghost use Rattle.justfile_attribute_set.specs.AttributeSet.{attributes_of};
+ghost use Rattle.justfile_parse_header.specs.Arguments.{AreKeyed, IsKeyedOption, is_of, least_undefined, lesser_of, said_by, speaks_of, undefined_in};
 ghost use Rattle.justfile_parse_header.specs.Tree.{parameter_tree, rules_of};
 ghost use Rattle.justfile_tree.specs.LeafSight.{sees_leaves};
 ghost use Rattle.justfile_tree.specs.LeafTree.{Named};
@@ -33,7 +34,9 @@ pub(crate) fn find_rules<'run, 'src>(
     before: &[Parameter<'src>],
     name: Token<'src>,
 ) -> Option<&'run Attribute<'src>>
-    ensures { said_by result ≡ rules_for sees_leaves (rules_of attributes.now) (map parameter_tree before.now) (Named name.entry None) }
+    requires { AreKeyed (attributes_of attributes.now) }
+    ensures rules { said_by result ≡ rules_for sees_leaves (rules_of attributes.now) (map parameter_tree before.now) (Named name.entry None) }
+    ensures keyed { IsKeyedOption result }
 {
     let attribute = find_attribute(attributes, name.lexeme())?;
     if is_named(before, name.lexeme()) {
