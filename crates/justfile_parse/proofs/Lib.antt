@@ -4,7 +4,6 @@ pub mod Constructs
 pub mod Formats
 pub mod GivenAttributes
 pub mod Halts
-pub mod Least
 pub mod Lines
 pub mod Loop
 pub mod Moves

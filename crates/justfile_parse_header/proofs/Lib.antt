@@ -3,6 +3,10 @@ pub mod Fewer
 pub mod Halts
 pub mod HeaderFewer
 pub mod Headers
+pub mod Least
 pub mod Parameters
 pub mod Paths
+pub mod SameOptions
 pub mod SaidRules
+pub mod Spoken
+pub mod Undefined

@@ -29,6 +29,7 @@ use justfile_tree::ListFeature;
 use std::alloc::Global;
 
 /// Notes what attributes say of parameters that needs the setting for lists.
+#[tactic(auto, using(crate::proofs::Spoken::noting_begins, crate::proofs::Spoken::noting_goes_on, crate::proofs::Spoken::noting_ends))]
 pub(crate) fn note_rules<'src, X: Expander>(
     attributes: &AttributeSet<'src>,
     parser: &mut ExpressionParser<'_, 'src, X>,
@@ -116,6 +117,7 @@ fn find_place<'src>(
 }
 
 /// Refuses options of a recipe that are called the same, long ones before short ones.
+#[tactic(auto, using(crate::proofs::SameOptions::both_obeyed, crate::proofs::SameOptions::first_broken))]
 pub(crate) fn check_options<'src>(
     attributes: &AttributeSet<'src>,
     alloc: Global,
@@ -146,6 +148,7 @@ fn check_longs<'run, 'src>(
 }
 
 /// Refuses the long option of an attribute if one before it is called the same.
+#[tactic(auto, using(crate::proofs::SameOptions::long_none, crate::proofs::SameOptions::long_apart, crate::proofs::SameOptions::long_same))]
 fn check_long<'run, 'src>(
     attribute: &'run Attribute<'src>,
     alloc: Global,
@@ -209,6 +212,7 @@ fn check_shorts<'src>(
 }
 
 /// Refuses the short option of an attribute if one before it is called the same.
+#[tactic(auto, using(crate::proofs::SameOptions::short_none, crate::proofs::SameOptions::short_apart, crate::proofs::SameOptions::short_same))]
 fn check_short<'src>(
     attribute: &Attribute<'src>,
     alloc: Global,
