@@ -5,7 +5,7 @@ use Rattle.justfile_model.specs.HeaderReader as headers
 use Rattle.justfile_model.specs.HeaderReader.{with_bindings}
 use Rattle.justfile_model.specs.Reading.{Counters, NoNumber}
 use Rattle.justfile_parse_expression.specs.TableReader.{Read, State, leaves}
-use Rattle.justfile_parse_header.specs.Counting.{HasDrawn, counters_of}
+use Rattle.justfile_parse_header.specs.Counting.{HasDrawn, counters_of, names}
 use Rattle.justfile_parse_header.specs.HeaderTable.{draw_binding}
 
 -- nothing is drawn
@@ -53,3 +53,8 @@ one_drawn old new number s before following is h = go (leaves.has_number (counte
         → HasDrawn old new before following
     go true e = moved (ap counters_in e)
     go false e = let f : ◌≡◌ {A = Read (ℕ × Counters)} (Err (NoNumber (counters_of old))) (Ok ((number, counters_of new), s)) = e in cc
+
+-- a name is drawn a number for, and then nothing is read or reading halts
+pub named_drawn : (old new : Numerator) (number : ℕ) (first last : State) (following : ℕ) → draw_binding (counters_of old) last ≡ Ok ((number, counters_of new), last)
+    → names last + 1 ≤ names first → following ≤ names last → HasDrawn old new (names first) following
+named_drawn old new number first last following is h k = one_drawn old new number last (names first) following is (omega (arith, h, k))

@@ -28,11 +28,8 @@ Arguments = List StarredArgument
 abbrev Dependencies : Type 0
 Dependencies = List LeafDependency
 
-here : {A : Type 0} (x : A) (s : State) → Fewer s (Ok (x, s))
-here x s = omega arith
-
 obeying_fewer : (rules : List (Broken Token)) (s : State) → Fewer {A = Unit {0}} s (obeying rules s)
-obeying_fewer [] s = here tt s
+obeying_fewer [] s = omega arith
 obeying_fewer (b ∷ bs) s = tt
 
 -- ---- parameters
@@ -40,15 +37,15 @@ obeying_fewer (b ∷ bs) s = tt
 pub default_fewer : (s : State) → Fewer {A = Option (Expr Leaf Token)} s (reader.default_value s)
 unfolding headers.default_value
 default_fewer s =
-    either_fewer {A = Option (Expr Leaf Token)} kinds.Equals s _ _ (here None s)
-    (λ equals. then_fewer {A = Expr Leaf Token} {B = Option (Expr Leaf Token)} equals.1 (value equals.1) _ (value_fewer equals.1) (λ e. here (Some e.0) e.1))
+    either_fewer {A = Option (Expr Leaf Token)} kinds.Equals s _ _ (omega arith)
+    (λ equals. then_fewer {A = Expr Leaf Token} {B = Option (Expr Leaf Token)} equals.1 (value equals.1) _ (value_fewer equals.1) (λ e. omega arith))
 
 -- ---- paths
 
 path_rest_rule_fewer : (f : State → Read Names) → ((s : State) → Fewer s (f s)) → (s : State) → Fewer s (headers.path_rest_rule leaves f s)
 unfolding headers.path_rest_rule
 path_rest_rule_fewer f h s =
-    either_fewer {A = Names} kinds.ColonColon s _ _ (here [] s)
+    either_fewer {A = Names} kinds.ColonColon s _ _ (omega arith)
     (λ colons. then_fewer {A = TableEntry} {B = Names} colons.1 (expect kinds.Identifier colons.1) _ (expect_fewer kinds.Identifier colons.1)
     (λ name. after_fewer (leaves.name name.0 ∷ []) name.1 (f name.1) (h name.1)))
 
@@ -68,13 +65,13 @@ path_fewer s =
 plain_fewer : (s : State) → Fewer {A = StarredArgument} s (reader.plain_argument s)
 unfolding headers.plain_argument
 plain_fewer s =
-    then_fewer {A = Expr Leaf Token} {B = StarredArgument} s (read (At levels.Expression false s)) _ (expression_fewer s) (λ e. here _ e.1)
+    then_fewer {A = Expr Leaf Token} {B = StarredArgument} s (read (At levels.Expression false s)) _ (expression_fewer s) (λ e. omega arith)
 
 starred_fewer : (before : Arguments) (star : TableEntry) (s : State) → Fewer {A = StarredArgument} s (reader.starred_argument before star s)
 unfolding headers.starred_argument
 starred_fewer before star s =
     then_fewer {A = Unit {0}} {B = StarredArgument} s (obeying (reader.second_star before star) s) _ (obeying_fewer (reader.second_star before star) s)
-    (λ checked. then_fewer {A = Expr Leaf Token} {B = StarredArgument} checked.1 (value checked.1) _ (value_fewer checked.1) (λ e. here _ e.1))
+    (λ checked. then_fewer {A = Expr Leaf Token} {B = StarredArgument} checked.1 (value checked.1) _ (value_fewer checked.1) (λ e. omega arith))
 
 argument_fewer : (before : Arguments) (s : State) → Fewer {A = StarredArgument} s (reader.dependency_argument before s)
 unfolding headers.dependency_argument
@@ -88,7 +85,7 @@ unfolding headers.dependency_arguments_rule
 arguments_rule_fewer f h x =
     either_fewer {A = Arguments} kinds.ParenR x.1 _ _
     (then_fewer {A = StarredArgument} {B = Arguments} x.1 (reader.dependency_argument x.0 x.1) _ (argument_fewer x.0 x.1) (λ a. h (x.0 ++ a.0 ∷ [], a.1)))
-    (λ closer. here x.0 closer.1)
+    (λ closer. omega arith)
 
 arguments_fewer : (x : Place) → Fewer {A = Arguments} x.1 (reader.dependency_arguments x)
 unfolding headers.dependency_arguments
@@ -103,11 +100,11 @@ parenthesized_fewer star s =
     then_fewer {A = Names} {B = LeafDependency} opener.1 (reader.path opener.1) _ (path_fewer opener.1) (λ path.
     then_fewer {A = Arguments} {B = LeafDependency} path.1 (reader.dependency_arguments ([], path.1)) _ (arguments_fewer ([], path.1)) (λ arguments.
     then_fewer {A = Unit {0}} {B = LeafDependency} arguments.1 (obeying (reader.misplaced_star star arguments.0) arguments.1) _
-    (obeying_fewer (reader.misplaced_star star arguments.0) arguments.1) (λ checked. here _ checked.1))))
+    (obeying_fewer (reader.misplaced_star star arguments.0) arguments.1) (λ checked. omega arith))))
 
 bare_fewer : (s : State) → Fewer {A = LeafDependency} s (reader.bare_dependency s)
 unfolding headers.bare_dependency
-bare_fewer s = then_fewer {A = Names} {B = LeafDependency} s (reader.path s) _ (path_fewer s) (λ path. here _ path.1)
+bare_fewer s = then_fewer {A = Names} {B = LeafDependency} s (reader.path s) _ (path_fewer s) (λ path. omega arith)
 
 dependency_fewer : (s : State) → Fewer {A = LeafDependency} s (reader.dependency s)
 unfolding headers.dependency
@@ -120,7 +117,7 @@ unfolding headers.dependencies_rule
 dependencies_rule_fewer f h s =
     after_test (reader.begins_dependency s) _ _ (Fewer {A = Dependencies} s)
     (λ _. then_fewer {A = LeafDependency} {B = Dependencies} s (reader.dependency s) _ (dependency_fewer s) (λ d. after_fewer (d.0 ∷ []) d.1 (f d.1) (h d.1)))
-    (λ _. here [] s)
+    (λ _. omega arith)
 
 dependencies_fewer : (s : State) → Fewer {A = Dependencies} s (reader.dependencies s)
 unfolding headers.dependencies
@@ -130,12 +127,12 @@ dependencies_fewer =
 
 some_fewer : (ds : Dependencies) (s : State) → Fewer {A = Dependencies} s (headers.some_dependency leaves (ds, s))
 some_fewer [] s = tt
-some_fewer (d ∷ ds) s = here (d ∷ ds) s
+some_fewer (d ∷ ds) s = omega arith
 
 subsequents_fewer : (s : State) → Fewer {A = Dependencies} s (reader.subsequents s)
 unfolding headers.subsequents
 subsequents_fewer s =
-    either_fewer {A = Dependencies} kinds.AmpersandAmpersand s _ _ (here [] s)
+    either_fewer {A = Dependencies} kinds.AmpersandAmpersand s _ _ (omega arith)
     (λ operator. then_fewer {A = Dependencies} {B = Dependencies} operator.1 (reader.dependencies operator.1) _ (dependencies_fewer operator.1) (λ x. some_fewer x.0 x.1))
 
 -- ---- after those that were read before

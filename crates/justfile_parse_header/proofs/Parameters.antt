@@ -23,7 +23,7 @@ use Rattle.justfile_parse_expression.specs.declared.significant.TableEntry.{Tabl
 use Rattle.justfile_parse_header.specs.Counting.{HasDrawn, counters_of, names}
 use Rattle.justfile_parse_header.specs.HeaderTable as reader
 use Rattle.justfile_parse_header.specs.HeaderTable.{LeafParameter, Rules}
-use Rattle.justfile_parse_header.specs.Said.{AreWholeAfter, AreWholeParameters, IsWholeParameter, KeepsWholeParameters, said_broken}
+use Rattle.justfile_parse_header.specs.Said.{AreWholeAfter, AreWholeParameters, IsSaid, IsWholeParameter, KeepsWholeParameters, said_broken}
 use Rattle.justfile_parse_header.specs.Tree.{parameter_tree, value_tree}
 use Rattle.justfile_parse_header.proofs.Draws.{both_drawn, none_drawn}
 use Rattle.justfile_parse_header.proofs.Halts.{halted}
@@ -105,15 +105,18 @@ module _ (rules : List Rules) (s q : State) (first next : Numerator) (old done :
 
 -- ---- what is said of one
 
-has_default : (default : Option (Box Expression)) → is_some (value_tree default) ≡ is_some default
-has_default None = refl
-has_default (Some e) = refl
-
 -- what is broken by what is said of a parameter is what it breaks
-pub said_is : (rules : List Rules) (before : List LeafParameter) (kind : ParameterKind) (export : Bool) (token : Token) (default : Option (Box Expression)) (found : Option Rules)
+said_is : (rules : List Rules) (before : List LeafParameter) (kind : ParameterKind) (export : Bool) (token : Token) (default : Option (Box Expression)) (found : Option Rules)
     → found ≡ rules_for sees_leaves rules before (Named token None)
     → said_broken token (is_some default) kind found ≡ reader.broken_by rules before (record { kind = kind; export = export; name = Named token None; default = value_tree default })
-said_is rules before kind export token default found is = rw (is, has_default default) refl
+said_is rules before kind export token None found is = rw is refl
+said_is rules before kind export token (Some e) found is = rw is refl
+
+-- a parameter has what is said of the first of its name
+pub named_whole : (rules : List Rules) (before : List LeafParameter) (p : Parameter) (found : Option Rules) (token : Token) → found ≡ rules_for sees_leaves rules before (Named token None)
+    → p.name.token ≡ token → IsSaid found p → IsWholeParameter rules before p
+named_whole rules before p found token is same said =
+    subst (λ (t : Token). IsSaid (rules_for sees_leaves rules before (Named t None)) p) (sym same) (subst (λ (f : Option Rules). IsSaid f p) is said)
 
 -- ---- one in the steps in which it is read
 
@@ -130,27 +133,32 @@ module _ (rules : List Rules) (kind : ParameterKind) (export : Bool) (before : L
     unfolding headers.named_parameter
     default_fails e h = rw (named, h) refl
 
-    module _ (default : Option (Box Expression)) (s2 : State) (valued : reader.default_value s1 ≡ Ok (value_tree default, s2)) (said : Option Rules)
-        (is : said ≡ rules_for sees_leaves rules (map parameter_tree before) (Named name.token.now None)) where
-      pub said_fails : (e : Refusal) → obeying (said_broken name.token.now (is_some default) kind said) s2 ≡ Err e → Found ≡ Err e
+    module _ (default : Option (Box Expression)) (s2 : State) (valued : reader.default_value s1 ≡ Ok (value_tree default, s2)) (has : Bool) (has_is : has ≡ is_some default)
+        (said : Option Rules) (is : said ≡ rules_for sees_leaves rules (map parameter_tree before) (Named name.token.now None)) where
+      broken_is : said_broken name.token.now has kind said ≡ reader.broken_by rules (map parameter_tree before) (record { kind = kind; export = export; name = Named name.token.now None; default = value_tree default })
+      broken_is = ap (λ (b : Bool). said_broken name.token.now b kind said) has_is ∙ said_is rules (map parameter_tree before) kind export name.token.now default said is
+
+      pub said_fails : (e : Refusal) → obeying (said_broken name.token.now has kind said) s2 ≡ Err e → Found ≡ Err e
       unfolding headers.named_parameter leaves
       said_fails e h =
-          let k = ap (λ (l : List (Broken Token)). obeying l s2) (sym (said_is rules (map parameter_tree before) kind export name.token.now default said is)) ∙ h in
+          let k = ap (λ (l : List (Broken Token)). obeying l s2) (sym broken_is) ∙ h in
           rw (named, valued, k) refl
 
-      module _ (obeyed : obeying (said_broken name.token.now (is_some default) kind said) s2 ≡ Ok (tt, s2)) where
+      module _ (obeyed : obeying (said_broken name.token.now has kind said) s2 ≡ Ok (tt, s2)) where
         obeyed_is : obeying (reader.broken_by rules (map parameter_tree before) (record { kind = kind; export = export; name = Named name.token.now None; default = value_tree default })) s2 ≡ Ok (tt, s2)
-        obeyed_is = ap (λ (l : List (Broken Token)). obeying l s2) (sym (said_is rules (map parameter_tree before) kind export name.token.now default said is)) ∙ obeyed
+        obeyed_is = ap (λ (l : List (Broken Token)). obeying l s2) (sym broken_is) ∙ obeyed
 
         pub number_fails : (e : Refusal) → reader.draw_binding (counters_of first) s2 ≡ Err e → Found ≡ Err e
         unfolding headers.named_parameter leaves
         number_fails e h = rw (named, valued, obeyed_is, h) refl
 
         pub parameter_read : (number : ℕ) (next : Numerator) → reader.draw_binding (counters_of first) s2 ≡ Ok ((number, counters_of next), s2) → (new : List Parameter) (p : Parameter)
-            → new ≡ before ++ p ∷ []
-            → parameter_tree p ≡ record { kind = kind; export = export; name = Named name.token.now (Some (number_of number)); default = value_tree default }
+            → new ≡ before ++ p ∷ [] → p.name.token ≡ name.token.now
+            → parameter_tree p ≡ record { kind = kind; export = export; name = Named p.name.token (Some (number_of number)); default = value_tree default }
             → Found ≡ Ok ((map parameter_tree new, counters_of next), s2)
         unfolding headers.named_parameter leaves
-        parameter_read number next h new p e tree =
-            let all : map parameter_tree new ≡ map parameter_tree before ++ _ ∷ [] = ap (map parameter_tree) e ∙ map-append parameter_tree before (p ∷ []) ∙ ap (λ (q : LeafParameter). map parameter_tree before ++ q ∷ []) tree in
+        parameter_read number next h new p e token tree =
+            let q : Token → LeafParameter = λ t. record { kind = kind; export = export; name = Named t (Some (number_of number)); default = value_tree default } in
+            let all : map parameter_tree new ≡ map parameter_tree before ++ q name.token.now ∷ [] =
+                ap (map parameter_tree) e ∙ map-append parameter_tree before (p ∷ []) ∙ ap (λ (r : LeafParameter). map parameter_tree before ++ r ∷ []) (tree ∙ ap q token) in
             rw (named, valued, obeyed_is, h, all) refl
