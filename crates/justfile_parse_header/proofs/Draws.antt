@@ -1,12 +1,15 @@
 -- How many numbers are drawn, one step after another.
-use Rattle.std.proofs.Common.{◌≡◌, ℕ, ◌+◌, ◌≤◌, Bool, true, false, cond, Ok, Err, refl, sym, ap, subst, ◌∙◌, arith}
+use Rattle.std.proofs.Common.{◌≡◌, ℕ, ◌+◌, ◌≤◌, Bool, true, false, cond, Some, Ok, Err, refl, sym, ap, subst, ◌∙◌, arith}
 use Rattle.justfile_base.specs.declared.numerator.Numerator.{Numerator}
+use Rattle.justfile_base.specs.declared.token_kind.TokenKind.{TokenKind}
 use Rattle.justfile_model.specs.HeaderReader as headers
 use Rattle.justfile_model.specs.HeaderReader.{with_bindings}
 use Rattle.justfile_model.specs.Reading.{Counters, NoNumber}
-use Rattle.justfile_parse_expression.specs.TableReader.{Read, State, leaves}
+use Rattle.justfile_parse_expression.specs.TableReader.{Read, State, accept, expect, leaves}
+use Rattle.justfile_parse_expression.specs.declared.significant.TableEntry.{TableEntry}
 use Rattle.justfile_parse_header.specs.Counting.{HasDrawn, counters_of, names}
 use Rattle.justfile_parse_header.specs.HeaderTable.{draw_binding}
+use Rattle.justfile_parse_header.proofs.Fewer.{accept_fewer, expect_fewer, fewer_at}
 
 -- nothing is drawn
 pub none_drawn : (n : Numerator) (before following : ℕ) → following ≤ before → HasDrawn n n before following
@@ -58,3 +61,13 @@ one_drawn old new number s before following is h = go (leaves.has_number (counte
 pub named_drawn : (old new : Numerator) (number : ℕ) (first last : State) (following : ℕ) → draw_binding (counters_of old) last ≡ Ok ((number, counters_of new), last)
     → names last + 1 ≤ names first → following ≤ names last → HasDrawn old new (names first) following
 named_drawn old new number first last following is h k = one_drawn old new number last (names first) following is (omega (arith, h, k))
+
+-- a token was taken before
+pub taken_drawn : (old new : Numerator) (kind : TokenKind) (s : State) (x : TableEntry × State) (following : ℕ) → accept kind s ≡ Some x → HasDrawn old new (names x.1) following
+    → HasDrawn old new (names s) following
+taken_drawn old new kind s x following is h = within old new (names x.1) following (names s) following h (accept_fewer kind s x is) (omega arith)
+
+-- a token is taken after it
+pub drawn_before : (old new : Numerator) (kind : TokenKind) (before : ℕ) (s : State) (x : TableEntry × State) → expect kind s ≡ Ok x → HasDrawn old new before (names s)
+    → HasDrawn old new before (names x.1)
+drawn_before old new kind before s x is h = within old new before (names s) before (names x.1) h (omega arith) (fewer_at s (expect kind s) x (expect_fewer kind s) is)

@@ -11,6 +11,7 @@ use Rattle.justfile_header.specs.declared.parameter.Parameter.{Parameter}
 use Rattle.justfile_model.proofs.HeaderReading as laws
 use Rattle.justfile_model.specs.HeaderReader as headers
 use Rattle.justfile_model.specs.HeaderReader.{obeying}
+use Rattle.justfile_model.specs.Reading.{accepted}
 use Rattle.justfile_model.specs.RecipeRules.{rules_for}
 use Rattle.justfile_model.specs.Rules.{Broken}
 use Rattle.justfile_model.specs.declared.parameter_kind.ParameterKind.{ParameterKind}
@@ -18,7 +19,7 @@ use Rattle.justfile_model.specs.declared.parameter_kind.ParameterKind.TheVariant
 use Rattle.justfile_parse_attribute.specs.AttributeTable.{sight_of}
 use Rattle.justfile_parse_attribute.specs.Halting.{HaltsAt}
 use Rattle.justfile_parse_attribute.specs.declared.halt.Halt.{Halt}
-use Rattle.justfile_parse_expression.specs.TableReader.{Read, Refusal, State, expect, leaves}
+use Rattle.justfile_parse_expression.specs.TableReader.{Read, Refusal, State, accept, expect, leaves}
 use Rattle.justfile_parse_expression.specs.declared.significant.TableEntry.{TableEntry}
 use Rattle.justfile_parse_header.specs.Counting.{HasDrawn, counters_of, names}
 use Rattle.justfile_parse_header.specs.HeaderTable as reader
@@ -117,6 +118,17 @@ pub named_whole : (rules : List Rules) (before : List LeafParameter) (p : Parame
     → p.name.token ≡ token → IsSaid found p → IsWholeParameter rules before p
 named_whole rules before p found token is same said =
     subst (λ (t : Token). IsSaid (rules_for sees_leaves rules before (Named t None)) p) (sym same) (subst (λ (f : Option Rules). IsSaid f p) is said)
+
+-- ---- exported or not
+
+module _ (rules : List Rules) (kind : ParameterKind) (x : reader.Parameters) (s : State) where
+  pub exported : (dollar : TableEntry) (rest : State) → accept kinds.Dollar s ≡ Some (dollar, rest) → reader.parameter rules kind (x, s) ≡ reader.named_parameter rules kind true x rest
+  unfolding headers.parameter accepted
+  exported dollar rest h = rw h refl
+
+  pub unexported : accept kinds.Dollar s ≡ None → reader.parameter rules kind (x, s) ≡ reader.named_parameter rules kind false x s
+  unfolding headers.parameter accepted
+  unexported h = rw h refl
 
 -- ---- one in the steps in which it is read
 
