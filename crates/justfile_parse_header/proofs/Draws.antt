@@ -71,3 +71,7 @@ taken_drawn old new kind s x following is h = within old new (names x.1) followi
 pub drawn_before : (old new : Numerator) (kind : TokenKind) (before : ℕ) (s : State) (x : TableEntry × State) → expect kind s ≡ Ok x → HasDrawn old new before (names s)
     → HasDrawn old new before (names x.1)
 drawn_before old new kind before s x is h = within old new before (names s) before (names x.1) h (omega arith) (fewer_at s (expect kind s) x (expect_fewer kind s) is)
+
+-- a name before it is drawn no number for
+pub header_drawn : (old new : Numerator) (before following more fewer : ℕ) → HasDrawn old new before following → before + 1 ≤ more → fewer ≤ following → HasDrawn old new more (fewer + 1)
+header_drawn old new before following more fewer h i j = record { least = h.least; most = omega (arith, h.most, i, j); recipes = h.recipes; constants = h.constants }

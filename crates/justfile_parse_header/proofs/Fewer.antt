@@ -4,7 +4,7 @@ use Rattle.justfile_base.specs.declared.token.Token.{Token}
 use Rattle.justfile_base.specs.declared.token_kind.TokenKind.{TokenKind}
 use Rattle.justfile_base.specs.declared.token_kind.TokenKind.TheVariants as kinds
 use Rattle.justfile_model.specs.ExpressionReader as expressions
-use Rattle.justfile_model.specs.Reading.{◌>>=◌, choose, prepend}
+use Rattle.justfile_model.specs.Reading.{◌>>=◌, choose, prepend, with}
 use Rattle.justfile_model.specs.SignificantTokens.{identifiers}
 use Rattle.justfile_model.specs.Expressions.{Tokens, Under}
 use Rattle.justfile_model.specs.Tok.{Tok}
@@ -12,6 +12,7 @@ use Rattle.justfile_model.specs.Tree.{Expr, itself}
 use Rattle.justfile_model.specs.TreeReader as model
 use Rattle.justfile_model.specs.TreeReader.{token_leaves}
 use Rattle.justfile_model.specs.declared.level.Level.TheVariants as levels
+use Rattle.justfile_model.specs.declared.list_feature.ListFeature.{ListFeature}
 use Rattle.justfile_model.proofs.ExpressionProgress.{expression_counts, value_counts}
 use Rattle.justfile_model.proofs.ExpressionSound.{expression_derives, level_at, sound}
 use Rattle.justfile_model.proofs.HeaderProgress.{counts_one}
@@ -58,6 +59,10 @@ pub accept_fewer : (kind : TokenKind) (s : State) (x : TableEntry × State) → 
 accept_fewer kind s x is =
     let h = subst (IsNext kind s s.left) is (accepted kind s) in
     fewer x.0 s x.1 h.0
+
+-- what is noted takes none
+pub noted_names : (features : List (ListFeature × Token)) (s noted : State) → noted ≡ with features s → names noted ≡ names s
+noted_names features s noted is = ap (λ (t : State). names t) is
 
 -- ---- one step after another
 

@@ -48,6 +48,28 @@ read_after done all (Ok x) rest h =
     inside a b h = cc
 read_after done all (Err e) rest h = cc
 
+-- ---- the dependencies before `&&` and after it
+
+module _ (before all : List UnresolvedDependency) (more : Dependencies) (is : map dependency_tree before ++ more ≡ map dependency_tree all) where
+  seam : length (map dependency_tree before) ≡ length before
+  seam = length-map before dependency_tree
+
+  pub priors_are : map dependency_tree before ≡ map dependency_tree (take (length before) all)
+  priors_are =
+      sym (take-append_seam (map dependency_tree before) more)
+      ∙ ap (λ (k : ℕ). take k (map dependency_tree before ++ more)) seam
+      ∙ ap (take (length before)) is
+      ∙ take-map dependency_tree (length before) all
+
+  pub subsequents_are : more ≡ map dependency_tree (drop (length before) all)
+  subsequents_are =
+      sym (drop-append_seam (map dependency_tree before) more)
+      ∙ ap (λ (k : ℕ). drop k (map dependency_tree before ++ more)) seam
+      ∙ ap (drop (length before)) is
+      ∙ drop-map dependency_tree (length before) all
+
+-- ---- one step after another
+
 module _ (rules : List Rules) (n : Counters) (s : State) where
   pub name_fails : (e : Refusal) → expect kinds.Identifier s ≡ Err e → reader.header rules n s ≡ Err e
   unfolding headers.header
@@ -73,7 +95,7 @@ module _ (rules : List Rules) (n : Counters) (s : State) where
           unfolding headers.header headers.distinct_options leaves
           priors_fail e h = let k = sym (after_begin (reader.dependencies s2)) ∙ h in rw (named, distinct, taken, defined, k) refl
 
-          module _ (priors : Dependencies) (s3 : State) (before : prepend [] (reader.dependencies s2) ≡ Ok (priors, s3)) where
+          module _ (priors : List UnresolvedDependency) (s3 : State) (before : prepend [] (reader.dependencies s2) ≡ Ok (map dependency_tree priors, s3)) where
             pub others_fail : (done : Dependencies) (e : Refusal) → prepend done (reader.subsequents s3) ≡ Err e → reader.header rules n s ≡ Err e
             unfolding headers.header headers.distinct_options leaves
             others_fail done e h =
@@ -81,26 +103,13 @@ module _ (rules : List Rules) (n : Counters) (s : State) where
                 let j = refused_after done (reader.subsequents s3) e h in
                 rw (named, distinct, taken, defined, k, j) refl
 
-            pub whole : (others : Dependencies) (s4 : State) → reader.subsequents s3 ≡ Ok (others, s4) → reader.header rules n s ≡ Ok ((parts name ps priors others, m), s4)
+            -- the dependencies are those before `&&`, so many, and those after it
+            pub header_read : (all : List UnresolvedDependency) (s4 : State) → prepend (map dependency_tree priors) (reader.subsequents s3) ≡ Ok (map dependency_tree all, s4) → (count : ℕ)
+                → count ≡ length priors → reader.header rules n s ≡ Ok ((parts name ps (map dependency_tree (take count all)) (map dependency_tree (drop count all)), m), s4)
             unfolding headers.header headers.distinct_options leaves
-            whole others s4 h = let k = sym (after_begin (reader.dependencies s2)) ∙ before in rw (named, distinct, taken, defined, k, h) refl
-
--- ---- the dependencies before `&&` and after it
-
-module _ (before all : List UnresolvedDependency) (more : Dependencies) (is : map dependency_tree before ++ more ≡ map dependency_tree all) where
-  seam : length (map dependency_tree before) ≡ length before
-  seam = length-map before dependency_tree
-
-  pub priors_are : map dependency_tree before ≡ map dependency_tree (take (length before) all)
-  priors_are =
-      sym (take-append_seam (map dependency_tree before) more)
-      ∙ ap (λ (k : ℕ). take k (map dependency_tree before ++ more)) seam
-      ∙ ap (take (length before)) is
-      ∙ take-map dependency_tree (length before) all
-
-  pub subsequents_are : more ≡ map dependency_tree (drop (length before) all)
-  subsequents_are =
-      sym (drop-append_seam (map dependency_tree before) more)
-      ∙ ap (λ (k : ℕ). drop k (map dependency_tree before ++ more)) seam
-      ∙ ap (drop (length before)) is
-      ∙ drop-map dependency_tree (length before) all
+            header_read all s4 h count is =
+                let k = sym (after_begin (reader.dependencies s2)) ∙ before in
+                let others = read_after (map dependency_tree priors) (map dependency_tree all) (reader.subsequents s3) s4 h in
+                rw (named, distinct, taken, defined, k, others.1, is)
+                (ap (λ (d : Dependencies). Ok ((parts name ps d others.0, m), s4)) (priors_are priors all others.0 others.2)
+                ∙ ap (λ (d : Dependencies). Ok ((parts name ps (map dependency_tree (take (length priors) all)) d, m), s4)) (subsequents_are priors all others.0 others.2))

@@ -7,6 +7,5 @@ pub mod Least
 pub mod Parameters
 pub mod Paths
 pub mod SameOptions
-pub mod SaidRules
 pub mod Spoken
 pub mod Undefined
