@@ -1,9 +1,9 @@
 pub mod Anywhere
 pub mod Bodies
+pub mod Comments
 pub mod Constructs
 pub mod Formats
 pub mod GivenAttributes
-pub mod Halts
 pub mod Lines
 pub mod Loop
 pub mod Moves
@@ -12,10 +12,13 @@ pub mod Parsed
 pub mod Readings
 pub mod Seen
 pub mod SeenAttributes
+pub mod SeenDocs
+pub mod SeenHeaders
 pub mod SeenItems
 pub mod SeenRules
 pub mod Shebangs
 pub mod Tables
 pub mod Trims
+pub mod Wanting
 pub mod Whole
 pub mod Wholes

@@ -1,3 +1,4 @@
+pub mod Dependencies
 pub mod Draws
 pub mod Fewer
 pub mod Halts
@@ -8,4 +9,5 @@ pub mod Parameters
 pub mod Paths
 pub mod SameOptions
 pub mod Spoken
+pub mod Stars
 pub mod Undefined
