@@ -1,3 +1,4 @@
+pub mod CopiedTrees
 pub mod Dependencies
 pub mod Draws
 pub mod Fewer
@@ -5,9 +6,11 @@ pub mod Halts
 pub mod HeaderFewer
 pub mod Headers
 pub mod Least
+pub mod Notes
 pub mod Parameters
 pub mod Paths
 pub mod SameOptions
 pub mod Spoken
 pub mod Stars
+pub mod Texts
 pub mod Undefined

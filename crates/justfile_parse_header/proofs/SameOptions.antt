@@ -1,5 +1,5 @@
 -- The options of a recipe, checked from the first attribute to the last.
-use Rattle.std.proofs.Common.{◌≡◌, ◌∙◌, ℕ, Bool, true, false, cond, List, [], ◌∷◌, ◌++◌, map, nat_eq, Option, Some, None, Ok, Err, refl, sym, ap, subst}
+use Rattle.std.proofs.Common.{◌≡◌, ◌∙◌, ℕ, Bool, true, false, List, [], ◌∷◌, ◌++◌, map, nat_eq, Option, Some, None, Ok, refl, sym, ap, subst}
 use Rattle.std.specs.List.{cons_option, filter_map, list_any}
 use Rattle.std.specs.Option.{option_map}
 use Rattle.std.specs.Str.{bytes_eq}
@@ -29,20 +29,27 @@ use Rattle.justfile_parse_header.proofs.Spoken.{rules_left, spoken_left}
 use Rattle.justfile_tree.specs.LeafSight.{sees_leaves}
 use Rattle.justfile_tree.specs.LeafTree.{Leaf}
 
+-- the options of these attributes
+abbrev pub options_left : {X : Type 0} → (Meant → Option (X × Token)) → List Attribute → List (X × Token)
+options_left option_in attributes = filter_map (λ (a : Attribute). option_in (leaf_attribute_of a)) attributes
+
 -- ---- options after others
 
 module _ {X : Type 0} (same : X → X → Bool) (rule : X → Rule Token) where
   abbrev broken_from : (before : List X) → List (X × Token) → State → Read (Unit {0})
   broken_from before options s = obeying (repeated_broken same rule before options) s
 
+  -- an option that is among those before it, or not
+  abbrev step_by : (among : Bool) (before : List X) → X × Token → State → Read (List X)
+  step_by among before option s = obeying (broken_if among (rule option.0) option.1) s >>= λ new. Ok (before ++ option.0 ∷ [], new.1)
+
   -- the first of them, and those after it
-  pub option_first : (before : List X) (option : Option (X × Token)) (others : List (X × Token)) (s : State)
+  option_first : (before : List X) (option : Option (X × Token)) (others : List (X × Token)) (s : State)
       → broken_from before (cons_option option others) s ≡ (option_step same rule before option s >>= λ x. broken_from x.0 others x.1)
   option_first before None others s = refl
   option_first before (Some option) others s = go (list_any (same option.0) before)
     where
-      go : (b : Bool) → obeying (broken_if b (rule option.0) option.1 ++ repeated_broken same rule (before ++ option.0 ∷ []) others) s
-          ≡ ((obeying (broken_if b (rule option.0) option.1) s >>= λ new. Ok (before ++ option.0 ∷ [], new.1)) >>= λ x. broken_from x.0 others x.1)
+      go : (b : Bool) → obeying (broken_if b (rule option.0) option.1 ++ repeated_broken same rule (before ++ option.0 ∷ []) others) s ≡ (step_by b before option s >>= λ x. broken_from x.0 others x.1)
       go true = refl
       go false = refl
 
@@ -51,11 +58,8 @@ module _ {X : Type 0} (same : X → X → Bool) (rule : X → Rule Token) where
     step_none is = ap (λ (o : Option (X × Token)). option_step same rule before o s) (sym is)
 
     module _ (option : X) (place : Token) (is : Some (option, place) ≡ found) where
-      step_is : (b : Bool) → list_any (same option) before ≡ b
-          → option_step same rule before found s ≡ (obeying (broken_if b (rule option) place) s >>= λ new. Ok (before ++ option ∷ [], new.1))
-      step_is b among =
-          ap (λ (o : Option (X × Token)). option_step same rule before o s) (sym is)
-          ∙ ap (λ (b : Bool). obeying (broken_if b (rule option) place) s >>= λ new. Ok (before ++ option ∷ [], new.1)) among
+      step_is : (b : Bool) → list_any (same option) before ≡ b → option_step same rule before found s ≡ step_by b before (option, place) s
+      step_is b among = ap (λ (o : Option (X × Token)). option_step same rule before o s) (sym is) ∙ ap (λ (b : Bool). step_by b before (option, place) s) among
 
       step_apart : list_any (same option) before ≡ false → option_step same rule before found s ≡ Ok (before ++ option ∷ [], s)
       step_apart = step_is false
@@ -68,31 +72,28 @@ module _ {X : Type 0} (same : X → X → Bool) (rule : X → Rule Token) where
   -- ---- along attributes, each with an option or none
 
   module _ (option_in : Meant → Option (X × Token)) where
-    abbrev pub options_left : List Attribute → List (X × Token)
-    options_left attributes = filter_map (λ (a : Attribute). option_in (leaf_attribute_of a)) attributes
-
     module _ (broken : List (Broken Token)) where
       -- what these attributes break after those before them is all that is broken
       abbrev pub Ahead : (before : List X) → List Attribute → Type 0
-      Ahead before left = (s : State) → broken_from before (options_left left) s ≡ obeying broken s
+      Ahead before left = (s : State) → broken_from before (options_left option_in left) s ≡ obeying broken s
 
       module _ (before : List X) (left : List Attribute) (a : Attribute) (rest : List Attribute) (is : left ≡ a ∷ rest) (so_far : Ahead before left) where
-        goes_first : (s : State) → (option_step same rule before (option_in (leaf_attribute_of a)) s >>= λ x. broken_from x.0 (options_left rest) x.1) ≡ obeying broken s
+        goes_first : (s : State) → (option_step same rule before (option_in (leaf_attribute_of a)) s >>= λ x. broken_from x.0 (options_left option_in rest) x.1) ≡ obeying broken s
         goes_first s =
-            sym (option_first before (option_in (leaf_attribute_of a)) (options_left rest) s)
-            ∙ sym (ap (λ (l : List Attribute). broken_from before (options_left l) s) is)
+            sym (option_first before (option_in (leaf_attribute_of a)) (options_left option_in rest) s)
+            ∙ sym (ap (λ (l : List Attribute). broken_from before (options_left option_in l) s) is)
             ∙ so_far s
 
         goes_on : (new : List X) → ((s : State) → option_step same rule before (option_in (leaf_attribute_of a)) s ≡ Ok (new, s)) → Ahead new rest
-        goes_on new step s = sym (ap (λ (f : Read (List X)). f >>= λ x. broken_from x.0 (options_left rest) x.1) (step s)) ∙ goes_first s
+        goes_on new step s = sym (ap (λ (f : Read (List X)). f >>= λ x. broken_from x.0 (options_left option_in rest) x.1) (step s)) ∙ goes_first s
 
         halts : (halt : Halt) (s : State) → HaltsAt halt s ⊥ (option_step same rule before (option_in (leaf_attribute_of a)) s) → HaltsAt halt s ⊥ (obeying broken s)
         halts halt s h =
             subst (λ (f : Read (Unit {0})). HaltsAt halt s ⊥ f) (goes_first s)
-            (first_halts (option_step same rule before (option_in (leaf_attribute_of a)) s) (λ x. broken_from x.0 (options_left rest) x.1) halt s ⊥ h)
+            (first_halts (option_step same rule before (option_in (leaf_attribute_of a)) s) (λ x. broken_from x.0 (options_left option_in rest) x.1) halt s ⊥ h)
 
       ends : (before : List X) (left : List Attribute) → left ≡ [] → Ahead before left → (s : State) → obeying broken s ≡ Ok (tt, s)
-      ends before left none so_far s = sym (so_far s) ∙ ap (λ (l : List Attribute). broken_from before (options_left l) s) none
+      ends before left none so_far s = sym (so_far s) ∙ ap (λ (l : List Attribute). broken_from before (options_left option_in l) s) none
 
 -- ---- the options of attributes
 

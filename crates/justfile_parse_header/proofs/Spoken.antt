@@ -1,6 +1,7 @@
 -- What attributes say of parameters, from the first attribute to the last.
-use Rattle.std.proofs.Common.{◌≡◌, ◌∙◌, ℕ, Bool, true, false, cond, List, [], ◌∷◌, ◌++◌, map, Option, Some, None, refl, sym, ap, append_assoc, true≢false}
+use Rattle.std.proofs.Common.{◌≡◌, ◌∙◌, ℕ, All, Bool, true, false, cond, List, [], ◌∷◌, ◌++◌, map, Option, Some, None, refl, sym, ap, append_assoc, subst, true≢false}
 use Rattle.std.proofs.lemmas.List.{append-nil}
+use Rattle.std.proofs.lemmas.List.Elements.{All-tail}
 use Rattle.std.specs.List.{cons_option, filter_map, flat_map}
 use Rattle.justfile_attribute.specs.Attribute.{leaf_attribute_of}
 use Rattle.justfile_attribute.specs.declared.attribute.Attribute.{Attribute}
@@ -11,7 +12,7 @@ use Rattle.justfile_model.specs.AttributeRules.{arg_rules, rules_in}
 use Rattle.justfile_model.specs.Features.{Noted, rules_features}
 use Rattle.justfile_model.specs.Reading.{with}
 use Rattle.justfile_parse_expression.specs.TableReader.{State}
-use Rattle.justfile_parse_header.specs.Arguments.{is_of, is_rule_of, speaks_of}
+use Rattle.justfile_parse_header.specs.Arguments.{AreKeyed, IsKeyed, is_of, is_rule_of, speaks_of}
 use Rattle.justfile_parse_header.specs.HeaderTable.{Rules}
 use Rattle.justfile_parse_header.specs.OptionRules.{features_in}
 use Rattle.justfile_parse_header.specs.Options.{of_rules}
@@ -71,3 +72,9 @@ module _ (name : List ℕ) where
         go : (o : Option Rules) → of_rules false (is_rule_of name) o ≡ true → speaks_of (cons_option o (rules_left rest)) name ≡ o
         go None h = absurd (true≢false (sym h))
         go (Some r) h = ap (λ (b : Bool). cond b (Some r) (speaks_of (rules_left rest) name)) h
+
+-- ---- bounds with their keys
+
+pub keyed_rest : (left : List Attribute) (a : Attribute) (rest : List Attribute) → left ≡ a ∷ rest → AreKeyed left → AreKeyed rest
+unfolding AreKeyed
+keyed_rest left a rest is keyed = All-tail IsKeyed a rest (subst (λ (l : List Attribute). All IsKeyed l) is keyed)

@@ -1,5 +1,5 @@
 -- What is refused of attributes that speak of no parameter.
-use Rattle.std.proofs.Common.{◌≡◌, ◌∙◌, ℕ, Bool, true, false, List, [], ◌∷◌, not, Option, Some, None, Ok, Err, refl, sym, ap, subst, string_bytes}
+use Rattle.std.proofs.Common.{◌≡◌, List, [], ◌∷◌, not, Option, Some, None, Ok, Err, refl, sym, subst, string_bytes}
 use Rattle.std.specs.List.{filter}
 use Rattle.std.specs.Option.{option_map}
 use Rattle.justfile_attribute_rules.specs.Made.{IsRefusedBy, quoted_leaf}
@@ -7,29 +7,19 @@ use Rattle.justfile_base.specs.declared.fault.Fault.{Fault}
 use Rattle.justfile_base.specs.declared.string_literal.StringLiteral.{StringLiteral}
 use Rattle.justfile_model.specs.AttributeRules.{least, of_some}
 use Rattle.justfile_model.specs.HeaderReader.{obeying}
-use Rattle.justfile_model.specs.Literals.{string_of}
 use Rattle.justfile_model.specs.Meaning.{text_of}
 use Rattle.justfile_model.specs.NewAttribute as new
 use Rattle.justfile_model.specs.Reading as reading
 use Rattle.justfile_model.specs.RecipeRules.{is_parameter}
 use Rattle.justfile_model.specs.Rules.{UndefinedArgAttribute}
-use Rattle.justfile_model.specs.Sight.{or_empty}
 use Rattle.justfile_parse_attribute.specs.Halting.{HaltsAt, HaltsFor}
 use Rattle.justfile_parse_attribute.specs.declared.halt.Halt.{Halt}
 use Rattle.justfile_parse_attribute.proofs.AttributeSteps.{halts_for}
 use Rattle.justfile_parse_expression.specs.TableReader.{Read, State}
 use Rattle.justfile_parse_header.specs.Arguments.{least_undefined}
 use Rattle.justfile_parse_header.specs.HeaderTable.{LeafParameter, Rules, undefined}
+use Rattle.justfile_parse_header.proofs.Texts.{text_is}
 use Rattle.justfile_tree.specs.LeafSight.{sees_leaves}
-use Rattle.justfile_tree.specs.LeafTree.{Literal, literal_of}
-
--- the text of a literal is what is kept of it
-pub text_is : (l : StringLiteral) → text_of sees_leaves (quoted_leaf l) ≡ string_bytes l.cooked
-text_is l = go l.expand
-  where
-    go : (b : Bool) → or_empty (sees_leaves.cooked (string_of b (Literal (literal_of l)))) ≡ string_bytes l.cooked
-    go true = refl
-    go false = refl
 
 module _ (parameters : List LeafParameter) (rules : List Rules) (s : State) where
   -- the refusal of the least argument

@@ -1,5 +1,5 @@
 //! Of which parameter an `arg` attribute speaks.
-ghost use Rattle.std.specs.Prelude.{◌≡◌, IfOk, List, map, string_bytes};
+ghost use Rattle.std.specs.Prelude.{◌≡◌, None, map, string_bytes};
 ghost use Rattle.std.specs.List.{list_any};
 ghost use Rattle.std.specs.Option.{option_map};
 ghost use Rattle.std.specs.Str.{bytes_eq};
