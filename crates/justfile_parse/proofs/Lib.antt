@@ -1,11 +1,10 @@
 pub mod Anywhere
 pub mod Bodies
+pub mod Comments
 pub mod Constructs
 pub mod DocSteps
 pub mod Formats
 pub mod GivenAttributes
-pub mod Halts
-pub mod Least
 pub mod Lines
 pub mod Loop
 pub mod Moves
@@ -14,11 +13,14 @@ pub mod Parsed
 pub mod Readings
 pub mod Seen
 pub mod SeenAttributes
+pub mod SeenDocs
+pub mod SeenHeaders
 pub mod SeenItems
 pub mod SeenRules
 pub mod Shebangs
 pub mod Tables
 pub mod TakenDocs
 pub mod Trims
+pub mod Wanting
 pub mod Whole
 pub mod Wholes

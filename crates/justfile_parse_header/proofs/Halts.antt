@@ -29,6 +29,7 @@ module _ {X Y : Type 0} (found : Read X) (other : Read Y) (fails : (e : Refusal)
       go (Err (reading.NotCooked fault t)) is h = absurd h
       go (Err (reading.BreaksRule rule)) is h = subst (λ (o : Read Y). IsBrokenBy o e) (sym (fails (reading.BreaksRule rule) is)) h
       go (Err (reading.Extraneous count opener)) is h = subst (λ (o : Read Y). IsBrokenBy o e) (sym (fails (reading.Extraneous count opener) is)) h
+      go (Err (reading.AfterVariadic name)) is h = subst (λ (o : Read Y). IsBrokenBy o e) (sym (fails (reading.AfterVariadic name) is)) h
       go (Err (reading.NoNumber counters)) is h = absurd h
 
   pub halted : (halt : Halt) (left : State) (Short Wanting : Type 0) → (Short → Wanting) → HaltsAt halt left Short found → HaltsAt halt left Wanting other

@@ -1,7 +1,8 @@
 -- The argument with the least text, found from the first attribute to the last.
-use Rattle.std.proofs.Common.{◌≡◌, ◌∙◌, ℕ, List, [], ◌∷◌, Bool, true, false, cond, map, Option, Some, None, refl, sym, ap, true≢false}
+use Rattle.std.proofs.Common.{◌≡◌, ◌∙◌, ℕ, List, [], ◌∷◌, Bool, true, false, cond, not, map, Option, Some, None, refl, sym, ap, true≢false}
 use Rattle.std.specs.Cmp.{IsTotalOrder, on_total}
 use Rattle.std.specs.Cmp.Lexicographic.{nat_list_cmp_total}
+use Rattle.std.specs.List.{cons_option, filter}
 use Rattle.std.specs.Option.{option_map}
 use Rattle.std.specs.Ordering.{is_gt, ordering_reverse}
 use Rattle.std.specs.declared.cmp.Ordering.{Ordering}
@@ -10,12 +11,15 @@ use Rattle.justfile_attribute.specs.Attribute.{leaf_attribute_of}
 use Rattle.justfile_attribute.specs.declared.attribute.Attribute.{Attribute}
 use Rattle.justfile_attribute_set.specs.Keys.{firsts}
 use Rattle.justfile_attribute_set.specs.Pairs.{Pair, leaf_entry_of}
-use Rattle.justfile_base.specs.declared.token.Token.{Token}
 use Rattle.justfile_model.specs.AttributeRules.{arg_rules, least, lesser, rules_in}
 use Rattle.justfile_model.specs.ContentLeaf.{text_cmp}
 use Rattle.justfile_model.specs.Meaning.{text_of}
-use Rattle.justfile_model.specs.Tree.{ArgumentRules, Quoted}
-use Rattle.justfile_parse.specs.ItemTable.{argument_in, least_argument, lesser_of}
+use Rattle.justfile_model.specs.RecipeRules.{is_parameter}
+use Rattle.justfile_model.specs.Tree.{Quoted}
+use Rattle.justfile_parse_header.specs.Arguments.{least_undefined, lesser_of, undefined_in}
+use Rattle.justfile_parse_header.specs.HeaderTable.{LeafParameter, Rules}
+use Rattle.justfile_parse_header.specs.Options.{of_rules}
+use Rattle.justfile_parse_header.proofs.Spoken.{rules_left, spoken_left}
 use Rattle.justfile_tree.specs.LeafSight.{sees_leaves}
 use Rattle.justfile_tree.specs.LeafTree.{Leaf}
 
@@ -75,40 +79,54 @@ regroups (Some p) (Some q) (Some r) = ap Some (lesser_regroups Text p q r)
 
 -- ---- along attributes
 
--- the argument with the least text that these attributes speak of
-abbrev pub least_in : List Attribute → Option (Quoted Leaf)
-least_in [] = None
-least_in (a ∷ others) = lesser_of (argument_in (leaf_attribute_of a)) (least_in others)
+abbrev name_of : Rules → Quoted Leaf
+name_of r = r.name
 
-abbrev Rules : Type 0
-Rules = ArgumentRules Leaf Token
-
-named_lesser : (a : Rules) (o : Option Rules) → (lesser (λ (r : Rules). Text r.name) a o).name ≡ lesser Text a.name (option_map (λ (r : Rules). r.name) o)
+named_lesser : (a : Rules) (o : Option Rules) → name_of (lesser (λ (r : Rules). Text r.name) a o) ≡ lesser Text a.name (option_map name_of o)
 named_lesser a None = refl
 named_lesser a (Some b) = go (is_gt (text_cmp (Text a.name) (Text b.name)))
   where
-    go : (g : Bool) → (cond g b a).name ≡ cond g b.name a.name
+    go : (g : Bool) → name_of (cond g b a) ≡ cond g b.name a.name
     go true = refl
     go false = refl
 
-least_is : (ps : List Pair) → least_argument (map leaf_entry_of ps) ≡ least_in (firsts ps)
-least_is [] = refl
-least_is (p ∷ ps) = go (rules_in sees_leaves (leaf_attribute_of p.0)) refl (least_is ps)
+-- the least name of these rules
+abbrev least_named : List Rules → Option (Quoted Leaf)
+least_named rules = option_map name_of (least (λ (r : Rules). Text r.name) rules)
+
+one_more : (a : Rules) (others : List Rules) (is : Bool) → least_named (cond (not is) (a ∷ others) others) ≡ lesser_of (cond is None (Some a.name)) (least_named others)
+one_more a others true = refl
+one_more a others false = go (least (λ (r : Rules). Text r.name) others)
   where
-    go : (o : Option Rules) → rules_in sees_leaves (leaf_attribute_of p.0) ≡ o → least_argument (map leaf_entry_of ps) ≡ least_in (firsts ps)
-        → least_argument (map leaf_entry_of (p ∷ ps)) ≡ least_in (firsts (p ∷ ps))
-    go None e k = rw e k
-    go (Some a) e k =
-        rw e (ap Some (named_lesser a (least (λ (r : Rules). Text r.name) (arg_rules sees_leaves (map leaf_entry_of ps)))
-        ∙ ap (lesser Text a.name) k))
+    go : (o : Option Rules) → Some (name_of (lesser (λ (r : Rules). Text r.name) a o)) ≡ lesser_of (Some a.name) (option_map name_of o)
+    go None = refl
+    go (Some b) = ap Some (named_lesser a (Some b))
 
-pub begins : (ps : List Pair) (left : List Attribute) → left ≡ firsts ps → least_argument (map leaf_entry_of ps) ≡ lesser_of None (least_in left)
-begins ps left e = least_is ps ∙ sym (ap least_in e)
+module _ (parameters : List LeafParameter) where
+  -- the argument with the least text that these attributes speak of and that is no parameter
+  abbrev pub least_in : List Attribute → Option (Quoted Leaf)
+  least_in [] = None
+  least_in (a ∷ others) = lesser_of (undefined_in parameters (leaf_attribute_of a)) (least_in others)
 
-pub goes_on : (all found : Option (Quoted Leaf)) (a : Attribute) (rest : List Attribute) → all ≡ lesser_of found (least_in (a ∷ rest))
-    → all ≡ lesser_of (lesser_of found (argument_in (leaf_attribute_of a))) (least_in rest)
-goes_on all found a rest e = e ∙ regroups found (argument_in (leaf_attribute_of a)) (least_in rest)
+  least_is : (attributes : List Attribute) → least_undefined parameters (rules_left attributes) ≡ least_in attributes
+  least_is [] = refl
+  least_is (a ∷ others) = go (rules_in (leaf_attribute_of a)) ∙ ap (lesser_of (undefined_in parameters (leaf_attribute_of a))) (least_is others)
+    where
+      go : (o : Option Rules) → least_undefined parameters (cons_option o (rules_left others))
+          ≡ lesser_of (of_rules None (λ r. cond (is_parameter sees_leaves parameters r) None (Some r.name)) o) (least_undefined parameters (rules_left others))
+      go None = refl
+      go (Some a) = one_more a (filter (λ r. not (is_parameter sees_leaves parameters r)) (rules_left others)) (is_parameter sees_leaves parameters a)
 
-pub ends : (all found : Option (Quoted Leaf)) → all ≡ lesser_of found (least_in []) → all ≡ found
-ends all None e = e
-ends all (Some q) e = e
+  pub begins : (ps : List Pair) (left : List Attribute) → left ≡ firsts ps → least_undefined parameters (arg_rules (map leaf_entry_of ps)) ≡ lesser_of None (least_in left)
+  begins ps left e = ap (least_undefined parameters) (sym (spoken_left ps left e)) ∙ least_is left
+
+  pub goes_on : (all found : Option (Quoted Leaf)) (a : Attribute) (left rest : List Attribute) → left ≡ a ∷ rest → all ≡ lesser_of found (least_in left)
+      → all ≡ lesser_of (lesser_of found (undefined_in parameters (leaf_attribute_of a))) (least_in rest)
+  goes_on all found a left rest is e = e ∙ ap (λ l. lesser_of found (least_in l)) is ∙ regroups found (undefined_in parameters (leaf_attribute_of a)) (least_in rest)
+
+  pub ends : (all found : Option (Quoted Leaf)) (left : List Attribute) → left ≡ [] → all ≡ lesser_of found (least_in left) → all ≡ found
+  ends all found left none e = e ∙ ap (λ l. lesser_of found (least_in l)) none ∙ alone found
+    where
+      alone : (o : Option (Quoted Leaf)) → lesser_of o None ≡ o
+      alone None = refl
+      alone (Some q) = refl
