@@ -3,8 +3,6 @@ pub mod Bodies
 pub mod Constructs
 pub mod Formats
 pub mod GivenAttributes
-pub mod Halts
-pub mod Least
 pub mod Lines
 pub mod Loop
 pub mod Moves

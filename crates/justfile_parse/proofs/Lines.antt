@@ -22,7 +22,7 @@ use Rattle.justfile_parse_attribute.specs.declared.halt.Halt.{Halt}
 use Rattle.justfile_parse_expression.specs.declared.significant.TableEntry.{TableEntry}
 use Rattle.justfile_parse_expression.specs.declared.stop.Stop.{Stop}
 use Rattle.justfile_parse_expression.specs.declared.stop.Stop.TheVariants.{Refused, Literal, Memory, Numbers}
-use Rattle.justfile_parse.proofs.Halts.{halted}
+use Rattle.justfile_parse_header.proofs.Halts.{halted}
 
 abbrev Items : Type 0
 Items = List (OrderedItem Leaf Token ℕ)

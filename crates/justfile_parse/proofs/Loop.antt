@@ -24,7 +24,7 @@ use Rattle.justfile_parse_expression.specs.declared.stop.Stop.{Stop}
 use Rattle.justfile_parse_expression.specs.declared.stop.Stop.TheVariants.{Refused, Literal, Memory, Numbers}
 use Rattle.justfile_model.proofs.Reading as laws
 use Rattle.justfile_model.proofs.ReadingSteps.{known}
-use Rattle.justfile_parse.proofs.Halts.{halted}
+use Rattle.justfile_parse_header.proofs.Halts.{halted}
 use Rattle.justfile_parse.proofs.Moves.{line_moves, names, on_line_moves}
 use Rattle.justfile_parse.proofs.Wholes.{none_whole, then_whole}
 use Rattle.justfile_parse_header.specs.Counting.{counters_of}
