@@ -3,8 +3,10 @@ pub mod Bodies
 pub mod Constructs
 pub mod Formats
 pub mod GivenAttributes
+pub mod Hashes
 pub mod Lines
 pub mod Loop
+pub mod Moved
 pub mod Moves
 pub mod NotInternal
 pub mod Parsed
