@@ -73,7 +73,8 @@ impl<'src> PairSet<Attribute<'src>, Name<'src>> {
     /// `AllocError` if the program is out of memory.
     #[tactic(auto, using(crate::proofs::Sorts::entries_sorted))]
     pub fn from_read(pairs: Vec<(Attribute<'src>, Name<'src>)>) -> Result<Self, AllocError>
-        ensures { IfOk result (λ set. leaf_entries_of set ≡ in_order (entry_cmp sees_leaves) (map leaf_entry_of pairs.entry.items)) }
+        ensures pairs { IfOk result (λ set. pairs_of set ≡ in_order pair_cmp pairs.entry.items) }
+        ensures entries { IfOk result (λ set. leaf_entries_of set ≡ in_order (entry_cmp sees_leaves) (map leaf_entry_of pairs.entry.items)) }
     {
         let mut pairs = pairs;
         sort_pairs(&mut pairs)?;

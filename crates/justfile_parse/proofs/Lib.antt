@@ -1,5 +1,6 @@
 pub mod Anywhere
 pub mod Bodies
+pub mod Comments
 pub mod Constructs
 pub mod Formats
 pub mod GivenAttributes
@@ -13,10 +14,13 @@ pub mod Parsed
 pub mod Readings
 pub mod Seen
 pub mod SeenAttributes
+pub mod SeenDocs
+pub mod SeenHeaders
 pub mod SeenItems
 pub mod SeenRules
 pub mod Shebangs
 pub mod Tables
 pub mod Trims
+pub mod Wanting
 pub mod Whole
 pub mod Wholes

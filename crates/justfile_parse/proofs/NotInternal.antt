@@ -29,7 +29,7 @@ use Rattle.justfile_attribute_rules.specs.RuleErrors.{SaysRule}
 use Rattle.justfile_model.specs.Rules as rules
 use Rattle.justfile_model.specs.Rules.{Rule}
 use Rattle.justfile_parse.specs.Errors.{IsErrorOf, IsUnexpected}
-use Rattle.justfile_parse_attribute.specs.Halting.{IsExtraneous}
+use Rattle.justfile_parse_attribute.specs.Halting.{IsAfterVariadic, IsExtraneous}
 use Rattle.justfile_model.specs.LexicalFault.{LexicalFault, NotLexical, LexicalRefusal, Here, Unclosed, lexical_fault_of}
 use Rattle.justfile_model.specs.LiteralText.{raw_len}
 use Rattle.justfile_model.specs.Modes.{Mode, head_of, innermost, is_empty, mode, nested}
@@ -202,10 +202,15 @@ extraneous_kind : (count : ℕ) (kind : CompileErrorKind) → IsExtraneous count
 extraneous_kind count (Internal message) h = absurd h
 extraneous_kind count _ h = refl
 
+variadic_kind : (name : Token) (kind : CompileErrorKind) → IsAfterVariadic name kind → internal_message kind ≡ None
+variadic_kind name (Internal message) h = absurd h
+variadic_kind name _ h = refl
+
 pub refusal_not_internal : (tokens : List SignificantToken) (r : model.Refusal) (e : CompileError) → IsErrorOf tokens r e → internal_message e.kind ≡ None
 refusal_not_internal tokens (reader.Unexpected at) e h = unexpected_kind e.kind e.token h.0
 refusal_not_internal tokens (reader.TooDeep at) e h = ap internal_message h.0
 refusal_not_internal tokens (reader.NotCooked fault t) e h = literal_kind fault e.kind h.0
 refusal_not_internal tokens (reader.BreaksRule rule) e h = rule_kind h.rule.token h.rule.rule e.kind h.error.says
 refusal_not_internal tokens (reader.Extraneous count opener) e h = extraneous_kind count e.kind h.0
+refusal_not_internal tokens (reader.AfterVariadic name) e h = variadic_kind e.token e.kind h.0
 refusal_not_internal tokens (reader.NoNumber counters) e h = absurd h

@@ -1,15 +1,18 @@
 -- What is read of a table, and what that says of the tokens.
-use Rattle.std.proofs.Common.{◌≡◌, ℕ, ◌+◌, ◌<◌, ◌≤◌, Bool, true, false, ◌&&◌, cond, IsTrue, rules, List, [], ◌∷◌, ◌++◌, map, length, All, Contains, Some, Result, Ok, Err, inl, inr, refl, sym, ap, ◌∙◌, subst, arith}
-use Rattle.std.specs.Prelude.{◌-◌, ◌^◌, get_or, reverse, string_bytes}
-use Rattle.std.specs.List.{list_all, flat_map}
+use Rattle.std.proofs.Common.{◌≡◌, ℕ, ◌+◌, ◌<◌, ◌≤◌, Bool, true, false, ◌&&◌, cond, IsTrue, rules, List, [], ◌∷◌, ◌++◌, map, length, All, Contains, Option, Some, None, Result, Ok, Err, inl, inr, refl, sym, ap, ◌∙◌, subst, arith}
+use Rattle.std.specs.Prelude.{◌-◌, ◌^◌, codes, get_or, nat_eq, reverse, string_bytes}
+use Rattle.std.specs.Global.{Box}
+use Rattle.std.specs.List.{list_all, flat_map, starts_with}
+use Rattle.std.specs.Option.{option_map}
 use Rattle.std.proofs.lemmas.Bool.Decides.{nat_tests}
-use Rattle.std.proofs.lemmas.List.{append-nil, length-map, reverse-append, reverse-reverse}
-use Rattle.std.proofs.lemmas.List.Elements.{All-contains, All-head, All-tail, All-weaker}
+use Rattle.std.proofs.lemmas.List.{append-nil, append_assoc, length-map, reverse-append, reverse-reverse}
+use Rattle.std.proofs.lemmas.List.Elements.{All-contains, All-drop, All-head, All-tail, All-take, All-weaker}
 use Rattle.justfile_base.specs.StringKind.{delimiter_len, kind_of}
 use Rattle.justfile_base.specs.StringLiteral.{begins_format_string}
 use Rattle.justfile_base.specs.declared.format_string_part.FormatStringPart.TheVariants as format_parts
 use Rattle.justfile_base.specs.declared.name.Name.{Name}
 use Rattle.justfile_base.specs.Token.{lexeme_of}
+use Rattle.justfile_base.specs.Namepath.{names_in}
 use Rattle.justfile_base.specs.Numerator.{bindings_of, recipes_of}
 use Rattle.justfile_base.specs.declared.fault.Fault.{Fault}
 use Rattle.justfile_base.specs.declared.fault.Fault.TheVariants as faults
@@ -22,7 +25,12 @@ use Rattle.justfile_base.specs.declared.token_kind.TokenKind.TheVariants as kind
 use Rattle.std.specs.Str.{IsUtf8}
 use Rattle.justfile_round_trip.specs.RoundTrip.{TextDerives}
 use Rattle.justfile_round_trip.proofs.Quoted.{AreFramed, AreQuoted, IsFramed, IsQuoted, lexed_framed, lexed_quoted}
-use Rattle.justfile_file.specs.Item.{fragment_of, fragment_cooked, item_of, item_cooked, body_line_of, line_cooked}
+use Rattle.justfile_file.specs.Item.{fragment_of, fragment_cooked, header_cooked, header_of, item_of, item_cooked, body_line_of, line_cooked, priors_of, subsequents_of}
+use Rattle.justfile_header.specs.Header.{argument_cooked, boxed_of, dependency_argument_of, dependency_cooked, dependency_of, option_cooked, parameter_cooked, parameter_of}
+use Rattle.justfile_header.specs.declared.parameter.Parameter.{Parameter}
+use Rattle.justfile_header.specs.declared.unresolved_dependency.DependencyArgument.{DependencyArgument}
+use Rattle.justfile_header.specs.declared.unresolved_dependency.UnresolvedDependency.{UnresolvedDependency}
+use Rattle.justfile_file.specs.declared.recipe.UnresolvedRecipe.{UnresolvedRecipe}
 use Rattle.justfile_attribute_set.specs.AttributeSet.{entries_of}
 use Rattle.justfile_file.specs.Ast.{features_of, tree_of}
 use Rattle.justfile_file.specs.Attributes.{set_cooked}
@@ -34,7 +42,7 @@ use Rattle.justfile_file.specs.declared.item.Item.{Item}
 use Rattle.justfile_file.specs.declared.item.Item.TheVariants.{Assignment, Comment, Newline, Recipe}
 use Rattle.justfile_model.specs.Answers.{IsFrom, IsLexerFault}
 use Rattle.justfile_model.specs.Conditions.{Conditions}
-use Rattle.justfile_model.specs.Files.{FileDerives, body_literals, entries_literals, expr_literals, exprs_literals, fragments_literals, item_literals, literals, ordered, parts_literals}
+use Rattle.justfile_model.specs.Files.{FileDerives, body_literals, dependency_literals, entries_literals, expr_literals, exprs_literals, fragments_literals, header_literals, item_literals, literals, optional_literals, ordered, parameter_literals, parts_literals}
 use Rattle.justfile_model.specs.Lexed.{Lexed, IsFault}
 use Rattle.justfile_model.specs.LexicalFault.{LexicalFault}
 use Rattle.justfile_model.specs.Features.{Noted}
@@ -48,9 +56,10 @@ use Rattle.justfile_model.specs.Tok.{Tok, tok_of}
 use Rattle.justfile_model.specs.Tree as tree
 use Rattle.justfile_model.specs.Tree.{Tree, WrittenTree, lexeme}
 use Rattle.justfile_model.proofs.LexedLaws.{one_list, never_both}
-use Rattle.justfile_model.proofs.Agreement.{sound, complete, due, refused}
+use Rattle.justfile_model.proofs.Agreement.{complete, due, refused}
+use Rattle.justfile_model.proofs.Soundness.{sound}
 use Rattle.justfile_model.proofs.Ordered.{ordered_bindings, ordered_recipes}
-use Rattle.justfile_parse.specs.Filled.{AreGivenExpressions, AreGivenParts, IsGivenFragment, IsGivenOptional, IsGivenItem, IsGivenExpression, IsGivenLine, IsGivenPart, IsInTable, first_part, later_part}
+use Rattle.justfile_parse.specs.Filled.{AreGivenExpressions, AreGivenParts, IfThere, IsGivenArgument, IsGivenBoxed, IsGivenDependency, IsGivenName, IsGivenParameter, IsGivenRecipe, IsGivenFragment, IsGivenOptional, IsGivenItem, IsGivenExpression, IsGivenLine, IsGivenPart, IsInTable, first_part, later_part}
 use Rattle.justfile_literal.specs.Literal.{IsPartOf, is_framed, is_quoted}
 use Rattle.justfile_parse.specs.Errors.{IsErrorOf}
 use Rattle.justfile_parse_expression.specs.Literal.{is_delimited, is_sound}
@@ -60,6 +69,7 @@ use Rattle.justfile_parse_expression.specs.Significant.{significant_of}
 use Rattle.justfile_parse_expression.specs.declared.significant.TableEntry.{TableEntry}
 use Rattle.justfile_parse.specs.Unstable.{unstable_of}
 use Rattle.justfile_parse.specs.WantsNumber.{WantsNumber}
+use Rattle.justfile_parse.proofs.Comments.{AreComments, lexed_comments}
 use Rattle.justfile_parse.proofs.GivenAttributes.{given_set, joined_cook, lexemes, set_cooks, string_cooks, string_tok}
 use Rattle.justfile_parse.proofs.NotInternal.{not_internal, refusal_not_internal}
 use Rattle.justfile_tree.specs.Expression.{assert_of, conditional_of, expr_of, expr_cooked, exprs_cooked, exprs_of_row, format_of, optional_cooked, join_of, literal_tok, part_tok, parts_cooked, parts_of_row}
@@ -98,30 +108,33 @@ quoted_test bytes h = framed_by (delimiter_len (kind_of bytes)) (delimiter_len (
 pub framed_test : (front end : ℕ) (bytes : List ℕ) → IsFramed front end bytes → is_framed front end bytes ≡ true
 framed_test front end bytes h = framed_by front end bytes h.long h.before h.following
 
--- each literal between delimiters, and each part of a format string but the last, is delimited
+-- each literal between delimiters, each part of a format string but the last, and each comment is delimited
 delimited : (kind : TokenKind) (bytes : List ℕ) → (kind ≡ kinds.StringToken → IsQuoted bytes) → (kind ≡ kinds.Backtick → IsQuoted bytes)
     → (kind ≡ kinds.FormatStringStart → IsFramed (delimiter_len (kind_of bytes)) 2 bytes) → (kind ≡ kinds.FormatStringContinue → IsFramed 2 2 bytes)
-    → is_delimited kind bytes ≡ true
-delimited kinds.StringToken bytes string command start part = quoted_test bytes (string refl)
-delimited kinds.Backtick bytes string command start part = quoted_test bytes (command refl)
-delimited kinds.FormatStringStart bytes string command start part = framed_test (delimiter_len (kind_of bytes)) 2 bytes (start refl)
-delimited kinds.FormatStringContinue bytes string command start part = framed_test 2 2 bytes (part refl)
-delimited _ bytes string command start part = refl
+    → (kind ≡ kinds.Comment → starts_with nat_eq bytes (codes "#") ≡ true) → is_delimited kind bytes ≡ true
+delimited kinds.StringToken bytes string command start part comment = quoted_test bytes (string refl)
+delimited kinds.Backtick bytes string command start part comment = quoted_test bytes (command refl)
+delimited kinds.FormatStringStart bytes string command start part comment = framed_test (delimiter_len (kind_of bytes)) 2 bytes (start refl)
+delimited kinds.FormatStringContinue bytes string command start part comment = framed_test 2 2 bytes (part refl)
+delimited kinds.Comment bytes string command start part comment = comment refl
+delimited _ bytes string command start part comment = refl
 
 both : (a b : Bool) → a ≡ true → b ≡ true → (a && b) ≡ true
 both true b h k = k
 both false b h k = cc
 
-sound_table : (table : List TableEntry) → AreQuoted (map significant_of table) → AreFramed (map significant_of table) → list_all is_sound table ≡ true
-sound_table [] h k = refl
-sound_table (entry ∷ table) h k =
-    both (is_sound entry) (list_all is_sound table) (delimited entry.token.now.kind (lexeme_of entry.token.now) h.0 h.1 k.0 k.1) (sound_table table h.2 k.3)
+sound_table : (table : List TableEntry) → AreQuoted (map significant_of table) → AreFramed (map significant_of table) → AreComments (map significant_of table)
+    → list_all is_sound table ≡ true
+sound_table [] h k c = refl
+sound_table (entry ∷ table) h k c =
+    both (is_sound entry) (list_all is_sound table) (delimited entry.token.now.kind (lexeme_of entry.token.now) h.0 h.1 k.0 k.1 c.0) (sound_table table h.2 k.3 c.1)
 
 pub sound_lex : (tokens : List Token) (table : List TableEntry) → IsOneLex tokens → map significant_of table ≡ significant_tokens (map tok_of tokens) → IsTrue (list_all is_sound table)
 sound_lex tokens table l is =
     let ts = map tok_of tokens in
     let e : list_all is_sound table ≡ true
-    = sound_table table (subst AreQuoted (sym is) (lexed_quoted l.text ts l.utf8 l.lexed)) (subst AreFramed (sym is) (lexed_framed l.text ts l.utf8 l.lexed)) in
+    = sound_table table (subst AreQuoted (sym is) (lexed_quoted l.text ts l.utf8 l.lexed)) (subst AreFramed (sym is) (lexed_framed l.text ts l.utf8 l.lexed))
+    (subst AreComments (sym is) (lexed_comments l.text ts l.utf8 l.lexed)) in
     search (rules, e)
 
 -- ---- what was given
@@ -168,6 +181,19 @@ module _ (expander : Expansions) (P Q : Token → Type 0) (weaker : (t : Token) 
   given_line : (l : Line) → IsGivenLine expander P l → IsGivenLine expander Q l
   given_line l = All-weaker (IsGivenFragment expander P) (IsGivenFragment expander Q) given_fragment l.fragments.items
 
+  given_default : (o : Option (Box Expression)) → IfThere (IsGivenBoxed expander P) o → IfThere (IsGivenBoxed expander Q) o
+  given_default None h = tt
+  given_default (Some e) h = given_expression e.value h
+
+  given_parameter : (p : Parameter) → IsGivenParameter expander P p → IsGivenParameter expander Q p
+  given_parameter p h = (weaker p.name.token h.0, given_default p.default h.1)
+
+  given_dependency : (d : UnresolvedDependency) → IsGivenDependency expander P d → IsGivenDependency expander Q d
+  given_dependency d h = (
+    All-weaker (IsGivenName expander P) (IsGivenName expander Q) (λ name. weaker name.token) (names_in d.recipe) h.0,
+    All-weaker (IsGivenArgument expander P) (IsGivenArgument expander Q) (λ a. given_expression a.expression.value) d.arguments.items h.1,
+  )
+
   pub given_weaker : (file_depth : ℕ) (import_offsets : List ℕ) (i : Item) → IsGivenItem expander P file_depth import_offsets i → IsGivenItem expander Q file_depth import_offsets i
   given_weaker file_depth import_offsets (Assignment a) h =
       record {
@@ -183,6 +209,9 @@ module _ (expander : Expansions) (P Q : Token → Type 0) (weaker : (t : Token) 
   given_weaker file_depth import_offsets (Recipe r) h =
       record {
         among = weaker r.name.token h.among;
+        parameters = All-weaker (IsGivenParameter expander P) (IsGivenParameter expander Q) given_parameter r.parameters.items h.parameters;
+        said = h.said;
+        dependencies = All-weaker (IsGivenDependency expander P) (IsGivenDependency expander Q) given_dependency r.dependencies.items h.dependencies;
         body = All-weaker (IsGivenLine expander P) (IsGivenLine expander Q) given_line r.body.items h.body;
         file_depth_is = h.file_depth_is;
         import_offsets_are = h.import_offsets_are;
@@ -279,13 +308,52 @@ module _ (expander : Expansions) (P : Token → Type 0) where
       joined_cook expander (fragments_literals (map fragment_of l.fragments.items)) _ (line_cooked l) _ (fragments_cook l.fragments.items (All-head (IsGivenLine expander P) l ls all))
       (lines_cook ls (All-tail (IsGivenLine expander P) l ls all))
 
+  default_cooks : (o : Option (Box Expression)) → IfThere (IsGivenBoxed expander P) o → AreCookedTexts expander (lexemes (optional_literals expr_literals (option_map boxed_of o))) (option_cooked o)
+  default_cooks None h = tt
+  default_cooks (Some e) h = expression_cooks e.value h
+
+  parameters_cook : (ps : List Parameter) → All (IsGivenParameter expander P) ps → AreCookedTexts expander (lexemes (flat_map parameter_literals (map parameter_of ps))) (flat_map parameter_cooked ps)
+  parameters_cook [] all = tt
+  parameters_cook (p ∷ ps) all =
+      joined_cook expander (parameter_literals (parameter_of p)) _ (parameter_cooked p) _ (default_cooks p.default (All-head (IsGivenParameter expander P) p ps all).1)
+      (parameters_cook ps (All-tail (IsGivenParameter expander P) p ps all))
+
+  arguments_cook : (given : List DependencyArgument) → All (IsGivenArgument expander P) given
+      → AreCookedTexts expander (lexemes (flat_map (λ (a : tree.DependencyArgument Tok Tok (Unit {0})). expr_literals a.value) (map dependency_argument_of given))) (flat_map argument_cooked given)
+  arguments_cook [] all = tt
+  arguments_cook (a ∷ given) all =
+      joined_cook expander (expr_literals (expr_of a.expression.value)) _ (argument_cooked a) _ (expression_cooks a.expression.value (All-head (IsGivenArgument expander P) a given all))
+      (arguments_cook given (All-tail (IsGivenArgument expander P) a given all))
+
+  dependencies_cook : (ds : List UnresolvedDependency) → All (IsGivenDependency expander P) ds → AreCookedTexts expander (lexemes (flat_map dependency_literals (map dependency_of ds))) (flat_map dependency_cooked ds)
+  dependencies_cook [] all = tt
+  dependencies_cook (d ∷ ds) all =
+      joined_cook expander (dependency_literals (dependency_of d)) _ (dependency_cooked d) _ (arguments_cook d.arguments.items (All-head (IsGivenDependency expander P) d ds all).1)
+      (dependencies_cook ds (All-tail (IsGivenDependency expander P) d ds all))
+
+  header_cooks : {file_depth : ℕ} {import_offsets : List ℕ} (r : UnresolvedRecipe) → IsGivenRecipe expander P file_depth import_offsets r
+      → AreCookedTexts expander (lexemes (header_literals (header_of r))) (header_cooked r)
+  header_cooks r h =
+      let parameters = flat_map parameter_literals (map parameter_of r.parameters.items) in
+      let priors = flat_map dependency_literals (map dependency_of (priors_of r)) in
+      joined_cook expander (parameters ++ priors) _ (flat_map parameter_cooked r.parameters.items ++ flat_map dependency_cooked (priors_of r)) _
+      (joined_cook expander parameters _ (flat_map parameter_cooked r.parameters.items) _ (parameters_cook r.parameters.items h.parameters)
+      (dependencies_cook (priors_of r) (All-take (IsGivenDependency expander P) r.priors r.dependencies.items h.dependencies)))
+      (dependencies_cook (subsequents_of r) (All-drop (IsGivenDependency expander P) r.priors r.dependencies.items h.dependencies))
+
   item_cooks : (file_depth : ℕ) (import_offsets : List ℕ) (i : Item) → IsGivenItem expander P file_depth import_offsets i → AreCookedTexts expander (lexemes (item_literals entries_literals (item_of i))) (item_cooked i)
   item_cooks file_depth import_offsets (Assignment a) h =
       joined_cook expander (entries_literals (entries_of a.attributes)) _ (set_cooked a.attributes) _ (set_cooks expander P expression_cooks a.attributes h.attributes) (expression_cooks a.value h.value)
   item_cooks file_depth import_offsets (Comment text) h = tt
   item_cooks file_depth import_offsets Newline h = tt
   item_cooks file_depth import_offsets (Recipe r) h =
-      joined_cook expander (entries_literals (entries_of r.attributes)) _ (set_cooked r.attributes) _ (set_cooks expander P expression_cooks r.attributes h.attributes) (lines_cook r.body.items h.body)
+      let header = header_literals (header_of r) in
+      let body = body_literals (map body_line_of r.body.items) in
+      let texts = flat_map line_cooked r.body.items in
+      subst (AreCookedTexts expander (lexemes (entries_literals (entries_of r.attributes) ++ (header ++ body)))) (sym (append_assoc (set_cooked r.attributes) (header_cooked r) texts))
+      (joined_cook expander (entries_literals (entries_of r.attributes)) (header ++ body) (set_cooked r.attributes) (header_cooked r ++ texts)
+      (set_cooks expander P expression_cooks r.attributes h.attributes)
+      (joined_cook expander header body (header_cooked r) texts (header_cooks r h) (lines_cook r.body.items h.body)))
 
 -- the literals' texts are theirs
 pub cooks_of : (expander : Expansions) (P : Token → Type 0) (file_depth : ℕ) (import_offsets : List ℕ) (items : List Item) → All (IsGivenItem expander P file_depth import_offsets) items → AreCookedTexts expander (lexemes (literals (map item_of items))) (flat_map item_cooked items)

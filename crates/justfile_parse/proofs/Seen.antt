@@ -77,12 +77,12 @@ module _ (conditions : Conditions) (IsToken : Token → Type 0) (file_depth : �
   cooked_in _ = []
 
   -- a name, or a text, of such a token
-  name_seen : (make : Token → Leaf) (token : Token) (leaf : Leaf) (tok : Tok) → ((t : Token) → token_in token (make t) ≡ t) → token_in token leaf ≡ token → IsLeaf make leaf tok → IsToken token × (tok ≡ tok_of token)
+  pub name_seen : (make : Token → Leaf) (token : Token) (leaf : Leaf) (tok : Tok) → ((t : Token) → token_in token (make t) ≡ t) → token_in token leaf ≡ token → IsLeaf make leaf tok → IsToken token × (tok ≡ tok_of token)
   name_seen make token leaf tok made here h =
       let same : h.token ≡ token = sym (made h.token) ∙ ap (token_in token) (sym h.is) ∙ here in
       (subst IsToken same h.among, h.tok_is ∙ ap tok_of same)
 
-  variable_seen : (token : Token) (number : Option Number) (tok : Tok) → IsLeaf (λ t. Named t None) (Named token number) tok → IsToken token × (tok ≡ tok_of token) × (number ≡ None)
+  pub variable_seen : (token : Token) (number : Option Number) (tok : Tok) → IsLeaf (λ t. Named t None) (Named token number) tok → IsToken token × (tok ≡ tok_of token) × (number ≡ None)
   variable_seen token number tok h =
       let x = name_seen (λ t. Named t None) token (Named token number) tok (λ t. refl) refl h in
       (x.0, x.1, ap number_in h.is)
@@ -303,6 +303,15 @@ module _ (conditions : Conditions) (IsToken : Token → Type 0) (file_depth : �
   fragment_seen (fragments.Text token) t (a.a_text {a' = tok} h) =
       let x = name_seen Text token (Text token) tok (λ t. refl) refl h in
       (ap (λ (k : Tok). tree.Text k) x.1, x.0)
+
+  -- all of a row, of which that is kept
+  pub each_seen : {Z T U V : Type 0} {Rel : T → U → Type 0} (view : Z → T) (model_view : Z → V) (of : U → V) (IsGood : Z → Type 0) → ((z : Z) (u : U) → Rel (view z) u → (of u ≡ model_view z) × IsGood z)
+      → (zs : List Z) {us : List U} → Each Rel (map view zs) us → (map of us ≡ map model_view zs) × All IsGood zs
+  each_seen view model_view of IsGood one [] a.nil = (refl, All-nil IsGood)
+  each_seen view model_view of IsGood one (z ∷ zs) (a.cons {y = u} h hs) =
+      let x = one z u h in
+      let y = each_seen view model_view of IsGood one zs hs in
+      ((λ i. x.0 i ∷ y.0 i), All-cons IsGood z zs x.1 y.1)
 
   -- all of a row
   pub all_seen : {Z T U : Type 0} {Rel : T → U → Type 0} (view : Z → T) (model_view : Z → U) (IsGood : Z → Type 0) → ((z : Z) (u : U) → Rel (view z) u → (u ≡ model_view z) × IsGood z) → (zs : List Z) {us : List U} → Each Rel (map view zs) us → (us ≡ map model_view zs) × All IsGood zs

@@ -103,7 +103,7 @@ module _ (conditions : Conditions) (IsToken : Token → Type 0) (file_depth : �
   spot_seen : (token : Token) (tok : Tok) → IsSpot token tok → (tok ≡ tok_of token) × IsToken token
   spot_seen token tok h = (sym h.is, h.among)
 
-  optional_seen : (o : Option (Box Expression)) {ot : Option (Expr Tok Tok)} → AlikeOption (Alike seen) (option_map boxed_leaves o) ot → (ot ≡ option_map boxed_tree o) × IfThere (IsGivenBoxed conditions.expander IsToken) o
+  pub optional_seen : (o : Option (Box Expression)) {ot : Option (Expr Tok Tok)} → AlikeOption (Alike seen) (option_map boxed_leaves o) ot → (ot ≡ option_map boxed_tree o) × IfThere (IsGivenBoxed conditions.expander IsToken) o
   optional_seen o h = if_seen boxed_leaves boxed_tree (IsGivenBoxed conditions.expander IsToken) value_seen o h
 
   spots_seen : (o : Option Token) {ot : Option Tok} → AlikeOption IsSpot (option_map own o) ot → (ot ≡ option_map tok_of o) × IfThere IsToken o
@@ -336,6 +336,7 @@ module _ (conditions : Conditions) (IsToken : Token → Type 0) (file_depth : �
     name_place = λ n n' h. leaf_place (λ t. refl) h;
     literal_place = λ l t t' h. literal_place h;
     assignment_place = λ number n n' h. leaf_place (λ t. refl) h;
+    parameter_bytes = λ number n rules n' rules' h. leaf_bytes (λ t. refl) h;
     cooked = cooked_alike;
     name_content = λ n n' h. leaf_content (λ t. refl) h;
     command_content = λ x t t' h. literal_bytes h;

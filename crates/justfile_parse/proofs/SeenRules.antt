@@ -33,6 +33,16 @@ module _ (Spot : Token → Tok → Type 0) (is : (t : Token) (k : Tok) → Spot 
   same_rule (alike.duplicate_arg e f) = λ i. rules.DuplicateArgAttribute (e i) (is _ _ f i)
   same_rule (alike.duplicate_group b g f) = λ i. rules.DuplicateGroupAttribute (b i) (is _ _ g i) (is _ _ f i)
   same_rule (alike.invalid_attribute {item = item} e) = λ i. rules.InvalidAttribute item (e i)
+  same_rule (alike.duplicate_long e r) = λ i. rules.DuplicateLongOption (e i) (is _ _ r i)
+  same_rule (alike.duplicate_short e r) = λ i. rules.DuplicateShortOption (e i) (is _ _ r i)
+  same_rule (alike.flag_default p) = ap rules.FlagWithDefault (is _ _ p)
+  same_rule (alike.requires_several k) = ap rules.ArgAttributeRequiresMultipleOrVariadic (is _ _ k)
+  same_rule (alike.no_cd_and_directory r) = ap rules.NoCdAndWorkingDirectoryAttribute (is _ _ r)
+  same_rule (alike.message_and_none r) = ap rules.ExitMessageAndNoExitMessageAttribute (is _ _ r)
+  same_rule (alike.script_and_shell r) = ap rules.ScriptAndShellAttribute (is _ _ r)
+  same_rule alike.several_stars = refl
+  same_rule alike.no_star = refl
+  same_rule alike.star_outside = refl
   same_rule (alike.undefined_arg e) = λ i. rules.UndefinedArgAttribute (e i)
 
   -- the same rule, of the tokens that are seen

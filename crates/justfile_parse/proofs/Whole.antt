@@ -2,6 +2,7 @@
 use Rattle.std.proofs.Common.{◌≡◌, ℕ, ◌+◌, false, List, [], ◌∷◌, map, All, Option, Result, Ok, Err, refl, sym, ap, ◌∙◌, subst, arith}
 use Rattle.std.specs.Prelude.{◌-◌, ◌^◌}
 use Rattle.std.proofs.lemmas.Bool.Decides.{nat_tests}
+use Rattle.std.proofs.lemmas.List.{length-map}
 use Rattle.std.proofs.lemmas.List.Elements.{All-head, All-tail}
 use Rattle.justfile_base.specs.Numerator.{bindings_of, recipes_of}
 use Rattle.justfile_base.specs.declared.compile_error.CompileError.{CompileError}
@@ -15,7 +16,9 @@ use Rattle.justfile_file.specs.declared.item.Item.TheVariants as items
 use Rattle.justfile_model.specs.Conditions.{Conditions}
 use Rattle.justfile_model.specs.Expressions.{front}
 use Rattle.justfile_model.specs.Features.{Noted}
-use Rattle.justfile_model.specs.Files.{NumbersSuffice, bindings, recipes}
+use Rattle.justfile_header.specs.Header.{parameter_of}
+use Rattle.justfile_model.specs.Docs.{Nothing, documented}
+use Rattle.justfile_model.specs.Files.{NumbersSuffice, bindings, recipes, says_doc}
 use Rattle.justfile_model.specs.Reader as files
 use Rattle.justfile_model.specs.Reading as reading
 use Rattle.justfile_model.specs.Reading.{Counters, NoNumber}
@@ -27,6 +30,7 @@ use Rattle.justfile_model.specs.TreeReader as model
 use Rattle.justfile_model.specs.TreeReader.{start_state, token_attributes, token_leaves}
 use Rattle.justfile_model.specs.declared.list_feature.ListFeature.{ListFeature}
 use Rattle.justfile_model.proofs.Counters.{counted, counted_bindings, counted_recipes, items_count}
+use Rattle.justfile_model.proofs.DocsKept.{bindings_count, documented_counts, recipes_count}
 use Rattle.justfile_model.proofs.Natural as natural
 use Rattle.justfile_model.proofs.ReadingSteps.{known}
 use Rattle.justfile_model.proofs.Related as a
@@ -34,7 +38,7 @@ use Rattle.justfile_model.proofs.Related.{AlikeItems, AlikeNext, Each, Refusals,
 use Rattle.justfile_model.proofs.Renumbered.{file_by, whole}
 use Rattle.justfile_base.specs.declared.compile_error_kind.CompileErrorKind.{CompileErrorKind}
 use Rattle.justfile_parse.specs.Errors.{IsAt, IsErrorOf}
-use Rattle.justfile_parse_attribute.specs.Halting.{IsExtraneous}
+use Rattle.justfile_parse_attribute.specs.Halting.{IsAfterVariadic, IsExtraneous}
 use Rattle.justfile_parse_attribute.specs.Halting.{HaltsAt, IsBrokenBy}
 use Rattle.justfile_parse.specs.Halting.{IsFaultOfHalt}
 use Rattle.justfile_parse.specs.Whole.{AreWhole}
@@ -50,7 +54,7 @@ use Rattle.justfile_parse_expression.specs.MethodResults.{StopsAt, literal_refus
 use Rattle.justfile_parse_expression.specs.Significant.{significant_of}
 use Rattle.justfile_parse.specs.Tree.{item_tree}
 use Rattle.justfile_tree.specs.LeafTree.{Leaf}
-use Rattle.justfile_parse.specs.WantsNumber.{AreLines, LacksNumber, WantsNumber, binding, more, none, recipe_number}
+use Rattle.justfile_parse.specs.WantsNumber.{AreLines, BeginsHeader, LacksNumber, WantsNumber, a_line, at_once, binding, no_line, parameter_number, quiet, recipe_number}
 use Rattle.justfile_parse_expression.specs.declared.significant.TableEntry.{TableEntry}
 use Rattle.justfile_parse_expression.specs.declared.stop.LiteralRefusal.{LiteralRefusal}
 use Rattle.justfile_parse_expression.specs.declared.stop.Refusal.{Refusal}
@@ -62,9 +66,12 @@ use Rattle.justfile_parse.proofs.Tables.{in_table}
 use Rattle.justfile_parse_expression.proofs.Seen.{IsEntry, Relates}
 use Rattle.justfile_parse.proofs.Seen.{respects, seen}
 use Rattle.justfile_parse.proofs.SeenAttributes.{IsKept, attributed}
-use Rattle.justfile_parse.proofs.SeenItems.{items_seen, noted_seen}
+use Rattle.justfile_parse.proofs.SeenDocs.{items_seen}
+use Rattle.justfile_parse.proofs.SeenItems.{noted_seen}
 use Rattle.justfile_parse.proofs.SeenRules.{same_broken}
+use Rattle.justfile_parse.proofs.Wanting.{header_lacks, recipe_lacks}
 use Rattle.justfile_parse_header.specs.Counting.{counters_of}
+use Rattle.justfile_parse_header.specs.Tree.{parameter_tree}
 
 -- a tree holds as many bindings and recipes whatever stands at its leaves
 same_bindings : (is : List Item) → bindings (map item_tree is) ≡ bindings (map item_of is)
@@ -72,7 +79,8 @@ same_bindings [] = refl
 same_bindings (items.Assignment b ∷ is) = ap (λ (n : ℕ). 1 + n) (same_bindings is)
 same_bindings (items.Comment text ∷ is) = ap (λ (n : ℕ). 0 + n) (same_bindings is)
 same_bindings (items.Newline ∷ is) = ap (λ (n : ℕ). 0 + n) (same_bindings is)
-same_bindings (items.Recipe r ∷ is) = ap (λ (n : ℕ). 0 + n) (same_bindings is)
+same_bindings (items.Recipe r ∷ is) =
+    λ i. (length-map r.parameters.items parameter_tree ∙ sym (length-map r.parameters.items parameter_of)) i + same_bindings is i
 
 same_recipes : (is : List Item) → recipes (map item_tree is) ≡ recipes (map item_of is)
 same_recipes [] = refl
@@ -161,13 +169,22 @@ module _ (conditions : Conditions) (table : List TableEntry) (file_depth : ℕ) 
 
   -- ---- a file that is read
 
-  pub read_of : (old new : Numerator) (is : List Item) (features : List (ListFeature × Token)) (s : State) → reader.file (counters_of old) begin ≡ Ok ((map item_tree is, counters_of new), s) → s.noted ≡ features
-      → AreWhole is → IsRead conditions table file_depth import_offsets tokens old new (is, features)
+  -- docs take no number
+  docs_bindings : (is docs : List Item) → map item_tree docs ≡ documented says_doc Nothing (map item_tree is) → bindings (map item_tree is) ≡ bindings (map item_of docs)
+  docs_bindings is docs documents =
+      sym (documented_counts bindings bindings_count says_doc Nothing (map item_tree is)) ∙ ap (λ (t : List (OrderedItem Leaf Token ℕ)). bindings t) (sym documents) ∙ same_bindings docs
+
+  docs_recipes : (is docs : List Item) → map item_tree docs ≡ documented says_doc Nothing (map item_tree is) → recipes (map item_tree is) ≡ recipes (map item_of docs)
+  docs_recipes is docs documents =
+      sym (documented_counts recipes recipes_count says_doc Nothing (map item_tree is)) ∙ ap (λ (t : List (OrderedItem Leaf Token ℕ)). recipes t) (sym documents) ∙ same_recipes docs
+
+  pub read_of : (old new : Numerator) (is docs : List Item) (features : List (ListFeature × Token)) (s : State) → reader.file (counters_of old) begin ≡ Ok ((map item_tree is, counters_of new), s) → s.noted ≡ features
+      → map item_tree docs ≡ documented says_doc Nothing (map item_tree is) → AreWhole docs → IsRead conditions table file_depth import_offsets tokens old new (docs, features)
   unfolding AreWhole
-  read_of old new is features s found noted whole_items =
+  read_of old new is docs features s found noted documents whole_items =
       let n = counters_of old in
       let g = got n (reader.file n begin) (there n) (related n) ((map item_tree is, counters_of new), s) found in
-      let x = items_seen conditions (IsInTable table) file_depth import_offsets n is g.2.0 in
+      let x = items_seen conditions (IsInTable table) file_depth import_offsets n is docs g.2.0 documents in
       let f = noted_seen conditions (IsInTable table) file_depth import_offsets features (subst (λ (fs : List (ListFeature × Token)). Each (a.AlikeNoted rel) fs g.0.1.noted) noted g.3.noted) in
       let counts : counters_of new ≡ counted n (map item_tree is) = g.2.2 in
       record {
@@ -178,8 +195,8 @@ module _ (conditions : Conditions) (table : List TableEntry) (file_depth : ℕ) 
           given = x.given whole_items;
           numbered = x.numbered;
           recipes_numbered = x.recipes_numbered;
-          counted = ap (λ (c : Counters). c.bindings) counts ∙ counted_bindings n (map item_tree is) ∙ ap (λ (k : ℕ). bindings_of old + k) (same_bindings is);
-          recipes_counted = ap (λ (c : Counters). c.recipes) counts ∙ counted_recipes n (map item_tree is) ∙ ap (λ (k : ℕ). recipes_of old + k) (same_recipes is);
+          counted = ap (λ (c : Counters). c.bindings) counts ∙ counted_bindings n (map item_tree is) ∙ ap (λ (k : ℕ). bindings_of old + k) (docs_bindings is docs documents);
+          recipes_counted = ap (λ (c : Counters). c.recipes) counts ∙ counted_recipes n (map item_tree is) ∙ ap (λ (k : ℕ). recipes_of old + k) (docs_recipes is docs documents);
         };
         noted = record { all = f.1 };
       }
@@ -199,7 +216,7 @@ module _ (conditions : Conditions) (table : List TableEntry) (file_depth : ℕ) 
   unfolding literal_refusal
   literal_at l e' (a.not_cooked h) = ((kind_is_due l.error.kind l.is_literal, h.is), h.among)
 
-  -- a rule that is broken, or attributes before no construct
+  -- a rule that is broken, attributes before no construct, or a name after the last parameter
   broken_at : (error : CompileError) (r : table_reader.Refusal) (e' : model.Refusal) → IsBrokenBy {Y = Pair} (Err r) error → Refusals rel r e' → IsErrorOf tokens e' error × IsInTable table error.token
   broken_at error (reading.BreaksRule b) e' says (a.breaks h) =
       (record { rule = b; error = says; same = same_broken rel.spot (λ t k h. h.is) h }, subst (IsInTable table) (sym says.token) h.token.among)
@@ -208,6 +225,8 @@ module _ (conditions : Conditions) (table : List TableEntry) (file_depth : ℕ) 
     where
       extraneous_as : {m n : ℕ} → m ≡ n → (kind : CompileErrorKind) → IsExtraneous m kind → IsExtraneous n kind
       extraneous_as e kind h = subst (λ (k : ℕ). IsExtraneous k kind) e h
+  broken_at error (reading.AfterVariadic name) e' says (a.after_variadic h) =
+      ((subst (λ (t : Token). IsAfterVariadic t error.kind) (sym says.1) says.0, ap tok_of says.1 ∙ h.is), subst (IsInTable table) (sym says.1) h.among)
   broken_at error (reading.Unexpected at) e' says h = absurd says
   broken_at error (reading.TooDeep at) e' says h = absurd says
   broken_at error (reading.NotCooked fault at) e' says h = absurd says
@@ -237,19 +256,38 @@ module _ (conditions : Conditions) (table : List TableEntry) (file_depth : ℕ) 
   unfolding leaves
   last b is = grind (arith, nat_tests, is)
 
-  lacks_of : (new : Numerator) (left : model.State) → natural.Lacks rel leaves token_leaves agree kept token_attributes Keeps keeps (counters_of new) left → LacksNumber left new
-  lacks_of new left (natural.binding {ws = ws} {rest = rest} before is has) =
-      binding (record { attributes = ws; header = rest; attributes_read = before; assigns = has refl; at_end = last (bindings_of new) is })
-  lacks_of new left (natural.recipe_number {ws = ws} {rest = rest} before is has) =
-      recipe_number (record { attributes = ws; header = rest; attributes_read = before; is_recipe = has refl; at_end = last (recipes_of new) is })
+  begins_of : {s from : model.State} → natural.AtHeader rel leaves token_leaves agree kept token_attributes Keeps keeps s from → BeginsHeader s from
+  begins_of natural.at_once = at_once
+  begins_of (natural.after_at is) = quiet is
 
-  lines_of : {n m : Counters} {s : model.State} → natural.Wants rel leaves token_leaves agree kept token_attributes Keeps keeps n s m → (left : model.State) × AreLines n s m left × natural.Lacks rel leaves token_leaves agree kept token_attributes Keeps keeps m left
-  lines_of (natural.here {s' = s} lacks) = (s, none, lacks)
-  lines_of (natural.later is wants) = let x = lines_of wants in (x.0, more is x.1, x.2)
+  lacks_of : {n m : Counters} (left : model.State) → natural.Lacks rel leaves token_leaves agree kept token_attributes Keeps keeps n left m → LacksNumber left n m
+  lacks_of {n} left (natural.binding {ws = ws} {rest = rest} before is has) =
+      binding (record { attributes = ws; header = rest; attributes_read = before; assigns = has refl; at_end = last n.bindings is })
+  lacks_of {n} {m} left (natural.parameter {ws = ws} {rest = rest} {from = from} before begins is lacks) =
+      parameter_number (record {
+        attributes = ws;
+        header = rest;
+        attributes_read = before;
+        begin = from;
+        begins = begins_of begins;
+        lacks = header_lacks (files.argument_rules token_leaves token_attributes from.run ws) n m from lacks (last m.bindings is);
+      })
+  lacks_of {n} {m} left (natural.recipe_number {ws = ws} {rest = rest} before is has counts) =
+      recipe_number (recipe_lacks n m left before (files.any_recipe token_leaves token_attributes ws n rest) refl (has refl) counts (last m.recipes is))
+
+  record Lines (n : Counters) (s : model.State) (m : Counters) : Type 0 where
+    left : model.State
+    counters : Counters
+    lines : AreLines n s counters left
+    lacks : natural.Lacks rel leaves token_leaves agree kept token_attributes Keeps keeps counters left m
+
+  lines_of : {n m : Counters} {s : model.State} → natural.Wants rel leaves token_leaves agree kept token_attributes Keeps keeps n s m → Lines n s m
+  lines_of {n} (natural.here {s' = s} lacks) = record { left = s; counters = n; lines = no_line; lacks = lacks }
+  lines_of (natural.later is wants) = let x = lines_of wants in record { left = x.left; counters = x.counters; lines = a_line is x.lines; lacks = x.lacks }
 
   module _ (old new : Numerator) where
     wants_of : natural.Wants rel leaves token_leaves agree kept token_attributes Keeps keeps (counters_of old) (files.after_mark token_leaves token_attributes (start_state conditions tokens)) (counters_of new) → WantsNumber conditions tokens old new
-    wants_of wants = let x = lines_of wants in record { left = x.0; lines = x.1; lacks = lacks_of new x.0 x.2 }
+    wants_of wants = let x = lines_of wants in record { left = x.left; counters = x.counters; lines = x.lines; lacks = lacks_of x.left x.lacks }
 
     whole_of : (found : Found (counters_of old)) (t : WrittenTree) (fs : List (Noted Tok)) → whole found ≡ Ok (t, fs) → (y : (WrittenTree × Counters) × model.State) × (found ≡ Ok y) × (y.0.0 ≡ t)
     whole_of (Ok y) t fs is = (y, refl, ap (λ (p : WrittenTree × List (Noted Tok)). p.0) (inside (y.0.0, y.1.noted) (t, fs) is))

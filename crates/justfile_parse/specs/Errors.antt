@@ -8,7 +8,7 @@ use Rattle.justfile_base.specs.declared.token.Token.{Token}
 use Rattle.justfile_literal.specs.Literal.{IsKindOf}
 use Rattle.justfile_model.specs.Conditions.{Conditions}
 use Rattle.justfile_model.specs.Expressions.{Waived}
-use Rattle.justfile_model.specs.Features.{Noted}
+use Rattle.justfile_model.specs.Features.{ConstructFeatures}
 use Rattle.justfile_model.specs.Files.{FileTree, keeps_tokens}
 use Rattle.justfile_model.specs.Grammar.{File}
 use Rattle.justfile_model.specs.Reading as reading
@@ -53,6 +53,6 @@ pub record IsRefused (conditions : Conditions) (tokens : List SignificantToken) 
   pub refusal : Refusal
   pub read : tree_of_tokens conditions tokens ≡ Err refusal
   pub error : IsErrorOf tokens refusal e
-  pub breaks : (written : WrittenTree) (features : List (Noted Tok)) → FileTree tokens written features → IsDue conditions (λ at. Unit {0}) written refusal
-  pub breaks_at : (written : WrittenTree) (features : List (Noted Tok)) (Hit : Option SignificantToken → Bool)
+  pub breaks : (written : WrittenTree) (features : List (ConstructFeatures Tok)) → FileTree tokens written features → IsDue conditions (λ at. Unit {0}) written refusal
+  pub breaks_at : (written : WrittenTree) (features : List (ConstructFeatures Tok)) (Hit : Option SignificantToken → Bool)
       → File keeps_tokens (Waived conditions.limit (λ at. IsTrue (Hit at))) written features tokens → IsDue conditions (λ at. IsTrue (Hit at)) written refusal

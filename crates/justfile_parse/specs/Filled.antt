@@ -12,6 +12,7 @@ use Rattle.justfile_base.specs.declared.format_string_part.FormatStringPart.TheV
 use Rattle.justfile_base.specs.declared.string_kind.StringKind.{StringKind}
 use Rattle.std.specs.Global.{Box}
 use Rattle.std.specs.List.{flat_map, slice_get}
+use Rattle.justfile_base.specs.Namepath.{names_in}
 use Rattle.justfile_base.specs.Numerator.{bindings_of, recipes_of}
 use Rattle.justfile_base.specs.StringKind.{kind_of}
 use Rattle.justfile_base.specs.Token.{lexeme_of}
@@ -28,12 +29,17 @@ use Rattle.justfile_file.specs.declared.line.Line.{Line}
 use Rattle.justfile_file.specs.declared.recipe.UnresolvedRecipe.{UnresolvedRecipe}
 use Rattle.justfile_file.specs.Item.{item_of, item_numbers, item_recipe_numbers}
 use Rattle.justfile_file.specs.Line.{IsShebang}
+use Rattle.justfile_header.specs.declared.parameter.Parameter.{Parameter}
+use Rattle.justfile_header.specs.declared.unresolved_dependency.DependencyArgument.{DependencyArgument}
+use Rattle.justfile_header.specs.declared.unresolved_dependency.UnresolvedDependency.{UnresolvedDependency}
 use Rattle.justfile_model.specs.Files.{NumbersFrom, bindings, recipes}
 use Rattle.justfile_model.specs.Literals.{Expansions, Command, cooked_text, string_of}
 use Rattle.justfile_model.specs.declared.list_feature.ListFeature.{ListFeature}
 use Rattle.justfile_tree.specs.declared.expression.Expression.{Expression, And', Assert', Backtick, Call', Comparison', Concatenation', Conditional', FormatString', Group', Join', List', ListConcatenation', Not', Or', StringLiteral, Variable, Held-Expression-Assert-1 as OptionalExpression, None', Some', Row_of-Expression as ExpressionRow, end_of-Expression as row_end, more_of-Expression as row_more, Row_of-Expression-FormatString-1-2 as FormatRow, end_of-Expression-FormatString-1-2 as format_row_end, more_of-Expression-FormatString-1-2 as format_row_more}
 use Rattle.justfile_parse.specs.Whole.{is_hidden}
 use Rattle.justfile_parse_expression.specs.declared.significant.TableEntry.{TableEntry}
+use Rattle.justfile_parse_header.specs.Said.{AreWholeParameters}
+use Rattle.justfile_parse_header.specs.Tree.{rules_of}
 
 -- the table has an entry for the token, by a reference to it
 pub record IsInTable (table : List TableEntry) (token : Token) : Type 0 where
@@ -158,6 +164,21 @@ module _ (expander : Expansions) (IsToken : Token → Type 0) where
   abbrev pub AreGivenAttributes : AttributeSet → Type 0
   AreGivenAttributes set = All (λ (p : Attribute × Name). IsToken p.1.token × IsGivenAttribute p.0) (pairs_of set)
 
+  -- a name of a path
+  abbrev pub IsGivenName : Name → Type 0
+  IsGivenName name = IsToken name.token
+
+  -- a parameter by its name and its default, whose literals have their texts
+  abbrev pub IsGivenParameter : Parameter → Type 0
+  IsGivenParameter p = IsGivenName p.name × IfThere IsGivenBoxed p.default
+
+  abbrev pub IsGivenArgument : DependencyArgument → Type 0
+  IsGivenArgument a = IsGivenBoxed a.expression
+
+  -- a dependency by the names of its path and by its arguments, whose literals have their texts
+  abbrev pub IsGivenDependency : UnresolvedDependency → Type 0
+  IsGivenDependency d = All IsGivenName (names_in d.recipe) × All IsGivenArgument d.arguments.items
+
 pub record IsGivenBinding (expander : Expansions) (IsToken : Token → Type 0) (file_depth : ℕ) (binding : Binding Expression) : Type 0 where
   pub among : IsToken binding.name.token
   pub file_depth_is : binding.file_depth ≡ file_depth
@@ -179,6 +200,10 @@ HasShebang lines = IsSomeAnd (slice_get lines 0) IsShebang
 
 pub record IsGivenRecipe (expander : Expansions) (IsToken : Token → Type 0) (file_depth : ℕ) (import_offsets : List ℕ) (recipe : UnresolvedRecipe) : Type 0 where
   pub among : IsToken recipe.name.token
+  pub parameters : All (IsGivenParameter expander IsToken) recipe.parameters.items
+  -- what the parameters have by what the recipe's attributes say of them
+  pub said : AreWholeParameters (rules_of recipe.attributes) recipe.parameters.items
+  pub dependencies : All (IsGivenDependency expander IsToken) recipe.dependencies.items
   pub body : All (IsGivenLine expander IsToken) recipe.body.items
   pub file_depth_is : recipe.file_depth ≡ file_depth
   pub import_offsets_are : recipe.import_offsets.items ≡ import_offsets

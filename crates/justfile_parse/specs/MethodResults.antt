@@ -1,5 +1,5 @@
 -- What a method of the parser returns, of items, is what the definitions read.
-use Rattle.std.specs.Prelude.{◌≡◌, ℕ, ◌≤◌, ◌+◌, List, Option, Some, None, Result, Ok, Err, map}
+use Rattle.std.specs.Prelude.{◌≡◌, ℕ, ◌≤◌, ◌+◌, List, Option, Some, None, Ok, Err, map}
 use Rattle.justfile_base.specs.Numerator.{bindings_of, constants_of, recipes_of}
 use Rattle.justfile_base.specs.declared.compile_error.CompileError.{CompileError}
 use Rattle.justfile_base.specs.declared.compile_error_kind.CompileErrorKind.{CompileErrorKind}
@@ -23,17 +23,13 @@ use Rattle.justfile_model.specs.declared.list_feature.ListFeature.{ListFeature}
 use Rattle.justfile_parse.specs.Errors.{IsAt, IsErrorOf, IsUnexpected}
 use Rattle.justfile_parse.specs.Filled.{AreNotedIn, IsGivenItems, IsInTable}
 use Rattle.justfile_parse_expression.specs.Significant.{significant_of}
-use Rattle.justfile_model.specs.Reading as state
-use Rattle.justfile_model.specs.Reading.{Counters, refused}
-use Rattle.justfile_parse_expression.specs.TableReader.{Read, State}
+use Rattle.justfile_model.specs.Reading.{refused}
 use Rattle.justfile_parse.specs.WantsNumber.{WantsNumber}
 use Rattle.justfile_parse_expression.specs.declared.significant.TableEntry.{TableEntry}
 use Rattle.justfile_parse_expression.specs.declared.stop.Refusal.{Refusal}
 use Rattle.justfile_parse_expression.specs.declared.stop.Refusal.TheVariants.{Unexpected, TooDeep}
 use Rattle.justfile_parse_expression.specs.declared.stop.Stop.{Stop}
 use Rattle.justfile_parse_expression.specs.declared.stop.Stop.TheVariants as stops
-use Rattle.justfile_parse_expression.specs.MethodResults.{StopsAt}
-use Rattle.justfile_parse_header.specs.Counting.{counters_of}
 
 -- bindings and recipes were numbered, together at most so many, and nothing else
 pub record IsMoved (old new : Numerator) (most : ℕ) : Type 0 where

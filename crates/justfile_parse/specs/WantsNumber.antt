@@ -1,52 +1,130 @@
 -- Where a number is wanted.
-use Rattle.std.specs.Prelude.{◌≡◌, ◌-◌, ◌^◌, List, Ok, IsOk}
-use Rattle.justfile_base.specs.Numerator.{bindings_of, constants_of, recipes_of}
+use Rattle.std.specs.Prelude.{◌≡◌, ℕ, ◌+◌, ◌-◌, ◌^◌, List, [], Some, Ok, IsOk}
 use Rattle.justfile_base.specs.declared.numerator.Numerator.{Numerator}
+use Rattle.justfile_base.specs.declared.token_kind.TokenKind.{TokenKind}
+use Rattle.justfile_base.specs.declared.token_kind.TokenKind.TheVariants as kinds
 use Rattle.justfile_model.specs.Conditions.{Conditions}
-use Rattle.justfile_model.specs.ReadAttribute.{ReadAttribute}
+use Rattle.justfile_model.specs.HeaderReader as headers
+use Rattle.justfile_model.specs.ReadAttribute.{ReadAttribute, token_sight}
 use Rattle.justfile_model.specs.Reader as files
-use Rattle.justfile_model.specs.Reader.{after_mark, any_recipe, assignment, line}
+use Rattle.justfile_model.specs.Reader.{after_mark, any_recipe, argument_rules, assignment, line, with_recipes}
+use Rattle.justfile_model.specs.Reading as reading
 use Rattle.justfile_model.specs.Reading.{Counters}
 use Rattle.justfile_model.specs.SignificantTokens.{SignificantToken}
-use Rattle.justfile_model.specs.Tree.{WrittenTree}
+use Rattle.justfile_model.specs.Tok.{Tok}
+use Rattle.justfile_model.specs.Tree.{ArgumentRules, WrittenItem, WrittenTree}
+use Rattle.justfile_model.specs.TreeReader.{Read, State, Taken, start_state, token_attributes, token_leaves}
+use Rattle.justfile_model.specs.declared.parameter_kind.ParameterKind.{ParameterKind}
+use Rattle.justfile_model.specs.declared.parameter_kind.ParameterKind.TheVariants.{Plus, Singular, Star}
 use Rattle.justfile_parse_header.specs.Counting.{counters_of}
-use Rattle.justfile_model.specs.TreeReader.{Read, State, start_state, token_attributes, token_leaves}
 
 -- the attributes before a construct, which follows them
 abbrev pub attributes_at : State → Read (List ReadAttribute)
 attributes_at = files.attributes token_leaves token_attributes
 
+-- the next token, if it is of this kind
+abbrev pub next : TokenKind → State → Taken
+next = reading.accept token_leaves
+
+-- ---- of an assignment
+
 -- an assignment comes next, after its attributes and up to the end of its value, and the counter of bindings is at its end: it has no number for it
-pub record LacksBinding (s : State) (numerator : Numerator) : Type 0 where
+pub record LacksBinding (s : State) (n : Counters) : Type 0 where
   pub attributes : List ReadAttribute
   pub header : State
   pub attributes_read : attributes_at s ≡ Ok (attributes, header)
-  pub assigns : IsOk (assignment token_leaves token_attributes attributes (counters_of numerator) header)
-  pub at_end : bindings_of numerator ≡ 2 ^ 32 - 1
+  pub assigns : IsOk (assignment token_leaves token_attributes attributes n header)
+  pub at_end : n.bindings ≡ 2 ^ 32 - 1
 
--- a recipe comes next, after its attributes and up to its end, which is that of its body if it has one, and the counter of recipes is at its end
-pub record LacksRecipe (s : State) (numerator : Numerator) : Type 0 where
+-- ---- of a parameter
+
+-- what is said of parameters
+abbrev pub Rules : Type 0
+Rules = List (ArgumentRules Tok Tok)
+
+-- parameters that got their numbers, the counters after them, and where reading stands
+abbrev pub Place : Rules → Type 0
+Place rules = headers.ParameterPlace token_leaves token_sight rules
+
+-- a parameter that takes so many arguments, after its `+` or `*`, with its default and its number
+abbrev pub parameter : (rules : Rules) → ParameterKind → Place rules → Read (headers.Parameters token_leaves token_sight rules)
+parameter rules = headers.parameter token_leaves token_sight rules
+
+-- parameters that take one argument come next, each of which gets its number
+pub data AreNumbered (rules : Rules) : (from to : Place rules) → Type 0 where
+  none : {x : Place rules} → AreNumbered rules x x
+  more : {x y z : Place rules} → parameter rules Singular x ≡ Ok y → AreNumbered rules y z → AreNumbered rules x z
+
+-- the place after what stands before the `$` or the name of a parameter that takes so many arguments: `+`, `*` or nothing
+pub data IsAfterPrefix (rules : Rules) (x : Place rules) : ParameterKind → Place rules → Type 0 where
+  nothing : IsAfterPrefix rules x Singular x
+  plus : {prefix : SignificantToken × State} → next kinds.Plus x.1 ≡ Some prefix → IsAfterPrefix rules x Plus (x.0, prefix.1)
+  star : {prefix : SignificantToken × State} → next kinds.Asterisk x.1 ≡ Some prefix → IsAfterPrefix rules x Star (x.0, prefix.1)
+
+-- A header comes next. After its name, and after parameters that got their numbers, a parameter comes next, with its default and without breaking
+-- a rule, and the counter of bindings is at its end: it has no number for it. The counters before the header are the old ones, and those that
+-- stand there are the new ones.
+pub record HeaderLacks (rules : Rules) (s : State) (old new : Counters) : Type 0 where
+  pub name : SignificantToken × State
+  pub name_read : reading.expect token_leaves kinds.Identifier s ≡ Ok name
+  pub options : Unit {0} × State
+  pub options_apart : headers.distinct_options token_leaves token_sight rules name.0 name.1 ≡ Ok options
+  pub place : Place rules
+  pub numbered : AreNumbered rules (([], old), options.1) place
+  pub counters : place.0.1 ≡ new
+  pub kind : ParameterKind
+  pub begin : Place rules
+  pub prefixed : IsAfterPrefix rules place kind begin
+  pub is_parameter : IsOk (parameter rules kind begin)
+  pub at_end : new.bindings ≡ 2 ^ 32 - 1
+
+-- where a header begins: after `@`, or here
+pub data BeginsHeader (s : State) : State → Type 0 where
+  at_once : BeginsHeader s s
+  quiet : {mark : SignificantToken × State} → next kinds.At s ≡ Some mark → BeginsHeader s mark.1
+
+-- a recipe comes next, after its attributes, and a parameter in its header has no number
+pub record LacksParameter (s : State) (old new : Counters) : Type 0 where
   pub attributes : List ReadAttribute
   pub header : State
   pub attributes_read : attributes_at s ≡ Ok (attributes, header)
-  pub is_recipe : IsOk (any_recipe token_leaves token_attributes attributes (counters_of numerator) header)
-  pub at_end : recipes_of numerator ≡ 2 ^ 32 - 1
+  pub begin : State
+  pub begins : BeginsHeader header begin
+  pub lacks : HeaderLacks (argument_rules token_leaves token_attributes begin.run attributes) begin old new
 
--- what comes next is no blank line and lacks its number
-pub data LacksNumber (s : State) (numerator : Numerator) : Type 0 where
-  binding : LacksBinding s numerator → LacksNumber s numerator
-  recipe_number : LacksRecipe s numerator → LacksNumber s numerator
+-- ---- of a recipe
+
+-- A recipe comes next, after its attributes and up to its end, which is that of its body if it has one. With the numbers of its parameters the
+-- counters move from the old ones to the new, and that of recipes is at its end: it has no number for the recipe, which would draw one more.
+pub record LacksRecipe (s : State) (old new : Counters) : Type 0 where
+  pub attributes : List ReadAttribute
+  pub header : State
+  pub attributes_read : attributes_at s ≡ Ok (attributes, header)
+  pub recipe : WrittenItem Tok Tok ℕ Tok
+  pub rest : State
+  pub is_recipe : any_recipe token_leaves token_attributes attributes old header ≡ Ok ((recipe, with_recipes (new.recipes + 1) new), rest)
+  pub at_end : new.recipes ≡ 2 ^ 32 - 1
+
+-- ---- of a file
+
+-- What comes next is no blank line and lacks a number: its own, or that of a parameter. The counters before it are the old ones, and those
+-- where the number is wanted are the new ones.
+pub data LacksNumber (s : State) (old : Counters) : (new : Counters) → Type 0 where
+  binding : LacksBinding s old → LacksNumber s old old
+  parameter_number : {new : Counters} → LacksParameter s old new → LacksNumber s old new
+  recipe_number : {new : Counters} → LacksRecipe s old new → LacksNumber s old new
 
 -- what is left begins with lines, for which the counters move up, and that after them is left
 pub data AreLines : Counters → State → Counters → State → Type 0 where
-  none : {n : Counters} {s : State} → AreLines n s n s
-  more : {n m k : Counters} {s rest left : State} {items : WrittenTree} → line token_leaves token_attributes n s ≡ Ok ((items, m), rest) → AreLines m rest k left → AreLines n s k left
+  no_line : {n : Counters} {s : State} → AreLines n s n s
+  a_line : {n m k : Counters} {s rest left : State} {items : WrittenTree} → line token_leaves token_attributes n s ≡ Ok ((items, m), rest) → AreLines m rest k left → AreLines n s k left
 
--- after lines whose bindings and recipes got their numbers, an assignment or a recipe lacks its number
+-- after lines whose bindings and recipes got their numbers, an assignment, a parameter or a recipe lacks its number
 pub record LinesWantNumber (s : State) (old new : Numerator) : Type 0 where
   pub left : State
-  pub lines : AreLines (counters_of old) s (counters_of new) left
-  pub lacks : LacksNumber left new
+  pub counters : Counters
+  pub lines : AreLines (counters_of old) s counters left
+  pub lacks : LacksNumber left counters (counters_of new)
 
 -- a number is wanted in a file's tokens, and its counter, which counted up from the old numerator to the new, is at its end
 abbrev pub WantsNumber : Conditions → List SignificantToken → (old new : Numerator) → Type 0

@@ -1,12 +1,10 @@
 -- What follows, of a construct, from its name, its attributes and its body.
 use Rattle.std.specs.Prelude.{◌≡◌, ℕ, All, Bool, IsTrue, ◌||◌, ◌==◌, List, codes, nat_eq, slice_index, map}
 use Rattle.std.specs.List.{starts_with}
-use Rattle.justfile_attribute.specs.declared.attribute.Attribute.{Attribute}
 use Rattle.justfile_attribute_set.specs.AttributeSet.{AttributeSet, attributes_of}
 use Rattle.justfile_attribute_set.specs.Attributes.{has_kind}
 use Rattle.justfile_base.specs.Token.{lexeme_of}
 use Rattle.justfile_base.specs.declared.attribute_kind.AttributeKind.TheVariants as kinds
-use Rattle.justfile_base.specs.declared.name.Name.{Name}
 use Rattle.justfile_base.specs.declared.token.Token.{Token}
 use Rattle.justfile_file.specs.declared.binding.Binding.{Binding}
 use Rattle.justfile_file.specs.declared.item.Item.{Item}
@@ -14,7 +12,7 @@ use Rattle.justfile_file.specs.declared.item.Item.TheVariants.{Assignment, Comme
 use Rattle.justfile_file.specs.declared.recipe.UnresolvedRecipe.{UnresolvedRecipe}
 use Rattle.justfile_parse.specs.ItemTable.{has_shebang}
 use Rattle.justfile_parse.specs.Tree.{line_tree}
-use Rattle.justfile_parse_header.specs.Arguments.{AreKeyed}
+pub use Rattle.justfile_parse_attribute.specs.KeyedBounds.{AreKeyedPairs}
 use Rattle.justfile_parse_header.specs.Said.{AreWholeParameters}
 use Rattle.justfile_parse_header.specs.Tree.{rules_of}
 use Rattle.justfile_tree.specs.declared.expression.Expression.{Expression}
@@ -43,10 +41,6 @@ IsWholeItem (Assignment a) = IsWholeAssignment a
 IsWholeItem (Comment text) = IsTrue (starts_with nat_eq text.now (codes "#"))
 IsWholeItem Newline = Unit {0}
 IsWholeItem (Recipe r) = IsWholeRecipe r
-
--- each bound of the attributes that are read stands with its key
-abbrev pub AreKeyedPairs : List (Attribute × Name) → Type 0
-AreKeyedPairs pairs = AreKeyed (map (λ p. p.0) pairs)
 
 -- all of them are
 unfoldable pub AreWhole : List Item → Type 0

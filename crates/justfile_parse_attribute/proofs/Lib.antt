@@ -3,3 +3,4 @@ pub mod AttributeLoops
 pub mod AttributeSteps
 pub mod KeysPut
 pub mod RepeatedAttributes
+pub mod StillKeyed

@@ -3,3 +3,4 @@ pub mod ArgumentKeys
 pub mod AttributeTable
 pub mod Attributes
 pub mod Halting
+pub mod KeyedBounds

@@ -12,6 +12,7 @@ ghost use Rattle.justfile_parse_attribute.specs.ArgumentKeys.{HasKeys, IsPut, ar
 ghost use Rattle.justfile_base.specs.declared.fault.Fault.TheVariants.{Memory};
 ghost use Rattle.justfile_parse_attribute.specs.AddedAttributes.{Adds, ChecksLast};
 ghost use Rattle.justfile_parse_attribute.specs.Attributes.{arguments_of, entry_of_pair};
+ghost use Rattle.justfile_parse_attribute.specs.KeyedBounds.{IsKeyed, KeepsKeyed};
 ghost use Rattle.justfile_tree.specs.LeafSight.{sees_leaves};
 
 use crate::arguments::Arguments;
@@ -35,8 +36,9 @@ pub(crate) fn push_made<'src>(
     kind: AttributeKind,
     arguments: Arguments<'src>,
 ) -> CompileResult<'src>
-    ensures { Adds result (new.new_attribute sees_leaves name.entry.token kind (by_position (arguments_of arguments.entry)) (by_key (arguments_of arguments.entry)))
+    ensures added { Adds result (new.new_attribute sees_leaves name.entry.token kind (by_position (arguments_of arguments.entry)) (by_key (arguments_of arguments.entry)))
         name.entry attributes.old.items attributes.new.items }
+    ensures keyed { OnOk result (KeepsKeyed attributes.old.items attributes.new.items) }
 {
     match new_attribute(alloc, name, kind, arguments) {
         Ok(attribute) => push_pair(attributes, attribute, name),
@@ -66,15 +68,16 @@ fn push_pair<'src>(
 /// # Errors
 ///
 /// `Compile` if a rule is broken; `Memory` if memory runs out.
-#[tactic(auto, using(crate::proofs::KeysPut::made_same))]
+#[tactic(auto, using(crate::proofs::KeysPut::made_same, crate::proofs::StillKeyed::made_keyed))]
 fn new_attribute<'src>(
     alloc: Global,
     name: Name<'src>,
     kind: AttributeKind,
     arguments: Arguments<'src>,
 ) -> CompileResult<'src, Attribute<'src>>
-    ensures { Makes leaf_attribute_of result (new.new_attribute sees_leaves name.entry.token kind
+    ensures made { Makes leaf_attribute_of result (new.new_attribute sees_leaves name.entry.token kind
         (by_position (arguments_of arguments.entry)) (by_key (arguments_of arguments.entry))) }
+    ensures keyed { IfOk result IsKeyed }
 {
     let Arguments { positional, keyed } = arguments;
     let keys = keys_by_text(alloc, keyed)?;

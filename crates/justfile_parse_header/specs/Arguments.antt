@@ -1,17 +1,17 @@
 -- Of which parameter attributes speak.
-use Rattle.std.specs.Prelude.{ℕ, All, Bool, false, IsTrue, List, Option, Some, None, not, if◌then◌else◌}
+use Rattle.std.specs.Prelude.{ℕ, Bool, false, List, Option, Some, None, not, if◌then◌else◌}
 use Rattle.std.specs.List.{filter, find}
 use Rattle.std.specs.Option.{is_some, option_map}
 use Rattle.std.specs.Str.{bytes_eq}
 use denote.Ref.{Bor}
 use Rattle.justfile_attribute.specs.Attribute.{leaf_attribute_of}
 use Rattle.justfile_attribute.specs.declared.attribute.Attribute as attributes
-use Rattle.justfile_attribute.specs.declared.attribute.Attribute.TheVariants as variants
 use Rattle.justfile_base.specs.declared.token.Token.{Token}
 use Rattle.justfile_model.specs.AttributeRules.{least, lesser, rules_in}
 use Rattle.justfile_model.specs.Meaning.{text_of}
 use Rattle.justfile_model.specs.RecipeRules.{is_parameter}
 use Rattle.justfile_model.specs.Tree.{Attribute, Quoted}
+unfoldable pub use Rattle.justfile_parse_attribute.specs.KeyedBounds.{AreKeyed, IsKeyed}
 use Rattle.justfile_parse_header.specs.HeaderTable.{LeafParameter, Rules}
 use Rattle.justfile_tree.specs.LeafSight.{sees_leaves}
 use Rattle.justfile_tree.specs.LeafTree.{Leaf}
@@ -53,16 +53,6 @@ undefined_in parameters a = of_rules (rules_in a)
 -- of the arguments that are spoken of and are no parameters, the one with the least text, the first of these
 abbrev pub least_undefined : List LeafParameter → List Rules → Option (Quoted Leaf)
 least_undefined parameters rules = option_map (λ (r : Rules). r.name) (least (λ (r : Rules). text_of sees_leaves r.name) (filter (λ r. not (is_parameter sees_leaves parameters r)) rules))
-
--- a bound stands with its key
-abbrev pub IsKeyed : attributes.Attribute → Type 0
-IsKeyed (variants.Arg flag help help_property long long_key max max_key min min_key multiple name pattern short short_key value) =
-    (IsTrue (is_some max) → IsTrue (is_some max_key)) × (IsTrue (is_some min) → IsTrue (is_some min_key))
-IsKeyed _ = Unit {0}
-
--- each bound of the attributes stands with its key
-unfoldable pub AreKeyed : List attributes.Attribute → Type 0
-AreKeyed attributes = All IsKeyed attributes
 
 abbrev pub IsKeyedOption : Option (Bor attributes.Attribute) → Type 0
 IsKeyedOption None = Unit {0}

@@ -131,6 +131,14 @@ pub mod numerator {
     pub use justfile_base::{Number, Numerator};
 }
 
+pub mod parameter {
+    pub use justfile_file::Parameter;
+}
+
+pub mod parameter_kind {
+    pub use justfile_file::ParameterKind;
+}
+
 pub mod parser {
     pub use justfile_literal::cook_string;
     pub use justfile_parse::Parser;
@@ -175,6 +183,10 @@ pub mod token_kind {
 
 pub mod unindent {
     pub use justfile_literal::unindent::unindent;
+}
+
+pub mod unresolved_dependency {
+    pub use justfile_file::{DependencyArgument, UnresolvedDependency};
 }
 
 pub mod unstable_feature {

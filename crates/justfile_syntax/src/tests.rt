@@ -3,6 +3,7 @@
 
 mod attributes;
 mod format_parts;
+mod headers;
 mod names;
 mod order;
 mod small;

@@ -17,10 +17,7 @@ use crate::fault::{CompileResult, Fault};
 use crate::interpreter::Interpreter;
 use crate::item::Item;
 use crate::name::Name;
-use crate::numerator::Numerator;
-use crate::parser::Parser;
-use crate::source::Source;
-use crate::tests::support::{CURRENT, Unchanged, holds, same, same_text};
+use crate::tests::support::{holds, parsed, same, same_text};
 use crate::token::Token;
 use std::alloc::{AllocError, Global};
 use std::collections::BTreeMap;
@@ -187,27 +184,6 @@ static SETS: &[Row] = &[
         is_enabled: true,
     },
 ];
-
-/// The file that a text is.
-fn parsed<'src>(rt: &impl Abort, alloc: Global, text: &'src str) -> Ast<'src> {
-    let source = Source {
-        file_depth: 0,
-        import_offsets: &[],
-        namepath: None,
-        working_directory: "/home",
-    };
-    let mut numerator = Numerator::new(0);
-    Parser::parse_source(
-        alloc,
-        &mut numerator,
-        "justfile",
-        &source,
-        text,
-        &Unchanged,
-        CURRENT,
-    )
-    .expect(rt, text)
-}
 
 /// The name that is assigned first.
 fn first_name<'ast, 'src>(items: &'ast [Item<'src>], rt: &impl Abort) -> Name<'src> {

@@ -1,0 +1,24 @@
+-- Bounds of attributes that stand with their keys.
+use Rattle.std.specs.Prelude.{All, IsTrue, List, map}
+use Rattle.std.specs.Option.{is_some}
+use Rattle.justfile_attribute.specs.declared.attribute.Attribute.{Attribute}
+use Rattle.justfile_attribute.specs.declared.attribute.Attribute.TheVariants as variants
+use Rattle.justfile_base.specs.declared.name.Name.{Name}
+
+-- a bound stands with its key
+abbrev pub IsKeyed : Attribute → Type 0
+IsKeyed (variants.Arg flag help help_property long long_key max max_key min min_key multiple name pattern short short_key value) =
+    (IsTrue (is_some max) → IsTrue (is_some max_key)) × (IsTrue (is_some min) → IsTrue (is_some min_key))
+IsKeyed _ = Unit {0}
+
+-- each bound of the attributes stands with its key
+unfoldable pub AreKeyed : List Attribute → Type 0
+AreKeyed attributes = All IsKeyed attributes
+
+-- each bound of the attributes that are read stands with its key
+abbrev pub AreKeyedPairs : List (Attribute × Name) → Type 0
+AreKeyedPairs pairs = AreKeyed (map (λ p. p.0) pairs)
+
+-- where the old ones do, so do the new ones
+unfoldable pub KeepsKeyed : (old new : List (Attribute × Name)) → Type 0
+KeepsKeyed old new = AreKeyedPairs old → AreKeyedPairs new
