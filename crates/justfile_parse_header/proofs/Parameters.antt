@@ -101,9 +101,6 @@ module _ (rules : List Rules) (s q : State) (first next : Numerator) (old done :
         → HaltsAt halt left (reader.singulars rules ((map parameter_tree old, counters_of first), s) ≡ Err wanting) (reader.singulars rules ((map parameter_tree old, counters_of first), s))
     halts halt left wanting h = halted (reader.parameter rules Singular ((map parameter_tree done, counters_of next), q)) (reader.singulars rules ((map parameter_tree old, counters_of first), s)) fails halt left _ _ (fails wanting) h
 
-    pub drawn_on : (then : Numerator) → HasDrawn next then (names q) 0 → HasDrawn first then (names s) 0
-    drawn_on then h = both_drawn first next then (names s) (names q) 0 so_far.drawn h
-
 -- ---- what is said of one
 
 -- what is broken by what is said of a parameter is what it breaks
