@@ -1,48 +1,47 @@
 -- What is refused of attributes where the construct after them is read.
-use Rattle.std.proofs.Common.{◌≡◌, ◌∙◌, ℕ, Bool, true, false, List, [], ◌∷◌, map, map-id, length, Option, Some, None, Ok, Err, refl, sym, ap, subst, string_bytes}
+use Rattle.std.proofs.Common.{◌≡◌, ◌∙◌, ℕ, Bool, true, false, ◌||◌, List, [], ◌∷◌, map, map-id, length, Option, Some, None, Ok, Err, refl, sym, ap, subst}
 use Rattle.std.proofs.lemmas.List.{length-map}
-use Rattle.std.specs.Option.{option_map}
+use Rattle.justfile_attribute.proofs.Ordered.{kind_seen}
 use Rattle.justfile_attribute.specs.declared.attribute.Attribute.{Attribute}
-use Rattle.justfile_attribute_rules.specs.Made.{IsRefusedBy, quoted_leaf}
+use Rattle.justfile_attribute_rules.specs.Made.{IsRefusedBy}
 use Rattle.justfile_attribute_rules.specs.RuleErrors.{SaysRule}
-use Rattle.justfile_attribute_set.specs.AttributeSet.{AttributeSet, IsInvalidBy, SaysInvalid, leaf_entries_of}
+use Rattle.justfile_attribute_set.specs.AttributeSet.{IsInvalidBy, SaysInvalid}
+use Rattle.justfile_attribute_set.specs.Attributes.{has_kind, kind_of}
+use Rattle.justfile_attribute_set.specs.Keys.{firsts}
+use Rattle.justfile_attribute_set.specs.Pairs.{Pair, leaf_entry_of}
 use Rattle.justfile_base.specs.declared.attribute_kind.AttributeKind.{AttributeKind}
 use Rattle.justfile_base.specs.declared.compile_error.CompileError.{CompileError}
-use Rattle.justfile_base.specs.declared.compile_error_kind.CompileErrorKind.{CompileErrorKind}
 use Rattle.justfile_base.specs.declared.compile_error_kind.CompileErrorKind.TheVariants as errors
-use Rattle.justfile_base.specs.declared.fault.Fault.{Fault}
+use Rattle.justfile_base.specs.declared.compile_error_kind.CompileErrorKind.{CompileErrorKind}
 use Rattle.justfile_base.specs.declared.fault.Fault.TheVariants as faults
+use Rattle.justfile_base.specs.declared.fault.Fault.{Fault}
 use Rattle.justfile_base.specs.declared.item_kind.ItemKind.TheVariants as items
 use Rattle.justfile_base.specs.declared.name.Name.{Name}
-use Rattle.justfile_base.specs.declared.string_literal.StringLiteral.{StringLiteral}
 use Rattle.justfile_base.specs.declared.token.Token.{Token}
 use Rattle.justfile_base.specs.declared.token_kind.TokenKind.TheVariants as kinds
-use Rattle.justfile_model.specs.AttributeRules.{allowed_broken, arg_rules, first_invalid, least, of_some, undefined_broken}
-use Rattle.justfile_model.specs.ContentKeys.{entry_cmp, kind_of_attribute}
-use Rattle.justfile_model.specs.Literals.{string_of}
-use Rattle.justfile_model.specs.Meaning.{text_of}
-use Rattle.justfile_model.specs.NewAttribute as new
-use Rattle.justfile_model.specs.Order.{in_order}
+use Rattle.justfile_model.specs.AttributeKinds.{same_attribute}
+use Rattle.justfile_model.specs.AttributeRules.{first_invalid, of_some}
+use Rattle.justfile_model.specs.ContentKeys.{has_attribute, kind_of_attribute}
+use Rattle.justfile_model.specs.HeaderReader.{obeying}
 use Rattle.justfile_model.specs.Reader as files
-use Rattle.justfile_model.specs.Reader.{obeying}
 use Rattle.justfile_model.specs.Reading as reading
-use Rattle.justfile_model.specs.Rules.{Broken, InvalidAttribute, UndefinedArgAttribute}
-use Rattle.justfile_model.specs.Sight.{or_empty}
-use Rattle.justfile_model.specs.Tree.{ArgumentRules, Entry}
+use Rattle.justfile_model.specs.Rules.{Broken, InvalidAttribute}
+use Rattle.justfile_model.specs.Tree.{Entry}
+use Rattle.justfile_parse.specs.Exclusions.{SaysFirst}
+use Rattle.justfile_parse.specs.Halting.{IsExtraneousFault}
+use Rattle.justfile_parse.specs.ItemTable as reader
+use Rattle.justfile_parse.specs.ItemTable.{in_content_order}
+use Rattle.justfile_parse_attribute.specs.AttributeTable.{Entries}
 use Rattle.justfile_parse_attribute.specs.Attributes.{entry_of_pair}
 use Rattle.justfile_parse_attribute.specs.Halting.{HaltsAt, HaltsFor}
-use Rattle.justfile_parse.specs.Halting.{IsExtraneousFault}
-use Rattle.justfile_parse_expression.specs.TableReader as tokens
-use Rattle.justfile_parse.specs.ItemTable as reader
-use Rattle.justfile_parse_attribute.specs.AttributeTable.{Entries}
-use Rattle.justfile_parse_expression.specs.TableReader.{Read, State, leaves}
-use Rattle.justfile_parse.specs.ItemTable.{in_content_order, least_argument}
-use Rattle.justfile_parse_attribute.specs.declared.halt.Halt.{Halt}
 use Rattle.justfile_parse_attribute.specs.declared.halt.Halt.TheVariants as halts
+use Rattle.justfile_parse_attribute.specs.declared.halt.Halt.{Halt}
+use Rattle.justfile_parse_expression.specs.TableReader as tokens
+use Rattle.justfile_parse_expression.specs.TableReader.{Read, State, leaves}
 use Rattle.justfile_parse_expression.specs.declared.significant.TableEntry.{TableEntry}
 use Rattle.justfile_parse_expression.specs.declared.stop.Stop.TheVariants as stops
 use Rattle.justfile_tree.specs.LeafSight.{sees_leaves}
-use Rattle.justfile_tree.specs.LeafTree.{Leaf, Literal, literal_of}
+use Rattle.justfile_tree.specs.LeafTree.{Leaf}
 
 -- reading halts for the fault of a rule
 pub rule_halts : (X Y : Type 0) (rule : Broken Token) (fault : Fault) (halt : Halt) (s : State) → HaltsFor halt fault → IsRefusedBy {Y = X} (Err rule) fault
@@ -111,53 +110,26 @@ module _ (ws : Entries) (name : TableEntry) (s : State) (entries : Entries) (is 
           rule_halts (Unit {0}) (Unit {0} × State) (record { rule = InvalidAttribute items.Assignment (kind_of_attribute first.attribute); token = name.token.now }) (faults.Compile e) halt s h
           (record { token = k.0; says = says (kind_of_attribute first.attribute) e.kind k.1 })
 
--- ---- a recipe's
+-- ---- a recipe's attributes that exclude each other
 
-abbrev Rules : Type 0
-Rules = ArgumentRules Leaf Token
+-- the kinds of attributes are those of their entries
+pub has_seen : (kind : AttributeKind) (pairs : List Pair) → has_kind kind (firsts pairs) ≡ has_attribute kind (map leaf_entry_of pairs)
+unfolding kind_of
+has_seen kind [] = refl
+has_seen kind (p ∷ ps) =
+    ap (λ (b : Bool). same_attribute (kind_of p.0) kind || b) (has_seen kind ps)
+    ∙ ap (λ (k : AttributeKind). same_attribute k kind || has_attribute kind (map leaf_entry_of ps)) (kind_seen p.0)
 
-module _ (ws : Entries) (s : State) (entries : Entries) (is : entries ≡ in_content_order ws) where
-  -- the refusal of the least argument
-  abbrev least_refused : Option Rules → Read (Unit {0})
-  least_refused o = obeying (of_some (λ (a : Rules). record { rule = UndefinedArgAttribute (text_of sees_leaves a.name); token = sees_leaves.place a.name.token } ∷ []) o) s
-
-  abbrev least_rules : Entries → Option Rules
-  least_rules es = least (λ (a : Rules). text_of sees_leaves a.name) (arg_rules sees_leaves es)
-
-  defined_is : reader.defined ws s ≡ least_refused (least_rules entries)
-  unfolding leaves
-  defined_is = ap (λ (es : Entries). least_refused (least_rules (in_content_order es))) (map-id ws) ∙ ap (λ (es : Entries). least_refused (least_rules es)) (sym is)
-
-  pub is_defined : None ≡ least_argument entries → reader.defined ws s ≡ Ok (tt, s)
-  is_defined h = defined_is ∙ go (least_rules entries) h
-    where
-      go : (o : Option Rules) → None ≡ option_map (λ (r : Rules). r.name) o → least_refused o ≡ Ok (tt, s)
-      go None h = refl
-      go (Some a) h = cc
-
-  text_is : (l : StringLiteral) → text_of sees_leaves (quoted_leaf l) ≡ string_bytes l.cooked
-  text_is l = go l.expand
-    where
-      go : (b : Bool) → or_empty (sees_leaves.cooked (string_of b (Literal (literal_of l)))) ≡ string_bytes l.cooked
-      go true = refl
-      go false = refl
-
-  pub is_undefined : (l : StringLiteral) (fault : Fault) (halt : Halt) → Some (quoted_leaf l) ≡ least_argument entries
-      → IsRefusedBy (new.refuse {X = Unit {0}} (UndefinedArgAttribute (string_bytes l.cooked)) l.token) fault → HaltsFor halt fault
-      → HaltsAt halt s ⊥ (reader.defined ws s)
-  is_undefined l fault halt found refused h = subst (λ (f : Read (Unit {0})). HaltsAt halt s ⊥ f) (sym defined_is) (go (least_rules entries) found)
-    where
-      go : (o : Option Rules) → Some (quoted_leaf l) ≡ option_map (λ (r : Rules). r.name) o → HaltsAt halt s ⊥ (least_refused o)
-      go None k = cc
-      go (Some a) k =
-          subst
-          (λ q. HaltsAt {Y = Unit {0} × State} halt s ⊥ (Err (reading.BreaksRule (record { rule = UndefinedArgAttribute (text_of sees_leaves q); token = sees_leaves.place q.token }))))
-          (inside k)
-          (subst (λ text. HaltsAt {Y = Unit {0} × State} halt s ⊥ (Err (reading.BreaksRule (record { rule = UndefinedArgAttribute text; token = l.token })))) (sym (text_is l))
-          (rule_halts (Unit {0}) (Unit {0} × State) (record { rule = UndefinedArgAttribute (string_bytes l.cooked); token = l.token }) fault halt s h refused))
-        where
-          inside : Some (quoted_leaf l) ≡ Some a.name → quoted_leaf l ≡ a.name
-          inside k = cc
+module _ (recipe : Token) where
+  -- reading halts for the first rule that is broken
+  pub is_excluded : (bs : List (Broken Token)) (kind : CompileErrorKind) (e : CompileError) (halt : Halt) (s : State) → SaysFirst recipe bs (Some kind)
+      → e.kind ≡ kind → e.token ≡ recipe → HaltsFor halt (faults.Compile e) → HaltsAt halt s ⊥ (obeying bs s)
+  is_excluded [] kind e halt s first is at h = absurd first
+  is_excluded (b ∷ bs) kind e halt s first is at h =
+      rule_halts (Unit {0}) (Unit {0} × State) b (faults.Compile e) halt s h (record {
+        token = at ∙ sym first.1;
+        says = subst (λ (k : CompileErrorKind). SaysRule b.token b.rule k) (sym is) (subst (λ (t : Token). SaysRule t b.rule kind) (sym first.1) first.0);
+      })
 
 -- ---- the attributes before a construct
 

@@ -5,8 +5,10 @@ pub mod Constructs
 pub mod DocSteps
 pub mod Formats
 pub mod GivenAttributes
+pub mod Hashes
 pub mod Lines
 pub mod Loop
+pub mod Moved
 pub mod Moves
 pub mod NotInternal
 pub mod Parsed

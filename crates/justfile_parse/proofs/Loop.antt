@@ -10,7 +10,7 @@ use Rattle.justfile_model.specs.Reader as files
 use Rattle.justfile_model.specs.Reader.{after_numbered}
 use Rattle.justfile_model.specs.Reading.{◌>>=◌, Counters}
 use Rattle.justfile_parse.specs.ItemTable as reader
-use Rattle.justfile_parse.specs.ItemTable.{ReadItems, after_mark, items, kept, line, read_nothing, on_line}
+use Rattle.justfile_parse.specs.ItemTable.{ReadItems, after_mark, items, kept, line, read_nothing}
 use Rattle.justfile_parse_expression.specs.TableReader.{Refusal, State, accept, leaves}
 use Rattle.justfile_parse_attribute.specs.Halting.{HaltsAt}
 use Rattle.justfile_parse.specs.MethodResults.{IsMoved}
@@ -25,23 +25,12 @@ use Rattle.justfile_parse_expression.specs.declared.stop.Stop.TheVariants.{Refus
 use Rattle.justfile_model.proofs.Reading as laws
 use Rattle.justfile_model.proofs.ReadingSteps.{known}
 use Rattle.justfile_parse_header.proofs.Halts.{halted}
-use Rattle.justfile_parse.proofs.Moves.{line_moves, names, on_line_moves}
+use Rattle.justfile_parse.proofs.Moves.{line_moves}
 use Rattle.justfile_parse.proofs.Wholes.{none_whole, then_whole}
-use Rattle.justfile_parse_header.specs.Counting.{counters_of}
+use Rattle.justfile_parse_header.specs.Counting.{counters_of, names}
 
 abbrev Items : Type 0
 Items = List (OrderedItem Leaf Token ℕ)
-
--- an item got its number
-pub moved_by : (old new : Numerator) (s : State) (i : OrderedItem Leaf Token ℕ) (rest : State) → s.depth ≡ 0 → on_line (counters_of old) s ≡ Ok ((i, counters_of new), rest) → IsMoved old new (names s)
-moved_by old new s i rest none h =
-    let moves = on_line_moves (counters_of old) s none i (counters_of new) rest h in
-    record { least = moves.least; recipes_least = moves.recipes_least; most_is = omega (arith, moves.most); constants = moves.constants }
-
-pub unmoved : (old new : Numerator) (most : ℕ) → new ≡ old → IsMoved old new most
-unmoved old new most e =
-    let P : Numerator → Type 0 = λ n. IsMoved old n most in
-    subst P (sym e) (record { least = omega arith; recipes_least = omega arith; most_is = omega arith; constants = refl })
 
 -- what is read after items
 taken : (done all : Items) (m : Counters) (rest : State) (found : ReadItems) → after_numbered done found ≡ Ok ((all, m), rest) → (more : Items) × (found ≡ Ok ((more, m), rest)) × (done ++ more ≡ all)

@@ -1,7 +1,6 @@
 -- The counters move up by no more than the identifiers that are read.
-use Rattle.std.proofs.Common.{◌≡◌, ℕ, ◌+◌, ◌≤◌, Bool, true, false, List, [], ◌∷◌, map, Some, None, Ok, Err, IfOk, refl, sym, ap, subst, arith}
+use Rattle.std.proofs.Common.{◌≡◌, ℕ, ◌+◌, ◌≤◌, Bool, true, false, List, [], ◌∷◌, Some, None, Ok, Err, IfOk, refl, sym, ap, subst, arith}
 use Rattle.justfile_base.specs.declared.token.Token.{Token}
-use Rattle.justfile_base.specs.declared.token_kind.TokenKind.{TokenKind}
 use Rattle.justfile_base.specs.declared.token_kind.TokenKind.TheVariants as kinds
 use Rattle.justfile_model.specs.Conditions.{Conditions}
 use Rattle.justfile_model.specs.Expressions.{Tokens, Under}
@@ -10,7 +9,8 @@ use Rattle.justfile_model.specs.Files.{item_bindings, item_recipes, keeps_tokens
 use Rattle.justfile_model.specs.Reader as files
 use Rattle.justfile_model.specs.Reader.{has_body}
 use Rattle.justfile_model.specs.Reading as reading
-use Rattle.justfile_model.specs.Reading.{◌>>=◌, Counters, prepend, choose, refused}
+use Rattle.justfile_model.specs.ReadAttribute.{ReadAttribute}
+use Rattle.justfile_model.specs.Reading.{◌>>=◌, Counters, choose}
 use Rattle.justfile_model.specs.SignificantTokens.{identifiers}
 use Rattle.justfile_model.specs.Tok.{Tok}
 use Rattle.justfile_model.specs.Tree as tree
@@ -18,25 +18,23 @@ use Rattle.justfile_model.specs.Tree.{OrderedItem, WrittenItem, itself}
 use Rattle.justfile_model.specs.TreeReader as model
 use Rattle.justfile_model.specs.TreeReader.{token_attributes, token_leaves}
 use Rattle.justfile_model.proofs.AttributeProgress.{attribute_lines_count}
+use Rattle.justfile_model.proofs.AttributeSound.{IsRead}
 use Rattle.justfile_model.proofs.Counters.{count, counted_bindings, counted_constants, counted_recipes}
 use Rattle.justfile_model.proofs.Counting.{block_counts, on_line_counts}
 use Rattle.justfile_model.proofs.Natural as natural
 use Rattle.justfile_model.proofs.ReadingSteps.{known}
 use Rattle.justfile_model.proofs.Related as a
-use Rattle.justfile_model.proofs.Related.{AlikeItem, Related}
-use Rattle.justfile_model.proofs.Sound.{Starts, of_block, of_comment, of_line, on_line_at}
-use Rattle.justfile_parse.specs.ItemTable.{after_mark, ReadItem, ReadItems, item_rest, ended, kept, line, line_end, on_line}
+use Rattle.justfile_model.proofs.Related.{AlikeItem, Each, Never, Related}
+use Rattle.justfile_model.proofs.Sound.{Starts, before_sound, of_block, of_comment, of_line, on_line_at}
+use Rattle.justfile_parse.specs.ItemTable.{ReadItem, ReadItems, after_mark, item_attributes, item_rest, ended, kept, line, line_end, on_line}
+use Rattle.justfile_parse_attribute.specs.AttributeTable.{Entries}
 use Rattle.justfile_parse_expression.specs.TableReader.{Read, Refusal, State, accept, expect, leaves}
-use Rattle.justfile_parse_expression.specs.Significant.{significant_of}
 use Rattle.justfile_tree.specs.LeafTree.{Leaf}
-use Rattle.justfile_parse_expression.specs.declared.significant.TableEntry.{TableEntry}
 use Rattle.justfile_parse.proofs.Anywhere.{Keeps, agree, keeps, rel, state_alike}
 use Rattle.justfile_parse_expression.proofs.Anywhere.{entries_are, state_seen}
-use Rattle.justfile_parse_expression.proofs.Formats.{IsExpected, IsNext, Taken, accepted, expected}
-
--- how many identifiers are left
-abbrev pub names : State → ℕ
-names s = identifiers (map significant_of s.left)
+use Rattle.justfile_parse_expression.proofs.Formats.{IsNext, Taken, accepted}
+use Rattle.justfile_parse_header.specs.Counting.{names}
+use Rattle.justfile_parse_header.proofs.Fewer.{Fewer, either_fewer, expect_fewer, fewer, fewer_at, then_fewer}
 
 -- counters that move up by no more than so many, and constants that stay
 pub record MovesBy (n m : Counters) (before following : ℕ) : Type 0 where
@@ -89,39 +87,25 @@ module _ (n : Counters) (s : State) (open_none : s.depth ≡ 0) where
       by_law o o' is (a.neither {e = f} h) same = absurd (no_read f ((i, m), rest) same)
       by_law o o' is (a.short {n = k} h) same = absurd (no_read (reading.NoNumber k) ((i, m), rest) same)
 
+-- ---- the attributes before a construct
+
+-- they leave no more identifiers, where no expression is open
+pub attributes_fewer : (s : State) (ws : Entries) (rest : State) → s.depth ≡ 0 → item_attributes s ≡ Ok (ws, rest) → names rest ≤ names s
+attributes_fewer s ws rest open_none found =
+    fewer_at {A = Entries} s (item_attributes s) (ws, rest)
+    (by_law (item_attributes s) (files.attributes token_leaves token_attributes (state_seen s)) refl
+    (natural.attributes_natural (rel s.run) leaves token_leaves (agree s.run) kept token_attributes (Keeps s.run) (keeps s.run) (state_alike s))) found
+  where
+    by_law : (o : Read Entries) (o' : model.Read (List ReadAttribute)) → files.attributes token_leaves token_attributes (state_seen s) ≡ o'
+        → Related (rel s.run) (Each (Keeps s.run)) (Never (rel s.run)) o o' → Fewer {A = Entries} s o
+    by_law o o' is (a.both {x = x} {y = y} q k) =
+        let read = known y (IsRead s.run.conditions (state_seen s)) is (before_sound s.run.conditions (state_seen s) (open_none, refl)) in
+        omega (arith, attribute_lines_count itself itself (Under s.run.conditions.limit) read.derived.derives, ap (λ (ts : Tokens). identifiers ts) (entries_are s.run k.left))
+    by_law o o' is (a.neither h) = tt
+    by_law o o' is (a.short h) = absurd h
+
 -- ---- what ends it
 
-fewer : (e : TableEntry) (s rest : State) → s.left ≡ e ∷ rest.left → names rest ≤ names s
-fewer e s rest split = omega (arith, ap (λ (es : List TableEntry). identifiers (map significant_of es)) split)
-
-abbrev Fewer : {A : Type 0} → State → Read A → Type 0
-Fewer s found = IfOk found (λ x. names x.1 ≤ names s)
-
-expect_fewer : (kind : TokenKind) (s : State) → IfOk (expect kind s) (λ x. names x.1 ≤ names s)
-expect_fewer kind s = go (expect kind s) (expected kind s)
-  where
-    go : (o : Read TableEntry) → IsExpected kind s.left o → IfOk o (λ x. names x.1 ≤ names s)
-    go (Ok x) h = fewer x.0 s x.1 h.0
-    go (Err f) h = tt
-
-then_fewer : {A B : Type 0} (s : State) (found : Read A) (f : A × State → Read B) → Fewer s found → ((x : A × State) → Fewer x.1 (f x)) → Fewer s (found >>= f)
-then_fewer {A} {B} s (Ok x) f h k = go (f x) (k x)
-  where
-    go : (o : Read B) → Fewer {A = B} x.1 o → Fewer {A = B} s o
-    go (Ok y) j = omega (arith, h, j)
-    go (Err e) j = tt
-then_fewer s (Err e) f h k = tt
-
-either_fewer : {A : Type 0} (kind : TokenKind) (s : State) (x : Read A) (f : TableEntry × State → Read A) → Fewer s x → ((p : TableEntry × State) → Fewer p.1 (f p)) → Fewer s (choose (accept kind s) x f)
-either_fewer {A} kind s x f h k = go (accept kind s) (accepted kind s)
-  where
-    last : (p : TableEntry × State) (o : Read A) → s.left ≡ p.0 ∷ p.1.left → Fewer p.1 o → Fewer s o
-    last p (Ok y) split j = omega (arith, fewer p.0 s p.1 split, j)
-    last p (Err e) split j = tt
-
-    go : (o : Taken) → IsNext kind s s.left o → Fewer s (choose o x f)
-    go None i = h
-    go (Some p) i = last p (f p) i.0 (k p)
 
 abbrev Items : Type 0
 Items = List (OrderedItem Leaf Token ℕ)
@@ -131,7 +115,7 @@ unfolding files.line_end
 line_end_fewer s = go (accept kinds.Eof s)
   where
     go : (o : Taken) → Fewer {A = Items} s (choose {X = Read Items} o (expect kinds.Eol s >>= λ newline. Ok (tree.Newline ∷ [], newline.1)) (λ x. Ok ([], s)))
-    go None = then_fewer {A = TableEntry} {B = Items} s (expect kinds.Eol s) (λ newline. Ok (tree.Newline ∷ [], newline.1)) (expect_fewer kinds.Eol s) (λ x. omega arith)
+    go None = then_fewer {B = Items} s (expect kinds.Eol s) (λ newline. Ok (tree.Newline ∷ [], newline.1)) (expect_fewer kinds.Eol s) (λ x. omega arith)
     go (Some x) = omega arith
 
 item_rest_fewer : (s : State) → Fewer {A = Items} s (item_rest s)

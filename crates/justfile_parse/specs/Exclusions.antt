@@ -6,6 +6,7 @@ use Rattle.justfile_base.specs.declared.token.Token.{Token}
 use Rattle.justfile_model.specs.RecipeRules.{exclusions_broken}
 use Rattle.justfile_model.specs.Rules.{Broken}
 use Rattle.justfile_model.specs.Tree.{Entry}
+use Rattle.justfile_tree.specs.LeafSight.{sees_leaves}
 use Rattle.justfile_tree.specs.LeafTree.{Leaf}
 
 -- the kind of an error says the first of the rules that are broken, if one is
@@ -15,4 +16,4 @@ SaysFirst recipe (b ∷ bs) (Some kind) = SaysRule recipe b.rule kind × (b.toke
 SaysFirst recipe _ _ = ⊥
 
 abbrev pub IsExclusion : (recipe : Token) → List (Entry Leaf Token) → Option CompileErrorKind → Type 0
-IsExclusion recipe entries kind = SaysFirst recipe (exclusions_broken recipe entries) kind
+IsExclusion recipe entries kind = SaysFirst recipe (exclusions_broken sees_leaves recipe entries) kind

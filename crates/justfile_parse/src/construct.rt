@@ -10,6 +10,7 @@ ghost use Rattle.justfile_parse.specs.ItemTable as reader;
 ghost use Rattle.justfile_parse_attribute.specs.Attributes.{entry_of_pair};
 ghost use Rattle.justfile_parse_attribute.specs.Halting.{ReadsRuled};
 ghost use Rattle.justfile_parse_expression.specs.TableReader.{State};
+ghost use Rattle.justfile_tree.specs.LeafSight.{sees_leaves};
 
 use justfile_attribute::Attribute;
 use justfile_attribute_set::AttributeSet;
@@ -41,7 +42,7 @@ pub(crate) fn check_exclusions<'src>(
     alloc: Global,
     recipe: Token<'src>,
 ) -> Result<(), Halt<'src>>
-    ensures { (s : State) → ReadsRuled (λ _. tt) result s (obeying (exclusions_broken recipe.entry (leaf_entries_of attributes.now)) s) }
+    ensures { (s : State) → ReadsRuled (λ _. tt) result s (obeying (exclusions_broken sees_leaves recipe.entry (leaf_entries_of attributes.now)) s) }
 {
     match find_exclusion(attributes, recipe) {
         None => Ok(()),

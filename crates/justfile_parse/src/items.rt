@@ -1,5 +1,6 @@
 //! The items of a file, and the numbers that they get.
-ghost use Rattle.std.specs.Prelude.{◌≡◌, ◌<◌, ◌≤◌, ◌∷◌, ◌++◌, [], map, OnOk, OnErr};
+ghost use Rattle.std.specs.Prelude.{◌≡◌, ◌<◌, ◌≤◌, ◌∷◌, ◌++◌, [], IsTrue, OnOk, codes, map, nat_eq};
+ghost use Rattle.std.specs.List.{starts_with};
 ghost use Rattle.std.specs.Str.{trim_end};
 ghost use Rattle.justfile_base.specs.Token.{lexeme_of};
 ghost use Rattle.justfile_model.specs.SignificantTokens.{identifiers};
@@ -64,7 +65,7 @@ fn expect_nothing<'src, X: Expander>(
 }
 
 /// The items of a line, where no expression is open.
-#[tactic(auto, using(crate::proofs::Lines::line_blank, crate::proofs::Loop::unmoved, crate::proofs::Wholes::newline_whole))]
+#[tactic(auto, using(crate::proofs::Lines::line_blank, crate::proofs::Moved::unmoved, crate::proofs::Wholes::newline_whole))]
 fn parse_line<'src, X: Expander>(
     parser: &mut ExpressionParser<'_, 'src, X>,
     items: &mut Vec<Item<'src>>,
@@ -88,12 +89,13 @@ fn parse_line<'src, X: Expander>(
     Ok(())
 }
 
-/// What begins a line that is not blank.
+/// What begins a line that is not blank, where no expression is open.
 #[tactic(auto, unfolding(justfile_model::specs::Reader::on_line, justfile_parse_expression::specs::TableReader::leaves))]
 fn parse_item<'src, X: Expander>(
     parser: &mut ExpressionParser<'_, 'src, X>,
     numerator: &mut Numerator,
 ) -> Result<Item<'src>, Halt<'src>>
+    requires { (state_of X.answer parser.old).depth ≡ 0 }
     ensures reads { ReadsCounted item_tree result numerator.new (state_of X.answer parser.new)
         (reader.on_line (counters_of numerator.old) (state_of X.answer parser.old)) }
     ensures whole { IfOk result IsWholeItem }
@@ -106,12 +108,13 @@ fn parse_item<'src, X: Expander>(
     parse_construct(parser, numerator)
 }
 
-/// A construct with its attributes.
+/// A construct with its attributes, where no expression is open.
 #[tactic(auto, unfolding(justfile_model::specs::Reader::construct))]
 fn parse_construct<'src, X: Expander>(
     parser: &mut ExpressionParser<'_, 'src, X>,
     numerator: &mut Numerator,
 ) -> Result<Item<'src>, Halt<'src>>
+    requires { (state_of X.answer parser.old).depth ≡ 0 }
     ensures reads { ReadsCounted item_tree result numerator.new (state_of X.answer parser.new)
         (reader.construct (counters_of numerator.old) (state_of X.answer parser.old)) }
     ensures whole { IfOk result IsWholeItem }
@@ -182,7 +185,7 @@ fn parse_assignment<'src, X: Expander>(
         (reader.assignment (map entry_of_pair attributes.entry.items) (counters_of numerator.old) (state_of X.answer parser.old)) }
     ensures whole { IfOk result IsWholeAssignment }
     ensures progress { OnOk result (left parser.new < left parser.old) }
-    ensures unmoved { OnErr result (numerator.new ≡ numerator.old) }
+    ensures moved { IsMoved numerator.old numerator.new (identifiers (map significant_of (state_of X.answer parser.old).left)) }
 {
     let name = parser.expect(TokenKind::Identifier)?;
     parser.expect(TokenKind::ColonEquals)?;
@@ -275,6 +278,7 @@ fn is_private(name: &[u8]) -> bool
 
 /// A comment, without the white space at its end.
 fn make_comment<'src>(comment: Token<'src>) -> Item<'src>
+    requires { IsTrue (starts_with nat_eq (lexeme_of comment) (codes "#")) }
     ensures tree { item_tree result ≡ tree.Comment (trim_end (lexeme_of comment.entry)) }
     ensures whole { IsWholeItem result }
 {

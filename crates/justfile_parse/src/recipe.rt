@@ -2,10 +2,13 @@ ghost use Rattle.std.specs.Prelude.{◌≡◌, ◌<◌, ◌||◌, IfOk, OnErr, O
 ghost use Rattle.justfile_attribute_set.specs.AttributeSet.{attributes_of};
 ghost use Rattle.justfile_attribute_set.specs.Attributes.{has_kind};
 ghost use Rattle.justfile_base.specs.declared.attribute_kind.AttributeKind.TheVariants as kinds;
+ghost use Rattle.justfile_model.specs.SignificantTokens.{identifiers};
 ghost use Rattle.justfile_parse.specs.ItemTable as reader;
+ghost use Rattle.justfile_parse.specs.MethodResults.{IsMoved};
 ghost use Rattle.justfile_parse.specs.Tree.{line_tree, recipe_tree};
 ghost use Rattle.justfile_parse.specs.Whole.{AreKeyedPairs, IsWholeRecipe};
 ghost use Rattle.justfile_parse_attribute.specs.Attributes.{entry_of_pair};
+ghost use Rattle.justfile_parse_expression.specs.Significant.{significant_of};
 ghost use Rattle.justfile_parse_expression.specs.TableReader.{State};
 ghost use Rattle.justfile_parse_expression.specs.View.{left, state_of};
 ghost use Rattle.justfile_parse_header.specs.Counting.{ReadsCounted, ReadsNumbered, counters_of};
@@ -33,6 +36,7 @@ pub(crate) fn parse_any_recipe<'src, X: Expander>(
         (reader.any_recipe (map entry_of_pair attributes.entry.items) (counters_of numerator.old) (state_of X.answer parser.old)) }
     ensures whole { IfOk result IsWholeRecipe }
     ensures progress { OnOk result (left parser.new < left parser.old) }
+    ensures moved { IsMoved numerator.old numerator.new (identifiers (map significant_of (state_of X.answer parser.old).left)) }
 {
     match parser.accept(TokenKind::At) {
         Some(_at) => parse_recipe(parser, attributes, true, numerator),
@@ -54,6 +58,7 @@ fn parse_recipe<'src, X: Expander>(
         (reader.recipe quiet (map entry_of_pair attributes.entry.items) (counters_of numerator.old) (state_of X.answer parser.old)) }
     ensures whole { IfOk result IsWholeRecipe }
     ensures progress { OnOk result (left parser.new < left parser.old) }
+    ensures moved { IsMoved numerator.old numerator.new (identifiers (map significant_of (state_of X.answer parser.old).left)) }
 {
     let attributes = AttributeSet::from_read(attributes)?;
     let header = parse_header(&attributes, parser, numerator)?;

@@ -26,7 +26,8 @@ use Rattle.justfile_tree.specs.declared.expression.Expression.{Expression}
 noted : State → List (Noted Token) → State
 noted s l = record { run = s.run; depth = s.depth; left = s.left; noted = l }
 
-with_more : (fs gs : List (Noted Token)) (s : State) → with gs (with fs s) ≡ with (fs ++ gs) s
+-- features after others are noted one list after the other
+pub with_more : (fs gs : List (Noted Token)) (s : State) → with gs (with fs s) ≡ with (fs ++ gs) s
 unfolding noted
 with_more fs gs s = ap (noted s) (append_assoc s.noted fs gs)
 

@@ -1,22 +1,22 @@
 -- What attributes say of parameters, from the first attribute to the last.
-use Rattle.std.proofs.Common.{◌≡◌, ◌∙◌, ℕ, All, Bool, true, false, cond, List, [], ◌∷◌, ◌++◌, map, Option, Some, None, refl, sym, ap, append_assoc, subst, true≢false}
-use Rattle.std.proofs.lemmas.List.{append-nil}
+use Rattle.std.proofs.Common.{◌≡◌, ◌∙◌, ℕ, All, Bool, true, false, cond, List, [], ◌∷◌, map, Option, Some, None, refl, sym, ap, subst, true≢false}
 use Rattle.std.proofs.lemmas.List.Elements.{All-tail}
 use Rattle.std.specs.List.{cons_option, filter_map, flat_map}
 use Rattle.justfile_attribute.specs.Attribute.{leaf_attribute_of}
 use Rattle.justfile_attribute.specs.declared.attribute.Attribute.{Attribute}
 use Rattle.justfile_attribute_set.specs.Keys.{firsts}
 use Rattle.justfile_attribute_set.specs.Pairs.{Pair, leaf_entry_of}
-use Rattle.justfile_base.specs.declared.token.Token.{Token}
 use Rattle.justfile_model.specs.AttributeRules.{arg_rules, rules_in}
-use Rattle.justfile_model.specs.Features.{Noted, rules_features}
+use Rattle.justfile_model.specs.Features.{rules_features}
 use Rattle.justfile_model.specs.Reading.{with}
 use Rattle.justfile_parse_attribute.specs.KeyedBounds.{AreKeyed, IsKeyed}
+use Rattle.justfile_parse_expression.proofs.Rest.{with_none}
 use Rattle.justfile_parse_expression.specs.TableReader.{State}
 use Rattle.justfile_parse_header.specs.Arguments.{is_of, is_rule_of, speaks_of}
 use Rattle.justfile_parse_header.specs.HeaderTable.{Rules}
 use Rattle.justfile_parse_header.specs.OptionRules.{features_in}
 use Rattle.justfile_parse_header.specs.Options.{of_rules}
+use Rattle.justfile_parse_header.proofs.Notes.{with_more}
 
 -- what these attributes say
 abbrev pub rules_left : List Attribute → List Rules
@@ -38,20 +38,15 @@ noting attributes s = with (flat_map rules_features (rules_left attributes)) s
 pub noting_begins : (ps : List Pair) (left : List Attribute) (s : State) → left ≡ firsts ps → noting left s ≡ with (flat_map rules_features (arg_rules (map leaf_entry_of ps))) s
 noting_begins ps left s e = ap (λ (l : List Rules). with (flat_map rules_features l) s) (spoken_left ps left e)
 
-noted : State → List (Noted Token) → State
-noted s l = record { run = s.run; depth = s.depth; left = s.left; noted = l }
-
 pub noting_goes_on : (a : Attribute) (rest : List Attribute) (s : State) → noting (a ∷ rest) s ≡ noting rest (with (features_in (leaf_attribute_of a)) s)
-unfolding noted
 noting_goes_on a rest s = go (rules_in (leaf_attribute_of a))
   where
     go : (o : Option Rules) → with (flat_map rules_features (cons_option o (rules_left rest))) s ≡ with (flat_map rules_features (rules_left rest)) (with (of_rules [] rules_features o) s)
-    go None = ap (λ (l : List (Noted Token)). noted s (l ++ flat_map rules_features (rules_left rest))) (sym (append-nil s.noted))
-    go (Some r) = ap (noted s) (sym (append_assoc s.noted (rules_features r) (flat_map rules_features (rules_left rest))))
+    go None = ap (λ (t : State). with (flat_map rules_features (rules_left rest)) t) (sym (with_none s))
+    go (Some r) = sym (with_more (rules_features r) (flat_map rules_features (rules_left rest)) s)
 
 pub noting_ends : (s : State) → noting [] s ≡ s
-unfolding noted
-noting_ends s = ap (noted s) (append-nil s.noted)
+noting_ends s = with_none s
 
 -- ---- the attribute that speaks of a parameter
 

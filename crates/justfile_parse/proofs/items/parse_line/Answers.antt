@@ -13,7 +13,6 @@ use Rattle.justfile_tree.specs.LeafTree.{Leaf}
 use Rattle.justfile_parse_expression.specs.View.{state_of}
 use Rattle.justfile_parse_expression.specs.declared.parser.ExpressionParser.{ExpressionParser}
 use Rattle.justfile_parse.proofs.Lines.{end_stops, has_body_is, line_goes_on, line_halts}
-use Rattle.justfile_parse.proofs.Loop.{moved_by}
 use Rattle.justfile_parse.proofs.Wholes.{both_whole, pushed_whole}
 use Rattle.justfile_parse.proofs.items.parse_line.Goals as goal
 use Rattle.justfile_parse_header.specs.Counting.{counters_of}
