@@ -1,17 +1,16 @@
 -- The rules of headers leave no more identifiers than before.
-use Rattle.std.proofs.Common.{◌≡◌, ◌≤◌, false, List, [], ◌∷◌, ◌++◌, length, map, Option, Some, None, Ok, Err, arith}
+use Rattle.std.proofs.Common.{◌≡◌, ◌≤◌, false, List, [], ◌∷◌, ◌++◌, length, Option, Some, None, Ok, arith}
 use Rattle.justfile_base.specs.declared.token.Token.{Token}
 use Rattle.justfile_base.specs.declared.token_kind.TokenKind.TheVariants as kinds
 use Rattle.justfile_model.specs.HeaderReader as headers
 use Rattle.justfile_model.specs.HeaderReader.{obeying}
-use Rattle.justfile_model.specs.Reading.{◌>>=◌, prepend}
-use Rattle.justfile_model.specs.RecipeRules.{stars}
+use Rattle.justfile_model.specs.Reading.{prepend}
 use Rattle.justfile_model.specs.Rules.{Broken}
 use Rattle.justfile_model.specs.Tree.{Expr}
 use Rattle.justfile_model.specs.declared.level.Level.TheVariants as levels
 use Rattle.justfile_model.proofs.ReadingSteps.{after_test}
 use Rattle.justfile_model.proofs.Turns.{recursive_keeps}
-use Rattle.justfile_parse_expression.specs.TableReader.{At, Read, State, accept, expect, leaves, next_are, read, value}
+use Rattle.justfile_parse_expression.specs.TableReader.{At, Read, State, expect, leaves, next_are, read, value}
 use Rattle.justfile_parse_expression.specs.declared.significant.TableEntry.{TableEntry}
 use Rattle.justfile_parse_header.specs.Counting.{names}
 use Rattle.justfile_parse_header.specs.HeaderTable as reader

@@ -172,5 +172,5 @@ module _ (rules : List Rules) (kind : ParameterKind) (export : Bool) (before : L
         parameter_read number next h new p e token tree =
             let q : Token → LeafParameter = λ t. record { kind = kind; export = export; name = Named t (Some (number_of number)); default = value_tree default } in
             let all : map parameter_tree new ≡ map parameter_tree before ++ q name.token.now ∷ [] =
-                ap (map parameter_tree) e ∙ map-append parameter_tree before (p ∷ []) ∙ ap (λ (r : LeafParameter). map parameter_tree before ++ r ∷ []) (tree ∙ ap q token) in
+            ap (map parameter_tree) e ∙ map-append parameter_tree before (p ∷ []) ∙ ap (λ (r : LeafParameter). map parameter_tree before ++ r ∷ []) (tree ∙ ap q token) in
             rw (named, valued, obeyed_is, h, all) refl

@@ -1,4 +1,4 @@
-use Rattle.std.proofs.Common.{◌≡◌, ◌+◌, ◌≤◌, ◌∙◌, List, [], map, take, Ok, Err, ap, sym, subst, arith}
+use Rattle.std.proofs.Common.{◌≡◌, List, [], map, Ok, Err, subst, arith}
 use Rattle.std.proofs.lemmas.Result.{err_from_is_err_and}
 use Rattle.justfile_base.specs.declared.token_kind.TokenKind.TheVariants as kinds
 use Rattle.justfile_header.specs.declared.parameter.Parameter.{Parameter}
@@ -15,7 +15,7 @@ use Rattle.justfile_parse_header.proofs.Draws.{header_drawn, none_drawn, within}
 use Rattle.justfile_parse_header.proofs.Fewer.{name_fewer, noted_names}
 use Rattle.justfile_parse_header.proofs.Halts.{halted, stopped}
 use Rattle.justfile_parse_header.proofs.HeaderFewer.{others_fewer, priors_fewer}
-use Rattle.justfile_parse_header.proofs.Headers.{header_read, name_fails, options_fail, others_fail, parameters_fail, priors_fail, read_after, ruled, undefined_fail}
+use Rattle.justfile_parse_header.proofs.Headers.{header_read, name_fails, options_fail, others_fail, parameters_fail, priors_fail, ruled, undefined_fail}
 use Rattle.justfile_parse_header.proofs.header.parse_header.Goals as goal
 
 pub returns-in_err-name-clause-reads : goal.returns-in_err-name-clause-reads

@@ -1,4 +1,4 @@
-use Rattle.std.proofs.Common.{◌≡◌, ◌+◌, ◌≤◌, ◌∙◌, List, map, Option, None, Ok, Err, refl, ap, sym, arith}
+use Rattle.std.proofs.Common.{◌≡◌, ◌∙◌, List, map, None, refl, ap, arith}
 use Rattle.std.proofs.lemmas.Result.{err_from_is_err_and}
 use Rattle.justfile_base.specs.declared.token_kind.TokenKind.TheVariants as kinds
 use Rattle.justfile_header.specs.declared.parameter.Parameter.{Parameter}
@@ -34,16 +34,6 @@ returns-in_err-name-clause-reads g c =
     (stopped (expect kinds.Identifier s) found (name_fails rules c.args.kind c.args.export before first s) c.in_err-name.field-0.0 (state_of A c.expect.new.self) ⊥ _ (λ k. absurd k)
     c.in_err-name.ensures.reads)
 
-pub returns-in_err-name-clause-whole : goal.returns-in_err-name-clause-whole
-returns-in_err-name-clause-whole g c =
-    let p = err_from_is_err_and c.from_residual.result c.from_residual.ensures.1 in
-    rw p.1 tt
-
-pub returns-in_err-name-clause-progress : goal.returns-in_err-name-clause-progress
-returns-in_err-name-clause-progress g c =
-    let p = err_from_is_err_and c.from_residual.result c.from_residual.ensures.1 in
-    rw p.1 tt
-
 pub returns-in_err-name-clause-drawn : goal.returns-in_err-name-clause-drawn
 returns-in_err-name-clause-drawn g c =
     let A = g.X.Expander.answer in
@@ -65,16 +55,6 @@ returns-in_err-default-clause-reads g c =
     rw (p.1, p.2)
     (stopped (reader.default_value s1) found (default_fails rules c.args.kind c.args.export before first s name s1 named) c.in_err-default.field-0.0 (state_of A c.parse_default.new.parser) ⊥ _
     (λ k. absurd k) c.in_err-default.ensures.reads)
-
-pub returns-in_err-default-clause-whole : goal.returns-in_err-default-clause-whole
-returns-in_err-default-clause-whole g c =
-    let p = err_from_is_err_and c.from_residual-in_err-default.result c.from_residual-in_err-default.ensures.1 in
-    rw p.1 tt
-
-pub returns-in_err-default-clause-progress : goal.returns-in_err-default-clause-progress
-returns-in_err-default-clause-progress g c =
-    let p = err_from_is_err_and c.from_residual-in_err-default.result c.from_residual-in_err-default.ensures.1 in
-    rw p.1 tt
 
 pub returns-in_err-default-clause-drawn : goal.returns-in_err-default-clause-drawn
 returns-in_err-default-clause-drawn g c =
@@ -98,22 +78,12 @@ returns-in_err-check_said-clause-reads g c =
     let has = c.is_some.result in
     let said = said_by c.find_rules-rules.result in
     let is : said ≡ rules_for sees_leaves rules (map parameter_tree before) (Named name.token.now None) =
-        c.find_rules-rules.ensures.rules ∙ ap (λ (ps : List Parameter). rules_for sees_leaves rules (map parameter_tree ps) (Named name.token.now None)) c.as_slice.ensures.value in
+    c.find_rules-rules.ensures.rules ∙ ap (λ (ps : List Parameter). rules_for sees_leaves rules (map parameter_tree ps) (Named name.token.now None)) c.as_slice.ensures.value in
     let broken = said_broken name.token.now has c.args.kind said in
     let p = err_from_is_err_and c.from_residual-in_err-check_said.result c.from_residual-in_err-check_said.ensures.1 in
     rw (p.1, p.2)
     (halted (obeying broken s2) found (said_fails rules c.args.kind c.args.export before first s name s1 named c.in_ok-default.default s2 valued has c.is_some.ensures said is)
     c.in_err-check_said.field-0.0 s2 ⊥ _ (λ k. absurd k) (c.in_err-check_said.ensures s2))
-
-pub returns-in_err-check_said-clause-whole : goal.returns-in_err-check_said-clause-whole
-returns-in_err-check_said-clause-whole g c =
-    let p = err_from_is_err_and c.from_residual-in_err-check_said.result c.from_residual-in_err-check_said.ensures.1 in
-    rw p.1 tt
-
-pub returns-in_err-check_said-clause-progress : goal.returns-in_err-check_said-clause-progress
-returns-in_err-check_said-clause-progress g c =
-    let p = err_from_is_err_and c.from_residual-in_err-check_said.result c.from_residual-in_err-check_said.ensures.1 in
-    rw p.1 tt
 
 pub returns-in_err-check_said-clause-drawn : goal.returns-in_err-check_said-clause-drawn
 returns-in_err-check_said-clause-drawn g c =
@@ -125,16 +95,6 @@ pub returns-in_err-said-clause-reads : goal.returns-in_err-said-clause-reads
 returns-in_err-said-clause-reads g c =
     let p = err_from_is_err_and c.from_residual-in_err-said.result c.from_residual-in_err-said.ensures.1 in
     rw (p.1, p.2) tt
-
-pub returns-in_err-said-clause-whole : goal.returns-in_err-said-clause-whole
-returns-in_err-said-clause-whole g c =
-    let p = err_from_is_err_and c.from_residual-in_err-said.result c.from_residual-in_err-said.ensures.1 in
-    rw p.1 tt
-
-pub returns-in_err-said-clause-progress : goal.returns-in_err-said-clause-progress
-returns-in_err-said-clause-progress g c =
-    let p = err_from_is_err_and c.from_residual-in_err-said.result c.from_residual-in_err-said.ensures.1 in
-    rw p.1 tt
 
 pub returns-in_err-said-clause-drawn : goal.returns-in_err-said-clause-drawn
 returns-in_err-said-clause-drawn g c =
@@ -158,23 +118,13 @@ returns-in_err-number-clause-reads g c =
     let has = c.is_some.result in
     let said = said_by c.find_rules-rules.result in
     let is : said ≡ rules_for sees_leaves rules (map parameter_tree before) (Named name.token.now None) =
-        c.find_rules-rules.ensures.rules ∙ ap (λ (ps : List Parameter). rules_for sees_leaves rules (map parameter_tree ps) (Named name.token.now None)) c.as_slice.ensures.value in
+    c.find_rules-rules.ensures.rules ∙ ap (λ (ps : List Parameter). rules_for sees_leaves rules (map parameter_tree ps) (Named name.token.now None)) c.as_slice.ensures.value in
     let broken = said_broken name.token.now has c.args.kind said in
     let p = err_from_is_err_and c.from_residual-in_err-number.result c.from_residual-in_err-number.ensures.1 in
     let fails = number_fails rules c.args.kind c.args.export before first s name s1 named c.in_ok-default.default s2 valued has c.is_some.ensures said is (c.in_ok-check_said.ensures s2) in
     rw (p.1, p.2)
     (stopped (reader.draw_binding (counters_of first) s2) found fails c.in_err-number.field-0.0 s2 _ _ (fails (NoNumber (counters_of c.draw_binding.new.numerator)))
     (c.in_err-number.ensures.reads s2))
-
-pub returns-in_err-number-clause-whole : goal.returns-in_err-number-clause-whole
-returns-in_err-number-clause-whole g c =
-    let p = err_from_is_err_and c.from_residual-in_err-number.result c.from_residual-in_err-number.ensures.1 in
-    rw p.1 tt
-
-pub returns-in_err-number-clause-progress : goal.returns-in_err-number-clause-progress
-returns-in_err-number-clause-progress g c =
-    let p = err_from_is_err_and c.from_residual-in_err-number.result c.from_residual-in_err-number.ensures.1 in
-    rw p.1 tt
 
 pub returns-in_err-number-clause-drawn : goal.returns-in_err-number-clause-drawn
 returns-in_err-number-clause-drawn g c =
@@ -186,16 +136,6 @@ pub returns-in_err-push-clause-reads : goal.returns-in_err-push-clause-reads
 returns-in_err-push-clause-reads g c =
     let p = err_from_is_err_and c.from_residual-in_err-push.result c.from_residual-in_err-push.ensures.1 in
     rw (p.1, p.2) tt
-
-pub returns-in_err-push-clause-whole : goal.returns-in_err-push-clause-whole
-returns-in_err-push-clause-whole g c =
-    let p = err_from_is_err_and c.from_residual-in_err-push.result c.from_residual-in_err-push.ensures.1 in
-    rw p.1 tt
-
-pub returns-in_err-push-clause-progress : goal.returns-in_err-push-clause-progress
-returns-in_err-push-clause-progress g c =
-    let p = err_from_is_err_and c.from_residual-in_err-push.result c.from_residual-in_err-push.ensures.1 in
-    rw p.1 tt
 
 pub returns-in_err-push-clause-drawn : goal.returns-in_err-push-clause-drawn
 returns-in_err-push-clause-drawn g c =
@@ -213,7 +153,7 @@ returns-in_err-push-clause-drawn g c =
     let has = c.is_some.result in
     let said = said_by c.find_rules-rules.result in
     let is : said ≡ rules_for sees_leaves rules (map parameter_tree before) (Named name.token.now None) =
-        c.find_rules-rules.ensures.rules ∙ ap (λ (ps : List Parameter). rules_for sees_leaves rules (map parameter_tree ps) (Named name.token.now None)) c.as_slice.ensures.value in
+    c.find_rules-rules.ensures.rules ∙ ap (λ (ps : List Parameter). rules_for sees_leaves rules (map parameter_tree ps) (Named name.token.now None)) c.as_slice.ensures.value in
     let broken = said_broken name.token.now has c.args.kind said in
     let fewer = fewer_at s1 (reader.default_value s1) (value_tree c.in_ok-default.default, s2) (default_fewer s1) c.in_ok-default.ensures.reads in
     let one = name_fewer s (name, s1) c.in_ok-name.ensures.reads in
@@ -245,7 +185,7 @@ returns-clause-reads g c =
     let has = c.is_some.result in
     let said = said_by c.find_rules-rules.result in
     let is : said ≡ rules_for sees_leaves rules (map parameter_tree before) (Named name.token.now None) =
-        c.find_rules-rules.ensures.rules ∙ ap (λ (ps : List Parameter). rules_for sees_leaves rules (map parameter_tree ps) (Named name.token.now None)) c.as_slice.ensures.value in
+    c.find_rules-rules.ensures.rules ∙ ap (λ (ps : List Parameter). rules_for sees_leaves rules (map parameter_tree ps) (Named name.token.now None)) c.as_slice.ensures.value in
     let broken = said_broken name.token.now has c.args.kind said in
     parameter_read rules c.args.kind c.args.export before first s name s1 named c.in_ok-default.default s2 valued has c.is_some.ensures said is (c.in_ok-check_said.ensures s2) _
     c.draw_binding.new.numerator (c.in_ok-number.ensures.reads s2) c.push.new.self.items _ c.in_ok-push.ensures.items c.from_identifier.ensures refl
@@ -266,7 +206,7 @@ returns-clause-drawn g c =
     let has = c.is_some.result in
     let said = said_by c.find_rules-rules.result in
     let is : said ≡ rules_for sees_leaves rules (map parameter_tree before) (Named name.token.now None) =
-        c.find_rules-rules.ensures.rules ∙ ap (λ (ps : List Parameter). rules_for sees_leaves rules (map parameter_tree ps) (Named name.token.now None)) c.as_slice.ensures.value in
+    c.find_rules-rules.ensures.rules ∙ ap (λ (ps : List Parameter). rules_for sees_leaves rules (map parameter_tree ps) (Named name.token.now None)) c.as_slice.ensures.value in
     let broken = said_broken name.token.now has c.args.kind said in
     let fewer = fewer_at s1 (reader.default_value s1) (value_tree c.in_ok-default.default, s2) (default_fewer s1) c.in_ok-default.ensures.reads in
     let one = name_fewer s (name, s1) c.in_ok-name.ensures.reads in
@@ -288,7 +228,7 @@ returns-clause-whole g c =
     let has = c.is_some.result in
     let said = said_by c.find_rules-rules.result in
     let is : said ≡ rules_for sees_leaves rules (map parameter_tree before) (Named name.token.now None) =
-        c.find_rules-rules.ensures.rules ∙ ap (λ (ps : List Parameter). rules_for sees_leaves rules (map parameter_tree ps) (Named name.token.now None)) c.as_slice.ensures.value in
+    c.find_rules-rules.ensures.rules ∙ ap (λ (ps : List Parameter). rules_for sees_leaves rules (map parameter_tree ps) (Named name.token.now None)) c.as_slice.ensures.value in
     let broken = said_broken name.token.now has c.args.kind said in
     let h = c.in_ok-said.ensures in
     pushed_whole rules before c.push.new.self.items _ c.in_ok-push.ensures.items

@@ -1,4 +1,4 @@
-use Rattle.std.proofs.Common.{◌≡◌, ◌∙◌, false, ap, map, sym}
+use Rattle.std.proofs.Common.{◌∙◌, false, ap, map, sym}
 use Rattle.justfile_base.specs.declared.token_kind.TokenKind.TheVariants as kinds
 use Rattle.justfile_parse_expression.specs.View.{state_of}
 use Rattle.justfile_parse_expression.specs.declared.parser.ExpressionParser.{ExpressionParser}
@@ -28,6 +28,6 @@ returns-in-None-clause-reads g c =
     let rules = rules_of c.args.attributes.now in
     let x : reader.Parameters = (map parameter_tree c.args.parameters.now.items, counters_of c.args.numerator.now) in
     let here =
-        unexported rules c.args.kind x (state_of A c.args.parser.now) c.in-None.ensures.takes
-        ∙ ap (λ (p : ExpressionParser _). reader.named_parameter rules c.args.kind false x (state_of A p)) (sym c.in-None.ensures.moves) in
+    unexported rules c.args.kind x (state_of A c.args.parser.now) c.in-None.ensures.takes
+    ∙ ap (λ (p : ExpressionParser _). reader.named_parameter rules c.args.kind false x (state_of A p)) (sym c.in-None.ensures.moves) in
     rw here c.parse_named-in-None.ensures.reads
