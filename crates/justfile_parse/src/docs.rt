@@ -137,10 +137,10 @@ fn find_doc_after<'src>(before: &[Item<'src>], comment: &'src str) -> Option<&'s
     ensures { option_map (λ doc. doc.now) result
         ≡ doc_first (tree.Newline ∷ tree.Comment comment.now ∷ reverse (map item_tree before.now)) }
 {
-    let Some(last) = before.last() else {
+    let Some(previous) = before.last() else {
         return find_first_doc(comment);
     };
-    if is_newline(last) {
+    if is_newline(previous) {
         find_text(comment)
     } else {
         None
