@@ -1,6 +1,7 @@
 -- What is refused of attributes where the construct after them is read.
-use Rattle.std.proofs.Common.{◌≡◌, ◌∙◌, ℕ, Bool, true, false, ◌||◌, List, [], ◌∷◌, map, map-id, length, Option, Some, None, Ok, Err, refl, sym, ap, subst}
+use Rattle.std.proofs.Common.{◌≡◌, ◌∙◌, ℕ, All, Bool, true, false, ◌||◌, List, [], ◌∷◌, map, map-id, length, Option, Some, None, Ok, Err, refl, sym, ap, subst}
 use Rattle.std.proofs.lemmas.List.{length-map}
+use Rattle.std.proofs.lemmas.Map.Views.{All-map-IsPermutation}
 use Rattle.justfile_attribute.proofs.Ordered.{kind_seen}
 use Rattle.justfile_attribute.specs.declared.attribute.Attribute.{Attribute}
 use Rattle.justfile_attribute_rules.specs.Made.{IsRefusedBy}
@@ -8,7 +9,7 @@ use Rattle.justfile_attribute_rules.specs.RuleErrors.{SaysRule}
 use Rattle.justfile_attribute_set.specs.AttributeSet.{IsInvalidBy, SaysInvalid}
 use Rattle.justfile_attribute_set.specs.Attributes.{has_kind, kind_of}
 use Rattle.justfile_attribute_set.specs.Keys.{firsts}
-use Rattle.justfile_attribute_set.specs.Pairs.{Pair, leaf_entry_of}
+use Rattle.justfile_attribute_set.specs.Pairs.{Pair, leaf_entry_of, pair_cmp}
 use Rattle.justfile_base.specs.declared.attribute_kind.AttributeKind.{AttributeKind}
 use Rattle.justfile_base.specs.declared.compile_error.CompileError.{CompileError}
 use Rattle.justfile_base.specs.declared.compile_error_kind.CompileErrorKind.TheVariants as errors
@@ -23,6 +24,8 @@ use Rattle.justfile_model.specs.AttributeKinds.{same_attribute}
 use Rattle.justfile_model.specs.AttributeRules.{first_invalid, of_some}
 use Rattle.justfile_model.specs.ContentKeys.{has_attribute, kind_of_attribute}
 use Rattle.justfile_model.specs.HeaderReader.{obeying}
+use Rattle.justfile_model.proofs.OrderLaws.{in_order_permutation}
+use Rattle.justfile_model.specs.Order.{in_order}
 use Rattle.justfile_model.specs.Reader as files
 use Rattle.justfile_model.specs.Reading as reading
 use Rattle.justfile_model.specs.Rules.{Broken, InvalidAttribute}
@@ -34,6 +37,7 @@ use Rattle.justfile_parse.specs.ItemTable.{in_content_order}
 use Rattle.justfile_parse_attribute.specs.AttributeTable.{Entries}
 use Rattle.justfile_parse_attribute.specs.Attributes.{entry_of_pair}
 use Rattle.justfile_parse_attribute.specs.Halting.{HaltsAt, HaltsFor}
+use Rattle.justfile_parse_attribute.specs.KeyedBounds.{AreKeyed, AreKeyedPairs, IsKeyed}
 use Rattle.justfile_parse_attribute.specs.declared.halt.Halt.TheVariants as halts
 use Rattle.justfile_parse_attribute.specs.declared.halt.Halt.{Halt}
 use Rattle.justfile_parse_expression.specs.TableReader as tokens
@@ -119,6 +123,13 @@ has_seen kind [] = refl
 has_seen kind (p ∷ ps) =
     ap (λ (b : Bool). same_attribute (kind_of p.0) kind || b) (has_seen kind ps)
     ∙ ap (λ (k : AttributeKind). same_attribute k kind || has_attribute kind (map leaf_entry_of ps)) (kind_seen p.0)
+
+-- each bound of a set stands with its key, as it does in the pairs that were read
+pub set_keyed : (pairs ordered : List Pair) → ordered ≡ in_order pair_cmp pairs → AreKeyedPairs pairs → AreKeyed (firsts ordered)
+unfolding AreKeyed
+set_keyed pairs ordered e h =
+    subst (λ (ps : List Pair). All IsKeyed (firsts ps)) (sym e)
+    (All-map-IsPermutation (λ (p : Pair). p.0) IsKeyed pairs (in_order pair_cmp pairs) (in_order_permutation pair_cmp pairs) h)
 
 module _ (recipe : Token) where
   -- reading halts for the first rule that is broken

@@ -12,6 +12,7 @@ pub mod Moves
 pub mod NotInternal
 pub mod Parsed
 pub mod Readings
+pub mod Recipes
 pub mod Seen
 pub mod SeenAttributes
 pub mod SeenDocs

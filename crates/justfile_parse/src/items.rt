@@ -90,7 +90,7 @@ fn parse_line<'src, X: Expander>(
 }
 
 /// What begins a line that is not blank, where no expression is open.
-#[tactic(auto, unfolding(justfile_model::specs::Reader::on_line, justfile_parse_expression::specs::TableReader::leaves))]
+#[tactic(auto, using(crate::proofs::Moved::unmoved), unfolding(justfile_model::specs::Reader::on_line, justfile_parse_expression::specs::TableReader::leaves))]
 fn parse_item<'src, X: Expander>(
     parser: &mut ExpressionParser<'_, 'src, X>,
     numerator: &mut Numerator,
@@ -109,7 +109,7 @@ fn parse_item<'src, X: Expander>(
 }
 
 /// A construct with its attributes, where no expression is open.
-#[tactic(auto, unfolding(justfile_model::specs::Reader::construct))]
+#[tactic(auto, using(crate::proofs::Moved::unmoved), unfolding(justfile_model::specs::Reader::construct))]
 fn parse_construct<'src, X: Expander>(
     parser: &mut ExpressionParser<'_, 'src, X>,
     numerator: &mut Numerator,
@@ -175,7 +175,7 @@ fn parse_content<'src, X: Expander>(
 }
 
 /// NAME `:=` expression, after its attributes.
-#[tactic(auto, using(justfile_parse_expression::proofs::Rest::file_depth_is), unfolding(justfile_model::specs::Reader::assignment, justfile_parse_expression::specs::TableReader::leaves))]
+#[tactic(auto, using(crate::proofs::Moved::unmoved, justfile_parse_expression::proofs::Rest::file_depth_is), unfolding(justfile_model::specs::Reader::assignment, justfile_parse_expression::specs::TableReader::leaves))]
 fn parse_assignment<'src, X: Expander>(
     parser: &mut ExpressionParser<'_, 'src, X>,
     attributes: Vec<(Attribute<'src>, Name<'src>)>,

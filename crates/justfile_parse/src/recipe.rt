@@ -46,7 +46,7 @@ pub(crate) fn parse_any_recipe<'src, X: Expander>(
 
 /// A recipe from its name to its end: its header, and the body if it has one. The recipe is numbered
 /// after its body.
-#[tactic(auto, using(justfile_parse_expression::proofs::Rest::file_depth_is, justfile_parse_expression::proofs::Rest::import_offsets_are), unfolding(justfile_model::specs::Reader::recipe, justfile_parse_expression::specs::TableReader::leaves))]
+#[tactic(auto, using(crate::proofs::Moved::unmoved))]
 fn parse_recipe<'src, X: Expander>(
     parser: &mut ExpressionParser<'_, 'src, X>,
     attributes: Vec<(Attribute<'src>, Name<'src>)>,

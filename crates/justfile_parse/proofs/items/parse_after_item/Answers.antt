@@ -7,10 +7,14 @@ use Rattle.justfile_parse.specs.ItemTable.{line_end}
 use Rattle.justfile_parse.specs.Tree.{item_tree}
 use Rattle.justfile_tree.specs.LeafTree.{Leaf}
 use Rattle.justfile_parse_expression.specs.View.{state_of}
+use Rattle.justfile_parse.proofs.Hashes.{begins_hash}
 use Rattle.justfile_parse.proofs.Lines.{after_comment}
 use Rattle.justfile_parse.proofs.Readings.{reads_alike}
 use Rattle.justfile_parse.proofs.Wholes.{after_ok, pushed_whole}
 use Rattle.justfile_parse.proofs.items.parse_after_item.Goals as goal
+
+pub make_comment-requires : goal.make_comment-requires
+make_comment-requires g c = begins_hash c.in-Some.comment c.in-Some.ensures.entry
 
 pub returns-in_ok-push_item-in-Some-clause-reads : goal.returns-in_ok-push_item-in-Some-clause-reads
 unfolding leaves

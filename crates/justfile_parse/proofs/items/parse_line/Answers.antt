@@ -15,25 +15,38 @@ use Rattle.justfile_parse_expression.specs.declared.parser.ExpressionParser.{Exp
 use Rattle.justfile_parse.proofs.Lines.{end_stops, has_body_is, line_goes_on, line_halts}
 use Rattle.justfile_parse.proofs.Wholes.{both_whole, pushed_whole}
 use Rattle.justfile_parse.proofs.items.parse_line.Goals as goal
-use Rattle.justfile_parse_header.specs.Counting.{counters_of}
+use Rattle.justfile_parse.specs.MethodResults.{IsMoved}
+use Rattle.justfile_parse_header.specs.Counting.{counters_of, names}
+
+pub parse_item-requires : goal.parse_item-requires
+parse_item-requires g c =
+    let A = g.X.Expander.answer in
+    let P : ExpressionParser _ → Type 0 = λ p. (state_of A p).depth ≡ 0 in
+    subst P (sym c.in_default.ensures.moves) c.requires
+
+pub returns-in_err-item-clause-moved : goal.returns-in_err-item-clause-moved
+returns-in_err-item-clause-moved g c =
+    let A = g.X.Expander.answer in
+    let P : ExpressionParser _ → Type 0 = λ p. IsMoved c.args.numerator.now c.parse_item.new.numerator (names (state_of A p)) in
+    subst P c.in_default.ensures.moves c.parse_item.ensures.moved
 
 pub returns-in_err-push_item-2-clause-moved : goal.returns-in_err-push_item-2-clause-moved
 returns-in_err-push_item-2-clause-moved g c =
     let A = g.X.Expander.answer in
-    let P : ExpressionParser _ → Type 0 = λ p. on_line (counters_of c.args.numerator.now) (state_of A p) ≡ Ok ((item_tree c.in_ok-item.item, counters_of c.parse_item.new.numerator), state_of A c.parse_item.new.parser) in
-    moved_by c.args.numerator.now c.parse_item.new.numerator (state_of A c.args.parser.now) (item_tree c.in_ok-item.item) (state_of A c.parse_item.new.parser) c.requires (subst P c.in_default.ensures.moves c.in_ok-item.ensures.reads)
+    let P : ExpressionParser _ → Type 0 = λ p. IsMoved c.args.numerator.now c.parse_item.new.numerator (names (state_of A p)) in
+    subst P c.in_default.ensures.moves c.parse_item.ensures.moved
 
 pub returns-in_err-parse_item_end-clause-moved : goal.returns-in_err-parse_item_end-clause-moved
 returns-in_err-parse_item_end-clause-moved g c =
     let A = g.X.Expander.answer in
-    let P : ExpressionParser _ → Type 0 = λ p. on_line (counters_of c.args.numerator.now) (state_of A p) ≡ Ok ((item_tree c.in_ok-item.item, counters_of c.parse_item.new.numerator), state_of A c.parse_item.new.parser) in
-    moved_by c.args.numerator.now c.parse_item.new.numerator (state_of A c.args.parser.now) (item_tree c.in_ok-item.item) (state_of A c.parse_item.new.parser) c.requires (subst P c.in_default.ensures.moves c.in_ok-item.ensures.reads)
+    let P : ExpressionParser _ → Type 0 = λ p. IsMoved c.args.numerator.now c.parse_item.new.numerator (names (state_of A p)) in
+    subst P c.in_default.ensures.moves c.parse_item.ensures.moved
 
 pub returns-clause-moved : goal.returns-clause-moved
 returns-clause-moved g c =
     let A = g.X.Expander.answer in
-    let P : ExpressionParser _ → Type 0 = λ p. on_line (counters_of c.args.numerator.now) (state_of A p) ≡ Ok ((item_tree c.in_ok-item.item, counters_of c.parse_item.new.numerator), state_of A c.parse_item.new.parser) in
-    moved_by c.args.numerator.now c.parse_item.new.numerator (state_of A c.args.parser.now) (item_tree c.in_ok-item.item) (state_of A c.parse_item.new.parser) c.requires (subst P c.in_default.ensures.moves c.in_ok-item.ensures.reads)
+    let P : ExpressionParser _ → Type 0 = λ p. IsMoved c.args.numerator.now c.parse_item.new.numerator (names (state_of A p)) in
+    subst P c.in_default.ensures.moves c.parse_item.ensures.moved
 
 pub returns-in_err-parse_item_end-clause-reads : goal.returns-in_err-parse_item_end-clause-reads
 returns-in_err-parse_item_end-clause-reads g c =
