@@ -2,6 +2,7 @@ pub mod Anywhere
 pub mod Bodies
 pub mod Comments
 pub mod Constructs
+pub mod DocSteps
 pub mod Formats
 pub mod GivenAttributes
 pub mod Hashes
@@ -21,6 +22,7 @@ pub mod SeenItems
 pub mod SeenRules
 pub mod Shebangs
 pub mod Tables
+pub mod TakenDocs
 pub mod Trims
 pub mod Wanting
 pub mod Whole

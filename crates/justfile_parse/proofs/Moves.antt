@@ -110,7 +110,6 @@ attributes_fewer s ws rest open_none found =
 
 -- ---- what ends it
 
-
 abbrev Items : Type 0
 Items = List (OrderedItem Leaf Token ℕ)
 

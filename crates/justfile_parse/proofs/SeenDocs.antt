@@ -20,7 +20,7 @@ use Rattle.justfile_model.specs.Reading.{Counters}
 use Rattle.justfile_model.specs.Sight.{sees_tokens}
 use Rattle.justfile_model.specs.Tok.{Tok}
 use Rattle.justfile_model.specs.Tree as tree
-use Rattle.justfile_model.specs.Tree.{AssignmentParts, BodyLine, Entry, Header, Item as Items, OrderedItem, Tree, WrittenItem, WrittenTree, bare_recipe}
+use Rattle.justfile_model.specs.Tree.{AssignmentParts, BodyLine, Entry, Header, Item as AnyItem, OrderedItem, Tree, WrittenItem, WrittenTree, bare_recipe}
 use Rattle.justfile_model.proofs.Binds.{some_back}
 use Rattle.justfile_model.proofs.Counters.{count}
 use Rattle.justfile_model.proofs.Related as a
@@ -42,12 +42,12 @@ set_says : (set : AttributeSet) → says_doc (leaf_entries_of set) ≡ says_doc 
 set_says set = pairs_say (pairs_of set)
 
 -- an item with this doc, if it may have one
-abbrev redoc : {A B C S D : Type 0} → Option (List ℕ) → Items A B C S D → Items A B C S D
+abbrev redoc : {A B C S D : Type 0} → Option (List ℕ) → AnyItem A B C S D → AnyItem A B C S D
 redoc doc tree.Newline = tree.Newline
 redoc doc (tree.Comment text) = tree.Comment text
 redoc doc (tree.Construct attributes content) = tree.Construct attributes (redocumented doc content)
 
-abbrev doc_at : {A B C S D : Type 0} → Items A B C S D → Option (List ℕ)
+abbrev doc_at : {A B C S D : Type 0} → AnyItem A B C S D → Option (List ℕ)
 doc_at (tree.Construct attributes (tree.Recipe parts)) = parts.doc
 doc_at _ = None
 

@@ -18,7 +18,7 @@ use Rattle.justfile_model.specs.Reading.{Counters}
 use Rattle.justfile_model.specs.Sight.{sees_tokens}
 use Rattle.justfile_model.specs.Tok.{Tok, tok_of}
 use Rattle.justfile_model.specs.Tree as tree
-use Rattle.justfile_model.specs.Tree.{BodyLine, Content, Entry, Expr, Header, Item as Items, WrittenAttribute, WrittenItem, bare_recipe, plain_assignment, starless, starless_header}
+use Rattle.justfile_model.specs.Tree.{BodyLine, Content, Entry, Expr, Header, Item as AnyItem, WrittenAttribute, WrittenItem, bare_recipe, plain_assignment, starless, starless_header}
 use Rattle.justfile_model.specs.declared.list_feature.ListFeature.{ListFeature}
 use Rattle.justfile_model.proofs.Counters.{count}
 use Rattle.justfile_model.proofs.Related as a
@@ -39,7 +39,7 @@ use Rattle.justfile_parse.proofs.Seen.{AreMeant}
 use Rattle.justfile_parse.proofs.Shebangs.{shebang_given}
 
 -- an item without its doc
-abbrev pub undoc : {A B C S D : Type 0} → Items A B C S D → Items A B C S D
+abbrev pub undoc : {A B C S D : Type 0} → AnyItem A B C S D → AnyItem A B C S D
 undoc tree.Newline = tree.Newline
 undoc (tree.Comment text) = tree.Comment text
 undoc (tree.Construct attributes content) = tree.Construct attributes (redocumented None content)

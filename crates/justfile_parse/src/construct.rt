@@ -58,9 +58,17 @@ fn find_exclusion<'src>(
     ensures { IsExclusion recipe.entry (leaf_entries_of attributes.now) result }
 {
     let recipe = recipe.lexeme();
-    if has_both(attributes, AttributeKind::NoCd, AttributeKind::WorkingDirectory) {
+    if has_both(
+        attributes,
+        AttributeKind::NoCd,
+        AttributeKind::WorkingDirectory,
+    ) {
         Some(CompileErrorKind::NoCdAndWorkingDirectoryAttribute { recipe })
-    } else if has_both(attributes, AttributeKind::ExitMessage, AttributeKind::NoExitMessage) {
+    } else if has_both(
+        attributes,
+        AttributeKind::ExitMessage,
+        AttributeKind::NoExitMessage,
+    ) {
         Some(CompileErrorKind::ExitMessageAndNoExitMessageAttribute { recipe })
     } else if has_both(attributes, AttributeKind::Script, AttributeKind::Shell) {
         Some(CompileErrorKind::ScriptAndShellAttribute { recipe })

@@ -1,12 +1,14 @@
 //! The docs of recipes: the comments before them.
-ghost use Rattle.std.specs.Prelude.{◌≡◌, IfOk, OnOk, map};
+ghost use Rattle.std.specs.Prelude.{◌≡◌, ◌∷◌, ◌++◌, ◌≤◌, [], IfOk, IsTrue, OnOk, codes, map, nat_eq, reverse, true, vec_len};
+ghost use Rattle.std.specs.List.{starts_with};
 ghost use Rattle.std.specs.Option.{option_map};
-ghost use Rattle.justfile_model.specs.Docs.{doc_in, documented};
+ghost use Rattle.justfile_model.specs.Docs.{doc_in, documented, item_with_doc};
 ghost use Rattle.justfile_model.specs.Docs as before;
 ghost use Rattle.justfile_model.specs.Files.{says_doc};
-ghost use Rattle.justfile_parse.specs.Docs.{comment_of, doc_before, is_newline, says_no_doc, with_item};
+ghost use Rattle.justfile_model.specs.Tree as tree;
+ghost use Rattle.justfile_parse.specs.Docs.{comment_of, doc_before, doc_first, is_newline, says_no_doc, with_doc, with_item};
 ghost use Rattle.justfile_parse.specs.Tree.{item_tree, recipe_tree};
-ghost use Rattle.justfile_parse.specs.Whole.{AreWhole};
+ghost use Rattle.justfile_parse.specs.Whole.{AreWhole, IsWholeItem, IsWholeRecipe};
 
 use justfile_base::AttributeKind;
 use justfile_file::{Item, UnresolvedRecipe};
@@ -22,7 +24,8 @@ pub(crate) fn take_docs<'src>(
     items: Vec<Item<'src>>,
 ) -> Result<Vec<Item<'src>>, AllocError>
     requires { AreWhole items.items }
-    ensures { IfOk result (λ docs. map item_tree docs.items ≡ documented says_doc before.Nothing (map item_tree items.entry.items)) }
+    ensures trees { IfOk result (λ docs. map item_tree docs.items ≡ documented says_doc before.Nothing (map item_tree items.entry.items)) }
+    ensures whole { IfOk result (λ docs. AreWhole docs.items) }
 {
     let mut documented = Vec::new(alloc);
     for item in items {
@@ -37,14 +40,14 @@ fn push_documented<'src>(
     items: &mut Vec<Item<'src>>,
     item: Item<'src>,
 ) -> Result<(), AllocError>
-    ensures { OnOk result (map item_tree items.new.items ≡ with_item (map item_tree items.old.items) (item_tree item.entry)) }
+    requires items { AreWhole items.old.items }
+    requires item { IsWholeItem item }
+    ensures trees { OnOk result (map item_tree items.new.items ≡ with_item (map item_tree items.old.items) (item_tree item.entry)) }
+    ensures whole { OnOk result (AreWhole items.new.items) }
 {
     match item {
         Item::Recipe(recipe) => push_recipe(alloc, items, recipe),
-        item => {
-            items.push(item)?;
-            Ok(())
-        }
+        item => push_item(items, item),
     }
 }
 
@@ -52,18 +55,50 @@ fn push_documented<'src>(
 fn push_recipe<'src>(
     alloc: Global,
     items: &mut Vec<Item<'src>>,
-    mut recipe: UnresolvedRecipe<'src>,
+    recipe: UnresolvedRecipe<'src>,
 ) -> Result<(), AllocError>
-    ensures { OnOk result (map item_tree items.new.items ≡ with_item (map item_tree items.old.items) (recipe_tree recipe.entry)) }
+    requires items { AreWhole items.old.items }
+    requires recipe { IsWholeRecipe recipe }
+    ensures trees { OnOk result (map item_tree items.new.items ≡ with_item (map item_tree items.old.items) (recipe_tree recipe.entry)) }
+    ensures whole { OnOk result (AreWhole items.new.items) }
 {
-    if wants_doc(&recipe)
-        && let Some(doc) = find_doc(items.as_slice())
-    {
-        recipe.doc = Some(doc.to_string(alloc)?);
-        items.pop();
-        items.pop();
+    if !wants_doc(&recipe) {
+        return push_item(items, Item::Recipe(recipe));
     }
-    items.push(Item::Recipe(recipe))?;
+    match find_doc(items.as_slice()) {
+        Some(doc) => push_with_doc(alloc, items, recipe, doc),
+        None => push_item(items, Item::Recipe(recipe)),
+    }
+}
+
+/// Adds a recipe with this doc, in place of the comment and the line end before it.
+fn push_with_doc<'src>(
+    alloc: Global,
+    items: &mut Vec<Item<'src>>,
+    mut recipe: UnresolvedRecipe<'src>,
+    doc: &str,
+) -> Result<(), AllocError>
+    requires two { 2 ≤ vec_len items.old }
+    requires items { AreWhole items.old.items }
+    requires recipe { IsWholeRecipe recipe }
+    requires wanted { says_no_doc (recipe_tree recipe) ≡ true }
+    ensures trees { OnOk result (map item_tree items.new.items
+        ≡ with_doc (map item_tree items.old.items) (recipe_tree recipe.entry) (item_with_doc says_doc doc.now (recipe_tree recipe.entry))) }
+    ensures whole { OnOk result (AreWhole items.new.items) }
+{
+    recipe.doc = Some(doc.to_string(alloc)?);
+    items.truncate(items.len() - 2);
+    push_item(items, Item::Recipe(recipe))
+}
+
+/// Adds an item as it is.
+fn push_item<'src>(items: &mut Vec<Item<'src>>, item: Item<'src>) -> Result<(), AllocError>
+    requires items { AreWhole items.old.items }
+    requires item { IsWholeItem item }
+    ensures trees { OnOk result (map item_tree items.new.items ≡ map item_tree items.old.items ++ item_tree item.entry ∷ []) }
+    ensures whole { OnOk result (AreWhole items.new.items) }
+{
+    items.push(item)?;
     Ok(())
 }
 
@@ -76,16 +111,36 @@ fn wants_doc(recipe: &UnresolvedRecipe<'_>) -> bool
 
 /// The doc that ends these items: a comment and one line end, after a line end or nothing.
 fn find_doc<'src>(items: &[Item<'src>]) -> Option<&'src str>
+    requires { AreWhole items.now }
     ensures { option_map (λ doc. doc.now) result ≡ doc_before (map item_tree items.now) }
 {
-    if items.len() < 2 || !is_newline(&items[items.len() - 1]) {
-        return None;
+    let last = items.last()?;
+    if is_newline(last) {
+        find_ended_doc(&items[..items.len() - 1])
+    } else {
+        None
     }
-    let comment = find_comment(&items[items.len() - 2])?;
-    if items.len() == 2 {
+}
+
+/// The doc that ends these items, where a line end follows them.
+fn find_ended_doc<'src>(items: &[Item<'src>]) -> Option<&'src str>
+    requires { AreWhole items.now }
+    ensures { option_map (λ doc. doc.now) result ≡ doc_first (tree.Newline ∷ reverse (map item_tree items.now)) }
+{
+    let comment = find_comment(items.last()?)?;
+    find_doc_after(&items[..items.len() - 1], comment)
+}
+
+/// The doc that a comment is which stands after these items, and before a line end.
+fn find_doc_after<'src>(before: &[Item<'src>], comment: &'src str) -> Option<&'src str>
+    requires { IsTrue (starts_with nat_eq comment.now (codes "#")) }
+    ensures { option_map (λ doc. doc.now) result
+        ≡ doc_first (tree.Newline ∷ tree.Comment comment.now ∷ reverse (map item_tree before.now)) }
+{
+    let Some(previous) = before.last() else {
         return find_first_doc(comment);
-    }
-    if is_newline(&items[items.len() - 3]) {
+    };
+    if is_newline(previous) {
         find_text(comment)
     } else {
         None
@@ -111,6 +166,7 @@ fn find_comment<'src>(item: &Item<'src>) -> Option<&'src str>
 
 /// The doc that the first comment of a file is; one that begins `#!` is none.
 fn find_first_doc(comment: &str) -> Option<&str>
+    requires { IsTrue (starts_with nat_eq comment.now (codes "#")) }
     ensures { option_map (λ doc. doc.now) result ≡ doc_in before.Nothing comment.now }
 {
     if comment.starts_with("#!") {
@@ -121,6 +177,7 @@ fn find_first_doc(comment: &str) -> Option<&str>
 
 /// The text of a comment after its `#`, without the white space around it, if there is any.
 fn find_text(comment: &str) -> Option<&str>
+    requires { IsTrue (starts_with nat_eq comment.now (codes "#")) }
     ensures { option_map (λ doc. doc.now) result ≡ doc_in before.LineEnd comment.now }
 {
     let text = comment.strip_prefix("#")?.trim();

@@ -1,1 +1,16 @@
+pub mod CopiedTrees
+pub mod Dependencies
+pub mod Draws
+pub mod Fewer
+pub mod Halts
+pub mod HeaderFewer
+pub mod Headers
+pub mod Least
+pub mod Notes
+pub mod Parameters
 pub mod Paths
+pub mod SameOptions
+pub mod Spoken
+pub mod Stars
+pub mod Texts
+pub mod Undefined

@@ -1,5 +1,5 @@
 -- The names of a path, as a loop reads them.
-use Rattle.std.proofs.Common.{◌≡◌, ◌∙◌, List, [], ◌∷◌, ◌++◌, map, Some, None, Ok, Err, refl, sym, ap}
+use Rattle.std.proofs.Common.{◌≡◌, ◌∙◌, List, [], ◌∷◌, ◌++◌, map, Some, None, Ok, refl, sym, ap}
 use Rattle.std.proofs.lemmas.List.{map-append}
 use Rattle.justfile_base.specs.declared.name.Name.{Name}
 use Rattle.justfile_base.specs.declared.token.Token.{Token}
@@ -8,7 +8,7 @@ use Rattle.justfile_model.specs.HeaderReader as headers
 use Rattle.justfile_model.specs.Reading.{prepend}
 use Rattle.justfile_model.proofs.HeaderReading as laws
 use Rattle.justfile_parse_expression.specs.MethodResults.{StopsAt, literal_refusal, refusal_at}
-use Rattle.justfile_parse_expression.specs.TableReader.{Read, Refusal, State, accept, expect, leaves}
+use Rattle.justfile_parse_expression.specs.TableReader.{State, accept, expect, leaves}
 use Rattle.justfile_parse_expression.specs.declared.significant.TableEntry.{TableEntry}
 use Rattle.justfile_parse_expression.specs.declared.stop.Stop.{Stop}
 use Rattle.justfile_parse_expression.specs.declared.stop.Stop.TheVariants.{Refused, Literal, Memory, Numbers}

@@ -11,8 +11,10 @@ use Rattle.justfile_model.specs.AttributeRules.{least, lesser, rules_in}
 use Rattle.justfile_model.specs.Meaning.{text_of}
 use Rattle.justfile_model.specs.RecipeRules.{is_parameter}
 use Rattle.justfile_model.specs.Tree.{Attribute, Quoted}
-unfoldable pub use Rattle.justfile_parse_attribute.specs.KeyedBounds.{AreKeyed, IsKeyed}
+pub use Rattle.justfile_parse_attribute.specs.KeyedBounds.{IsKeyed}
+unfoldable pub use Rattle.justfile_parse_attribute.specs.KeyedBounds.{AreKeyed}
 use Rattle.justfile_parse_header.specs.HeaderTable.{LeafParameter, Rules}
+use Rattle.justfile_parse_header.specs.Options.{of_rules}
 use Rattle.justfile_tree.specs.LeafSight.{sees_leaves}
 use Rattle.justfile_tree.specs.LeafTree.{Leaf}
 
@@ -26,11 +28,7 @@ is_rule_of name rules = bytes_eq (text_of sees_leaves rules.name) name
 
 -- the attribute speaks of a parameter of this name
 abbrev pub is_of : (name : List ℕ) → Attribute Leaf Token → Bool
-is_of name a = of_rules (rules_in a)
-  where
-    of_rules : Option Rules → Bool
-    of_rules None = false
-    of_rules (Some rules) = is_rule_of name rules
+is_of name a = of_rules false (is_rule_of name) (rules_in a)
 
 -- the first of the rules that speaks of a parameter of this name
 abbrev pub speaks_of : List Rules → (name : List ℕ) → Option Rules
@@ -44,11 +42,7 @@ lesser_of (Some q) (Some r) = Some (lesser (text_of sees_leaves) q (Some r))
 
 -- the argument that an attribute speaks of, if it is no parameter
 abbrev pub undefined_in : List LeafParameter → Attribute Leaf Token → Option (Quoted Leaf)
-undefined_in parameters a = of_rules (rules_in a)
-  where
-    of_rules : Option Rules → Option (Quoted Leaf)
-    of_rules None = None
-    of_rules (Some rules) = if is_parameter sees_leaves parameters rules then None else Some rules.name
+undefined_in parameters a = of_rules None (λ r. if is_parameter sees_leaves parameters r then None else Some r.name) (rules_in a)
 
 -- of the arguments that are spoken of and are no parameters, the one with the least text, the first of these
 abbrev pub least_undefined : List LeafParameter → List Rules → Option (Quoted Leaf)

@@ -35,6 +35,11 @@ abbrev pub names_after : {X : Type 0} → Result X Halt → State → ℕ
 names_after (Ok x) s = names s
 names_after (Err halt) s = 0
 
+-- the same after a header, whose name is an identifier too
+abbrev pub names_after_header : {X : Type 0} → Result X Halt → State → ℕ
+names_after_header (Ok x) s = names s + 1
+names_after_header (Err halt) s = 0
+
 -- bindings were numbered, and nothing else: each has an identifier of its own among those that were taken
 pub record HasDrawn (old new : Numerator) (before following : ℕ) : Type 0 where
   pub least : bindings_of old ≤ bindings_of new

@@ -1,19 +1,16 @@
 -- Reading the headers of a table, with all that the parser's trees hold.
-use Rattle.std.specs.Prelude.{ℕ, Bool, List, [], ◌∷◌, ◌++◌, map, Option, Ok}
+use Rattle.std.specs.Prelude.{ℕ, Bool, true, false, List, [], ◌∷◌, ◌++◌, map, Option, Some, None}
 use Rattle.std.specs.Option.{option_map}
 use Rattle.justfile_base.specs.declared.token.Token.{Token}
-use Rattle.justfile_model.specs.ExpressionReader as expressions
-use Rattle.justfile_model.specs.Features.{rules_features}
 use Rattle.justfile_model.specs.HeaderReader as headers
-use Rattle.justfile_model.specs.HeaderReader.{obeying}
-use Rattle.justfile_model.specs.Reading.{◌>>=◌, Counters}
+use Rattle.justfile_model.specs.Reading.{Counters}
 use Rattle.justfile_model.specs.RecipeRules.{misplaced_broken, options_broken, parameter_broken, second_broken, stars, undefined_broken}
 use Rattle.justfile_model.specs.Rules.{Broken}
 use Rattle.justfile_model.specs.Tree as tree
 use Rattle.justfile_model.specs.Tree.{ArgumentRules, Dependency, Expr, Parameter}
 use Rattle.justfile_model.specs.declared.parameter_kind.ParameterKind.{ParameterKind}
 use Rattle.justfile_parse_attribute.specs.AttributeTable.{sight_of}
-use Rattle.justfile_parse_expression.specs.TableReader.{Read, Run, State, leaves}
+use Rattle.justfile_parse_expression.specs.TableReader.{Read, State, leaves}
 use Rattle.justfile_parse_expression.specs.declared.significant.TableEntry.{TableEntry}
 use Rattle.justfile_tree.specs.LeafSight.{sees_leaves}
 use Rattle.justfile_tree.specs.LeafTree.{Leaf}
@@ -52,12 +49,6 @@ path = headers.path leaves
 abbrev pub dependency_argument : (before : List StarredArgument) → State → Read StarredArgument
 dependency_argument = headers.dependency_argument leaves
 
--- an argument after those that were read, and all of them
-unfoldable pub one_argument : (before : List StarredArgument) → State → Read (List StarredArgument)
-one_argument before s = do
-  a ← dependency_argument before s
-  Ok (before ++ a.0 ∷ [], a.1)
-
 abbrev pub plain_argument : State → Read StarredArgument
 plain_argument = headers.plain_argument leaves
 
@@ -66,6 +57,12 @@ starred_argument = headers.starred_argument leaves
 
 abbrev pub dependency_arguments : List StarredArgument × State → Read (List StarredArgument)
 dependency_arguments = headers.dependency_arguments leaves
+
+-- the second of them, where the first was found already or not
+abbrev pub second_from : {X : Type 0} → (found : Bool) → List X → Option X
+second_from found [] = None
+second_from false (x ∷ xs) = second_from true xs
+second_from true (x ∷ xs) = Some x
 
 -- a second star is refused
 abbrev pub second_star : (before : List StarredArgument) (star : TableEntry) → List (Broken Token)

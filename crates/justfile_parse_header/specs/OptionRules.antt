@@ -9,7 +9,7 @@ use Rattle.justfile_model.specs.Features.{Noted, rules_features}
 use Rattle.justfile_model.specs.HeaderReader.{obeying}
 use Rattle.justfile_model.specs.Reading.{◌>>=◌}
 use Rattle.justfile_model.specs.RecipeRules.{long_options, repeated_broken, short_options}
-use Rattle.justfile_model.specs.Rules.{Broken, DuplicateLongOption, DuplicateShortOption, broken_if}
+use Rattle.justfile_model.specs.Rules.{Broken, DuplicateLongOption, DuplicateShortOption, Rule, broken_if}
 use Rattle.justfile_parse_expression.specs.TableReader.{Read, State}
 use Rattle.justfile_parse_header.specs.HeaderTable.{Rules}
 use Rattle.justfile_parse_header.specs.Options.{Meant, long_in, of_rules, short_in}
@@ -33,20 +33,17 @@ abbrev pub shorts_from : (recipe : Token) (before : List ℕ) → List Rules →
 shorts_from recipe before rules = repeated_broken nat_eq (λ option. DuplicateShortOption option recipe) before (short_options sees_leaves rules)
 
 -- an option after others, which it may not repeat
-unfoldable pub long_step : (recipe : Token) (before : List (List ℕ)) → Meant → State → Read (List (List ℕ))
-long_step recipe before a s = step (long_in a)
-  where
-    step : Option (List ℕ × Token) → Read (List (List ℕ))
-    step None = Ok (before, s)
-    step (Some option) = do
-      new ← obeying (broken_if (list_any (bytes_eq option.0) before) (DuplicateLongOption option.0 recipe) option.1) s
-      Ok (before ++ option.0 ∷ [], new.1)
+module _ {X : Type 0} (same : X → X → Bool) (rule : X → Rule Token) where
+  abbrev pub option_step : (before : List X) → Option (X × Token) → State → Read (List X)
+  option_step before None s = Ok (before, s)
+  option_step before (Some option) s = do
+    new ← obeying (broken_if (list_any (same option.0) before) (rule option.0) option.1) s
+    Ok (before ++ option.0 ∷ [], new.1)
 
+-- the long option of an attribute after those of others
+unfoldable pub long_step : (recipe : Token) (before : List (List ℕ)) → Meant → State → Read (List (List ℕ))
+long_step recipe before a s = option_step bytes_eq (λ option. DuplicateLongOption option recipe) before (long_in a) s
+
+-- its short option
 unfoldable pub short_step : (recipe : Token) (before : List ℕ) → Meant → State → Read (List ℕ)
-short_step recipe before a s = step (short_in a)
-  where
-    step : Option (ℕ × Token) → Read (List ℕ)
-    step None = Ok (before, s)
-    step (Some option) = do
-      new ← obeying (broken_if (list_any (nat_eq option.0) before) (DuplicateShortOption option.0 recipe) option.1) s
-      Ok (before ++ option.0 ∷ [], new.1)
+short_step recipe before a s = option_step nat_eq (λ option. DuplicateShortOption option recipe) before (short_in a) s

@@ -13,7 +13,6 @@ use Rattle.justfile_parse_header.specs.declared.said.Said.{Said}
 use Rattle.justfile_parse_header.specs.HeaderTable.{LeafParameter, Rules}
 use Rattle.justfile_parse_header.specs.Tree.{parameter_name, parameter_tree, value_tree}
 use Rattle.justfile_tree.specs.LeafSight.{sees_leaves}
-use Rattle.justfile_tree.specs.LeafTree.{Leaf}
 
 -- what the long option of a parameter is called
 abbrev pub long_text : Rules → Option (List ℕ)

@@ -1,11 +1,11 @@
 //! Of which parameter an `arg` attribute speaks.
-ghost use Rattle.std.specs.Prelude.{◌≡◌, IfOk, List, map, string_bytes};
+ghost use Rattle.std.specs.Prelude.{◌≡◌, None, map, string_bytes};
 ghost use Rattle.std.specs.List.{list_any};
 ghost use Rattle.std.specs.Option.{option_map};
 ghost use Rattle.std.specs.Str.{bytes_eq};
 ghost use Rattle.justfile_attribute.specs.Attribute.{leaf_attribute_of};
 ghost use Rattle.justfile_attribute_rules.specs.Made.{IsRefusedBy, quoted_leaf};
-ghost use Rattle.justfile_attribute_set.specs.Keys.{keys_left};
+ghost use Rattle.justfile_attribute_set.specs.AttributeSet.{attributes_of};
 ghost use Rattle.justfile_base.specs.Token.{lexeme_of};
 ghost use Rattle.justfile_model.specs.HeaderReader.{obeying};
 ghost use Rattle.justfile_model.specs.NewAttribute as new;
@@ -14,7 +14,7 @@ ghost use Rattle.justfile_model.specs.Rules.{UndefinedArgAttribute};
 ghost use Rattle.justfile_parse_attribute.specs.Halting.{ReadsRuled};
 ghost use Rattle.justfile_parse_expression.specs.TableReader.{State};
 ghost use Rattle.justfile_parse_header.specs.HeaderTable as reader;
-ghost use Rattle.justfile_parse_header.specs.Arguments.{is_of, least_undefined, lesser_of, said_by, speaks_of, undefined_in};
+ghost use Rattle.justfile_parse_header.specs.Arguments.{AreKeyed, IsKeyedOption, is_of, least_undefined, lesser_of, said_by, speaks_of, undefined_in};
 ghost use Rattle.justfile_parse_header.specs.Tree.{parameter_tree, rules_of};
 ghost use Rattle.justfile_tree.specs.LeafSight.{sees_leaves};
 ghost use Rattle.justfile_tree.specs.LeafTree.{Named};
@@ -33,7 +33,9 @@ pub(crate) fn find_rules<'run, 'src>(
     before: &[Parameter<'src>],
     name: Token<'src>,
 ) -> Option<&'run Attribute<'src>>
-    ensures { said_by result ≡ rules_for sees_leaves (rules_of attributes.now) (map parameter_tree before.now) (Named name.entry None) }
+    requires { AreKeyed (attributes_of attributes.now) }
+    ensures rules { said_by result ≡ rules_for sees_leaves (rules_of attributes.now) (map parameter_tree before.now) (Named name.entry None) }
+    ensures keyed { IsKeyedOption result }
 {
     let attribute = find_attribute(attributes, name.lexeme())?;
     if is_named(before, name.lexeme()) {
@@ -44,11 +46,14 @@ pub(crate) fn find_rules<'run, 'src>(
 }
 
 /// The first attribute that speaks of a parameter of this name.
+#[tactic(auto, using(crate::proofs::Spoken::speaks_begins, crate::proofs::Spoken::speaks_later, crate::proofs::Spoken::speaks_here), unfolding(justfile_parse_attribute::specs::KeyedBounds::AreKeyed))]
 fn find_attribute<'run, 'src>(
     attributes: &'run AttributeSet<'src>,
     name: &str,
 ) -> Option<&'run Attribute<'src>>
-    ensures { said_by result ≡ speaks_of (rules_of attributes.now) name.now }
+    requires { AreKeyed (attributes_of attributes.now) }
+    ensures rules { said_by result ≡ speaks_of (rules_of attributes.now) name.now }
+    ensures keyed { IsKeyedOption result }
 {
     let mut left = attributes.iter();
     'attributes: loop {
@@ -81,6 +86,7 @@ fn is_named(parameters: &[Parameter<'_>], name: &str) -> bool
 }
 
 /// Refuses attributes that speak of no parameter: of their arguments the one with the least text.
+#[tactic(auto, using(crate::proofs::Undefined::is_defined, crate::proofs::Undefined::is_undefined))]
 pub(crate) fn check_defined<'src>(
     attributes: &AttributeSet<'src>,
     alloc: Global,
@@ -96,6 +102,7 @@ pub(crate) fn check_defined<'src>(
 
 /// Of the arguments that attributes speak of and that are no parameters, the one with the least
 /// text, the first of these.
+#[tactic(auto, using(crate::proofs::Least::begins, crate::proofs::Least::goes_on, crate::proofs::Least::ends))]
 fn find_undefined<'run, 'src>(
     attributes: &'run AttributeSet<'src>,
     parameters: &[Parameter<'src>],

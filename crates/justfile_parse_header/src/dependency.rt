@@ -1,6 +1,5 @@
 //! The dependencies of a recipe.
-ghost use Rattle.std.specs.Prelude.{◌≡◌, ◌<◌, ◌≤◌, ◌∷◌, ◌++◌, [], OnOk, IfOk, map};
-ghost use Rattle.std.specs.Option.{option_map};
+ghost use Rattle.std.specs.Prelude.{◌≡◌, false, ◌<◌, ◌≤◌, ◌∷◌, ◌++◌, [], OnOk, IfOk, map};
 ghost use Rattle.justfile_model.specs.HeaderReader.{obeying};
 ghost use Rattle.justfile_model.specs.Meaning.{first_of};
 ghost use Rattle.justfile_model.specs.Reading.{prepend};
@@ -31,6 +30,7 @@ pub(crate) struct ReadArgument<'run, 'src> {
 }
 
 /// The dependencies up to what begins none, after those before them.
+#[tactic(auto, using(crate::proofs::Dependencies::dependencies_end, crate::proofs::Dependencies::dependencies_go_on))]
 pub(crate) fn parse_dependencies<'src, X: Expander>(
     parser: &mut ExpressionParser<'_, 'src, X>,
     dependencies: &mut Vec<UnresolvedDependency<'src>>,
@@ -49,6 +49,7 @@ pub(crate) fn parse_dependencies<'src, X: Expander>(
 }
 
 /// The dependencies after `&&`, one at least, if it comes next. They are added to those before it.
+#[tactic(auto, using(crate::proofs::Dependencies::subsequents_none))]
 pub(crate) fn parse_subsequents<'src, X: Expander>(
     parser: &mut ExpressionParser<'_, 'src, X>,
     dependencies: &mut Vec<UnresolvedDependency<'src>>,
@@ -78,7 +79,7 @@ fn begins_dependency<X: Expander>(parser: &ExpressionParser<'_, '_, X>) -> bool
 }
 
 /// A path alone, or with arguments in parentheses, with a star before them or not.
-#[tactic(auto, unfolding(justfile_model::specs::HeaderReader::dependency))]
+#[tactic(auto, using(justfile_parse_attribute::proofs::AttributeSteps::broken_first), unfolding(justfile_model::specs::HeaderReader::dependency))]
 fn parse_dependency<'src, X: Expander>(
     parser: &mut ExpressionParser<'_, 'src, X>,
 ) -> Result<UnresolvedDependency<'src>, Halt<'src>>
@@ -110,7 +111,7 @@ fn parse_bare<'src, X: Expander>(
 }
 
 /// A path and arguments in parentheses, after a star or not.
-#[tactic(auto, unfolding(justfile_model::specs::HeaderReader::parenthesized))]
+#[tactic(auto, using(justfile_parse_attribute::proofs::AttributeSteps::broken_first), unfolding(justfile_model::specs::HeaderReader::parenthesized))]
 fn parse_parenthesized<'run, 'src, X: Expander>(
     parser: &mut ExpressionParser<'run, 'src, X>,
     star: Option<TableEntry<'run, 'src>>,
@@ -127,6 +128,7 @@ fn parse_parenthesized<'run, 'src, X: Expander>(
 }
 
 /// Arguments side by side, up to the closing parenthesis and with it.
+#[tactic(auto, using(crate::proofs::Dependencies::arguments_end, crate::proofs::Dependencies::arguments_go_on))]
 fn parse_arguments<'run, 'src, X: Expander>(
     parser: &mut ExpressionParser<'run, 'src, X>,
 ) -> Result<Vec<ReadArgument<'run, 'src>>, Halt<'src>>
@@ -173,7 +175,7 @@ fn parse_plain<'run, 'src, X: Expander>(
 }
 
 /// An argument after its star, and after others. A second star is refused.
-#[tactic(auto, unfolding(justfile_model::specs::HeaderReader::starred_argument))]
+#[tactic(auto, using(justfile_parse_attribute::proofs::AttributeSteps::broken_first), unfolding(justfile_model::specs::HeaderReader::starred_argument))]
 fn parse_starred<'run, 'src, X: Expander>(
     parser: &mut ExpressionParser<'run, 'src, X>,
     before: &[ReadArgument<'run, 'src>],
@@ -199,16 +201,37 @@ fn check_first<'run, 'src>(
 ) -> Result<(), Halt<'src>>
     ensures { (s : State) → ReadsRuled (λ _. tt) result s (obeying (reader.second_star (map read_argument before.now) star.entry) s) }
 {
-    match find_star(before) {
+    match find_second(before, star) {
         None => Ok(()),
-        Some(_first) => Err(make_halt(
+        Some(second) => Err(make_halt(
             alloc,
             Fault::Compile(
-                star.token
+                second
+                    .token
                     .error(CompileErrorKind::MappedDependencyMultipleStarredArguments),
             ),
         )),
     }
+}
+
+/// The second star, where this one stands after the arguments.
+#[tactic(auto, using(crate::proofs::Stars::second_later, crate::proofs::Stars::second_begins, crate::proofs::Stars::second_here, crate::proofs::Stars::second_end))]
+fn find_second<'run, 'src>(
+    before: &[ReadArgument<'run, 'src>],
+    star: TableEntry<'run, 'src>,
+) -> Option<TableEntry<'run, 'src>>
+    ensures { result ≡ reader.second_from false (stars (map read_argument before.now) ++ star.entry ∷ []) }
+{
+    let mut found = false;
+    for argument in before {
+        if let Some(later) = argument.star {
+            if found {
+                return Some(later);
+            }
+            found = true;
+        }
+    }
+    found.then_some(star)
 }
 
 /// Refuses a star before the parentheses without one in them, and one in them without one before.
@@ -240,6 +263,7 @@ fn check_stars<'run, 'src>(
 }
 
 /// The star of the first argument that has one.
+#[tactic(auto, using(crate::proofs::Stars::first_later, crate::proofs::Stars::first_here, crate::proofs::Stars::first_end))]
 fn find_star<'run, 'src>(arguments: &[ReadArgument<'run, 'src>]) -> Option<TableEntry<'run, 'src>>
     ensures { result ≡ first_of (stars (map read_argument arguments.now)) }
 {

@@ -4,7 +4,7 @@ ghost use Rattle.justfile_attribute_set.specs.AttributeSet.{attributes_of};
 ghost use Rattle.justfile_base.specs.declared.token_kind.TokenKind.TheVariants as kinds;
 ghost use Rattle.justfile_parse_expression.specs.View.{left, state_of};
 ghost use Rattle.justfile_parse_header.specs.Arguments.{AreKeyed};
-ghost use Rattle.justfile_parse_header.specs.Counting.{HasDrawn, ReadsCounted, counters_of, names, names_after};
+ghost use Rattle.justfile_parse_header.specs.Counting.{HasDrawn, ReadsCounted, counters_of, names, names_after_header};
 ghost use Rattle.justfile_parse_header.specs.HeaderTable as reader;
 ghost use Rattle.justfile_parse_header.specs.Said.{AreWholeParameters};
 ghost use Rattle.justfile_parse_header.specs.Tree.{header_tree, rules_of};
@@ -43,7 +43,7 @@ pub fn parse_header<'run, 'src, X: Expander>(
     ensures reads { ReadsCounted header_tree result numerator.new (state_of X.answer parser.new)
         (reader.header (rules_of attributes.now) (counters_of numerator.old) (state_of X.answer parser.old)) }
     ensures whole { IfOk result (λ header. AreWholeParameters (rules_of attributes.now) header.parameters.items) }
-    ensures drawn { HasDrawn numerator.old numerator.new (names (state_of X.answer parser.old)) (names_after result (state_of X.answer parser.new)) }
+    ensures drawn { HasDrawn numerator.old numerator.new (names (state_of X.answer parser.old)) (names_after_header result (state_of X.answer parser.new)) }
     ensures named { IfOk result (λ header. header.name.token.now.kind ≡ kinds.Identifier) }
     ensures progress { OnOk result (left parser.new < left parser.old) }
 {

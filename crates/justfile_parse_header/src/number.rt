@@ -1,3 +1,4 @@
+//! Numbers of bindings.
 ghost use Rattle.std.specs.Prelude.{◌≡◌, OnErr};
 ghost use Rattle.justfile_parse_expression.specs.TableReader.{State};
 ghost use Rattle.justfile_parse_header.specs.Counting.{ReadsNumbered, counters_of};

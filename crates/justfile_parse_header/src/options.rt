@@ -1,7 +1,6 @@
 //! The options of a recipe, and what attributes say of parameters that needs the setting for lists.
-ghost use Rattle.std.specs.Prelude.{◌≡◌, ◌∷◌, ◌++◌, [], List, Option, OnOk, map};
+ghost use Rattle.std.specs.Prelude.{◌≡◌, [], map};
 ghost use Rattle.std.specs.List.{flat_map, list_any};
-ghost use Rattle.std.specs.Option.{option_map};
 ghost use Rattle.std.specs.Str.{bytes_eq};
 ghost use Rattle.justfile_attribute.specs.Attribute.{leaf_attribute_of};
 ghost use Rattle.justfile_attribute_rules.specs.Made.{IsRefusedBy};
@@ -17,7 +16,6 @@ ghost use Rattle.justfile_parse_expression.specs.View.{left, state_of};
 ghost use Rattle.justfile_parse_header.specs.HeaderTable as reader;
 ghost use Rattle.justfile_parse_header.specs.OptionRules.{bound_place_in, features_in, long_step, longs_from, short_step, shorts_from};
 ghost use Rattle.justfile_parse_header.specs.Tree.{rules_of};
-ghost use Rattle.justfile_tree.specs.LeafSight.{sees_leaves};
 
 use crate::said::{find_long, find_short_option};
 use justfile_attribute::Attribute;
@@ -29,6 +27,7 @@ use justfile_tree::ListFeature;
 use std::alloc::Global;
 
 /// Notes what attributes say of parameters that needs the setting for lists.
+#[tactic(auto, using(crate::proofs::Spoken::noting_begins, crate::proofs::Spoken::noting_goes_on, crate::proofs::Spoken::noting_ends))]
 pub(crate) fn note_rules<'src, X: Expander>(
     attributes: &AttributeSet<'src>,
     parser: &mut ExpressionParser<'_, 'src, X>,
@@ -116,6 +115,7 @@ fn find_place<'src>(
 }
 
 /// Refuses options of a recipe that are called the same, long ones before short ones.
+#[tactic(auto, using(crate::proofs::SameOptions::both_obeyed, crate::proofs::SameOptions::first_broken))]
 pub(crate) fn check_options<'src>(
     attributes: &AttributeSet<'src>,
     alloc: Global,
@@ -146,6 +146,7 @@ fn check_longs<'run, 'src>(
 }
 
 /// Refuses the long option of an attribute if one before it is called the same.
+#[tactic(auto, using(crate::proofs::SameOptions::long_none, crate::proofs::SameOptions::long_apart, crate::proofs::SameOptions::long_same))]
 fn check_long<'run, 'src>(
     attribute: &'run Attribute<'src>,
     alloc: Global,
@@ -169,7 +170,7 @@ fn check_long<'run, 'src>(
 fn is_among(texts: &[&str], text: &str) -> bool
     ensures { result ≡ list_any (bytes_eq text.now) (map (λ t. t.now) texts.now) }
 {
-    texts.iter().any(|other| text == *other)
+    texts.contains(&text)
 }
 
 /// The refusal of a long option that is called as one before it.
@@ -209,6 +210,7 @@ fn check_shorts<'src>(
 }
 
 /// Refuses the short option of an attribute if one before it is called the same.
+#[tactic(auto, using(crate::proofs::SameOptions::short_none, crate::proofs::SameOptions::short_apart, crate::proofs::SameOptions::short_same))]
 fn check_short<'src>(
     attribute: &Attribute<'src>,
     alloc: Global,

@@ -186,7 +186,6 @@ fn parse_parameter<'src, X: Expander>(
 }
 
 /// A parameter from its name on, after others.
-#[tactic(auto, unfolding(justfile_model::specs::HeaderReader::named_parameter))]
 fn parse_named<'src, X: Expander>(
     attributes: &AttributeSet<'src>,
     parser: &mut ExpressionParser<'_, 'src, X>,

@@ -1,8 +1,7 @@
 //! What an `arg` attribute says of a parameter.
-ghost use Rattle.std.specs.Prelude.{◌≡◌, IfOk, Some, map, string_bytes, IsTrue, None};
+ghost use Rattle.std.specs.Prelude.{◌≡◌, IfOk, IsTrue, None, string_bytes};
 ghost use Rattle.std.specs.Option.{is_some, option_map};
 ghost use Rattle.justfile_attribute.specs.Attribute.{leaf_attribute_of};
-ghost use Rattle.justfile_base.specs.Token.{lexeme_of};
 ghost use Rattle.justfile_parse_header.specs.Arguments.{IsKeyed, said_by};
 ghost use Rattle.justfile_parse_header.specs.Options.{bound_token, bound_key_of, long_in, says_flag, says_multiple, short_in, option_in};
 ghost use Rattle.justfile_parse_header.specs.Said.{IsSaidTo};

@@ -1,0 +1,185 @@
+-- What the functions that take docs know of items.
+use Rattle.std.proofs.Common.{◌≡◌, ◌∙◌, ℕ, ◌+◌, ◌-◌, ◌<◌, Bool, true, false, cond, not, ◌&&◌, ◌||◌, IsTrue, All, List, [], ◌∷◌, ◌++◌, length, map, get_or, take, reverse, OnOk, Option, Some, None, is_some, is_none, Result, Ok, Err, codes, refl, sym, ap, subst, arith, string_bytes}
+use Rattle.std.specs.Prelude.{String, nat_eq}
+use Rattle.std.specs.List.{slice_get, starts_with}
+use Rattle.std.specs.Option.{option_map}
+use Rattle.std.proofs.lemmas.List.{length-map, map-append, reverse-append, take_all, take_more}
+use Rattle.std.proofs.lemmas.List.Elements.{All-from_recursion, All-get_or, All-take, recursion_from_All}
+use Rattle.std.proofs.lemmas.Option.{slice_get-get_or, slice_get_within}
+use Rattle.std.specs.Global.{Global}
+use Rattle.std.specs.List.{take-map}
+use Rattle.justfile_attribute.proofs.Ordered.{kind_seen}
+use Rattle.justfile_attribute.specs.Attribute.{leaf_attribute_of}
+use Rattle.justfile_attribute.specs.declared.attribute.Attribute.{Attribute}
+use Rattle.justfile_attribute_set.specs.AttributeSet.{attributes_of, pairs_of}
+use Rattle.justfile_attribute_set.specs.Attributes.{has_kind, is_of_kind, kind_of}
+use Rattle.justfile_attribute_set.specs.Keys.{firsts}
+use Rattle.justfile_attribute_set.specs.Pairs.{Pair, leaf_entry_of}
+use Rattle.justfile_base.specs.declared.attribute_kind.AttributeKind.{AttributeKind}
+use Rattle.justfile_base.specs.declared.attribute_kind.AttributeKind.TheVariants as kinds
+use Rattle.justfile_file.specs.declared.item.Item.{Item}
+use Rattle.justfile_file.specs.declared.item.Item.TheVariants as items
+use Rattle.justfile_file.specs.declared.recipe.UnresolvedRecipe.{UnresolvedRecipe}
+use Rattle.justfile_model.specs.AttributeKinds.{same_attribute}
+use Rattle.justfile_model.specs.ContentKeys.{kind_of_attribute}
+use Rattle.justfile_model.specs.Docs.{Nothing, documented, item_with_doc}
+use Rattle.justfile_model.specs.Files.{says_doc}
+use Rattle.justfile_model.specs.Tree as tree
+use Rattle.justfile_parse.specs.Docs.{LeafItem, comment_of, doc_before, doc_first, is_newline, says_no_doc, with_doc, with_item}
+use Rattle.justfile_parse.proofs.TakenDocs.{from_first, with_items}
+use Rattle.justfile_parse.specs.Tree.{doc_text, item_tree, recipe_tree}
+use Rattle.justfile_parse.specs.Whole.{AreWhole, IsWholeItem}
+
+-- ---- the last of the items
+
+abbrev before : List Item → List Item
+before xs = take (length xs - 1) xs
+
+some_is : {X : Type 0} (x y : X) → ◌≡◌ {A = Option X} (Some x) (Some y) → x ≡ y
+some_is x y e = cc
+
+module _ (xs : List Item) (x : Item) (last : Some x ≡ slice_get xs (length xs - 1)) where
+  within : length xs - 1 < length xs
+  within = slice_get_within xs (length xs - 1) x (sym last)
+
+  last_is : get_or xs (length xs - 1) x ≡ x
+  last_is = some_is (get_or xs (length xs - 1) x) x (sym (slice_get-get_or xs (length xs - 1) x within) ∙ sym last)
+
+  ends_with : xs ≡ before xs ++ x ∷ []
+  ends_with =
+      sym (take_all (length xs - 1 + 1) xs (omega (arith, within)))
+      ∙ take_more xs (length xs - 1) x within
+      ∙ ap (λ (y : Item). before xs ++ y ∷ []) last_is
+
+  last_first : reverse (map item_tree xs) ≡ item_tree x ∷ reverse (map item_tree (before xs))
+  last_first =
+      ap (λ (l : List Item). reverse (map item_tree l)) ends_with ∙ ap (λ (l : List LeafItem). reverse l) (map-append item_tree (before xs) (x ∷ []))
+      ∙ reverse-append (map item_tree (before xs)) (item_tree x ∷ [])
+
+  last_whole : AreWhole xs → IsWholeItem x
+  unfolding AreWhole
+  last_whole h = subst IsWholeItem last_is (All-get_or IsWholeItem xs (length xs - 1) x within h)
+
+pub front_whole : (n : ℕ) (xs : List Item) → AreWhole xs → AreWhole (take n xs)
+unfolding AreWhole
+front_whole n xs h = All-take IsWholeItem n xs h
+
+-- ---- the doc that ends them
+
+no_line_end : (i : LeafItem) (others : List LeafItem) → is_newline i ≡ false → doc_first (i ∷ others) ≡ None
+no_line_end tree.Newline others h = cc
+no_line_end (tree.Comment text) others h = refl
+no_line_end (tree.Construct entries content) others h = refl
+
+line_end : (i : LeafItem) → is_newline i ≡ true → i ≡ tree.Newline
+line_end tree.Newline h = refl
+line_end (tree.Comment text) h = cc
+line_end (tree.Construct entries content) h = cc
+
+no_comment : (i : LeafItem) (others : List LeafItem) → comment_of i ≡ None → doc_first (tree.Newline ∷ i ∷ others) ≡ None
+no_comment tree.Newline others h = refl
+no_comment (tree.Comment text) others h = cc
+no_comment (tree.Construct entries content) others h = refl
+
+comment_is : (i : LeafItem) (text : List ℕ) → comment_of i ≡ Some text → i ≡ tree.Comment text
+comment_is tree.Newline text h = cc
+comment_is (tree.Comment other) text h = ap (λ (t : List ℕ). tree.Comment t) (some_is other text h)
+comment_is (tree.Construct entries content) text h = cc
+
+module _ (xs : List Item) (x : Item) (last : Some x ≡ slice_get xs (length xs - 1)) where
+  pub not_ended : is_newline (item_tree x) ≡ false → doc_before (map item_tree xs) ≡ None
+  not_ended h = ap doc_first (last_first xs x last) ∙ no_line_end (item_tree x) (reverse (map item_tree (before xs))) h
+
+  pub ended : is_newline (item_tree x) ≡ true → doc_before (map item_tree xs) ≡ doc_first (tree.Newline ∷ reverse (map item_tree (before xs)))
+  ended h =
+      ap doc_first (last_first xs x last)
+      ∙ ap (λ (i : LeafItem). doc_first (i ∷ reverse (map item_tree (before xs)))) (line_end (item_tree x) h)
+
+  pub not_commented : comment_of (item_tree x) ≡ None → doc_first (tree.Newline ∷ reverse (map item_tree xs)) ≡ None
+  not_commented h =
+      ap (λ (l : List LeafItem). doc_first (tree.Newline ∷ l)) (last_first xs x last)
+      ∙ no_comment (item_tree x) (reverse (map item_tree (before xs))) h
+
+  pub commented : (text : List ℕ) → comment_of (item_tree x) ≡ Some text
+      → doc_first (tree.Newline ∷ reverse (map item_tree xs)) ≡ doc_first (tree.Newline ∷ tree.Comment text ∷ reverse (map item_tree (before xs)))
+  commented text h =
+      ap (λ (l : List LeafItem). doc_first (tree.Newline ∷ l)) (last_first xs x last)
+      ∙ ap (λ (i : LeafItem). doc_first (tree.Newline ∷ i ∷ reverse (map item_tree (before xs)))) (comment_is (item_tree x) text h)
+
+  pub comment_begins : AreWhole xs → (text : List ℕ) → comment_of (item_tree x) ≡ Some text → IsTrue (starts_with nat_eq text (codes "#"))
+  comment_begins h text e = go x (last_whole xs x last h) e
+    where
+      go : (y : Item) → IsWholeItem y → comment_of (item_tree y) ≡ Some text → IsTrue (starts_with nat_eq text (codes "#"))
+      go (items.Comment other) w k = subst (λ (t : List ℕ). IsTrue (starts_with nat_eq t (codes "#"))) (some_is other.now text k) w
+      go (items.Assignment a) w k = cc
+      go items.Newline w k = cc
+      go (items.Recipe r) w k = cc
+
+-- ---- a recipe that wants a doc
+
+kind_is : (a : Attribute) → same_attribute (kind_of_attribute (leaf_attribute_of a)) kinds.Doc ≡ is_of_kind kinds.Doc a
+unfolding kind_of
+kind_is a = ap (λ (k : AttributeKind). same_attribute k kinds.Doc) (sym (kind_seen a))
+
+pairs_say : (pairs : List Pair) → says_doc (map leaf_entry_of pairs) ≡ has_kind kinds.Doc (firsts pairs)
+pairs_say [] = refl
+pairs_say (p ∷ ps) = λ i. kind_is p.0 i || pairs_say ps i
+
+pub wants_is : (r : UnresolvedRecipe) (b : Bool) → is_none r.doc ≡ true → b ≡ has_kind kinds.Doc (attributes_of r.attributes) → not b ≡ says_no_doc (recipe_tree r)
+wants_is r b none e = by_doc r.doc none ∙ ap (λ (c : Bool). true && not c && not (is_some (doc_text r))) (e ∙ sym (pairs_say (pairs_of r.attributes)))
+  where
+    by_doc : (o : Option (String Global)) → is_none o ≡ true → not b ≡ (true && not b && not (is_some (option_map string_bytes o)))
+    by_doc None h = go b
+      where
+        go : (c : Bool) → not c ≡ (true && not c && not false)
+        go true = refl
+        go false = refl
+    by_doc (Some s) h = cc
+
+-- ---- items that are added
+
+pub cut_whole : (old new : List Item) (n : ℕ) → new ≡ take n old → AreWhole old → AreWhole new
+cut_whole old new n e h = subst AreWhole (sym e) (front_whole n old h)
+
+module _ {E : Type 0} (result : Result (Unit {0}) E) (old cut new : List Item) (n : ℕ) (r : UnresolvedRecipe) (doc : String Global) (text : List ℕ) where
+  abbrev with_this : LeafItem
+  with_this = recipe_tree (record r { doc = Some doc })
+
+  pub doc_added : says_no_doc (recipe_tree r) ≡ true → string_bytes doc ≡ text → n ≡ length old - 2 → cut ≡ take n old
+      → OnOk result (map item_tree new ≡ map item_tree cut ++ with_this ∷ [])
+      → OnOk result (map item_tree new ≡ with_doc (map item_tree old) (recipe_tree r) (item_with_doc says_doc text (recipe_tree r)))
+  doc_added wanted said count e added = go result added
+    where
+      front : map item_tree cut ≡ take (length (map item_tree old) - 2) (map item_tree old)
+      front =
+          ap (map item_tree) e ∙ sym (take-map item_tree n old)
+          ∙ ap (λ (m : ℕ). take m (map item_tree old)) (count ∙ ap (λ (m : ℕ). m - 2) (sym (length-map old item_tree)))
+
+      documented : item_with_doc says_doc text (recipe_tree r) ≡ Some (with_this)
+      documented = rw (sym said) (ap (λ (b : Bool). cond b (Some with_this) None) wanted)
+
+      go : (x : Result (Unit {0}) E) → OnOk x (map item_tree new ≡ map item_tree cut ++ with_this ∷ [])
+          → OnOk x (map item_tree new ≡ with_doc (map item_tree old) (recipe_tree r) (item_with_doc says_doc text (recipe_tree r)))
+      go (Ok done) h = h ∙ ap (λ (l : List LeafItem). l ++ with_this ∷ []) front ∙ sym (ap (with_doc (map item_tree old) (recipe_tree r)) documented)
+      go (Err failed) h = tt
+
+-- ---- one item after another
+
+module _ (all left rest : List Item) (i : Item) (e : left ≡ i ∷ rest) where
+  pub next_whole : AreWhole left → IsWholeItem i × AreWhole rest
+  unfolding AreWhole
+  next_whole h =
+      let each = recursion_from_All IsWholeItem (i ∷ rest) (subst (All IsWholeItem) e h) in
+      (each.0, All-from_recursion IsWholeItem rest each.1)
+
+  -- what is left is added to the items so far
+  pub next_added : (done new : List Item) → map item_tree new ≡ with_item (map item_tree done) (item_tree i)
+      → with_items (map item_tree done) (map item_tree left) ≡ with_items [] (map item_tree all) → with_items (map item_tree new) (map item_tree rest) ≡ with_items [] (map item_tree all)
+  next_added done new added so_far =
+      ap (λ (l : List LeafItem). with_items l (map item_tree rest)) added ∙ ap (λ (l : List Item). with_items (map item_tree done) (map item_tree l)) (sym e)
+      ∙ so_far
+
+pub all_taken : (all left done : List Item) → length left ≡ 0 → with_items (map item_tree done) (map item_tree left) ≡ with_items [] (map item_tree all)
+    → map item_tree done ≡ documented says_doc Nothing (map item_tree all)
+all_taken all [] done none so_far = so_far ∙ from_first (map item_tree all)
+all_taken all (i ∷ left) done none so_far = absurd cc

@@ -1,0 +1,176 @@
+-- Parameters one after another, as a loop reads them.
+use Rattle.std.proofs.Common.{◌≡◌, ◌∙◌, ℕ, Bool, true, false, List, [], ◌∷◌, ◌++◌, append_assoc, map, Option, Some, None, Ok, Err, refl, sym, ap, subst, arith}
+use Rattle.std.proofs.lemmas.List.{append-nil, map-append}
+use Rattle.std.specs.Global.{Box}
+use Rattle.std.specs.Option.{is_some}
+use Rattle.justfile_base.specs.Numerator.{number_of}
+use Rattle.justfile_base.specs.declared.numerator.Numerator.{Numerator}
+use Rattle.justfile_base.specs.declared.token.Token.{Token}
+use Rattle.justfile_base.specs.declared.token_kind.TokenKind.TheVariants as kinds
+use Rattle.justfile_header.specs.declared.parameter.Parameter.{Parameter}
+use Rattle.justfile_model.proofs.HeaderReading as laws
+use Rattle.justfile_model.specs.HeaderReader as headers
+use Rattle.justfile_model.specs.HeaderReader.{obeying}
+use Rattle.justfile_model.specs.Reading.{accepted}
+use Rattle.justfile_model.specs.RecipeRules.{rules_for}
+use Rattle.justfile_model.specs.Rules.{Broken}
+use Rattle.justfile_model.specs.declared.parameter_kind.ParameterKind.{ParameterKind}
+use Rattle.justfile_model.specs.declared.parameter_kind.ParameterKind.TheVariants.{Singular}
+use Rattle.justfile_parse_attribute.specs.AttributeTable.{sight_of}
+use Rattle.justfile_parse_attribute.specs.Halting.{HaltsAt}
+use Rattle.justfile_parse_attribute.specs.declared.halt.Halt.{Halt}
+use Rattle.justfile_parse_expression.specs.TableReader.{Read, Refusal, State, accept, expect, leaves}
+use Rattle.justfile_parse_expression.specs.declared.significant.TableEntry.{TableEntry}
+use Rattle.justfile_parse_header.specs.Counting.{HasDrawn, counters_of, names}
+use Rattle.justfile_parse_header.specs.HeaderTable as reader
+use Rattle.justfile_parse_header.specs.HeaderTable.{LeafParameter, Rules}
+use Rattle.justfile_parse_header.specs.Said.{AreWholeAfter, AreWholeParameters, IsSaid, IsWholeParameter, KeepsWholeParameters, said_broken}
+use Rattle.justfile_parse_header.specs.Tree.{parameter_tree, value_tree}
+use Rattle.justfile_parse_header.proofs.Draws.{both_drawn, none_drawn}
+use Rattle.justfile_parse_header.proofs.Halts.{halted}
+use Rattle.justfile_tree.specs.LeafSight.{sees_leaves}
+use Rattle.justfile_tree.specs.LeafTree.{Named}
+use Rattle.justfile_tree.specs.declared.expression.Expression.{Expression}
+
+-- ---- whole ones
+
+whole_after : (rules : List Rules) (before : List LeafParameter) (ps : List Parameter) (p : Parameter) → AreWholeAfter rules before ps
+    → IsWholeParameter rules (before ++ map parameter_tree ps) p → AreWholeAfter rules before (ps ++ p ∷ [])
+whole_after rules before [] p h k = (subst (λ (l : List LeafParameter). IsWholeParameter rules l p) (append-nil before) k, tt)
+whole_after rules before (q ∷ qs) p h k =
+    let one = parameter_tree q ∷ [] in (
+      h.0,
+      whole_after rules (before ++ one) qs p h.1 (subst (λ (l : List LeafParameter). IsWholeParameter rules l p) (sym (append_assoc before one (map parameter_tree qs))) k),
+    )
+
+pub none_whole : (rules : List Rules) → AreWholeParameters rules []
+unfolding AreWholeParameters
+none_whole rules = tt
+
+pub same_whole : (rules : List Rules) (ps : List Parameter) → KeepsWholeParameters rules ps ps
+unfolding KeepsWholeParameters
+same_whole rules ps h = h
+
+pub both_whole : (rules : List Rules) (old between new : List Parameter) → KeepsWholeParameters rules old between → KeepsWholeParameters rules between new
+    → KeepsWholeParameters rules old new
+unfolding KeepsWholeParameters
+both_whole rules old between new h k w = k (h w)
+
+pub then_whole : (rules : List Rules) (old new : List Parameter) → AreWholeParameters rules old → KeepsWholeParameters rules old new → AreWholeParameters rules new
+unfolding KeepsWholeParameters
+then_whole rules old new h k = k h
+
+-- one more that is whole
+pub pushed_whole : (rules : List Rules) (old new : List Parameter) (p : Parameter) → new ≡ old ++ p ∷ [] → IsWholeParameter rules (map parameter_tree old) p
+    → KeepsWholeParameters rules old new
+unfolding AreWholeParameters KeepsWholeParameters
+pushed_whole rules old new p e h k = subst (AreWholeParameters rules) (sym e) (whole_after rules [] old p k h)
+
+-- ---- a loop
+
+-- from one place to another these parameters were read
+pub record IsReadTo (rules : List Rules) (s q : State) (first next : Numerator) (old done : List Parameter) : Type 0 where
+  pub read : reader.singulars rules ((map parameter_tree done, counters_of next), q) ≡ reader.singulars rules ((map parameter_tree old, counters_of first), s)
+  pub drawn : HasDrawn first next (names s) (names q)
+  pub whole : KeepsWholeParameters rules old done
+
+pub begins : (rules : List Rules) (s : State) (first : Numerator) (old : List Parameter) → IsReadTo rules s s first first old old
+begins rules s first old = record { read = refl; drawn = none_drawn first (names s) (names s) (omega arith); whole = same_whole rules old }
+
+module _ (rules : List Rules) (s q : State) (first next : Numerator) (old done : List Parameter) (so_far : IsReadTo rules s q first next old done) where
+  pub ends : reader.begins_parameter q ≡ false → reader.singulars rules ((map parameter_tree old, counters_of first), s) ≡ Ok ((map parameter_tree done, counters_of next), q)
+  ends h = sym so_far.read ∙ laws.singulars_end leaves sight_of rules ((map parameter_tree done, counters_of next), q) h
+
+  module _ (another : reader.begins_parameter q ≡ true) where
+    pub goes_on : (then : Numerator) (new : List Parameter) (rest : State)
+        → reader.parameter rules Singular ((map parameter_tree done, counters_of next), q) ≡ Ok ((map parameter_tree new, counters_of then), rest)
+        → HasDrawn next then (names q) (names rest) → KeepsWholeParameters rules done new → IsReadTo rules s rest first then old new
+    goes_on then new rest is drawn whole = record {
+      read = sym (laws.singulars_go_on leaves sight_of rules ((map parameter_tree done, counters_of next), q) ((map parameter_tree new, counters_of then), rest) another is) ∙ so_far.read;
+      drawn = both_drawn first next then (names s) (names q) (names rest) so_far.drawn drawn;
+      whole = both_whole rules old done new so_far.whole whole;
+    }
+
+    fails : (e : Refusal) → reader.parameter rules Singular ((map parameter_tree done, counters_of next), q) ≡ Err e
+        → reader.singulars rules ((map parameter_tree old, counters_of first), s) ≡ Err e
+    fails e h = sym so_far.read ∙ laws.singulars_fail leaves sight_of rules ((map parameter_tree done, counters_of next), q) e another h
+
+    -- a parameter is refused, or wants a number
+    pub halts : (halt : Halt) (left : State) (wanting : Refusal)
+        → HaltsAt halt left (reader.parameter rules Singular ((map parameter_tree done, counters_of next), q) ≡ Err wanting) (reader.parameter rules Singular ((map parameter_tree done, counters_of next), q))
+        → HaltsAt halt left (reader.singulars rules ((map parameter_tree old, counters_of first), s) ≡ Err wanting) (reader.singulars rules ((map parameter_tree old, counters_of first), s))
+    halts halt left wanting h = halted (reader.parameter rules Singular ((map parameter_tree done, counters_of next), q)) (reader.singulars rules ((map parameter_tree old, counters_of first), s)) fails halt left _ _ (fails wanting) h
+
+    pub drawn_on : (then : Numerator) → HasDrawn next then (names q) 0 → HasDrawn first then (names s) 0
+    drawn_on then h = both_drawn first next then (names s) (names q) 0 so_far.drawn h
+
+-- ---- what is said of one
+
+-- what is broken by what is said of a parameter is what it breaks
+said_is : (rules : List Rules) (before : List LeafParameter) (kind : ParameterKind) (export : Bool) (token : Token) (default : Option (Box Expression)) (found : Option Rules)
+    → found ≡ rules_for sees_leaves rules before (Named token None)
+    → said_broken token (is_some default) kind found ≡ reader.broken_by rules before (record { kind = kind; export = export; name = Named token None; default = value_tree default })
+said_is rules before kind export token None found is = rw is refl
+said_is rules before kind export token (Some e) found is = rw is refl
+
+-- a parameter has what is said of the first of its name
+pub named_whole : (rules : List Rules) (before : List LeafParameter) (p : Parameter) (found : Option Rules) (token : Token) → found ≡ rules_for sees_leaves rules before (Named token None)
+    → p.name.token ≡ token → IsSaid found p → IsWholeParameter rules before p
+named_whole rules before p found token is same said =
+    subst (λ (t : Token). IsSaid (rules_for sees_leaves rules before (Named t None)) p) (sym same) (subst (λ (f : Option Rules). IsSaid f p) is said)
+
+-- ---- exported or not
+
+module _ (rules : List Rules) (kind : ParameterKind) (x : reader.Parameters) (s : State) where
+  pub exported : (dollar : TableEntry) (rest : State) → accept kinds.Dollar s ≡ Some (dollar, rest) → reader.parameter rules kind (x, s) ≡ reader.named_parameter rules kind true x rest
+  unfolding headers.parameter accepted
+  exported dollar rest h = rw h refl
+
+  pub unexported : accept kinds.Dollar s ≡ None → reader.parameter rules kind (x, s) ≡ reader.named_parameter rules kind false x s
+  unfolding headers.parameter accepted
+  unexported h = rw h refl
+
+-- ---- one in the steps in which it is read
+
+module _ (rules : List Rules) (kind : ParameterKind) (export : Bool) (before : List Parameter) (first : Numerator) (s : State) where
+  abbrev pub Found : Read reader.Parameters
+  Found = reader.named_parameter rules kind export (map parameter_tree before, counters_of first) s
+
+  pub name_fails : (e : Refusal) → expect kinds.Identifier s ≡ Err e → Found ≡ Err e
+  unfolding headers.named_parameter
+  name_fails e h = rw h refl
+
+  module _ (name : TableEntry) (s1 : State) (named : expect kinds.Identifier s ≡ Ok (name, s1)) where
+    pub default_fails : (e : Refusal) → reader.default_value s1 ≡ Err e → Found ≡ Err e
+    unfolding headers.named_parameter
+    default_fails e h = rw (named, h) refl
+
+    module _ (default : Option (Box Expression)) (s2 : State) (valued : reader.default_value s1 ≡ Ok (value_tree default, s2)) (has : Bool) (has_is : has ≡ is_some default)
+        (said : Option Rules) (is : said ≡ rules_for sees_leaves rules (map parameter_tree before) (Named name.token.now None)) where
+      broken_is : said_broken name.token.now has kind said ≡ reader.broken_by rules (map parameter_tree before) (record { kind = kind; export = export; name = Named name.token.now None; default = value_tree default })
+      broken_is = ap (λ (b : Bool). said_broken name.token.now b kind said) has_is ∙ said_is rules (map parameter_tree before) kind export name.token.now default said is
+
+      pub said_fails : (e : Refusal) → obeying (said_broken name.token.now has kind said) s2 ≡ Err e → Found ≡ Err e
+      unfolding headers.named_parameter leaves
+      said_fails e h =
+          let k = ap (λ (l : List (Broken Token)). obeying l s2) (sym broken_is) ∙ h in
+          rw (named, valued, k) refl
+
+      module _ (obeyed : obeying (said_broken name.token.now has kind said) s2 ≡ Ok (tt, s2)) where
+        obeyed_is : obeying (reader.broken_by rules (map parameter_tree before) (record { kind = kind; export = export; name = Named name.token.now None; default = value_tree default })) s2 ≡ Ok (tt, s2)
+        obeyed_is = ap (λ (l : List (Broken Token)). obeying l s2) (sym broken_is) ∙ obeyed
+
+        pub number_fails : (e : Refusal) → reader.draw_binding (counters_of first) s2 ≡ Err e → Found ≡ Err e
+        unfolding headers.named_parameter leaves
+        number_fails e h = rw (named, valued, obeyed_is, h) refl
+
+        pub parameter_read : (number : ℕ) (next : Numerator) → reader.draw_binding (counters_of first) s2 ≡ Ok ((number, counters_of next), s2) → (new : List Parameter) (p : Parameter)
+            → new ≡ before ++ p ∷ [] → p.name.token ≡ name.token.now
+            → parameter_tree p ≡ record { kind = kind; export = export; name = Named p.name.token (Some (number_of number)); default = value_tree default }
+            → Found ≡ Ok ((map parameter_tree new, counters_of next), s2)
+        unfolding headers.named_parameter leaves
+        parameter_read number next h new p e token tree =
+            let q : Token → LeafParameter = λ t. record { kind = kind; export = export; name = Named t (Some (number_of number)); default = value_tree default } in
+            let all : map parameter_tree new ≡ map parameter_tree before ++ q name.token.now ∷ [] =
+            ap (map parameter_tree) e ∙ map-append parameter_tree before (p ∷ []) ∙ ap (λ (r : LeafParameter). map parameter_tree before ++ r ∷ []) (tree ∙ ap q token) in
+            rw (named, valued, obeyed_is, h, all) refl

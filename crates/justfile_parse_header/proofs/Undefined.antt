@@ -1,0 +1,54 @@
+-- What is refused of attributes that speak of no parameter.
+use Rattle.std.proofs.Common.{◌≡◌, List, [], ◌∷◌, not, Option, Some, None, Ok, Err, refl, sym, subst, string_bytes}
+use Rattle.std.specs.List.{filter}
+use Rattle.std.specs.Option.{option_map}
+use Rattle.justfile_attribute_rules.specs.Made.{IsRefusedBy, quoted_leaf}
+use Rattle.justfile_base.specs.declared.fault.Fault.{Fault}
+use Rattle.justfile_base.specs.declared.string_literal.StringLiteral.{StringLiteral}
+use Rattle.justfile_model.specs.AttributeRules.{least, of_some}
+use Rattle.justfile_model.specs.HeaderReader.{obeying}
+use Rattle.justfile_model.specs.Meaning.{text_of}
+use Rattle.justfile_model.specs.NewAttribute as new
+use Rattle.justfile_model.specs.Reading as reading
+use Rattle.justfile_model.specs.RecipeRules.{is_parameter}
+use Rattle.justfile_model.specs.Rules.{UndefinedArgAttribute}
+use Rattle.justfile_parse_attribute.specs.Halting.{HaltsAt, HaltsFor}
+use Rattle.justfile_parse_attribute.specs.declared.halt.Halt.{Halt}
+use Rattle.justfile_parse_attribute.proofs.AttributeSteps.{halts_for}
+use Rattle.justfile_parse_expression.specs.TableReader.{Read, State}
+use Rattle.justfile_parse_header.specs.Arguments.{least_undefined}
+use Rattle.justfile_parse_header.specs.HeaderTable.{LeafParameter, Rules, undefined}
+use Rattle.justfile_parse_header.proofs.Texts.{text_is}
+use Rattle.justfile_tree.specs.LeafSight.{sees_leaves}
+
+module _ (parameters : List LeafParameter) (rules : List Rules) (s : State) where
+  -- the refusal of the least argument
+  abbrev refusing : Option Rules → Read (Unit {0})
+  refusing o = obeying (of_some (λ (a : Rules). record { rule = UndefinedArgAttribute (text_of sees_leaves a.name); token = sees_leaves.place a.name.token } ∷ []) o) s
+
+  abbrev least_of : Option Rules
+  least_of = least (λ (a : Rules). text_of sees_leaves a.name) (filter (λ a. not (is_parameter sees_leaves parameters a)) rules)
+
+  pub is_defined : None ≡ least_undefined parameters rules → obeying (undefined parameters rules) s ≡ Ok (tt, s)
+  is_defined h = go least_of h
+    where
+      go : (o : Option Rules) → None ≡ option_map (λ (r : Rules). r.name) o → refusing o ≡ Ok (tt, s)
+      go None h = refl
+      go (Some a) h = cc
+
+  pub is_undefined : (l : StringLiteral) (fault : Fault) (halt : Halt) → Some (quoted_leaf l) ≡ least_undefined parameters rules
+      → IsRefusedBy (new.refuse {X = Unit {0}} (UndefinedArgAttribute (string_bytes l.cooked)) l.token) fault → HaltsFor halt fault
+      → HaltsAt halt s ⊥ (obeying (undefined parameters rules) s)
+  is_undefined l fault halt found refused h = go least_of found
+    where
+      go : (o : Option Rules) → Some (quoted_leaf l) ≡ option_map (λ (r : Rules). r.name) o → HaltsAt halt s ⊥ (refusing o)
+      go None k = cc
+      go (Some a) k =
+          subst
+          (λ q. HaltsAt {Y = Unit {0} × State} halt s ⊥ (Err (reading.BreaksRule (record { rule = UndefinedArgAttribute (text_of sees_leaves q); token = sees_leaves.place q.token }))))
+          (inside k)
+          (subst (λ text. HaltsAt {Y = Unit {0} × State} halt s ⊥ (Err (reading.BreaksRule (record { rule = UndefinedArgAttribute text; token = l.token })))) (sym (text_is l))
+          (halts_for (Unit {0} × State) (UndefinedArgAttribute (string_bytes l.cooked)) l.token fault halt s h refused))
+        where
+          inside : Some (quoted_leaf l) ≡ Some a.name → quoted_leaf l ≡ a.name
+          inside k = cc

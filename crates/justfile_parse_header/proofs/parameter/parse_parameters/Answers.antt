@@ -1,0 +1,29 @@
+use Rattle.std.proofs.Common.{List, subst}
+use Rattle.justfile_base.specs.declared.token_kind.TokenKind.TheVariants as kinds
+use Rattle.justfile_header.specs.declared.parameter.Parameter.{Parameter}
+use Rattle.justfile_parse_expression.specs.View.{state_of}
+use Rattle.justfile_parse_header.specs.Counting.{names}
+use Rattle.justfile_parse_header.specs.Said.{KeepsWholeParameters}
+use Rattle.justfile_parse_header.specs.Tree.{rules_of}
+use Rattle.justfile_parse_header.proofs.Draws.{both_drawn, drawn_before}
+use Rattle.justfile_parse_header.proofs.Parameters.{both_whole, none_whole, then_whole}
+use Rattle.justfile_parse_header.proofs.parameter.parse_parameters.Goals as goal
+
+pub returns-clause-whole : goal.returns-clause-whole
+returns-clause-whole g c =
+    let rules = rules_of c.args.attributes.now in
+    let singulars = c.parse_singulars.new.parameters.items in
+    let all = c.parse_last.new.parameters.items in
+    let P : List Parameter → Type 0 = λ ps. KeepsWholeParameters rules ps singulars in
+    then_whole rules _ all (none_whole rules)
+    (both_whole rules _ singulars all (subst P c.new-parameters.ensures.items c.in_ok-parse_singulars.ensures.whole) c.in_ok-parse_last.ensures.whole)
+
+pub returns-clause-drawn : goal.returns-clause-drawn
+returns-clause-drawn g c =
+    let A = g.X.Expander.answer in
+    let s = state_of A c.args.parser.now in
+    let s1 = state_of A c.parse_singulars.new.parser in
+    let s2 = state_of A c.parse_last.new.parser in
+    drawn_before c.args.numerator.now c.parse_last.new.numerator kinds.Colon (names s) s2 _ c.in_ok-expect.ensures.reads
+    (both_drawn c.args.numerator.now c.parse_singulars.new.numerator c.parse_last.new.numerator (names s) (names s1) (names s2) c.in_ok-parse_singulars.ensures.drawn
+    c.in_ok-parse_last.ensures.drawn)

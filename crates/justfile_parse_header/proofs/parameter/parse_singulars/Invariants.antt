@@ -1,0 +1,16 @@
+use Rattle.std.proofs.Common.{◌≤◌}
+use Rattle.justfile_parse_expression.specs.View.{left, state_of}
+use Rattle.justfile_parse_header.specs.Tree.{rules_of}
+use Rattle.justfile_parse_header.proofs.Parameters.{IsReadTo}
+use Rattle.justfile_parse_header.proofs.parameter.parse_singulars.Given as goal
+
+abbrev pub invariant-parameters : goal.invariant-parameters
+invariant-parameters g l =
+    let A = g.X.Expander.answer in
+    record {
+      ahead : left l.parser ≤ left l.fn.parser;
+      so_far : IsReadTo (rules_of l.attributes) (state_of A l.fn.parser) (state_of A l.parser) l.fn.numerator l.numerator l.fn.parameters.items l.parameters.items;
+    }
+
+abbrev pub decreases-parameters : goal.decreases-parameters
+decreases-parameters g l = left l.parser
