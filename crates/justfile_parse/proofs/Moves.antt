@@ -1,10 +1,10 @@
 -- The counters move up by no more than the identifiers that are read.
-use Rattle.std.proofs.Common.{◌≡◌, ℕ, ◌+◌, ◌≤◌, Bool, true, false, List, [], ◌∷◌, Some, None, Ok, Err, IfOk, refl, sym, ap, subst, arith}
+use Rattle.std.proofs.Common.{◌≡◌, ℕ, suc, ◌+◌, ◌≤◌, Bool, true, false, List, [], ◌∷◌, length, Some, None, Ok, Err, IfOk, refl, sym, ap, subst, arith}
 use Rattle.justfile_base.specs.declared.token.Token.{Token}
 use Rattle.justfile_base.specs.declared.token_kind.TokenKind.TheVariants as kinds
 use Rattle.justfile_model.specs.Conditions.{Conditions}
 use Rattle.justfile_model.specs.Expressions.{Tokens, Under}
-use Rattle.justfile_model.specs.Features.{Noted}
+use Rattle.justfile_model.specs.Features.{ConstructFeatures}
 use Rattle.justfile_model.specs.Files.{item_bindings, item_recipes, keeps_tokens}
 use Rattle.justfile_model.specs.Reader as files
 use Rattle.justfile_model.specs.Reader.{has_body}
@@ -14,7 +14,7 @@ use Rattle.justfile_model.specs.Reading.{◌>>=◌, Counters, choose}
 use Rattle.justfile_model.specs.SignificantTokens.{identifiers}
 use Rattle.justfile_model.specs.Tok.{Tok}
 use Rattle.justfile_model.specs.Tree as tree
-use Rattle.justfile_model.specs.Tree.{OrderedItem, WrittenItem, itself}
+use Rattle.justfile_model.specs.Tree.{OrderedItem, Parameter, WrittenItem, itself}
 use Rattle.justfile_model.specs.TreeReader as model
 use Rattle.justfile_model.specs.TreeReader.{token_attributes, token_leaves}
 use Rattle.justfile_model.proofs.AttributeProgress.{attribute_lines_count}
@@ -24,7 +24,7 @@ use Rattle.justfile_model.proofs.Counting.{block_counts, on_line_counts}
 use Rattle.justfile_model.proofs.Natural as natural
 use Rattle.justfile_model.proofs.ReadingSteps.{known}
 use Rattle.justfile_model.proofs.Related as a
-use Rattle.justfile_model.proofs.Related.{AlikeItem, Each, Never, Related}
+use Rattle.justfile_model.proofs.Related.{AlikeItem, AlikeParameters, Each, Never, Related}
 use Rattle.justfile_model.proofs.Sound.{Starts, before_sound, of_block, of_comment, of_line, on_line_at}
 use Rattle.justfile_parse.specs.ItemTable.{ReadItem, ReadItems, after_mark, item_attributes, item_rest, ended, kept, line, line_end, on_line}
 use Rattle.justfile_parse_attribute.specs.AttributeTable.{Entries}
@@ -53,17 +53,21 @@ counts_by n i before following h = record {
   constants = counted_constants n (i ∷ []);
 }
 
-starts_count : (conditions : Conditions) {b : Bool} {i : WrittenItem Tok Tok ℕ Tok} {fs : List (Noted Tok)} {ts rest : Tokens} → Starts conditions b i fs ts rest → item_bindings i + item_recipes i + identifiers rest ≤ identifiers ts
+starts_count : (conditions : Conditions) {b : Bool} {i : WrittenItem Tok Tok ℕ Tok} {fs : List (ConstructFeatures Tok)} {ts rest : Tokens} → Starts conditions b i fs ts rest → item_bindings i + item_recipes i + identifiers rest ≤ identifiers ts
 starts_count conditions (of_comment kind) = omega arith
 starts_count conditions (of_line a h) = omega (arith, attribute_lines_count itself itself (Under conditions.limit) a, on_line_counts keeps_tokens (Under conditions.limit) h)
 starts_count conditions (of_block a h) = omega (arith, attribute_lines_count itself itself (Under conditions.limit) a, block_counts keeps_tokens (Under conditions.limit) h)
 
 module _ (n : Counters) (s : State) (open_none : s.depth ≡ 0) where
+  same_parameters : {number : ℕ} {ps : List (Parameter Leaf Token)} {ps' : List (Parameter Tok Tok)} → AlikeParameters (rel s.run) number ps ps' → length ps ≡ length ps'
+  same_parameters a.no_parameter = refl
+  same_parameters (a.a_parameter h hs) = ap suc (same_parameters hs)
+
   same_count : {i : OrderedItem Leaf Token ℕ} {i' : WrittenItem Tok Tok ℕ Tok} → AlikeItem (rel s.run) n i i' → item_bindings i + item_recipes i ≡ item_bindings i' + item_recipes i'
   same_count (a.assignment none h e) = refl
   same_count a.comment = refl
   same_count a.newline = refl
-  same_count (a.recipe none h body) = refl
+  same_count (a.recipe none h body) = ap (λ (k : ℕ). k + 1) (same_parameters h.parameters)
 
   -- what begins a line takes an identifier for its number
   pub on_line_moves : (i : OrderedItem Leaf Token ℕ) (m : Counters) (rest : State) → on_line n s ≡ Ok ((i, m), rest) → MovesBy n m (names s) (names rest)

@@ -1,5 +1,6 @@
 -- Recipes, as the parser reads them.
 use Rattle.std.proofs.Common.{◌≡◌, ◌∙◌, ℕ, Bool, List, map-id, Ok, Err, refl, sym, ap, subst}
+use Rattle.justfile_base.specs.Numerator.{number_of}
 use Rattle.justfile_base.specs.declared.token.Token.{Token}
 use Rattle.justfile_model.specs.AttributeRules.{arg_rules}
 use Rattle.justfile_model.specs.HeaderReader.{obeying}
@@ -91,11 +92,11 @@ module _ (quiet : Bool) (ws : Entries) (n : Counters) (s : State) (entries : Ent
         -- it is read
         pub recipe_read : (number : ℕ) (k : Counters) → draw_recipe m u ≡ Ok ((number, k), u) → (depth : ℕ) (offsets : List ℕ) → depth ≡ u.run.file_depth → offsets ≡ u.run.import_offsets
             → reader.recipe quiet ws n s
-            ≡ Ok ((recipe_item entries h (Headed (record { file_depth = depth; import_offsets = offsets; name = h.name.token.now; number = number })) lines, k), u)
+            ≡ Ok ((recipe_item entries h (Headed (record { file_depth = depth; import_offsets = offsets; name = h.name.token.now; number = number_of number })) lines, k), u)
         unfolding leaves
         recipe_read number k drawn depth offsets depth_is offsets_are =
             after_check
             ∙ ap (λ (o : Read (ℕ × Counters)). o >>= numbered_by entries h lines) drawn
             ∙ ap
-            (λ (x : ℕ × List ℕ). Ok ((recipe_item entries h (Headed (record { file_depth = x.0; import_offsets = x.1; name = h.name.token.now; number = number })) lines, k), u))
+            (λ (x : ℕ × List ℕ). Ok ((recipe_item entries h (Headed (record { file_depth = x.0; import_offsets = x.1; name = h.name.token.now; number = number_of number })) lines, k), u))
             (sym (λ i. (depth_is i, offsets_are i)))

@@ -5,4 +5,4 @@ use Rattle.justfile_parse.proofs.Hashes.{still_hash}
 use Rattle.justfile_parse.proofs.items.make_comment.Goals as goal
 
 pub returns-clause-whole : goal.returns-clause-whole
-returns-clause-whole c = still_hash (lexeme_of c.args.comment) c.trim_end.result.now (c.trim_end.ensures.value ∙ ap trim_end c.lexeme.ensures) c.requires
+returns-clause-whole c = still_hash (lexeme_of c.args.comment) c.trim_end.result.now (c.trim_end.ensures.trim ∙ ap trim_end c.lexeme.ensures) c.requires
