@@ -11,7 +11,7 @@ use Rattle.justfile_model.specs.Reader.{after_numbered}
 use Rattle.justfile_model.specs.Reading.{◌>>=◌, Counters}
 use Rattle.justfile_parse.specs.ItemTable as reader
 use Rattle.justfile_parse.specs.ItemTable.{ReadItems, after_mark, items, kept, line, read_nothing}
-use Rattle.justfile_parse_expression.specs.TableReader.{Refusal, State, accept, leaves}
+use Rattle.justfile_parse_expression.specs.TableReader.{Read, Refusal, State, accept, leaves}
 use Rattle.justfile_parse_attribute.specs.Halting.{HaltsAt}
 use Rattle.justfile_parse.specs.MethodResults.{IsMoved}
 use Rattle.justfile_parse_expression.specs.MethodResults.{StopsAt, literal_refusal, refusal_at}

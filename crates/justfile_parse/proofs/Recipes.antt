@@ -1,6 +1,7 @@
 -- Recipes, as the parser reads them.
 use Rattle.std.proofs.Common.{◌≡◌, ◌∙◌, ℕ, Bool, List, map-id, Ok, Err, refl, sym, ap, subst}
 use Rattle.justfile_base.specs.Numerator.{number_of}
+use Rattle.justfile_base.specs.declared.number.Number.{Number}
 use Rattle.justfile_base.specs.declared.token.Token.{Token}
 use Rattle.justfile_model.specs.AttributeRules.{arg_rules}
 use Rattle.justfile_model.specs.HeaderReader.{obeying}
@@ -20,7 +21,7 @@ use Rattle.justfile_parse_expression.specs.declared.stop.Stop.{Stop}
 use Rattle.justfile_parse_header.specs.HeaderTable.{ReadHeader, header}
 use Rattle.justfile_parse_header.proofs.Halts.{first_halts, first_stops, halted, stopped}
 use Rattle.justfile_tree.specs.LeafSight.{sees_leaves}
-use Rattle.justfile_tree.specs.LeafTree.{Headed, Leaf}
+use Rattle.justfile_tree.specs.LeafTree.{Headed, Leaf, RecipeName}
 
 abbrev Body : Type 0
 Body = List (BodyLine Leaf Token ℕ)
@@ -90,13 +91,16 @@ module _ (quiet : Bool) (ws : Entries) (n : Counters) (s : State) (entries : Ent
             fails e is = after_check ∙ ap (λ (o : Read (ℕ × Counters)). o >>= numbered_by entries h lines) is
 
         -- it is read
-        pub recipe_read : (number : ℕ) (k : Counters) → draw_recipe m u ≡ Ok ((number, k), u) → (depth : ℕ) (offsets : List ℕ) → depth ≡ u.run.file_depth → offsets ≡ u.run.import_offsets
-            → reader.recipe quiet ws n s
-            ≡ Ok ((recipe_item entries h (Headed (record { file_depth = depth; import_offsets = offsets; name = h.name.token.now; number = number_of number })) lines, k), u)
+        pub recipe_read : (number : ℕ) (k : Counters) → draw_recipe m u ≡ Ok ((number, k), u) → (name : RecipeName)
+            → name ≡ record { file_depth = u.run.file_depth; import_offsets = u.run.import_offsets; name = h.name.token.now; number = number_of number }
+            → reader.recipe quiet ws n s ≡ Ok ((recipe_item entries h (Headed name) lines, k), u)
         unfolding leaves
-        recipe_read number k drawn depth offsets depth_is offsets_are =
+        recipe_read number k drawn name is =
             after_check
             ∙ ap (λ (o : Read (ℕ × Counters)). o >>= numbered_by entries h lines) drawn
-            ∙ ap
-            (λ (x : ℕ × List ℕ). Ok ((recipe_item entries h (Headed (record { file_depth = x.0; import_offsets = x.1; name = h.name.token.now; number = number_of number })) lines, k), u))
-            (sym (λ i. (depth_is i, offsets_are i)))
+            ∙ ap (λ (x : RecipeName). Ok ((recipe_item entries h (Headed x) lines, k), u)) (sym is)
+
+-- what is kept of a recipe's name
+pub recipe_named : (depth depth' : ℕ) (offsets offsets' : List ℕ) (name name' : Token) (number : Number) → depth ≡ depth' → offsets ≡ offsets' → name ≡ name'
+    → ◌≡◌ {A = RecipeName} (record { file_depth = depth; import_offsets = offsets; name = name; number = number }) (record { file_depth = depth'; import_offsets = offsets'; name = name'; number = number_of number.0 })
+recipe_named depth depth' offsets offsets' name name' number a b c = λ i. record { file_depth = a i; import_offsets = b i; name = c i; number = number }

@@ -1,4 +1,4 @@
-use Rattle.std.proofs.Common.{◌∙◌, map, subst, sym}
+use Rattle.std.proofs.Common.{◌+◌, ◌≡◌, ◌∙◌, map, rules, subst, sym}
 use Rattle.std.proofs.lemmas.Result.{err_from_is_err_and}
 use Rattle.justfile_attribute_set.specs.AttributeSet.{leaf_entries_of, pairs_of}
 use Rattle.justfile_base.specs.declared.numerator.Numerator.{Numerator}
@@ -12,7 +12,7 @@ use Rattle.justfile_parse_header.specs.Counting.{counters_of, names}
 use Rattle.justfile_parse_header.specs.Tree.{header_tree}
 use Rattle.justfile_parse.proofs.Constructs.{set_keyed}
 use Rattle.justfile_parse.proofs.Moved.{drawn_moved, recipe_moved}
-use Rattle.justfile_parse.proofs.Recipes.{body_stops, exclusion_halts, header_halts, number_stops, recipe_read}
+use Rattle.justfile_parse.proofs.Recipes.{body_stops, exclusion_halts, header_halts, number_stops, recipe_named, recipe_read}
 use Rattle.justfile_parse.proofs.recipe.parse_recipe.Goals as goal
 
 pub parse_header-requires : goal.parse_header-requires
@@ -61,11 +61,14 @@ returns-clause-reads g c =
     let A = g.X.Expander.answer in
     let q = c.parse_body_after_header.new.parser in
     let u = state_of A q in
+    let copied : c.in_ok-import_offsets.import_offsets.items ≡ q.import_offsets.now = search (rules, c.in_ok-import_offsets.ensures.items_if_clones_equal) in
     recipe_read c.args.quiet (map entry_of_pair c.args.attributes.items) (counters_of c.args.numerator.now) (state_of A c.args.parser.now) (leaf_entries_of c.in_ok-attributes.attributes) c.in_ok-attributes.ensures.entries
     (header_tree c.in_ok-header.header) (counters_of c.parse_header.new.numerator) (state_of A c.parse_header.new.parser) c.in_ok-header.ensures.reads
     (map line_tree c.in_ok-body.body.items) u c.in_ok-body.ensures.reads (c.in_ok-check_exclusions.ensures u)
     c.in_ok-number.number.0 (counters_of c.draw_recipe.new.numerator) (c.in_ok-number.ensures.reads u)
-    q.file_depth c.in_ok-import_offsets.import_offsets.items (sym (file_depth_is A q)) (c.in_ok-import_offsets.ensures.items ∙ sym (import_offsets_are A q))
+    (record { file_depth = q.file_depth; import_offsets = c.in_ok-import_offsets.import_offsets.items; name = c.from_identifier.result.token; number = c.in_ok-number.number })
+    (recipe_named q.file_depth u.run.file_depth c.in_ok-import_offsets.import_offsets.items u.run.import_offsets c.from_identifier.result.token c.in_ok-header.header.name.token.now c.in_ok-number.number
+    (sym (file_depth_is A q)) (copied ∙ sym (import_offsets_are A q)) c.from_identifier.ensures)
 
 pub returns-clause-moved : goal.returns-clause-moved
 returns-clause-moved g c =
@@ -74,18 +77,18 @@ returns-clause-moved g c =
     c.in_ok-header.ensures.drawn (c.in_ok-number.ensures.reads (state_of A c.parse_body_after_header.new.parser))
 
 pub returns-in_err-header-clause-moved : goal.returns-in_err-header-clause-moved
-returns-in_err-header-clause-moved g c = drawn_moved c.args.numerator.now c.parse_header.new.numerator (names (state_of g.X.Expander.answer c.args.parser.now)) _ c.in_err-header.ensures.drawn
+returns-in_err-header-clause-moved g c = drawn_moved c.args.numerator.now c.parse_header.new.numerator (names (state_of g.X.Expander.answer c.args.parser.now)) 0 c.in_err-header.ensures.drawn
 
 pub returns-in_err-body-clause-moved : goal.returns-in_err-body-clause-moved
-returns-in_err-body-clause-moved g c = drawn_moved c.args.numerator.now c.parse_header.new.numerator (names (state_of g.X.Expander.answer c.args.parser.now)) _ c.in_ok-header.ensures.drawn
+returns-in_err-body-clause-moved g c = drawn_moved c.args.numerator.now c.parse_header.new.numerator (names (state_of g.X.Expander.answer c.args.parser.now)) (names (state_of g.X.Expander.answer c.parse_header.new.parser) + 1) c.in_ok-header.ensures.drawn
 
 pub returns-in_err-check_exclusions-clause-moved : goal.returns-in_err-check_exclusions-clause-moved
-returns-in_err-check_exclusions-clause-moved g c = drawn_moved c.args.numerator.now c.parse_header.new.numerator (names (state_of g.X.Expander.answer c.args.parser.now)) _ c.in_ok-header.ensures.drawn
+returns-in_err-check_exclusions-clause-moved g c = drawn_moved c.args.numerator.now c.parse_header.new.numerator (names (state_of g.X.Expander.answer c.args.parser.now)) (names (state_of g.X.Expander.answer c.parse_header.new.parser) + 1) c.in_ok-header.ensures.drawn
 
 pub returns-in_err-import_offsets-clause-moved : goal.returns-in_err-import_offsets-clause-moved
-returns-in_err-import_offsets-clause-moved g c = drawn_moved c.args.numerator.now c.parse_header.new.numerator (names (state_of g.X.Expander.answer c.args.parser.now)) _ c.in_ok-header.ensures.drawn
+returns-in_err-import_offsets-clause-moved g c = drawn_moved c.args.numerator.now c.parse_header.new.numerator (names (state_of g.X.Expander.answer c.args.parser.now)) (names (state_of g.X.Expander.answer c.parse_header.new.parser) + 1) c.in_ok-header.ensures.drawn
 
 pub returns-in_err-number-clause-moved : goal.returns-in_err-number-clause-moved
 returns-in_err-number-clause-moved g c =
     let P : Numerator → Type 0 = λ n. IsMoved c.args.numerator.now n (names (state_of g.X.Expander.answer c.args.parser.now)) in
-    subst P (sym c.in_err-number.ensures.unmoved) (drawn_moved c.args.numerator.now c.parse_header.new.numerator (names (state_of g.X.Expander.answer c.args.parser.now)) _ c.in_ok-header.ensures.drawn)
+    subst P (sym c.in_err-number.ensures.unmoved) (drawn_moved c.args.numerator.now c.parse_header.new.numerator (names (state_of g.X.Expander.answer c.args.parser.now)) (names (state_of g.X.Expander.answer c.parse_header.new.parser) + 1) c.in_ok-header.ensures.drawn)
