@@ -1,6 +1,6 @@
 mod CopiedAttributes
 mod CopiedPairs
-mod CopiedTrees
+pub mod CopiedTrees
 mod Firsts
 mod Groups
 mod Kept

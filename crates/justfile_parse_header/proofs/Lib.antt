@@ -1,4 +1,3 @@
-pub mod CopiedTrees
 pub mod Dependencies
 pub mod Draws
 pub mod Fewer

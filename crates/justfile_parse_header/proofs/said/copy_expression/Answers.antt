@@ -1,6 +1,6 @@
 use Rattle.std.proofs.Common.{◌≡◌, ◌∙◌, rules, arith}
 use Rattle.std.proofs.lemmas.Grind.{common_steps}
-use Rattle.justfile_parse_header.proofs.CopiedTrees.{same_tree}
+use Rattle.justfile_attribute_set.proofs.CopiedTrees.{same_tree}
 use Rattle.justfile_parse_header.proofs.said.copy_expression.Goals as goal
 use Rattle.justfile_tree.specs.LeafTree.{leaf_tree_of}
 
