@@ -253,7 +253,7 @@ module _ (conditions : Conditions) (Hit : Option SignificantToken → Type 0) wh
   exclusions_covered xs h ls =
       let said = arg_rules (meant_by xs) in
       let others : List (Broken Tok) = options_broken (token_sight conditions) h.name said ++ parameters_broken (token_sight conditions) said [] h.parameters
-          ++ undefined_broken (token_sight conditions) h.parameters said in
+      ++ undefined_broken (token_sight conditions) h.parameters said in
       among_others others (exclusions_broken (token_sight conditions) h.name (meant_by xs))
       (among_first (recipe_broken (token_sight conditions) h (meant_by xs)) (header_broken h) (all_among (breaks_by xs (recipe_content h ls))))
 

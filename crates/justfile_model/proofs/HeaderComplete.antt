@@ -461,7 +461,7 @@ module _ (conditions : Conditions) (Hit : Option SignificantToken → Type 0) wh
         let features : List (Noted Tok) = flat_map rules_features said in
         let found : ReadHeader SignificantToken Tok Tok Tok = r.header_of token_leaves token_sight said name ps ds ss in
         let regroups : ((ns ++ features) ++ fs) ++ gs ≡ ns ++ (features ++ (fs ++ gs)) =
-            append_assoc (ns ++ features) fs gs ∙ append_assoc ns features (fs ++ gs) in
+        append_assoc (ns ++ features) fs gs ∙ append_assoc ns features (fs ++ gs) in
         known_as conditions Hit (IsAt (IsHeader quiet h n) (input conditions 0 rest (ns ++ (features ++ (fs ++ gs)))))
         (λ x same. as_header (ns ++ (features ++ (fs ++ gs))) quiet h n found rest x refl same)
         (regrouped conditions Hit

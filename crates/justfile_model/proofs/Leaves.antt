@@ -329,7 +329,7 @@ module _ (conditions : Conditions) (tokens : Tokens) (spelled : AllSpelled token
         unbroken = tree_unbroken conditions.expander x.tree kinded (ap (broken sight) x.alike ∙ h.unbroken);
       } in
       let same : map (over_noted nothing) features ≡ fs =
-          sym (all_features_seen conditions.expander x.tree x.features kinded) ∙ (λ i. all_features sight (x.alike i) (x.noted_alike i)) ∙ sym h.features_are
+      sym (all_features_seen conditions.expander x.tree x.features kinded) ∙ (λ i. all_features sight (x.alike i) (x.noted_alike i)) ∙ sym h.features_are
       in
       (t.0, features, record { written = x.tree; by_construct = x.features; derives = x.derives; features_are = refl; obeys = obeys; ordered_is = t.1 }, t.2, same)
 

@@ -193,14 +193,18 @@ module _ {R T A B S D W R' T' A' B' S' D' W' : Type 0} (rel : Relations R T A B 
           → Related rel (AlikeNumbered n) (NoRecipe Lacking) (cond b (Ok ((c.recipes, with_recipes (c.recipes + 1) c), s)) (Err (NoNumber c)) >>= headed one kept quiet ws x body)
           (cond b' (Ok ((c.recipes, with_recipes (c.recipes + 1) c), s')) (Err (NoNumber c)) >>= headed other kept' quiet ws' x' body')
       go true true is is' =
-          both (a.recipe (attributed.attributes s.run s'.run h.run q) (record {
-            quiet = refl;
-            name = subst (λ (number : ℕ). rel.recipe number (one.recipe s.run x.name c.recipes body) body (other.recipe s'.run x'.name c.recipes body') body') unmoved
-            (agree.recipe s.run s'.run x.name x'.name h.run k.name c.recipes body body' ls);
-            parameters = k.parameters;
-            priors = k.priors;
-            subsequents = k.subsequents;
-          }) ls, refl, λ i. with_recipes (unmoved i + 1) (k.counts i)) h
+          both (
+            a.recipe (attributed.attributes s.run s'.run h.run q) (record {
+              quiet = refl;
+              name = subst (λ (number : ℕ). rel.recipe number (one.recipe s.run x.name c.recipes body) body (other.recipe s'.run x'.name c.recipes body') body') unmoved
+                  (agree.recipe s.run s'.run x.name x'.name h.run k.name c.recipes body body' ls);
+              parameters = k.parameters;
+              priors = k.priors;
+              subsequents = k.subsequents;
+            }) ls,
+            refl,
+            λ i. with_recipes (unmoved i + 1) (k.counts i),
+          ) h
       go true false is is' = let left = agree.has_number c.recipes is in cc
       go false true is is' =
           short {found = Ok ((c.recipes, with_recipes (c.recipes + 1) c), s') >>= headed other kept' quiet ws' x' body'} (no_number is (λ _. refl) refl)
@@ -345,8 +349,10 @@ module _ {R T A B S D W R' T' A' B' S' D' W' : Type 0} (rel : Relations R T A B 
   content_natural {ws} {ws'} n q {s} {s'} {from} h is =
       let named : List TokenKind = kinds.Identifier ∷ kinds.ColonEquals ∷ [] in
       by_tests rel (next_are one named s) (next_are other named s') (same_next rel one other agree named h)
-      (weaken rel (λ x y q. q) (λ m k. (subst (λ (c : Counters). Lacks n from c) (sym k.0) (binding is k.1 k.2),
-      subst (λ (c : Counters). AllExceed c (assignment other kept' ws' n s')) (sym k.0) k.3)) (assignment_natural n q h))
+      (weaken rel (λ x y q. q) (λ m k. (
+        subst (λ (c : Counters). Lacks n from c) (sym k.0) (binding is k.1 k.2),
+        subst (λ (c : Counters). AllExceed c (assignment other kept' ws' n s')) (sym k.0) k.3,
+      )) (assignment_natural n q h))
       (weaken rel (λ x y q. q) (λ m k. recipe_lacks n m is k) (any_recipe_natural n q h))
 
   pub construct_natural : (n : Counters) {s : State R T B} {s' : State R' T' B'} → States rel s s'

@@ -412,7 +412,7 @@ module _ {R T A B S D R' T' A' B' S' D' : Type 0} (rel : Relations R T A B S D R
   one_more kind export n c {ps} {ps'} name name' {e} {e'} run run' q counts t v h =
       record {
         parameters = more_parameters rel n q (subst (λ (m : Counters). AlikeParameter rel m.bindings (In kind export ps name e run c)
-        (Other kind export ps' name' e' run' c)) counts (with_number kind export n c name name' run run' q t v h));
+            (Other kind export ps' name' e' run' c)) counts (with_number kind export n c name name' run run' q t v h));
         same = refl;
         counts = ap (λ (m : Counters). with_bindings (m.bindings + 1) m) counts ∙ sym (after_more n ps (In kind export ps name e run c));
       }
@@ -543,7 +543,7 @@ module _ {R T A B S D R' T' A' B' S' D' : Type 0} (rel : Relations R T A B S D R
         lacks = (w.same, w.reads);
         ends = subst (λ (c : Counters). one.has_number c.bindings ≡ false) (sym w.same) w.ends;
         exceeds = exceeds_after m (r.parameter other sight' rules' kind x') _ (subst (λ (c : Counters). Exceeded other sight' rules' c (r.parameter other sight' rules' kind x')) (sym w.same) w.exceeds)
-        (λ p. kept_grow other sight' rules' p (r.nothing_after other p.1));
+            (λ p. kept_grow other sight' rules' p (r.nothing_after other p.1));
       })
       (λ p p' is is' q k. bind rel _ _ (nothing_after_natural rel one other agree k) (λ u u' c j. both q j))
 

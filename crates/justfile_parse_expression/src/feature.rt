@@ -16,11 +16,7 @@ impl<'src, X: Expander> ExpressionParser<'_, 'src, X> {
 
     /// Notes a feature that needs the setting for lists.
     #[tactic(auto, unfolding(crate::specs::View::state_at, crate::specs::View::state_of, crate::specs::View::left))]
-    pub fn note(
-        &mut self,
-        feature: ListFeature,
-        token: Token<'src>,
-    ) -> Result<(), Stop<'src>>
+    pub fn note(&mut self, feature: ListFeature, token: Token<'src>) -> Result<(), Stop<'src>>
         ensures notes { UnlessMemory result
             (λ done. state_of X.answer self.new ≡ with (noted feature token.entry) (state_of X.answer self.old)) }
         ensures stays { left self.new ≡ left self.old }

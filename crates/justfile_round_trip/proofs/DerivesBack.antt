@@ -105,9 +105,10 @@ module _ (limit : ℕ) (ind : List ℕ) where
         let content : ShapeContent = tree.Recipe (bare_recipe header []) in
         let on = end_marks (Construct entries content) items (marks ind items) in
         let a = attributes_before_header limit entries header glued on attributes in
-        let r = derive_after entries content more in
-        (record { attributes = a.0; content = h.features } ∷ r.0,
-        g.on_line a.1 (g.header (h.derives.derives (glued_after (rewritten_entries entries) glued) on (value_ends entries content more))) r.1)
+        let r = derive_after entries content more in (
+          record { attributes = a.0; content = h.features } ∷ r.0,
+          g.on_line a.1 (g.header (h.derives.derives (glued_after (rewritten_entries entries) glued) on (value_ends entries content more))) r.1,
+        )
     derive_start (good.recipe {entries = entries} {h = header} {l = l} {ls = ls} attributes h body (good.body_end {items = items} follows last more)) glued =
         let a = attributes_before_header limit entries header glued (newline ∷ body_marks ind (l ∷ ls) (marks ind items)) attributes in
         let b = block_back limit ind header l ls (glued_after (rewritten_entries entries) glued) (marks ind items) h body in
