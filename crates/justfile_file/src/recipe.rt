@@ -45,7 +45,8 @@ pub struct UnresolvedRecipe<'src> {
     pub private: bool,
     /// Whether `@` stands before its name.
     pub quiet: bool,
-    /// Whether its body begins with a `#!` line.
+    /// Whether a program of its own runs it: it has the attribute `script`, or its body begins with
+    /// a `#!` line.
     pub shebang: bool,
 }
 
