@@ -1,5 +1,5 @@
 -- Recipes, as the parser reads them.
-use Rattle.std.proofs.Common.{◌≡◌, ◌∙◌, ℕ, Bool, List, map-id, Ok, Err, refl, sym, ap, subst}
+use Rattle.std.proofs.Common.{◌≡◌, ◌∙◌, ℕ, Bool, List, map-id, Ok, Err, sym, ap, subst}
 use Rattle.justfile_base.specs.Numerator.{number_of}
 use Rattle.justfile_base.specs.declared.number.Number.{Number}
 use Rattle.justfile_base.specs.declared.token.Token.{Token}

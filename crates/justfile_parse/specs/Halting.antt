@@ -1,19 +1,13 @@
 -- What a method returns that reads items, and so may find a rule broken.
-use Rattle.std.specs.Prelude.{◌≡◌, ℕ, List, Option, Result, Ok, Err}
+use Rattle.std.specs.Prelude.{◌≡◌, ℕ, List, Option}
 use Rattle.justfile_base.specs.declared.fault.Fault.{Fault}
 use Rattle.justfile_base.specs.declared.fault.Fault.TheVariants as faults
-use Rattle.justfile_base.specs.declared.numerator.Numerator.{Numerator}
 use Rattle.justfile_base.specs.declared.token.Token.{Token}
-use Rattle.justfile_model.specs.Reading as reading
 use Rattle.justfile_parse_attribute.specs.Halting.{IsExtraneous}
 use Rattle.justfile_parse.specs.MethodResults.{IsFaultOf}
-use Rattle.justfile_model.specs.Reading.{Counters}
-use Rattle.justfile_parse_expression.specs.TableReader.{Read, State}
 use Rattle.justfile_parse_expression.specs.declared.significant.TableEntry.{TableEntry}
 use Rattle.justfile_parse_attribute.specs.declared.halt.Halt.{Halt}
 use Rattle.justfile_parse_attribute.specs.declared.halt.Halt.TheVariants as halts
-use Rattle.justfile_parse_attribute.specs.Halting.{HaltsAt}
-use Rattle.justfile_parse_header.specs.Counting.{counters_of}
 
 -- the fault of attributes before a blank line or a comment
 abbrev pub IsExtraneousFault : ℕ → (opener : Token) → Fault → Type 0

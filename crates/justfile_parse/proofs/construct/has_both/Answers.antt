@@ -1,6 +1,5 @@
-use Rattle.std.proofs.Common.{Bool, ◌≡◌, ◌∙◌, ◌&&◌, ap, sym}
-use Rattle.justfile_attribute_set.specs.AttributeSet.{attributes_of, leaf_entries_of, pairs_of}
-use Rattle.justfile_attribute_set.specs.Attributes.{has_kind}
+use Rattle.std.proofs.Common.{◌≡◌, ◌∙◌, sym}
+use Rattle.justfile_attribute_set.specs.AttributeSet.{leaf_entries_of, pairs_of}
 use Rattle.justfile_model.specs.ContentKeys.{has_attribute}
 use Rattle.justfile_parse.proofs.Constructs.{has_seen}
 use Rattle.justfile_parse.proofs.construct.has_both.Goals as goal
