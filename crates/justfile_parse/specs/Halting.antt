@@ -1,4 +1,4 @@
--- What a method returns that reads items, and so may find a rule broken.
+-- The fault for which reading a file halts.
 use Rattle.std.specs.Prelude.{◌≡◌, ℕ, List, Option}
 use Rattle.justfile_base.specs.declared.fault.Fault.{Fault}
 use Rattle.justfile_base.specs.declared.fault.Fault.TheVariants as faults
