@@ -211,6 +211,7 @@ module _ (expander : Expansions) (P Q : Token → Type 0) (weaker : (t : Token) 
         among = weaker r.name.token h.among;
         parameters = All-weaker (IsGivenParameter expander P) (IsGivenParameter expander Q) given_parameter r.parameters.items h.parameters;
         said = h.said;
+        priors = h.priors;
         dependencies = All-weaker (IsGivenDependency expander P) (IsGivenDependency expander Q) given_dependency r.dependencies.items h.dependencies;
         body = All-weaker (IsGivenLine expander P) (IsGivenLine expander Q) given_line r.body.items h.body;
         file_depth_is = h.file_depth_is;

@@ -126,6 +126,7 @@ module _ (conditions : Conditions) (IsToken : Token → Type 0) (file_depth : �
           among = subst IsToken token name.among;
           parameters = ps.given;
           said = whole.parameters;
+          priors = whole.priors;
           dependencies = headers.both_given conditions IsToken file_depth import_offsets r.priors r.dependencies.items ds.1 es.1;
           body = x.1;
           file_depth_is = ap (λ (x : RecipeName). x.file_depth) same;

@@ -1,5 +1,5 @@
 -- What the parser gives the parts of a tree beside their tokens.
-use Rattle.std.specs.Prelude.{◌≡◌, ◌↔◌, ◌⊎◌, ℕ, ◌+◌, map, Bool, false, List, Option, Some, None, Ok, IsSomeAnd, IsTrue, string_bytes, Contains, All}
+use Rattle.std.specs.Prelude.{◌≡◌, ◌≤◌, ◌↔◌, ◌⊎◌, ℕ, ◌+◌, length, map, Bool, false, List, Option, Some, None, Ok, IsSomeAnd, IsTrue, string_bytes, Contains, All}
 use Rattle.justfile_attribute.specs.declared.attribute.Attribute.{Attribute}
 use Rattle.justfile_attribute.specs.declared.attribute.Attribute.TheVariants as attributes
 use Rattle.justfile_attribute.specs.declared.interpreter.Interpreter.{Interpreter}
@@ -204,6 +204,8 @@ pub record IsGivenRecipe (expander : Expansions) (IsToken : Token → Type 0) (f
   -- what the parameters have by what the recipe's attributes say of them
   pub said : AreWholeParameters (rules_of recipe.attributes) recipe.parameters.items
   pub dependencies : All (IsGivenDependency expander IsToken) recipe.dependencies.items
+  -- so many of them stand before `&&`, which is all of them where there is none
+  pub priors : recipe.priors ≤ length recipe.dependencies.items
   pub body : All (IsGivenLine expander IsToken) recipe.body.items
   pub file_depth_is : recipe.file_depth ≡ file_depth
   pub import_offsets_are : recipe.import_offsets.items ≡ import_offsets

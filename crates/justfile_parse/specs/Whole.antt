@@ -1,5 +1,5 @@
 -- What follows, of a construct, from its name, its attributes and its body.
-use Rattle.std.specs.Prelude.{◌≡◌, ℕ, All, Bool, IsTrue, ◌||◌, ◌==◌, List, codes, nat_eq, slice_index, map}
+use Rattle.std.specs.Prelude.{◌≡◌, ◌≤◌, ℕ, All, Bool, IsTrue, ◌||◌, ◌==◌, List, codes, length, nat_eq, slice_index, map}
 use Rattle.std.specs.List.{starts_with}
 use Rattle.justfile_attribute_set.specs.AttributeSet.{AttributeSet, attributes_of}
 use Rattle.justfile_attribute_set.specs.Attributes.{has_kind}
@@ -29,9 +29,10 @@ abbrev pub IsWholeAssignment : Binding Expression → Type 0
 IsWholeAssignment a = a.private ≡ is_hidden a.name.token a.attributes
 
 -- A recipe with the attribute `script`, or whose first line begins `#!`, is run by a program of its own. Its parameters are what its attributes
--- say of them.
+-- say of them. No more dependencies stand before `&&` than there are.
 pub record IsWholeRecipe (r : UnresolvedRecipe) : Type 0 where
   pub parameters : AreWholeParameters (rules_of r.attributes) r.parameters.items
+  pub priors : r.priors ≤ length r.dependencies.items
   pub private : r.private ≡ is_hidden r.name.token r.attributes
   pub shebang : r.shebang ≡ has_kind kinds.Script (attributes_of r.attributes) || has_shebang (map line_tree r.body.items)
 

@@ -1,6 +1,6 @@
 -- A header in the steps in which it is read.
-use Rattle.std.proofs.Common.{◌≡◌, ◌∙◌, ℕ, List, [], ◌++◌, length, map, take, drop, Ok, Err, refl, sym, ap}
-use Rattle.std.proofs.lemmas.List.{drop-map, length-map, take-map}
+use Rattle.std.proofs.Common.{◌≡◌, ◌∙◌, ◌≤◌, ℕ, List, [], ◌++◌, length, map, take, drop, Ok, Err, refl, sym, ap, arith}
+use Rattle.std.proofs.lemmas.List.{drop-map, length-append, length-map, take-map}
 use Rattle.std.proofs.Math.Seq.{drop-append_seam, take-append_seam}
 use Rattle.std.specs.List.{flat_map}
 use Rattle.justfile_base.specs.declared.token_kind.TokenKind.TheVariants as kinds
@@ -59,6 +59,10 @@ module _ (before all : List UnresolvedDependency) (more : Dependencies) (is : ma
       ∙ ap (λ (k : ℕ). take k (map dependency_tree before ++ more)) seam
       ∙ ap (take (length before)) is
       ∙ take-map dependency_tree (length before) all
+
+  -- those before are no more than all
+  pub priors_within : length before ≤ length all
+  priors_within = omega (arith, seam, length-append (map dependency_tree before) more, ap length is, length-map all dependency_tree)
 
   pub subsequents_are : more ≡ map dependency_tree (drop (length before) all)
   subsequents_are =

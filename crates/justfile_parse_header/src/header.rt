@@ -1,5 +1,5 @@
 //! The header of a recipe, from its name to its end.
-ghost use Rattle.std.specs.Prelude.{◌≡◌, ◌<◌, IfOk, OnOk};
+ghost use Rattle.std.specs.Prelude.{◌≡◌, ◌<◌, ◌≤◌, IfOk, OnOk, length};
 ghost use Rattle.justfile_attribute_set.specs.AttributeSet.{attributes_of};
 ghost use Rattle.justfile_base.specs.declared.token_kind.TokenKind.TheVariants as kinds;
 ghost use Rattle.justfile_parse_expression.specs.View.{left, state_of};
@@ -44,6 +44,7 @@ pub fn parse_header<'run, 'src, X: Expander>(
         (reader.header (rules_of attributes.now) (counters_of numerator.old) (state_of X.answer parser.old)) }
     ensures whole { IfOk result (λ header. AreWholeParameters (rules_of attributes.now) header.parameters.items) }
     ensures drawn { HasDrawn numerator.old numerator.new (names (state_of X.answer parser.old)) (names_after_header result (state_of X.answer parser.new)) }
+    ensures priors { IfOk result (λ header. header.priors ≤ length header.dependencies.items) }
     ensures named { IfOk result (λ header. header.name.token.now.kind ≡ kinds.Identifier) }
     ensures progress { OnOk result (left parser.new < left parser.old) }
 {

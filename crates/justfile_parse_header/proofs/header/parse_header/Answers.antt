@@ -15,7 +15,7 @@ use Rattle.justfile_parse_header.proofs.Draws.{header_drawn, none_drawn, within}
 use Rattle.justfile_parse_header.proofs.Fewer.{name_fewer, noted_names}
 use Rattle.justfile_parse_header.proofs.Halts.{halted, stopped}
 use Rattle.justfile_parse_header.proofs.HeaderFewer.{others_fewer, priors_fewer}
-use Rattle.justfile_parse_header.proofs.Headers.{header_read, name_fails, options_fail, others_fail, parameters_fail, priors_fail, ruled, undefined_fail}
+use Rattle.justfile_parse_header.proofs.Headers.{header_read, name_fails, options_fail, others_fail, parameters_fail, priors_fail, priors_within, read_after, ruled, undefined_fail}
 use Rattle.justfile_parse_header.proofs.header.parse_header.Goals as goal
 
 pub returns-in_err-name-clause-reads : goal.returns-in_err-name-clause-reads
@@ -249,6 +249,16 @@ returns-clause-reads g c =
     let s4 = state_of A c.parse_subsequents.new.parser in
     header_read rules n s name s1 named distinct (map parameter_tree parameters) (counters_of next) s2 taken defined priors s3 before all s4 c.in_ok-parse_subsequents.ensures.reads
     c.len-priors.result (omega (arith, c.len-priors.ensures, c.parse_dependencies.new.dependencies.ok.0))
+
+pub returns-clause-priors : goal.returns-clause-priors
+returns-clause-priors g c =
+    let A = g.X.Expander.answer in
+    let before = c.parse_dependencies.new.dependencies.items in
+    let all = c.parse_subsequents.new.dependencies.items in
+    let s3 = state_of A c.parse_dependencies.new.parser in
+    let s4 = state_of A c.parse_subsequents.new.parser in
+    let others = read_after (map dependency_tree before) (map dependency_tree all) (reader.subsequents s3) s4 c.in_ok-parse_subsequents.ensures.reads in
+    omega (arith, c.len-priors.ensures, c.parse_dependencies.new.dependencies.ok.0, priors_within before all others.0 others.2)
 
 pub returns-clause-drawn : goal.returns-clause-drawn
 returns-clause-drawn g c =
