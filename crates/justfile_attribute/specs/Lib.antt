@@ -5,3 +5,4 @@ pub mod New
 pub mod Order
 pub mod Print
 pub mod Interpreter
+pub mod Interpreters

@@ -5,6 +5,7 @@ pub mod attribute;
 mod cache_values;
 mod copied;
 mod interpreter;
+mod interpreters;
 mod new;
 mod order;
 mod part;

@@ -1,5 +1,5 @@
 -- Which error says that a rule is broken.
-use Rattle.std.specs.Prelude.{◌≡◌, ℕ, ◌+◌, ◌^◌, Option, Some, None, string_bytes}
+use Rattle.std.specs.Prelude.{◌≡◌, ℕ, ◌+◌, ◌^◌, Option, Some, None, codes, string_bytes}
 use Rattle.justfile_base.specs.Token.{lexeme_of}
 use Rattle.justfile_base.specs.declared.compile_error.CompileError.{CompileError}
 use Rattle.justfile_base.specs.declared.compile_error_kind.CompileErrorKind.{CompileErrorKind}
@@ -8,6 +8,7 @@ use Rattle.justfile_base.specs.declared.switch.Switch.TheVariants as switches
 use Rattle.justfile_base.specs.declared.token.Token.{Token}
 use Rattle.justfile_model.specs.Rules as rules
 use Rattle.justfile_model.specs.Rules.{Broken, Rule}
+use Rattle.justfile_model.specs.Versions.{version_numbers}
 
 -- the greatest number stands for no bound
 abbrev pub IsMost : Option ℕ → ℕ → Type 0
@@ -53,6 +54,10 @@ SaysRule at (rules.ScriptAndShellAttribute recipe) (errors.ScriptAndShellAttribu
 SaysRule at rules.MappedDependencyMultipleStarredArguments errors.MappedDependencyMultipleStarredArguments = Unit {0}
 SaysRule at rules.MappedDependencyWithoutStarredArgument errors.MappedDependencyWithoutStarredArgument = Unit {0}
 SaysRule at rules.StarredArgumentOutsideMappedDependency errors.StarredArgumentOutsideMappedDependency = Unit {0}
+SaysRule at (rules.SettingExpression keyword) (errors.SettingExpression setting) = setting ≡ keyword
+SaysRule at (rules.InvalidIndentation reason) (errors.InvalidIndentation message) = message.now ≡ reason
+SaysRule at (rules.InvalidMinimumVersion text) (errors.InvalidMinimumVersion source version) = (source.now ≡ codes "invalid version") × (string_bytes version ≡ text)
+SaysRule at (rules.MinimumVersion least running) (errors.MinimumVersion current minimum) = (version_numbers minimum ≡ least) × (version_numbers current ≡ running)
 SaysRule at rule kind = ⊥
 
 -- the error is that of the broken rule

@@ -62,8 +62,20 @@ pub(crate) fn may_have(item_kind: ItemKind, kind: AttributeKind) -> bool
     ensures { result ≡ is_allowed item_kind kind }
 {
     match item_kind {
-        ItemKind::Assignment => kind.is_enabler() || matches!(kind, AttributeKind::Private),
-        ItemKind::Recipe => true,
+        ItemKind::Alias | ItemKind::Assignment => {
+            kind.is_enabler() || matches!(kind, AttributeKind::Private)
+        }
         ItemKind::Comment | ItemKind::Newline => false,
+        ItemKind::Function | ItemKind::Import | ItemKind::Setting | ItemKind::Unexport => {
+            kind.is_enabler()
+        }
+        ItemKind::Module => {
+            kind.is_enabler()
+                || matches!(
+                    kind,
+                    AttributeKind::Doc | AttributeKind::Group | AttributeKind::Private
+                )
+        }
+        ItemKind::Recipe => true,
     }
 }

@@ -4,6 +4,7 @@ mod KeywordTable
 mod TokenStart
 pub mod AttributeKindLaws
 pub mod IndentationLemmas
+pub mod KeywordLaws
 pub mod PathLemmas
 pub mod SignalLaws
 pub mod VersionLemmas

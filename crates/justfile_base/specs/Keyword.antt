@@ -1,5 +1,7 @@
 -- How keywords are spelled.
-use Rattle.std.specs.Prelude.{ℕ, List, codes}
+use Rattle.std.specs.Prelude.{ℕ, List, [], ◌∷◌, codes, Option}
+use Rattle.std.specs.List.{find}
+use Rattle.std.specs.Str.{bytes_eq}
 use Rattle.justfile_base.specs.declared.keyword.Keyword.{Keyword}
 use Rattle.justfile_base.specs.declared.keyword.Keyword.TheVariants.{Alias, AllowDuplicateRecipes, AllowDuplicateVariables, Assert, DefaultList, DefaultScript, DotenvCommand, DotenvFilename, DotenvLoad, DotenvOverride, DotenvPath, DotenvRequired, Eager, Else, Export, F, Fallback, False, Guards, If, IgnoreComments, Import, Indentation, Lazy, Lists, MinimumVersion, Mod, NoCd, NoExitMessage, PositionalArguments, Quiet, ScriptInterpreter, Set, Shell, Tempdir, True, Unexport, Unstable, WindowsPowershell, WindowsShell, WorkingDirectory, X}
 
@@ -46,3 +48,11 @@ keyword_text WindowsPowershell = codes "windows-powershell"
 keyword_text WindowsShell = codes "windows-shell"
 keyword_text WorkingDirectory = codes "working-directory"
 keyword_text X = codes "x"
+
+-- all keywords, in their order
+abbrev pub keywords : List Keyword
+keywords = Alias ∷ AllowDuplicateRecipes ∷ AllowDuplicateVariables ∷ Assert ∷ DefaultList ∷ DefaultScript ∷ DotenvCommand ∷ DotenvFilename ∷ DotenvLoad ∷ DotenvOverride ∷ DotenvPath ∷ DotenvRequired ∷ Eager ∷ Else ∷ Export ∷ F ∷ Fallback ∷ False ∷ Guards ∷ If ∷ IgnoreComments ∷ Import ∷ Indentation ∷ Lazy ∷ Lists ∷ MinimumVersion ∷ Mod ∷ NoCd ∷ NoExitMessage ∷ PositionalArguments ∷ Quiet ∷ ScriptInterpreter ∷ Set ∷ Shell ∷ Tempdir ∷ True ∷ Unexport ∷ Unstable ∷ WindowsPowershell ∷ WindowsShell ∷ WorkingDirectory ∷ X ∷ []
+
+-- the keyword that is spelled so
+unfoldable pub keyword_named : List ℕ → Option Keyword
+keyword_named text = find (λ keyword. bytes_eq (keyword_text keyword) text) keywords

@@ -1,10 +1,13 @@
 use crate::attribute_kind::AttributeKind;
 use crate::delimiter::Delimiter;
 use crate::item_kind::ItemKind;
+use crate::keyword::Keyword;
 use crate::name::Name;
 use crate::string_literal::StringLiteral;
 use crate::switch::Switch;
+use crate::token::Token;
 use crate::token_kind::TokenKind;
+use crate::version::Version;
 
 /// Why a text is refused.
 #[derive(Debug, Drop, PartialEq)]
@@ -93,6 +96,11 @@ pub enum CompileErrorKind<'src> {
     ExitMessageAndNoExitMessageAttribute {
         recipe: &'src str,
     },
+    /// One of these keywords has to stand here.
+    ExpectedKeyword {
+        expected: Vec<Keyword>,
+        found: Token<'src>,
+    },
     /// Attributes stand before a comment or an empty line.
     ExtraneousAttributes {
         /// How many they are.
@@ -133,6 +141,15 @@ pub enum CompileErrorKind<'src> {
     InvalidEscapeSequence {
         character: char,
     },
+    /// A text is no indentation, for the reason that is given.
+    InvalidIndentation {
+        message: &'static str,
+    },
+    /// A text is no version, for the reason that is given.
+    InvalidMinimumVersion {
+        source: &'static str,
+        version: String,
+    },
     /// A text is the name of no signal that is known.
     InvalidSignal {
         signal: String,
@@ -141,6 +158,11 @@ pub enum CompileErrorKind<'src> {
     MappedDependencyMultipleStarredArguments,
     /// A dependency is starred and none of its arguments is.
     MappedDependencyWithoutStarredArgument,
+    /// The justfile asks for a later version of the program than the running one.
+    MinimumVersion {
+        current: Version,
+        minimum: Version,
+    },
     /// A delimiter closes another one.
     MismatchedClosingDelimiter {
         close: Delimiter,
@@ -177,6 +199,10 @@ pub enum CompileErrorKind<'src> {
     /// A recipe has attributes that exclude each other.
     ScriptAndShellAttribute {
         recipe: &'src str,
+    },
+    /// The value of the setting is to be a plain literal, and is another expression.
+    SettingExpression {
+        setting: Keyword,
     },
     /// The text of a literal that is marked `x` is not expanded, for the reason that is given.
     ShellExpansion {
@@ -237,6 +263,10 @@ pub enum CompileErrorKind<'src> {
     UnknownAttributeKey {
         attribute: &'src str,
         key: &'src str,
+    },
+    /// A name is that of no setting.
+    UnknownSetting {
+        setting: &'src str,
     },
     /// No token begins with this character.
     UnknownStartOfToken {

@@ -5,14 +5,26 @@ use std::fmt;
 /// What an item is.
 #[derive(Clone, Copy, Debug, PartialEq, Eq)]
 pub enum ItemKind {
+    /// `alias name := target`
+    Alias,
     /// `name := value`
     Assignment,
     /// A line that begins with `#`, or such a text after an item.
     Comment,
+    /// `name(parameters) := body`
+    Function,
+    /// `import path`
+    Import,
+    /// `mod name`
+    Module,
     /// The end of a line.
     Newline,
     /// A recipe, with a body or without one.
     Recipe,
+    /// `set name`
+    Setting,
+    /// `unexport name`
+    Unexport,
 }
 
 impl ItemKind {
@@ -23,8 +35,13 @@ impl ItemKind {
         ensures { result.now ≡ item_kind_article self }
     {
         match self {
-            ItemKind::Assignment => "an",
-            ItemKind::Comment | ItemKind::Newline | ItemKind::Recipe => "a",
+            ItemKind::Alias | ItemKind::Assignment | ItemKind::Import | ItemKind::Unexport => "an",
+            ItemKind::Comment
+            | ItemKind::Function
+            | ItemKind::Module
+            | ItemKind::Newline
+            | ItemKind::Recipe
+            | ItemKind::Setting => "a",
         }
     }
 
@@ -32,10 +49,16 @@ impl ItemKind {
         ensures { result.now ≡ item_kind_text self }
     {
         match self {
+            ItemKind::Alias => "alias",
             ItemKind::Assignment => "assignment",
             ItemKind::Comment => "comment",
+            ItemKind::Function => "function",
+            ItemKind::Import => "import",
+            ItemKind::Module => "module",
             ItemKind::Newline => "newline",
             ItemKind::Recipe => "recipe",
+            ItemKind::Setting => "setting",
+            ItemKind::Unexport => "unexport",
         }
     }
 }

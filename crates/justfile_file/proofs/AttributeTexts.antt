@@ -1,5 +1,5 @@
 -- The texts of the literals of attributes are theirs, where those of their expressions and literals are.
-use Rattle.std.proofs.Common.{◌≡◌, ℕ, List, [], ◌∷◌, ◌++◌, map, Option, Some, None, sym, subst}
+use Rattle.std.proofs.Common.{ℕ, List, [], ◌∷◌, ◌++◌, map, Option, Some, None, sym, subst}
 use Rattle.std.specs.Prelude.{All, IfSome}
 use Rattle.std.specs.Global.{Box}
 use Rattle.std.specs.List.{flat_map}
@@ -43,7 +43,7 @@ module _ (expander : Expansions) where
       (both_cook (map (over_literal lexeme) a) texts (map (over_literal lexeme) b) more h k)
 
   -- a part that may be missing
-  optional_cooks : {X Y : Type 0} (see : X → Y) (literals : Y → List (Literal Tok)) (cooked : X → List (List ℕ)) (P : X → Type 0)
+  pub optional_cooks : {X Y : Type 0} (see : X → Y) (literals : Y → List (Literal Tok)) (cooked : X → List (List ℕ)) (P : X → Type 0)
       → ((x : X) → P x → Cook (literals (see x)) (cooked x)) → (o : Option X) → IfSome o P → Cook (optional_literals literals (option_map see o)) (optional cooked o)
   optional_cooks see literals cooked P f None h = tt
   optional_cooks see literals cooked P f (Some x) h = f x h

@@ -1,5 +1,5 @@
 -- Printing from left to right gives the text of the normal shape.
-use Rattle.std.proofs.Common.{◌≡◌, ℕ, ◌+◌, ◌<◌, List, [], ◌∷◌, ◌++◌, length, take, drop, get_or, map, codes, refl, sym, ap, ◌∙◌, subst, append_assoc, append-nil}
+use Rattle.std.proofs.Common.{◌≡◌, ℕ, true, false, ◌+◌, ◌<◌, List, [], ◌∷◌, ◌++◌, length, take, drop, get_or, map, codes, refl, sym, ap, ◌∙◌, subst, append_assoc, append-nil}
 use Rattle.std.proofs.lemmas.List.{take_more, map-append, take-append-drop}
 use Rattle.justfile_model.specs.Tree as tree
 use Rattle.justfile_model.specs.Tree.{Shape}
@@ -7,7 +7,29 @@ use Rattle.justfile_model.specs.NormalShape.{after_newline, normal_rest, normal}
 use Rattle.justfile_model.specs.Printing.{fixed_text, item_text, item_end, text}
 use Rattle.justfile_file.specs.declared.gap.Gap.{Gap}
 use Rattle.justfile_file.specs.declared.gap.Gap.TheVariants.{Start, Item, Line, Blank}
-use Rattle.justfile_file.specs.Gap.{ItemShape, gap_text, next_gap, step_text, front_text, last_gap, end_text}
+use Rattle.justfile_file.specs.Gap.{ItemShape, gap_text, is_line_end, next_gap, step_text, front_text, last_gap, end_text, wider}
+
+-- a line end widens the gap, and puts nothing
+pub gap_at_end : (gap : Gap) (i : ItemShape) → is_line_end i ≡ true → wider gap ≡ next_gap gap i
+gap_at_end gap tree.Newline e = refl
+gap_at_end gap (tree.Comment t) e = absurd cc
+gap_at_end gap (tree.Construct d c) e = absurd cc
+
+pub text_at_end : (indentation : List ℕ) (gap : Gap) (i : ItemShape) → is_line_end i ≡ true → [] ≡ step_text indentation gap i
+text_at_end indentation gap tree.Newline e = refl
+text_at_end indentation gap (tree.Comment t) e = absurd cc
+text_at_end indentation gap (tree.Construct d c) e = absurd cc
+
+-- another item is put after the gap
+pub gap_past : (gap : Gap) (i : ItemShape) → is_line_end i ≡ false → Item ≡ next_gap gap i
+gap_past gap tree.Newline e = absurd cc
+gap_past gap (tree.Comment t) e = refl
+gap_past gap (tree.Construct d c) e = refl
+
+pub text_past : (indentation : List ℕ) (gap : Gap) (i : ItemShape) → is_line_end i ≡ false → gap_text gap ++ item_text i indentation ≡ step_text indentation gap i
+text_past indentation gap tree.Newline e = absurd cc
+text_past indentation gap (tree.Comment t) e = refl
+text_past indentation gap (tree.Construct d c) e = refl
 
 thrice : (s : Shape) → after_newline (after_newline (after_newline s)) ≡ after_newline (after_newline s)
 thrice [] = refl

@@ -3,7 +3,10 @@ pub mod AttributeTexts
 pub mod Bodies
 pub mod Gaps
 pub mod HeaderTexts
+pub mod Indented
+pub mod ItemTexts
 pub mod Loops
 pub mod PrintedBack
+pub mod SettingTexts
 pub mod ShownDocs
 pub mod SigilLaws

@@ -1,5 +1,5 @@
 -- Printing from left to right: what stands between items.
-use Rattle.std.specs.Prelude.{ℕ, List, [], ◌∷◌, ◌++◌, codes}
+use Rattle.std.specs.Prelude.{ℕ, Bool, true, false, List, [], ◌∷◌, ◌++◌, codes}
 use Rattle.justfile_model.specs.Tree as tree
 use Rattle.justfile_model.specs.Tree.{OrderedItem, Shape}
 use Rattle.justfile_model.specs.Printing.{item_text}
@@ -22,6 +22,11 @@ wider Blank = Blank
 
 abbrev pub ItemShape : Type 0
 ItemShape = OrderedItem (List ℕ) (Unit {0}) (Unit {0})
+
+-- the end of a line
+abbrev pub is_line_end : ItemShape → Bool
+is_line_end tree.Newline = true
+is_line_end _ = false
 
 -- the gap after an item
 abbrev pub next_gap : Gap → ItemShape → Gap

@@ -3,10 +3,15 @@ pub mod Ast
 pub mod AttributeParts
 pub mod Attributes
 pub mod Copies
+pub mod Doc
+pub mod FunctionParameter
 pub mod Gap
 pub mod HeaderParts
+pub mod Indented
 pub mod Item
+pub mod ItemText
 pub mod Line
 pub mod PrintsBack
 pub mod Recipe
+pub mod SettingParts
 pub mod Sigil

@@ -1,5 +1,5 @@
-ghost use Rattle.std.specs.Prelude.{◌++◌, OnOk, OnErr, IfOk, codes};
-ghost use Rattle.justfile_base.specs.Token.{lexeme_of};
+ghost use Rattle.std.specs.Prelude.{OnOk, OnErr, IfOk};
+ghost use Rattle.justfile_model.specs.Printing.{fixed_text, if_true};
 ghost use Rattle.justfile_file.specs.Assignment.{binding_text};
 ghost use Rattle.justfile_file.specs.Copies.{IsSameAssignment};
 
@@ -18,6 +18,8 @@ impl<'src> Binding<'src, Expression<'src>> {
     {
         Ok(Binding {
             attributes: self.attributes.clone(alloc)?,
+            eager: self.eager,
+            export: self.export,
             file_depth: self.file_depth,
             name: self.name,
             number: self.number,
@@ -28,6 +30,14 @@ impl<'src> Binding<'src, Expression<'src>> {
     }
 }
 
+/// Puts a word and a space before a name, if it is said.
+fn write_word<S: Sink>(said: bool, word: &str, sink: &mut S) -> Result<(), S::Fault>
+    ensures ok { OnOk result (S.took sink.old (if_true said (fixed_text word.now)) sink.new) }
+    ensures err { OnErr result (S.failed sink.old (if_true said (fixed_text word.now)) sink.new) }
+{
+    if said { put_piece(word, sink) } else { Ok(()) }
+}
+
 /// Puts the text of an assignment, without its attributes.
 pub(crate) fn write_assignment<S: Sink>(
     assignment: &Assignment<'_>,
@@ -36,6 +46,8 @@ pub(crate) fn write_assignment<S: Sink>(
     ensures ok { OnOk result (S.took sink.old (binding_text assignment.now) sink.new) }
     ensures err { OnErr result (S.failed sink.old (binding_text assignment.now) sink.new) }
 {
+    write_word(assignment.eager, "eager ", sink)?;
+    write_word(assignment.export, "export ", sink)?;
     sink.put(assignment.name.lexeme())?;
     put_piece(" := ", sink)?;
     write_expression(&assignment.value, sink)?;

@@ -1,10 +1,14 @@
-ghost use Rattle.std.specs.Prelude.{◌≡◌, OnOk, OnErr, IfOk, map, string_bytes, None};
+ghost use Rattle.std.specs.Prelude.{◌≡◌, All, OnOk, OnErr, IfOk, IfSome, map, string_bytes};
 ghost use Rattle.std.specs.List.{list_all};
+ghost use Rattle.std.specs.Option.{option_map};
 ghost use Rattle.justfile_base.specs.Indentation.{indentation_text};
+ghost use Rattle.justfile_model.specs.Enabled.{indentation_of};
 ghost use Rattle.justfile_model.specs.NormalShape.{normal};
 ghost use Rattle.justfile_model.specs.Printing.{printable, printable_item, text};
-ghost use Rattle.justfile_file.specs.Ast.{ast_shape};
+ghost use Rattle.justfile_tree.specs.Expression.{literal_tok};
+ghost use Rattle.justfile_file.specs.Ast.{ast_shape, tree_of};
 ghost use Rattle.justfile_file.specs.Gap.{front_text, end_text};
+ghost use Rattle.justfile_file.specs.Indented.{IsWholeItem, items_indentation};
 ghost use Rattle.justfile_file.specs.Item.{item_shape};
 ghost use Rattle.justfile_file.specs.PrintsBack.{PrintsBack};
 ghost use Rattle.justfile_file.specs.declared.gap.Gap.TheVariants.{Start};
@@ -36,11 +40,18 @@ pub struct Ast<'src> {
 impl<'src> Ast<'src> {
     ghost use Rattle.justfile_file.specs.Copies.{IsSameAst};
 
-    /// The indentation that the file sets for itself: none so far.
+    /// The indentation that the file sets for itself: that of the first setting `indentation` that
+    /// is there on this system.
+    #[tactic(auto, using(crate::proofs::Indented::indented_tree, crate::proofs::Indented::indented_text))]
     pub fn indentation(&self) -> Option<Indentation>
-        ensures { result ≡ None }
+        ensures first { result ≡ option_map (λ p. p.1) (items_indentation self.now.items.items) }
+        // The literal of that setting is the one that the definitions take of the file's tree.
+        ensures literal { indentation_of (tree_of self.now) ≡ option_map (λ p. literal_tok p.0) (items_indentation self.now.items.items) }
+        // Its text is the indentation.
+        ensures text { All IsWholeItem self.now.items.items
+            → IfSome (items_indentation self.now.items.items) (λ p. indentation_text p.1 ≡ string_bytes p.0.cooked) }
     {
-        None
+        first_indentation(&self.items)
     }
 
     /// Whether the printed text parses back: no line of a body ends in a carriage return.
@@ -78,6 +89,19 @@ impl<'src> Ast<'src> {
         write_ast(self, indentation, &mut printed)?;
         Ok(printed)
     }
+}
+
+/// The indentation that the first of the items sets that sets one.
+#[tactic(auto, using(crate::proofs::Indented::none_here, crate::proofs::Indented::found_here, crate::proofs::Indented::none_left))]
+fn first_indentation(items: &[Item<'_>]) -> Option<Indentation>
+    ensures { result ≡ option_map (λ p. p.1) (items_indentation items.now) }
+{
+    for item in items {
+        if let Some(indentation) = item.indentation() {
+            return Some(indentation);
+        }
+    }
+    None
 }
 
 /// Whether each of the items, printed, reads back.

@@ -1,9 +1,17 @@
-ghost use Rattle.std.specs.Prelude.{OnOk, OnErr};
+ghost use Rattle.std.specs.Prelude.{◌≡◌, OnOk, OnErr};
+ghost use Rattle.justfile_attribute_set.specs.contracts.attribute_set.PairSetAttributeNamePartialEq.TheImpl as sets;
 ghost use Rattle.justfile_file.specs.Attributes.{attribute_line, attributes_text};
 
 use justfile_attribute::{Attribute, write_attribute};
 use justfile_attribute_set::AttributeSet;
 use justfile_tree::{Sink, put_piece};
+
+/// Whether two sets have equal attributes.
+pub(crate) fn are_equal<'src>(attributes: &AttributeSet<'src>, others: &AttributeSet<'src>) -> bool
+    ensures { result ≡ sets.eq-value.it attributes.now others.now }
+{
+    attributes == others
+}
 
 /// Puts an attribute in brackets, on a line of its own.
 fn write_attribute_line<S: Sink>(attribute: &Attribute<'_>, sink: &mut S) -> Result<(), S::Fault>

@@ -1,32 +1,66 @@
 ghost use Rattle.std.specs.Prelude.{◌≡◌, OnOk, OnErr, IfOk, string_bytes};
+ghost use Rattle.std.specs.Option.{option_copied, option_map};
 ghost use Rattle.justfile_base.specs.Indentation.{indentation_text};
-ghost use Rattle.justfile_model.specs.Printing.{item_text, printable_item};
-ghost use Rattle.justfile_file.specs.Gap.{gap_text, next_gap, step_text};
+ghost use Rattle.justfile_model.specs.Printing.{if_some, item_text, printable_item};
+ghost use Rattle.justfile_file.specs.Attributes.{attributes_text};
+ghost use Rattle.justfile_file.specs.Copies.{IsSameItem};
+ghost use Rattle.justfile_file.specs.Gap.{gap_text, is_line_end, next_gap, step_text};
 ghost use Rattle.justfile_file.specs.Item.{item_shape};
+ghost use Rattle.justfile_file.specs.ItemText.{bare_text, item_attributes, item_doc_text};
+ghost use Rattle.justfile_file.specs.declared.item.Item.TheVariants as items;
 
+use crate::alias::{Alias, write_alias};
 use crate::assignment::{Assignment, write_assignment};
 use crate::attributes::write_attributes;
 use crate::copied::Copied;
+use crate::doc::{copy_doc, write_doc};
+use crate::function_definition::{FunctionDefinition, write_function};
 use crate::gap::Gap;
-use crate::recipe::{UnresolvedRecipe, write_doc, write_recipe};
-use justfile_base::Indentation;
+use crate::path::{copy_path, write_import, write_module, write_unexport};
+use crate::recipe::{UnresolvedRecipe, write_recipe};
+use crate::set::{Set, write_set};
+use justfile_attribute_set::AttributeSet;
+use justfile_base::{Indentation, Name, Namepath, StringLiteral};
 use justfile_tree::Sink;
 use std::alloc::{AllocError, Global};
 
 /// What stands on the lines of a file.
 #[derive(Debug, Drop)]
 pub enum Item<'src> {
+    Alias(Alias<'src, Namepath<'src>>),
     Assignment(Assignment<'src>),
     /// A comment without the white space at its end.
     Comment(&'src str),
+    Function(FunctionDefinition<'src>),
+    /// `import relative`, or `import? relative`, which asks for no file.
+    Import {
+        attributes: AttributeSet<'src>,
+        optional: bool,
+        relative: StringLiteral<'src>,
+    },
+    /// `mod name`, or `mod? name`, which asks for no file, with a path or without.
+    Module {
+        attributes: AttributeSet<'src>,
+        /// What the comment before it says of it, if there is one that does.
+        doc: Option<String>,
+        name: Name<'src>,
+        optional: bool,
+        relative: Option<StringLiteral<'src>>,
+    },
     /// The end of a line, or a blank line.
     Newline,
     Recipe(UnresolvedRecipe<'src>),
+    Setting(Set<'src>),
+    /// A variable that recipes are not to have in their environment.
+    Unexport {
+        attributes: AttributeSet<'src>,
+        name: Name<'src>,
+    },
 }
 
 impl<'src> Item<'src> {
     ghost use Rattle.justfile_model.specs.Reader.{has_body};
-    ghost use Rattle.justfile_file.specs.Copies.{IsSameItem};
+    ghost use Rattle.justfile_file.specs.Indented.{item_indentation};
     ghost use Rattle.justfile_file.specs.Item.{is_item_enabled, item_of};
 
     /// A copy of the item.
@@ -34,10 +68,26 @@ impl<'src> Item<'src> {
         ensures { IfOk result (λ copy. IsSameItem copy self.now) }
     {
         match self {
+            Item::Alias(alias) => Ok(Item::Alias(alias.clone(alloc)?)),
             Item::Assignment(assignment) => Ok(Item::Assignment(assignment.clone(alloc)?)),
             Item::Comment(text) => Ok(Item::Comment(text)),
+            Item::Function(function) => Ok(Item::Function(function.clone(alloc)?)),
+            Item::Import {
+                attributes,
+                optional,
+                relative,
+            } => copy_import(attributes, alloc, *optional, relative),
+            Item::Module {
+                attributes,
+                doc,
+                name,
+                optional,
+                relative,
+            } => copy_module(attributes, alloc, doc, name, *optional, relative),
             Item::Newline => Ok(Item::Newline),
             Item::Recipe(recipe) => Ok(Item::Recipe(recipe.clone(alloc)?)),
+            Item::Setting(set) => Ok(Item::Setting(set.clone(alloc)?)),
+            Item::Unexport { attributes, name } => copy_unexport(attributes, alloc, name),
         }
     }
 
@@ -46,8 +96,33 @@ impl<'src> Item<'src> {
         ensures { result ≡ has_body (item_of self.now) }
     {
         match self {
-            Item::Assignment(_) | Item::Comment(_) | Item::Newline => false,
             Item::Recipe(recipe) => !recipe.body.is_empty(),
+            Item::Alias(_)
+            | Item::Assignment(_)
+            | Item::Comment(_)
+            | Item::Function(_)
+            | Item::Import { .. }
+            | Item::Module { .. }
+            | Item::Newline
+            | Item::Setting(_)
+            | Item::Unexport { .. } => false,
+        }
+    }
+
+    /// The attributes of an item that may have some.
+    fn attributes(&self) -> Option<&AttributeSet<'src>>
+        ensures { option_copied result ≡ item_attributes self.now }
+    {
+        match self {
+            Item::Alias(alias) => Some(&alias.attributes),
+            Item::Assignment(assignment) => Some(&assignment.attributes),
+            Item::Comment(_) | Item::Newline => None,
+            Item::Function(function) => Some(&function.attributes),
+            Item::Import { attributes, .. }
+            | Item::Module { attributes, .. }
+            | Item::Unexport { attributes, .. } => Some(attributes),
+            Item::Recipe(recipe) => Some(&recipe.attributes),
+            Item::Setting(set) => Some(&set.attributes),
         }
     }
 
@@ -55,10 +130,9 @@ impl<'src> Item<'src> {
     pub fn is_enabled(&self) -> bool
         ensures { result ≡ is_item_enabled self.now }
     {
-        match self {
-            Item::Assignment(assignment) => assignment.attributes.is_enabled(),
-            Item::Comment(_) | Item::Newline => true,
-            Item::Recipe(recipe) => recipe.attributes.is_enabled(),
+        match self.attributes() {
+            None => true,
+            Some(attributes) => attributes.is_enabled(),
         }
     }
 
@@ -67,8 +141,52 @@ impl<'src> Item<'src> {
         ensures { result ≡ printable_item (item_shape self.now) }
     {
         match self {
-            Item::Assignment(_) | Item::Comment(_) | Item::Newline => true,
             Item::Recipe(recipe) => recipe.is_printable(),
+            Item::Alias(_)
+            | Item::Assignment(_)
+            | Item::Comment(_)
+            | Item::Function(_)
+            | Item::Import { .. }
+            | Item::Module { .. }
+            | Item::Newline
+            | Item::Setting(_)
+            | Item::Unexport { .. } => true,
+        }
+    }
+
+    /// The indentation that the item sets, if it is that setting and is there on this system.
+    pub(crate) fn indentation(&self) -> Option<Indentation>
+        ensures { result ≡ option_map (λ p. p.1) (item_indentation self.now) }
+    {
+        match self {
+            Item::Setting(set) => set.indentation(),
+            Item::Alias(_)
+            | Item::Assignment(_)
+            | Item::Comment(_)
+            | Item::Function(_)
+            | Item::Import { .. }
+            | Item::Module { .. }
+            | Item::Newline
+            | Item::Recipe(_)
+            | Item::Unexport { .. } => None,
+        }
+    }
+
+    /// Whether the item is the end of a line.
+    fn is_line_end(&self) -> bool
+        ensures { result ≡ is_line_end (item_shape self.now) }
+    {
+        match self {
+            Item::Newline => true,
+            Item::Alias(_)
+            | Item::Assignment(_)
+            | Item::Comment(_)
+            | Item::Function(_)
+            | Item::Import { .. }
+            | Item::Module { .. }
+            | Item::Recipe(_)
+            | Item::Setting(_)
+            | Item::Unexport { .. } => false,
         }
     }
 
@@ -83,8 +201,6 @@ impl<'src> Item<'src> {
 }
 
 impl Copied for Item<'_> {
-    ghost use Rattle.justfile_file.specs.Copies.{IsSameItem};
-
     ghost is_copy = { IsSameItem };
 
     fn copied(&self, alloc: Global) -> Result<Self, AllocError> {
@@ -92,8 +208,127 @@ impl Copied for Item<'_> {
     }
 }
 
+/// A copy of an import.
+fn copy_import<'src>(
+    attributes: &AttributeSet<'src>,
+    alloc: Global,
+    optional: bool,
+    relative: &StringLiteral<'src>,
+) -> Result<Item<'src>, AllocError>
+    ensures { IfOk result (λ copy. IsSameItem copy (items.Import attributes.now optional relative.now)) }
+{
+    let attributes = attributes.clone(alloc)?;
+    Ok(Item::Import {
+        attributes,
+        optional,
+        relative: relative.clone(alloc)?,
+    })
+}
+
+/// A copy of a module.
+fn copy_module<'src>(
+    attributes: &AttributeSet<'src>,
+    alloc: Global,
+    doc: &Option<String>,
+    name: &Name<'src>,
+    optional: bool,
+    relative: &Option<StringLiteral<'src>>,
+) -> Result<Item<'src>, AllocError>
+    ensures { IfOk result (λ copy. IsSameItem copy (items.Module attributes.now doc.now name.now optional relative.now)) }
+{
+    let attributes = attributes.clone(alloc)?;
+    let doc = copy_doc(alloc, doc)?;
+    Ok(Item::Module {
+        attributes,
+        doc,
+        name: *name,
+        optional,
+        relative: copy_path(alloc, relative)?,
+    })
+}
+
+/// A copy of a variable that is not exported.
+fn copy_unexport<'src>(
+    attributes: &AttributeSet<'src>,
+    alloc: Global,
+    name: &Name<'src>,
+) -> Result<Item<'src>, AllocError>
+    ensures { IfOk result (λ copy. IsSameItem copy (items.Unexport attributes.now name.now)) }
+{
+    Ok(Item::Unexport {
+        attributes: attributes.clone(alloc)?,
+        name: *name,
+    })
+}
+
+/// Puts the doc of an item that has one, on a line of its own, where no attribute says it.
+fn write_item_doc<S: Sink>(item: &Item<'_>, sink: &mut S) -> Result<(), S::Fault>
+    ensures ok { OnOk result (S.took sink.old (item_doc_text item.now) sink.new) }
+    ensures err { OnErr result (S.failed sink.old (item_doc_text item.now) sink.new) }
+{
+    match item {
+        Item::Module {
+            attributes,
+            doc,
+            ..
+        } => write_doc(attributes, doc, sink),
+        Item::Recipe(recipe) => write_doc(&recipe.attributes, &recipe.doc, sink),
+        Item::Alias(_)
+        | Item::Assignment(_)
+        | Item::Comment(_)
+        | Item::Function(_)
+        | Item::Import { .. }
+        | Item::Newline
+        | Item::Setting(_)
+        | Item::Unexport { .. } => Ok(()),
+    }
+}
+
+/// Puts the attributes of an item, each on a line of its own.
+fn write_item_attributes<S: Sink>(item: &Item<'_>, sink: &mut S) -> Result<(), S::Fault>
+    ensures ok { OnOk result (S.took sink.old (if_some attributes_text (item_attributes item.now)) sink.new) }
+    ensures err { OnErr result (S.failed sink.old (if_some attributes_text (item_attributes item.now)) sink.new) }
+{
+    match item.attributes() {
+        None => Ok(()),
+        Some(attributes) => write_attributes(attributes, sink),
+    }
+}
+
+/// Puts the text of an item, without its doc and its attributes.
+fn write_bare<S: Sink>(
+    item: &Item<'_>,
+    indentation: Indentation,
+    sink: &mut S,
+) -> Result<(), S::Fault>
+    ensures ok { OnOk result (S.took sink.old (bare_text item.now (indentation_text indentation)) sink.new) }
+    ensures err { OnErr result (S.failed sink.old (bare_text item.now (indentation_text indentation)) sink.new) }
+{
+    match item {
+        Item::Alias(alias) => write_alias(alias, sink),
+        Item::Assignment(assignment) => write_assignment(assignment, sink),
+        Item::Comment(text) => sink.put(text),
+        Item::Function(function) => write_function(function, sink),
+        Item::Import {
+            optional,
+            relative,
+            ..
+        } => write_import(*optional, relative, sink),
+        Item::Module {
+            name,
+            optional,
+            relative,
+            ..
+        } => write_module(name, *optional, relative, sink),
+        Item::Newline => Ok(()),
+        Item::Recipe(recipe) => write_recipe(recipe, indentation, sink),
+        Item::Setting(set) => write_set(set, sink),
+        Item::Unexport { name, .. } => write_unexport(name, sink),
+    }
+}
+
 /// Puts the text of an item, after a line for its doc and for each of its attributes.
-#[tactic(auto, using(crate::proofs::ShownDocs::no_doc))]
+#[tactic(auto, using(crate::proofs::ShownDocs::item_parts))]
 pub(crate) fn write_item<S: Sink>(
     item: &Item<'_>,
     indentation: Indentation,
@@ -102,23 +337,14 @@ pub(crate) fn write_item<S: Sink>(
     ensures ok { OnOk result (S.took sink.old (item_text (item_shape item.now) (indentation_text indentation)) sink.new) }
     ensures err { OnErr result (S.failed sink.old (item_text (item_shape item.now) (indentation_text indentation)) sink.new) }
 {
-    match item {
-        Item::Assignment(assignment) => {
-            write_attributes(&assignment.attributes, sink)?;
-            write_assignment(assignment, sink)
-        }
-        Item::Comment(text) => sink.put(text),
-        Item::Newline => Ok(()),
-        Item::Recipe(recipe) => {
-            write_doc(recipe, sink)?;
-            write_attributes(&recipe.attributes, sink)?;
-            write_recipe(recipe, indentation, sink)
-        }
-    }
+    write_item_doc(item, sink)?;
+    write_item_attributes(item, sink)?;
+    write_bare(item, indentation, sink)
 }
 
 /// Puts what is printed of an item after a gap: a line end waits for the item that follows it.
 /// Answers the gap after the item.
+#[tactic(auto, using(crate::proofs::Gaps::gap_at_end, crate::proofs::Gaps::text_at_end, crate::proofs::Gaps::gap_past, crate::proofs::Gaps::text_past))]
 pub(crate) fn write_step<S: Sink>(
     item: &Item<'_>,
     indentation: Indentation,
@@ -129,12 +355,10 @@ pub(crate) fn write_step<S: Sink>(
     ensures ok { OnOk result (S.took sink.old (step_text (indentation_text indentation) gap (item_shape item.now)) sink.new) }
     ensures err { OnErr result (S.failed sink.old (step_text (indentation_text indentation) gap (item_shape item.now)) sink.new) }
 {
-    match item {
-        Item::Newline => Ok(gap.wider()),
-        Item::Assignment(_) | Item::Comment(_) | Item::Recipe(_) => {
-            sink.put(gap.text())?;
-            write_item(item, indentation, sink)?;
-            Ok(Gap::Item)
-        }
+    if item.is_line_end() {
+        return Ok(gap.wider());
     }
+    sink.put(gap.text())?;
+    write_item(item, indentation, sink)?;
+    Ok(Gap::Item)
 }

@@ -1,17 +1,16 @@
 ghost use Rattle.std.specs.Prelude.{◌≡◌, ◌++◌, OnOk, OnErr, IfOk, codes};
 ghost use Rattle.std.specs.List.{list_all};
-ghost use Rattle.std.specs.Option.{option_copied};
 ghost use Rattle.justfile_base.specs.Indentation.{indentation_text};
 ghost use Rattle.justfile_model.specs.Printing.{fixed_text, header_text, if_true, line_text, body_text, printable_fragments, printable_body};
 ghost use Rattle.justfile_file.specs.Copies.{IsSameRecipe};
 ghost use Rattle.justfile_file.specs.Item.{fragment_shapes, header_shape, line_shape, line_shapes, priors_of, subsequents_of};
-ghost use Rattle.justfile_file.specs.Recipe.{recipe_doc, recipe_doc_text, unresolved_recipe_text};
+ghost use Rattle.justfile_file.specs.Recipe.{unresolved_recipe_text};
 
 use crate::copied::{Copied, all_copied};
-use crate::doc::{copy_doc, text_of, write_doc_line};
+use crate::doc::copy_doc;
 use crate::line::{Line, write_line};
 use justfile_attribute_set::AttributeSet;
-use justfile_base::{AttributeKind, Indentation, Name, Number};
+use justfile_base::{Indentation, Name, Number};
 use justfile_header::{
     Parameter, UnresolvedDependency, write_dependencies, write_parameters, write_subsequents,
 };
@@ -75,18 +74,6 @@ impl<'src> UnresolvedRecipe<'src> {
             quiet: self.quiet,
             shebang: self.shebang,
         })
-    }
-
-    /// The doc that is printed: none where an attribute says it.
-    #[tactic(auto, using(crate::proofs::ShownDocs::recipe_doc_is))]
-    fn shown_doc(&self) -> Option<&str>
-        ensures { option_copied result ≡ recipe_doc self.now }
-    {
-        if self.attributes.contains(AttributeKind::Doc) {
-            None
-        } else {
-            text_of(&self.doc)
-        }
     }
 
     /// The dependencies before `&&`, or all of them, and those after it.
@@ -186,20 +173,6 @@ fn write_header<S: Sink>(recipe: &UnresolvedRecipe<'_>, sink: &mut S) -> Result<
     put_piece(":", sink)?;
     write_dependencies(priors, sink)?;
     write_subsequents(subsequents, sink)
-}
-
-/// Puts the doc of a recipe on a line of its own, where no attribute says it.
-pub(crate) fn write_doc<S: Sink>(
-    recipe: &UnresolvedRecipe<'_>,
-    sink: &mut S,
-) -> Result<(), S::Fault>
-    ensures ok { OnOk result (S.took sink.old (recipe_doc_text recipe.now) sink.new) }
-    ensures err { OnErr result (S.failed sink.old (recipe_doc_text recipe.now) sink.new) }
-{
-    match recipe.shown_doc() {
-        Some(doc) => write_doc_line(doc, sink),
-        None => Ok(()),
-    }
 }
 
 /// Puts the text of a recipe, without its doc and its attributes.

@@ -1,14 +1,20 @@
 -- What the program makes of a justfile.
-use Rattle.std.specs.Prelude.{◌≡◌, ◌≢◌, ℕ, true, false, List, Option, Some, Ok, codes}
+use Rattle.std.specs.Prelude.{◌≡◌, ◌≢◌, ℕ, true, false, List, Option, Some, None, Ok, IfSome, codes}
 use Rattle.std.specs.Str.{IsUtf8}
 use Rattle.std.specs.Io.KnownBytes.{Appends}
+use Rattle.justfile_base.specs.Indentation.{indentation_text}
+use Rattle.justfile_base.specs.declared.indentation.Indentation.{Indentation}
+use Rattle.justfile_base.specs.declared.string_literal.StringLiteral.{StringLiteral}
 use Rattle.justfile_model.specs.Conditions.{Conditions}
+use Rattle.justfile_model.specs.Enabled.{indentation_of}
 use Rattle.justfile_model.specs.Features.{Noted}
-use Rattle.justfile_model.specs.Literals.{Expansions}
+use Rattle.justfile_model.specs.Literals.{Expansions, string_text}
 use Rattle.justfile_model.specs.Printing.{printable}
 use Rattle.justfile_model.specs.Tok.{Tok}
 use Rattle.justfile_model.specs.Tree.{Tree, shape_of}
+use Rattle.justfile_tree.specs.Expression.{literal_tok}
 use Rattle.justfile_file.specs.Ast.{features_of, tree_of}
+use Rattle.justfile_file.specs.Indented.{items_indentation}
 use Rattle.justfile_file.specs.declared.ast.Ast.{Ast}
 use Rattle.justfile_round_trip.specs.RoundTrip.{TextDerives, printed}
 use Rattle.justfile_parse_expression.specs.Conditions.{depth_limit}
@@ -21,13 +27,20 @@ unchanged text = Some (Ok text)
 abbrev pub conditions : Conditions
 conditions = record { limit = depth_limit; expander = unchanged; current = record { major = 1; minor = 58; patch = 0 } }
 
--- the text is a justfile that can be printed, and this is its canonical text, with four spaces before the lines of bodies
+-- what stands before the lines of bodies: what the literal stands for by which the file is indented, or else four spaces
+abbrev pub IsIndentedBy : Option Tok → (indentation : List ℕ) → Type 0
+IsIndentedBy None indentation = indentation ≡ codes "    "
+IsIndentedBy (Some literal) indentation = string_text literal.lexeme ≡ Ok indentation
+
+-- the text is a justfile that can be printed, and this is its canonical text, indented as the file says
 pub record IsFormatted (source canonical : List ℕ) : Type 0 where
   pub tree : Tree
   pub features : List (Noted Tok)
   pub derives : TextDerives conditions source tree features
   pub can_be_printed : printable (shape_of tree) ≡ true
-  pub is : canonical ≡ printed (shape_of tree) (codes "    ")
+  pub indentation : List ℕ
+  pub is_indented : IsIndentedBy (indentation_of tree) indentation
+  pub is : canonical ≡ printed (shape_of tree) indentation
 
 -- the bytes are a text that is no justfile
 pub record IsRefusedText (source : List ℕ) : Type 0 where
@@ -58,11 +71,22 @@ pub record Differs (source : List ℕ) : Type 0 where
   pub formatted : IsFormatted source canonical
   pub differs : canonical ≢ source
 
+-- the indentation is what the literal stands for that says it
+abbrev pub IsSaid : StringLiteral × Indentation → Type 0
+IsSaid p = string_text (literal_tok p.0).lexeme ≡ Ok (indentation_text p.1)
+
+-- the indentation that the file has is said so
+abbrev pub IsIndented : Ast → Type 0
+IsIndented ast = IfSome (items_indentation ast.items.items) IsSaid
+
 -- the file is that of the text
 pub record IsFileOf (source : List ℕ) (ast : Ast) : Type 0 where
   pub derives : TextDerives conditions source (tree_of ast) (features_of ast)
+  pub indented : IsIndented ast
 
 -- the file can be printed, and this is its canonical text
 pub record IsPrinted (ast : Ast) (canonical : List ℕ) : Type 0 where
   pub can_be_printed : printable (shape_of (tree_of ast)) ≡ true
-  pub is : canonical ≡ printed (shape_of (tree_of ast)) (codes "    ")
+  pub indentation : List ℕ
+  pub is_indented : IsIndentedBy (indentation_of (tree_of ast)) indentation
+  pub is : canonical ≡ printed (shape_of (tree_of ast)) indentation

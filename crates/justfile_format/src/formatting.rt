@@ -1,14 +1,17 @@
 ghost use Rattle.std.specs.Prelude.{◌≡◌, Err, IfErr, IfOk, false, string_bytes};
 ghost use Rattle.justfile_format.specs.declared.failure.Failure.TheVariants as failures;
 ghost use Rattle.justfile_format.specs.Failure.{IsOfText};
-ghost use Rattle.justfile_format.specs.Formatting.{IsFileOf, IsFormatted, IsPrinted, IsRefusedText, IsUnprintable};
-ghost use Rattle.justfile_file.specs.Ast.{ast_shape};
+ghost use Rattle.justfile_format.specs.Formatting.{IsFileOf, IsFormatted, IsIndented, IsIndentedBy, IsPrinted, IsRefusedText, IsUnprintable};
+ghost use Rattle.justfile_base.specs.Indentation.{indentation_text};
+ghost use Rattle.justfile_file.specs.Ast.{ast_shape, tree_of};
+ghost use Rattle.justfile_model.specs.Enabled.{indentation_of};
 ghost use Rattle.justfile_model.specs.Printing.{printable};
 
 use crate::failure::Failure;
 use crate::unchanged::Unchanged;
 use justfile_syntax::ast::Ast;
 use justfile_syntax::fault::Fault;
+use justfile_syntax::indentation::Indentation;
 use justfile_syntax::numerator::Numerator;
 use justfile_syntax::parser::Parser;
 use justfile_syntax::source::Source;
@@ -24,6 +27,7 @@ const CURRENT: Version = Version {
 };
 
 /// Parses a text as the root file `justfile`.
+#[tactic(auto, using(crate::proofs::Indented::file_of))]
 fn parse(alloc: Global, source: &str) -> Result<Ast<'_>, Failure>
     ensures ok { IfOk result (IsFileOf source.now) }
     ensures refused { result ≡ Err failures.Refused → IsRefusedText source.now }
@@ -53,8 +57,21 @@ fn parse(alloc: Global, source: &str) -> Result<Ast<'_>, Failure>
     }
 }
 
+/// The indentation of the lines of bodies: that which the file says, or four spaces.
+#[tactic(auto, using(crate::proofs::Indented::said, crate::proofs::Indented::unsaid))]
+fn indentation_for(ast: &Ast<'_>) -> Indentation
+    requires { IsIndented ast.now }
+    ensures { IsIndentedBy (indentation_of (tree_of ast.now)) (indentation_text result) }
+{
+    match ast.indentation() {
+        Some(indentation) => indentation,
+        None => Indentation::default(),
+    }
+}
+
 /// The canonical text of a file, which stays as it is.
 fn print(alloc: Global, ast: &mut Ast<'_>) -> Result<String, Failure>
+    requires { IsIndented ast.old }
     ensures ok { IfOk result (λ text. IsPrinted ast.old (string_bytes text)) }
     ensures refused { result ≡ Err failures.Refused → ⊥ }
     ensures unprintable { result ≡ Err failures.NotPrintable → printable (ast_shape ast.old) ≡ false }
@@ -63,7 +80,7 @@ fn print(alloc: Global, ast: &mut Ast<'_>) -> Result<String, Failure>
     if !ast.printable() {
         return Err(Failure::NotPrintable);
     }
-    let indentation = ast.indentation().unwrap_or_default();
+    let indentation = indentation_for(ast);
     Ok(ast.print(alloc, indentation)?)
 }
 

@@ -9,6 +9,7 @@ mod piece;
 pub mod unresolved_dependency;
 
 pub use crate::parameter::{Parameter, write_parameter, write_parameters};
+pub use crate::path::write_namepath;
 pub use crate::unresolved_dependency::{
     DependencyArgument, UnresolvedDependency, write_dependencies, write_dependency,
     write_subsequents,

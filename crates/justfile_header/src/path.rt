@@ -1,4 +1,4 @@
-//! How the path of a dependency is put.
+//! How the path of a recipe is put.
 ghost use Rattle.std.specs.Prelude.{OnOk, OnErr};
 ghost use Rattle.justfile_base.specs.Name.{name_text};
 ghost use Rattle.justfile_base.specs.Namepath.{namepath_text};
@@ -31,7 +31,7 @@ fn write_names<S: Sink>(names: &[Name<'_>], sink: &mut S) -> Result<(), S::Fault
 }
 
 /// Puts the names of a path with two colons between each two.
-pub(crate) fn write_namepath<S: Sink>(path: &Namepath<'_>, sink: &mut S) -> Result<(), S::Fault>
+pub fn write_namepath<S: Sink>(path: &Namepath<'_>, sink: &mut S) -> Result<(), S::Fault>
     ensures ok { OnOk result (S.took sink.old (namepath_text path.now) sink.new) }
     ensures err { OnErr result (S.failed sink.old (namepath_text path.now) sink.new) }
 {

@@ -38,7 +38,7 @@ no_rule rules r none h = absurd (omega (arith, h.among.1, ap length none))
 module _ (conditions : Conditions) where
   -- what is read or refused where the grammar has this tree
   abbrev FileReached : (Hit : Option SignificantToken → Type 0) → Result Found Refusal → Found → Type 0
-  FileReached Hit found x = ReachesOne conditions Hit found x (all_literals x.0) (broken (token_sight conditions) x.0)
+  FileReached Hit found x = ReachesOne conditions Hit found x (all_literals x.0) (broken conditions.current (token_sight conditions) x.0)
 
   -- where all obeys, it is read, or too deep at a token where the limit is waived
   read_or_deep : (Hit : Option SignificantToken → Type 0) (found : Result Found Refusal) (x : Found) → Obeys conditions x.0 → FileReached Hit found x
@@ -47,10 +47,10 @@ module _ (conditions : Conditions) where
   read_or_deep Hit found x obeys (is_refused (inl (inl h)) is) =
       absurd (lacks_none conditions (all_literals x.0) _ (all_cook conditions.expander (all_literals x.0) obeys.cooked obeys.cooks) h)
   read_or_deep Hit found x obeys (is_refused (inl (inr h)) is) = inr (h.token, h.hit, is ∙ ap (λ r. Err r) h.refusal_is)
-  read_or_deep Hit found x obeys (is_refused {r = r} (inr h) is) = absurd (no_rule (broken (token_sight conditions) x.0) r obeys.unbroken h)
+  read_or_deep Hit found x obeys (is_refused {r = r} (inr h) is) = absurd (no_rule (broken conditions.current (token_sight conditions) x.0) r obeys.unbroken h)
 
   is_due : (Hit : Option SignificantToken → Type 0) (written : WrittenTree) (r : Refusal)
-      → DueAmong conditions Hit (all_literals written) (broken (token_sight conditions) written) r → IsDue conditions Hit written r
+      → DueAmong conditions Hit (all_literals written) (broken conditions.current (token_sight conditions) written) r → IsDue conditions Hit written r
   is_due Hit written r (inl (inl h)) = inl h
   is_due Hit written r (inl (inr h)) = inr (inl h)
   is_due Hit written r (inr h) = inr (inr (record { rule = h.rule; among = h.among; refusal_is = h.refusal_is }))

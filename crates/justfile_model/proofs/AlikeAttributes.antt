@@ -82,6 +82,7 @@ module _ {R T A B S D R' T' A' B' S' D' : Type 0} (rel : Relations R T A B S D R
   pub record SeesAlike (sight : Sight A B) (sight' : Sight A' B') : Type 0 where
     pub bytes : (n : A) (n' : A') → rel.name n n' → sight.bytes n ≡ sight'.bytes n'
     pub name_place : (n : A) (n' : A') → rel.name n n' → rel.spot (sight.place n) (sight'.place n')
+    pub literal_bytes : (l : Literal (List ℕ)) (t : A) (t' : A') → rel.literal l t t' → sight.bytes t ≡ sight'.bytes t'
     pub literal_place : (l : Literal (List ℕ)) (t : A) (t' : A') → rel.literal l t t' → rel.spot (sight.place t) (sight'.place t')
     pub assignment_place : (number : ℕ) (n : A) (n' : A') → rel.assignment number n n' → rel.spot (sight.place n) (sight'.place n')
     pub parameter_bytes : (number : ℕ) (n : A) (rules : Option (ArgumentRules A B)) (n' : A') (rules' : Option (ArgumentRules A' B'))

@@ -2,6 +2,8 @@
 use Rattle.std.proofs.Common.{◌≡◌, ℕ, Bool, List, Option}
 use Rattle.justfile_base.specs.declared.attribute_kind.AttributeKind.{AttributeKind}
 use Rattle.justfile_base.specs.declared.item_kind.ItemKind.{ItemKind}
+use Rattle.justfile_base.specs.declared.keyword.Keyword.{Keyword}
+use Rattle.justfile_model.specs.Conditions.{VersionNumbers}
 use Rattle.justfile_model.specs.Rules as rules
 use Rattle.justfile_model.specs.Rules.{Broken, Rule}
 
@@ -45,6 +47,10 @@ module _ {B B' : Type 0} (Spot : B → B' → Type 0) where
     no_star : AlikeRule rules.MappedDependencyWithoutStarredArgument rules.MappedDependencyWithoutStarredArgument
     star_outside : AlikeRule rules.StarredArgumentOutsideMappedDependency rules.StarredArgumentOutsideMappedDependency
     undefined_arg : {s s' : List ℕ} → s ≡ s' → AlikeRule (rules.UndefinedArgAttribute s) (rules.UndefinedArgAttribute s')
+    setting_expression : {k : Keyword} → AlikeRule (rules.SettingExpression k) (rules.SettingExpression k)
+    invalid_indentation : {m m' : List ℕ} → m ≡ m' → AlikeRule (rules.InvalidIndentation m) (rules.InvalidIndentation m')
+    invalid_version : {v v' : List ℕ} → v ≡ v' → AlikeRule (rules.InvalidMinimumVersion v) (rules.InvalidMinimumVersion v')
+    minimum_version : {v v' w w' : VersionNumbers} → v ≡ v' → w ≡ w' → AlikeRule (rules.MinimumVersion v w) (rules.MinimumVersion v' w')
 
   pub record AlikeBroken (r : Broken B) (r' : Broken B') : Type 0 where
     pub rule : AlikeRule r.rule r'.rule

@@ -1,20 +1,23 @@
 -- A derivation of a file carried over to tokens that differ in their places alone, to other leaves and to another limit.
-use Rattle.std.proofs.Common.{◌≡◌, ℕ, false, List, [], ◌∷◌, ◌++◌, map, Option, Some, refl, sym, subst, ap, ◌∙◌}
+use Rattle.std.proofs.Common.{◌≡◌, ℕ, false, true, List, [], ◌∷◌, ◌++◌, map, Option, None, Some, refl, sym, subst, ap, ◌∙◌}
 use Rattle.std.specs.Str.{trim_end}
 use Rattle.justfile_base.specs.declared.token_kind.TokenKind.{TokenKind}
 use Rattle.justfile_model.specs.AttributeLines.{AttributeLines}
 use Rattle.justfile_model.specs.SignificantTokens.{SignificantToken}
 use Rattle.justfile_model.specs.Tree as tree
-use Rattle.justfile_model.specs.Tree.{Expr, Fragment, BodyLine, Line, Content, Construct, WrittenAttribute, WrittenItem, line_before, Header, bare_recipe, plain_assignment, trimmed, over_expr, over_fragment, over_header, over_line, over_written_attribute, over_content, over_item}
+use Rattle.justfile_model.specs.Tree.{Expr, Fragment, BodyLine, Line, Content, Construct, WrittenAttribute, WrittenItem, line_before, Header, Quoted, SettingValue, bare_module, bare_recipe, assignment_of, trimmed, over_expr, over_fragment, over_header, over_line, over_quoted, over_setting_value, over_written_attribute, over_content, over_item}
 use Rattle.justfile_model.specs.Features.{ConstructFeatures, Noted, over_features, over_noted}
 use Rattle.justfile_model.specs.Expressions.{Tokens, front, IsKind, Expression}
 use Rattle.justfile_model.specs.Grammar as g
 use Rattle.justfile_model.specs.Grammar.{Kept, LineRest, BeforeBody, NotEmpty, BodyLines, OnLine, Block, Items, ItemRest, LineEnd, File}
-use Rattle.justfile_model.specs.Headers.{HeaderOf}
+use Rattle.justfile_model.specs.Headers.{HeaderOf, PathOf}
+use Rattle.justfile_model.specs.ItemParts.{FilePath, Names, ValueOf}
+use Rattle.justfile_model.specs.Settings.{SettingForm}
 use Rattle.justfile_model.proofs.CarryAttributes.{attribute_lines}
 use Rattle.justfile_model.proofs.CarryExpressions as expressions
-use Rattle.justfile_model.proofs.CarryExpressions.{Same, Pairs, nil, cons, filled, first, same_kind_of, both_alike, Carried}
+use Rattle.justfile_model.proofs.CarryExpressions.{Same, Pairs, nil, cons, filled, first, same_kind_of, both_alike, Carried, until}
 use Rattle.justfile_model.proofs.CarryHeaders as headers
+use Rattle.justfile_model.proofs.CarryParts as parts
 
 -- what becomes of what is kept of tokens
 pub record Maps (A B C S D E F G : Type 0) : Type 0 where
@@ -118,6 +121,28 @@ module _ {A B C S A' B' C' S' D E F G : Type 0} (kept : Kept A B C S) (Open : �
       headers.header kept.leaf kept.spot kept.star Open Rel weak kept'.leaf kept'.spot kept'.star Open' m.leaf m.spot m.star m'.leaf m'.spot m'.star
       kept_alike.leaves kept_alike.spots kept_alike.stars opens x us s
 
+  path : {ns : List A} {ts rest : Tokens} → PathOf kept.leaf ns ts rest → (us : Tokens) → Pairs Rel ts us
+      → Carried Rel (map m.leaf) (map m'.leaf) m.spot m'.spot (λ x n r. PathOf kept'.leaf x us r) ns [] rest
+  path p us s =
+      headers.path kept.leaf kept.spot kept.star Open Rel weak kept'.leaf kept'.spot kept'.star Open' m.leaf m.spot m.star m'.leaf m'.spot m'.star
+      kept_alike.leaves kept_alike.spots kept_alike.stars opens p us s
+
+  file_path : {p : Quoted A} {ts rest : Tokens} → FilePath kept.leaf p ts rest → (us : Tokens) → Pairs Rel ts us
+      → Carried Rel (over_quoted m.leaf m.spot) (over_quoted m'.leaf m'.spot) m.spot m'.spot (λ x n r. FilePath kept'.leaf x us r) p [] rest
+  file_path p us s =
+      parts.file_path kept.leaf kept.spot Open Rel weak kept'.leaf kept'.spot Open' m.leaf m.spot m'.leaf m'.spot kept_alike.leaves kept_alike.spots opens p us s
+
+  names : {ns : List A} {ts rest : Tokens} → Names kept.leaf ns ts rest → (us : Tokens) → Pairs Rel ts us
+      → Carried Rel (map m.leaf) (map m'.leaf) m.spot m'.spot (λ x n r. Names kept'.leaf x us r) ns [] rest
+  names ns us s =
+      parts.names kept.leaf kept.spot Open Rel weak kept'.leaf kept'.spot Open' m.leaf m.spot m'.leaf m'.spot kept_alike.leaves kept_alike.spots opens ns us s
+
+  setting_value : {form : SettingForm} {value : SettingValue A B} {fs : List (Noted B)} {ts rest : Tokens} → ValueOf kept.leaf kept.spot Open form value fs ts rest
+      → (us : Tokens) → Pairs Rel ts us
+      → Carried Rel (over_setting_value m.leaf m.spot) (over_setting_value m'.leaf m'.spot) m.spot m'.spot (λ x n r. ValueOf kept'.leaf kept'.spot Open' form x n us r) value fs rest
+  setting_value value us s =
+      parts.setting_value kept.leaf kept.spot Open Rel weak kept'.leaf kept'.spot Open' m.leaf m.spot m'.leaf m'.spot kept_alike.leaves kept_alike.spots opens value us s
+
   pub line_rest : {fragments : List (Fragment A B)} {fs : List (Noted B)} {ts rest : Tokens} → LineRest kept.leaf kept.spot Open fragments fs ts rest → (us : Tokens) → Pairs Rel ts us → FragmentsOf (λ x n r. LineRest kept'.leaf kept'.spot Open' x n us r) fragments fs rest
   line_rest (g.line_ends kind) us (cons s ss) = record { tree = []; features = []; after = _; derives = g.line_ends (kind_of s kind); alike = refl; noted_alike = refl; same = ss }
   line_rest (g.body_ends kind) us (cons s ss) = record { tree = []; features = []; after = _; derives = g.body_ends (kind_of s kind); alike = refl; noted_alike = refl; same = cons s ss }
@@ -193,14 +218,141 @@ module _ {A B C S A' B' C' S' D E F G : Type 0} (kept : Kept A B C S) (Open : �
       not_empty_before (over_line m'.leaf m'.spot m'.number) (trimmed others) (subst NotEmpty (sym (trimmed_alike lines others e)) (not_empty_mapped (over_line m.leaf m.spot m.number) (trimmed lines) n))
 
   pub on_line : {c : Content A B C S} {fs : List (Noted B)} {ts rest : Tokens} → OnLine kept Open c fs ts rest → (us : Tokens) → Pairs Rel ts us → ContentOf (λ x n r. OnLine kept' Open' x n us r) c fs rest
+  on_line (g.alias {name = t} is kind kind2 p) us (cons s (cons {u = u} s2 (cons {us = us2} s3 ss))) =
+      let x = path p us2 ss in
+      record {
+        tree = tree.Alias (record { name = kept'.leaf u.tok; target = x.tree });
+        features = [];
+        after = x.after;
+        derives = g.alias (parts.word_of Rel weak s is) (kind_of s2 kind) (kind_of s3 kind2) x.derives;
+        alike = λ i. tree.Alias (record { name = kept_alike.leaves t u s2 i; target = x.alike i });
+        noted_alike = refl;
+        same = x.same;
+      }
+  on_line (g.eager {name = t} is kind kind2 e) us (cons s (cons {u = u} s2 (cons s3 ss))) =
+      let x = expression e _ ss in
+      record {
+        tree = tree.Assignment (assignment_of true false (kept'.leaf u.tok) x.tree);
+        features = x.features;
+        after = x.after;
+        derives = g.eager (parts.word_of Rel weak s is) (kind_of s2 kind) (kind_of s3 kind2) x.derives;
+        alike = λ i. tree.Assignment (assignment_of true false (kept_alike.leaves t u s2 i) (x.alike i));
+        noted_alike = x.noted_alike;
+        same = x.same;
+      }
+  on_line (g.export {name = t} is kind kind2 e) us (cons s (cons {u = u} s2 (cons s3 ss))) =
+      let x = expression e _ ss in
+      record {
+        tree = tree.Assignment (assignment_of false true (kept'.leaf u.tok) x.tree);
+        features = x.features;
+        after = x.after;
+        derives = g.export (parts.word_of Rel weak s is) (kind_of s2 kind) (kind_of s3 kind2) x.derives;
+        alike = λ i. tree.Assignment (assignment_of false true (kept_alike.leaves t u s2 i) (x.alike i));
+        noted_alike = x.noted_alike;
+        same = x.same;
+      }
+  on_line (g.function {name = t} kind kind2 ns kind3 e) us (cons {u = u} s (cons {us = us2} s2 ss)) =
+      let x = until (names ns us2 ss) in
+      let y = expression e x.after x.same in
+      record {
+        tree = tree.Function (record { name = kept'.leaf u.tok; parameters = x.tree; body = y.tree });
+        features = y.features;
+        after = y.after;
+        derives = g.function (kind_of s kind) (kind_of s2 kind2) x.derives (kind_of x.related kind3) y.derives;
+        alike = λ i. tree.Function (record { name = kept_alike.leaves t u s i; parameters = x.alike i; body = y.alike i });
+        noted_alike = y.noted_alike;
+        same = y.same;
+      }
+  on_line (g.import is p) us (cons {us = us2} s ss) =
+      let x = file_path p us2 ss in
+      record {
+        tree = tree.Import (record { optional = false; path = x.tree });
+        features = [];
+        after = x.after;
+        derives = g.import (parts.word_of Rel weak s is) x.derives;
+        alike = λ i. tree.Import (record { optional = false; path = x.alike i });
+        noted_alike = refl;
+        same = x.same;
+      }
+  on_line (g.optional_import is kind p) us (cons s (cons {us = us2} s2 ss)) =
+      let x = file_path p us2 ss in
+      record {
+        tree = tree.Import (record { optional = true; path = x.tree });
+        features = [];
+        after = x.after;
+        derives = g.optional_import (parts.word_of Rel weak s is) (kind_of s2 kind) x.derives;
+        alike = λ i. tree.Import (record { optional = true; path = x.alike i });
+        noted_alike = refl;
+        same = x.same;
+      }
+  on_line (g.module_alone {name = t} is kind ends) us (cons s (cons {u = u} s2 ss)) = record {
+    tree = tree.Module (bare_module false (kept'.leaf u.tok) None);
+    features = [];
+    after = _;
+    derives = g.module_alone (parts.word_of Rel weak s is) (kind_of s2 kind) (parts.ends_line Rel weak ss ends);
+    alike = λ i. tree.Module (bare_module false (kept_alike.leaves t u s2 i) None);
+    noted_alike = refl;
+    same = ss;
+  }
+  on_line (g.module_at {name = t} is kind p) us (cons s (cons {u = u} {us = us2} s2 ss)) =
+      let x = file_path p us2 ss in
+      record {
+        tree = tree.Module (bare_module false (kept'.leaf u.tok) (Some x.tree));
+        features = [];
+        after = x.after;
+        derives = g.module_at (parts.word_of Rel weak s is) (kind_of s2 kind) x.derives;
+        alike = λ i. tree.Module (bare_module false (kept_alike.leaves t u s2 i) (Some (x.alike i)));
+        noted_alike = refl;
+        same = x.same;
+      }
+  on_line (g.optional_module_alone {name = t} is kind kind2 no_path) us (cons s (cons s2 (cons {u = u} s3 ss))) = record {
+    tree = tree.Module (bare_module true (kept'.leaf u.tok) None);
+    features = [];
+    after = _;
+    derives = g.optional_module_alone (parts.word_of Rel weak s is) (kind_of s2 kind) (kind_of s3 kind2) (parts.no_path Rel weak ss no_path);
+    alike = λ i. tree.Module (bare_module true (kept_alike.leaves t u s3 i) None);
+    noted_alike = refl;
+    same = ss;
+  }
+  on_line (g.optional_module_at {name = t} is kind kind2 p) us (cons s (cons s2 (cons {u = u} {us = us2} s3 ss))) =
+      let x = file_path p us2 ss in
+      record {
+        tree = tree.Module (bare_module true (kept'.leaf u.tok) (Some x.tree));
+        features = [];
+        after = x.after;
+        derives = g.optional_module_at (parts.word_of Rel weak s is) (kind_of s2 kind) (kind_of s3 kind2) x.derives;
+        alike = λ i. tree.Module (bare_module true (kept_alike.leaves t u s3 i) (Some (x.alike i)));
+        noted_alike = refl;
+        same = x.same;
+      }
+  on_line (g.setting {keyword = keyword} {name = t} is is2 form value) us (cons s (cons {u = u} {us = us2} s2 ss)) =
+      let x = setting_value value us2 ss in
+      record {
+        tree = tree.Setting (record { keyword = keyword; name = kept'.leaf u.tok; value = x.tree });
+        features = x.features;
+        after = x.after;
+        derives = g.setting (parts.word_of Rel weak s is) (parts.word_of Rel weak s2 is2) form x.derives;
+        alike = λ i. tree.Setting (record { keyword = keyword; name = kept_alike.leaves t u s2 i; value = x.alike i });
+        noted_alike = x.noted_alike;
+        same = x.same;
+      }
+  on_line (g.unexport {name = t} is kind ends) us (cons s (cons {u = u} s2 ss)) = record {
+    tree = tree.Unexport (kept'.leaf u.tok);
+    features = [];
+    after = _;
+    derives = g.unexport (parts.word_of Rel weak s is) (kind_of s2 kind) (parts.ends_line Rel weak ss ends);
+    alike = λ i. tree.Unexport (kept_alike.leaves t u s2 i);
+    noted_alike = refl;
+    same = ss;
+  }
   on_line (g.assignment {name = t} kind kind2 e) us (cons {u = u} s (cons s2 ss)) =
       let x = expression e _ ss in
       record {
-        tree = tree.Assignment (plain_assignment (kept'.leaf u.tok) x.tree);
+        tree = tree.Assignment (assignment_of false false (kept'.leaf u.tok) x.tree);
         features = x.features;
         after = x.after;
         derives = g.assignment (kind_of s kind) (kind_of s2 kind2) x.derives;
-        alike = λ i. tree.Assignment (plain_assignment (kept_alike.leaves t u s i) (x.alike i));
+        alike = λ i. tree.Assignment (assignment_of false false (kept_alike.leaves t u s i) (x.alike i));
         noted_alike = x.noted_alike;
         same = x.same;
       }

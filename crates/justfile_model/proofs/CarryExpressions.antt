@@ -43,7 +43,7 @@ turned s = record { kind = sym s.kind; lexeme = sym s.lexeme; glued = sym s.glue
 pub same_kind_of : {kind : TokenKind} {t u : SignificantToken} → Same t u → IsKind kind t → IsKind kind u
 same_kind_of s e = sym s.kind ∙ e
 
-same_word_of : {word : List ℕ} {t u : SignificantToken} → Same t u → IsWord word t → IsWord word u
+pub same_word_of : {word : List ℕ} {t u : SignificantToken} → Same t u → IsWord word t → IsWord word u
 same_word_of s w = record { is_name = sym s.kind ∙ w.is_name; spelled = sym s.lexeme ∙ w.spelled }
 
 -- the word was one before

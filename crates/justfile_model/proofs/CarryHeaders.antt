@@ -62,7 +62,7 @@ module _ {A B S A' B' S' C D T : Type 0} (leaf : Tok → A) (spot : Tok → B) (
         same = x.same;
       }
 
-  path : {names : List A} {ts rest : Tokens} → PathOf leaf names ts rest → (us : Tokens) → Pairs Rel ts us → NamesCarried (λ x r. PathOf leaf' x us r) names rest
+  pub path : {names : List A} {ts rest : Tokens} → PathOf leaf names ts rest → (us : Tokens) → Pairs Rel ts us → NamesCarried (λ x r. PathOf leaf' x us r) names rest
   path (g.path {name = t} kind more) us (cons {u = u} {us = us2} s ss) =
       let x = path_rest more us2 ss in
       record {

@@ -1,10 +1,14 @@
 -- What derives where the limit is waived at some tokens is read, or refused: a literal that has no text, or as too deep at one of these
 -- tokens.
-use Rattle.std.proofs.Common.{◌≡◌, ℕ, ◌+◌, Bool, true, false, List, [], ◌∷◌, ◌++◌, Option, Ok, Err, refl, sym, subst, ap, ◌∙◌, append_assoc, append-nil, arith}
+use Rattle.std.proofs.Common.{◌≡◌, ℕ, ◌+◌, Bool, true, false, ◌||◌, List, [], ◌∷◌, ◌++◌, Option, None, Some, Ok, Err, refl, sym, subst, ap, ◌∙◌, append_assoc, append-nil, arith}
+use Rattle.justfile_base.specs.Keyword.{keyword_named, keyword_text}
+use Rattle.justfile_base.specs.declared.item_kind.ItemKind.TheVariants as item_kinds
+use Rattle.justfile_base.specs.declared.keyword.Keyword.{Keyword}
 use Rattle.justfile_base.specs.declared.token_kind.TokenKind.TheVariants as kinds
+use Rattle.justfile_base.proofs.KeywordLaws.{spelled}
 use Rattle.justfile_model.specs.AttributeLines as lines_of
 use Rattle.justfile_model.specs.AttributeLines.{AttributeLines}
-use Rattle.justfile_model.specs.AttributeRules.{arg_rules, attributes_broken, of_some}
+use Rattle.justfile_model.specs.AttributeRules.{allowed_broken, arg_rules, attributes_broken, of_some}
 use Rattle.justfile_model.specs.Conditions.{Conditions}
 use Rattle.justfile_model.specs.ConstructRules.{form_broken, meaning_broken}
 use Rattle.justfile_model.specs.Meaning.{entries_of}
@@ -14,19 +18,23 @@ use Rattle.justfile_model.specs.Rules.{Broken}
 use Rattle.justfile_model.specs.Tok.{Tok}
 use Rattle.justfile_model.specs.SignificantTokens.{SignificantToken}
 use Rattle.justfile_model.specs.Tree as tree
-use Rattle.justfile_model.specs.Tree.{BodyLine, Construct, Content, Entry, Fragment, Header, Parameter, WrittenAttribute, WrittenItem, WrittenTree, bare_recipe, itself, plain_assignment, trimmed}
+use Rattle.justfile_model.specs.Tree.{BodyLine, Construct, Content, Entry, Fragment, Expr, Header, Parameter, Quoted, SettingValue, WrittenAttribute, WrittenItem, WrittenTree, bare_recipe, itself, assignment_of, bare_module, trimmed}
 use Rattle.justfile_model.specs.Features.{ConstructFeatures, Noted}
-use Rattle.justfile_model.specs.Expressions.{Tokens, IsKind, NotNext, Waived}
+use Rattle.justfile_model.specs.Expressions.{Tokens, Expression, IsKind, IsWord, NotNext, Waived}
 use Rattle.justfile_model.specs.Grammar as g
 use Rattle.justfile_model.specs.Grammar.{LineRest, BeforeBody, BodyLines, OnLine, Block, Items, ItemRest, LineEnd, File, NotEmpty}
-use Rattle.justfile_model.specs.HeaderReader.{ReadHeader, draw_binding}
+use Rattle.justfile_model.specs.HeaderReader.{ReadHeader, draw_binding, obeying}
 use Rattle.justfile_model.specs.Headers as headers
-use Rattle.justfile_model.specs.Headers.{HeaderOf, NamedHeader}
+use Rattle.justfile_model.specs.Headers.{HeaderOf, NamedHeader, PathOf}
+use Rattle.justfile_model.specs.ItemParts.{EndsLine, FilePath, Names, NoPath, ValueOf}
+use Rattle.justfile_model.specs.SettingRules.{value_broken}
+use Rattle.justfile_model.specs.Settings.{SettingForm, setting_form}
 use Rattle.justfile_model.specs.Literals.{Literal}
-use Rattle.justfile_model.specs.Files.{all_features, all_literals, body_literals, broken, construct_features, content_literals, entries_features, fragments_literals, item_broken, item_literals, keeps_tokens, written_literals}
-use Rattle.justfile_model.specs.Reading.{Counters, ◌>>=◌, prepend}
+use Rattle.justfile_model.specs.Files.{all_features, all_literals, body_literals, broken, construct_features, content_literals, entries_features, expr_literals, fragments_literals, item_broken, item_literals, keeps_tokens, written_literals}
+use Rattle.justfile_model.specs.Reading.{Counters, ◌>>=◌, accepted, next_are, prepend}
 use Rattle.justfile_model.specs.Reader as reader
-use Rattle.justfile_model.specs.Reader.{after_numbered, any_recipe, assignment, at_end, attributes, before_item, construct, content, entries_read, headed, item_rest, body, optional_body, body_line, comment_item, draw_recipe, ended, fragment, has_body, items, items_rule, line, line_end, line_rest, line_rest_rule, lines, lines_rule, no_exclusion, on_line, recipe, some_lines, stands_alone, with_recipes}
+use Rattle.justfile_model.specs.PartReader.{after_numbered, keyword_at, setting_value}
+use Rattle.justfile_model.specs.Reader.{alias, any_module, any_recipe, assignment, at_end, attributes, before_item, construct, constructed, content, entries_read, headed, item_rest, body, optional_body, body_line, comment_item, draw_recipe, ended, fragment, function, has_body, import, imported, items, items_rule, line, line_end, line_rest, line_rest_rule, lines, lines_rule, named_module, no_exclusion, on_line, recipe, setting, some_lines, stands_alone, unexport, with_recipes, wordless}
 use Rattle.justfile_model.specs.TreeReader.{Read, State, tree_of_tokens, token_attributes, token_leaves, unnumbered}
 use Rattle.justfile_model.proofs.AttributeComplete.{attributes_reached}
 use Rattle.justfile_model.proofs.AttributeCovers as covers
@@ -35,8 +43,10 @@ use Rattle.justfile_model.proofs.AttributeSound.{written_in}
 use Rattle.justfile_model.proofs.CookedTexts.{trimmed_literals}
 use Rattle.justfile_model.proofs.Counters.{after_parameters, count, count_content, counted, parameters_recipes}
 use Rattle.justfile_model.proofs.ExpressionDeep.{expression_deep}
-use Rattle.justfile_model.proofs.HeaderComplete.{CoversHeader, IsHeader, header_reached, obeying_reached}
+use Rattle.justfile_model.proofs.HeaderComplete.{CoversHeader, IsHeader, header_reached, obeying_reached, path_read}
 use Rattle.justfile_model.proofs.HeaderCovers.{not_there, parameters_start}
+use Rattle.justfile_model.proofs.PartComplete.{ends_pathless, file_path_reached, module_follows, names_read, no_path_read, path_begins, path_reached, path_token, path_token_is, path_unmarked, setting_follows, value_reached}
+use Rattle.justfile_model.proofs.WordsComplete.{alias_read, another_follows, assigned_taken, eager_read, export_read, import_read, line_taken, module_read, no_word_read, none_read, or_true, parameters_follow, setting_read, unexport_read, wordless_read}
 use Rattle.justfile_model.proofs.Reaching.{Reaches, is_read, by, renoted, then, pass}
 use Rattle.justfile_model.proofs.ReachingRules as r
 use Rattle.justfile_model.proofs.ReachingRules.{Among, IsAt, ReachesOne, ReachesSome, all_among, among_first, among_others}
@@ -68,7 +78,19 @@ module _ {Open : ℕ → Option SignificantToken → Type 0} where
   header_begins (headers.loud (headers.header kind ps ds)) = begins_name kind
 
   line_begins : {c : Content Tok Tok ℕ Tok} {fs : List (Noted Tok)} {ts rest : Tokens} → OnLine keeps_tokens Open c fs ts rest → Begins ts
+  line_begins (g.alias is kind kind2 p) = begins_name is.is_name
   line_begins (g.assignment kind kind2 e) = begins_name kind
+  line_begins (g.eager is kind kind2 e) = begins_name is.is_name
+  line_begins (g.export is kind kind2 e) = begins_name is.is_name
+  line_begins (g.function kind kind2 ns kind3 e) = begins_name kind
+  line_begins (g.import is p) = begins_name is.is_name
+  line_begins (g.optional_import is kind p) = begins_name is.is_name
+  line_begins (g.module_alone is kind ends) = begins_name is.is_name
+  line_begins (g.module_at is kind p) = begins_name is.is_name
+  line_begins (g.optional_module_alone is kind kind2 none) = begins_name is.is_name
+  line_begins (g.optional_module_at is kind kind2 p) = begins_name is.is_name
+  line_begins (g.setting is is2 form value) = begins_name is.is_name
+  line_begins (g.unexport is kind ends) = begins_name is.is_name
   line_begins (g.header h) = header_begins h
 
   block_begins : {c : Content Tok Tok ℕ Tok} {fs : List (Noted Tok)} {ts rest : Tokens} → Block keeps_tokens Open c fs ts rest → Begins ts
@@ -99,7 +121,19 @@ module _ {conditions : Conditions} {Open : ℕ → Option SignificantToken → T
 
   has_none : {i : WrittenItem Tok Tok ℕ Tok} {fs : List (Noted Tok)} {ts rest : Tokens} → Stands conditions Open i fs ts rest → has_body i ≡ false
   has_none (of_comment kind) = refl
+  has_none (of_line a (g.alias is kind kind2 p)) = refl
   has_none (of_line a (g.assignment kind kind2 e)) = refl
+  has_none (of_line a (g.eager is kind kind2 e)) = refl
+  has_none (of_line a (g.export is kind kind2 e)) = refl
+  has_none (of_line a (g.function kind kind2 ns kind3 e)) = refl
+  has_none (of_line a (g.import is p)) = refl
+  has_none (of_line a (g.optional_import is kind p)) = refl
+  has_none (of_line a (g.module_alone is kind ends)) = refl
+  has_none (of_line a (g.module_at is kind p)) = refl
+  has_none (of_line a (g.optional_module_alone is kind kind2 none)) = refl
+  has_none (of_line a (g.optional_module_at is kind kind2 p)) = refl
+  has_none (of_line a (g.setting is is2 form value)) = refl
+  has_none (of_line a (g.unexport is kind ends)) = refl
   has_none (of_line a (g.header h)) = refl
 
 module _ {Open : ℕ → Option SignificantToken → Type 0} where
@@ -216,7 +250,7 @@ module _ (conditions : Conditions) (Hit : Option SignificantToken → Type 0) wh
 
   -- what a construct breaks beside its attributes
   abbrev breaks_by : List ReadAttribute → Content Tok Tok ℕ Tok → List (Broken Tok)
-  breaks_by xs c = meaning_broken (token_sight conditions) c (meant_by xs) ++ form_broken c
+  breaks_by xs c = meaning_broken (token_sight conditions) c (meant_by xs) ++ form_broken conditions.current (token_sight conditions) c
 
   -- what its attributes note at the name of a recipe
   abbrev noted_by : List ReadAttribute → Content Tok Tok ℕ Tok → List (Noted Tok)
@@ -300,36 +334,218 @@ module _ (conditions : Conditions) (Hit : Option SignificantToken → Type 0) wh
       (rest : Tokens) (noted : List (Noted Tok)) (ls : List (BodyLine Tok Tok ℕ)) → HeaderOf itself itself itself (Waived conditions.limit Hit) h fs ts next
       → BodyReached (optional_body token_leaves) ls (input conditions 0 next (ns ++ (noted_by xs (recipe_content h ls) ++ fs))) (input conditions 0 rest noted)
       → ContentReached xs (recipe_content h ls) (input conditions 0 ts ns) (input conditions 0 rest noted)
-  unfolding content any_recipe
+  unfolding wordless any_recipe
   any_reached xs ns rest noted ls (headers.quiet {at = mark} {tokens = ts} kind q) b n =
-      rw (
+      r.by conditions Hit (no_word_read conditions ns xs n mark ts (λ k. cc))
+      (rw (
+        next_left (kinds.Identifier ∷ kinds.ParenL ∷ []) (input conditions 0 (mark ∷ ts) ns) (λ k. let first = k.0 in cc),
         next_left (kinds.Identifier ∷ kinds.ColonEquals ∷ []) (input conditions 0 (mark ∷ ts) ns) (λ k. let first = k.0 in cc),
         accept_taken kinds.At mark ts conditions 0 ns kind,
-      ) (recipe_reached true xs ns rest noted ls q b n)
+      ) (recipe_reached true xs ns rest noted ls q b n))
   any_reached xs ns rest noted ls (headers.loud (headers.header {name = name} {tokens = ts} kind ps ds)) b n =
-      rw (
+      let none = parameters_follow itself itself (Waived conditions.limit Hit) ts ps in
+      r.by conditions Hit (none_read conditions ns xs n name ts none)
+      (rw (
+        next_left (kinds.Identifier ∷ kinds.ParenL ∷ []) (input conditions 0 (name ∷ ts) ns) (λ k. none.called k.1),
         next_left (kinds.Identifier ∷ kinds.ColonEquals ∷ []) (input conditions 0 (name ∷ ts) ns)
             (λ k. not_there kinds.ColonEquals ts (parameters_start itself itself (Waived conditions.limit Hit) ps) k.1),
         accept_left kinds.At (name ∷ ts) conditions 0 ns (λ e. cc),
-      ) (recipe_reached false xs ns rest noted ls (headers.header {name = name} kind ps ds) b n)
+      ) (recipe_reached false xs ns rest noted ls (headers.header {name = name} kind ps ds) b n))
+
+  -- what the attributes of an item break is among what it breaks
+  allowed_reached : (xs : List ReadAttribute) (c : Content Tok Tok ℕ Tok) (s : State)
+      → ReachesOne conditions Hit (obeying (meaning_broken (token_sight conditions) c (meant_by xs)) s) (tt, s) [] (breaks_by xs c)
+  allowed_reached xs c s =
+      obeying_reached conditions Hit (meaning_broken (token_sight conditions) c (meant_by xs)) s
+      (among_first (meaning_broken (token_sight conditions) c (meant_by xs)) (form_broken conditions.current (token_sight conditions) c) (all_among (breaks_by xs c)))
+
+  -- a construct of this content
+  abbrev Reached : List ReadAttribute → Content Tok Tok ℕ Tok → Counters → Read (WrittenItem Tok Tok ℕ Tok × Counters) → State → Type 0
+  Reached xs c n found rest =
+      ReachesOne conditions Hit found ((Construct (written_in xs) c, count_content n c), rest) (content_literals c) (breaks_by xs c)
+
+  -- an assignment from its name on
+  assignment_reached : (eager export : Bool) (xs : List ReadAttribute) (ns : List (Noted Tok)) {e : Expr Tok Tok} {fs : List (Noted Tok)}
+      (name operator : SignificantToken) {ts rest : Tokens} → IsKind kinds.Identifier name → IsKind kinds.ColonEquals operator
+      → Expression itself itself (Waived conditions.limit Hit) false 0 e fs ts rest → (n : Counters)
+      → Reached xs (tree.Assignment (assignment_of eager export name.tok e)) n
+      (assignment token_leaves token_attributes eager export xs n (input conditions 0 (name ∷ operator ∷ ts) ns)) (input conditions 0 rest (ns ++ fs))
+  unfolding assignment draw_binding
+  assignment_reached eager export xs ns {e = e} {fs = fs} name operator {ts = ts} {rest = rest} kind kind2 h n =
+      let c : Content Tok Tok ℕ Tok = tree.Assignment (assignment_of eager export name.tok e) in
+      rw (expect_taken kinds.Identifier name (operator ∷ ts) conditions 0 ns kind, expect_taken kinds.ColonEquals operator ts conditions 0 ns kind2)
+      (r.last_one conditions Hit _ _ (r.plainly conditions Hit (expression_deep conditions Hit ns false (omega arith) h))
+      (λ _. r.pass conditions Hit _ (allowed_reached xs c (input conditions 0 rest (ns ++ fs))) refl))
+
+  alias_reached : (xs : List ReadAttribute) (ns : List (Noted Tok)) {names : List Tok} (name operator : SignificantToken) {ts rest : Tokens}
+      → IsKind kinds.Identifier name → IsKind kinds.ColonEquals operator → PathOf itself names ts rest → (n : Counters)
+      → Reached xs (tree.Alias (record { name = name.tok; target = names })) n (alias token_leaves token_attributes xs n (input conditions 0 (name ∷ operator ∷ ts) ns))
+      (input conditions 0 rest (ns ++ []))
+  unfolding alias
+  alias_reached xs ns {names = names} name operator {ts = ts} {rest = rest} kind kind2 p n =
+      r.renoted conditions Hit (sym (append-nil ns))
+      (rw (
+        expect_taken kinds.Identifier name (operator ∷ ts) conditions 0 ns kind,
+        expect_taken kinds.ColonEquals operator ts conditions 0 ns kind2,
+        path_read conditions Hit ns p,
+      ) (r.pass conditions Hit _ (allowed_reached xs (tree.Alias (record { name = name.tok; target = names })) (input conditions 0 rest ns)) refl))
+
+  function_reached : (xs : List ReadAttribute) (ns : List (Noted Tok)) {names : List Tok} {e : Expr Tok Tok} {fs : List (Noted Tok)}
+      (name opener operator : SignificantToken) {ts next rest : Tokens} → IsKind kinds.Identifier name → IsKind kinds.ParenL opener
+      → Names itself names ts (operator ∷ next) → IsKind kinds.ColonEquals operator
+      → Expression itself itself (Waived conditions.limit Hit) false 0 e fs next rest → (n : Counters)
+      → Reached xs (tree.Function (record { name = name.tok; parameters = names; body = e })) n
+      (function token_leaves token_attributes xs n (input conditions 0 (name ∷ opener ∷ ts) ns)) (input conditions 0 rest (ns ++ fs))
+  unfolding function
+  function_reached xs ns {names = names} {e = e} {fs = fs} name opener operator {ts = ts} {next = next} {rest = rest} kind kind2 all kind3 h n =
+      let c : Content Tok Tok ℕ Tok = tree.Function (record { name = name.tok; parameters = names; body = e }) in
+      rw (expect_taken kinds.Identifier name (opener ∷ ts) conditions 0 ns kind)
+      (r.then_one conditions Hit _ _ (allowed_reached xs c (input conditions 0 (opener ∷ ts) ns))
+      (rw (
+        expect_taken kinds.ParenL opener ts conditions 0 ns kind2,
+        names_read conditions Hit n ns all,
+        expect_taken kinds.ColonEquals operator next conditions 0 ns kind3,
+      ) (r.pass conditions Hit _ (r.plainly conditions Hit (expression_deep conditions Hit ns false (omega arith) h)) refl)))
+
+  -- an import from its path on
+  imported_reached : (optional : Bool) (xs : List ReadAttribute) (ns : List (Noted Tok)) {path : Quoted Tok} {ts rest : Tokens} → FilePath itself path ts rest → (n : Counters)
+      → Reached xs (tree.Import (record { optional = optional; path = path })) n (imported token_leaves token_attributes optional xs n (input conditions 0 ts ns))
+      (input conditions 0 rest (ns ++ []))
+  unfolding imported
+  imported_reached optional xs ns {path = path} {rest = rest} p n =
+      let c : Content Tok Tok ℕ Tok = tree.Import (record { optional = optional; path = path }) in
+      r.renoted conditions Hit (sym (append-nil ns))
+      (r.last_one conditions Hit _ _ (r.plainly conditions Hit (file_path_reached conditions Hit ns p))
+      (λ _. r.pass conditions Hit _
+      (subst (λ (token : Tok). ReachesOne conditions Hit (obeying (allowed_broken (token_sight conditions) item_kinds.Import token (meant_by xs)) (input conditions 0 rest ns)) (tt, input conditions 0 rest ns) [] (breaks_by xs c))
+      (sym (path_token_is p)) (allowed_reached xs c (input conditions 0 rest ns))) refl))
+
+  -- a module from its name on
+  module_reached : (optional : Bool) (xs : List ReadAttribute) (ns : List (Noted Tok)) (name : SignificantToken) {rest : Tokens} → IsKind kinds.Identifier name → NoPath rest
+      → (n : Counters) → Reached xs (tree.Module (bare_module optional name.tok None)) n
+      (named_module token_leaves token_attributes optional xs n (input conditions 0 (name ∷ rest) ns)) (input conditions 0 rest (ns ++ []))
+  unfolding named_module
+  module_reached optional xs ns name {rest = rest} kind none n =
+      r.renoted conditions Hit (sym (append-nil ns))
+      (rw (expect_taken kinds.Identifier name rest conditions 0 ns kind, no_path_read conditions Hit ns rest none)
+      (r.pass conditions Hit _ (allowed_reached xs (tree.Module (bare_module optional name.tok None)) (input conditions 0 rest ns)) refl))
+
+  module_at_reached : (optional : Bool) (xs : List ReadAttribute) (ns : List (Noted Tok)) {path : Quoted Tok} (name : SignificantToken) {ts rest : Tokens}
+      → IsKind kinds.Identifier name → FilePath itself path ts rest → (n : Counters)
+      → Reached xs (tree.Module (bare_module optional name.tok (Some path))) n
+      (named_module token_leaves token_attributes optional xs n (input conditions 0 (name ∷ ts) ns)) (input conditions 0 rest (ns ++ []))
+  unfolding named_module
+  module_at_reached optional xs ns {path = path} name {ts = ts} {rest = rest} kind p n =
+      r.renoted conditions Hit (sym (append-nil ns))
+      (rw (expect_taken kinds.Identifier name ts conditions 0 ns kind)
+      (r.last_one conditions Hit _ _ (r.plainly conditions Hit (path_reached conditions Hit ns p))
+      (λ _. r.pass conditions Hit _ (allowed_reached xs (tree.Module (bare_module optional name.tok (Some path))) (input conditions 0 rest ns)) refl)))
+
+  setting_reached : (xs : List ReadAttribute) (ns : List (Noted Tok)) {keyword : Keyword} {form : SettingForm} {value : SettingValue Tok Tok} {fs : List (Noted Tok)}
+      (name : SignificantToken) {ts rest : Tokens} → IsWord (keyword_text keyword) name → setting_form keyword ≡ Some form
+      → ValueOf itself itself (Waived conditions.limit Hit) form value fs ts rest → (n : Counters)
+      → Reached xs (tree.Setting (record { keyword = keyword; name = name.tok; value = value })) n
+      (setting token_leaves token_attributes xs n (input conditions 0 (name ∷ ts) ns)) (input conditions 0 rest (ns ++ fs))
+  unfolding setting keyword_at
+  setting_reached xs ns {keyword = keyword} {form = form} {value = value} {fs = fs} name {ts = ts} {rest = rest} is form_is v n =
+      let c : Content Tok Tok ℕ Tok = tree.Setting (record { keyword = keyword; name = name.tok; value = value }) in
+      let formed : List (Broken Tok) = value_broken conditions.current (token_sight conditions) (setting_form keyword) keyword name.tok value in
+      let Q : Option SettingForm → Type 0 =
+      λ o. Reached xs c n (setting_value token_leaves token_sight name keyword o (input conditions 0 ts ns) >>= λ value.
+      constructed token_leaves token_attributes xs (tree.Setting (record { keyword = keyword; name = name.tok; value = value.0 })) n value.1)
+      (input conditions 0 rest (ns ++ fs))
+      in
+      rw (expect_taken kinds.Identifier name ts conditions 0 ns is.is_name, ap keyword_named is.spelled ∙ spelled keyword)
+      (r.then_one conditions Hit _ _ (allowed_reached xs c (input conditions 0 ts ns))
+      (subst Q (sym form_is) (r.pass conditions Hit _ (value_reached conditions Hit name keyword ns v
+      (subst (λ o. Among (value_broken conditions.current (token_sight conditions) o keyword name.tok value) (breaks_by xs c)) form_is
+      (among_others (meaning_broken (token_sight conditions) c (meant_by xs)) formed (all_among (breaks_by xs c))))) refl)))
+
+  unexport_reached : (xs : List ReadAttribute) (ns : List (Noted Tok)) (name : SignificantToken) {rest : Tokens} → IsKind kinds.Identifier name → (n : Counters)
+      → Reached xs (tree.Unexport name.tok) n (unexport token_leaves token_attributes xs n (input conditions 0 (name ∷ rest) ns)) (input conditions 0 rest (ns ++ []))
+  unfolding unexport
+  unexport_reached xs ns name {rest = rest} kind n =
+      r.renoted conditions Hit (sym (append-nil ns))
+      (rw (expect_taken kinds.Identifier name rest conditions 0 ns kind)
+      (r.pass conditions Hit _ (allowed_reached xs (tree.Unexport name.tok) (input conditions 0 rest ns)) refl))
 
   content_reached : (xs : List ReadAttribute) (ns : List (Noted Tok)) {c : Content Tok Tok ℕ Tok} {fs : List (Noted Tok)} {ts rest : Tokens}
       → OnLine keeps_tokens (Waived conditions.limit Hit) c fs ts rest → NoBody rest
       → ContentReached xs c (input conditions 0 ts ns) (input conditions 0 rest (ns ++ (noted_by xs c ++ fs)))
-  unfolding content assignment draw_binding
-  content_reached xs ns {rest = rest} (g.assignment {e = e} {fs = fs} {name = name} {operator = operator} {tokens = ts} kind kind2 h) none n =
-      let c : Content Tok Tok ℕ Tok = tree.Assignment (plain_assignment name.tok e) in
-      let end : State = input conditions 0 rest (ns ++ fs) in
-      let y : (WrittenItem Tok Tok ℕ Tok × Counters) × State = ((Construct (written_in xs) c, count_content n c), end) in
-      rw (
+  unfolding wordless import any_module accepted
+  content_reached xs ns (g.assignment {name = name} {operator = operator} {tokens = ts} kind kind2 h) none n =
+      r.by conditions Hit (none_read conditions ns xs n name (operator ∷ ts) (another_follows operator ts (λ k. cc) (λ k. cc) (λ k. cc) (λ k. cc)))
+      (rw (
+        next_left (kinds.Identifier ∷ kinds.ParenL ∷ []) (input conditions 0 (name ∷ operator ∷ ts) ns) (λ k. let second = k.1.0 in cc),
         next_taken (kinds.Identifier ∷ kinds.ColonEquals ∷ []) (input conditions 0 (name ∷ operator ∷ ts) ns) (kind, (kind2, tt)),
-        expect_taken kinds.Identifier name (operator ∷ ts) conditions 0 ns kind,
-        expect_taken kinds.ColonEquals operator ts conditions 0 ns kind2,
-      )
-      (r.last_one conditions Hit _ (λ z. z ≡ y) (r.plainly conditions Hit (expression_deep conditions Hit ns false (omega arith) h))
-      (λ _. r.pass conditions Hit _
-      (obeying_reached conditions Hit (meaning_broken (token_sight conditions) c (meant_by xs)) end
-      (among_first (meaning_broken (token_sight conditions) c (meant_by xs)) [] (all_among (breaks_by xs c)))) refl))
+      ) (assignment_reached false false xs ns name operator kind kind2 h n))
+  content_reached xs ns (g.eager {word = word} {name = name} {operator = operator} {tokens = ts} is kind kind2 h) none n =
+      r.by conditions Hit (eager_read conditions ns xs n word (name ∷ operator ∷ ts) is (assigned_taken conditions ns name operator ts kind kind2))
+      (assignment_reached true false xs ns name operator kind kind2 h n)
+  content_reached xs ns (g.export {word = word} {name = name} {operator = operator} {tokens = ts} is kind kind2 h) none n =
+      r.by conditions Hit (export_read conditions ns xs n word (name ∷ operator ∷ ts) is (assigned_taken conditions ns name operator ts kind kind2))
+      (assignment_reached false true xs ns name operator kind kind2 h n)
+  content_reached xs ns (g.alias {word = word} {name = name} {operator = operator} {tokens = ts} is kind kind2 p) none n =
+      r.by conditions Hit (alias_read conditions ns xs n word (name ∷ operator ∷ ts) is (assigned_taken conditions ns name operator ts kind kind2))
+      (alias_reached xs ns name operator kind kind2 p n)
+  content_reached xs ns (g.function {name = name} {opener = opener} {operator = operator} {tokens = ts} kind kind2 all kind3 h) none n =
+      r.by conditions Hit (wordless_read conditions ns xs n name (opener ∷ ts)
+      (next_left (kinds.Identifier ∷ kinds.ColonEquals ∷ []) (input conditions 0 (opener ∷ ts) ns) (λ k. let first = k.0 in cc))
+      (rw (
+        next_left (kinds.Identifier ∷ kinds.Comment ∷ []) (input conditions 0 (opener ∷ ts) ns) (λ k. let first = k.0 in cc),
+        next_left (kinds.Identifier ∷ kinds.Eol ∷ []) (input conditions 0 (opener ∷ ts) ns) (λ k. let first = k.0 in cc),
+        next_left (kinds.Identifier ∷ kinds.Eof ∷ []) (input conditions 0 (opener ∷ ts) ns) (λ k. let first = k.0 in cc),
+      ) refl)
+      (rw (
+        next_left (kinds.QuestionMark ∷ []) (input conditions 0 (opener ∷ ts) ns) (λ k. let first = k.0 in cc),
+        next_left (kinds.StringToken ∷ []) (input conditions 0 (opener ∷ ts) ns) (λ k. let first = k.0 in cc),
+        next_left (kinds.Identifier ∷ kinds.StringToken ∷ []) (input conditions 0 (opener ∷ ts) ns) (λ k. let first = k.0 in cc),
+      ) refl)
+      (rw (
+        next_left (kinds.QuestionMark ∷ []) (input conditions 0 (opener ∷ ts) ns) (λ k. let first = k.0 in cc),
+        next_left (kinds.Identifier ∷ kinds.Comment ∷ []) (input conditions 0 (opener ∷ ts) ns) (λ k. let first = k.0 in cc),
+        next_left (kinds.Identifier ∷ kinds.Eol ∷ []) (input conditions 0 (opener ∷ ts) ns) (λ k. let first = k.0 in cc),
+        next_left (kinds.Identifier ∷ kinds.Eof ∷ []) (input conditions 0 (opener ∷ ts) ns) (λ k. let first = k.0 in cc),
+        next_left (kinds.Identifier ∷ kinds.StringToken ∷ []) (input conditions 0 (opener ∷ ts) ns) (λ k. let first = k.0 in cc),
+        next_left (kinds.Identifier ∷ kinds.Identifier ∷ kinds.StringToken ∷ []) (input conditions 0 (opener ∷ ts) ns) (λ k. let first = k.0 in cc),
+      ) refl)
+      (rw (
+        next_left (kinds.Identifier ∷ kinds.ColonEquals ∷ []) (input conditions 0 (opener ∷ ts) ns) (λ k. let first = k.0 in cc),
+        next_left (kinds.Identifier ∷ kinds.Comment ∷ []) (input conditions 0 (opener ∷ ts) ns) (λ k. let first = k.0 in cc),
+        next_left (kinds.Identifier ∷ kinds.Eol ∷ []) (input conditions 0 (opener ∷ ts) ns) (λ k. let first = k.0 in cc),
+        next_left (kinds.Identifier ∷ kinds.Eof ∷ []) (input conditions 0 (opener ∷ ts) ns) (λ k. let first = k.0 in cc),
+      ) refl))
+      (rw (next_taken (kinds.Identifier ∷ kinds.ParenL ∷ []) (input conditions 0 (name ∷ opener ∷ ts) ns) (kind, (kind2, tt)))
+      (function_reached xs ns name opener operator kind kind2 all kind3 h n))
+  content_reached xs ns (g.import {word = word} {tokens = ts} is p) none n =
+      r.by conditions Hit (import_read conditions ns xs n word ts is
+      (ap (λ b. next_are token_leaves (kinds.QuestionMark ∷ []) (input conditions 0 ts ns) || b) (path_begins conditions ns ts p) ∙ or_true conditions ns _))
+      (rw (accept_left kinds.QuestionMark ts conditions 0 ns (path_unmarked p)) (imported_reached false xs ns p n))
+  content_reached xs ns (g.optional_import {word = word} {mark = mark} {tokens = ts} is kind p) none n =
+      r.by conditions Hit (import_read conditions ns xs n word (mark ∷ ts) is (rw (next_taken (kinds.QuestionMark ∷ []) (input conditions 0 (mark ∷ ts) ns) (kind, tt)) refl))
+      (rw (accept_taken kinds.QuestionMark mark ts conditions 0 ns kind) (imported_reached true xs ns p n))
+  content_reached xs ns (g.module_alone {word = word} {name = name} {rest = rest} is kind ends) none n =
+      r.by conditions Hit (module_read conditions ns xs n word (name ∷ rest) is
+      (rw (
+        next_left (kinds.QuestionMark ∷ []) (input conditions 0 (name ∷ rest) ns) (λ k. let first = k.0 in cc),
+        line_taken conditions ns name rest kind ends,
+      ) refl))
+      (rw (accept_left kinds.QuestionMark (name ∷ rest) conditions 0 ns (λ e. cc)) (module_reached false xs ns name kind (ends_pathless ends) n))
+  content_reached xs ns (g.module_at {word = word} {name = name} {tokens = ts} is kind p) none n =
+      r.by conditions Hit (module_read conditions ns xs n word (name ∷ ts) is (module_follows conditions ns name ts kind p))
+      (rw (accept_left kinds.QuestionMark (name ∷ ts) conditions 0 ns (λ e. cc)) (module_at_reached false xs ns name kind p n))
+  content_reached xs ns (g.optional_module_alone {word = word} {mark = mark} {name = name} {rest = rest} is kind kind2 no_path) none n =
+      r.by conditions Hit (module_read conditions ns xs n word (mark ∷ name ∷ rest) is (rw (next_taken (kinds.QuestionMark ∷ []) (input conditions 0 (mark ∷ name ∷ rest) ns) (kind, tt)) refl))
+      (rw (accept_taken kinds.QuestionMark mark (name ∷ rest) conditions 0 ns kind) (module_reached true xs ns name kind2 no_path n))
+  content_reached xs ns (g.optional_module_at {word = word} {mark = mark} {name = name} {tokens = ts} is kind kind2 p) none n =
+      r.by conditions Hit (module_read conditions ns xs n word (mark ∷ name ∷ ts) is (rw (next_taken (kinds.QuestionMark ∷ []) (input conditions 0 (mark ∷ name ∷ ts) ns) (kind, tt)) refl))
+      (rw (accept_taken kinds.QuestionMark mark (name ∷ ts) conditions 0 ns kind) (module_at_reached true xs ns name kind2 p n))
+  content_reached xs ns (g.setting {word = word} {name = name} {tokens = ts} is is2 form value) none n =
+      r.by conditions Hit (setting_read conditions ns xs n word (name ∷ ts) is (setting_follows conditions ns name ts is2.is_name value))
+      (setting_reached xs ns name is2 form value n)
+  content_reached xs ns (g.unexport {word = word} {name = name} {rest = rest} is kind ends) none n =
+      r.by conditions Hit (unexport_read conditions ns xs n word (name ∷ rest) is (line_taken conditions ns name rest kind ends))
+      (unexport_reached xs ns name kind n)
   content_reached xs ns {rest = rest} (g.header {h = h} {fs = fs} q) none n =
       let noted : List (Noted Tok) = ns ++ (noted_by xs (recipe_content h []) ++ fs) in
       any_reached xs ns rest noted [] q (is_read tt (no_body_read (input conditions 0 rest noted) none)) n
@@ -370,7 +586,7 @@ module _ (conditions : Conditions) (Hit : Option SignificantToken → Type 0) wh
 
   -- what the attributes mean is what is read of them
   meant : (ws : List (WrittenAttribute Tok Tok)) (c : Content Tok Tok ℕ Tok) (xs : List ReadAttribute) → AreReadings (token_sight conditions) ws xs
-      → breaks_by xs c ≡ of_some (meaning_broken (token_sight conditions) c) (entries_of (token_sight conditions) ws) ++ form_broken c
+      → breaks_by xs c ≡ of_some (meaning_broken (token_sight conditions) c) (entries_of (token_sight conditions) ws) ++ form_broken conditions.current (token_sight conditions) c
   meant ws c xs h = rw (readings_mean (token_sight conditions) h) refl
 
   noted_is : (ws : List (WrittenAttribute Tok Tok)) (c : Content Tok Tok ℕ Tok) (xs : List ReadAttribute) → AreReadings (token_sight conditions) ws xs
@@ -391,16 +607,16 @@ module _ (conditions : Conditions) (Hit : Option SignificantToken → Type 0) wh
   abbrev ItemReached : WrittenItem Tok Tok ℕ Tok → State → State → Type 0
   ItemReached i s rest =
       (n : Counters) → ReachesOne conditions Hit (on_line token_leaves token_attributes n s) ((i, count n i), rest) (item_literals written_literals i)
-      (item_broken (token_sight conditions) i)
+      (item_broken conditions.current (token_sight conditions) i)
 
   -- the construct after the attributes that were read
   after_attributes : (n : Counters) (ws : List (WrittenAttribute Tok Tok)) (c : Content Tok Tok ℕ Tok) (s rest : State)
       (x : List ReadAttribute × State) → AreReadAt ws s x → ContentReached x.0 c s rest
       → ReachesOne conditions Hit (content token_leaves token_attributes x.0 n x.1) ((Construct ws c, count_content n c), rest) (content_literals c)
-      (of_some (meaning_broken (token_sight conditions) c) (entries_of (token_sight conditions) ws) ++ form_broken c)
+      (of_some (meaning_broken (token_sight conditions) c) (entries_of (token_sight conditions) ws) ++ form_broken conditions.current (token_sight conditions) c)
   after_attributes n ws c s rest x is h =
       subst (λ t. ReachesOne conditions Hit (content token_leaves token_attributes x.0 n t) ((Construct ws c, count_content n c), rest) (content_literals c)
-      (of_some (meaning_broken (token_sight conditions) c) (entries_of (token_sight conditions) ws) ++ form_broken c)) (sym is.1)
+      (of_some (meaning_broken (token_sight conditions) c) (entries_of (token_sight conditions) ws) ++ form_broken conditions.current (token_sight conditions) c)) (sym is.1)
       (r.same_rules conditions Hit (meant ws c x.0 is.0)
       (r.same_one conditions Hit (λ i. ((Construct (readings_written (token_sight conditions) is.0 i) c, count_content n c), rest)) (h n)))
 
@@ -415,7 +631,7 @@ module _ (conditions : Conditions) (Hit : Option SignificantToken → Type 0) wh
       let y : (WrittenItem Tok Tok ℕ Tok × Counters) × State = ((Construct ws c, count_content n c), end) in
       let meaning : List (Broken Tok) = of_some (meaning_broken (token_sight conditions) c) (entries_of (token_sight conditions) ws) in
       rw (accept_left kinds.Comment ts conditions 0 ns (attributes_begin a b).no_comment)
-      (r.same_rules conditions Hit (sym (append_assoc (attributes_broken (token_sight conditions) ws) meaning (form_broken c)))
+      (r.same_rules conditions Hit (sym (append_assoc (attributes_broken (token_sight conditions) ws) meaning (form_broken conditions.current (token_sight conditions) c)))
       (r.then_more conditions Hit _ (λ z. z ≡ y) (before_reached ns a b)
       (λ x is _. after_attributes n ws c (input conditions 0 header (ns ++ gs)) end x is
       (λ m. r.renoted conditions Hit (features_are ns ws c gs fs x.0 is.0) (h x.0 m)))))
@@ -432,7 +648,7 @@ module _ (conditions : Conditions) (Hit : Option SignificantToken → Type 0) wh
   -- all items are reached, with what is drawn for them, and their features
   abbrev AllReached : (n : Counters) → Read (WrittenTree × Counters) → WrittenTree → List (Noted Tok) → Type 0
   AllReached n found all noted =
-      ReachesOne conditions Hit found ((all, counted n all), input conditions 0 [] noted) (all_literals all) (broken (token_sight conditions) all)
+      ReachesOne conditions Hit found ((all, counted n all), input conditions 0 [] noted) (all_literals all) (broken conditions.current (token_sight conditions) all)
 
   -- a part of the line is read, and the items after it are reached
   record Continued (rule : State → Read WrittenTree) (all : WrittenTree) (fs : List (Noted Tok)) (ts : Tokens) (ns : List (Noted Tok)) : Type 0 where
@@ -564,7 +780,7 @@ module _ (conditions : Conditions) (Hit : Option SignificantToken → Type 0) wh
         }
 
   pub file_reached : {all : WrittenTree} {fs : List (ConstructFeatures Tok)} {ts : Tokens} → File keeps_tokens (Waived conditions.limit Hit) all fs ts
-      → ReachesOne conditions Hit (tree_of_tokens conditions ts) (all, features all fs) (all_literals all) (broken (token_sight conditions) all)
+      → ReachesOne conditions Hit (tree_of_tokens conditions ts) (all, features all fs) (all_literals all) (broken conditions.current (token_sight conditions) all)
   unfolding tree_of_tokens reader.file
   file_reached (g.marked {token = t} {rest = rest} kind h) = rw (accept_taken kinds.ByteOrderMark t rest conditions 0 [] kind) (r.pass conditions Hit _ (items_reached unnumbered [] h) refl)
   file_reached (g.unmarked {tokens = ts} h) = rw (accept_left kinds.ByteOrderMark ts conditions 0 [] (no_mark h)) (r.pass conditions Hit _ (items_reached unnumbered [] h) refl)

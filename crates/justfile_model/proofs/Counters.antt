@@ -1,5 +1,6 @@
 -- Counters grow by what is read.
-use Rattle.std.proofs.Common.{◌≡◌, ℕ, ◌+◌, Bool, true, false, cond, List, [], ◌∷◌, ◌++◌, length, Option, Some, None, Ok, Err, IfOk, refl, sym, ap, ◌∙◌, arith}
+use Rattle.std.proofs.Common.{◌≡◌, ℕ, ◌+◌, Bool, true, false, cond, List, [], ◌∷◌, ◌++◌, length, Option, Some, None, Ok, Err, IfOk, codes, refl, sym, ap, ◌∙◌, arith}
+use Rattle.justfile_base.specs.declared.item_kind.ItemKind.TheVariants as item_kinds
 use Rattle.justfile_base.specs.declared.token_kind.TokenKind.TheVariants as kinds
 use Rattle.justfile_model.specs.Files.{bindings, item_bindings, item_recipes, recipes}
 use Rattle.justfile_model.specs.AttributeReader.{AttributeLeaves}
@@ -7,7 +8,9 @@ use Rattle.justfile_model.specs.declared.parameter_kind.ParameterKind.{Parameter
 use Rattle.justfile_model.specs.declared.parameter_kind.ParameterKind.TheVariants.{Plus, Singular, Star}
 use Rattle.justfile_model.specs.HeaderReader as r
 use Rattle.justfile_model.specs.HeaderReader.{ReadHeader, draw_binding, expression, obeying, with_bindings}
-use Rattle.justfile_model.specs.Reader.{Start, after_numbered, allowed, any_recipe, argument_rules, assigned, assignment, at_end, attributes, construct, content, draw_recipe, end_of_tokens, ended, has_body, headed, item_rest, items, items_from, items_rule, line, line_end, no_exclusion, no_items, on_line, optional_body, recipe, with_recipes}
+use Rattle.justfile_model.specs.PartReader.{accept_before, after_numbered, file_path, is_assigned, is_imported, is_module, is_set, keyword_at, line_is, names, names_end, names_rule, no_names, numbered_name, optional_path, setting_value}
+use Rattle.justfile_model.specs.Settings.{setting_form}
+use Rattle.justfile_model.specs.Reader.{Start, alias, allowed, any_module, any_recipe, argument_rules, assigned, assignment, at_end, attributes, construct, content, draw_recipe, end_of_tokens, ended, function, has_body, headed, import, imported, item_rest, items, items_from, items_rule, line, line_end, named_module, no_exclusion, no_items, on_line, optional_body, recipe, setting, unexport, with_recipes, wordless}
 use Rattle.justfile_model.specs.Reading.{Counters, ◌>>=◌, Leaves, NoNumber, Read, State, Taken, accept, accepted, choose, expect, next_are}
 use Rattle.justfile_model.specs.RecipeRules.{parameter_broken, undefined_broken}
 use Rattle.justfile_model.specs.Sight.{Sight}
@@ -19,17 +22,23 @@ use Rattle.justfile_model.proofs.Turns.{recursive_keeps}
 -- ---- the counters after items
 
 -- after the numbers of parameters
-abbrev pub after_parameters : {A B : Type 0} → Counters → List (Parameter A B) → Counters
+abbrev pub after_parameters : {P : Type 0} → Counters → List P → Counters
 after_parameters n [] = n
 after_parameters n (p ∷ ps) = after_parameters (with_bindings (n.bindings + 1) n) ps
 
-pub after_more : {A B : Type 0} (n : Counters) (ps : List (Parameter A B)) (p : Parameter A B)
+pub after_more : {P : Type 0} (n : Counters) (ps : List P) (p : P)
     → after_parameters n (ps ++ p ∷ []) ≡ with_bindings ((after_parameters n ps).bindings + 1) (after_parameters n ps)
 after_more n [] p = refl
 after_more n (q ∷ ps) p = after_more (with_bindings (n.bindings + 1) n) ps p
 
 abbrev pub count_content : {A B C S : Type 0} → Counters → Content A B C S → Counters
+count_content n (tree.Alias parts) = n
 count_content n (tree.Assignment parts) = with_bindings (n.bindings + 1) n
+count_content n (tree.Function parts) = after_parameters n parts.parameters
+count_content n (tree.Import parts) = n
+count_content n (tree.Module parts) = n
+count_content n (tree.Setting parts) = n
+count_content n (tree.Unexport name) = n
 count_content n (tree.Recipe parts) = with_recipes (n.recipes + 1) (after_parameters n parts.header.parameters)
 
 abbrev pub count : {A B C S D : Type 0} → Counters → Item A B C S D → Counters
@@ -45,34 +54,52 @@ pub counted_both : {A B C S D : Type 0} (n : Counters) (is js : List (Item A B C
 counted_both n [] js = refl
 counted_both n (i ∷ is) js = counted_both (count n i) is js
 
-parameters_bindings : {A B : Type 0} (n : Counters) (ps : List (Parameter A B)) → (after_parameters n ps).bindings ≡ n.bindings + length ps
+pub parameters_bindings : {P : Type 0} (n : Counters) (ps : List P) → (after_parameters n ps).bindings ≡ n.bindings + length ps
 parameters_bindings n [] = omega arith
 parameters_bindings n (p ∷ ps) = omega (arith, parameters_bindings (with_bindings (n.bindings + 1) n) ps)
 
-pub parameters_recipes : {A B : Type 0} (n : Counters) (ps : List (Parameter A B)) → (after_parameters n ps).recipes ≡ n.recipes
+pub parameters_recipes : {P : Type 0} (n : Counters) (ps : List P) → (after_parameters n ps).recipes ≡ n.recipes
 parameters_recipes n [] = refl
 parameters_recipes n (p ∷ ps) = parameters_recipes (with_bindings (n.bindings + 1) n) ps
 
-parameters_constants : {A B : Type 0} (n : Counters) (ps : List (Parameter A B)) → (after_parameters n ps).constants ≡ n.constants
+parameters_constants : {P : Type 0} (n : Counters) (ps : List P) → (after_parameters n ps).constants ≡ n.constants
 parameters_constants n [] = refl
 parameters_constants n (p ∷ ps) = parameters_constants (with_bindings (n.bindings + 1) n) ps
 
 count_bindings : {A B C S D : Type 0} (n : Counters) (i : Item A B C S D) → (count n i).bindings ≡ n.bindings + item_bindings i
 count_bindings n tree.Newline = omega arith
 count_bindings n (tree.Comment text) = omega arith
+count_bindings n (Construct attributes (tree.Alias parts)) = omega arith
 count_bindings n (Construct attributes (tree.Assignment parts)) = refl
+count_bindings n (Construct attributes (tree.Function parts)) = parameters_bindings n parts.parameters
+count_bindings n (Construct attributes (tree.Import parts)) = omega arith
+count_bindings n (Construct attributes (tree.Module parts)) = omega arith
+count_bindings n (Construct attributes (tree.Setting parts)) = omega arith
+count_bindings n (Construct attributes (tree.Unexport name)) = omega arith
 count_bindings n (Construct attributes (tree.Recipe parts)) = parameters_bindings n parts.header.parameters
 
 count_recipes : {A B C S D : Type 0} (n : Counters) (i : Item A B C S D) → (count n i).recipes ≡ n.recipes + item_recipes i
 count_recipes n tree.Newline = omega arith
 count_recipes n (tree.Comment text) = omega arith
+count_recipes n (Construct attributes (tree.Alias parts)) = omega arith
 count_recipes n (Construct attributes (tree.Assignment parts)) = omega arith
+count_recipes n (Construct attributes (tree.Function parts)) = omega (arith, parameters_recipes n parts.parameters)
+count_recipes n (Construct attributes (tree.Import parts)) = omega arith
+count_recipes n (Construct attributes (tree.Module parts)) = omega arith
+count_recipes n (Construct attributes (tree.Setting parts)) = omega arith
+count_recipes n (Construct attributes (tree.Unexport name)) = omega arith
 count_recipes n (Construct attributes (tree.Recipe parts)) = refl
 
 count_constants : {A B C S D : Type 0} (n : Counters) (i : Item A B C S D) → (count n i).constants ≡ n.constants
 count_constants n tree.Newline = refl
 count_constants n (tree.Comment text) = refl
+count_constants n (Construct attributes (tree.Alias parts)) = refl
 count_constants n (Construct attributes (tree.Assignment parts)) = refl
+count_constants n (Construct attributes (tree.Function parts)) = parameters_constants n parts.parameters
+count_constants n (Construct attributes (tree.Import parts)) = refl
+count_constants n (Construct attributes (tree.Module parts)) = refl
+count_constants n (Construct attributes (tree.Setting parts)) = refl
+count_constants n (Construct attributes (tree.Unexport name)) = refl
 count_constants n (Construct attributes (tree.Recipe parts)) = parameters_constants n parts.header.parameters
 
 pub counted_bindings : {A B C S D : Type 0} (n : Counters) (is : List (Item A B C S D)) → (counted n is).bindings ≡ n.bindings + bindings is
@@ -192,6 +219,44 @@ module _ {R T A B S : Type 0} (leaves : Leaves R T A B S) where
         after_all (r.dependencies leaves checked.1) _ Q (λ priors _. after_all (r.subsequents leaves priors.1) _ Q (λ others _.
         known ps (λ x. x.0.1 ≡ after_parameters n x.0.0) is (parameters_count n options.1)))))))
 
+  -- ---- the parameters of functions
+
+  abbrev NamesCounted : Counters → Read R T B (List A × Counters) → Type 0
+  NamesCounted n found = IfOk found (λ x. x.0.1 ≡ after_parameters n x.0.0)
+
+  -- the name of a parameter that got a number
+  abbrev name_with : T → (ℕ × Counters) × State R T B → Read R T B (A × Counters)
+  name_with name number = Ok ((leaves.function_parameter number.1.run name number.0.0, number.0.1), number.1)
+
+  name_counts : (n : Counters) (s : State R T B) → IfOk (numbered_name leaves n s) (λ x. x.0.1 ≡ with_bindings (n.bindings + 1) n)
+  unfolding numbered_name draw_binding
+  name_counts n s =
+      let Q : A × Counters → Type 0 = λ x. x.1 ≡ with_bindings (n.bindings + 1) n in
+      after_all (expect leaves kinds.Identifier s) _ Q (λ name _. drawn name.0 name.1 (leaves.has_number n.bindings))
+    where
+      drawn : (name : T) (t : State R T B) (b : Bool)
+          → IfOk (cond {A = Read R T B (ℕ × Counters)} b (Ok ((n.bindings, with_bindings (n.bindings + 1) n), t)) (Err (NoNumber n)) >>= name_with name)
+          (λ x. x.0.1 ≡ with_bindings (n.bindings + 1) n)
+      drawn name t true = refl
+      drawn name t false = tt
+
+  names_rule_counts : (f : Counters × State R T B → Read R T B (List A × Counters)) → ((x : Counters × State R T B) → NamesCounted x.0 (f x)) → (x : Counters × State R T B)
+      → NamesCounted x.0 (names_rule leaves f x)
+  unfolding names_rule names_end after_numbered
+  names_rule_counts f h x =
+      let Q : List A × Counters → Type 0 = λ y. y.1 ≡ after_parameters x.0 y.0 in
+      after_choice (accept leaves kinds.ParenR x.1) _ _ Q
+      (after_all (numbered_name leaves x.0 x.1) _ Q (λ name is. after_all (choose (accept leaves kinds.Comma name.1) _ _) _ Q (λ more is2.
+      known more (λ y. y.0.1 ≡ after_parameters name.0.1 y.0.0) is2 (after_choice (accept leaves kinds.Comma name.1) _ _ (λ y. y.1 ≡ after_parameters name.0.1 y.0)
+      (after_all (expect leaves kinds.ParenR name.1) _ (λ y. y.1 ≡ after_parameters name.0.1 y.0) (λ closer _. refl)) (λ comma. h (name.0.1, comma.1)))
+      ∙ ap (λ n. after_parameters n more.0.0) (known name (λ y. y.0.1 ≡ with_bindings (x.0.bindings + 1) x.0) is (name_counts x.0 x.1)))))
+      (λ closer. refl)
+
+  pub names_count : (x : Counters × State R T B) → NamesCounted x.0 (names leaves x)
+  unfolding names
+  names_count =
+      recursive_keeps (λ (x : Counters × State R T B). length x.1.left) (no_names leaves) (names_rule leaves) (λ x found. NamesCounted x.0 found) (λ x. tt) names_rule_counts
+
 module _ {R T A B S D W : Type 0} (leaves : Leaves R T A B S) (kept : AttributeLeaves R A B D W) where
   abbrev pub ItemCounted : Counters → Read R T B (Item A B ℕ S D × Counters) → Type 0
   ItemCounted n found = IfOk found (λ x. x.0.1 ≡ count n x.0.0)
@@ -203,13 +268,13 @@ module _ {R T A B S D W : Type 0} (leaves : Leaves R T A B S) (kept : AttributeL
   abbrev pub Uncounted : Read R T B (List (Item A B ℕ S D)) → Type 0
   Uncounted found = IfOk found (λ x. (n : Counters) → counted n x.0 ≡ n)
 
-  binding_counted : (ws : List W) (n : Counters) (s : State R T B) (name : T) (value : Expr A B)
-      → ItemCounted n (draw_binding leaves n s >>= assigned leaves kept ws name value)
+  binding_counted : (eager export : Bool) (ws : List W) (n : Counters) (s : State R T B) (name : T) (value : Expr A B)
+      → ItemCounted n (draw_binding leaves n s >>= assigned leaves kept eager export ws name value)
   unfolding draw_binding
-  binding_counted ws n s name value = go (leaves.has_number n.bindings)
+  binding_counted eager export ws n s name value = go (leaves.has_number n.bindings)
     where
       go : (b : Bool)
-          → ItemCounted n (cond b (Ok ((n.bindings, with_bindings (n.bindings + 1) n), s)) (Err (NoNumber n)) >>= assigned leaves kept ws name value)
+          → ItemCounted n (cond b (Ok ((n.bindings, with_bindings (n.bindings + 1) n), s)) (Err (NoNumber n)) >>= assigned leaves kept eager export ws name value)
       go true = refl
       go false = tt
 
@@ -224,13 +289,61 @@ module _ {R T A B S D W : Type 0} (leaves : Leaves R T A B S) (kept : AttributeL
           ∙ ap (λ (k : ℕ). with_recipes (k + 1) (after_parameters n h.parameters)) (parameters_recipes n h.parameters)
       go false = tt
 
-  pub assignment_counts : (ws : List W) (n : Counters) (s : State R T B) → ItemCounted n (assignment leaves kept ws n s)
+  abbrev Q : Counters → Item A B ℕ S D × Counters → Type 0
+  Q n x = x.1 ≡ count n x.0
+
+  alias_counts : (ws : List W) (n : Counters) (s : State R T B) → ItemCounted n (alias leaves kept ws n s)
+  unfolding alias
+  alias_counts ws n s =
+      after_all leaves (expect leaves kinds.Identifier s) _ (Q n) (λ name _. after_all leaves (expect leaves kinds.ColonEquals name.1) _ (Q n) (λ operator _.
+      after_all leaves (r.path leaves operator.1) _ (Q n) (λ target _. after_all leaves (allowed leaves kept item_kinds.Alias ws name.0 target.1) _ (Q n) (λ checked _. refl))))
+
+  function_counts : (ws : List W) (n : Counters) (s : State R T B) → ItemCounted n (function leaves kept ws n s)
+  unfolding function
+  function_counts ws n s =
+      after_all leaves (expect leaves kinds.Identifier s) _ (Q n) (λ name _. after_all leaves (allowed leaves kept item_kinds.Function ws name.0 name.1) _ (Q n) (λ checked _.
+      after_all leaves (expect leaves kinds.ParenL checked.1) _ (Q n) (λ opener _. after_all leaves (names leaves (n, opener.1)) _ (Q n) (λ parameters is.
+      after_all leaves (expect leaves kinds.ColonEquals parameters.1) _ (Q n) (λ operator _. after_all leaves (expression leaves operator.1) _ (Q n) (λ body _.
+      known parameters (λ x. x.0.1 ≡ after_parameters n x.0.0) is (names_count leaves (n, opener.1))))))))
+
+  imported_counts : (optional : Bool) (ws : List W) (n : Counters) (s : State R T B) → ItemCounted n (imported leaves kept optional ws n s)
+  unfolding imported
+  imported_counts optional ws n s =
+      after_all leaves (file_path leaves s) _ (Q n) (λ path _. after_all leaves (allowed leaves kept item_kinds.Import ws path.0.0 path.1) _ (Q n) (λ checked _. refl))
+
+  import_counts : (ws : List W) (n : Counters) (s : State R T B) → ItemCounted n (import leaves kept ws n s)
+  unfolding import
+  import_counts ws n s = imported_counts (accepted leaves kinds.QuestionMark s).0 ws n (accepted leaves kinds.QuestionMark s).1
+
+  named_module_counts : (optional : Bool) (ws : List W) (n : Counters) (s : State R T B) → ItemCounted n (named_module leaves kept optional ws n s)
+  unfolding named_module
+  named_module_counts optional ws n s =
+      after_all leaves (expect leaves kinds.Identifier s) _ (Q n) (λ name _. after_all leaves (optional_path leaves name.1) _ (Q n) (λ path _.
+      after_all leaves (allowed leaves kept item_kinds.Module ws name.0 path.1) _ (Q n) (λ checked _. refl)))
+
+  any_module_counts : (ws : List W) (n : Counters) (s : State R T B) → ItemCounted n (any_module leaves kept ws n s)
+  unfolding any_module
+  any_module_counts ws n s = named_module_counts (accepted leaves kinds.QuestionMark s).0 ws n (accepted leaves kinds.QuestionMark s).1
+
+  setting_counts : (ws : List W) (n : Counters) (s : State R T B) → ItemCounted n (setting leaves kept ws n s)
+  unfolding setting
+  setting_counts ws n s =
+      after_all leaves (expect leaves kinds.Identifier s) _ (Q n) (λ name _. after_all leaves (keyword_at leaves name.0 name.1) _ (Q n) (λ keyword _.
+      after_all leaves (allowed leaves kept item_kinds.Setting ws name.0 keyword.1) _ (Q n) (λ checked _.
+      after_all leaves (setting_value leaves kept.sight name.0 keyword.0 (setting_form keyword.0) checked.1) _ (Q n) (λ value _. refl))))
+
+  unexport_counts : (ws : List W) (n : Counters) (s : State R T B) → ItemCounted n (unexport leaves kept ws n s)
+  unfolding unexport
+  unexport_counts ws n s =
+      after_all leaves (expect leaves kinds.Identifier s) _ (Q n) (λ name _. after_all leaves (allowed leaves kept item_kinds.Unexport ws name.0 name.1) _ (Q n) (λ checked _. refl))
+
+  pub assignment_counts : (eager export : Bool) (ws : List W) (n : Counters) (s : State R T B) → ItemCounted n (assignment leaves kept eager export ws n s)
   unfolding assignment
-  assignment_counts ws n s =
+  assignment_counts eager export ws n s =
       let Q : Item A B ℕ S D × Counters → Type 0 = λ x. x.1 ≡ count n x.0 in
       after_all leaves (expect leaves kinds.Identifier s) _ Q (λ name _. after_all leaves (expect leaves kinds.ColonEquals name.1) _ Q (λ operator _.
-      after_all leaves (expression leaves operator.1) _ Q (λ e _. after_all leaves (allowed leaves kept ws name.0 e.1) _ Q (λ checked _.
-      binding_counted ws n checked.1 name.0 e.0))))
+      after_all leaves (expression leaves operator.1) _ Q (λ e _. after_all leaves (allowed leaves kept item_kinds.Assignment ws name.0 e.1) _ Q (λ checked _.
+      binding_counted eager export ws n checked.1 name.0 e.0))))
 
   pub recipe_counts : (quiet : Bool) (ws : List W) (n : Counters) (s : State R T B) → ItemCounted n (recipe leaves kept quiet ws n s)
   unfolding recipe
@@ -248,13 +361,34 @@ module _ {R T A B S D W : Type 0} (leaves : Leaves R T A B S) (kept : AttributeL
       let Q : Item A B ℕ S D × Counters → Type 0 = λ x. x.1 ≡ count n x.0 in
       after_choice leaves (accept leaves kinds.At s) _ _ Q (recipe_counts false ws n s) (λ at. recipe_counts true ws n at.1)
 
+  wordless_counts : (ws : List W) (n : Counters) (s : State R T B) → ItemCounted n (wordless leaves kept ws n s)
+  unfolding wordless
+  wordless_counts ws n s =
+      after_test (next_are leaves (kinds.Identifier ∷ kinds.ParenL ∷ []) s) _ _ (ItemCounted n) (λ _. function_counts ws n s)
+      (λ _. after_test (is_assigned leaves s) _ _ (ItemCounted n) (λ _. assignment_counts false false ws n s) (λ _. any_recipe_counts ws n s))
+
+  content_counts : (ws : List W) (n : Counters) (s : State R T B) → ItemCounted n (content leaves kept ws n s)
+  unfolding content
+  content_counts ws n s =
+      after_choice leaves (accept_before leaves (codes "alias") (is_assigned leaves) s) _ _ (Q n)
+      (after_choice leaves (accept_before leaves (codes "eager") (is_assigned leaves) s) _ _ (Q n)
+      (after_choice leaves (accept_before leaves (codes "export") (is_assigned leaves) s) _ _ (Q n)
+      (after_choice leaves (accept_before leaves (codes "unexport") (line_is leaves (kinds.Identifier ∷ [])) s) _ _ (Q n)
+      (after_choice leaves (accept_before leaves (codes "import") (is_imported leaves) s) _ _ (Q n)
+      (after_choice leaves (accept_before leaves (codes "mod") (is_module leaves) s) _ _ (Q n)
+      (after_choice leaves (accept_before leaves (codes "set") (is_set leaves) s) _ _ (Q n)
+      (wordless_counts ws n s)
+      (λ word. setting_counts ws n word.1))
+      (λ word. any_module_counts ws n word.1))
+      (λ word. import_counts ws n word.1))
+      (λ word. unexport_counts ws n word.1))
+      (λ word. assignment_counts false true ws n word.1))
+      (λ word. assignment_counts true false ws n word.1))
+      (λ word. alias_counts ws n word.1)
+
   pub construct_counts : (n : Counters) (s : State R T B) → ItemCounted n (construct leaves kept n s)
-  unfolding construct content
-  construct_counts n s =
-      let Q : Item A B ℕ S D × Counters → Type 0 = λ x. x.1 ≡ count n x.0 in
-      after_all leaves (attributes leaves kept s) _ Q
-      (λ ws _. after_test (next_are leaves (kinds.Identifier ∷ kinds.ColonEquals ∷ []) ws.1) _ _ (ItemCounted n)
-      (λ _. assignment_counts ws.0 n ws.1) (λ _. any_recipe_counts ws.0 n ws.1))
+  unfolding construct
+  construct_counts n s = after_all leaves (attributes leaves kept s) _ (Q n) (λ ws _. content_counts ws.0 n ws.1)
 
   pub on_line_counts : (n : Counters) (s : State R T B) → ItemCounted n (on_line leaves kept n s)
   unfolding on_line

@@ -14,8 +14,9 @@ use Rattle.justfile_model.specs.Reader.{items}
 use Rattle.justfile_model.specs.TreeReader.{State, tree_of_tokens, token_attributes, token_leaves}
 use Rattle.justfile_model.proofs.AttributeProgress.{attribute_lines_count}
 use Rattle.justfile_model.proofs.Counters.{counted, counted_bindings, counted_constants, counted_recipes, items_count}
-use Rattle.justfile_model.proofs.ExpressionProgress.{expression_counts}
-use Rattle.justfile_model.proofs.HeaderProgress.{counts_one, header_counts}
+use Rattle.justfile_model.proofs.ExpressionProgress.{expression_counts, fewer}
+use Rattle.justfile_model.proofs.HeaderProgress.{counts_one, header_counts, path_left}
+use Rattle.justfile_model.proofs.PartProgress.{file_path_left, names_count, value_left}
 use Rattle.justfile_model.proofs.ReadingSteps.{known}
 use Rattle.justfile_model.proofs.Sound.{file_at}
 
@@ -47,7 +48,20 @@ module _ {A B C S : Type 0} (kept : Kept A B C S) (Open : ℕ → Option Signifi
   body_lines_count (g.some_line l h) = omega (arith, line_rest_counts kept.leaf kept.spot Open l, body_lines_count h)
 
   pub on_line_counts : {c : Content A B C S} {fs : List (Noted B)} {ts rest : Tokens} → OnLine kept Open c fs ts rest → content_bindings c + content_recipes c + identifiers rest ≤ identifiers ts
+  on_line_counts (g.alias is kind kind2 p) = omega (arith, fewer (path_left kept.leaf p))
   on_line_counts (g.assignment {name = name} kind kind2 e) = omega (arith, counts_one name.tok.kind kind, expression_counts kept.leaf kept.spot Open e)
+  on_line_counts (g.eager {name = name} is kind kind2 e) = omega (arith, counts_one name.tok.kind kind, expression_counts kept.leaf kept.spot Open e)
+  on_line_counts (g.export {name = name} is kind kind2 e) = omega (arith, counts_one name.tok.kind kind, expression_counts kept.leaf kept.spot Open e)
+  on_line_counts (g.function kind kind2 ns kind3 e) = omega (arith, names_count kept.leaf ns, expression_counts kept.leaf kept.spot Open e)
+  on_line_counts (g.import is p) = omega (arith, fewer (file_path_left kept.leaf p))
+  on_line_counts (g.optional_import is kind p) = omega (arith, fewer (file_path_left kept.leaf p))
+  on_line_counts (g.module_alone is kind ends) = omega arith
+  on_line_counts (g.module_at is kind p) = omega (arith, fewer (file_path_left kept.leaf p))
+  on_line_counts (g.optional_module_alone is kind kind2 none) = omega arith
+  on_line_counts (g.optional_module_at is kind kind2 p) = omega (arith, fewer (file_path_left kept.leaf p))
+  on_line_counts (g.setting {word = word} {name = name} {tokens = tokens} {rest = rest} is is2 form value) =
+      omega (arith, fewer (value_left kept.leaf kept.spot Open {t = name} value))
+  on_line_counts (g.unexport is kind ends) = omega arith
   on_line_counts (g.header h) = header_counts kept.leaf kept.spot kept.star Open h
 
   pub block_counts : {c : Content A B C S} {fs : List (Noted B)} {ts rest : Tokens} → Block kept Open c fs ts rest → content_bindings c + content_recipes c + identifiers rest ≤ identifiers ts

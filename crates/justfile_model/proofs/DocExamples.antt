@@ -9,7 +9,7 @@ use Rattle.justfile_model.specs.Files.{says_doc}
 use Rattle.justfile_model.specs.Printing.{fixed_text, text}
 use Rattle.justfile_model.specs.Rewritten.{docs_written}
 use Rattle.justfile_model.specs.Tree as tree
-use Rattle.justfile_model.specs.Tree.{Comment, Construct, Entry, Header, Newline, OrderedItem, Shape, plain_assignment}
+use Rattle.justfile_model.specs.Tree.{Comment, Construct, Entry, Header, Newline, OrderedItem, Shape, assignment_of}
 
 abbrev with_docs : Shape → Shape
 with_docs = documented says_doc Nothing
@@ -26,7 +26,7 @@ recipe = recipe_with None []
 
 -- `x := y`
 abbrev assignment : OrderedItem (List ℕ) (Unit {0}) (Unit {0})
-assignment = Construct [] (tree.Assignment (plain_assignment (codes "x") (tree.Variable (codes "y"))))
+assignment = Construct [] (tree.Assignment (assignment_of false false (codes "x") (tree.Variable (codes "y"))))
 
 -- `[private]`, and `[doc]`
 abbrev private : List (Entry (List ℕ) (Unit {0}))

@@ -9,7 +9,7 @@ use Rattle.justfile_model.specs.Files.{bindings, content_bindings, content_liter
 use Rattle.justfile_model.specs.Literals.{Literal}
 use Rattle.justfile_model.specs.Printing.{printable, printable_content, shown_doc}
 use Rattle.justfile_model.specs.Rewritten.{after_doc, docs_written}
-use Rattle.justfile_model.specs.Tree.{Assignment, Comment, Construct, Content, Entry, Item, Newline, OrderedItem, Recipe, Tree, lexeme, nothing, over_content, over_entry, over_item, shape_of}
+use Rattle.justfile_model.specs.Tree.{Alias, Assignment, Comment, Construct, Content, Entry, Function, Import, Item, Module, Newline, OrderedItem, Recipe, Setting, Tree, Unexport, lexeme, nothing, over_content, over_entry, over_item, shape_of}
 use Rattle.justfile_model.proofs.SeesRules.{kind_over}
 
 -- ---- what counts constructs
@@ -77,14 +77,32 @@ module _ {A B C Z : Type 0} (count : List (OrderedItem A B C) → Z) (c : Counts
 
 same_bindings : {A B C S : Type 0} (content : Content A B C S) (doc : Option (List ℕ)) → content_bindings (redocumented doc content) ≡ content_bindings content
 same_bindings (Assignment parts) doc = refl
+same_bindings (Alias parts) doc = refl
+same_bindings (Function parts) doc = refl
+same_bindings (Import parts) doc = refl
+same_bindings (Module parts) doc = refl
+same_bindings (Setting parts) doc = refl
+same_bindings (Unexport name) doc = refl
 same_bindings (Recipe parts) doc = refl
 
 same_recipes : {A B C S : Type 0} (content : Content A B C S) (doc : Option (List ℕ)) → content_recipes (redocumented doc content) ≡ content_recipes content
 same_recipes (Assignment parts) doc = refl
+same_recipes (Alias parts) doc = refl
+same_recipes (Function parts) doc = refl
+same_recipes (Import parts) doc = refl
+same_recipes (Module parts) doc = refl
+same_recipes (Setting parts) doc = refl
+same_recipes (Unexport name) doc = refl
 same_recipes (Recipe parts) doc = refl
 
 same_literals : {A B C S : Type 0} (content : Content A B C S) (doc : Option (List ℕ)) → content_literals (redocumented doc content) ≡ content_literals content
 same_literals (Assignment parts) doc = refl
+same_literals (Alias parts) doc = refl
+same_literals (Function parts) doc = refl
+same_literals (Import parts) doc = refl
+same_literals (Module parts) doc = refl
+same_literals (Setting parts) doc = refl
+same_literals (Unexport name) doc = refl
 same_literals (Recipe parts) doc = refl
 
 module _ {A B C S D : Type 0} where
@@ -120,6 +138,12 @@ module _ {A B C S D : Type 0} where
 
 same_printable : {B C S : Type 0} (content : Content (List ℕ) B C S) (doc : Option (List ℕ)) → printable_content (redocumented doc content) ≡ printable_content content
 same_printable (Assignment parts) doc = refl
+same_printable (Alias parts) doc = refl
+same_printable (Function parts) doc = refl
+same_printable (Import parts) doc = refl
+same_printable (Module parts) doc = refl
+same_printable (Setting parts) doc = refl
+same_printable (Unexport name) doc = refl
 same_printable (Recipe parts) doc = refl
 
 module _ {B C S D : Type 0} where
@@ -141,11 +165,23 @@ module _ {A B C S D A' B' C' S' D' : Type 0} (f : A → A') (g : B → B') (h : 
 
   wants_over : (attributes : D) (content : Content A B C S) → wants_doc other (m attributes) (over_content f g h k content) ≡ wants_doc has_doc attributes content
   wants_over attributes (Assignment parts) = refl
+  wants_over attributes (Alias parts) = refl
+  wants_over attributes (Function parts) = refl
+  wants_over attributes (Import parts) = refl
+  wants_over attributes (Setting parts) = refl
+  wants_over attributes (Unexport name) = refl
+  wants_over attributes (Module parts) = ap (λ b. true && not b && not (is_some parts.doc)) (same attributes)
   wants_over attributes (Recipe parts) = ap (λ b. true && not b && not (is_some parts.doc)) (same attributes)
 
   redocumented_over : (doc : Option (List ℕ)) (content : Content A B C S)
       → redocumented doc (over_content f g h k content) ≡ over_content f g h k (redocumented doc content)
   redocumented_over doc (Assignment parts) = refl
+  redocumented_over doc (Alias parts) = refl
+  redocumented_over doc (Function parts) = refl
+  redocumented_over doc (Import parts) = refl
+  redocumented_over doc (Module parts) = refl
+  redocumented_over doc (Setting parts) = refl
+  redocumented_over doc (Unexport name) = refl
   redocumented_over doc (Recipe parts) = refl
 
   with_doc_over : (doc : List ℕ) (attributes : D) (content : Content A B C S)

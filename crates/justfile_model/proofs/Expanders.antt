@@ -117,7 +117,7 @@ module _ (conditions : Conditions) (all : Expansions) (within : Within condition
   pub tree_kept : (tree : Tree) (features : List (Noted Tok)) → FileDerives conditions tokens tree features → FileDerives (with_expander all conditions) tokens tree features
   tree_kept tree features h =
       let ls = all_literals h.written in
-      let kept = items_kept (sees_tokens some) (sees_tokens all).cooked (sees_tokens all).literal_content tokens_seen h.written tree
+      let kept = items_kept (sees_tokens some) (sees_tokens all).cooked (sees_tokens all).literal_content tokens_seen conditions.current h.written tree
       (agreed some all within lexeme (λ kind t. tok_content t) ls h.obeys.cooked h.obeys.cooks)
       (texted some all within lexeme (λ kind t. tok_content t) ls h.obeys.cooked h.obeys.cooks) h.ordered_is h.obeys.unbroken in
       let obeys : Obeys (with_expander all conditions) h.written =
@@ -145,7 +145,7 @@ module _ (conditions : Conditions) (all : Expansions) (within : Within condition
       let ls = all_literals h.written in
       let cooks : AreCookedTexts some (map (over_literal (λ x. x)) ls) h.cooked =
       subst (λ m. AreCookedTexts some m h.cooked) (sym (map_same (over_literal (λ x. x)) same_lexemes ls)) h.cooks in
-      let kept = items_kept (sees_lexemes some) (sees_lexemes all).cooked (sees_lexemes all).literal_content lexemes_seen h.written shape
+      let kept = items_kept (sees_lexemes some) (sees_lexemes all).cooked (sees_lexemes all).literal_content lexemes_seen conditions.current h.written shape
       (agreed some all within (λ l. l) (λ kind l. record { kind = kind; lexeme = l }) ls h.cooked cooks)
       (texted some all within (λ l. l) (λ kind l. record { kind = kind; lexeme = l }) ls h.cooked cooks) h.ordered_is h.unbroken in
       record {

@@ -7,7 +7,7 @@ use Rattle.justfile_model.specs.Features.{ConstructFeatures, Noted}
 use Rattle.justfile_model.specs.Files.{all_features, entries_features, if_both, ordered, says_doc, undocumented, with_entries}
 use Rattle.justfile_model.specs.Meaning.{entries_of}
 use Rattle.justfile_model.specs.Sight.{Sight}
-use Rattle.justfile_model.specs.Tree.{Assignment, Comment, Construct, Content, Entry, Item, Newline, OrderedItem, Recipe, WrittenAttribute, WrittenItem, starless}
+use Rattle.justfile_model.specs.Tree.{Alias, Assignment, Comment, Construct, Content, Entry, Function, Import, Item, Module, Newline, OrderedItem, Recipe, Setting, Unexport, WrittenAttribute, WrittenItem, starless}
 use Rattle.justfile_model.proofs.Binds.{never_some, some_back}
 
 -- the features of a construct by what its attributes mean
@@ -26,6 +26,12 @@ meant_features (Construct entries content ∷ items) (f ∷ fs) = content_featur
 
 starless_features : {A B C S : Type 0} (content : Content A B C S) (entries : List (Entry A B)) → entries_features (starless content) entries ≡ entries_features content entries
 starless_features (Assignment parts) entries = refl
+starless_features (Alias parts) entries = refl
+starless_features (Function parts) entries = refl
+starless_features (Import parts) entries = refl
+starless_features (Module parts) entries = refl
+starless_features (Setting parts) entries = refl
+starless_features (Unexport name) entries = refl
 starless_features (Recipe parts) entries = refl
 
 module _ {A B C S : Type 0} (sight : Sight A B) where
@@ -76,6 +82,12 @@ module _ {A B C S : Type 0} (sight : Sight A B) where
 redocumented_features : {A B C S : Type 0} (doc : Option (List ℕ)) (content : Content A B C S) (entries : List (Entry A B))
     → entries_features (redocumented doc content) entries ≡ entries_features content entries
 redocumented_features doc (Assignment parts) entries = refl
+redocumented_features doc (Alias parts) entries = refl
+redocumented_features doc (Function parts) entries = refl
+redocumented_features doc (Import parts) entries = refl
+redocumented_features doc (Module parts) entries = refl
+redocumented_features doc (Setting parts) entries = refl
+redocumented_features doc (Unexport name) entries = refl
 redocumented_features doc (Recipe parts) entries = refl
 
 module _ {A B C S : Type 0} (has_doc : List (Entry A B) → Bool) where

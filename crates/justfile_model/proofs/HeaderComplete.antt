@@ -93,7 +93,7 @@ module _ (conditions : Conditions) (Hit : Option SignificantToken → Type 0) wh
         path_rest_read ns others,
       ) refl
 
-  path_read : (ns : List (Noted Tok)) {names : List Tok} {ts rest : Tokens} → PathOf itself names ts rest
+  pub path_read : (ns : List (Noted Tok)) {names : List Tok} {ts rest : Tokens} → PathOf itself names ts rest
       → r.path token_leaves (input conditions 0 ts ns) ≡ Ok (names, input conditions 0 rest ns)
   unfolding r.path prepend
   path_read ns (g.path {name = name} {tokens = ts} kind others) = rw (expect_taken kinds.Identifier name ts conditions 0 ns kind, path_rest_read ns others) refl

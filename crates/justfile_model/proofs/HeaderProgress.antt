@@ -22,7 +22,7 @@ module _ {A : Type 0} (leaf : Tok → A) where
   path_rest_left (g.last not) = next
   path_rest_left (g.next kind kind2 more) = later (later (path_rest_left more))
 
-  path_left : {names : List A} {ts rest : Tokens} → PathOf leaf names ts rest → LeftOf rest ts
+  pub path_left : {names : List A} {ts rest : Tokens} → PathOf leaf names ts rest → LeftOf rest ts
   path_left (g.path kind more) = path_rest_left more
 
 module _ {A B : Type 0} (leaf : Tok → A) (spot : Tok → B) (Open : ℕ → Option SignificantToken → Type 0) where
@@ -88,7 +88,7 @@ module _ {A B S : Type 0} (leaf : Tok → A) (spot : Tok → B) (star : Tok → 
       → LeftOf rest ts
   named_header_left (g.header kind ps ds) = later (all_dependencies_left (parameters_left leaf spot Open ps) ds)
 
-  header_left : {h : Header A B S} {fs : List (Noted B)} {ts rest : Tokens} → HeaderOf leaf spot star Open h fs ts rest → LeftOf rest ts
+  pub header_left : {h : Header A B S} {fs : List (Noted B)} {ts rest : Tokens} → HeaderOf leaf spot star Open h fs ts rest → LeftOf rest ts
   header_left (g.quiet kind h) = later (named_header_left h)
   header_left (g.loud h) = named_header_left h
 

@@ -46,7 +46,7 @@ true_not_false : (b : Bool) → b ≡ true → b ≡ false → ⊥
 true_not_false b h k = cc
 
 -- no token of the kind comes next
-is_left : (kind : TokenKind) (s : State) → next_are token_leaves (kind ∷ []) s ≡ false → NotNext kind s.left
+pub is_left : (kind : TokenKind) (s : State) → next_are token_leaves (kind ∷ []) s ≡ false → NotNext kind s.left
 is_left kind s = go s.left (next_taken (kind ∷ []) s)
   where
     go : (ts : Tokens) → (AreNext (kind ∷ []) ts → next_are token_leaves (kind ∷ []) s ≡ true) → next_are token_leaves (kind ∷ []) s ≡ false → NotNext kind ts
@@ -103,7 +103,7 @@ module _ (conditions : Conditions) where
   abbrev PathRest : List Tok → Tokens → Tokens → Type 0
   PathRest = g.PathRest itself
 
-  abbrev PathOf : List Tok → Tokens → Tokens → Type 0
+  abbrev pub PathOf : List Tok → Tokens → Tokens → Type 0
   PathOf = g.PathOf itself
 
   abbrev NamedParameter : ParameterKind → Bool → Parameter Tok Tok → List (Noted Tok) → Tokens → Tokens → Type 0
@@ -144,15 +144,15 @@ module _ (conditions : Conditions) where
   -- ---- paths
 
   -- what is read from one place up to another, without features, derives by the rule
-  record Passed (rule : Tokens → Tokens → Type 0) (s rest : State) : Type 0 where
-    derives : rule s.left rest.left
-    noted_is : rest.noted ≡ s.noted
-    stays : Here conditions 0 rest
+  pub record Passed (rule : Tokens → Tokens → Type 0) (s rest : State) : Type 0 where
+    pub derives : rule s.left rest.left
+    pub noted_is : rest.noted ≡ s.noted
+    pub stays : Here conditions 0 rest
 
   abbrev IsPathRest : State → List Tok × State → Type 0
   IsPathRest s x = Passed (PathRest x.0) s x.1
 
-  abbrev IsPath : State → List Tok × State → Type 0
+  abbrev pub IsPath : State → List Tok × State → Type 0
   IsPath s x = Passed (PathOf x.0) s x.1
 
   path_rest_keeps : (f : State → Read (List Tok)) → ((s : State) → Here conditions 0 s → IfOk (f s) (IsPathRest s)) → (s : State) → Here conditions 0 s
@@ -191,7 +191,7 @@ module _ (conditions : Conditions) where
         stays = rest.stays;
       }))
 
-  path_at : (s : State) (x : List Tok × State) → r.path token_leaves s ≡ Ok x → Here conditions 0 s → IsPath s x
+  pub path_at : (s : State) (x : List Tok × State) → r.path token_leaves s ≡ Ok x → Here conditions 0 s → IsPath s x
   path_at s x is here = known x (IsPath s) is (path_sound s here)
 
   -- ---- arguments of dependencies

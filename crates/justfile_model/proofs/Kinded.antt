@@ -185,7 +185,7 @@ module _ (Open : ℕ → Option SignificantToken → Type 0) where
     value_kinded (g.list {opener = opener} o es) s =
         let x = sequence_kinded es s.1 in record { kinded = (is_spelled kinds.BracketL (codes "[") opener (λ e. e) o s.0, x.kinded); after = x.after }
 
-    sequence_kinded : {closing : TokenKind} {depth : ℕ} {es : Exprs Tok Tok} {fs : List (Noted Tok)} {tokens rest : Tokens}
+    pub sequence_kinded : {closing : TokenKind} {depth : ℕ} {es : Exprs Tok Tok} {fs : List (Noted Tok)} {tokens rest : Tokens}
         → Sequence itself itself Open closing depth es fs tokens rest → AllSpelled tokens → Kinds (KindedExprs es) rest
     sequence_kinded (g.none k) s = record { kinded = tt; after = s.1 }
     sequence_kinded (g.last n e k) s = let x = expression_kinded e s in record { kinded = (x.kinded, tt); after = x.after.1 }

@@ -9,11 +9,14 @@ use Rattle.justfile_model.specs.Grammar as g
 use Rattle.justfile_model.specs.Grammar.{BeforeBody, Block, BodyLines, File, ItemRest, Items, LineEnd, LineRest, OnLine}
 use Rattle.justfile_model.specs.Headers as heads
 use Rattle.justfile_model.specs.Headers.{AllDependencies, Dependencies, DependencyArguments, DependencyOf, HeaderOf, NamedHeader, NamedParameter, ParameterOf, Parameters, PathOf, PathRest}
+use Rattle.justfile_model.specs.ItemParts as parts
+use Rattle.justfile_model.specs.ItemParts.{FilePath, Names, ValueOf}
+use Rattle.justfile_model.specs.Settings.{SettingForm}
 use Rattle.justfile_model.specs.SignificantTokens.{AllSpelled, SignificantToken}
 use Rattle.justfile_model.specs.Tok.{Tok}
 use Rattle.justfile_model.specs.Tree as tree
-use Rattle.justfile_model.specs.Tree.{BodyLine, Construct, Content, Dependency, DependencyArgument, Fragment, Header, Parameter, WrittenItem, WrittenTree, itself}
-use Rattle.justfile_model.proofs.Kinded.{KindedWritten, expression_kinded, lines_kinded, value_kinded}
+use Rattle.justfile_model.specs.Tree.{BodyLine, Construct, Content, Dependency, DependencyArgument, Fragment, Header, Parameter, Quoted, SettingValue, WrittenItem, WrittenTree, itself}
+use Rattle.justfile_model.proofs.Kinded.{KindedWritten, expression_kinded, lines_kinded, sequence_kinded, value_kinded}
 
 -- the attributes of an item are so
 abbrev pub KindedItem : WrittenItem Tok Tok ℕ Tok → Type 0
@@ -35,6 +38,15 @@ rest_spelled (heads.next k l names) s = rest_spelled names s.1.1
 
 path_spelled : {names : List Tok} {ts rest : Tokens} → PathOf itself names ts rest → AllSpelled ts → AllSpelled rest
 path_spelled (heads.path k names) s = rest_spelled names s.1
+
+file_path_spelled : {path : Quoted Tok} {ts rest : Tokens} → FilePath itself path ts rest → AllSpelled ts → AllSpelled rest
+file_path_spelled (parts.plain k) s = s.1
+file_path_spelled (parts.expanded k l) s = s.1.1
+
+names_spelled : {names : List Tok} {ts rest : Tokens} → Names itself names ts rest → AllSpelled ts → AllSpelled rest
+names_spelled (parts.none k) s = s.1
+names_spelled (parts.last k l) s = s.1.1
+names_spelled (parts.more k l names) s = names_spelled names s.1.1
 
 module _ (Open : ℕ → Option SignificantToken → Type 0) where
   -- ---- what is after a header
@@ -87,6 +99,15 @@ module _ (Open : ℕ → Option SignificantToken → Type 0) where
   header_spelled (heads.quiet k h) s = named_header_spelled h s.1
   header_spelled (heads.loud h) s = named_header_spelled h s
 
+  value_spelled : {form : SettingForm} {value : SettingValue Tok Tok} {fs : List (Noted Tok)} {ts rest : Tokens} → ValueOf itself itself Open form value fs ts rest
+      → AllSpelled ts → AllSpelled rest
+  value_spelled (parts.bare ends) s = s
+  value_spelled (parts.yes k is) s = s.1.1
+  value_spelled (parts.no k is) s = s.1.1
+  value_spelled (parts.expression k e) s = (expression_kinded Open e s.1).after
+  value_spelled (parts.plain k e) s = (expression_kinded Open e s.1).after
+  value_spelled (parts.interpreter k l es) s = (sequence_kinded Open es s.1.1).after
+
   -- ---- what is after a construct
 
   line_spelled : {fragments : List (Fragment Tok Tok)} {fs : List (Noted Tok)} {ts rest : Tokens} → LineRest itself itself Open fragments fs ts rest
@@ -104,7 +125,19 @@ module _ (Open : ℕ → Option SignificantToken → Type 0) where
 
   on_line_spelled : {c : Content Tok Tok ℕ Tok} {fs : List (Noted Tok)} {ts rest : Tokens} → OnLine keeps_tokens Open c fs ts rest → AllSpelled ts
       → AllSpelled rest
+  on_line_spelled (g.alias is kind kind2 p) s = path_spelled p s.1.1.1
   on_line_spelled (g.assignment kind kind2 e) s = (expression_kinded Open e s.1.1).after
+  on_line_spelled (g.eager is kind kind2 e) s = (expression_kinded Open e s.1.1.1).after
+  on_line_spelled (g.export is kind kind2 e) s = (expression_kinded Open e s.1.1.1).after
+  on_line_spelled (g.function kind kind2 ns kind3 e) s = (expression_kinded Open e (names_spelled ns s.1.1).1).after
+  on_line_spelled (g.import is p) s = file_path_spelled p s.1
+  on_line_spelled (g.optional_import is kind p) s = file_path_spelled p s.1.1
+  on_line_spelled (g.module_alone is kind ends) s = s.1.1
+  on_line_spelled (g.module_at is kind p) s = file_path_spelled p s.1.1
+  on_line_spelled (g.optional_module_alone is kind kind2 none) s = s.1.1.1
+  on_line_spelled (g.optional_module_at is kind kind2 p) s = file_path_spelled p s.1.1.1
+  on_line_spelled (g.setting is is2 form value) s = value_spelled value s.1.1
+  on_line_spelled (g.unexport is kind ends) s = s.1.1
   on_line_spelled (g.header h) s = header_spelled h s
 
   block_spelled : {c : Content Tok Tok ℕ Tok} {fs : List (Noted Tok)} {ts rest : Tokens} → Block keeps_tokens Open c fs ts rest → AllSpelled ts

@@ -8,20 +8,20 @@ use Rattle.justfile_model.specs.Sight.{sees_lexemes, sees_tokens}
 use Rattle.justfile_model.specs.SignificantTokens.{AllSpelled, SignificantToken}
 use Rattle.justfile_model.specs.Conditions.{Conditions}
 use Rattle.justfile_model.specs.Tree as tree
-use Rattle.justfile_model.specs.Tree.{Expr, Exprs, Parts, Fragment, BodyLine, Line, Quoted, Argument, WrittenAttribute, OptionName, Property, ArgumentRules, Attribute, Entry, Parameter, DependencyArgument, Dependency, Header, AssignmentParts, Content, Item, WrittenItem, WrittenTree, WrittenShape, Tree, Shape, over_expr, over_exprs, over_parts, over_fragment, over_argument, over_written_attribute, over_entry, over_quoted, over_option, over_property, over_rules, over_attribute, over_parameter, over_assignment, over_line, over_dependency_argument, over_dependency, over_header, over_content, over_item, lexeme, nothing, shape_of, written_shape_of}
+use Rattle.justfile_model.specs.Tree.{Expr, Exprs, Parts, Fragment, BodyLine, Line, Quoted, Argument, WrittenAttribute, OptionName, Property, ArgumentRules, Attribute, Entry, Parameter, DependencyArgument, Dependency, Header, AssignmentParts, SettingValue, Content, Item, WrittenItem, WrittenTree, WrittenShape, Tree, Shape, over_expr, over_exprs, over_parts, over_fragment, over_argument, over_written_attribute, over_entry, over_quoted, over_option, over_property, over_rules, over_attribute, over_parameter, over_assignment, over_setting_value, over_line, over_dependency_argument, over_dependency, over_header, over_content, over_item, lexeme, nothing, shape_of, written_shape_of}
 use Rattle.justfile_model.specs.Features.{ConstructFeatures, Noted, over_features, over_noted}
 use Rattle.justfile_model.specs.Expressions.{Tokens, front, Under}
 use Rattle.justfile_model.specs.Grammar.{File}
 use Rattle.justfile_model.specs.Literals as literal
 use Rattle.justfile_model.specs.Literals.{Literal, over_literal, AreCookedTexts}
-use Rattle.justfile_model.specs.Files.{expr_literals, exprs_literals, parts_literals, fragments_literals, body_literals, optional_literals, argument_literals, written_literals, entries_literals, parameter_literals, dependency_literals, header_literals, content_literals, item_literals, items_literals, all_features, all_literals, literals, broken, ordered, keeps_tokens, keeps_lexemes, Obeys, FileDerives, ShapeDerives, quoted_literals, option_literals, rules_literals, attribute_literals}
+use Rattle.justfile_model.specs.Files.{expr_literals, exprs_literals, parts_literals, fragments_literals, body_literals, optional_literals, argument_literals, written_literals, entries_literals, parameter_literals, dependency_literals, header_literals, setting_literals, content_literals, item_literals, items_literals, all_features, all_literals, literals, broken, ordered, keeps_tokens, keeps_lexemes, Obeys, FileDerives, ShapeDerives, quoted_literals, option_literals, rules_literals, attribute_literals}
 use Rattle.justfile_model.proofs.CarryExpressions.{Same, Pairs, nil, cons}
 use Rattle.justfile_model.proofs.Carry as c
 use Rattle.justfile_model.proofs.Carry.{Maps, over_items, Alike}
 use Rattle.justfile_model.proofs.Mapped.{map_same, option_same, flat_mapped}
 use Rattle.justfile_model.proofs.KindedFiles.{file_kinded}
 use Rattle.justfile_model.proofs.Ordered.{all_features_seen, shape_ordered, shape_unbroken, tree_ordered, tree_unbroken}
-use Rattle.justfile_model.proofs.Unchanged.{expr_itself, same_leaf}
+use Rattle.justfile_model.proofs.Unchanged.{expr_itself, exprs_itself, same_leaf}
 
 -- ---- leaves replaced by themselves
 
@@ -77,8 +77,21 @@ module _ {A B S : Type 0} where
     subsequents = map_same (over_dependency same_leaf same_leaf same_leaf) dependency_itself h.subsequents i;
   }
 
+setting_itself : {A B : Type 0} (value : SettingValue A B) → over_setting_value same_leaf same_leaf value ≡ value
+setting_itself (tree.Truth value) = refl
+setting_itself (tree.Value value) = ap tree.Value (expr_itself value)
+setting_itself (tree.Interpreter command arguments) = λ i. tree.Interpreter (expr_itself command i) (exprs_itself arguments i)
+
 content_itself : {A B C S : Type 0} (c : Content A B C S) → over_content same_leaf same_leaf same_leaf same_leaf c ≡ c
+content_itself (tree.Alias parts) = λ i. tree.Alias (record { name = parts.name; target = map_same same_leaf (λ name. refl) parts.target i })
 content_itself (tree.Assignment parts) = ap tree.Assignment (assignment_itself parts)
+content_itself (tree.Function parts) =
+    λ i. tree.Function (record { name = parts.name; parameters = map_same same_leaf (λ name. refl) parts.parameters i; body = expr_itself parts.body i })
+content_itself (tree.Import parts) = refl
+content_itself {A = A} {B = B} (tree.Module parts) =
+    λ i. tree.Module (record { doc = parts.doc; optional = parts.optional; name = parts.name; path = option_same (over_quoted {A = A} {B = B} same_leaf same_leaf) (λ q. refl) parts.path i })
+content_itself (tree.Setting parts) = λ i. tree.Setting (record { keyword = parts.keyword; name = parts.name; value = setting_itself parts.value i })
+content_itself (tree.Unexport name) = refl
 content_itself (tree.Recipe parts) = λ i. tree.Recipe (record { doc = parts.doc; header = header_itself parts.header i; body = body_itself parts.body i })
 
 item_itself : {A B C S : Type 0} (i : WrittenItem A B C S) → over_item same_leaf same_leaf same_leaf same_leaf (map (over_written_attribute same_leaf same_leaf)) i ≡ i
@@ -219,8 +232,24 @@ module _ {A B C S D E F T : Type 0} (f : A → D) (g : B → E) (h : C → F) (k
   body_over [] = refl
   body_over (Line number fragments ∷ body) = two f g (fragments_literals fragments) (body_literals body) _ _ (fragments_over f g fragments) (body_over body)
 
+  path_over : (path : Option (Quoted A)) → optional_literals quoted_literals (option_map (over_quoted f g) path) ≡ map (over_literal f) (optional_literals quoted_literals path)
+  path_over None = refl
+  path_over (Some q) = quoted_over f g q
+
+  setting_over : (value : SettingValue A B) → setting_literals (over_setting_value f g value) ≡ map (over_literal f) (setting_literals value)
+  setting_over (tree.Truth value) = refl
+  setting_over (tree.Value value) = expr_over f g value
+  setting_over (tree.Interpreter command arguments) =
+      two f g (expr_literals command) (exprs_literals arguments) _ _ (expr_over f g command) (exprs_over f g arguments)
+
   content_over : (c : Content A B C S) → content_literals (over_content f g h k c) ≡ map (over_literal f) (content_literals c)
+  content_over (tree.Alias parts) = refl
   content_over (tree.Assignment parts) = expr_over f g parts.value
+  content_over (tree.Function parts) = expr_over f g parts.body
+  content_over (tree.Import parts) = quoted_over f g parts.path
+  content_over (tree.Module parts) = path_over parts.path
+  content_over (tree.Setting parts) = setting_over parts.value
+  content_over (tree.Unexport name) = refl
   content_over (tree.Recipe parts) = two f g (header_literals parts.header) (body_literals parts.body) _ _ (header_over f g k parts.header) (body_over parts.body)
 
   -- of items with attributes whose literals go along
@@ -311,7 +340,7 @@ module _ (conditions : Conditions) (tokens : Tokens) (spelled : AllSpelled token
         features_are = ap (map (over_noted nothing)) h.features_are ∙ sym (all_features_seen conditions.expander h.written h.by_construct kinded);
         cooked = h.obeys.cooked;
         cooks = subst (λ l. AreCookedTexts conditions.expander l h.obeys.cooked) (sym (all_lexemes h.written)) h.obeys.cooks;
-        unbroken = shape_unbroken conditions.expander h.written kinded h.obeys.unbroken;
+        unbroken = shape_unbroken conditions.expander conditions.current h.written kinded h.obeys.unbroken;
         ordered_is = shape_ordered conditions.expander h.written all kinded h.ordered_is;
       }
 
@@ -326,7 +355,7 @@ module _ (conditions : Conditions) (tokens : Tokens) (spelled : AllSpelled token
       let obeys : Obeys conditions x.tree = record {
         cooked = h.cooked;
         cooks = subst (λ l. AreCookedTexts conditions.expander l h.cooked) (ap all_literals (sym x.alike) ∙ all_lexemes x.tree) h.cooks;
-        unbroken = tree_unbroken conditions.expander x.tree kinded (ap (broken sight) x.alike ∙ h.unbroken);
+        unbroken = tree_unbroken conditions.expander conditions.current x.tree kinded (ap (broken conditions.current sight) x.alike ∙ h.unbroken);
       } in
       let same : map (over_noted nothing) features ≡ fs =
       sym (all_features_seen conditions.expander x.tree x.features kinded) ∙ (λ i. all_features sight (x.alike i) (x.noted_alike i)) ∙ sym h.features_are

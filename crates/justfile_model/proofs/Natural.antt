@@ -1,15 +1,20 @@
 -- The reader of files is natural in its tokens and leaves: readers whose tokens are related read related items, and draw the same numbers. Where
 -- the one has no number left, the other goes on: then the counter is exceeded in all that the other reads.
-use Rattle.std.proofs.Common.{◌≡◌, ℕ, zero, suc, ◌+◌, ◌<◌, ◌≤◌, Bool, true, false, ◌||◌, cond, List, [], ◌∷◌, ◌++◌, length, drop, Some, Ok, Err, IfOk, refl, sym, subst, ap, ◌∙◌, arith, IsOk}
+use Rattle.std.proofs.Common.{◌≡◌, ℕ, zero, suc, ◌+◌, ◌<◌, ◌≤◌, Bool, true, false, ◌||◌, codes, cond, List, [], ◌∷◌, ◌++◌, length, drop, Some, Ok, Err, IfOk, refl, sym, subst, ap, ◌∙◌, arith, IsOk}
 use Rattle.std.specs.Str.{trim_end}
+use Rattle.justfile_base.specs.declared.item_kind.ItemKind.{ItemKind}
+use Rattle.justfile_base.specs.declared.keyword.Keyword.{Keyword}
 use Rattle.justfile_base.specs.declared.item_kind.ItemKind.TheVariants as item_kinds
 use Rattle.justfile_base.specs.declared.token_kind.TokenKind.{TokenKind}
 use Rattle.justfile_base.specs.declared.token_kind.TokenKind.TheVariants as kinds
 use Rattle.justfile_model.specs.AttributeReader.{AttributeLeaves}
-use Rattle.justfile_model.specs.HeaderReader.{ReadHeader, draw_binding, header, with_bindings}
-use Rattle.justfile_model.specs.Reader.{Start, after_mark, after_numbered, any_recipe, argument_rules, assigned, assignment, at_end, attributes, body, body_line, construct, content, draw_recipe, end_of_tokens, ended, file, fragment, has_body, headed, items, items_from, items_rule, line, line_at, line_end, line_rest, line_rest_rule, lines, lines_rule, no_exclusion, no_line_rest, no_lines, on_line, optional_body, recipe, some_lines, with_recipes}
+use Rattle.justfile_model.specs.HeaderReader.{ReadHeader, draw_binding, expression, header, with_bindings}
+use Rattle.justfile_model.specs.PartReader.{accept_before, after_numbered, is_assigned, is_imported, is_module, is_set, line_is, names, setting_value}
+use Rattle.justfile_model.specs.Reader.{Start, after_mark, alias, any_module, any_recipe, argument_rules, assigned, assignment, at_end, attributes, body, body_line, construct, content, draw_recipe, end_of_tokens, ended, file, fragment, function, has_body, headed, import, imported, items, items_from, items_rule, line, line_at, line_end, line_rest, line_rest_rule, lines, lines_rule, named_module, no_exclusion, no_line_rest, no_lines, on_line, optional_body, recipe, setting, some_lines, unexport, with_recipes, wordless}
 use Rattle.justfile_model.specs.Reader as r
-use Rattle.justfile_model.specs.Reading.{◌>>=◌, Counters, Leaves, NoNumber, Read, State, Taken, accept, choose, next_are}
+use Rattle.justfile_model.specs.Reading as taking
+use Rattle.justfile_model.specs.Reading.{◌>>=◌, Counters, Leaves, NoNumber, Read, State, Taken, accept, choose, expect, next_are, taken_or}
+use Rattle.justfile_model.specs.Settings.{setting_form}
 use Rattle.justfile_model.specs.SignificantTokens.{SignificantToken}
 use Rattle.justfile_model.specs.Tree as tree
 use Rattle.justfile_model.specs.Tree.{ArgumentRules, BodyLine, Expr, Fragment, Item, Line, Parameter, trimmed}
@@ -20,7 +25,8 @@ use Rattle.justfile_model.proofs.NaturalAttributes.{Keeping, attribute_lines_nat
 use Rattle.justfile_model.proofs.NewAttributesAlike.{allowed_alike, arg_rules_alike}
 use Rattle.justfile_model.proofs.Counters.{Counted, after_parameters, count, counted, counted_bindings, counted_both, counted_recipes, items_count}
 use Rattle.justfile_model.proofs.NaturalExpressions.{Reads}
-use Rattle.justfile_model.proofs.NaturalHeaders.{AlikeRead, LacksHeader, after_alike, header_natural, obeying_natural, pick_known, value_alike}
+use Rattle.justfile_model.proofs.NaturalHeaders.{AlikeRead, LacksHeader, after_alike, header_natural, obeying_natural, path_natural, pick_known, value_alike}
+use Rattle.justfile_model.proofs.NaturalParts.{Higher, LacksName, accepted_before, file_path_natural, keyword_natural, names_natural, optional_path_natural, same_assigned, same_imported, same_module, same_set, same_unexported, setting_value_natural}
 use Rattle.justfile_model.proofs.ReadingSteps.{past}
 use Rattle.justfile_model.proofs.Reading.{items_is, line_goes}
 use Rattle.justfile_model.proofs.Related as a
@@ -128,10 +134,28 @@ module _ {R T A B S D W R' T' A' B' S' D' W' : Type 0} (rel : Relations R T A B 
   abbrev pub LacksIn : (ws : List W') → Counters → State R' T' B' → Counters → Type 0
   LacksIn ws n s' m = LacksHeader other kept'.sight (argument_rules other kept' s'.run ws) n s' m
 
+  -- where an assignment begins, after a word or none
+  pub data AfterWord (s' : State R' T' B') : (eager export : Bool) → State R' T' B' → Type 0 where
+    no_word : AfterWord s' false false s'
+    after_eager : {p : T' × State R' T' B'} → accept_before other (codes "eager") (is_assigned other) s' ≡ Some p → AfterWord s' true false p.1
+    after_export : {p : T' × State R' T' B'} → accept_before other (codes "export") (is_assigned other) s' ≡ Some p → AfterWord s' false true p.1
+
+  -- a parameter of the function that comes next lacks a number
+  pub record LacksFunction (ws : List W') (n : Counters) (s' : State R' T' B') (m : Counters) : Type 0 where
+    pub name : T' × State R' T' B'
+    pub named : expect other kinds.Identifier s' ≡ Ok name
+    pub checked : Unit {0} × State R' T' B'
+    pub allowed : r.allowed other kept' item_kinds.Function ws name.0 name.1 ≡ Ok checked
+    pub opener : T' × State R' T' B'
+    pub opened : expect other kinds.ParenL checked.1 ≡ Ok opener
+    pub lacks : LacksName other (n, opener.1) m
+
   -- what comes next, where the counters stand here, wants a number that is not left where they stand there; the other reader reads it if it has one
   pub data Lacks (n : Counters) (s' : State R' T' B') : Counters → Type 0 where
-    binding : {ws : List W'} {rest : State R' T' B'} → attributes other kept' s' ≡ Ok (ws, rest) → one.has_number n.bindings ≡ false
-        → (other.has_number n.bindings ≡ true → IsOk (assignment other kept' ws n rest)) → Lacks n s' n
+    binding : {ws : List W'} {rest from : State R' T' B'} {eager export : Bool} → attributes other kept' s' ≡ Ok (ws, rest) → AfterWord rest eager export from
+        → one.has_number n.bindings ≡ false → (other.has_number n.bindings ≡ true → IsOk (assignment other kept' eager export ws n from)) → Lacks n s' n
+    function_parameter : {ws : List W'} {rest : State R' T' B'} {m : Counters} → attributes other kept' s' ≡ Ok (ws, rest)
+        → one.has_number m.bindings ≡ false → LacksFunction ws n rest m → Lacks n s' m
     parameter : {ws : List W'} {rest from : State R' T' B'} {m : Counters} → attributes other kept' s' ≡ Ok (ws, rest) → AtHeader rest from
         → one.has_number m.bindings ≡ false → LacksIn ws n from m → Lacks n s' m
     recipe_number : {ws : List W'} {rest : State R' T' B'} {m : Counters} → attributes other kept' s' ≡ Ok (ws, rest) → one.has_number m.recipes ≡ false
@@ -163,16 +187,16 @@ module _ {R T A B S D W R' T' A' B' S' D' W' : Type 0} (rel : Relations R T A B 
     no_number : one.has_number m.recipes ≡ false → (other.has_number m.recipes ≡ true → IsOk found)
         → IfOk found (λ y. y.0.1 ≡ with_recipes (m.recipes + 1) m) → NoRecipe Lacking m found
 
-  binding_alike : {ws : List W} {ws' : List W'} (n : Counters) (name : T) (name' : T') → Each Keeps ws ws' → {e : Expr A B} {e' : Expr A' B'} {s : State R T B} {s' : State R' T' B'} → rel.token name name' → Alike rel e e' → States rel s s'
-      → Related rel (AlikeNumbered n) (NoBinding n) (draw_binding one n s >>= assigned one kept ws name e) (draw_binding other n s' >>= assigned other kept' ws' name' e')
+  binding_alike : (eager export : Bool) {ws : List W} {ws' : List W'} (n : Counters) (name : T) (name' : T') → Each Keeps ws ws' → {e : Expr A B} {e' : Expr A' B'} {s : State R T B} {s' : State R' T' B'} → rel.token name name' → Alike rel e e' → States rel s s'
+      → Related rel (AlikeNumbered n) (NoBinding n) (draw_binding one n s >>= assigned one kept eager export ws name e) (draw_binding other n s' >>= assigned other kept' eager export ws' name' e')
   unfolding draw_binding
-  binding_alike {ws} {ws'} n name name' q {e} {e'} {s} {s'} t v h = go (one.has_number n.bindings) (other.has_number n.bindings) refl refl
+  binding_alike eager export {ws} {ws'} n name name' q {e} {e'} {s} {s'} t v h = go (one.has_number n.bindings) (other.has_number n.bindings) refl refl
     where
       go : (b b' : Bool) → one.has_number n.bindings ≡ b → other.has_number n.bindings ≡ b'
-          → Related rel (AlikeNumbered n) (NoBinding n) (cond b (Ok ((n.bindings, with_bindings (n.bindings + 1) n), s)) (Err (NoNumber n)) >>= assigned one kept ws name e) (cond b' (Ok ((n.bindings, with_bindings (n.bindings + 1) n), s')) (Err (NoNumber n)) >>= assigned other kept' ws' name' e')
+          → Related rel (AlikeNumbered n) (NoBinding n) (cond b (Ok ((n.bindings, with_bindings (n.bindings + 1) n), s)) (Err (NoNumber n)) >>= assigned one kept eager export ws name e) (cond b' (Ok ((n.bindings, with_bindings (n.bindings + 1) n), s')) (Err (NoNumber n)) >>= assigned other kept' eager export ws' name' e')
       go true true is is' = both (a.assignment (attributed.attributes s.run s'.run h.run q) (agree.assignment s.run s'.run name name' h.run t n.bindings) v, refl, refl) h
       go true false is is' = let left = agree.has_number n.bindings is in cc
-      go false true is is' = short {found = Ok ((n.bindings, with_bindings (n.bindings + 1) n), s') >>= assigned other kept' ws' name' e'} (refl, is, (λ _. refl), bindings_end is (omega arith))
+      go false true is is' = short {found = Ok ((n.bindings, with_bindings (n.bindings + 1) n), s') >>= assigned other kept' eager export ws' name' e'} (refl, is, (λ _. refl), bindings_end is (omega arith))
       go false false is is' = short {found = Err (NoNumber n)} (refl, is, (λ has. cc), tt)
 
   recipes_stay : (n : Counters) (ps : List (Parameter A B)) → (after_parameters n ps).recipes ≡ n.recipes
@@ -228,10 +252,10 @@ module _ {R T A B S D W R' T' A' B' S' D' W' : Type 0} (rel : Relations R T A B 
       ordered_alike rel (kept.sight run) (kept'.sight run') (attributed.keeping.sees run run' same)
       (each_mapped kept.entry kept'.entry attributed.keeping.entry q)
 
-  allowed_natural : {ws : List W} {ws' : List W'} (name : T) (name' : T') → rel.token name name' → Each Keeps ws ws' → {s : State R T B}
-      {s' : State R' T' B'} → States rel s s' → Reads rel (λ x y. Unit {0}) (r.allowed one kept ws name s) (r.allowed other kept' ws' name' s')
-  allowed_natural name name' t q {s} {s'} h =
-      obeying_natural rel (allowed_alike rel (kept.sight s.run) (kept'.sight s'.run) (attributed.keeping.sees s.run s'.run h.run) item_kinds.Assignment
+  allowed_natural : (item : ItemKind) {ws : List W} {ws' : List W'} (name : T) (name' : T') → rel.token name name' → Each Keeps ws ws' → {s : State R T B}
+      {s' : State R' T' B'} → States rel s s' → Reads rel (λ x y. Unit {0}) (r.allowed one kept item ws name s) (r.allowed other kept' item ws' name' s')
+  allowed_natural item name name' t q {s} {s'} h =
+      obeying_natural rel (allowed_alike rel (kept.sight s.run) (kept'.sight s'.run) (attributed.keeping.sees s.run s'.run h.run) item
       (agree.spot name name' t) (entries_alike s.run s'.run h.run q)) h
 
   exclusion_natural : {ws : List W} {ws' : List W'} (name : T) (name' : T') → rel.token name name' → Each Keeps ws ws' → {s : State R T B}
@@ -245,13 +269,13 @@ module _ {R T A B S D W R' T' A' B' S' D' W' : Type 0} (rel : Relations R T A B 
   rules_alike run run' same q =
       arg_rules_alike rel (kept.sight run) (kept'.sight run') (attributed.keeping.sees run run' same) (entries_alike run run' same q)
 
-  pub assignment_natural : {ws : List W} {ws' : List W'} (n : Counters) → Each Keeps ws ws' → {s : State R T B} {s' : State R' T' B'} → States rel s s'
-      → Related rel (AlikeNumbered n) (NoBinding n) (assignment one kept ws n s) (assignment other kept' ws' n s')
+  pub assignment_natural : (eager export : Bool) {ws : List W} {ws' : List W'} (n : Counters) → Each Keeps ws ws' → {s : State R T B} {s' : State R' T' B'} → States rel s s'
+      → Related rel (AlikeNumbered n) (NoBinding n) (assignment one kept eager export ws n s) (assignment other kept' eager export ws' n s')
   unfolding assignment
-  assignment_natural n q h =
+  assignment_natural eager export n q h =
       bind rel _ _ (expected rel one other agree kinds.Identifier h) (λ name name' t k. bind rel _ _ (expected rel one other agree kinds.ColonEquals k) (λ x x' t2 j.
-      bind rel _ _ (value_alike rel one other agree j) (λ e e' v i. bind rel _ _ (allowed_natural name.0 name'.0 t q i) (λ u u' c l.
-      binding_alike n name.0 name'.0 q t v l))))
+      bind rel _ _ (value_alike rel one other agree j) (λ e e' v i. bind rel _ _ (allowed_natural item_kinds.Assignment name.0 name'.0 t q i) (λ u u' c l.
+      binding_alike eager export n name.0 name'.0 q t v l))))
 
   exceed_after : {X : Type 0} (m : Counters) (found : Read R' T' B' X) (f : X × State R' T' B' → Read R' T' B' (Item A' B' ℕ S' D' × Counters))
       → ((x : X × State R' T' B') → AllExceed m (f x)) → AllExceed m (found >>= f)
@@ -343,17 +367,173 @@ module _ {R T A B S D W R' T' A' B' S' D' W' : Type 0} (rel : Relations R T A B 
   recipe_lacks n m is (no_parameter ends lacks exceeds) = (parameter is lacks.begins ends lacks.lacks, exceeds)
   recipe_lacks {ws'} n m {s'} is (no_number ends reads counts) = (recipe_number is ends reads counts, own_exceeds m (any_recipe other kept' ws' n s') ends counts)
 
+  -- ---- items that draw no number of their own
+
+  mark_alike : {s : State R T B} {s' : State R' T' B'} {o : Taken R T B} {o' : Taken R' T' B'} → Takes rel o o' → States rel s s'
+      → ((taken_or s o).0 ≡ (taken_or s' o').0) × States rel (taken_or s o).1 (taken_or s' o').1
+  mark_alike a.none_taken h = (refl, h)
+  mark_alike (a.taken t k) h = (refl, k)
+
+  alias_natural : {ws : List W} {ws' : List W'} (n : Counters) → Each Keeps ws ws' → {s : State R T B} {s' : State R' T' B'} → States rel s s'
+      → Reads rel (AlikeNumbered n) (alias one kept ws n s) (alias other kept' ws' n s')
+  unfolding alias
+  alias_natural n q h =
+      bind rel _ _ (expected rel one other agree kinds.Identifier h) (λ name name' t k. bind rel _ _ (expected rel one other agree kinds.ColonEquals k) (λ x x' t2 j.
+      bind rel _ _ (path_natural rel one other agree j) (λ p p' v i. bind rel _ _ (allowed_natural item_kinds.Alias name.0 name'.0 t q i) (λ u u' c l.
+      both (a.alias (attributed.attributes u.1.run u'.1.run l.run q) (agree.name name.0 name'.0 t) v, refl, refl) l))))
+
+  imported_natural : (optional : Bool) {ws : List W} {ws' : List W'} (n : Counters) → Each Keeps ws ws' → {s : State R T B} {s' : State R' T' B'} → States rel s s'
+      → Reads rel (AlikeNumbered n) (imported one kept optional ws n s) (imported other kept' optional ws' n s')
+  unfolding imported
+  imported_natural optional n q h =
+      bind rel _ _ (file_path_natural rel one other agree h) (λ p p' v k. bind rel _ _ (allowed_natural item_kinds.Import p.0.0 p'.0.0 v.literal q k) (λ u u' c l.
+      both (a.import (attributed.attributes u.1.run u'.1.run l.run q) v.path, refl, refl) l))
+
+  import_natural : {ws : List W} {ws' : List W'} (n : Counters) → Each Keeps ws ws' → {s : State R T B} {s' : State R' T' B'} → States rel s s'
+      → Reads rel (AlikeNumbered n) (import one kept ws n s) (import other kept' ws' n s')
+  unfolding import taking.accepted
+  import_natural {ws} {ws'} n q {s} {s'} h =
+      let mark = mark_alike (accepted rel one other agree kinds.QuestionMark h) h in
+      let first = taken_or s (accept one kinds.QuestionMark s) in
+      let second = taken_or s' (accept other kinds.QuestionMark s') in
+      subst (λ (b : Bool). Reads rel (AlikeNumbered n) (imported one kept first.0 ws n first.1) (imported other kept' b ws' n second.1)) mark.0
+      (imported_natural first.0 n q mark.1)
+
+  named_module_natural : (optional : Bool) {ws : List W} {ws' : List W'} (n : Counters) → Each Keeps ws ws' → {s : State R T B} {s' : State R' T' B'} → States rel s s'
+      → Reads rel (AlikeNumbered n) (named_module one kept optional ws n s) (named_module other kept' optional ws' n s')
+  unfolding named_module
+  named_module_natural optional n q h =
+      bind rel _ _ (expected rel one other agree kinds.Identifier h) (λ name name' t k. bind rel _ _ (optional_path_natural rel one other agree k) (λ p p' v j.
+      bind rel _ _ (allowed_natural item_kinds.Module name.0 name'.0 t q j) (λ u u' c l.
+      both (a.module_of (attributed.attributes u.1.run u'.1.run l.run q) (agree.name name.0 name'.0 t) v, refl, refl) l)))
+
+  module_natural : {ws : List W} {ws' : List W'} (n : Counters) → Each Keeps ws ws' → {s : State R T B} {s' : State R' T' B'} → States rel s s'
+      → Reads rel (AlikeNumbered n) (any_module one kept ws n s) (any_module other kept' ws' n s')
+  unfolding any_module taking.accepted
+  module_natural {ws} {ws'} n q {s} {s'} h =
+      let mark = mark_alike (accepted rel one other agree kinds.QuestionMark h) h in
+      let first = taken_or s (accept one kinds.QuestionMark s) in
+      let second = taken_or s' (accept other kinds.QuestionMark s') in
+      subst (λ (b : Bool). Reads rel (AlikeNumbered n) (named_module one kept first.0 ws n first.1) (named_module other kept' b ws' n second.1)) mark.0
+      (named_module_natural first.0 n q mark.1)
+
+  -- a setting after its name
+  abbrev OneSetting : List W → Counters → T → Keyword → State R T B → Read R T B (Item A B ℕ S D × Counters)
+  OneSetting ws n name keyword s =
+      r.allowed one kept item_kinds.Setting ws name s >>= λ checked. setting_value one kept.sight name keyword (setting_form keyword) checked.1 >>= λ value.
+      r.constructed one kept ws (tree.Setting (record { keyword = keyword; name = one.name name; value = value.0 })) n value.1
+
+  abbrev OtherSetting : List W' → Counters → T' → Keyword → State R' T' B' → Read R' T' B' (Item A' B' ℕ S' D' × Counters)
+  OtherSetting ws n name keyword s =
+      r.allowed other kept' item_kinds.Setting ws name s >>= λ checked. setting_value other kept'.sight name keyword (setting_form keyword) checked.1 >>= λ value.
+      r.constructed other kept' ws (tree.Setting (record { keyword = keyword; name = other.name name; value = value.0 })) n value.1
+
+  named_setting_natural : {ws : List W} {ws' : List W'} (n : Counters) → Each Keeps ws ws' → (name : T) (name' : T') → rel.token name name' → (keyword : Keyword)
+      {s : State R T B} {s' : State R' T' B'} → States rel s s' → Reads rel (AlikeNumbered n) (OneSetting ws n name keyword s) (OtherSetting ws' n name' keyword s')
+  named_setting_natural n q name name' t keyword h =
+      bind rel _ _ (allowed_natural item_kinds.Setting name name' t q h) (λ u u' c k.
+      bind rel _ _ (setting_value_natural rel one other agree kept.sight kept'.sight attributed.keeping.sees name name' t keyword (setting_form keyword) k) (λ v v' w l.
+      both (a.setting (attributed.attributes v.1.run v'.1.run l.run q) (agree.name name name' t) w, refl, refl) l))
+
+  setting_natural : {ws : List W} {ws' : List W'} (n : Counters) → Each Keeps ws ws' → {s : State R T B} {s' : State R' T' B'} → States rel s s'
+      → Reads rel (AlikeNumbered n) (setting one kept ws n s) (setting other kept' ws' n s')
+  unfolding setting
+  setting_natural {ws} {ws'} n q h =
+      bind rel _ _ (expected rel one other agree kinds.Identifier h) (λ name name' t k.
+      bind rel _ _ (keyword_natural rel one other agree name.0 name'.0 t k) (λ x x' e j.
+      subst (λ (keyword : Keyword). Reads rel (AlikeNumbered n) (OneSetting ws n name.0 x.0 x.1) (OtherSetting ws' n name'.0 keyword x'.1)) e
+      (named_setting_natural n q name.0 name'.0 t x.0 j)))
+
+  unexport_natural : {ws : List W} {ws' : List W'} (n : Counters) → Each Keeps ws ws' → {s : State R T B} {s' : State R' T' B'} → States rel s s'
+      → Reads rel (AlikeNumbered n) (unexport one kept ws n s) (unexport other kept' ws' n s')
+  unfolding unexport
+  unexport_natural n q h =
+      bind rel _ _ (expected rel one other agree kinds.Identifier h) (λ name name' t k.
+      bind rel _ _ (allowed_natural item_kinds.Unexport name.0 name'.0 t q k) (λ u u' c l.
+      both (a.unexport (attributed.attributes u.1.run u'.1.run l.run q) (agree.name name.0 name'.0 t), refl, refl) l))
+
+  -- ---- functions
+
+  -- the number of a parameter is wanting, and what the other reads exceeds the counter
+  record NoFunction (ws : List W') (n : Counters) (s' : State R' T' B') (m : Counters) (found : Read R' T' B' (Item A' B' ℕ S' D' × Counters)) : Type 0 where
+    ends : one.has_number m.bindings ≡ false
+    lacks : LacksFunction ws n s' m
+    exceeds : AllExceed m found
+
+  abbrev FunctionRest : List W' → T' → (List A' × Counters) × State R' T' B' → Read R' T' B' (Item A' B' ℕ S' D' × Counters)
+  FunctionRest ws name parameters =
+      expect other kinds.ColonEquals parameters.1 >>= λ operator. expression other operator.1 >>= λ body.
+      r.constructed other kept' ws (tree.Function (record { name = other.name name; parameters = parameters.0.0; body = body.0 })) parameters.0.1 body.1
+
+  function_carried : (m : Counters) (ws : List W') (name : T') (found : Read R' T' B' (List A' × Counters)) → one.has_number m.bindings ≡ false
+      → Higher other m found → AllExceed m (found >>= FunctionRest ws name)
+  function_carried m ws name (Err e) ends less = tt
+  function_carried m ws name (Ok ps) ends less =
+      exceed_after m (expect other kinds.ColonEquals ps.1) _ (λ operator. exceed_after m (expression other operator.1) _ (λ body. bindings_end ends less))
+
+  function_natural : {ws : List W} {ws' : List W'} (n : Counters) → Each Keeps ws ws' → {s : State R T B} {s' : State R' T' B'} → States rel s s'
+      → Related rel (AlikeNumbered n) (NoFunction ws' n s') (function one kept ws n s) (function other kept' ws' n s')
+  unfolding function
+  function_natural {ws} {ws'} n q {s} {s'} h =
+      bind_short rel _ _ (expected rel one other agree kinds.Identifier h) (λ m never. absurd never) (λ name name' is named' t k.
+      bind_short rel _ _ (allowed_natural item_kinds.Function name.0 name'.0 t q k) (λ m never. absurd never) (λ u u' is2 allowed' c j.
+      bind_short rel _ _ (expected rel one other agree kinds.ParenL j) (λ m never. absurd never) (λ o o' is3 opened' t2 i.
+      bind_short rel _ _ (names_natural rel one other agree n i)
+      (λ m w. record {
+        ends = w.ends;
+        lacks = record { name = name'; named = named'; checked = u'; allowed = allowed'; opener = o'; opened = opened'; lacks = w.lacks };
+        exceeds = function_carried m ws' name'.0 (names other (n, o'.1)) w.ends w.exceeds;
+      })
+      (λ ps ps' is4 is5 v l. bind rel _ _ (expected rel one other agree kinds.ColonEquals l) (λ x x' t3 d. bind rel _ _ (value_alike rel one other agree d) (λ e e' w f.
+      both (a.function (attributed.attributes e.1.run e'.1.run f.run q) (agree.name name.0 name'.0 t) v.names w, v.same, v.counts) f))))))
+
+  -- ---- which item it is
+
+  -- no number is drawn
+  never_lacks : {n : Counters} {from : State R' T' B'} {found : Read R T B (Item A B ℕ S D × Counters)} {found' : Read R' T' B' (Item A' B' ℕ S' D' × Counters)}
+      → Reads rel (AlikeNumbered n) found found' → Related rel (AlikeNumbered n) (NoItem n from) found found'
+  never_lacks h = weaken rel (λ x y q. q) (λ m never. absurd never) h
+
+  assignment_lacks : {ws : List W} {ws' : List W'} (eager export : Bool) (n : Counters) → Each Keeps ws ws' → {s : State R T B} {rest s' from : State R' T' B'} → States rel s s'
+      → attributes other kept' from ≡ Ok (ws', rest) → AfterWord rest eager export s'
+      → Related rel (AlikeNumbered n) (NoItem n from) (assignment one kept eager export ws n s) (assignment other kept' eager export ws' n s')
+  assignment_lacks {ws} {ws'} eager export n q {s} {rest} {s'} {from} h is after =
+      weaken rel (λ x y q. q) (λ m k. (
+        subst (λ (c : Counters). Lacks n from c) (sym k.0) (binding is after k.1 k.2),
+        subst (λ (c : Counters). AllExceed c (assignment other kept' eager export ws' n s')) (sym k.0) k.3,
+      )) (assignment_natural eager export n q h)
+
+  wordless_natural : {ws : List W} {ws' : List W'} (n : Counters) → Each Keeps ws ws' → {s : State R T B} {s' from : State R' T' B'} → States rel s s'
+      → attributes other kept' from ≡ Ok (ws', s') → Related rel (AlikeNumbered n) (NoItem n from) (wordless one kept ws n s) (wordless other kept' ws' n s')
+  unfolding wordless
+  wordless_natural n q h is =
+      by_tests rel _ _ (same_next rel one other agree (kinds.Identifier ∷ kinds.ParenL ∷ []) h)
+      (weaken rel (λ x y q. q) (λ m k. (function_parameter is k.ends k.lacks, k.exceeds)) (function_natural n q h))
+      (by_tests rel _ _ (same_assigned rel one other agree h)
+      (assignment_lacks false false n q h is no_word)
+      (weaken rel (λ x y q. q) (λ m k. recipe_lacks n m is k) (any_recipe_natural n q h)))
+
   content_natural : {ws : List W} {ws' : List W'} (n : Counters) → Each Keeps ws ws' → {s : State R T B} {s' from : State R' T' B'} → States rel s s'
       → attributes other kept' from ≡ Ok (ws', s') → Related rel (AlikeNumbered n) (NoItem n from) (content one kept ws n s) (content other kept' ws' n s')
   unfolding content
-  content_natural {ws} {ws'} n q {s} {s'} {from} h is =
-      let named : List TokenKind = kinds.Identifier ∷ kinds.ColonEquals ∷ [] in
-      by_tests rel (next_are one named s) (next_are other named s') (same_next rel one other agree named h)
-      (weaken rel (λ x y q. q) (λ m k. (
-        subst (λ (c : Counters). Lacks n from c) (sym k.0) (binding is k.1 k.2),
-        subst (λ (c : Counters). AllExceed c (assignment other kept' ws' n s')) (sym k.0) k.3,
-      )) (assignment_natural n q h))
-      (weaken rel (λ x y q. q) (λ m k. recipe_lacks n m is k) (any_recipe_natural n q h))
+  content_natural n q {s} {s'} h is =
+      let assigns = λ (s : State R T B) (s' : State R' T' B') (k : States rel s s'). same_assigned rel one other agree k in
+      pick rel _ _ (accepted_before rel one other agree (codes "alias") (is_assigned one) (is_assigned other) assigns h)
+      (pick_known rel _ _ (accepted_before rel one other agree (codes "eager") (is_assigned one) (is_assigned other) assigns h)
+      (pick_known rel _ _ (accepted_before rel one other agree (codes "export") (is_assigned one) (is_assigned other) assigns h)
+      (pick rel _ _ (accepted_before rel one other agree (codes "unexport") (line_is one (kinds.Identifier ∷ [])) (line_is other (kinds.Identifier ∷ []))
+      (λ s s' k. same_unexported rel one other agree k) h)
+      (pick rel _ _ (accepted_before rel one other agree (codes "import") (is_imported one) (is_imported other) (λ s s' k. same_imported rel one other agree k) h)
+      (pick rel _ _ (accepted_before rel one other agree (codes "mod") (is_module one) (is_module other) (λ s s' k. same_module rel one other agree k) h)
+      (pick rel _ _ (accepted_before rel one other agree (codes "set") (is_set one) (is_set other) (λ s s' k. same_set rel one other agree k) h)
+      (wordless_natural n q h is)
+      (λ w w' t k. never_lacks (setting_natural n q k)))
+      (λ w w' t k. never_lacks (module_natural n q k)))
+      (λ w w' t k. never_lacks (import_natural n q k)))
+      (λ w w' t k. never_lacks (unexport_natural n q k)))
+      (λ w w' taken k. assignment_lacks false true n q k is (after_export taken)))
+      (λ w w' taken k. assignment_lacks true false n q k is (after_eager taken)))
+      (λ w w' t k. never_lacks (alias_natural n q k))
 
   pub construct_natural : (n : Counters) {s : State R T B} {s' : State R' T' B'} → States rel s s'
       → Related rel (AlikeNumbered n) (NoItem n s') (construct one kept n s) (construct other kept' n s')

@@ -18,7 +18,7 @@ use Rattle.justfile_model.proofs.Related as a
 use Rattle.justfile_model.proofs.Related.{Alike, AlikeAll, AlikeParts, Each, Meets, Never, Related, Relations, Respects, States, accepted, accepted_marked, accepted_operator, accepted_word, at_alike, bind, both, by_tests, closed_alike, cooked_alike, each_length, expected, met, neither, no_next, none_met, noted_if_alike, one_noted, opened_alike, pick, refused_alike, same_ends, same_uncompared, same_within, unexpected, with_alike}
 use Rattle.justfile_model.proofs.Turns.{both_recur}
 
-string_asks : (expanded : Bool) (lexeme : List ℕ) → token_of (string_of expanded lexeme) ≡ lexeme
+pub string_asks : (expanded : Bool) (lexeme : List ℕ) → token_of (string_of expanded lexeme) ≡ lexeme
 string_asks true lexeme = refl
 string_asks false lexeme = refl
 

@@ -68,7 +68,7 @@ module _ {R T A B S D R' T' A' B' S' D' : Type 0} (rel : Relations R T A B S D R
       (λ s s' h. each_length h.left)
       (λ s s' found found'. Reads rel (Each rel.name) found found') (λ s s' h. neither (unexpected no_next)) path_rest_agrees
 
-  path_natural : {s : State R T B} {s' : State R' T' B'} → States rel s s' → Reads rel (Each rel.name) (r.path one s) (r.path other s')
+  pub path_natural : {s : State R T B} {s' : State R' T' B'} → States rel s s' → Reads rel (Each rel.name) (r.path one s) (r.path other s')
   unfolding r.path
   path_natural h =
       bind rel _ _ (expected rel one other agree kinds.Identifier h) (λ n n' t k.

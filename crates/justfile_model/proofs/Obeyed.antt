@@ -2,6 +2,7 @@
 use Rattle.std.proofs.Common.{◌≡◌, ℕ, List, [], ◌∷◌, ◌++◌, Some, refl, ap}
 use Rattle.std.specs.Option.{option_map}
 use Rattle.justfile_model.specs.AttributeRules.{attributes_broken}
+use Rattle.justfile_model.specs.Conditions.{VersionNumbers}
 use Rattle.justfile_model.specs.ConstructRules.{form_broken, meaning_broken}
 use Rattle.justfile_model.specs.ContentKeys.{entry_cmp}
 use Rattle.justfile_model.specs.Docs.{Nothing, documented}
@@ -12,9 +13,10 @@ use Rattle.justfile_model.specs.Sight.{Sight}
 use Rattle.justfile_model.specs.Tree as tree
 use Rattle.justfile_model.specs.Tree.{Construct, Content, Entry, OrderedItem, WrittenAttribute, WrittenItem, starless}
 
-module _ {A B C : Type 0} (sight : Sight A B) where
+-- where this is the running version
+module _ {A B C : Type 0} (current : VersionNumbers) (sight : Sight A B) where
   pub record Obeyed (i : WrittenItem A B C B) : Type 0 where
-    pub unbroken : item_broken sight i ≡ []
+    pub unbroken : item_broken current sight i ≡ []
     pub meaning : OrderedItem A B C
     pub means : ordered_item sight i ≡ Some meaning
 
@@ -31,7 +33,7 @@ module _ {A B C : Type 0} (sight : Sight A B) where
   -- a construct whose attributes mean these entries
   pub construct_obeyed : (ws : List (WrittenAttribute A B)) (content : Content A B C B) (entries : List (Entry A B))
       → all_of (entry_of sight) ws ≡ Some entries → attributes_broken sight ws ≡ []
-      → meaning_broken sight content (in_order (entry_cmp sight) entries) ≡ [] → form_broken content ≡ [] → Obeyed (Construct ws content)
+      → meaning_broken sight content (in_order (entry_cmp sight) entries) ≡ [] → form_broken current sight content ≡ [] → Obeyed (Construct ws content)
   construct_obeyed ws content entries means unbroken allowed formed = record {
     unbroken = rw (unbroken, means, allowed) formed;
     meaning = Construct (in_order (entry_cmp sight) entries) (starless content);
@@ -42,7 +44,7 @@ module _ {A B C : Type 0} (sight : Sight A B) where
   both_obeyed [] js h k = k
   both_obeyed (i ∷ is) js h k = (h.0, both_obeyed is js h.1 k)
 
-  pub all_unbroken : (items : List (WrittenItem A B C B)) → AllObeyed items → broken sight items ≡ []
+  pub all_unbroken : (items : List (WrittenItem A B C B)) → AllObeyed items → broken current sight items ≡ []
   all_unbroken [] h = refl
   all_unbroken (i ∷ items) h = rw (h.0.unbroken, all_unbroken items h.1) refl
 

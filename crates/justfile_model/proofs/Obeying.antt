@@ -7,7 +7,8 @@ use Rattle.justfile_model.specs.Expressions.{Tokens}
 use Rattle.justfile_model.specs.Features.{Noted}
 use Rattle.justfile_model.specs.ReadAttribute.{token_sight}
 use Rattle.justfile_model.specs.Reader as reader
-use Rattle.justfile_model.specs.Reader.{Start, after_numbered, at_end, end_of_tokens, ended, has_body, item_rest, items, items_from, items_rule, line, line_end, no_items, on_line}
+use Rattle.justfile_model.specs.PartReader.{after_numbered}
+use Rattle.justfile_model.specs.Reader.{Start, at_end, end_of_tokens, ended, has_body, item_rest, items, items_from, items_rule, line, line_end, no_items, on_line}
 use Rattle.justfile_model.specs.Reading.{Counters, at}
 use Rattle.justfile_model.specs.Tok.{Tok}
 use Rattle.justfile_model.specs.Tree.{WrittenTree}
@@ -22,16 +23,16 @@ use Rattle.justfile_model.proofs.Turns.{recursive_keeps}
 module _ (conditions : Conditions) where
   -- the items that were read, with the counters after them
   abbrev Numbered : (WrittenTree × Counters) × State → Type 0
-  Numbered x = AllObeyed (token_sight conditions) x.0.0
+  Numbered x = AllObeyed conditions.current (token_sight conditions) x.0.0
 
   abbrev Unnumbered : WrittenTree × State → Type 0
-  Unnumbered x = AllObeyed (token_sight conditions) x.0
+  Unnumbered x = AllObeyed conditions.current (token_sight conditions) x.0
 
   line_end_obeys : (s : State) → IfOk (line_end token_leaves token_attributes s) Unnumbered
   unfolding line_end
   line_end_obeys s =
       let P : Read WrittenTree → Type 0 = λ o. IfOk o Unnumbered in
-      after_choose kinds.Eof s _ _ P (λ _. after_expect kinds.Eol s _ P (λ e. tt) (λ t rest split kind. (newline_obeyed (token_sight conditions), tt)))
+      after_choose kinds.Eof s _ _ P (λ _. after_expect kinds.Eol s _ P (λ e. tt) (λ t rest split kind. (newline_obeyed conditions.current (token_sight conditions), tt)))
       (λ t rest split kind. tt)
 
   item_rest_obeys : (s : State) → IfOk (item_rest token_leaves token_attributes s) Unnumbered
@@ -40,13 +41,13 @@ module _ (conditions : Conditions) where
       let P : Read WrittenTree → Type 0 = λ o. IfOk o Unnumbered in
       after_choose kinds.Comment s _ _ P (λ _. line_end_obeys s) (λ c rest split kind.
       after_bind (line_end token_leaves token_attributes (at s rest)) _ P (λ e. tt)
-      (λ x is. (comment_obeyed (token_sight conditions) (trim_end c.tok.lexeme), known x Unnumbered is (line_end_obeys (at s rest)))))
+      (λ x is. (comment_obeyed conditions.current (token_sight conditions) (trim_end c.tok.lexeme), known x Unnumbered is (line_end_obeys (at s rest)))))
 
   ended_obeys : (b : Bool) (s : State) → IfOk (ended token_leaves token_attributes b s) Unnumbered
   unfolding ended
   ended_obeys b s =
       let P : Read WrittenTree → Type 0 = λ o. IfOk o Unnumbered in
-      after_test b _ _ P (λ _. (newline_obeyed (token_sight conditions), tt)) (λ _. item_rest_obeys s)
+      after_test b _ _ P (λ _. (newline_obeyed conditions.current (token_sight conditions), tt)) (λ _. item_rest_obeys s)
 
   line_obeys : (n : Counters) (s : State) → Here conditions 0 s → IfOk (line token_leaves token_attributes n s) Numbered
   unfolding line
@@ -56,7 +57,7 @@ module _ (conditions : Conditions) where
       (λ _. after_bind (on_line token_leaves token_attributes n s) _ P (λ e. tt) (λ i is.
       after_bind (ended token_leaves token_attributes (has_body i.0.0) i.1) _ P (λ e. tt) (λ b is2.
       ((on_line_at conditions n s i is here).obeys, known b Unnumbered is2 (ended_obeys (has_body i.0.0) i.1)))))
-      (λ t rest split kind. (newline_obeyed (token_sight conditions), tt))
+      (λ t rest split kind. (newline_obeyed conditions.current (token_sight conditions), tt))
 
   end_obeys : (n : Counters) (s : State) (ts : Tokens) → IfOk (end_of_tokens token_leaves token_attributes n s ts) Numbered
   end_obeys n s [] = tt
@@ -73,7 +74,7 @@ module _ (conditions : Conditions) where
       let P : Read (WrittenTree × Counters) → Type 0 = λ o. IfOk o Numbered in
       after_choose kinds.Eof x.1 _ _ P
       (λ _. after_bind (line token_leaves token_attributes x.0 x.1) _ P (λ e. tt) (λ l is. after_bind (f (l.0.1, l.1)) _ P (λ e. tt) (λ more is2.
-      both_obeyed (token_sight conditions) l.0.0 more.0.0 (known l Numbered is (line_obeys x.0 x.1 here))
+      both_obeyed conditions.current (token_sight conditions) l.0.0 more.0.0 (known l Numbered is (line_obeys x.0 x.1 here))
       (known more Numbered is2 (h (l.0.1, l.1) (line_at_start conditions x.0 x.1 l is here).stays)))))
       (λ t rest split kind. end_obeys x.0 (at x.1 rest) rest)
 
@@ -92,11 +93,11 @@ module _ (conditions : Conditions) where
       (λ _. items_obey unnumbered s (refl, refl))
       (λ t rest split kind. items_obey unnumbered (at s rest) (refl, refl))
 
-  file_obeys : (ts : Tokens) → IfOk (tree_of_tokens conditions ts) (λ x. AllObeyed (token_sight conditions) x.0)
+  file_obeys : (ts : Tokens) → IfOk (tree_of_tokens conditions ts) (λ x. AllObeyed conditions.current (token_sight conditions) x.0)
   unfolding tree_of_tokens
   file_obeys ts =
-      after_bind (reader.file token_leaves token_attributes unnumbered (start_state conditions ts)) _ (λ o. IfOk o (λ x. AllObeyed (token_sight conditions) x.0))
+      after_bind (reader.file token_leaves token_attributes unnumbered (start_state conditions ts)) _ (λ o. IfOk o (λ x. AllObeyed conditions.current (token_sight conditions) x.0))
       (λ e. tt) (λ x is. known x Numbered is (whole_obeys ts))
 
-  pub obeyed_at : (ts : Tokens) (x : WrittenTree × List (Noted Tok)) → tree_of_tokens conditions ts ≡ Ok x → AllObeyed (token_sight conditions) x.0
-  obeyed_at ts x is = known x (λ y. AllObeyed (token_sight conditions) y.0) is (file_obeys ts)
+  pub obeyed_at : (ts : Tokens) (x : WrittenTree × List (Noted Tok)) → tree_of_tokens conditions ts ≡ Ok x → AllObeyed conditions.current (token_sight conditions) x.0
+  obeyed_at ts x is = known x (λ y. AllObeyed conditions.current (token_sight conditions) y.0) is (file_obeys ts)

@@ -13,7 +13,8 @@ use Rattle.justfile_model.specs.Meaning.{entries_of}
 use Rattle.justfile_model.specs.Rules.{over_broken}
 use Rattle.justfile_model.specs.Sight.{Sight, sees_lexemes, sees_tokens}
 use Rattle.justfile_model.specs.Tok.{Tok}
-use Rattle.justfile_model.specs.Tree.{Newline, Comment, Construct, Content, Assignment, Recipe, Entry, Header, Dependency, DependencyArgument, WrittenAttribute, WrittenItem, OrderedItem, WrittenTree, Tree, Shape, over_written_attribute, over_entry, over_dependency_argument, over_dependency, over_header, over_line, over_content, over_item, starless_argument, starless_dependency, starless_header, starless, item_shape_of, shape_of, written_shape_of, lexeme, nothing}
+use Rattle.justfile_model.specs.Conditions.{VersionNumbers}
+use Rattle.justfile_model.specs.Tree.{Alias, Assignment, Comment, Construct, Content, Dependency, DependencyArgument, Entry, Function, Header, Import, Module, Newline, OrderedItem, Recipe, Setting, Shape, Tree, Unexport, WrittenAttribute, WrittenItem, WrittenTree, item_shape_of, lexeme, nothing, over_content, over_dependency, over_dependency_argument, over_entry, over_header, over_item, over_line, over_written_attribute, shape_of, starless, starless_argument, starless_dependency, starless_header, written_shape_of}
 use Rattle.justfile_model.proofs.Binds.{never_some, some_back}
 use Rattle.justfile_model.proofs.DocsKept.{bindings_count, documented_counts, documented_shape, literals_count, recipes_count}
 use Rattle.justfile_model.proofs.Kinded.{KindedWritten}
@@ -88,14 +89,32 @@ module _ {A B S : Type 0} where
 
 starless_literals : {A B C S : Type 0} (c : Content A B C S) → content_literals (starless c) ≡ content_literals c
 starless_literals (Assignment parts) = refl
+starless_literals (Alias parts) = refl
+starless_literals (Function parts) = refl
+starless_literals (Import parts) = refl
+starless_literals (Module parts) = refl
+starless_literals (Setting parts) = refl
+starless_literals (Unexport name) = refl
 starless_literals (Recipe parts) = ap (λ l. l ++ body_literals parts.body) (header_starless parts.header)
 
 starless_bindings : {A B C S : Type 0} (c : Content A B C S) → content_bindings (starless c) ≡ content_bindings c
 starless_bindings (Assignment parts) = refl
+starless_bindings (Alias parts) = refl
+starless_bindings (Function parts) = refl
+starless_bindings (Import parts) = refl
+starless_bindings (Module parts) = refl
+starless_bindings (Setting parts) = refl
+starless_bindings (Unexport name) = refl
 starless_bindings (Recipe parts) = refl
 
 starless_recipes : {A B C S : Type 0} (c : Content A B C S) → content_recipes (starless c) ≡ content_recipes c
 starless_recipes (Assignment parts) = refl
+starless_recipes (Alias parts) = refl
+starless_recipes (Function parts) = refl
+starless_recipes (Import parts) = refl
+starless_recipes (Module parts) = refl
+starless_recipes (Setting parts) = refl
+starless_recipes (Unexport name) = refl
 starless_recipes (Recipe parts) = refl
 
 -- of what has a meaning
@@ -195,6 +214,12 @@ module _ {A B S A' B' S' : Type 0} (f : A → A') (g : B → B') (k : S → S') 
 module _ {A B C S A' B' C' S' : Type 0} (f : A → A') (g : B → B') (h : C → C') (k : S → S') where
   content_over : (c : Content A B C S) → starless (over_content f g h k c) ≡ over_content f g h same_star (starless c)
   content_over (Assignment parts) = refl
+  content_over (Alias parts) = refl
+  content_over (Function parts) = refl
+  content_over (Import parts) = refl
+  content_over (Module parts) = refl
+  content_over (Setting parts) = refl
+  content_over (Unexport name) = refl
   content_over (Recipe parts) = λ i. Recipe (record { doc = parts.doc; header = header_over f g k parts.header i; body = map (over_line f g h) parts.body })
 
 -- ---- a tree and its shape
@@ -284,21 +309,23 @@ module _ (expander : Expansions) where
 
   -- the one breaks the rules that the other breaks
 
-  item_broken_seen : (i : WrittenItem Tok Tok ℕ Tok) → KindedItem i
-      → item_broken lexemes (over_item lexeme nothing nothing nothing (map (over_written_attribute lexeme nothing)) i)
-      ≡ map (over_broken nothing) (item_broken tokens i)
-  item_broken_seen Newline k = refl
-  item_broken_seen (Comment text) k = refl
-  item_broken_seen (Construct ws content) k = construct_broken_seen expander nothing ws content k
+  -- where this is the running version
+  module _ (current : VersionNumbers) where
+    item_broken_seen : (i : WrittenItem Tok Tok ℕ Tok) → KindedItem i
+        → item_broken current lexemes (over_item lexeme nothing nothing nothing (map (over_written_attribute lexeme nothing)) i)
+        ≡ map (over_broken nothing) (item_broken current tokens i)
+    item_broken_seen Newline k = refl
+    item_broken_seen (Comment text) k = refl
+    item_broken_seen (Construct ws content) k = construct_broken_seen expander current nothing ws content k
 
-  broken_seen : (written : WrittenTree) → KindedItems written
-      → broken lexemes (written_shape_of written) ≡ map (over_broken nothing) (broken tokens written)
-  broken_seen [] k = refl
-  broken_seen (i ∷ items) k =
-      (λ j. item_broken_seen i k.0 j ++ broken_seen items k.1 j) ∙ sym (map-append (over_broken nothing) (item_broken tokens i) (broken tokens items))
+    broken_seen : (written : WrittenTree) → KindedItems written
+        → broken current lexemes (written_shape_of written) ≡ map (over_broken nothing) (broken current tokens written)
+    broken_seen [] k = refl
+    broken_seen (i ∷ items) k =
+        (λ j. item_broken_seen i k.0 j ++ broken_seen items k.1 j) ∙ sym (map-append (over_broken nothing) (item_broken current tokens i) (broken current tokens items))
 
-  pub shape_unbroken : (written : WrittenTree) → KindedItems written → broken tokens written ≡ [] → broken lexemes (written_shape_of written) ≡ []
-  shape_unbroken written k h = broken_seen written k ∙ ap (map (over_broken nothing)) h
+    pub shape_unbroken : (written : WrittenTree) → KindedItems written → broken current tokens written ≡ [] → broken current lexemes (written_shape_of written) ≡ []
+    shape_unbroken written k h = broken_seen written k ∙ ap (map (over_broken nothing)) h
 
-  pub tree_unbroken : (written : WrittenTree) → KindedItems written → broken lexemes (written_shape_of written) ≡ [] → broken tokens written ≡ []
-  tree_unbroken written k h = none_of_none (over_broken nothing) (broken tokens written) (sym (broken_seen written k) ∙ h)
+    pub tree_unbroken : (written : WrittenTree) → KindedItems written → broken current lexemes (written_shape_of written) ≡ [] → broken current tokens written ≡ []
+    tree_unbroken written k h = none_of_none (over_broken nothing) (broken current tokens written) (sym (broken_seen written k) ∙ h)

@@ -6,7 +6,7 @@ use Rattle.justfile_model.specs.Docs.{Before, LineEnd, Other, comment_taken, doc
 use Rattle.justfile_model.specs.Files.{says_doc}
 use Rattle.justfile_model.specs.Printing.{doc_comment, shown_doc}
 use Rattle.justfile_model.specs.Rewritten.{after_doc, docs_written}
-use Rattle.justfile_model.specs.Tree.{Assignment, Comment, Construct, Content, Entry, Newline, OrderedItem, Recipe, RecipeParts}
+use Rattle.justfile_model.specs.Tree.{Alias, Assignment, Comment, Construct, Content, Entry, Function, Import, Module, Newline, OrderedItem, Recipe, RecipeParts, Setting, Unexport}
 use Rattle.justfile_model.proofs.Binds.{never_some, some_back}
 use Rattle.justfile_model.proofs.DocsText.{none_shown}
 use Rattle.justfile_model.proofs.PlainFiles.{InComment, IsPlain}
@@ -53,12 +53,27 @@ module _ {A B C : Type 0} where
 
   redocumented_same : (content : Content A B C (Unit {0})) (o : Option (List ℕ)) → doc_of content ≡ o → redocumented o content ≡ content
   redocumented_same (Assignment parts) o e = refl
+  redocumented_same (Alias parts) o e = refl
+  redocumented_same (Function parts) o e = refl
+  redocumented_same (Import parts) o e = refl
+  redocumented_same (Setting parts) o e = refl
+  redocumented_same (Unexport name) o e = refl
+  redocumented_same (Module parts) o e = λ i. Module (record { doc = sym e i; optional = parts.optional; name = parts.name; path = parts.path })
   redocumented_same (Recipe parts) o e = λ i. Recipe (record { doc = sym e i; header = parts.header; body = parts.body })
 
   -- the doc is taken again
   with_doc_again : (entries : List (Entry A B)) (content : Content A B C (Unit {0})) (doc : List ℕ) → shown_doc entries content ≡ doc_of content → doc_of content ≡ Some doc
       → item_with_doc says_doc doc (Construct entries (redocumented None content)) ≡ Some (Construct entries content)
   with_doc_again entries (Assignment parts) doc s e = never_some doc e
+  with_doc_again entries (Alias parts) doc s e = never_some doc e
+  with_doc_again entries (Function parts) doc s e = never_some doc e
+  with_doc_again entries (Import parts) doc s e = never_some doc e
+  with_doc_again entries (Setting parts) doc s e = never_some doc e
+  with_doc_again entries (Unexport name) doc s e = never_some doc e
+  with_doc_again entries (Module parts) doc s e =
+      let n = unless_some (says_doc entries) parts.doc doc (s ∙ e) in
+      let again : Content A B C (Unit {0}) = Module (record { doc = Some doc; optional = parts.optional; name = parts.name; path = parts.path }) in
+      ap (λ b. cond (true && not b && true) (Some (Construct entries again)) None) n.0 ∙ ap (λ c. Some (Construct entries c)) (redocumented_same (Module parts) (Some doc) e)
   with_doc_again entries (Recipe parts) doc s e =
       let n = unless_some (says_doc entries) parts.doc doc (s ∙ e) in
       let again : Content A B C (Unit {0}) = Recipe (record { doc = Some doc; header = parts.header; body = parts.body }) in
@@ -105,7 +120,18 @@ module _ {A B C : Type 0} where
 
   new_doc_again : (before : Before) (comment doc : List ℕ) (entries : List (Entry A B)) (content : Content A B C (Unit {0})) → Utf8Comment comment
       → doc_in before comment ≡ Some doc → wants_doc says_doc entries content ≡ true → DocAgain before entries (redocumented (Some doc) content)
+  new_doc_again before comment doc entries (Alias parts) u e w = absurd (true≢false (sym w))
   new_doc_again before comment doc entries (Assignment parts) u e w = absurd (true≢false (sym w))
+  new_doc_again before comment doc entries (Function parts) u e w = absurd (true≢false (sym w))
+  new_doc_again before comment doc entries (Import parts) u e w = absurd (true≢false (sym w))
+  new_doc_again before comment doc entries (Setting parts) u e w = absurd (true≢false (sym w))
+  new_doc_again before comment doc entries (Unexport name) u e w = absurd (true≢false (sym w))
+  new_doc_again before comment doc entries (Module parts) u e w =
+      let n = (unsaid (says_doc entries) parts.doc w).0 in
+      record {
+        shown = ap (λ b. cond b None (Some doc)) n;
+        again = λ d h. subst (λ x. doc_in before (doc_comment x) ≡ Some x) (some_back doc d h) (taken_again before comment doc u e);
+      }
   new_doc_again before comment doc entries (Recipe parts) u e w =
       let n = (wants_is entries parts w).0 in
       record {

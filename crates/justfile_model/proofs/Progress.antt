@@ -8,8 +8,9 @@ use Rattle.justfile_model.specs.Features.{Noted}
 use Rattle.justfile_model.specs.Expressions.{Tokens, NotNext}
 use Rattle.justfile_model.specs.Grammar as g
 use Rattle.justfile_model.specs.Grammar.{Kept, LineRest, BeforeBody, BodyLines, OnLine, Block}
-use Rattle.justfile_model.proofs.ExpressionProgress.{expression_progress}
-use Rattle.justfile_model.proofs.HeaderProgress.{header_progress}
+use Rattle.justfile_model.proofs.ExpressionProgress.{LeftOf, expression_left, expression_progress, later, next, past, shorter, then}
+use Rattle.justfile_model.proofs.HeaderProgress.{header_left, header_progress, path_left}
+use Rattle.justfile_model.proofs.PartProgress.{file_path_left, names_left, value_left}
 
 module _ {A B : Type 0} (leaf : Tok → A) (spot : Tok → B) (Open : ℕ → Option SignificantToken → Type 0) where
   -- the end of a body is left
@@ -35,9 +36,24 @@ module _ {A B C S : Type 0} (kept : Kept A B C S) (Open : ℕ → Option Signifi
   lines_progress (g.empty_line kind h) = omega (arith, lines_progress h)
   lines_progress (g.some_line l h) = omega (arith, line_rest_keeps kept.leaf kept.spot Open l, lines_progress h)
 
+  pub on_line_left : {c : Content A B C S} {fs : List (Noted B)} {ts rest : Tokens} → OnLine kept Open c fs ts rest → LeftOf rest ts
+  on_line_left (g.alias is kind kind2 p) = later (later (later (path_left kept.leaf p)))
+  on_line_left (g.assignment kind kind2 e) = later (later (expression_left kept.leaf kept.spot Open e))
+  on_line_left (g.eager is kind kind2 e) = later (later (later (expression_left kept.leaf kept.spot Open e)))
+  on_line_left (g.export is kind kind2 e) = later (later (later (expression_left kept.leaf kept.spot Open e)))
+  on_line_left (g.function kind kind2 ns kind3 e) = later (later (then (past (names_left kept.leaf ns)) (expression_left kept.leaf kept.spot Open e)))
+  on_line_left (g.import is p) = later (file_path_left kept.leaf p)
+  on_line_left (g.optional_import is kind p) = later (later (file_path_left kept.leaf p))
+  on_line_left (g.module_alone is kind ends) = later next
+  on_line_left (g.module_at is kind p) = later (later (file_path_left kept.leaf p))
+  on_line_left (g.optional_module_alone is kind kind2 none) = later (later next)
+  on_line_left (g.optional_module_at is kind kind2 p) = later (later (later (file_path_left kept.leaf p)))
+  on_line_left (g.setting is is2 form value) = later (value_left kept.leaf kept.spot Open value)
+  on_line_left (g.unexport is kind ends) = later next
+  on_line_left (g.header h) = header_left kept.leaf kept.spot kept.star Open h
+
   pub on_line_progress : {c : Content A B C S} {fs : List (Noted B)} {ts rest : Tokens} → OnLine kept Open c fs ts rest → length rest < length ts
-  on_line_progress (g.assignment kind kind2 e) = omega (arith, expression_progress kept.leaf kept.spot Open e)
-  on_line_progress (g.header h) = header_progress kept.leaf kept.spot kept.star Open h
+  on_line_progress o = shorter (on_line_left o)
 
   pub block_progress : {c : Content A B C S} {fs : List (Noted B)} {ts rest : Tokens} → Block kept Open c fs ts rest → length rest < length ts
   block_progress (g.recipe h b lines some) = omega (arith, header_progress kept.leaf kept.spot kept.star Open h, before_progress b, lines_progress lines)

@@ -1,20 +1,25 @@
 -- The reader of items and of bodies, one rule at a time, and as a loop goes over them.
-use Rattle.std.proofs.Common.{◌≡◌, ℕ, ◌<◌, true, false, Bool, ◌&&◌, cond, List, [], ◌∷◌, ◌++◌, length, drop, Some, None, Ok, Err, refl, sym, ap, ◌∙◌, arith}
+use Rattle.std.proofs.Common.{◌≡◌, ℕ, ◌<◌, true, false, Bool, ◌&&◌, cond, List, [], ◌∷◌, ◌++◌, length, drop, Some, None, Ok, Err, codes, refl, sym, ap, ◌∙◌, arith}
 use Rattle.std.proofs.lemmas.List.{append-nil, append_assoc, length-drop}
+use Rattle.justfile_base.specs.declared.item_kind.ItemKind.{ItemKind}
+use Rattle.justfile_base.specs.declared.item_kind.ItemKind.TheVariants as item_kinds
 use Rattle.justfile_base.specs.declared.token_kind.TokenKind.{TokenKind}
 use Rattle.justfile_base.specs.declared.token_kind.TokenKind.TheVariants as kinds
 use Rattle.justfile_model.specs.AttributeReader.{AttributeLeaves, attribute_lines}
-use Rattle.justfile_model.specs.HeaderReader.{draw_binding, expression, header}
-use Rattle.justfile_model.specs.Reader.{Start, after_numbered, allowed, any_recipe, argument_rules, assignment, at_end, attributes, before_item, body, body_line, construct, content, draw_recipe, ended, fragment, has_body, item_rest, items, items_from, items_rule, line, line_end, line_rest, line_rest_rule, lines, lines_rule, no_exclusion, no_items, no_line_rest, no_lines, on_line, optional_body, recipe, some_lines, stands_alone}
-use Rattle.justfile_model.specs.Reading.{◌>>=◌, Counters, Leaves, Read, Refusal, State, Taken, accept, accept_by, prepend, at, begin_with, choose, expect, next_are, same_kind}
+use Rattle.justfile_model.specs.HeaderReader.{draw_binding, expression, header, path}
+use Rattle.justfile_model.specs.PartReader.{accept_before, after_numbered, file_path, is_assigned, is_imported, is_module, is_set, keyword_at, line_is, names, optional_path, setting_value}
+use Rattle.justfile_model.specs.Settings.{setting_form}
+use Rattle.justfile_model.specs.Reader.{Start, alias, allowed, any_module, any_recipe, argument_rules, assignment, at_end, attributes, before_item, body, body_line, construct, content, draw_recipe, ended, fragment, function, has_body, import, imported, item_rest, items, items_from, items_rule, line, line_end, line_rest, line_rest_rule, lines, lines_rule, named_module, no_exclusion, no_items, no_line_rest, no_lines, on_line, optional_body, recipe, setting, some_lines, stands_alone, unexport, wordless}
+use Rattle.justfile_model.specs.Reading.{◌>>=◌, Counters, Leaves, Read, Refusal, State, Taken, accept, accept_by, accepted, prepend, at, begin_with, choose, expect, next_are, same_kind}
 use Rattle.justfile_model.specs.Recursive.{below}
 use Rattle.justfile_model.specs.Tree.{Fragment, BodyLine, Item, trimmed}
 use Rattle.justfile_model.proofs.AttributeReading.{attribute_lines_keep}
-use Rattle.justfile_model.proofs.HeaderReading.{header_goes, obeying_keeps}
+use Rattle.justfile_model.proofs.HeaderReading.{accepted_keeps, header_goes, obeying_keeps, path_goes}
 pub use Rattle.justfile_model.proofs.HeaderReading.{binding_keeps, expression_goes}
+use Rattle.justfile_model.proofs.PartReading.{accepts_before, file_path_goes, keyword_at_keeps, names_go, optional_path_keeps, setting_value_keeps}
 use Rattle.justfile_model.proofs.Prepended.{after_goes, after_keeps}
 pub use Rattle.justfile_model.proofs.Prepended.{after_begin, after_nothing, after_refused, after_regroups}
-use Rattle.justfile_model.proofs.ReadingSteps.{ItemRest, Goes, Keeps, accepts, after_test, bind_alike, choose_alike, either, either_goes, expects, first, from_there, keeps, past, test_alike, then, then_goes, there}
+use Rattle.justfile_model.proofs.ReadingSteps.{ItemRest, Goes, Keeps, accepts, after_test, bind_alike, choose_alike, either, either_goes, expects, first, from_there, goes_after, keeps, past, test_alike, then, then_goes, there}
 use Rattle.justfile_model.proofs.Turns.{below_smaller, recursive_is, recursive_keeps}
 
 -- ---- what was read before, and what is read after it
@@ -219,19 +224,77 @@ module _ {R T A B S : Type 0} (leaves : Leaves R T A B S) where
 module _ {R T A B S D W : Type 0} (leaves : Leaves R T A B S) (kept : AttributeLeaves R A B D W) where
   -- ---- items
 
-  allowed_keeps : (ws : List W) (name : T) (s : State R T B) → Keeps s (allowed leaves kept ws name s)
-  allowed_keeps ws name s = obeying_keeps _ s
+  allowed_keeps : (item : ItemKind) (ws : List W) (name : T) (s : State R T B) → Keeps s (allowed leaves kept item ws name s)
+  allowed_keeps item ws name s = obeying_keeps _ s
 
   no_exclusion_keeps : (ws : List W) (name : T) (s : State R T B) → Keeps s (no_exclusion leaves kept ws name s)
   no_exclusion_keeps ws name s = obeying_keeps _ s
 
-  pub assignment_goes : (ws : List W) (n : Counters) (s : State R T B) → Goes s (assignment leaves kept ws n s)
+  pub alias_goes : (ws : List W) (n : Counters) (s : State R T B) → Goes s (alias leaves kept ws n s)
+  unfolding alias
+  alias_goes ws n s =
+      first s (expect leaves kinds.Identifier s) _ (expects leaves kinds.Identifier s) (λ name.
+      then name.1 (expect leaves kinds.ColonEquals name.1) _ (keeps name.1 _ (expects leaves kinds.ColonEquals name.1)) (λ operator.
+      then operator.1 (path leaves operator.1) _ (keeps operator.1 _ (path_goes leaves operator.1)) (λ target.
+      then target.1 (allowed leaves kept item_kinds.Alias ws name.0 target.1) _ (allowed_keeps item_kinds.Alias ws name.0 target.1) (λ checked. there checked.1))))
+
+  pub function_goes : (ws : List W) (n : Counters) (s : State R T B) → Goes s (function leaves kept ws n s)
+  unfolding function
+  function_goes ws n s =
+      first s (expect leaves kinds.Identifier s) _ (expects leaves kinds.Identifier s) (λ name.
+      then name.1 (allowed leaves kept item_kinds.Function ws name.0 name.1) _ (allowed_keeps item_kinds.Function ws name.0 name.1) (λ checked.
+      then checked.1 (expect leaves kinds.ParenL checked.1) _ (keeps checked.1 _ (expects leaves kinds.ParenL checked.1)) (λ opener.
+      then opener.1 (names leaves (n, opener.1)) _ (keeps opener.1 _ (names_go leaves (n, opener.1))) (λ parameters.
+      then parameters.1 (expect leaves kinds.ColonEquals parameters.1) _ (keeps parameters.1 _ (expects leaves kinds.ColonEquals parameters.1)) (λ operator.
+      then operator.1 (expression leaves operator.1) _ (keeps operator.1 _ (expression_goes leaves operator.1)) (λ body. there body.1))))))
+
+  pub imported_goes : (optional : Bool) (ws : List W) (n : Counters) (s : State R T B) → Goes s (imported leaves kept optional ws n s)
+  unfolding imported
+  imported_goes optional ws n s =
+      first s (file_path leaves s) _ (file_path_goes leaves s) (λ path.
+      then path.1 (allowed leaves kept item_kinds.Import ws path.0.0 path.1) _ (allowed_keeps item_kinds.Import ws path.0.0 path.1) (λ checked. there checked.1))
+
+  pub import_goes : (ws : List W) (n : Counters) (s : State R T B) → Goes s (import leaves kept ws n s)
+  unfolding import
+  import_goes ws n s =
+      let mark = accepted leaves kinds.QuestionMark s in
+      goes_after s mark.1 (imported leaves kept mark.0 ws n mark.1) (accepted_keeps leaves kinds.QuestionMark s) (imported_goes mark.0 ws n mark.1)
+
+  pub named_module_goes : (optional : Bool) (ws : List W) (n : Counters) (s : State R T B) → Goes s (named_module leaves kept optional ws n s)
+  unfolding named_module
+  named_module_goes optional ws n s =
+      first s (expect leaves kinds.Identifier s) _ (expects leaves kinds.Identifier s) (λ name.
+      then name.1 (optional_path leaves name.1) _ (optional_path_keeps leaves name.1) (λ path.
+      then path.1 (allowed leaves kept item_kinds.Module ws name.0 path.1) _ (allowed_keeps item_kinds.Module ws name.0 path.1) (λ checked. there checked.1)))
+
+  pub any_module_goes : (ws : List W) (n : Counters) (s : State R T B) → Goes s (any_module leaves kept ws n s)
+  unfolding any_module
+  any_module_goes ws n s =
+      let mark = accepted leaves kinds.QuestionMark s in
+      goes_after s mark.1 (named_module leaves kept mark.0 ws n mark.1) (accepted_keeps leaves kinds.QuestionMark s) (named_module_goes mark.0 ws n mark.1)
+
+  pub setting_goes : (ws : List W) (n : Counters) (s : State R T B) → Goes s (setting leaves kept ws n s)
+  unfolding setting
+  setting_goes ws n s =
+      first s (expect leaves kinds.Identifier s) _ (expects leaves kinds.Identifier s) (λ name.
+      then name.1 (keyword_at leaves name.0 name.1) _ (keyword_at_keeps leaves name.0 name.1) (λ keyword.
+      then keyword.1 (allowed leaves kept item_kinds.Setting ws name.0 keyword.1) _ (allowed_keeps item_kinds.Setting ws name.0 keyword.1) (λ checked.
+      then checked.1 (setting_value leaves kept.sight name.0 keyword.0 (setting_form keyword.0) checked.1) _
+      (setting_value_keeps leaves kept.sight name.0 keyword.0 (setting_form keyword.0) checked.1) (λ value. there value.1))))
+
+  pub unexport_goes : (ws : List W) (n : Counters) (s : State R T B) → Goes s (unexport leaves kept ws n s)
+  unfolding unexport
+  unexport_goes ws n s =
+      first s (expect leaves kinds.Identifier s) _ (expects leaves kinds.Identifier s) (λ name.
+      then name.1 (allowed leaves kept item_kinds.Unexport ws name.0 name.1) _ (allowed_keeps item_kinds.Unexport ws name.0 name.1) (λ checked. there checked.1))
+
+  pub assignment_goes : (eager export : Bool) (ws : List W) (n : Counters) (s : State R T B) → Goes s (assignment leaves kept eager export ws n s)
   unfolding assignment
-  assignment_goes ws n s =
+  assignment_goes eager export ws n s =
       first s (expect leaves kinds.Identifier s) _ (expects leaves kinds.Identifier s) (λ name.
       then name.1 (expect leaves kinds.ColonEquals name.1) _ (keeps name.1 _ (expects leaves kinds.ColonEquals name.1)) (λ operator.
       then operator.1 (expression leaves operator.1) _ (keeps operator.1 _ (expression_goes leaves operator.1)) (λ e.
-      then e.1 (allowed leaves kept ws name.0 e.1) _ (allowed_keeps ws name.0 e.1) (λ checked.
+      then e.1 (allowed leaves kept item_kinds.Assignment ws name.0 e.1) _ (allowed_keeps item_kinds.Assignment ws name.0 e.1) (λ checked.
       then checked.1 (draw_binding leaves n checked.1) _ (binding_keeps leaves n checked.1) (λ number. there number.1)))))
 
   pub recipe_goes : (quiet : Bool) (ws : List W) (n : Counters) (s : State R T B) → Goes s (recipe leaves kept quiet ws n s)
@@ -248,11 +311,36 @@ module _ {R T A B S D W : Type 0} (leaves : Leaves R T A B S) (kept : AttributeL
   any_recipe_goes ws n s =
       either_goes s (accept leaves kinds.At s) _ _ (accepts leaves kinds.At s) (recipe_goes false ws n s) (λ at. keeps at.1 _ (recipe_goes true ws n at.1))
 
+  pub wordless_goes : (ws : List W) (n : Counters) (s : State R T B) → Goes s (wordless leaves kept ws n s)
+  unfolding wordless
+  wordless_goes ws n s =
+      let G : Read R T B (Item A B ℕ S D × Counters) → Type 0 = Goes s in
+      after_test (next_are leaves (kinds.Identifier ∷ kinds.ParenL ∷ []) s) _ _ G (λ _. function_goes ws n s)
+      (λ _. after_test (is_assigned leaves s) _ _ G (λ _. assignment_goes false false ws n s) (λ _. any_recipe_goes ws n s))
+
   pub content_goes : (ws : List W) (n : Counters) (s : State R T B) → Goes s (content leaves kept ws n s)
   unfolding content
   content_goes ws n s =
-      after_test (next_are leaves (kinds.Identifier ∷ kinds.ColonEquals ∷ []) s) _ _ (Goes {X = Item A B ℕ S D × Counters} s) (λ _. assignment_goes ws n s)
-      (λ _. any_recipe_goes ws n s)
+      by_word (codes "alias") (is_assigned leaves) _ _
+      (by_word (codes "eager") (is_assigned leaves) _ _
+      (by_word (codes "export") (is_assigned leaves) _ _
+      (by_word (codes "unexport") (line_is leaves (kinds.Identifier ∷ [])) _ _
+      (by_word (codes "import") (is_imported leaves) _ _
+      (by_word (codes "mod") (is_module leaves) _ _
+      (by_word (codes "set") (is_set leaves) _ _
+      (wordless_goes ws n s)
+      (setting_goes ws n))
+      (any_module_goes ws n))
+      (import_goes ws n))
+      (unexport_goes ws n))
+      (assignment_goes false true ws n))
+      (assignment_goes true false ws n))
+      (alias_goes ws n)
+    where
+      by_word : (word : List ℕ) (follows : State R T B → Bool) (otherwise : Read R T B (Item A B ℕ S D × Counters)) (f : State R T B → Read R T B (Item A B ℕ S D × Counters))
+          → Goes s otherwise → ((t : State R T B) → Goes t (f t)) → Goes s (choose (accept_before leaves word follows s) otherwise (λ w. f w.1))
+      by_word word follows otherwise f h k =
+          either_goes s (accept_before leaves word follows s) otherwise (λ w. f w.1) (accepts_before leaves word follows s) h (λ w. keeps w.1 _ (k w.1))
 
   before_item_keeps : (opener : T) (x : List W × State R T B) → Keeps x.1 (before_item leaves kept opener x)
   before_item_keeps opener x = after_test (stands_alone leaves kept x.1) _ _ (Keeps {X = List W} x.1) (λ _. tt) (λ _. there x.1)

@@ -1,6 +1,7 @@
 -- Two readers side by side: how what the one reads and leaves is related to what the other does. `Relations` says what is related of tokens
 -- and leaves, and the rest follows from it.
 use Rattle.std.proofs.Common.{◌≡◌, ℕ, suc, ◌+◌, Bool, true, false, ◌&&◌, cond, List, [], ◌∷◌, ◌++◌, length, Option, Some, None, Result, Ok, Err, refl, ap, subst, ◌-◌, nat_lt}
+use Rattle.justfile_base.specs.declared.keyword.Keyword.{Keyword}
 use Rattle.justfile_base.specs.declared.token_kind.TokenKind.{TokenKind}
 use Rattle.justfile_model.specs.declared.conditional_operator.ConditionalOperator.{ConditionalOperator}
 use Rattle.justfile_model.specs.declared.level.Level.{Level}
@@ -16,11 +17,11 @@ use Rattle.justfile_model.specs.Literals as literals
 use Rattle.justfile_model.specs.Literals.{Expansions, Literal, LiteralFault, cooked_text, string_of, token_of}
 use Rattle.justfile_model.specs.Operators.{binary, is_at, operator_of}
 use Rattle.justfile_model.specs.Reader.{has_body}
-use Rattle.justfile_model.specs.Reading.{◌>>=◌, AfterVariadic, BreaksRule, Counters, Extraneous, Leaves, NoNumber, NotCooked, Read, Refusal, State, Taken, TooDeep, Unexpected, accept, accept_by, accept_marked, accept_word, at, begin_with, choose, expect, is_word, marked_by, marks, next_are, refused, same_kind, with}
+use Rattle.justfile_model.specs.Reading.{◌>>=◌, AfterVariadic, BreaksRule, Counters, ExpectedKeyword, Extraneous, Leaves, NoNumber, NotCooked, Read, Refusal, State, Taken, TooDeep, Unexpected, UnknownSetting, accept, accept_by, accept_marked, accept_word, at, begin_with, choose, expect, is_word, marked_by, marks, next_are, refused, same_kind, with}
 use Rattle.justfile_model.specs.Rules.{Broken}
 use Rattle.justfile_model.specs.SignificantTokens.{SignificantToken}
 use Rattle.justfile_model.specs.Tree as tree
-use Rattle.justfile_model.specs.Tree.{ArgumentRules, BodyLine, Bound, Construct, Dependency, DependencyArgument, Expr, Exprs, Fragment, Header, Item, Line, OptionName, Parameter, Parts, Property, Quoted, bare_recipe, line_before, plain_assignment, trimmed}
+use Rattle.justfile_model.specs.Tree.{ArgumentRules, BodyLine, Bound, Construct, Dependency, DependencyArgument, Expr, Exprs, Fragment, Header, Item, Line, OptionName, Parameter, Parts, Property, Quoted, SettingValue, bare_module, bare_recipe, line_before, assignment_of, trimmed}
 use Rattle.justfile_model.proofs.AlikeRules.{AlikeBroken}
 use Rattle.justfile_model.proofs.Counters.{count}
 
@@ -38,8 +39,9 @@ pub record Relations (R T A B S D R' T' A' B' S' D' : Type 0) : Type 1 where
   -- stars, and attributes
   pub star : S → S' → Type 0
   pub attributes : D → D' → Type 0
-  -- the names of assignments, and of recipes before their bodies, which got this number
+  -- the names of assignments, of parameters of functions, and of recipes before their bodies, which got this number
   pub assignment : (number : ℕ) → A → A' → Type 0
+  pub function_parameter : (number : ℕ) → A → A' → Type 0
   pub recipe : (number : ℕ) → A → List (BodyLine A B ℕ) → A' → List (BodyLine A' B' ℕ) → Type 0
   -- the names of parameters, of which that is said, and which got this number
   pub parameter : (number : ℕ) → A → Option (ArgumentRules A B) → A' → Option (ArgumentRules A' B') → Type 0
@@ -177,12 +179,35 @@ module _ {R T A B S D R' T' A' B' S' D' : Type 0} (rel : Relations R T A B S D R
 
   -- ---- items
 
+  -- the parameters of a function, of which the first has this number
+  pub data AlikeNames : (number : ℕ) → List A → List A' → Type 0 where
+    no_name : {number : ℕ} → AlikeNames number [] []
+    a_name : {number : ℕ} {a : A} {a' : A'} {names : List A} {names' : List A'} → rel.function_parameter number a a' → AlikeNames (number + 1) names names'
+        → AlikeNames number (a ∷ names) (a' ∷ names')
+
+  pub data AlikeValue : SettingValue A B → SettingValue A' B' → Type 0 where
+    truth : {value : Bool} → AlikeValue (tree.Truth value) (tree.Truth value)
+    value : {e : Expr A B} {e' : Expr A' B'} → Alike e e' → AlikeValue (tree.Value e) (tree.Value e')
+    interpreter : {e : Expr A B} {e' : Expr A' B'} {es : Exprs A B} {es' : Exprs A' B'} → Alike e e' → AlikeAll es es'
+        → AlikeValue (tree.Interpreter e es) (tree.Interpreter e' es')
+
   -- an item, where the counters stand before it
   pub data AlikeItem (n : Counters) : Item A B ℕ S D → Item A' B' ℕ S' D' → Type 0 where
     newline : AlikeItem n tree.Newline tree.Newline
     comment : {text : List ℕ} → AlikeItem n (tree.Comment text) (tree.Comment text)
-    assignment : {d : D} {d' : D'} {a : A} {a' : A'} {e : Expr A B} {e' : Expr A' B'} → rel.attributes d d' → rel.assignment n.bindings a a' → Alike e e'
-        → AlikeItem n (Construct d (tree.Assignment (plain_assignment a e))) (Construct d' (tree.Assignment (plain_assignment a' e')))
+    alias : {d : D} {d' : D'} {a : A} {a' : A'} {target : List A} {target' : List A'} → rel.attributes d d' → rel.name a a' → Each rel.name target target'
+        → AlikeItem n (Construct d (tree.Alias (record { name = a; target = target }))) (Construct d' (tree.Alias (record { name = a'; target = target' })))
+    assignment : {eager export : Bool} {d : D} {d' : D'} {a : A} {a' : A'} {e : Expr A B} {e' : Expr A' B'} → rel.attributes d d' → rel.assignment n.bindings a a' → Alike e e'
+        → AlikeItem n (Construct d (tree.Assignment (assignment_of eager export a e))) (Construct d' (tree.Assignment (assignment_of eager export a' e')))
+    function : {d : D} {d' : D'} {a : A} {a' : A'} {ps : List A} {ps' : List A'} {e : Expr A B} {e' : Expr A' B'} → rel.attributes d d' → rel.name a a' → AlikeNames n.bindings ps ps' → Alike e e'
+        → AlikeItem n (Construct d (tree.Function (record { name = a; parameters = ps; body = e }))) (Construct d' (tree.Function (record { name = a'; parameters = ps'; body = e' })))
+    import : {optional : Bool} {d : D} {d' : D'} {q : Quoted A} {q' : Quoted A'} → rel.attributes d d' → AlikeQuoted q q'
+        → AlikeItem n (Construct d (tree.Import (record { optional = optional; path = q }))) (Construct d' (tree.Import (record { optional = optional; path = q' })))
+    module_of : {optional : Bool} {d : D} {d' : D'} {a : A} {a' : A'} {o : Option (Quoted A)} {o' : Option (Quoted A')} → rel.attributes d d' → rel.name a a' → AlikeOption AlikeQuoted o o'
+        → AlikeItem n (Construct d (tree.Module (bare_module optional a o))) (Construct d' (tree.Module (bare_module optional a' o')))
+    setting : {keyword : Keyword} {d : D} {d' : D'} {a : A} {a' : A'} {v : SettingValue A B} {v' : SettingValue A' B'} → rel.attributes d d' → rel.name a a' → AlikeValue v v'
+        → AlikeItem n (Construct d (tree.Setting (record { keyword = keyword; name = a; value = v }))) (Construct d' (tree.Setting (record { keyword = keyword; name = a'; value = v' })))
+    unexport : {d : D} {d' : D'} {a : A} {a' : A'} → rel.attributes d d' → rel.name a a' → AlikeItem n (Construct d (tree.Unexport a)) (Construct d' (tree.Unexport a'))
     recipe : {d : D} {d' : D'} {h : Header A B S} {h' : Header A' B' S'} {body : List (BodyLine A B ℕ)} {body' : List (BodyLine A' B' ℕ)} → rel.attributes d d' → AlikeHeader n h body h' body' → Each AlikeLine body body'
         → AlikeItem n (Construct d (tree.Recipe (bare_recipe h body))) (Construct d' (tree.Recipe (bare_recipe h' body')))
 
@@ -240,7 +265,13 @@ module _ {R T A B S D R' T' A' B' S' D' : Type 0} (rel : Relations R T A B S D R
   pub same_body : {n : Counters} {i : Item A B ℕ S D} {i' : Item A' B' ℕ S' D'} → AlikeItem n i i' → has_body i ≡ has_body i'
   same_body newline = refl
   same_body comment = refl
+  same_body (alias d a t) = refl
   same_body (assignment d a e) = refl
+  same_body (function d a ps e) = refl
+  same_body (import d q) = refl
+  same_body (module_of d a o) = refl
+  same_body (setting d a v) = refl
+  same_body (unexport d a) = refl
   same_body (recipe d a nil) = refl
   same_body (recipe d a (cons l ls)) = refl
 
@@ -328,6 +359,8 @@ module _ {R T A B S D R' T' A' B' S' D' : Type 0} (rel : Relations R T A B S D R
     breaks : {r : Broken B} {r' : Broken B'} → AlikeBroken rel.spot r r' → Refusals (BreaksRule r) (BreaksRule r')
     after_variadic : {b : B} {b' : B'} → rel.spot b b' → Refusals (AfterVariadic b) (AfterVariadic b')
     extraneous : {count count' : ℕ} {b : B} {b' : B'} → count ≡ count' → rel.spot b b' → Refusals (Extraneous count b) (Extraneous count' b')
+    unknown_setting : {b : B} {b' : B'} → rel.spot b b' → Refusals (UnknownSetting b) (UnknownSetting b')
+    expected_keyword : {expected : List Keyword} {b : B} {b' : B'} → rel.spot b b' → Refusals (ExpectedKeyword expected b) (ExpectedKeyword expected b')
 
   -- Both are read and related, or refused for the same reason. Where a number is wanting in the one, `Short` is known of the other.
   pub data Related {X Y : Type 0} (Q : X → Y → Type 0) (Short : Counters → Read R' T' B' Y → Type 0) : Read R T B X → Read R' T' B' Y → Type 0 where
@@ -403,6 +436,7 @@ module _ {R T A B S D R' T' A' B' S' D' : Type 0} (rel : Relations R T A B S D R
     pub text : (t : T) (t' : T') → rel.token t t' → rel.text (one.text t) (other.text t')
     pub star : (t : T) (t' : T') → rel.token t t' → rel.star (one.star t) (other.star t')
     pub assignment : (r : R) (r' : R') (t : T) (t' : T') → rel.run r r' → rel.token t t' → (number : ℕ) → rel.assignment number (one.assignment r t number) (other.assignment r' t' number)
+    pub function_parameter : (r : R) (r' : R') (t : T) (t' : T') → rel.run r r' → rel.token t t' → (number : ℕ) → rel.function_parameter number (one.function_parameter r t number) (other.function_parameter r' t' number)
     pub recipe : (r : R) (r' : R') (t : T) (t' : T') → rel.run r r' → rel.token t t' → (number : ℕ) (body : List (BodyLine A B ℕ)) (body' : List (BodyLine A' B' ℕ)) → Each AlikeLine body body'
         → rel.recipe number (one.recipe r t number body) body (other.recipe r' t' number body') body'
     pub parameter : (r : R) (r' : R') (t : T) (t' : T') → rel.run r r' → rel.token t t' → {rules : Option (ArgumentRules A B)} {rules' : Option (ArgumentRules A' B')} → AlikeOption AlikeArgumentRules rules rules' → (number : ℕ)

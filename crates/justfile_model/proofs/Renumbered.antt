@@ -1,5 +1,6 @@
 -- A tree of tokens keeps no numbers: wherever the counters stand, the same is read.
-use Rattle.std.proofs.Common.{◌≡◌, Bool, true, false, cond, List, [], ◌∷◌, length, Option, Some, None, Result, Ok, Err, refl}
+use Rattle.std.proofs.Common.{◌≡◌, Bool, true, false, cond, List, [], ◌∷◌, length, Option, Some, None, Result, Ok, Err, codes, refl}
+use Rattle.justfile_base.specs.declared.item_kind.ItemKind.TheVariants as item_kinds
 use Rattle.justfile_base.specs.declared.token_kind.TokenKind.TheVariants as kinds
 use Rattle.justfile_model.specs.declared.parameter_kind.ParameterKind.{ParameterKind}
 use Rattle.justfile_model.specs.declared.parameter_kind.ParameterKind.TheVariants.{Plus, Singular, Star}
@@ -7,7 +8,9 @@ use Rattle.justfile_model.specs.ReadAttribute.{ReadAttribute}
 use Rattle.justfile_model.specs.Reader as reader
 use Rattle.justfile_model.specs.HeaderReader as r
 use Rattle.justfile_model.specs.HeaderReader.{draw_binding, expression, header, obeying}
-use Rattle.justfile_model.specs.Reader.{Start, after_mark, after_numbered, allowed, any_recipe, argument_rules, assignment, at_end, attributes, construct, content, draw_recipe, end_of_tokens, ended, has_body, items, items_from, items_rule, line, no_exclusion, no_items, on_line, optional_body, recipe}
+use Rattle.justfile_model.specs.PartReader.{accept_before, after_numbered, file_path, is_assigned, is_imported, is_module, is_set, keyword_at, line_is, names, names_end, names_rule, no_names, numbered_name, optional_path, setting_value}
+use Rattle.justfile_model.specs.Settings.{setting_form}
+use Rattle.justfile_model.specs.Reader.{Start, after_mark, alias, allowed, any_module, any_recipe, argument_rules, assignment, at_end, attributes, construct, content, draw_recipe, end_of_tokens, ended, function, has_body, import, imported, items, items_from, items_rule, line, named_module, no_exclusion, no_items, on_line, optional_body, recipe, setting, unexport, wordless}
 use Rattle.justfile_model.specs.Conditions.{Conditions}
 use Rattle.justfile_model.specs.Features.{Noted}
 use Rattle.justfile_model.specs.Reading.{◌>>=◌, Counters, accept, accepted, choose, expect, next_are}
@@ -40,12 +43,96 @@ by_test : {Y : Type 0} (b : Bool) (x y z w : Read (Y × Counters)) → Alike x y
 by_test true x y z w h k = h
 by_test false x y z w h k = k
 
-assignments : (ws : List ReadAttribute) (n m : Counters) (s : State)
-    → Alike (assignment token_leaves token_attributes ws n s) (assignment token_leaves token_attributes ws m s)
+assignments : (eager export : Bool) (ws : List ReadAttribute) (n m : Counters) (s : State)
+    → Alike (assignment token_leaves token_attributes eager export ws n s) (assignment token_leaves token_attributes eager export ws m s)
 unfolding assignment draw_binding
-assignments ws n m s =
+assignments eager export ws n m s =
     bind (expect token_leaves kinds.Identifier s) _ _ (λ name. bind (expect token_leaves kinds.ColonEquals name.1) _ _ (λ operator.
-    bind (expression token_leaves operator.1) _ _ (λ e. bind (allowed token_leaves token_attributes ws name.0 e.1) _ _ (λ checked. both))))
+    bind (expression token_leaves operator.1) _ _ (λ e. bind (allowed token_leaves token_attributes item_kinds.Assignment ws name.0 e.1) _ _ (λ checked. both))))
+
+-- ---- the parameters of functions
+
+abbrev NamesPlace : Type 0
+NamesPlace = Counters × State
+
+-- where a name begins, whatever the counters
+data BeginsName : NamesPlace → NamesPlace → Type 0 where
+  begins_name : (n m : Counters) (s : State) → BeginsName (n, s) (m, s)
+
+after_name : (done : List Tok) {found found' : Read (List Tok × Counters)} → Alike found found' → Alike (after_numbered done found) (after_numbered done found')
+unfolding after_numbered
+after_name done h = then _ _ h (λ x n m s. both)
+
+each_name : (n m : Counters) (s : State) → Alike (numbered_name token_leaves n s) (numbered_name token_leaves m s)
+unfolding numbered_name draw_binding
+each_name n m s = bind (expect token_leaves kinds.Identifier s) _ _ (λ name. both)
+
+names_rules : (f g : NamesPlace → Read (List Tok × Counters)) → ((x y : NamesPlace) → BeginsName x y → Alike (f x) (g y)) → (x y : NamesPlace) → BeginsName x y
+    → Alike (names_rule token_leaves f x) (names_rule token_leaves g y)
+unfolding names_rule names_end
+names_rules f g alike x y (begins_name n m s) =
+    pick (accept token_leaves kinds.ParenR s) _ _ _ _
+    (then _ _ (each_name n m s) (λ name k j t. after_name (name ∷ []) (pick (accept token_leaves kinds.Comma t) _ _ _ _
+    (bind (expect token_leaves kinds.ParenR t) _ _ (λ closer. both)) (λ comma. alike (k, comma.1) (j, comma.1) (begins_name k j comma.1)))))
+    (λ closer. both)
+
+all_names : (n m : Counters) (s : State) → Alike (names token_leaves (n, s)) (names token_leaves (m, s))
+unfolding names
+all_names n m s =
+    both_recur (λ (x : NamesPlace). length x.1.left) (no_names token_leaves) (names_rule token_leaves)
+    (λ (x : NamesPlace). length x.1.left) (no_names token_leaves) (names_rule token_leaves)
+    BeginsName same_size (λ x y found found'. Alike found found') (λ x y h. neither) names_rules (n, s) (m, s) (begins_name n m s)
+  where
+    same_size : (x y : NamesPlace) → BeginsName x y → length x.1.left ≡ length y.1.left
+    same_size x y (begins_name n m s) = refl
+
+-- ---- items without a number of their own
+
+aliases : (ws : List ReadAttribute) (n m : Counters) (s : State) → Alike (alias token_leaves token_attributes ws n s) (alias token_leaves token_attributes ws m s)
+unfolding alias
+aliases ws n m s =
+    bind (expect token_leaves kinds.Identifier s) _ _ (λ name. bind (expect token_leaves kinds.ColonEquals name.1) _ _ (λ operator.
+    bind (r.path token_leaves operator.1) _ _ (λ target. bind (allowed token_leaves token_attributes item_kinds.Alias ws name.0 target.1) _ _ (λ checked. both))))
+
+functions : (ws : List ReadAttribute) (n m : Counters) (s : State) → Alike (function token_leaves token_attributes ws n s) (function token_leaves token_attributes ws m s)
+unfolding function
+functions ws n m s =
+    bind (expect token_leaves kinds.Identifier s) _ _ (λ name. bind (allowed token_leaves token_attributes item_kinds.Function ws name.0 name.1) _ _ (λ checked.
+    bind (expect token_leaves kinds.ParenL checked.1) _ _ (λ opener. then _ _ (all_names n m opener.1) (λ ps k j t.
+    bind (expect token_leaves kinds.ColonEquals t) _ _ (λ operator. bind (expression token_leaves operator.1) _ _ (λ body. both))))))
+
+all_imported : (optional : Bool) (ws : List ReadAttribute) (n m : Counters) (s : State)
+    → Alike (imported token_leaves token_attributes optional ws n s) (imported token_leaves token_attributes optional ws m s)
+unfolding imported
+all_imported optional ws n m s =
+    bind (file_path token_leaves s) _ _ (λ path. bind (allowed token_leaves token_attributes item_kinds.Import ws path.0.0 path.1) _ _ (λ checked. both))
+
+imports : (ws : List ReadAttribute) (n m : Counters) (s : State) → Alike (import token_leaves token_attributes ws n s) (import token_leaves token_attributes ws m s)
+unfolding import
+imports ws n m s = all_imported (accepted token_leaves kinds.QuestionMark s).0 ws n m (accepted token_leaves kinds.QuestionMark s).1
+
+named_modules : (optional : Bool) (ws : List ReadAttribute) (n m : Counters) (s : State)
+    → Alike (named_module token_leaves token_attributes optional ws n s) (named_module token_leaves token_attributes optional ws m s)
+unfolding named_module
+named_modules optional ws n m s =
+    bind (expect token_leaves kinds.Identifier s) _ _ (λ name. bind (optional_path token_leaves name.1) _ _ (λ path.
+    bind (allowed token_leaves token_attributes item_kinds.Module ws name.0 path.1) _ _ (λ checked. both)))
+
+modules : (ws : List ReadAttribute) (n m : Counters) (s : State) → Alike (any_module token_leaves token_attributes ws n s) (any_module token_leaves token_attributes ws m s)
+unfolding any_module
+modules ws n m s = named_modules (accepted token_leaves kinds.QuestionMark s).0 ws n m (accepted token_leaves kinds.QuestionMark s).1
+
+settings : (ws : List ReadAttribute) (n m : Counters) (s : State) → Alike (setting token_leaves token_attributes ws n s) (setting token_leaves token_attributes ws m s)
+unfolding setting
+settings ws n m s =
+    bind (expect token_leaves kinds.Identifier s) _ _ (λ name. bind (keyword_at token_leaves name.0 name.1) _ _ (λ keyword.
+    bind (allowed token_leaves token_attributes item_kinds.Setting ws name.0 keyword.1) _ _ (λ checked.
+    bind (setting_value token_leaves token_attributes.sight name.0 keyword.0 (setting_form keyword.0) checked.1) _ _ (λ value. both))))
+
+unexports : (ws : List ReadAttribute) (n m : Counters) (s : State) → Alike (unexport token_leaves token_attributes ws n s) (unexport token_leaves token_attributes ws m s)
+unfolding unexport
+unexports ws n m s =
+    bind (expect token_leaves kinds.Identifier s) _ _ (λ name. bind (allowed token_leaves token_attributes item_kinds.Unexport ws name.0 name.1) _ _ (λ checked. both))
 
 -- ---- headers
 
@@ -137,11 +224,34 @@ any_recipes : (ws : List ReadAttribute) (n m : Counters) (s : State)
 unfolding any_recipe
 any_recipes ws n m s = pick (accept token_leaves kinds.At s) _ _ _ _ (recipes false ws n m s) (λ at. recipes true ws n m at.1)
 
+without_word : (ws : List ReadAttribute) (n m : Counters) (s : State) → Alike (wordless token_leaves token_attributes ws n s) (wordless token_leaves token_attributes ws m s)
+unfolding wordless
+without_word ws n m s =
+    by_test (next_are token_leaves (kinds.Identifier ∷ kinds.ParenL ∷ []) s) _ _ _ _ (functions ws n m s)
+    (by_test (is_assigned token_leaves s) _ _ _ _ (assignments false false ws n m s) (any_recipes ws n m s))
+
+contents : (ws : List ReadAttribute) (n m : Counters) (s : State) → Alike (content token_leaves token_attributes ws n s) (content token_leaves token_attributes ws m s)
+unfolding content
+contents ws n m s =
+    pick (accept_before token_leaves (codes "alias") (is_assigned token_leaves) s) _ _ _ _
+    (pick (accept_before token_leaves (codes "eager") (is_assigned token_leaves) s) _ _ _ _
+    (pick (accept_before token_leaves (codes "export") (is_assigned token_leaves) s) _ _ _ _
+    (pick (accept_before token_leaves (codes "unexport") (line_is token_leaves (kinds.Identifier ∷ [])) s) _ _ _ _
+    (pick (accept_before token_leaves (codes "import") (is_imported token_leaves) s) _ _ _ _
+    (pick (accept_before token_leaves (codes "mod") (is_module token_leaves) s) _ _ _ _
+    (pick (accept_before token_leaves (codes "set") (is_set token_leaves) s) _ _ _ _
+    (without_word ws n m s)
+    (λ word. settings ws n m word.1))
+    (λ word. modules ws n m word.1))
+    (λ word. imports ws n m word.1))
+    (λ word. unexports ws n m word.1))
+    (λ word. assignments false true ws n m word.1))
+    (λ word. assignments true false ws n m word.1))
+    (λ word. aliases ws n m word.1)
+
 constructs : (n m : Counters) (s : State) → Alike (construct token_leaves token_attributes n s) (construct token_leaves token_attributes m s)
-unfolding construct content
-constructs n m s =
-    bind (attributes token_leaves token_attributes s) _ _ (λ ws.
-    by_test (next_are token_leaves (kinds.Identifier ∷ kinds.ColonEquals ∷ []) ws.1) _ _ _ _ (assignments ws.0 n m ws.1) (any_recipes ws.0 n m ws.1))
+unfolding construct
+constructs n m s = bind (attributes token_leaves token_attributes s) _ _ (λ ws. contents ws.0 n m ws.1)
 
 on_lines : (n m : Counters) (s : State) → Alike (on_line token_leaves token_attributes n s) (on_line token_leaves token_attributes m s)
 unfolding on_line

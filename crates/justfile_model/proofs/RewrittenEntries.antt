@@ -13,6 +13,7 @@ use Rattle.justfile_base.specs.contracts.attribute_kind.AttributeKind as kind_ty
 use Rattle.justfile_base.specs.declared.attribute_kind.AttributeKind.{AttributeKind}
 use Rattle.justfile_model.specs.AttributeKinds.{same_attribute, is_repeatable}
 use Rattle.justfile_model.specs.AttributeRules.{of_some, attribute_broken, label_of, same_text, same_label, excludes, duplicate_rule, duplicate_broken, duplicates_broken, attributes_broken}
+use Rattle.justfile_model.specs.Conditions.{VersionNumbers}
 use Rattle.justfile_model.specs.ConstructRules.{construct_broken, form_broken, meaning_broken}
 use Rattle.justfile_model.specs.ContentKeys.{kind_of_attribute, attribute_key, entry_cmp}
 use Rattle.justfile_model.specs.ContentLeafLaws.{content_total}
@@ -183,10 +184,10 @@ module _ {A B : Type 0} (sight : Sight A B) where
 -- ---- of a construct
 
 -- the attributes break no rule, nor what they mean, nor the construct by its form
-pub unbroken_parts : {A B C : Type 0} (sight : Sight A B) (ws : List (WrittenAttribute A B)) (content : Content A B C B) → construct_broken sight ws content ≡ []
-    → (attributes_broken sight ws ≡ []) × (of_some (meaning_broken sight content) (entries_of sight ws) ≡ []) × (form_broken content ≡ [])
-unbroken_parts sight ws content h =
-    let n = nothing_in (attributes_broken sight ws ++ of_some (meaning_broken sight content) (entries_of sight ws)) (form_broken content) h in
+pub unbroken_parts : {A B C : Type 0} (current : VersionNumbers) (sight : Sight A B) (ws : List (WrittenAttribute A B)) (content : Content A B C B) → construct_broken current sight ws content ≡ []
+    → (attributes_broken sight ws ≡ []) × (of_some (meaning_broken sight content) (entries_of sight ws) ≡ []) × (form_broken current sight content ≡ [])
+unbroken_parts current sight ws content h =
+    let n = nothing_in (attributes_broken sight ws ++ of_some (meaning_broken sight content) (entries_of sight ws)) (form_broken current sight content) h in
     let m = nothing_in (attributes_broken sight ws) (of_some (meaning_broken sight content) (entries_of sight ws)) n.0 in
     (m.0, m.1, n.1)
 
@@ -256,8 +257,8 @@ module _ (expander : Expansions) where
         λ i. all_unbroken entries o.each i ++ no_duplicates sees (rewritten_entries entries) entries (all_again entries o.each) o.distinct i
 
     -- also where a construct stands after them
-    pub construct_again : {C : Type 0} (content : Content (List ℕ) (Unit {0}) C (Unit {0})) → construct_broken sees ws content ≡ []
-        → construct_broken sees (rewritten_entries entries) content ≡ []
-    construct_again content unbroken =
-        let n = unbroken_parts sees ws content unbroken in
+    pub construct_again : {C : Type 0} (current : VersionNumbers) (content : Content (List ℕ) (Unit {0}) C (Unit {0})) → construct_broken current sees ws content ≡ []
+        → construct_broken current sees (rewritten_entries entries) content ≡ []
+    construct_again current content unbroken =
+        let n = unbroken_parts current sees ws content unbroken in
         λ i. attributes_again n.0 i ++ ((ap (of_some (meaning_broken sees content)) (entries_again n.0 ∙ sym means)) ∙ n.1) i ++ n.2 i

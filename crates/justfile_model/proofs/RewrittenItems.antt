@@ -3,6 +3,7 @@ use Rattle.std.proofs.Common.{◌≡◌, ◌∙◌, ℕ, Bool, true, false, cond
 use Rattle.std.specs.List.{AllByRecursion}
 use Rattle.std.specs.Option.{option_map}
 use Rattle.justfile_model.specs.AttributeRules.{attributes_broken, of_some}
+use Rattle.justfile_model.specs.Conditions.{VersionNumbers}
 use Rattle.justfile_model.specs.ConstructRules.{form_broken, meaning_broken}
 use Rattle.justfile_model.specs.Docs.{Before, LineEnd, Nothing, Other, comment_taken, doc_in, doc_of, doc_or_comment, documented, redocumented, taken, wants_doc}
 use Rattle.justfile_model.specs.Files.{all_literals, broken, content_literals, if_both, item_broken, item_literals, ordered, ordered_item, says_doc, undocumented, with_entries, written_literals}
@@ -12,7 +13,7 @@ use Rattle.justfile_model.specs.NormalShape.{normal}
 use Rattle.justfile_model.specs.Printing.{shown_doc}
 use Rattle.justfile_model.specs.Rewritten.{after_doc, docs_written, rewritten, rewritten_entries, rewritten_item}
 use Rattle.justfile_model.specs.Sight.{Sight}
-use Rattle.justfile_model.specs.Tree.{Assignment, Comment, Construct, Content, Dependency, DependencyArgument, Entry, Newline, OrderedItem, Recipe, Shape, WrittenItem, WrittenShape, starless, starless_argument, starless_dependency}
+use Rattle.justfile_model.specs.Tree.{Alias, Assignment, Comment, Construct, Content, Dependency, DependencyArgument, Entry, Function, Import, Module, Newline, OrderedItem, Recipe, Setting, Shape, Unexport, WrittenItem, WrittenShape, starless, starless_argument, starless_dependency}
 use Rattle.justfile_model.proofs.Binds.{nothing_in, some_back}
 use Rattle.justfile_model.proofs.Mapped.{map_same, option_same}
 use Rattle.justfile_model.proofs.Ordered.{construct_meant, meanings_of, undocumented_of}
@@ -46,6 +47,12 @@ module _ {A B : Type 0} where
 
   pub content_starless : {C : Type 0} (c : Content A B C (Unit {0})) → starless c ≡ c
   content_starless (Assignment parts) = refl
+  content_starless (Alias parts) = refl
+  content_starless (Function parts) = refl
+  content_starless (Import parts) = refl
+  content_starless (Module parts) = refl
+  content_starless (Setting parts) = refl
+  content_starless (Unexport name) = refl
   content_starless (Recipe parts) = λ i. Recipe (record {
     doc = parts.doc;
     header = record {
@@ -63,6 +70,12 @@ module _ {A B : Type 0} where
 module _ {A B C S : Type 0} (sight : Sight A B) where
   starless_plain : (content : Content A B C S) → doc_of content ≡ None → doc_of (starless content) ≡ None
   starless_plain (Assignment parts) e = refl
+  starless_plain (Alias parts) e = refl
+  starless_plain (Function parts) e = refl
+  starless_plain (Import parts) e = refl
+  starless_plain (Setting parts) e = refl
+  starless_plain (Unexport name) e = refl
+  starless_plain (Module parts) e = e
   starless_plain (Recipe parts) e = e
 
   plain_item : (w : WrittenItem A B C S) (i : OrderedItem A B C) → ordered_item sight w ≡ Some i → IsPlain w → IsPlain i
@@ -108,11 +121,12 @@ entries_in Newline = []
 entries_in (Comment text) = []
 entries_in (Construct entries content) = entries
 
-module _ (expander : Expansions) where
+-- where this is the running version
+module _ (current : VersionNumbers) (expander : Expansions) where
   -- the item as it is printed means the item, breaks no rule, and its literals have texts
   pub record PrintsAgain (i : ShapeItem) : Type 0 where
     pub means : ordered_item (sees expander) (rewritten_item i) ≡ Some i
-    pub unbroken : item_broken (sees expander) (rewritten_item i) ≡ []
+    pub unbroken : item_broken current (sees expander) (rewritten_item i) ≡ []
     pub texts : HaveTexts expander (item_literals written_literals (rewritten_item i))
 
   newline_again : PrintsAgain Newline
@@ -123,19 +137,19 @@ module _ (expander : Expansions) where
 
   -- of what an item means that breaks no rule, and whose literals have texts
   item_again : (w : WrittenItem (List ℕ) (Unit {0}) (Unit {0}) (Unit {0})) (i : ShapeItem) → ordered_item (sees expander) w ≡ Some i
-      → item_broken (sees expander) w ≡ [] → HaveTexts expander (item_literals written_literals w) → PrintsAgain i
+      → item_broken current (sees expander) w ≡ [] → HaveTexts expander (item_literals written_literals w) → PrintsAgain i
   item_again Newline i h u t = subst PrintsAgain (some_back Newline i h) newline_again
   item_again (Comment text) i h u t = subst PrintsAgain (some_back (Comment text) i h) (comment_again text)
   item_again (Construct ws c) i h u t =
       let m = construct_meant (sees expander) ws c i h in
       let item : ShapeItem = Construct m.entries c in
       let same : i ≡ item = m.item_is ∙ ap (Construct m.entries) (content_starless c) in
-      let f = nothing_in (attributes_broken (sees expander) ws ++ of_some (meaning_broken (sees expander) c) (entries_of (sees expander) ws)) (form_broken c) u in
+      let f = nothing_in (attributes_broken (sees expander) ws ++ of_some (meaning_broken (sees expander) c) (entries_of (sees expander) ws)) (form_broken current (sees expander) c) u in
       let n = nothing_in (attributes_broken (sees expander) ws) (of_some (meaning_broken (sees expander) c) (entries_of (sees expander) ws)) f.0 in
       let p = parts (HasText expander) (written_literals ws) (content_literals c) t in
       subst PrintsAgain (sym same) (record {
         means = ap (with_entries c) (entries_again expander ws m.entries m.means n.0) ∙ ap (λ c. Some (Construct m.entries c)) (content_starless c);
-        unbroken = construct_again expander ws m.entries m.means c u;
+        unbroken = construct_again expander ws m.entries m.means current c u;
         texts = both (HasText expander) (written_literals (rewritten_entries m.entries)) (content_literals c)
             (literals_from_written expander ws m.entries m.means n.0 p.0) p.1;
       })
@@ -144,12 +158,12 @@ module _ (expander : Expansions) where
   AllPrintAgain = AllByRecursion PrintsAgain
 
   -- of what written items mean, one by one, that break no rule, and whose literals have texts
-  pub items_again : (written : WrittenShape) (all : Shape) → undocumented (sees expander) written ≡ Some all → broken (sees expander) written ≡ []
+  pub items_again : (written : WrittenShape) (all : Shape) → undocumented (sees expander) written ≡ Some all → broken current (sees expander) written ≡ []
       → HaveTexts expander (all_literals written) → AllPrintAgain all
   items_again [] all h u t = subst AllPrintAgain (some_back [] all h) tt
   items_again (w ∷ written) all h u t =
       let m = meanings_of (sees expander) w written all h in
-      let n = nothing_in (item_broken (sees expander) w) (broken (sees expander) written) u in
+      let n = nothing_in (item_broken current (sees expander) w) (broken current (sees expander) written) u in
       let p = parts (HasText expander) (item_literals written_literals w) (all_literals written) t in
       subst AllPrintAgain (sym m.all_are) (item_again w m.first m.first_is n.0 p.0, items_again written m.others m.others_are n.1 p.1)
 
@@ -159,6 +173,21 @@ module _ (expander : Expansions) where
   redocumented_again : (entries : ShapeEntries) (content : ShapeContent) (doc : Option (List ℕ)) → PrintsAgain (Construct entries content)
       → PrintsAgain (Construct entries (redocumented doc content))
   redocumented_again entries (Assignment parts) doc h = h
+  redocumented_again entries (Alias parts) doc h = h
+  redocumented_again entries (Function parts) doc h = h
+  redocumented_again entries (Import parts) doc h = h
+  redocumented_again entries (Setting parts) doc h = h
+  redocumented_again entries (Unexport name) doc h = h
+  redocumented_again entries (Module parts) doc h =
+      let content : ShapeContent = Module parts in
+      let again : ShapeContent = Module (record { doc = doc; optional = parts.optional; name = parts.name; path = parts.path }) in
+      let m = construct_meant (sees expander) (rewritten_entries entries) content (Construct entries content) h.means in
+      let means = m.means ∙ ap Some (sym (ap entries_in m.item_is)) in
+      record {
+        means = ap (with_entries again) means ∙ ap (λ c. Some (Construct entries c)) (content_starless again);
+        unbroken = h.unbroken;
+        texts = h.texts;
+      }
   redocumented_again entries (Recipe parts) doc h =
       let content : ShapeContent = Recipe parts in
       let again : ShapeContent = Recipe (record { doc = doc; header = parts.header; body = parts.body }) in
@@ -195,7 +224,7 @@ module _ (expander : Expansions) where
   documented_prints before (Construct entries content ∷ s) h = (h.0, documented_prints Other s h.1)
 
   -- of what a written shape means that breaks no rule, and whose literals have texts
-  pub shape_again : (written : WrittenShape) (s : Shape) → ordered (sees expander) written ≡ Some s → broken (sees expander) written ≡ []
+  pub shape_again : (written : WrittenShape) (s : Shape) → ordered (sees expander) written ≡ Some s → broken current (sees expander) written ≡ []
       → HaveTexts expander (all_literals written) → AllPrintAgain s
   shape_again written s h u t =
       let m = undocumented_of (sees expander) written s h in
@@ -223,7 +252,7 @@ module _ (expander : Expansions) where
   items_mean [] h = refl
   items_mean (i ∷ s) h = λ j. if_both (h.0.means j) (items_mean s h.1 j)
 
-  items_unbroken : (s : Shape) → AllPrintAgain s → broken (sees expander) (map rewritten_item s) ≡ []
+  items_unbroken : (s : Shape) → AllPrintAgain s → broken current (sees expander) (map rewritten_item s) ≡ []
   items_unbroken [] h = refl
   items_unbroken (i ∷ s) h = λ j. h.0.unbroken j ++ items_unbroken s h.1 j
 
@@ -239,7 +268,7 @@ module _ (expander : Expansions) where
   pub rewritten_means : (s : Shape) → AllPrintAgain s → SettledDocs Nothing s → ordered (sees expander) (rewritten s) ≡ Some s
   rewritten_means s h d = ap (option_map (documented says_doc Nothing)) (rewritten_undocumented s h) ∙ ap Some (printed_docs Nothing s d)
 
-  pub rewritten_unbroken : (s : Shape) → AllPrintAgain s → broken (sees expander) (rewritten s) ≡ []
+  pub rewritten_unbroken : (s : Shape) → AllPrintAgain s → broken current (sees expander) (rewritten s) ≡ []
   rewritten_unbroken s h = items_unbroken (docs_written s) (docs_written_again s h)
 
   pub rewritten_texts : (s : Shape) → AllPrintAgain s → HaveTexts expander (all_literals (rewritten s))

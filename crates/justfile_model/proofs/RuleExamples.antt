@@ -9,6 +9,7 @@ use Rattle.justfile_model.specs.declared.parameter_kind.ParameterKind.{Parameter
 use Rattle.justfile_model.specs.declared.parameter_kind.ParameterKind.TheVariants.{Plus, Singular}
 use Rattle.justfile_model.specs.AttributeKinds.{same_attribute}
 use Rattle.justfile_model.specs.AttributeRules.{attribute_broken, attributes_broken}
+use Rattle.justfile_model.specs.Conditions.{VersionNumbers}
 use Rattle.justfile_model.specs.ConstructRules.{construct_broken}
 use Rattle.justfile_model.specs.Literals.{Expansions}
 use Rattle.justfile_model.specs.Meaning.{by_key, by_position}
@@ -18,7 +19,7 @@ use Rattle.justfile_model.specs.Rules.{Broken, Rule}
 use Rattle.justfile_model.specs.Sight.{Sight, content_as_read, text_under}
 use Rattle.justfile_model.specs.Unindent.{unindented}
 use Rattle.justfile_model.specs.Tree as tree
-use Rattle.justfile_model.specs.Tree.{Argument, Attribute, Content, Dependency, DependencyArgument, Expr, Header, Parameter, WrittenAttribute, bare_recipe, plain_assignment}
+use Rattle.justfile_model.specs.Tree.{Argument, Attribute, Content, Dependency, DependencyArgument, Expr, Header, Parameter, WrittenAttribute, bare_recipe, assignment_of}
 
 abbrev unasked : Expansions
 unasked text = None
@@ -229,8 +230,11 @@ group_twice = refl
 
 -- ---- by the item
 
+abbrev current : VersionNumbers
+current = record { major = 1; minor = 58; patch = 0 }
+
 abbrev assignment : Content (List ℕ) (List ℕ) (List ℕ) (List ℕ)
-assignment = tree.Assignment (plain_assignment (codes "x") (string (codes "'a'")))
+assignment = tree.Assignment (assignment_of false false (codes "x") (string (codes "'a'")))
 
 abbrev parameter : ParameterKind → List ℕ → Parameter (List ℕ) (List ℕ)
 parameter kind name = record { kind = kind; export = false; name = name; default = None }
@@ -250,12 +254,12 @@ abbrev recipe : Content (List ℕ) (List ℕ) (List ℕ) (List ℕ)
 recipe = recipe_of []
 
 -- the first in the order of content is refused, at the item's name
-on_assignment : construct_broken sees (plain (codes "script") ∷ plain (codes "private") ∷ labelled (codes "group") (codes "'a'") ∷ []) assignment
+on_assignment : construct_broken current sees (plain (codes "script") ∷ plain (codes "private") ∷ labelled (codes "group") (codes "'a'") ∷ []) assignment
     ≡ one (rule.InvalidAttribute items.Assignment kinds.Group) (codes "x")
 unfolding kind_named same_attribute
 on_assignment = refl
 
-allowed : construct_broken sees (plain (codes "windows") ∷ plain (codes "private") ∷ []) assignment ≡ []
+allowed : construct_broken current sees (plain (codes "windows") ∷ plain (codes "private") ∷ []) assignment ≡ []
 unfolding kind_named same_attribute
 allowed = refl
 
@@ -269,82 +273,82 @@ abbrev a_and_b : Content (List ℕ) (List ℕ) (List ℕ) (List ℕ)
 a_and_b = recipe_of (parameter Singular (codes "a") ∷ parameter Singular (codes "b") ∷ [])
 
 -- of two that speak of no parameter the least text is refused, at its literal
-no_parameter : construct_broken sees (labelled (codes "arg") (codes "'c'") ∷ labelled (codes "arg") (codes "'a'") ∷ labelled (codes "arg") (codes "'b'") ∷ [])
+no_parameter : construct_broken current sees (labelled (codes "arg") (codes "'c'") ∷ labelled (codes "arg") (codes "'a'") ∷ labelled (codes "arg") (codes "'b'") ∷ [])
     (recipe_of (parameter Singular (codes "a") ∷ []))
     ≡ one (rule.UndefinedArgAttribute (codes "b")) (codes "'b'")
 unfolding kind_named same_attribute
 no_parameter = refl
 
 -- content order puts `b` first, since it names its option; so the key of `a` is refused
-long_twice : construct_broken sees (arg (codes "'a'") (bare (codes "long") ∷ []) ∷ arg (codes "'b'") (keyed (codes "long") (codes "'a'") ∷ []) ∷ []) a_and_b
+long_twice : construct_broken current sees (arg (codes "'a'") (bare (codes "long") ∷ []) ∷ arg (codes "'b'") (keyed (codes "long") (codes "'a'") ∷ []) ∷ []) a_and_b
     ≡ one (rule.DuplicateLongOption (codes "a") (codes "foo")) (codes "long")
 unfolding kind_named same_attribute
 long_twice = refl
 
 -- an option that is named is refused at its literal
-long_literal_twice : construct_broken sees (arg (codes "'a'") (keyed (codes "long") (codes "'x'") ∷ []) ∷ arg (codes "'b'") (keyed (codes "long") (codes "'''x'''") ∷ []) ∷ []) a_and_b
+long_literal_twice : construct_broken current sees (arg (codes "'a'") (keyed (codes "long") (codes "'x'") ∷ []) ∷ arg (codes "'b'") (keyed (codes "long") (codes "'''x'''") ∷ []) ∷ []) a_and_b
     ≡ one (rule.DuplicateLongOption (codes "x") (codes "foo")) (codes "'''x'''")
 unfolding kind_named same_attribute unindented
 long_literal_twice = refl
 
-short_twice : construct_broken sees (arg (codes "'a'") (keyed (codes "short") (codes "'x'") ∷ []) ∷ arg (codes "'b'") (keyed (codes "short") (codes "'''x'''") ∷ []) ∷ []) a_and_b
+short_twice : construct_broken current sees (arg (codes "'a'") (keyed (codes "short") (codes "'x'") ∷ []) ∷ arg (codes "'b'") (keyed (codes "short") (codes "'''x'''") ∷ []) ∷ []) a_and_b
     ≡ one (rule.DuplicateShortOption 120 (codes "foo")) (codes "'''x'''")
 unfolding kind_named same_attribute unindented chars
 short_twice = refl
 
 -- a long option and a short one may be called the same
-long_and_short : construct_broken sees (arg (codes "'a'") (bare (codes "long") ∷ []) ∷ arg (codes "'b'") (keyed (codes "short") (codes "'a'") ∷ []) ∷ []) a_and_b ≡ []
+long_and_short : construct_broken current sees (arg (codes "'a'") (bare (codes "long") ∷ []) ∷ arg (codes "'b'") (keyed (codes "short") (codes "'a'") ∷ []) ∷ []) a_and_b ≡ []
 unfolding kind_named same_attribute chars
 long_and_short = refl
 
 -- a flag is on already if its parameter has a value by default
-flag_with_default : construct_broken sees (arg (codes "'a'") (bare (codes "long") ∷ bare (codes "flag") ∷ []) ∷ []) (recipe_of (optional (codes "a") (codes "'x'") ∷ []))
+flag_with_default : construct_broken current sees (arg (codes "'a'") (bare (codes "long") ∷ bare (codes "flag") ∷ []) ∷ []) (recipe_of (optional (codes "a") (codes "'x'") ∷ []))
     ≡ one (rule.FlagWithDefault (codes "a")) (codes "a")
 unfolding kind_named same_attribute
 flag_with_default = refl
 
-max_alone : construct_broken sees (arg (codes "'a'") (keyed (codes "max") (codes "'2'") ∷ []) ∷ []) (recipe_of (parameter Singular (codes "a") ∷ []))
+max_alone : construct_broken current sees (arg (codes "'a'") (keyed (codes "max") (codes "'2'") ∷ []) ∷ []) (recipe_of (parameter Singular (codes "a") ∷ []))
     ≡ one (rule.ArgAttributeRequiresMultipleOrVariadic (codes "max")) (codes "max")
 unfolding kind_named same_attribute
 max_alone = refl
 
 -- the key of `max` before that of `min`, wherever it stands
-max_before_min : construct_broken sees (arg (codes "'a'") (keyed (codes "min") (codes "'1'") ∷ keyed (codes "max") (codes "'2'") ∷ []) ∷ []) (recipe_of (parameter Singular (codes "a") ∷ []))
+max_before_min : construct_broken current sees (arg (codes "'a'") (keyed (codes "min") (codes "'1'") ∷ keyed (codes "max") (codes "'2'") ∷ []) ∷ []) (recipe_of (parameter Singular (codes "a") ∷ []))
     ≡ one (rule.ArgAttributeRequiresMultipleOrVariadic (codes "max")) (codes "max")
 unfolding kind_named same_attribute
 max_before_min = refl
 
-min_alone : construct_broken sees (arg (codes "'a'") (keyed (codes "min") (codes "'1'") ∷ []) ∷ []) (recipe_of (parameter Singular (codes "a") ∷ []))
+min_alone : construct_broken current sees (arg (codes "'a'") (keyed (codes "min") (codes "'1'") ∷ []) ∷ []) (recipe_of (parameter Singular (codes "a") ∷ []))
     ≡ one (rule.ArgAttributeRequiresMultipleOrVariadic (codes "min")) (codes "min")
 unfolding kind_named same_attribute
 min_alone = refl
 
-max_of_several : construct_broken sees (arg (codes "'a'") (keyed (codes "max") (codes "'2'") ∷ []) ∷ []) (recipe_of (parameter Plus (codes "a") ∷ [])) ≡ []
+max_of_several : construct_broken current sees (arg (codes "'a'") (keyed (codes "max") (codes "'2'") ∷ []) ∷ []) (recipe_of (parameter Plus (codes "a") ∷ [])) ≡ []
 unfolding kind_named same_attribute
 max_of_several = refl
 
-max_of_multiple : construct_broken sees (arg (codes "'a'") (bare (codes "long") ∷ bare (codes "multiple") ∷ keyed (codes "max") (codes "'2'") ∷ []) ∷ [])
+max_of_multiple : construct_broken current sees (arg (codes "'a'") (bare (codes "long") ∷ bare (codes "multiple") ∷ keyed (codes "max") (codes "'2'") ∷ []) ∷ [])
     (recipe_of (parameter Singular (codes "a") ∷ [])) ≡ []
 unfolding kind_named same_attribute
 max_of_multiple = refl
 
 -- of two parameters with one name the first is spoken of
-first_of_name : construct_broken sees (arg (codes "'a'") (bare (codes "long") ∷ bare (codes "flag") ∷ []) ∷ [])
+first_of_name : construct_broken current sees (arg (codes "'a'") (bare (codes "long") ∷ bare (codes "flag") ∷ []) ∷ [])
     (recipe_of (parameter Singular (codes "a") ∷ optional (codes "a") (codes "'x'") ∷ [])) ≡ []
 unfolding kind_named same_attribute
 first_of_name = refl
 
-directories : construct_broken sees (plain (codes "no-cd") ∷ labelled (codes "working-directory") (codes "'a'") ∷ []) recipe
+directories : construct_broken current sees (plain (codes "no-cd") ∷ labelled (codes "working-directory") (codes "'a'") ∷ []) recipe
     ≡ one (rule.NoCdAndWorkingDirectoryAttribute (codes "foo")) (codes "foo")
 unfolding kind_named same_attribute
 directories = refl
 
-exit_messages : construct_broken sees (plain (codes "exit-message") ∷ plain (codes "no-exit-message") ∷ []) recipe
+exit_messages : construct_broken current sees (plain (codes "exit-message") ∷ plain (codes "no-exit-message") ∷ []) recipe
     ≡ one (rule.ExitMessageAndNoExitMessageAttribute (codes "foo")) (codes "foo")
 unfolding kind_named same_attribute
 exit_messages = refl
 
-shells : construct_broken sees (plain (codes "script") ∷ plain (codes "shell") ∷ []) recipe
+shells : construct_broken current sees (plain (codes "script") ∷ plain (codes "shell") ∷ []) recipe
     ≡ one (rule.ScriptAndShellAttribute (codes "foo")) (codes "foo")
 unfolding kind_named same_attribute
 shells = refl
@@ -360,10 +364,10 @@ on_b star arguments = record { star = star; path = codes "b" ∷ []; arguments =
 
 -- what such a dependency breaks, before `&&` and after it
 abbrev star_breaks : Dependency (List ℕ) (List ℕ) (List ℕ) → List (Broken (List ℕ))
-star_breaks d = construct_broken sees {C = List ℕ} [] (tree.Recipe (bare_recipe (headed [] (d ∷ []) []) []))
+star_breaks d = construct_broken current sees {C = List ℕ} [] (tree.Recipe (bare_recipe (headed [] (d ∷ []) []) []))
 
 abbrev later_star_breaks : Dependency (List ℕ) (List ℕ) (List ℕ) → List (Broken (List ℕ))
-later_star_breaks d = construct_broken sees {C = List ℕ} [] (tree.Recipe (bare_recipe (headed [] (on_b None [] ∷ []) (d ∷ [])) []))
+later_star_breaks d = construct_broken current sees {C = List ℕ} [] (tree.Recipe (bare_recipe (headed [] (on_b None [] ∷ []) (d ∷ [])) []))
 
 -- `*(b x)`
 star_without : star_breaks (on_b (Some (codes "first")) (argument_of None (codes "x") ∷ []))

@@ -240,4 +240,10 @@ module _ {A B : Type 0} (sight : Sight A B) (cooked : Literal A → Option (List
   pub meaning_broken_same : {C S : Type 0} (content : Content A B C S) (es : List (Entry A B)) → AllByRecursion Agreed (entries_literals es)
       → meaning_broken sight content es ≡ meaning_broken other content es
   meaning_broken_same (tree.Assignment parts) es agreed = refl
+  meaning_broken_same (tree.Alias parts) es agreed = refl
+  meaning_broken_same (tree.Function parts) es agreed = refl
+  meaning_broken_same (tree.Import parts) es agreed = refl
+  meaning_broken_same (tree.Module parts) es agreed = refl
+  meaning_broken_same (tree.Setting parts) es agreed = refl
+  meaning_broken_same (tree.Unexport name) es agreed = refl
   meaning_broken_same (tree.Recipe parts) es agreed = recipe_broken_same parts.header es agreed

@@ -7,7 +7,8 @@ use Rattle.std.specs.Option.{option_map}
 use Rattle.justfile_base.specs.AttributeKind.{kind_named}
 use Rattle.justfile_base.specs.declared.attribute_kind.AttributeKind.{AttributeKind}
 use Rattle.justfile_model.specs.AttributeRules.{arguments_broken, attribute_broken, duplicate_broken, duplicates_broken, known_broken, named_broken, of_some, order_broken, repeats_broken}
-use Rattle.justfile_model.specs.ConstructRules.{construct_broken, meaning_broken}
+use Rattle.justfile_model.specs.Conditions.{VersionNumbers}
+use Rattle.justfile_model.specs.ConstructRules.{construct_broken, form_broken, meaning_broken}
 use Rattle.justfile_model.specs.ContentKeys.{entry_cmp}
 use Rattle.justfile_model.specs.ContentLeaf.{LiteralContent}
 use Rattle.justfile_model.specs.Docs.{Nothing, documented}
@@ -37,6 +38,7 @@ use Rattle.justfile_model.proofs.Related as a
 use Rattle.justfile_model.proofs.Related.{Alike, AlikeAll, AlikeParts, Each, Relations, each_both}
 use Rattle.justfile_model.proofs.RewrittenEntries.{unbroken_parts}
 use Rattle.justfile_model.proofs.RewrittenLiterals.{literals_meant, parts}
+use Rattle.justfile_model.proofs.SettingLaws.{setting_broken_same}
 use Rattle.justfile_model.proofs.SameRecipes.{meaning_broken_same, with_texts}
 
 module _ {A B : Type 0} (sight : Sight A B) (cooked : Literal A → Option (List ℕ)) (content : Literal A → LiteralContent) where
@@ -76,6 +78,7 @@ module _ {A B : Type 0} (sight : Sight A B) (cooked : Literal A → Option (List
     parameter = λ number n rules n' rules'. n ≡ n';
     attributes = λ d d'. Unit {0};
     assignment = λ number n n'. n ≡ n';
+    function_parameter = λ number n n'. n ≡ n';
     recipe = λ number n body n' body'. Unit {0};
   }
 
@@ -260,6 +263,7 @@ module _ {A B : Type 0} (sight : Sight A B) (cooked : Literal A → Option (List
       bytes = λ n n' h. ap sight.bytes h;
       parameter_bytes = λ number n rules n' rules' h. ap sight.bytes h;
       name_place = λ n n' h. ap sight.place h;
+      literal_bytes = λ l t t' h. ap sight.bytes h.0;
       literal_place = λ l t t' h. ap sight.place h.0;
       assignment_place = λ number n n' h. ap sight.place h;
       cooked = λ l l' h. (literal_same l l' h).agreed ∙ ap cooked (literal_same l l' h).same_is;
@@ -432,17 +436,29 @@ module _ {A B : Type 0} (sight : Sight A B) (cooked : Literal A → Option (List
         }
 
     -- the attributes of a construct mean the same, and break no rule
-    pub record KeptConstruct {C : Type 0} (ws : List (WrittenAttribute A B)) (c : Content A B C B) (entries : List (Entry A B)) : Type 0 where
+    pub record KeptConstruct {C : Type 0} (current : VersionNumbers) (ws : List (WrittenAttribute A B)) (c : Content A B C B) (entries : List (Entry A B)) : Type 0 where
       pub means : entries_of other ws ≡ Some entries
-      pub unbroken : construct_broken other ws c ≡ []
+      pub unbroken : construct_broken current other ws c ≡ []
 
-    pub construct_kept : {C : Type 0} (ws : List (WrittenAttribute A B)) (c : Content A B C B) (entries : List (Entry A B))
-        → AllByRecursion Agreed (written_literals ws) → AllByRecursion Texted (written_literals ws) → entries_of sight ws ≡ Some entries
-        → construct_broken sight ws c ≡ [] → KeptConstruct ws c entries
-    construct_kept ws c entries agreed texts means unbroken =
+    -- whatever the attributes are
+    form_kept : {C : Type 0} (current : VersionNumbers) (c : Content A B C B) → AllByRecursion Agreed (content_literals c)
+        → form_broken current sight c ≡ [] → form_broken current other c ≡ []
+    form_kept current (tree.Alias parts) agreed h = h
+    form_kept current (tree.Assignment parts) agreed h = h
+    form_kept current (tree.Function parts) agreed h = h
+    form_kept current (tree.Import parts) agreed h = h
+    form_kept current (tree.Module parts) agreed h = h
+    form_kept current (tree.Recipe parts) agreed h = h
+    form_kept current (tree.Setting parts) agreed h = sym (setting_broken_same current sight cooked content parts agreed) ∙ h
+    form_kept current (tree.Unexport name) agreed h = h
+
+    pub construct_kept : {C : Type 0} (current : VersionNumbers) (ws : List (WrittenAttribute A B)) (c : Content A B C B) (entries : List (Entry A B))
+        → AllByRecursion Agreed (written_literals ws) → AllByRecursion Texted (written_literals ws) → AllByRecursion Agreed (content_literals c)
+        → entries_of sight ws ≡ Some entries → construct_broken current sight ws c ≡ [] → KeptConstruct current ws c entries
+    construct_kept current ws c entries agreed texts in_content means unbroken =
         let m = bind_back (all_of (entry_of sight) ws) _ entries means in
         let sorted : in_order (entry_cmp sight) m.first ≡ entries = some_back _ entries m.gives in
-        let u = unbroken_parts sight ws c unbroken in
+        let u = unbroken_parts current sight ws c unbroken in
         let two = nothing_in (flat_map (attribute_broken sight) ws) (duplicates_broken sight [] ws) u.0 in
         let all = all_kept [] ws m.first a.nil agreed texts m.is two.0 two.1 in
         let order : Each (AlikeEntry same) (in_order (entry_cmp sight) m.first) (in_order (entry_cmp other) m.first) =
@@ -454,58 +470,58 @@ module _ {A B : Type 0} (sight : Sight A B) (cooked : Literal A → Option (List
         sym (meaning_broken_same sight cooked content c entries (literals_meant Agreed sight ws entries means agreed)) ∙ meaning in
         record {
           means = other_means;
-          unbroken = rw (all.unbroken, all.distinct, other_means) (λ i. same_meaning i ++ u.2 i);
+          unbroken = rw (all.unbroken, all.distinct, other_means) (λ i. same_meaning i ++ form_kept current c in_content u.2 i);
         }
 
     -- ---- items
 
-    record KeptMeanings {C : Type 0} (items : List (WrittenItem A B C B)) (all : List (OrderedItem A B C)) : Type 0 where
+    record KeptMeanings {C : Type 0} (current : VersionNumbers) (items : List (WrittenItem A B C B)) (all : List (OrderedItem A B C)) : Type 0 where
       means : undocumented other items ≡ Some all
-      unbroken : broken_of other items ≡ []
+      unbroken : broken_of current other items ≡ []
 
-    meanings_kept : {C : Type 0} (items : List (WrittenItem A B C B)) (all : List (OrderedItem A B C))
+    meanings_kept : {C : Type 0} (current : VersionNumbers) (items : List (WrittenItem A B C B)) (all : List (OrderedItem A B C))
         → AllByRecursion Agreed (all_literals items) → AllByRecursion Texted (all_literals items) → undocumented sight items ≡ Some all
-        → broken_of sight items ≡ [] → KeptMeanings items all
-    meanings_kept [] all agreed texts means unbroken = record { means = means; unbroken = refl }
-    meanings_kept (tree.Newline ∷ items) all agreed texts means unbroken =
+        → broken_of current sight items ≡ [] → KeptMeanings current items all
+    meanings_kept current [] all agreed texts means unbroken = record { means = means; unbroken = refl }
+    meanings_kept current (tree.Newline ∷ items) all agreed texts means unbroken =
         let m = meanings_of sight tree.Newline items all means in
-        let others = meanings_kept items m.others agreed texts m.others_are unbroken in
+        let others = meanings_kept current items m.others agreed texts m.others_are unbroken in
         record {
           means = rw others.means (ap (λ x. Some (x ∷ m.others)) (some_back tree.Newline m.first m.first_is) ∙ ap Some (sym m.all_are));
           unbroken = others.unbroken;
         }
-    meanings_kept (tree.Comment text ∷ items) all agreed texts means unbroken =
+    meanings_kept current (tree.Comment text ∷ items) all agreed texts means unbroken =
         let m = meanings_of sight (tree.Comment text) items all means in
-        let others = meanings_kept items m.others agreed texts m.others_are unbroken in
+        let others = meanings_kept current items m.others agreed texts m.others_are unbroken in
         record {
           means = rw others.means (ap (λ x. Some (x ∷ m.others)) (some_back (tree.Comment text) m.first m.first_is) ∙ ap Some (sym m.all_are));
           unbroken = others.unbroken;
         }
-    meanings_kept (tree.Construct ws c ∷ items) all agreed texts means unbroken =
+    meanings_kept current (tree.Construct ws c ∷ items) all agreed texts means unbroken =
         let m = meanings_of sight (tree.Construct ws c) items all means in
         let i = construct_meant sight ws c m.first m.first_is in
         let own : List (Literal A) = written_literals ws ++ content_literals c in
         let g = parts Agreed own (all_literals items) agreed in
         let t = parts Texted own (all_literals items) texts in
-        let u = nothing_in (construct_broken sight ws c) (broken_of sight items) unbroken in
-        let one = construct_kept ws c i.entries (parts Agreed (written_literals ws) (content_literals c) g.0).0
-        (parts Texted (written_literals ws) (content_literals c) t.0).0 i.means u.0 in
-        let others = meanings_kept items m.others g.1 t.1 m.others_are u.1 in
+        let u = nothing_in (construct_broken current sight ws c) (broken_of current sight items) unbroken in
+        let one = construct_kept current ws c i.entries (parts Agreed (written_literals ws) (content_literals c) g.0).0
+        (parts Texted (written_literals ws) (content_literals c) t.0).0 (parts Agreed (written_literals ws) (content_literals c) g.0).1 i.means u.0 in
+        let others = meanings_kept current items m.others g.1 t.1 m.others_are u.1 in
         record {
           means = rw (one.means, others.means) (ap (λ x. Some (x ∷ m.others)) (sym i.item_is) ∙ ap Some (sym m.all_are));
           unbroken = rw (one.unbroken, others.unbroken) refl;
         }
 
-    pub record KeptItems {C : Type 0} (items : List (WrittenItem A B C B)) (all : List (OrderedItem A B C)) : Type 0 where
+    pub record KeptItems {C : Type 0} (current : VersionNumbers) (items : List (WrittenItem A B C B)) (all : List (OrderedItem A B C)) : Type 0 where
       pub means : ordered other items ≡ Some all
-      pub unbroken : broken_of other items ≡ []
+      pub unbroken : broken_of current other items ≡ []
 
-    pub items_kept : {C : Type 0} (items : List (WrittenItem A B C B)) (all : List (OrderedItem A B C))
+    pub items_kept : {C : Type 0} (current : VersionNumbers) (items : List (WrittenItem A B C B)) (all : List (OrderedItem A B C))
         → AllByRecursion Agreed (all_literals items) → AllByRecursion Texted (all_literals items) → ordered sight items ≡ Some all
-        → broken_of sight items ≡ [] → KeptItems items all
-    items_kept items all agreed texts means unbroken =
+        → broken_of current sight items ≡ [] → KeptItems current items all
+    items_kept current items all agreed texts means unbroken =
         let d = undocumented_of sight items all means in
-        let kept = meanings_kept items d.items agreed texts d.items_are unbroken in
+        let kept = meanings_kept current items d.items agreed texts d.items_are unbroken in
         record {
           means = ap (option_map (documented says_doc Nothing)) kept.means ∙ ap Some (sym d.all_are);
           unbroken = kept.unbroken;

@@ -13,6 +13,7 @@ use Rattle.justfile_base.specs.declared.token_kind.TokenKind.{TokenKind}
 use Rattle.justfile_base.specs.declared.token_kind.TokenKind.TheVariants as kinds
 use Rattle.justfile_model.specs.AttributeRules.{attributes_broken}
 use Rattle.justfile_model.specs.ConditionalOperator.{operator_sign}
+use Rattle.justfile_model.specs.Conditions.{VersionNumbers}
 use Rattle.justfile_model.specs.ConstructRules.{construct_broken}
 use Rattle.justfile_model.specs.ContentKeys.{name_key, spot_key, literal_key, expr_key, exprs_keys, parts_keys, quoted_key, option_name_key, word_key, own_name_key, property_key, bound_number_key, bound_word_key, rules_keys, texts_keys, is_optional, single_keys, attribute_keys, attribute_key, entry_cmp}
 use Rattle.justfile_model.specs.ContentLeaf.{ContentLeaf, token, literal, operator, text, unseen, content_cmp}
@@ -322,7 +323,7 @@ module _ (expander : Expansions) where
       → attributes_broken lexemes (map (over_written_attribute lexeme nothing) ws) ≡ map (over_broken nothing) (attributes_broken tokens ws)
   attributes_broken_seen ws = attributes_broken_over seen ws
 
-  pub construct_broken_seen : {C C' : Type 0} (h : C → C') (ws : List (WrittenAttribute Tok Tok)) (content : Content Tok Tok C Tok) → KindedWritten ws
-      → construct_broken lexemes (map (over_written_attribute lexeme nothing) ws) (over_content lexeme nothing h nothing content)
-      ≡ map (over_broken nothing) (construct_broken tokens ws content)
-  construct_broken_seen h ws content kinded = construct_broken_over seen h ws content (entries_seen ws kinded)
+  pub construct_broken_seen : {C C' : Type 0} (current : VersionNumbers) (h : C → C') (ws : List (WrittenAttribute Tok Tok)) (content : Content Tok Tok C Tok) → KindedWritten ws
+      → construct_broken current lexemes (map (over_written_attribute lexeme nothing) ws) (over_content lexeme nothing h nothing content)
+      ≡ map (over_broken nothing) (construct_broken current tokens ws content)
+  construct_broken_seen current h ws content kinded = construct_broken_over seen current h ws content (entries_seen ws kinded)

@@ -6,11 +6,13 @@ use Rattle.std.specs.Option.{option_map}
 use Rattle.std.specs.Str.{bytes_eq, chars}
 use Rattle.justfile_base.specs.declared.attribute_kind.AttributeKind.{AttributeKind}
 use Rattle.justfile_base.specs.declared.attribute_kind.AttributeKind.TheVariants as kinds
+use Rattle.justfile_base.specs.declared.item_kind.ItemKind.{ItemKind}
 use Rattle.justfile_base.specs.declared.item_kind.ItemKind.TheVariants as items
 use Rattle.justfile_model.specs.declared.list_feature.ListFeature.{ListFeature}
 use Rattle.justfile_model.specs.declared.list_feature.ListFeature.TheVariants as features
 use Rattle.justfile_model.specs.AttributeKinds.{same_attribute}
 use Rattle.justfile_model.specs.AttributeRules.{allowed_broken, arg_rules, attributes_broken, least, of_some, rules_in}
+use Rattle.justfile_model.specs.Conditions.{VersionNumbers}
 use Rattle.justfile_model.specs.ConstructRules.{construct_broken, form_broken, meaning_broken}
 use Rattle.justfile_model.specs.ContentKeys.{has_attribute, kind_of_attribute}
 use Rattle.justfile_model.specs.Features.{bound_place, noted_at, over_noted, rules_features}
@@ -22,6 +24,7 @@ use Rattle.justfile_model.specs.Sight.{Sight, or_empty}
 use Rattle.justfile_model.specs.Tree as tree
 use Rattle.justfile_model.specs.Tree.{ArgumentRules, Attribute, Bound, Content, Dependency, DependencyArgument, Entry, Header, OptionName, Parameter, Quoted, WrittenAttribute, over_attribute, over_bound, over_content, over_dependency, over_dependency_argument, over_entry, over_expr, over_header, over_option, over_parameter, over_quoted, over_rules, over_written_attribute}
 use Rattle.justfile_model.proofs.Mapped.{flat_mapped}
+use Rattle.justfile_model.proofs.SettingLaws.{setting_broken_over}
 use Rattle.justfile_model.proofs.Sees.{Sees, find_over, text_over}
 use Rattle.justfile_model.proofs.SeesRules.{allowed_over, attributes_broken_over, both_over, filter_over, if_over, is_some_over, kind_over, least_over, some_over}
 
@@ -88,6 +91,12 @@ module _ {A B C D : Type 0} (f : A → C) (g : B → D) where
   pub entries_features_over : {Z S Z' S' : Type 0} (h : Z → Z') (k : S → S') (content : Content A B Z S) (es : List (Entry A B))
       → entries_features (over_content f g h k content) (map (over_entry f g) es) ≡ map (over_noted g) (entries_features content es)
   entries_features_over h k (tree.Assignment parts) es = refl
+  entries_features_over h k (tree.Alias parts) es = refl
+  entries_features_over h k (tree.Function parts) es = refl
+  entries_features_over h k (tree.Import parts) es = refl
+  entries_features_over h k (tree.Module parts) es = refl
+  entries_features_over h k (tree.Setting parts) es = refl
+  entries_features_over h k (tree.Unexport name) es = refl
   entries_features_over h k (tree.Recipe parts) es =
       ap (flat_map rules_features) (arg_rules_over es)
       ∙ flat_mapped rules_features rules_features (over_rules f g) (over_noted g) rules_features_over (arg_rules es)
@@ -126,12 +135,6 @@ module _ {A B A' B' : Type 0} (f : A → A') (g : B → B') where
   header_broken_over h =
       both_over (over_broken g) (flat_map dependency_broken h.priors) (flat_map dependency_broken h.subsequents) _ _
       (dependencies_broken_over h.priors) (dependencies_broken_over h.subsequents)
-
-  -- whatever the attributes are
-  form_broken_over : {Z Z' : Type 0} (h : Z → Z') (content : Content A B Z B)
-      → form_broken (over_content f g h g content) ≡ map (over_broken g) (form_broken content)
-  form_broken_over h (tree.Assignment parts) = refl
-  form_broken_over h (tree.Recipe parts) = header_broken_over parts.header
 
 -- ---- options
 
@@ -330,23 +333,44 @@ module _ {A B C D : Type 0} {f : A → C} {g : B → D} {sight : Sight A B} {oth
       (undefined_over h.parameters rules))
       (exclusions_over (sight.place h.name) es)
 
+  -- an item of this kind with this name
+  name_broken_over : (item : ItemKind) (name : A) (es : List (Entry A B))
+      → allowed_broken other item (other.place (f name)) (map (over_entry f g) es) ≡ over (allowed_broken sight item (sight.place name) es)
+  name_broken_over item name es = ap (λ place. allowed_broken other item place (map (over_entry f g) es)) (sees.place name) ∙ allowed_over sees item (sight.place name) es
+
+  -- whatever the attributes are
+  form_broken_over : {Z Z' : Type 0} (current : VersionNumbers) (h : Z → Z') (content : Content A B Z B)
+      → form_broken current other (over_content f g h g content) ≡ over (form_broken current sight content)
+  form_broken_over current h (tree.Alias parts) = refl
+  form_broken_over current h (tree.Assignment parts) = refl
+  form_broken_over current h (tree.Function parts) = refl
+  form_broken_over current h (tree.Import parts) = refl
+  form_broken_over current h (tree.Module parts) = refl
+  form_broken_over current h (tree.Recipe parts) = header_broken_over f g parts.header
+  form_broken_over current h (tree.Setting parts) = setting_broken_over current sees parts
+  form_broken_over current h (tree.Unexport name) = refl
+
   -- by what the attributes of a construct mean
   meaning_broken_over : {Z S Z' S' : Type 0} (h : Z → Z') (k : S → S') (content : Content A B Z S) (es : List (Entry A B))
       → meaning_broken other (over_content f g h k content) (map (over_entry f g) es) ≡ over (meaning_broken sight content es)
-  meaning_broken_over h k (tree.Assignment parts) es =
-      ap (λ name. allowed_broken other items.Assignment name (map (over_entry f g) es)) (sees.place parts.name)
-      ∙ allowed_over sees items.Assignment (sight.place parts.name) es
+  meaning_broken_over h k (tree.Alias parts) es = name_broken_over items.Alias parts.name es
+  meaning_broken_over h k (tree.Assignment parts) es = name_broken_over items.Assignment parts.name es
+  meaning_broken_over h k (tree.Function parts) es = name_broken_over items.Function parts.name es
+  meaning_broken_over h k (tree.Import parts) es = name_broken_over items.Import parts.path.token es
+  meaning_broken_over h k (tree.Module parts) es = name_broken_over items.Module parts.name es
+  meaning_broken_over h k (tree.Setting parts) es = name_broken_over items.Setting parts.name es
+  meaning_broken_over h k (tree.Unexport name) es = name_broken_over items.Unexport name es
   meaning_broken_over h k (tree.Recipe parts) es = recipe_broken_over k parts.header es
 
   -- where the attributes mean the same in order
-  pub construct_broken_over : {Z Z' : Type 0} (h : Z → Z') (ws : List (WrittenAttribute A B)) (content : Content A B Z B)
+  pub construct_broken_over : {Z Z' : Type 0} (current : VersionNumbers) (h : Z → Z') (ws : List (WrittenAttribute A B)) (content : Content A B Z B)
       → entries_of other (map (over_written_attribute f g) ws) ≡ option_map (map (over_entry f g)) (entries_of sight ws)
-      → construct_broken other (map (over_written_attribute f g) ws) (over_content f g h g content) ≡ over (construct_broken sight ws content)
-  construct_broken_over h ws content same =
+      → construct_broken current other (map (over_written_attribute f g) ws) (over_content f g h g content) ≡ over (construct_broken current sight ws content)
+  construct_broken_over current h ws content same =
       let own = attributes_broken sight ws in
       let meaning = of_some (meaning_broken sight content) (entries_of sight ws) in
-      both_over (over_broken g) (own ++ meaning) (form_broken content) _ _
+      both_over (over_broken g) (own ++ meaning) (form_broken current sight content) _ _
       (both_over (over_broken g) own meaning _ _ (attributes_broken_over sees ws)
       (some_over (map (over_entry f g)) (over_broken g) (meaning_broken sight content) (meaning_broken other (over_content f g h g content))
       (entries_of sight ws) _ same (meaning_broken_over h g content)))
-      (form_broken_over f g h content)
+      (form_broken_over current h content)

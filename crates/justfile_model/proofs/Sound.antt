@@ -1,8 +1,11 @@
 -- What is read of a file derives, with the features that are noted on the way, and its literals have texts.
-use Rattle.std.proofs.Common.{◌≡◌, ℕ, Bool, true, false, cond, List, [], ◌∷◌, ◌++◌, length, drop, Option, Some, None, Ok, Err, IfOk, refl, sym, subst, ap, ◌∙◌, append_assoc, append-nil}
+use Rattle.std.proofs.Common.{◌≡◌, ℕ, Bool, true, false, ◌||◌, cond, List, [], ◌∷◌, ◌++◌, length, drop, Option, Some, None, Ok, Err, IfOk, codes, refl, sym, subst, ap, ◌∙◌, append_assoc, append-nil}
 use Rattle.std.specs.Str.{trim_end}
 use Rattle.justfile_base.specs.declared.token_kind.TokenKind.TheVariants as kinds
+use Rattle.justfile_base.specs.Keyword.{keyword_text}
+use Rattle.justfile_base.specs.declared.item_kind.ItemKind.{ItemKind}
 use Rattle.justfile_base.specs.declared.item_kind.ItemKind.TheVariants as item_kinds
+use Rattle.justfile_base.specs.declared.keyword.Keyword.{Keyword}
 use Rattle.justfile_model.specs.AttributeLines as attributes_of
 use Rattle.justfile_model.specs.AttributeRules.{allowed_broken}
 use Rattle.justfile_model.specs.Conditions.{Conditions}
@@ -13,26 +16,31 @@ use Rattle.justfile_model.specs.Rules.{Broken}
 use Rattle.justfile_model.specs.Tok.{Tok}
 use Rattle.justfile_model.specs.SignificantTokens.{SignificantToken}
 use Rattle.justfile_model.specs.Tree as tree
-use Rattle.justfile_model.specs.Tree.{BodyLine, Construct, Content, Entry, Expr, Fragment, Header, Line, WrittenAttribute, WrittenItem, WrittenTree, bare_recipe, itself, plain_assignment, trimmed}
+use Rattle.justfile_model.specs.Tree.{BodyLine, Construct, Content, Entry, Expr, Fragment, Header, Line, Quoted, SettingValue, WrittenAttribute, WrittenItem, WrittenTree, bare_recipe, itself, assignment_of, bare_module, trimmed}
 use Rattle.justfile_model.specs.Features.{ConstructFeatures, Noted}
-use Rattle.justfile_model.specs.Expressions.{Tokens, IsKind, NotNext, Under}
+use Rattle.justfile_model.specs.Expressions.{Tokens, IsKind, IsWord, NotNext, Under}
 use Rattle.justfile_model.specs.Grammar as g
 use Rattle.justfile_model.specs.Headers as headers
 use Rattle.justfile_model.specs.Grammar.{BeforeBody, NotEmpty}
-use Rattle.justfile_model.specs.HeaderReader.{draw_binding, expression, header}
+use Rattle.justfile_model.specs.HeaderReader.{draw_binding, expression, header, path}
+use Rattle.justfile_model.specs.ItemParts.{EndsLine, FilePath, Names, NoPath, NotNamedString}
 use Rattle.justfile_model.specs.Literals.{Literal}
 use Rattle.justfile_model.specs.Meaning.{entries_of}
 use Rattle.justfile_model.specs.Files.{all_features, all_literals, body_literals, content_literals, entries_features, fragments_literals, keeps_tokens}
-use Rattle.justfile_model.specs.Reading.{Counters, at, next_are, prepend}
+use Rattle.justfile_model.specs.Reading.{◌>>=◌, Counters, accepted, at, next_are, prepend, taken_or}
+use Rattle.justfile_model.specs.SettingRules.{value_broken}
+use Rattle.justfile_model.specs.Settings.{SettingForm, setting_form}
 use Rattle.justfile_model.specs.Reader as reader
-use Rattle.justfile_model.specs.Reader.{Start, after_numbered, any_recipe, argument_rules, assignment, at_end, attributes, body, body_line, comment_item, construct, content, content_has_body, draw_recipe, ended, entries_read, fragment, has_body, item_rest, items, items_from, items_rule, line, line_at, line_end, line_rest, line_rest_rule, lines, lines_rule, no_items, no_line_rest, no_lines, on_line, optional_body, recipe, some_lines, stands_alone}
+use Rattle.justfile_model.specs.PartReader.{accept_before, after_numbered, file_path, is_assigned, is_imported, is_module, is_set, keyword_at, line_is, names, optional_path, setting_value}
+use Rattle.justfile_model.specs.Reader.{Start, alias, allowed, any_module, any_recipe, argument_rules, assignment, at_end, attributes, body, body_line, comment_item, construct, constructed, content, content_has_body, draw_recipe, ended, entries_read, fragment, function, has_body, import, imported, item_rest, items, items_from, items_rule, line, line_at, line_end, line_rest, line_rest_rule, lines, lines_rule, named_module, no_items, no_line_rest, no_lines, on_line, optional_body, recipe, setting, some_lines, stands_alone, unexport, wordless}
 use Rattle.justfile_model.specs.TreeReader.{Read, State, read_attributes, tree_of_tokens, start_state, token_attributes, token_leaves, unnumbered}
 use Rattle.justfile_model.proofs.AttributeSound.{AttributeLines, IsRead, attributes_at, entries_in, written_in}
-use Rattle.justfile_model.proofs.HeaderSound.{HeaderOf, IsHeader, NamedHeader, after_obeying, header_of, header_sound}
+use Rattle.justfile_model.proofs.HeaderSound.{HeaderOf, IsHeader, NamedHeader, after_obeying, header_of, header_sound, path_at}
 use Rattle.justfile_model.proofs.Obeyed.{Obeyed, comment_obeyed, construct_obeyed}
+use Rattle.justfile_model.proofs.PartSound.{IsOptionalPath, IsSet, after_choose_before, after_keyword, file_path_at, line_ends, names_at, no_value, optional_path_sound, value_sound, with_path, without_path}
 use Rattle.justfile_model.proofs.ReadingSteps.{after_test, known}
 use Rattle.justfile_model.proofs.Turns.{recursive_keeps}
-use Rattle.justfile_model.proofs.Steps.{AreNext, are_next, after_bind, after_choose, after_expect, weaken}
+use Rattle.justfile_model.proofs.Steps.{AreNext, are_next, after_accept, after_bind, after_choose, after_expect, weaken}
 use Rattle.justfile_model.proofs.CookedTexts.{AllCook, fragments_cook, lines_cook, items_cook, trimmed_literals}
 use Rattle.justfile_model.proofs.Meets.{Met, nothing_met, both_met, all_met}
 use Rattle.justfile_model.proofs.ExpressionSound as e
@@ -88,6 +96,10 @@ module _ (conditions : Conditions) where
   starts a (a_line o) = of_line a o
   starts a (a_block b) = of_block a b
 
+  -- no word is `Eof`
+  no_word : {word : List ℕ} {t : SignificantToken} → IsKind kinds.Eof t → IsWord word t → ⊥
+  no_word {t = t} kind is = let kind2 : IsKind kinds.Identifier t = is.is_name in cc
+
   -- no header begins with `Eof`
   no_header : {h : Header Tok Tok Tok} {fs : List (Noted Tok)} {t : SignificantToken} {ts rest : Tokens} → IsKind kinds.Eof t → HeaderOf conditions h fs (t ∷ ts) rest → ⊥
   no_header kind (headers.quiet kind2 h) = cc
@@ -100,7 +112,19 @@ module _ (conditions : Conditions) where
   at_eof kind (g.blank kind2 more) = cc
   at_eof kind (g.comment kind2 more) = cc
   at_eof kind (g.on_line (attributes_of.line kind2 b e others) o more) = cc
+  at_eof kind (g.on_line (attributes_of.none not) (g.alias is kind2 kind3 p) more) = absurd (no_word kind is)
   at_eof kind (g.on_line (attributes_of.none not) (g.assignment kind2 kind3 e) more) = cc
+  at_eof kind (g.on_line (attributes_of.none not) (g.eager is kind2 kind3 e) more) = absurd (no_word kind is)
+  at_eof kind (g.on_line (attributes_of.none not) (g.export is kind2 kind3 e) more) = absurd (no_word kind is)
+  at_eof kind (g.on_line (attributes_of.none not) (g.function kind2 kind3 ns kind4 e) more) = cc
+  at_eof kind (g.on_line (attributes_of.none not) (g.import is p) more) = absurd (no_word kind is)
+  at_eof kind (g.on_line (attributes_of.none not) (g.optional_import is kind2 p) more) = absurd (no_word kind is)
+  at_eof kind (g.on_line (attributes_of.none not) (g.module_alone is kind2 ends) more) = absurd (no_word kind is)
+  at_eof kind (g.on_line (attributes_of.none not) (g.module_at is kind2 p) more) = absurd (no_word kind is)
+  at_eof kind (g.on_line (attributes_of.none not) (g.optional_module_alone is kind2 kind3 none) more) = absurd (no_word kind is)
+  at_eof kind (g.on_line (attributes_of.none not) (g.optional_module_at is kind2 kind3 p) more) = absurd (no_word kind is)
+  at_eof kind (g.on_line (attributes_of.none not) (g.setting is is2 form value) more) = absurd (no_word kind is)
+  at_eof kind (g.on_line (attributes_of.none not) (g.unexport is kind2 ends) more) = absurd (no_word kind is)
   at_eof kind (g.on_line (attributes_of.none not) (g.header h) more) = absurd (no_header kind h)
   at_eof kind (g.block (attributes_of.line kind2 b e others) o more) = cc
   at_eof kind (g.block (attributes_of.none not) (g.recipe h first ls some) more) = absurd (no_header kind h)
@@ -189,7 +213,7 @@ module _ (conditions : Conditions) where
     pub met : Met conditions.expander (entries_features content (meant ws) ++ features) (content_literals content) s.noted x.1.noted
     pub stays : Here conditions 0 x.1
     pub unbroken : meaning_broken (token_sight conditions) content (meant ws) ≡ []
-    pub formed : form_broken content ≡ []
+    pub formed : form_broken conditions.current (token_sight conditions) content ≡ []
 
   -- items note these features, whatever follows them
   abbrev Note : WrittenTree → List (ConstructFeatures Tok) → List (Noted Tok) → Type 0
@@ -216,7 +240,7 @@ module _ (conditions : Conditions) where
   -- an item that was read: it derives, and obeys the rules
   pub record IsOnLine (s : State) (x : (WrittenItem Tok Tok ℕ Tok × Counters) × State) : Type 0 where
     pub derived : DerivedItems (Starts (has_body x.0.0) x.0.0) (x.0.0 ∷ []) s x.1
-    pub obeys : Obeyed (token_sight conditions) x.0.0
+    pub obeys : Obeyed conditions.current (token_sight conditions) x.0.0
 
   -- items that were read, before any that may follow
   abbrev pub Leads : (WrittenTree → List (ConstructFeatures Tok) → Tokens → Type 0) → State → WrittenTree × State → Type 0
@@ -238,36 +262,302 @@ module _ (conditions : Conditions) where
     pub features_are : x.1 ≡ all_features (token_sight conditions) x.0 by_construct
     pub cooks : AllCook conditions.expander (all_literals x.0)
 
-  -- what an assignment with this name breaks by its attributes
-  abbrev name_breaks : List ReadAttribute → Tok → Conditions → List (Broken Tok)
-  name_breaks ws name run = allowed_broken (token_sight run) item_kinds.Assignment name (entries_read token_leaves token_attributes run ws)
+  -- what an item of this kind with this name breaks by its attributes
+  abbrev name_breaks : ItemKind → List ReadAttribute → Tok → Conditions → List (Broken Tok)
+  name_breaks item ws name run = allowed_broken (token_sight run) item name (entries_read token_leaves token_attributes run ws)
 
   -- what a recipe with this name breaks by kinds that exclude each other
   abbrev exclusion_breaks : List ReadAttribute → Tok → Conditions → List (Broken Tok)
   exclusion_breaks ws name run = exclusions_broken (token_sight run) name (entries_read token_leaves token_attributes run ws)
 
-  pub assignment_sound : (ws : List ReadAttribute) (n : Counters) (s : State) → Here conditions 0 s
-      → IfOk (assignment token_leaves token_attributes ws n s) (IsContent ws s)
+  abbrev ReadItem : Type 0
+  ReadItem = Read (WrittenItem Tok Tok ℕ Tok × Counters)
+
+  -- no feature is noted
+  unnoted : {a b : List (Noted Tok)} → b ≡ a → Met conditions.expander [] [] a b
+  unnoted {a} {b} e = record { noted_is = e ∙ sym (append-nil a); cooks = tt }
+
+  -- an assignment from its name on, where one begins so
+  pub assignment_sound : (eager export : Bool) (ws : List ReadAttribute) (n : Counters) (s : State) (ts : Tokens) → Here conditions 0 s
+      → ((name operator : SignificantToken) (us rest : Tokens) (e : Expr Tok Tok) (fs : List (Noted Tok)) → s.left ≡ name ∷ operator ∷ us
+      → IsKind kinds.Identifier name → IsKind kinds.ColonEquals operator → Expression false 0 e fs us rest
+      → OnLine (tree.Assignment (assignment_of eager export name.tok e)) fs ts rest)
+      → IfOk (assignment token_leaves token_attributes eager export ws n s) (IsContent ws (at s ts))
   unfolding assignment draw_binding
-  assignment_sound ws n s here =
-      let P : Read (WrittenItem Tok Tok ℕ Tok × Counters) → Type 0 = λ o. IfOk o (IsContent ws s) in
+  assignment_sound eager export ws n s ts here begins =
+      let P : ReadItem → Type 0 = λ o. IfOk o (IsContent ws (at s ts)) in
       after_expect kinds.Identifier s _ P (λ e. tt) (λ name t1 split kind.
       after_expect kinds.ColonEquals (at s t1) _ P (λ e. tt) (λ operator t2 split2 kind2.
       after_bind (expression token_leaves (at s t2)) _ P (λ e. tt) (λ e is.
       let found = expression_derives conditions false 0 (at s t2) e is here in
-      let c : Content Tok Tok ℕ Tok = tree.Assignment (plain_assignment name.tok e.0) in
-      let R : Tokens → Type 0 = λ ts. OnLine c found.features ts e.1.left in
-      after_obeying (name_breaks ws name.tok e.1.run) e.1 _ P (λ e. tt) (λ none.
+      after_obeying (name_breaks item_kinds.Assignment ws name.tok e.1.run) e.1 _ P (λ e. tt) (λ none.
+      record {
+        content = tree.Assignment (assignment_of eager export name.tok e.0);
+        is = refl;
+        features = found.features;
+        derives = a_line (begins name operator t2 e.1.left e.0 found.features (split ∙ ap (λ (l : Tokens). name ∷ l) split2) kind kind2 found.derives);
+        met = found.met;
+        stays = found.stays;
+        unbroken = subst (λ run. name_breaks item_kinds.Assignment ws name.tok run ≡ []) found.stays.1 none;
+        formed = refl;
+      }))))
+
+  alias_sound : (ws : List ReadAttribute) (n : Counters) (s : State) → Here conditions 0 s → (word : SignificantToken) (t0 : Tokens) → s.left ≡ word ∷ t0
+      → IsWord (codes "alias") word → IfOk (alias token_leaves token_attributes ws n (at s t0)) (IsContent ws s)
+  unfolding alias
+  alias_sound ws n s here word t0 split0 is_word =
+      let P : ReadItem → Type 0 = λ o. IfOk o (IsContent ws s) in
+      after_expect kinds.Identifier (at s t0) _ P (λ e. tt) (λ name t1 split kind.
+      after_expect kinds.ColonEquals (at s t1) _ P (λ e. tt) (λ operator t2 split2 kind2.
+      after_bind (path token_leaves (at s t2)) _ P (λ e. tt) (λ target is.
+      let found = path_at conditions (at s t2) target is here in
+      let c : Content Tok Tok ℕ Tok = tree.Alias (record { name = name.tok; target = target.0 }) in
+      after_obeying (name_breaks item_kinds.Alias ws name.tok target.1.run) target.1 _ P (λ e. tt) (λ none.
+      record {
+        content = c;
+        is = refl;
+        features = [];
+        derives = a_line (subst (λ (l : Tokens). OnLine c [] l target.1.left)
+            (sym (split0 ∙ ap (λ (l : Tokens). word ∷ l) (split ∙ ap (λ (l : Tokens). name ∷ l) split2))) (g.alias is_word kind kind2 found.derives));
+        met = unnoted found.noted_is;
+        stays = found.stays;
+        unbroken = subst (λ run. name_breaks item_kinds.Alias ws name.tok run ≡ []) found.stays.1 none;
+        formed = refl;
+      }))))
+
+  function_sound : (ws : List ReadAttribute) (n : Counters) (s : State) → Here conditions 0 s
+      → IfOk (function token_leaves token_attributes ws n s) (IsContent ws s)
+  unfolding function
+  function_sound ws n s here =
+      let P : ReadItem → Type 0 = λ o. IfOk o (IsContent ws s) in
+      after_expect kinds.Identifier s _ P (λ e. tt) (λ name t1 split kind.
+      after_obeying (name_breaks item_kinds.Function ws name.tok s.run) (at s t1) _ P (λ e. tt) (λ none.
+      after_expect kinds.ParenL (at s t1) _ P (λ e. tt) (λ opener t2 split2 kind2.
+      after_bind (names token_leaves (n, at s t2)) _ P (λ e. tt) (λ parameters is.
+      let all = names_at conditions (n, at s t2) parameters is here in
+      after_expect kinds.ColonEquals parameters.1 _ P (λ e. tt) (λ operator t3 split3 kind3.
+      after_bind (expression token_leaves (at parameters.1 t3)) _ P (λ e. tt) (λ body is2.
+      let found = expression_derives conditions false 0 (at parameters.1 t3) body is2 all.stays in
+      let c : Content Tok Tok ℕ Tok = tree.Function (record { name = name.tok; parameters = parameters.0.0; body = body.0 }) in
       record {
         content = c;
         is = refl;
         features = found.features;
-        derives = a_line (subst R (sym split) (subst (λ (ts : Tokens). R (name ∷ ts)) (sym split2) (g.assignment kind kind2 found.derives)));
+        derives = a_line (subst (λ (l : Tokens). OnLine c found.features l body.1.left) (sym (split ∙ ap (λ (l : Tokens). name ∷ l) split2))
+            (g.function kind kind2 (subst (λ (l : Tokens). Names itself parameters.0.0 t2 l) split3 all.derives) kind3 found.derives));
+        met = subst (λ noted. Met conditions.expander found.features (content_literals c) noted body.1.noted) all.noted_is found.met;
+        stays = found.stays;
+        unbroken = subst (λ run. name_breaks item_kinds.Function ws name.tok run ≡ []) here.1 none;
+        formed = refl;
+      }))))))
+
+  -- an import from its path on, where one begins so
+  imported_sound : (optional : Bool) (ws : List ReadAttribute) (n : Counters) (s : State) (ts : Tokens) → Here conditions 0 s
+      → ((q : Quoted Tok) (rest : Tokens) → FilePath itself q s.left rest → OnLine (tree.Import (record { optional = optional; path = q })) [] ts rest)
+      → IfOk (imported token_leaves token_attributes optional ws n s) (IsContent ws (at s ts))
+  unfolding imported
+  imported_sound optional ws n s ts here begins =
+      let P : ReadItem → Type 0 = λ o. IfOk o (IsContent ws (at s ts)) in
+      after_bind (file_path token_leaves s) _ P (λ e. tt) (λ path is.
+      let found = file_path_at conditions s path is here in
+      after_obeying (name_breaks item_kinds.Import ws path.0.0.tok path.1.run) path.1 _ P (λ e. tt) (λ none.
+      record {
+        content = tree.Import (record { optional = optional; path = path.0.1 });
+        is = refl;
+        features = [];
+        derives = a_line (begins path.0.1 path.1.left found.derives);
         met = found.met;
         stays = found.stays;
-        unbroken = subst (λ run. name_breaks ws name.tok run ≡ []) found.stays.1 none;
+        unbroken = subst (λ token. name_breaks item_kinds.Import ws token conditions ≡ []) found.token_is
+            (subst (λ run. name_breaks item_kinds.Import ws path.0.0.tok run ≡ []) found.stays.1 none);
         formed = refl;
-      }))))
+      }))
+
+  import_sound : (ws : List ReadAttribute) (n : Counters) (s : State) → Here conditions 0 s → (word : SignificantToken) (t0 : Tokens) → s.left ≡ word ∷ t0
+      → IsWord (codes "import") word → IfOk (import token_leaves token_attributes ws n (at s t0)) (IsContent ws s)
+  unfolding import accepted
+  import_sound ws n s here word t0 split0 is_word =
+      after_accept kinds.QuestionMark (at s t0)
+      (λ o. IfOk (imported token_leaves token_attributes (taken_or (at s t0) o).0 ws n (taken_or (at s t0) o).1) (IsContent ws s))
+      (λ _. imported_sound false ws n (at s t0) s.left here (λ q rest h. subst (λ (l : Tokens). OnLine (import_of false q) [] l rest) (sym split0) (g.import is_word h)))
+      (λ mark t1 split kind. imported_sound true ws n (at s t1) s.left here (λ q rest h.
+      subst (λ (l : Tokens). OnLine (import_of true q) [] l rest) (sym (split0 ∙ ap (λ (l : Tokens). word ∷ l) split)) (g.optional_import is_word kind h)))
+    where
+      import_of : Bool → Quoted Tok → Content Tok Tok ℕ Tok
+      import_of optional q = tree.Import (record { optional = optional; path = q })
+
+  -- a module from its name on, where one begins so
+  named_module_sound : (optional : Bool) (ws : List ReadAttribute) (n : Counters) (s : State) (ts : Tokens) → Here conditions 0 s
+      → ((name : SignificantToken) (rest : Tokens) → s.left ≡ name ∷ rest → IsKind kinds.Identifier name → NoPath rest
+      → OnLine (tree.Module (bare_module optional name.tok None)) [] ts rest)
+      → ((name : SignificantToken) (us rest : Tokens) (q : Quoted Tok) → s.left ≡ name ∷ us → IsKind kinds.Identifier name → FilePath itself q us rest
+      → OnLine (tree.Module (bare_module optional name.tok (Some q))) [] ts rest)
+      → IfOk (named_module token_leaves token_attributes optional ws n s) (IsContent ws (at s ts))
+  unfolding named_module
+  named_module_sound optional ws n s ts here alone with_file =
+      let P : ReadItem → Type 0 = λ o. IfOk o (IsContent ws (at s ts)) in
+      after_expect kinds.Identifier s _ P (λ e. tt) (λ name t1 split kind.
+      after_bind (optional_path token_leaves (at s t1)) _ P (λ e. tt) (λ path is.
+      finished name t1 split kind path (known path (IsOptionalPath conditions (at s t1)) is (optional_path_sound conditions (at s t1) here))))
+    where
+      finished : (name : SignificantToken) (t1 : Tokens) → s.left ≡ name ∷ t1 → IsKind kinds.Identifier name → (path : Option (Quoted Tok) × State)
+          → IsOptionalPath conditions (at s t1) path
+          → IfOk (allowed token_leaves token_attributes item_kinds.Module ws name path.1 >>= λ checked.
+          constructed token_leaves token_attributes ws (tree.Module (bare_module optional name.tok path.0)) n checked.1) (IsContent ws (at s ts))
+      finished name t1 split kind path (without_path none) =
+          let P : ReadItem → Type 0 = λ o. IfOk o (IsContent ws (at s ts)) in
+          after_obeying (name_breaks item_kinds.Module ws name.tok s.run) (at s t1) _ P (λ e. tt) (λ obeys.
+          record {
+            content = tree.Module (bare_module optional name.tok None);
+            is = refl;
+            features = [];
+            derives = a_line (alone name t1 split kind none);
+            met = nothing_met;
+            stays = here;
+            unbroken = subst (λ run. name_breaks item_kinds.Module ws name.tok run ≡ []) here.1 obeys;
+            formed = refl;
+          })
+      finished name t1 split kind path (with_path {x = x} found) =
+          let P : ReadItem → Type 0 = λ o. IfOk o (IsContent ws (at s ts)) in
+          after_obeying (name_breaks item_kinds.Module ws name.tok x.1.run) x.1 _ P (λ e. tt) (λ obeys.
+          record {
+            content = tree.Module (bare_module optional name.tok (Some x.0.1));
+            is = refl;
+            features = [];
+            derives = a_line (with_file name t1 x.1.left x.0.1 split kind found.derives);
+            met = found.met;
+            stays = found.stays;
+            unbroken = subst (λ run. name_breaks item_kinds.Module ws name.tok run ≡ []) found.stays.1 obeys;
+            formed = refl;
+          })
+
+  -- where a module is alone on its line, no path comes next and no `?`
+  module_ends : (s : State) (t0 : Tokens) → is_module token_leaves (at s t0) ≡ true → NotNext kinds.QuestionMark t0 → (name : SignificantToken) (t1 : Tokens)
+      → t0 ≡ name ∷ t1 → NoPath t1 → EndsLine t1
+  module_ends s t0 h not name t1 split none =
+      go (next_are token_leaves (kinds.QuestionMark ∷ []) (at s t0)) (line_is token_leaves (kinds.Identifier ∷ []) (at s t0))
+      (next_are token_leaves (kinds.Identifier ∷ kinds.StringToken ∷ []) (at s t0))
+      (next_are token_leaves (kinds.Identifier ∷ kinds.Identifier ∷ kinds.StringToken ∷ []) (at s t0)) refl refl refl refl h
+    where
+      marked : (l : Tokens) → AreNext (kinds.QuestionMark ∷ []) l → NotNext kinds.QuestionMark l → ⊥
+      marked [] a n = absurd a
+      marked (t ∷ ts) a n = n a.0
+
+      string_next : (l : Tokens) → AreNext (kinds.Identifier ∷ kinds.StringToken ∷ []) (name ∷ l) → NotNext kinds.StringToken l → ⊥
+      string_next [] a n = absurd a.1
+      string_next (t ∷ ts) a n = n a.1.0
+
+      name_next : (l : Tokens) → AreNext (kinds.Identifier ∷ kinds.Identifier ∷ kinds.StringToken ∷ []) (name ∷ l) → NotNamedString l → ⊥
+      name_next [] a n = absurd a.1
+      name_next (t ∷ []) a n = absurd a.1.1
+      name_next (t ∷ u ∷ ts) a n = n a.1.0 a.1.1.0
+
+      go : (a b c d : Bool) → next_are token_leaves (kinds.QuestionMark ∷ []) (at s t0) ≡ a → line_is token_leaves (kinds.Identifier ∷ []) (at s t0) ≡ b
+          → next_are token_leaves (kinds.Identifier ∷ kinds.StringToken ∷ []) (at s t0) ≡ c
+          → next_are token_leaves (kinds.Identifier ∷ kinds.Identifier ∷ kinds.StringToken ∷ []) (at s t0) ≡ d → (a || b || c || d) ≡ true → EndsLine t1
+      go true b c d x y z w h = absurd (marked t0 (are_next (kinds.QuestionMark ∷ []) (at s t0) x) not)
+      go false true c d x y z w h = line_ends (at s t0) name t1 split y
+      go false false true d x y z w h =
+          absurd (string_next t1 (subst (AreNext (kinds.Identifier ∷ kinds.StringToken ∷ [])) split (are_next (kinds.Identifier ∷ kinds.StringToken ∷ []) (at s t0) z)) none.unmarked)
+      go false false false true x y z w h =
+          absurd (name_next t1 (subst (AreNext (kinds.Identifier ∷ kinds.Identifier ∷ kinds.StringToken ∷ [])) split
+          (are_next (kinds.Identifier ∷ kinds.Identifier ∷ kinds.StringToken ∷ []) (at s t0) w)) none.marked)
+      go false false false false x y z w h = cc
+
+  any_module_sound : (ws : List ReadAttribute) (n : Counters) (s : State) → Here conditions 0 s → (word : SignificantToken) (t0 : Tokens) → s.left ≡ word ∷ t0
+      → IsWord (codes "mod") word → is_module token_leaves (at s t0) ≡ true → IfOk (any_module token_leaves token_attributes ws n (at s t0)) (IsContent ws s)
+  unfolding any_module accepted
+  any_module_sound ws n s here word t0 split0 is_word follows =
+      after_accept kinds.QuestionMark (at s t0)
+      (λ o. IfOk (named_module token_leaves token_attributes (taken_or (at s t0) o).0 ws n (taken_or (at s t0) o).1) (IsContent ws s))
+      (λ not. named_module_sound false ws n (at s t0) s.left here
+      (λ name rest split kind none. subst (λ (l : Tokens). OnLine (module_of false name None) [] l rest) (sym (split0 ∙ ap (λ (l : Tokens). word ∷ l) split))
+      (g.module_alone is_word kind (module_ends s t0 follows not name rest split none)))
+      (λ name us rest q split kind h. subst (λ (l : Tokens). OnLine (module_of false name (Some q)) [] l rest) (sym (split0 ∙ ap (λ (l : Tokens). word ∷ l) split))
+      (g.module_at is_word kind h)))
+      (λ mark t1 split1 kind1. named_module_sound true ws n (at s t1) s.left here
+      (λ name rest split kind none. subst (λ (l : Tokens). OnLine (module_of true name None) [] l rest)
+      (sym (split0 ∙ ap (λ (l : Tokens). word ∷ l) (split1 ∙ ap (λ (l : Tokens). mark ∷ l) split))) (g.optional_module_alone is_word kind1 kind none))
+      (λ name us rest q split kind h. subst (λ (l : Tokens). OnLine (module_of true name (Some q)) [] l rest)
+      (sym (split0 ∙ ap (λ (l : Tokens). word ∷ l) (split1 ∙ ap (λ (l : Tokens). mark ∷ l) split))) (g.optional_module_at is_word kind1 kind h)))
+    where
+      module_of : Bool → SignificantToken → Option (Quoted Tok) → Content Tok Tok ℕ Tok
+      module_of optional name path = tree.Module (bare_module optional name.tok path)
+
+  -- where no `:=` comes next, a setting is alone on its line
+  setting_ends : (s : State) (t0 : Tokens) → is_set token_leaves (at s t0) ≡ true → (name : SignificantToken) (t1 : Tokens) → t0 ≡ name ∷ t1
+      → NotNext kinds.ColonEquals t1 → EndsLine t1
+  setting_ends s t0 h name t1 split not = go (is_assigned token_leaves (at s t0)) (line_is token_leaves (kinds.Identifier ∷ []) (at s t0)) refl refl h
+    where
+      assigned_next : (l : Tokens) → AreNext (kinds.Identifier ∷ kinds.ColonEquals ∷ []) (name ∷ l) → NotNext kinds.ColonEquals l → ⊥
+      assigned_next [] a n = absurd a.1
+      assigned_next (t ∷ ts) a n = n a.1.0
+
+      go : (a b : Bool) → is_assigned token_leaves (at s t0) ≡ a → line_is token_leaves (kinds.Identifier ∷ []) (at s t0) ≡ b → (a || b) ≡ true → EndsLine t1
+      go true b x y h =
+          absurd (assigned_next t1 (subst (AreNext (kinds.Identifier ∷ kinds.ColonEquals ∷ [])) split (are_next (kinds.Identifier ∷ kinds.ColonEquals ∷ []) (at s t0) x)) not)
+      go false true x y h = line_ends (at s t0) name t1 split y
+      go false false x y h = cc
+
+  setting_sound : (ws : List ReadAttribute) (n : Counters) (s : State) → Here conditions 0 s → (word : SignificantToken) (t0 : Tokens) → s.left ≡ word ∷ t0
+      → IsWord (codes "set") word → is_set token_leaves (at s t0) ≡ true → IfOk (setting token_leaves token_attributes ws n (at s t0)) (IsContent ws s)
+  unfolding setting
+  setting_sound ws n s here word t0 split0 is_word follows =
+      let P : ReadItem → Type 0 = λ o. IfOk o (IsContent ws s) in
+      after_expect kinds.Identifier (at s t0) _ P (λ e. tt) (λ name t1 split kind.
+      after_keyword name (at s t1) _ P (λ e. tt) (λ keyword spelled.
+      after_obeying (name_breaks item_kinds.Setting ws name.tok s.run) (at s t1) _ P (λ e. tt) (λ obeys.
+      by_form name t1 split kind keyword spelled obeys (setting_form keyword) refl)))
+    where
+      setting_of : SignificantToken → Keyword → SettingValue Tok Tok → Content Tok Tok ℕ Tok
+      setting_of name keyword value = tree.Setting (record { keyword = keyword; name = name.tok; value = value })
+
+      by_form : (name : SignificantToken) (t1 : Tokens) → t0 ≡ name ∷ t1 → IsKind kinds.Identifier name → (keyword : Keyword) → name.tok.lexeme ≡ keyword_text keyword
+          → name_breaks item_kinds.Setting ws name.tok s.run ≡ [] → (form : Option SettingForm) → setting_form keyword ≡ form
+          → IfOk (setting_value token_leaves token_sight name keyword form (at s t1) >>= λ value.
+          constructed token_leaves token_attributes ws (tree.Setting (record { keyword = keyword; name = name.tok; value = value.0 })) n value.1) (IsContent ws s)
+      by_form name t1 split kind keyword spelled obeys None is =
+          let P : ReadItem → Type 0 = λ o. IfOk o (IsContent ws s) in
+          after_bind (setting_value token_leaves token_sight name keyword None (at s t1)) _ P (λ e. tt)
+          (λ value is2. absurd (known value (λ x. ⊥) is2 (no_value conditions name keyword (at s t1) (λ x. ⊥))))
+      by_form name t1 split kind keyword spelled obeys (Some form) is =
+          let P : ReadItem → Type 0 = λ o. IfOk o (IsContent ws s) in
+          after_bind (setting_value token_leaves token_sight name keyword (Some form) (at s t1)) _ P (λ e. tt) (λ value is2.
+          let found = known value (IsSet conditions name keyword form (at s t1)) is2
+          (value_sound conditions name keyword form (at s t1) here (setting_ends s t0 follows name t1 split)) in
+          let c : Content Tok Tok ℕ Tok = tree.Setting (record { keyword = keyword; name = name.tok; value = value.0 }) in
+          record {
+            content = c;
+            is = refl;
+            features = found.derived.features;
+            derives = a_line (subst (λ (l : Tokens). OnLine c found.derived.features l value.1.left) (sym (split0 ∙ ap (λ (l : Tokens). word ∷ l) split))
+                (g.setting is_word (record { is_name = kind; spelled = spelled }) is found.derived.derives));
+            met = found.derived.met;
+            stays = found.derived.stays;
+            unbroken = subst (λ run. name_breaks item_kinds.Setting ws name.tok run ≡ []) here.1 obeys;
+            formed = subst (λ o. value_broken conditions.current (token_sight conditions) o keyword name.tok value.0 ≡ []) (sym is) found.unbroken;
+          })
+
+  unexport_sound : (ws : List ReadAttribute) (n : Counters) (s : State) → Here conditions 0 s → (word : SignificantToken) (t0 : Tokens) → s.left ≡ word ∷ t0
+      → IsWord (codes "unexport") word → line_is token_leaves (kinds.Identifier ∷ []) (at s t0) ≡ true
+      → IfOk (unexport token_leaves token_attributes ws n (at s t0)) (IsContent ws s)
+  unfolding unexport
+  unexport_sound ws n s here word t0 split0 is_word follows =
+      let P : ReadItem → Type 0 = λ o. IfOk o (IsContent ws s) in
+      after_expect kinds.Identifier (at s t0) _ P (λ e. tt) (λ name t1 split kind.
+      let c : Content Tok Tok ℕ Tok = tree.Unexport name.tok in
+      after_obeying (name_breaks item_kinds.Unexport ws name.tok s.run) (at s t1) _ P (λ e. tt) (λ obeys.
+      record {
+        content = c;
+        is = refl;
+        features = [];
+        derives = a_line (subst (λ (l : Tokens). OnLine c [] l t1) (sym (split0 ∙ ap (λ (l : Tokens). word ∷ l) split))
+            (g.unexport is_word kind (line_ends (at s t0) name t1 split follows)));
+        met = nothing_met;
+        stays = here;
+        unbroken = subst (λ run. name_breaks item_kinds.Unexport ws name.tok run ≡ []) here.1 obeys;
+        formed = refl;
+      }))
 
   -- ---- bodies
 
@@ -459,13 +749,39 @@ module _ (conditions : Conditions) where
       (λ sign t1 split kind. recipe_sound true ws n (at s t1) s.left here
       (λ h fs rest named. subst (λ (ts : Tokens). HeaderOf conditions h fs ts rest) (sym split) (headers.quiet kind named)))
 
+  wordless_sound : (ws : List ReadAttribute) (n : Counters) (s : State) → Here conditions 0 s
+      → IfOk (wordless token_leaves token_attributes ws n s) (IsContent ws s)
+  unfolding wordless
+  wordless_sound ws n s here =
+      let P : ReadItem → Type 0 = λ o. IfOk o (IsContent ws s) in
+      after_test (next_are token_leaves (kinds.Identifier ∷ kinds.ParenL ∷ []) s) _ _ P (λ _. function_sound ws n s here)
+      (λ _. after_test (is_assigned token_leaves s) _ _ P
+      (λ _. assignment_sound false false ws n s s.left here (λ name operator us rest e fs split kind kind2 d.
+      subst (λ (l : Tokens). OnLine (tree.Assignment (assignment_of false false name.tok e)) fs l rest) (sym split) (g.assignment kind kind2 d)))
+      (λ _. any_recipe_sound ws n s here))
+
   pub content_sound : (ws : List ReadAttribute) (n : Counters) (s : State) → Here conditions 0 s
       → IfOk (content token_leaves token_attributes ws n s) (IsContent ws s)
   unfolding content
   content_sound ws n s here =
-      let P : Read (WrittenItem Tok Tok ℕ Tok × Counters) → Type 0 = λ o. IfOk o (IsContent ws s) in
-      after_test (next_are token_leaves (kinds.Identifier ∷ kinds.ColonEquals ∷ []) s) _ _ P (λ _. assignment_sound ws n s here)
-      (λ _. any_recipe_sound ws n s here)
+      let P : ReadItem → Type 0 = λ o. IfOk o (IsContent ws s) in
+      after_choose_before (codes "alias") (is_assigned token_leaves) s _ _ P
+      (after_choose_before (codes "eager") (is_assigned token_leaves) s _ _ P
+      (after_choose_before (codes "export") (is_assigned token_leaves) s _ _ P
+      (after_choose_before (codes "unexport") (line_is token_leaves (kinds.Identifier ∷ [])) s _ _ P
+      (after_choose_before (codes "import") (is_imported token_leaves) s _ _ P
+      (after_choose_before (codes "mod") (is_module token_leaves) s _ _ P
+      (after_choose_before (codes "set") (is_set token_leaves) s _ _ P
+      (wordless_sound ws n s here)
+      (λ word ts split is follows. setting_sound ws n s here word ts split is follows))
+      (λ word ts split is follows. any_module_sound ws n s here word ts split is follows))
+      (λ word ts split is follows. import_sound ws n s here word ts split is))
+      (λ word ts split is follows. unexport_sound ws n s here word ts split is follows))
+      (λ word ts split is follows. assignment_sound false true ws n (at s ts) s.left here (λ name operator us rest e fs split2 kind kind2 d.
+      subst (λ (l : Tokens). OnLine (tree.Assignment (assignment_of false true name.tok e)) fs l rest) (sym (split ∙ ap (λ (l : Tokens). word ∷ l) split2)) (g.export is kind kind2 d))))
+      (λ word ts split is follows. assignment_sound true false ws n (at s ts) s.left here (λ name operator us rest e fs split2 kind kind2 d.
+      subst (λ (l : Tokens). OnLine (tree.Assignment (assignment_of true false name.tok e)) fs l rest) (sym (split ∙ ap (λ (l : Tokens). word ∷ l) split2)) (g.eager is kind kind2 d))))
+      (λ word ts split is follows. alias_sound ws n s here word ts split is)
 
   -- the attributes before a construct
   pub before_sound : (s : State) → Here conditions 0 s → IfOk (attributes token_leaves token_attributes s) (IsRead conditions s)
@@ -500,7 +816,7 @@ module _ (conditions : Conditions) where
           met = all_met (both_met a.met k.met);
           stays = k.stays;
         };
-        obeys = construct_obeyed (token_sight conditions) (written_in ws.0) k.content (entries_in ws.0) h.means h.unbroken k.unbroken k.formed;
+        obeys = construct_obeyed conditions.current (token_sight conditions) (written_in ws.0) k.content (entries_in ws.0) h.means h.unbroken k.unbroken k.formed;
       })
 
   pub construct_sound : (n : Counters) (s : State) → Here conditions 0 s → IfOk (construct token_leaves token_attributes n s) (IsOnLine s)
@@ -526,7 +842,7 @@ module _ (conditions : Conditions) where
           met = nothing_met;
           stays = here;
         };
-        obeys = comment_obeyed (token_sight conditions) (trim_end c.tok.lexeme);
+        obeys = comment_obeyed conditions.current (token_sight conditions) (trim_end c.tok.lexeme);
       })
 
   pub on_line_at : (n : Counters) (s : State) (x : (WrittenItem Tok Tok ℕ Tok × Counters) × State) → on_line token_leaves token_attributes n s ≡ Ok x

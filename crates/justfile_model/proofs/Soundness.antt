@@ -26,7 +26,7 @@ module _ (conditions : Conditions) (tokens : Tokens) where
       let obeyed = obeyed_at conditions tokens (written, features) is in (
         found.by_construct,
         found.derives,
-        record { cooked = texts.0; cooks = texts.1; unbroken = all_unbroken (token_sight conditions) written obeyed },
+        record { cooked = texts.0; cooks = texts.1; unbroken = all_unbroken conditions.current (token_sight conditions) written obeyed },
         found.features_are,
       )
 
@@ -35,8 +35,8 @@ module _ (conditions : Conditions) (tokens : Tokens) where
   sound written features is =
       let found = read_derives written features is in
       let obeyed = obeyed_at conditions tokens (written, features) is in
-      let meaning = all_ordered (token_sight conditions) written obeyed in (
-        documented says_doc Nothing (meanings (token_sight conditions) written obeyed),
+      let meaning = all_ordered conditions.current (token_sight conditions) written obeyed in (
+        documented says_doc Nothing (meanings conditions.current (token_sight conditions) written obeyed),
         meaning,
         record { written = written; by_construct = found.0; derives = found.1; features_are = found.3; obeys = found.2; ordered_is = meaning },
       )

@@ -37,7 +37,7 @@ pub weaken : {A : Type 0} (found : Result A Refusal) (Q R : A → Type 0) → ((
 weaken (Ok x) Q R f h = f x h
 weaken (Err e) Q R f h = tt
 
-is_false : (b : Bool) → (b ≡ true → ⊥) → b ≡ false
+pub is_false : (b : Bool) → (b ≡ true → ⊥) → b ≡ false
 is_false true h = absurd (h refl)
 is_false false h = refl
 
@@ -114,13 +114,13 @@ next_left kinds s h = is_false (next_are token_leaves kinds s) (λ e. h (are_nex
 
 -- ---- a keyword
 
-word_is : (word : List ℕ) (t : SignificantToken) → is_word word t ≡ true → IsWord word t
+pub word_is : (word : List ℕ) (t : SignificantToken) → is_word word t ≡ true → IsWord word t
 unfolding is_word
 word_is word t h =
     let parts = and_parts (same_kind t.tok.kind kinds.Identifier) (bytes_eq t.tok.lexeme word) h in
     record { is_name = kind_is kinds.Identifier t parts.0; spelled = (bytes_eq-Decides t.tok.lexeme word).0 parts.1 }
 
-word_test : (word : List ℕ) (t : SignificantToken) → IsWord word t → is_word word t ≡ true
+pub word_test : (word : List ℕ) (t : SignificantToken) → IsWord word t → is_word word t ≡ true
 unfolding is_word
 word_test word t h = both_true (same_kind t.tok.kind kinds.Identifier) (bytes_eq t.tok.lexeme word) (kind_test kinds.Identifier t h.is_name) ((bytes_eq-Decides t.tok.lexeme word).1 h.spelled)
 

@@ -27,7 +27,7 @@ mutual
   expr_itself (tree.ListOf opener elements) = λ i. tree.ListOf opener (exprs_itself elements i)
   expr_itself _ = refl
 
-  exprs_itself : {A B : Type 0} (es : Exprs A B) → over_exprs same_leaf same_leaf es ≡ es
+  pub exprs_itself : {A B : Type 0} (es : Exprs A B) → over_exprs same_leaf same_leaf es ≡ es
   exprs_itself tree.none = refl
   exprs_itself (tree.more e es) = λ i. tree.more (expr_itself e i) (exprs_itself es i)
 

@@ -73,9 +73,22 @@ abbrev pub is_private_kind : AttributeKind → Bool
 is_private_kind Private = true
 is_private_kind _ = false
 
+-- what modules may have beside enablers
+abbrev pub is_module_kind : AttributeKind → Bool
+is_module_kind Doc = true
+is_module_kind Group = true
+is_module_kind Private = true
+is_module_kind _ = false
+
 -- an item of this kind may have an attribute of that one
 abbrev pub is_allowed : ItemKind → AttributeKind → Bool
+is_allowed items.Alias kind = is_enabler_kind kind || is_private_kind kind
 is_allowed items.Assignment kind = is_enabler_kind kind || is_private_kind kind
-is_allowed items.Recipe kind = true
 is_allowed items.Comment kind = false
+is_allowed items.Function kind = is_enabler_kind kind
+is_allowed items.Import kind = is_enabler_kind kind
+is_allowed items.Module kind = is_enabler_kind kind || is_module_kind kind
 is_allowed items.Newline kind = false
+is_allowed items.Recipe kind = true
+is_allowed items.Setting kind = is_enabler_kind kind
+is_allowed items.Unexport kind = is_enabler_kind kind

@@ -1,9 +1,9 @@
--- Which comments are docs: the one before a recipe, where nothing or a line end stands before it, and one line end after it.
+-- Which comments are docs: the one before a recipe or a module, where nothing or a line end stands before it, and one line end after it.
 use Rattle.std.specs.Prelude.{ℕ, Bool, true, false, ◌&&◌, not, List, [], ◌∷◌, drop, Option, Some, None, codes, nat_eq, if◌then◌else◌}
 use Rattle.std.specs.List.{starts_with}
 use Rattle.std.specs.Option.{is_some}
 use Rattle.std.specs.Str.{trim}
-use Rattle.justfile_model.specs.Tree.{Content, Assignment, Recipe, Item, Comment, Construct, Newline}
+use Rattle.justfile_model.specs.Tree.{Content, Alias, Assignment, Function, Import, Module, Recipe, Setting, Unexport, Item, Comment, Construct, Newline}
 
 -- what stands before an item
 pub data Before : Type 0 where
@@ -24,18 +24,36 @@ doc_in Other comment = None
 
 -- the doc of a construct, if it has one
 abbrev pub doc_of : {A B C S : Type 0} → Content A B C S → Option (List ℕ)
+doc_of (Alias parts) = None
 doc_of (Assignment parts) = None
+doc_of (Function parts) = None
+doc_of (Import parts) = None
+doc_of (Module parts) = parts.doc
 doc_of (Recipe parts) = parts.doc
+doc_of (Setting parts) = None
+doc_of (Unexport name) = None
 
 -- the construct with another doc, or with none
 abbrev pub redocumented : {A B C S : Type 0} → Option (List ℕ) → Content A B C S → Content A B C S
+redocumented doc (Alias parts) = Alias parts
 redocumented doc (Assignment parts) = Assignment parts
+redocumented doc (Function parts) = Function parts
+redocumented doc (Import parts) = Import parts
+redocumented doc (Module parts) = Module (record { doc = doc; optional = parts.optional; name = parts.name; path = parts.path })
 redocumented doc (Recipe parts) = Recipe (record { doc = doc; header = parts.header; body = parts.body })
+redocumented doc (Setting parts) = Setting parts
+redocumented doc (Unexport name) = Unexport name
 
 -- a construct may have a doc
 abbrev pub takes_doc : {A B C S : Type 0} → Content A B C S → Bool
+takes_doc (Alias parts) = false
 takes_doc (Assignment parts) = false
+takes_doc (Function parts) = false
+takes_doc (Import parts) = false
+takes_doc (Module parts) = true
 takes_doc (Recipe parts) = true
+takes_doc (Setting parts) = false
+takes_doc (Unexport name) = false
 
 module _ {A B C S D : Type 0} (has_doc : D → Bool) where
   abbrev pub after : Item A B C S D → Before

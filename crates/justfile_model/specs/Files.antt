@@ -4,11 +4,11 @@ use Rattle.std.specs.List.{flat_map}
 use Rattle.std.specs.Option.{option_map}
 use Rattle.justfile_base.specs.declared.attribute_kind.AttributeKind.TheVariants.{Doc}
 use Rattle.justfile_model.specs.SignificantTokens.{SignificantToken}
-use Rattle.justfile_model.specs.Tree.{Expr, Or, And, Comparison, Concatenation, ListConcatenation, Join, Root, If, IfElse, Not, StringLiteral, FormatLiteral, FormatString, Backtick, Assert, AssertMessage, Variable, Call, Group, ListOf, Exprs, none, more, Parts, Last, Continue, Fragment, Text, Interpolation, BodyLine, Line, Quoted, Argument, Positional, Bare, Keyed, WrittenAttribute, OptionName, NoOption, OwnName, Named, ArgumentRules, Attribute, Plain, Single, Texts, Env, Signals, Cache, Arg, Entry, Parameter, Dependency, Header, Content, Assignment, Recipe, Item, Newline, Comment, Construct, WrittenItem, OrderedItem, WrittenTree, WrittenShape, Tree, Shape, starless, lexeme, nothing, itself, line_of}
+use Rattle.justfile_model.specs.Tree.{Expr, Or, And, Comparison, Concatenation, ListConcatenation, Join, Root, If, IfElse, Not, StringLiteral, FormatLiteral, FormatString, Backtick, Assert, AssertMessage, Variable, Call, Group, ListOf, Exprs, none, more, Parts, Last, Continue, Fragment, Text, Interpolation, BodyLine, Line, Quoted, Argument, Positional, Bare, Keyed, WrittenAttribute, OptionName, NoOption, OwnName, Named, ArgumentRules, Attribute, Plain, Single, Texts, Env, Signals, Cache, Arg, Entry, Parameter, Dependency, Header, SettingValue, Truth, Value, Interpreter, Content, Alias, Assignment, Function, Import, Module, Recipe, Setting, Unexport, Item, Newline, Comment, Construct, WrittenItem, OrderedItem, WrittenTree, WrittenShape, Tree, Shape, starless, lexeme, nothing, itself, line_of}
 use Rattle.justfile_model.specs.Tok.{Tok}
 use Rattle.justfile_model.specs.Features.{ConstructFeatures, Noted, rules_features}
 use Rattle.justfile_model.specs.Docs.{Nothing, documented}
-use Rattle.justfile_model.specs.Conditions.{Conditions}
+use Rattle.justfile_model.specs.Conditions.{Conditions, VersionNumbers}
 use Rattle.justfile_model.specs.Expressions.{Free, Under}
 use Rattle.justfile_model.specs.Grammar.{File, Kept}
 use Rattle.justfile_model.specs.Literals as literal
@@ -114,9 +114,20 @@ dependency_literals d = flat_map (λ a. expr_literals a.value) d.arguments
 abbrev pub header_literals : {A B S : Type 0} → Header A B S → List (Literal A)
 header_literals h = flat_map parameter_literals h.parameters ++ flat_map dependency_literals h.priors ++ flat_map dependency_literals h.subsequents
 
+abbrev pub setting_literals : {A B : Type 0} → SettingValue A B → List (Literal A)
+setting_literals (Truth value) = []
+setting_literals (Value value) = expr_literals value
+setting_literals (Interpreter command arguments) = expr_literals command ++ exprs_literals arguments
+
 abbrev pub content_literals : {A B C S : Type 0} → Content A B C S → List (Literal A)
+content_literals (Alias parts) = []
 content_literals (Assignment parts) = expr_literals parts.value
+content_literals (Function parts) = expr_literals parts.body
+content_literals (Import parts) = quoted_literals parts.path
+content_literals (Module parts) = optional_literals quoted_literals parts.path
 content_literals (Recipe parts) = header_literals parts.header ++ body_literals parts.body
+content_literals (Setting parts) = setting_literals parts.value
+content_literals (Unexport name) = []
 
 -- the literals of items, where `literals_of` gives those of attributes
 module _ {A B C S D : Type 0} (literals_of : D → List (Literal A)) where
@@ -139,8 +150,14 @@ literals = items_literals entries_literals
 
 -- how many numbers of bindings a construct takes
 abbrev pub content_bindings : {A B C S : Type 0} → Content A B C S → ℕ
+content_bindings (Alias parts) = 0
 content_bindings (Assignment parts) = 1
+content_bindings (Function parts) = length parts.parameters
+content_bindings (Import parts) = 0
+content_bindings (Module parts) = 0
 content_bindings (Recipe parts) = length parts.header.parameters
+content_bindings (Setting parts) = 0
+content_bindings (Unexport name) = 0
 
 abbrev pub item_bindings : {A B C S D : Type 0} → Item A B C S D → ℕ
 item_bindings Newline = 0
@@ -153,8 +170,14 @@ bindings (i ∷ items) = item_bindings i + bindings items
 
 -- how many numbers of recipes a construct takes
 abbrev pub content_recipes : {A B C S : Type 0} → Content A B C S → ℕ
+content_recipes (Alias parts) = 0
 content_recipes (Assignment parts) = 0
+content_recipes (Function parts) = 0
+content_recipes (Import parts) = 0
+content_recipes (Module parts) = 0
 content_recipes (Recipe parts) = 1
+content_recipes (Setting parts) = 0
+content_recipes (Unexport name) = 0
 
 abbrev pub item_recipes : {A B C S D : Type 0} → Item A B C S D → ℕ
 item_recipes Newline = 0
@@ -192,8 +215,14 @@ says_doc entries = has_attribute Doc entries
 
 -- what a construct's attributes note at the name of a recipe
 abbrev pub entries_features : {A B C S : Type 0} → Content A B C S → List (Entry A B) → List (Noted B)
+entries_features (Alias parts) entries = []
 entries_features (Assignment parts) entries = []
+entries_features (Function parts) entries = []
+entries_features (Import parts) entries = []
+entries_features (Module parts) entries = []
 entries_features (Recipe parts) entries = flat_map rules_features (arg_rules entries)
+entries_features (Setting parts) entries = []
+entries_features (Unexport name) entries = []
 
 module _ {A B C S : Type 0} (sight : Sight A B) where
   -- the features of a construct, in the order in which they are noted
@@ -222,11 +251,12 @@ module _ {A B C S : Type 0} (sight : Sight A B) where
   abbrev pub ordered : List (WrittenItem A B C S) → Option (List (OrderedItem A B C))
   ordered items = option_map (documented says_doc Nothing) (undocumented items)
 
-module _ {A B C : Type 0} (sight : Sight A B) where
+-- where this is the running version
+module _ {A B C : Type 0} (current : VersionNumbers) (sight : Sight A B) where
   abbrev pub item_broken : WrittenItem A B C B → List (Broken B)
   item_broken Newline = []
   item_broken (Comment text) = []
-  item_broken (Construct ws content) = construct_broken sight ws content
+  item_broken (Construct ws content) = construct_broken current sight ws content
 
   -- all rules that written items break, each at what is kept of its token
   abbrev pub broken : List (WrittenItem A B C B) → List (Broken B)
@@ -248,7 +278,7 @@ FileTree tokens written features = File keeps_tokens Free written features token
 pub record Obeys (conditions : Conditions) (written : WrittenTree) : Type 0 where
   pub cooked : List (List ℕ)
   pub cooks : AreCookedTexts conditions.expander (map (over_literal lexeme) (all_literals written)) cooked
-  pub unbroken : broken (sees_tokens conditions.expander) written ≡ []
+  pub unbroken : broken conditions.current (sees_tokens conditions.expander) written ≡ []
 
 -- the tree of a file's tokens, and its features
 pub record FileDerives (conditions : Conditions) (tokens : List SignificantToken) (tree : Tree) (features : List (Noted Tok)) : Type 0 where
@@ -267,5 +297,5 @@ pub record ShapeDerives (conditions : Conditions) (tokens : List SignificantToke
   pub features_are : features ≡ all_features (sees_lexemes conditions.expander) written by_construct
   pub cooked : List (List ℕ)
   pub cooks : AreCookedTexts conditions.expander (all_literals written) cooked
-  pub unbroken : broken (sees_lexemes conditions.expander) written ≡ []
+  pub unbroken : broken conditions.current (sees_lexemes conditions.expander) written ≡ []
   pub ordered_is : ordered (sees_lexemes conditions.expander) written ≡ Some shape

@@ -2,17 +2,21 @@
 -- the item, and rest is what follows it; `kept` says what the tree keeps of a token, and `Open` at which depth, before which token, an
 -- expression may be entered. The features are those of the expressions, of files by construct. The trees are written ones: no rule is
 -- looked at but those of form.
-use Rattle.std.specs.Prelude.{ℕ, false, List, [], ◌∷◌, ◌++◌, Option, Some, None}
+use Rattle.std.specs.Prelude.{◌≡◌, ℕ, false, true, List, [], ◌∷◌, ◌++◌, Option, Some, None, codes}
 use Rattle.std.specs.Str.{trim_end}
+use Rattle.justfile_base.specs.Keyword.{keyword_text}
+use Rattle.justfile_base.specs.declared.keyword.Keyword.{Keyword}
 use Rattle.justfile_base.specs.declared.token_kind.TokenKind.TheVariants as kinds
 use Rattle.justfile_model.specs.AttributeLines.{AttributeLines}
 use Rattle.justfile_model.specs.Tok.{Tok}
 use Rattle.justfile_model.specs.SignificantTokens.{SignificantToken}
 use Rattle.justfile_model.specs.Tree as tree
-use Rattle.justfile_model.specs.Tree.{Expr, Fragment, BodyLine, Line, WrittenAttribute, WrittenItem, Content, Construct, Header, bare_recipe, plain_assignment, trimmed}
+use Rattle.justfile_model.specs.Tree.{Expr, Fragment, BodyLine, Line, Quoted, WrittenAttribute, WrittenItem, SettingValue, Content, Construct, Header, assignment_of, bare_module, bare_recipe, trimmed}
 use Rattle.justfile_model.specs.Features.{ConstructFeatures, Noted}
-use Rattle.justfile_model.specs.Headers.{HeaderOf}
-use Rattle.justfile_model.specs.Expressions.{IsKind, Expression}
+use Rattle.justfile_model.specs.Headers.{HeaderOf, PathOf}
+use Rattle.justfile_model.specs.Expressions.{IsKind, IsWord, Expression}
+use Rattle.justfile_model.specs.ItemParts.{EndsLine, FilePath, Names, NoPath, ValueOf}
+use Rattle.justfile_model.specs.Settings.{SettingForm, setting_form}
 
 -- what a tree keeps of tokens
 pub record Kept (A B C S : Type 0) : Type 0 where
@@ -66,11 +70,48 @@ module _ {A B C S : Type 0} (kept : Kept A B C S) (Open : ℕ → Option Signifi
         → BodyLines lines gs between rest
         → BodyLines (Line (kept.number first.tok) (f ∷ fragments) ∷ lines) (fs ++ gs) (first ∷ tokens) rest
 
-  -- a construct on one line: NAME `:=` expression, or the header of a recipe without a body
+  -- A construct on one line. The words that it begins with are names, too: which construct it is shows in what follows, as no header of a
+  -- recipe goes on like the constructs that begin with a word.
   pub data OnLine : Content A B C S → List (Noted B) → List SignificantToken → List SignificantToken → Type 0 where
+    alias : {names : List A} {word name operator : SignificantToken} {tokens rest : List SignificantToken} → IsWord (codes "alias") word
+        → IsKind kinds.Identifier name → IsKind kinds.ColonEquals operator → PathOf kept.leaf names tokens rest
+        → OnLine (tree.Alias (record { name = kept.leaf name.tok; target = names })) [] (word ∷ name ∷ operator ∷ tokens) rest
     assignment : {e : Expr A B} {fs : List (Noted B)} {name operator : SignificantToken} {tokens rest : List SignificantToken} → IsKind kinds.Identifier name
         → IsKind kinds.ColonEquals operator → Expression kept.leaf kept.spot Open false 0 e fs tokens rest
-        → OnLine (tree.Assignment (plain_assignment (kept.leaf name.tok) e)) fs (name ∷ operator ∷ tokens) rest
+        → OnLine (tree.Assignment (assignment_of false false (kept.leaf name.tok) e)) fs (name ∷ operator ∷ tokens) rest
+    eager : {e : Expr A B} {fs : List (Noted B)} {word name operator : SignificantToken} {tokens rest : List SignificantToken} → IsWord (codes "eager") word
+        → IsKind kinds.Identifier name → IsKind kinds.ColonEquals operator → Expression kept.leaf kept.spot Open false 0 e fs tokens rest
+        → OnLine (tree.Assignment (assignment_of true false (kept.leaf name.tok) e)) fs (word ∷ name ∷ operator ∷ tokens) rest
+    export : {e : Expr A B} {fs : List (Noted B)} {word name operator : SignificantToken} {tokens rest : List SignificantToken} → IsWord (codes "export") word
+        → IsKind kinds.Identifier name → IsKind kinds.ColonEquals operator → Expression kept.leaf kept.spot Open false 0 e fs tokens rest
+        → OnLine (tree.Assignment (assignment_of false true (kept.leaf name.tok) e)) fs (word ∷ name ∷ operator ∷ tokens) rest
+    function : {names : List A} {e : Expr A B} {fs : List (Noted B)} {name opener operator : SignificantToken} {tokens next rest : List SignificantToken}
+        → IsKind kinds.Identifier name → IsKind kinds.ParenL opener → Names kept.leaf names tokens (operator ∷ next) → IsKind kinds.ColonEquals operator
+        → Expression kept.leaf kept.spot Open false 0 e fs next rest
+        → OnLine (tree.Function (record { name = kept.leaf name.tok; parameters = names; body = e })) fs (name ∷ opener ∷ tokens) rest
+    import : {path : Quoted A} {word : SignificantToken} {tokens rest : List SignificantToken} → IsWord (codes "import") word
+        → FilePath kept.leaf path tokens rest
+        → OnLine (tree.Import (record { optional = false; path = path })) [] (word ∷ tokens) rest
+    optional_import : {path : Quoted A} {word mark : SignificantToken} {tokens rest : List SignificantToken} → IsWord (codes "import") word
+        → IsKind kinds.QuestionMark mark → FilePath kept.leaf path tokens rest
+        → OnLine (tree.Import (record { optional = true; path = path })) [] (word ∷ mark ∷ tokens) rest
+    module_alone : {word name : SignificantToken} {rest : List SignificantToken} → IsWord (codes "mod") word → IsKind kinds.Identifier name → EndsLine rest
+        → OnLine (tree.Module (bare_module false (kept.leaf name.tok) None)) [] (word ∷ name ∷ rest) rest
+    module_at : {path : Quoted A} {word name : SignificantToken} {tokens rest : List SignificantToken} → IsWord (codes "mod") word
+        → IsKind kinds.Identifier name → FilePath kept.leaf path tokens rest
+        → OnLine (tree.Module (bare_module false (kept.leaf name.tok) (Some path))) [] (word ∷ name ∷ tokens) rest
+    optional_module_alone : {word mark name : SignificantToken} {rest : List SignificantToken} → IsWord (codes "mod") word → IsKind kinds.QuestionMark mark
+        → IsKind kinds.Identifier name → NoPath rest
+        → OnLine (tree.Module (bare_module true (kept.leaf name.tok) None)) [] (word ∷ mark ∷ name ∷ rest) rest
+    optional_module_at : {path : Quoted A} {word mark name : SignificantToken} {tokens rest : List SignificantToken} → IsWord (codes "mod") word
+        → IsKind kinds.QuestionMark mark → IsKind kinds.Identifier name → FilePath kept.leaf path tokens rest
+        → OnLine (tree.Module (bare_module true (kept.leaf name.tok) (Some path))) [] (word ∷ mark ∷ name ∷ tokens) rest
+    setting : {keyword : Keyword} {form : SettingForm} {value : SettingValue A B} {fs : List (Noted B)} {word name : SignificantToken}
+        {tokens rest : List SignificantToken} → IsWord (codes "set") word → IsWord (keyword_text keyword) name → setting_form keyword ≡ Some form
+        → ValueOf kept.leaf kept.spot Open form value fs tokens rest
+        → OnLine (tree.Setting (record { keyword = keyword; name = kept.leaf name.tok; value = value })) fs (word ∷ name ∷ tokens) rest
+    unexport : {word name : SignificantToken} {rest : List SignificantToken} → IsWord (codes "unexport") word → IsKind kinds.Identifier name → EndsLine rest
+        → OnLine (tree.Unexport (kept.leaf name.tok)) [] (word ∷ name ∷ rest) rest
     header : {h : Header A B S} {fs : List (Noted B)} {tokens rest : List SignificantToken} → HeaderOf kept.leaf kept.spot kept.star Open h fs tokens rest
         → OnLine (tree.Recipe (bare_recipe h [])) fs tokens rest
 

@@ -16,6 +16,7 @@ pub mod ContentLeafLaws
 pub mod Cook
 pub mod Distinct
 pub mod Docs
+pub mod Enabled
 pub mod EscapeFault
 pub mod ExpressionReader
 pub mod Expressions
@@ -25,6 +26,7 @@ pub mod FirstPiece
 pub mod Grammar
 pub mod HeaderReader
 pub mod Headers
+pub mod ItemParts
 pub mod Key
 pub mod KeyLaws
 pub mod Lexed
@@ -41,6 +43,7 @@ pub mod NormalShape
 pub mod Operators
 pub mod Order
 pub mod ParameterKind
+pub mod PartReader
 pub mod Pieces
 pub mod Places
 pub mod Printing
@@ -52,6 +55,8 @@ pub mod Recursive
 pub mod Refusals
 pub mod Rewritten
 pub mod Rules
+pub mod SettingRules
+pub mod Settings
 pub mod Sight
 pub mod SignificantTokens
 pub mod Tok
@@ -59,3 +64,5 @@ pub mod Tree
 pub mod TreeReader
 pub mod Unclosed
 pub mod Unindent
+pub mod UnstableFeatures
+pub mod Versions

@@ -13,7 +13,7 @@ use Rattle.justfile_model.specs.declared.conditional_operator.ConditionalOperato
 use Rattle.justfile_model.specs.declared.conditional_operator.ConditionalOperator.TheVariants.{Equality, Inequality, RegexMatch, RegexMismatch}
 use Rattle.justfile_model.specs.declared.parameter_kind.ParameterKind.{ParameterKind}
 use Rattle.justfile_model.specs.declared.parameter_kind.ParameterKind.TheVariants.{Plus, Singular, Star}
-use Rattle.justfile_model.specs.Tree.{Expr, Or, And, Comparison, Concatenation, ListConcatenation, Join, Root, If, IfElse, Not, StringLiteral, FormatLiteral, FormatString, Backtick, Assert, AssertMessage, Variable, Call, Group, ListOf, Exprs, none, more, Parts, Last, Continue, Fragment, Text, Interpolation, BodyLine, Line, Quoted, Argument, Positional, Bare, Keyed, OptionName, NoOption, OwnName, Named, ArgumentRules, Attribute, Plain, Single, Texts, Env, Signals, Cache, Arg, Entry, Parameter, DependencyArgument, Dependency, Header, AssignmentParts, RecipeParts, Content, Assignment, Recipe, Item, Newline, Comment, Construct, OrderedItem, Shape}
+use Rattle.justfile_model.specs.Tree.{Expr, Or, And, Comparison, Concatenation, ListConcatenation, Join, Root, If, IfElse, Not, StringLiteral, FormatLiteral, FormatString, Backtick, Assert, AssertMessage, Variable, Call, Group, ListOf, Exprs, none, more, Parts, Last, Continue, Fragment, Text, Interpolation, BodyLine, Line, Quoted, Argument, Positional, Bare, Keyed, OptionName, NoOption, OwnName, Named, ArgumentRules, Attribute, Plain, Single, Texts, Env, Signals, Cache, Arg, Entry, Parameter, DependencyArgument, Dependency, Header, AliasParts, AssignmentParts, FunctionParts, ImportParts, ModuleParts, RecipeParts, SettingValue, Truth, Value, Interpreter, SettingParts, Content, Alias, Assignment, Function, Import, Module, Recipe, Setting, Unexport, Item, Newline, Comment, Construct, OrderedItem, Shape}
 
 -- a piece that is the same in every text; kept folded, so that a text stays a row of pieces
 unfoldable pub fixed_text : List ℕ → List ℕ
@@ -211,13 +211,52 @@ abbrev pub assignment_text : AssignmentParts (List ℕ) (Unit {0}) → List ℕ
 assignment_text a =
     if_true a.eager (fixed_text (codes "eager ")) ++ if_true a.export (fixed_text (codes "export ")) ++ a.name ++ fixed_text (codes " := ") ++ expr_text a.value
 
+abbrev pub alias_text : AliasParts (List ℕ) → List ℕ
+alias_text a = fixed_text (codes "alias ") ++ a.name ++ fixed_text (codes " := ") ++ path_text a.target
+
+-- separated by a comma and a space
+abbrev pub names_text : List (List ℕ) → List ℕ
+names_text [] = []
+names_text (name ∷ []) = name
+names_text (name ∷ names) = name ++ fixed_text (codes ", ") ++ names_text names
+
+abbrev pub function_text : FunctionParts (List ℕ) (Unit {0}) → List ℕ
+function_text f = f.name ++ fixed_text (codes "(") ++ names_text f.parameters ++ fixed_text (codes ") := ") ++ expr_text f.body
+
+abbrev pub file_path_text : Quoted (List ℕ) → List ℕ
+file_path_text q = mark_text q.expanded ++ q.token
+
+abbrev pub import_text : ImportParts (List ℕ) → List ℕ
+import_text i = fixed_text (codes "import") ++ if_true i.optional (fixed_text (codes "?")) ++ fixed_text (codes " ") ++ file_path_text i.path
+
+abbrev pub module_text : ModuleParts (List ℕ) → List ℕ
+module_text m =
+    fixed_text (codes "mod") ++ if_true m.optional (fixed_text (codes "?")) ++ fixed_text (codes " ") ++ m.name
+    ++ if_some (λ path. fixed_text (codes " ") ++ file_path_text path) m.path
+
+-- the value of a setting; none where it is true
+abbrev pub setting_value_text : SettingValue (List ℕ) (Unit {0}) → List ℕ
+setting_value_text (Truth true) = []
+setting_value_text (Truth false) = fixed_text (codes " := false")
+setting_value_text (Value value) = fixed_text (codes " := ") ++ expr_text value
+setting_value_text (Interpreter command arguments) = fixed_text (codes " := [") ++ exprs_text (more command arguments) ++ fixed_text (codes "]")
+
+abbrev pub setting_text : SettingParts (List ℕ) (Unit {0}) → List ℕ
+setting_text s = fixed_text (codes "set ") ++ s.name ++ setting_value_text s.value
+
 abbrev pub recipe_text : RecipeParts (List ℕ) (Unit {0}) (Unit {0}) (Unit {0}) → (indentation : List ℕ) → List ℕ
 recipe_text r indentation = header_text r.header ++ body_text indentation r.body
 
 -- a construct without its doc and its attributes
 abbrev pub content_text : Content (List ℕ) (Unit {0}) (Unit {0}) (Unit {0}) → (indentation : List ℕ) → List ℕ
+content_text (Alias parts) indentation = alias_text parts
 content_text (Assignment parts) indentation = assignment_text parts
+content_text (Function parts) indentation = function_text parts
+content_text (Import parts) indentation = import_text parts
+content_text (Module parts) indentation = module_text parts
 content_text (Recipe parts) indentation = recipe_text parts indentation
+content_text (Setting parts) indentation = setting_text parts
+content_text (Unexport name) indentation = fixed_text (codes "unexport ") ++ name
 
 -- the doc of a construct, where no attribute says it
 abbrev pub shown_doc : {A B C S : Type 0} → List (Entry A B) → Content A B C S → Option (List ℕ)
@@ -256,8 +295,14 @@ printable_body [] = true
 printable_body (Line number fragments ∷ lines) = printable_fragments fragments && printable_body lines
 
 abbrev pub printable_content : {B C S : Type 0} → Content (List ℕ) B C S → Bool
+printable_content (Alias parts) = true
 printable_content (Assignment parts) = true
+printable_content (Function parts) = true
+printable_content (Import parts) = true
+printable_content (Module parts) = true
 printable_content (Recipe parts) = printable_body parts.body
+printable_content (Setting parts) = true
+printable_content (Unexport name) = true
 
 abbrev pub printable_item : {B C S D : Type 0} → Item (List ℕ) B C S D → Bool
 printable_item Newline = true

@@ -1,7 +1,8 @@
 -- Reading the tokens of a file from left to right, up to the first refusal, and the numbers that its items get. That it agrees with the
 -- grammar is a law.
-use Rattle.std.specs.Prelude.{ℕ, ◌+◌, Bool, true, false, ◌||◌, List, [], ◌∷◌, ◌++◌, length, drop, map, None, Ok, Err, if◌then◌else◌}
+use Rattle.std.specs.Prelude.{ℕ, ◌+◌, Bool, true, false, ◌||◌, List, [], ◌∷◌, ◌++◌, length, drop, map, None, Ok, Err, codes, if◌then◌else◌}
 use Rattle.std.specs.Str.{trim_end}
+use Rattle.justfile_base.specs.declared.item_kind.ItemKind.{ItemKind}
 use Rattle.justfile_base.specs.declared.item_kind.ItemKind.TheVariants as item_kinds
 use Rattle.justfile_base.specs.declared.token_kind.TokenKind.TheVariants as kinds
 use Rattle.justfile_model.specs.AttributeReader as attribute_reader
@@ -11,10 +12,12 @@ use Rattle.justfile_model.specs.ContentKeys.{entry_cmp}
 use Rattle.justfile_model.specs.Order.{in_order}
 use Rattle.justfile_model.specs.RecipeRules.{exclusions_broken}
 use Rattle.justfile_model.specs.Tree as tree
-use Rattle.justfile_model.specs.HeaderReader.{ReadHeader, draw_binding, expression, header, obeying}
-use Rattle.justfile_model.specs.Tree.{ArgumentRules, BodyLine, Construct, Content, Entry, Expr, Fragment, Header, Item, Line, bare_recipe, plain_assignment, trimmed}
+use Rattle.justfile_model.specs.HeaderReader.{ReadHeader, draw_binding, expression, header, obeying, path}
+use Rattle.justfile_model.specs.Tree.{ArgumentRules, BodyLine, Construct, Content, Entry, Expr, Fragment, Header, Item, Line, assignment_of, bare_module, bare_recipe, trimmed}
 use Rattle.justfile_model.specs.Recursive.{recursive}
-use Rattle.justfile_model.specs.Reading.{◌>>=◌, Counters, Extraneous, Leaves, NoNumber, Read, State, Unexpected, accept, prepend, at, choose, expect, next_are, refused}
+use Rattle.justfile_model.specs.Reading.{◌>>=◌, Counters, Extraneous, Leaves, NoNumber, Read, State, Unexpected, accept, accepted, prepend, at, choose, expect, next_are, refused}
+use Rattle.justfile_model.specs.PartReader.{accept_before, after_numbered, file_path, is_assigned, is_imported, is_module, is_set, keyword_at, line_is, names, optional_path, setting_value}
+use Rattle.justfile_model.specs.Settings.{setting_form}
 
 abbrev pub with_recipes : ℕ → Counters → Counters
 with_recipes recipes n = record { bindings = n.bindings; constants = n.constants; recipes = recipes }
@@ -26,19 +29,19 @@ some_line (l ∷ lines) = true
 
 -- a recipe with a body
 abbrev pub content_has_body : {A B C S : Type 0} → Content A B C S → Bool
+content_has_body (tree.Alias parts) = false
 content_has_body (tree.Assignment parts) = false
+content_has_body (tree.Function parts) = false
+content_has_body (tree.Import parts) = false
+content_has_body (tree.Module parts) = false
 content_has_body (tree.Recipe parts) = some_line parts.body
+content_has_body (tree.Setting parts) = false
+content_has_body (tree.Unexport name) = false
 
 abbrev pub has_body : {A B C S D : Type 0} → Item A B C S D → Bool
 has_body tree.Newline = false
 has_body (tree.Comment text) = false
 has_body (Construct attributes content) = content_has_body content
-
--- these, and what is read after them, with the counters
-unfoldable pub after_numbered : {R T B X : Type 0} → List X → Read R T B (List X × Counters) → Read R T B (List X × Counters)
-after_numbered done found = do
-  more ← found
-  Ok ((done ++ more.0.0, more.0.1), more.1)
 
 module _ {R T A B S : Type 0} (leaves : Leaves R T A B S) where
   -- the line that the next token begins on
@@ -147,24 +150,91 @@ module _ {R T A B S D W : Type 0} (leaves : Leaves R T A B S) (kept : AttributeL
   abbrev pub comment_item : T → Item A B ℕ S D
   comment_item t = tree.Comment (trim_end (leaves.see t).tok.lexeme)
 
+  -- an item with its attributes, and the counters
+  abbrev pub ReadItem : Type 0
+  ReadItem = Read R T B (Item A B ℕ S D × Counters)
+
+  -- a construct with its attributes
+  abbrev pub constructed : List W → Content A B ℕ S → Counters → State R T B → ReadItem
+  constructed ws content n s = Ok ((Construct (kept.attributes s.run ws) content, n), s)
+
+  -- the attributes of an item of this kind with this name are those that it may have
+  abbrev pub allowed : ItemKind → List W → T → State R T B → Read R T B (Unit {0})
+  allowed item ws name s = obeying (allowed_broken (kept.sight s.run) item (leaves.spot name) (entries_read s.run ws)) s
+
+  -- an alias after its attributes and its word
+  unfoldable pub alias : List W → Counters → State R T B → ReadItem
+  alias ws n s = do
+    name ← expect leaves kinds.Identifier s
+    operator ← expect leaves kinds.ColonEquals name.1
+    target ← path leaves operator.1
+    checked ← allowed item_kinds.Alias ws name.0 target.1
+    constructed ws (tree.Alias (record { name = leaves.name name.0; target = target.0 })) n checked.1
+
   -- an assignment of a value with its attributes, which got a number
-  abbrev pub assigned : List W → T → Expr A B → (ℕ × Counters) × State R T B → Read R T B (Item A B ℕ S D × Counters)
-  assigned ws name value x =
-      Ok ((Construct (kept.attributes x.1.run ws) (tree.Assignment (plain_assignment (leaves.assignment x.1.run name x.0.0) value)), x.0.1), x.1)
+  abbrev pub assigned : (eager export : Bool) → List W → T → Expr A B → (ℕ × Counters) × State R T B → ReadItem
+  assigned eager export ws name value x =
+      constructed ws (tree.Assignment (assignment_of eager export (leaves.assignment x.1.run name x.0.0) value)) x.0.1 x.1
 
-  -- the attributes of an assignment with this name are those that it may have
-  abbrev pub allowed : List W → T → State R T B → Read R T B (Unit {0})
-  allowed ws name s = obeying (allowed_broken (kept.sight s.run) item_kinds.Assignment (leaves.spot name) (entries_read s.run ws)) s
-
-  -- an assignment after its attributes
-  unfoldable pub assignment : List W → Counters → State R T B → Read R T B (Item A B ℕ S D × Counters)
-  assignment ws n s = do
+  -- an assignment after its attributes, and after a word or none
+  unfoldable pub assignment : (eager export : Bool) → List W → Counters → State R T B → ReadItem
+  assignment eager export ws n s = do
     name ← expect leaves kinds.Identifier s
     operator ← expect leaves kinds.ColonEquals name.1
     e ← expression leaves operator.1
-    checked ← allowed ws name.0 e.1
+    checked ← allowed item_kinds.Assignment ws name.0 e.1
     number ← draw_binding leaves n checked.1
-    assigned ws name.0 e.0 number
+    assigned eager export ws name.0 e.0 number
+
+  -- a function after its attributes
+  unfoldable pub function : List W → Counters → State R T B → ReadItem
+  function ws n s = do
+    name ← expect leaves kinds.Identifier s
+    checked ← allowed item_kinds.Function ws name.0 name.1
+    opener ← expect leaves kinds.ParenL checked.1
+    parameters ← names leaves (n, opener.1)
+    operator ← expect leaves kinds.ColonEquals parameters.1
+    body ← expression leaves operator.1
+    constructed ws (tree.Function (record { name = leaves.name name.0; parameters = parameters.0.0; body = body.0 })) parameters.0.1 body.1
+
+  -- an import after its attributes and its word, and after `?` or not
+  unfoldable pub imported : (optional : Bool) → List W → Counters → State R T B → ReadItem
+  imported optional ws n s = do
+    path ← file_path leaves s
+    checked ← allowed item_kinds.Import ws path.0.0 path.1
+    constructed ws (tree.Import (record { optional = optional; path = path.0.1 })) n checked.1
+
+  -- an import after its attributes and its word
+  unfoldable pub import : List W → Counters → State R T B → ReadItem
+  import ws n s = imported (accepted leaves kinds.QuestionMark s).0 ws n (accepted leaves kinds.QuestionMark s).1
+
+  -- a module after its attributes and its word, and after `?` or not
+  unfoldable pub named_module : (optional : Bool) → List W → Counters → State R T B → ReadItem
+  named_module optional ws n s = do
+    name ← expect leaves kinds.Identifier s
+    path ← optional_path leaves name.1
+    checked ← allowed item_kinds.Module ws name.0 path.1
+    constructed ws (tree.Module (bare_module optional (leaves.name name.0) path.0)) n checked.1
+
+  -- a module after its attributes and its word
+  unfoldable pub any_module : List W → Counters → State R T B → ReadItem
+  any_module ws n s = named_module (accepted leaves kinds.QuestionMark s).0 ws n (accepted leaves kinds.QuestionMark s).1
+
+  -- a setting after its attributes and its word
+  unfoldable pub setting : List W → Counters → State R T B → ReadItem
+  setting ws n s = do
+    name ← expect leaves kinds.Identifier s
+    keyword ← keyword_at leaves name.0 name.1
+    checked ← allowed item_kinds.Setting ws name.0 keyword.1
+    value ← setting_value leaves kept.sight name.0 keyword.0 (setting_form keyword.0) checked.1
+    constructed ws (tree.Setting (record { keyword = keyword.0; name = leaves.name name.0; value = value.0 })) n value.1
+
+  -- a variable that is not exported, after its attributes and its word
+  unfoldable pub unexport : List W → Counters → State R T B → ReadItem
+  unexport ws n s = do
+    name ← expect leaves kinds.Identifier s
+    checked ← allowed item_kinds.Unexport ws name.0 name.1
+    constructed ws (tree.Unexport (leaves.name name.0)) n checked.1
 
   -- the header of a recipe, after `@` or not, whose name keeps what is known at the recipe's end
   abbrev pub header_kept : (quiet : Bool) → ReadHeader T A B S → A → Header A B S
@@ -196,9 +266,31 @@ module _ {R T A B S D W : Type 0} (leaves : Leaves R T A B S) (kept : AttributeL
   unfoldable pub any_recipe : List W → Counters → State R T B → Read R T B (Item A B ℕ S D × Counters)
   any_recipe ws n s = choose (accept leaves kinds.At s) (recipe false ws n s) (λ at. recipe true ws n at.1)
 
-  -- a construct after its attributes
-  unfoldable pub content : List W → Counters → State R T B → Read R T B (Item A B ℕ S D × Counters)
-  content ws n s = if next_are leaves (kinds.Identifier ∷ kinds.ColonEquals ∷ []) s then assignment ws n s else any_recipe ws n s
+  -- a construct that begins with no word of its own, after its attributes
+  unfoldable pub wordless : List W → Counters → State R T B → ReadItem
+  wordless ws n s =
+      if next_are leaves (kinds.Identifier ∷ kinds.ParenL ∷ []) s then function ws n s
+      else if is_assigned leaves s then assignment false false ws n s
+      else any_recipe ws n s
+
+  -- a construct after its attributes; the words that it may begin with are names where nothing follows that goes with them
+  unfoldable pub content : List W → Counters → State R T B → ReadItem
+  content ws n s =
+      choose (accept_before leaves (codes "alias") (is_assigned leaves) s)
+      (choose (accept_before leaves (codes "eager") (is_assigned leaves) s)
+      (choose (accept_before leaves (codes "export") (is_assigned leaves) s)
+      (choose (accept_before leaves (codes "unexport") (line_is leaves (kinds.Identifier ∷ [])) s)
+      (choose (accept_before leaves (codes "import") (is_imported leaves) s)
+      (choose (accept_before leaves (codes "mod") (is_module leaves) s)
+      (choose (accept_before leaves (codes "set") (is_set leaves) s)
+      (wordless ws n s)
+      (λ word. setting ws n word.1))
+      (λ word. any_module ws n word.1))
+      (λ word. import ws n word.1))
+      (λ word. unexport ws n word.1))
+      (λ word. assignment false true ws n word.1))
+      (λ word. assignment true false ws n word.1))
+      (λ word. alias ws n word.1)
 
   -- a construct with its attributes
   unfoldable pub construct : Counters → State R T B → Read R T B (Item A B ℕ S D × Counters)

@@ -3,6 +3,7 @@
 use Rattle.std.specs.Prelude.{ℕ, ◌+◌, ◌-◌, Bool, true, false, ◌&&◌, List, [], ◌∷◌, ◌++◌, Option, Some, None, Result, Ok, Err, if◌then◌else◌}
 use Rattle.std.specs.Str.{bytes_eq}
 use denote.Enum.Bare.{sameb}
+use Rattle.justfile_base.specs.declared.keyword.Keyword.{Keyword}
 use Rattle.justfile_base.specs.contracts.token_kind.TokenKind.{the_type}
 use Rattle.justfile_base.specs.declared.token_kind.TokenKind.{TokenKind}
 use Rattle.justfile_base.specs.declared.token_kind.TokenKind.TheVariants as kinds
@@ -34,6 +35,8 @@ pub record Leaves (R T A B S : Type 0) : Type 0 where
   pub star : T → S
   -- the name of a parameter, of which that is said, and which got a number
   pub parameter : R → T → Option (ArgumentRules A B) → (number : ℕ) → A
+  -- the name of a parameter of a function, which got a number
+  pub function_parameter : R → T → (number : ℕ) → A
   -- the name of an assignment, which got a number
   pub assignment : R → T → (number : ℕ) → A
   -- the name of a recipe, which got a number, before its body
@@ -68,6 +71,10 @@ pub data Refusal (T B : Type 0) : Type 0 where
   Extraneous : (count : ℕ) (opener : B) → Refusal T B
   -- a name after a parameter that takes several arguments
   AfterVariadic : (name : B) → Refusal T B
+  -- a name of no setting
+  UnknownSetting : (name : B) → Refusal T B
+  -- a word that is none of those that may stand there
+  ExpectedKeyword : (expected : List Keyword) (found : B) → Refusal T B
   -- a number is wanted, and its counter, one of these, has none left
   NoNumber : Counters → Refusal T B
 

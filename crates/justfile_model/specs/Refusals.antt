@@ -33,7 +33,7 @@ pub record IsTooDeep (Hit : Option SignificantToken → Type 0) (r : Refusal) : 
 -- one of the rules that the tree breaks is refused; which one is left open
 pub record IsBroken (conditions : Conditions) (written : WrittenTree) (r : Refusal) : Type 0 where
   pub rule : Broken Tok
-  pub among : Contains (broken (sees_tokens conditions.expander) written) rule
+  pub among : Contains (broken conditions.current (sees_tokens conditions.expander) written) rule
   pub refusal_is : r ≡ BreaksRule rule
 
 -- one of the three, where the limit is waived at some tokens

@@ -2,6 +2,8 @@
 use Rattle.std.specs.Prelude.{ℕ, Bool, List, [], ◌∷◌, Option, if◌then◌else◌}
 use Rattle.justfile_base.specs.declared.attribute_kind.AttributeKind.{AttributeKind}
 use Rattle.justfile_base.specs.declared.item_kind.ItemKind.{ItemKind}
+use Rattle.justfile_base.specs.declared.keyword.Keyword.{Keyword}
+use Rattle.justfile_model.specs.Conditions.{VersionNumbers}
 
 -- A rule that is broken. A text is that of a literal; `T` is what is kept of a token.
 pub data Rule (T : Type 0) : Type 0 where
@@ -46,6 +48,11 @@ pub data Rule (T : Type 0) : Type 0 where
   MappedDependencyMultipleStarredArguments : Rule T
   MappedDependencyWithoutStarredArgument : Rule T
   StarredArgumentOutsideMappedDependency : Rule T
+  -- of a setting that takes a plain literal: it has another value, or the literal's text is not what it takes
+  SettingExpression : (setting : Keyword) → Rule T
+  InvalidIndentation : (message : List ℕ) → Rule T
+  InvalidMinimumVersion : (version : List ℕ) → Rule T
+  MinimumVersion : (minimum current : VersionNumbers) → Rule T
 
 -- a rule that is broken, and the token of its refusal
 pub record Broken (T : Type 0) : Type 0 where
@@ -94,6 +101,10 @@ module _ {T U : Type 0} (g : T → U) where
   over_rule MappedDependencyMultipleStarredArguments = MappedDependencyMultipleStarredArguments
   over_rule MappedDependencyWithoutStarredArgument = MappedDependencyWithoutStarredArgument
   over_rule StarredArgumentOutsideMappedDependency = StarredArgumentOutsideMappedDependency
+  over_rule (SettingExpression setting) = SettingExpression setting
+  over_rule (InvalidIndentation message) = InvalidIndentation message
+  over_rule (InvalidMinimumVersion version) = InvalidMinimumVersion version
+  over_rule (MinimumVersion minimum current) = MinimumVersion minimum current
 
   abbrev pub over_broken : Broken T → Broken U
   over_broken b = record { rule = over_rule b.rule; token = g b.token }

@@ -3,9 +3,10 @@
 -- more: `S` stands at the stars of dependencies, and `D` is what an item has of attributes. A written tree, which is what the grammar
 -- gives, keeps the tokens of stars, and attributes as they are written. A tree keeps no place of a star, and has attributes by what they
 -- mean, in the order of their content.
-use Rattle.std.specs.Prelude.{ℕ, Bool, false, List, [], ◌∷◌, map, Option, None}
+use Rattle.std.specs.Prelude.{ℕ, Bool, List, [], ◌∷◌, map, Option, None}
 use Rattle.std.specs.Option.{option_map}
 use Rattle.justfile_base.specs.declared.attribute_kind.AttributeKind.{AttributeKind}
+use Rattle.justfile_base.specs.declared.keyword.Keyword.{Keyword}
 use Rattle.justfile_base.specs.declared.signal.Signal.{Signal}
 use Rattle.justfile_model.specs.declared.conditional_operator.ConditionalOperator.{ConditionalOperator}
 use Rattle.justfile_model.specs.declared.parameter_kind.ParameterKind.{ParameterKind}
@@ -166,6 +167,11 @@ pub record Header (A B S : Type 0) : Type 0 where
   pub priors : List (Dependency A B S)
   pub subsequents : List (Dependency A B S)
 
+-- `alias name := target`, by the names of the target's path
+pub record AliasParts (A : Type 0) : Type 0 where
+  pub name : A
+  pub target : List A
+
 -- `name := value`, with `eager` or `export` before it or not
 pub record AssignmentParts (A B : Type 0) : Type 0 where
   pub eager : Bool
@@ -173,16 +179,55 @@ pub record AssignmentParts (A B : Type 0) : Type 0 where
   pub name : A
   pub value : Expr A B
 
+-- `name(parameters) := body`
+pub record FunctionParts (A B : Type 0) : Type 0 where
+  pub name : A
+  pub parameters : List A
+  pub body : Expr A B
+
+-- `import path`, or `import? path`
+pub record ImportParts (A : Type 0) : Type 0 where
+  pub optional : Bool
+  pub path : Quoted A
+
+-- `mod name` or `mod? name`, with a path or without; a written one has no doc
+pub record ModuleParts (A : Type 0) : Type 0 where
+  pub doc : Option (List ℕ)
+  pub optional : Bool
+  pub name : A
+  pub path : Option (Quoted A)
+
 -- a recipe and the lines of its body; none if it has no body; a written one has no doc
 pub record RecipeParts (A B C S : Type 0) : Type 0 where
   pub doc : Option (List ℕ)
   pub header : Header A B S
   pub body : List (BodyLine A B C)
 
+-- the value of a setting
+pub data SettingValue (A B : Type 0) : Type 0 where
+  -- nothing, which is true, or a truth value
+  Truth : (value : Bool) → SettingValue A B
+  Value : (value : Expr A B) → SettingValue A B
+  -- `[command, arguments]`
+  Interpreter : (command : Expr A B) (arguments : Exprs A B) → SettingValue A B
+
+-- `set name := value`; the name spells the keyword
+pub record SettingParts (A B : Type 0) : Type 0 where
+  pub keyword : Keyword
+  pub name : A
+  pub value : SettingValue A B
+
 -- what may have attributes
 pub data Content (A B C S : Type 0) : Type 0 where
+  Alias : (parts : AliasParts A) → Content A B C S
   Assignment : (parts : AssignmentParts A B) → Content A B C S
+  Function : (parts : FunctionParts A B) → Content A B C S
+  Import : (parts : ImportParts A) → Content A B C S
+  Module : (parts : ModuleParts A) → Content A B C S
   Recipe : (parts : RecipeParts A B C S) → Content A B C S
+  Setting : (parts : SettingParts A B) → Content A B C S
+  -- `unexport name`
+  Unexport : (name : A) → Content A B C S
 
 pub data Item (A B C S D : Type 0) : Type 0 where
   -- the end of a line, or a blank line
@@ -213,9 +258,13 @@ WrittenShape = List (WrittenItem (List ℕ) (Unit {0}) (Unit {0}) (Unit {0}))
 abbrev pub Shape : Type 0
 Shape = List (OrderedItem (List ℕ) (Unit {0}) (Unit {0}))
 
--- `name := value`
-abbrev pub plain_assignment : {A B : Type 0} → A → Expr A B → AssignmentParts A B
-plain_assignment name value = record { eager = false; export = false; name = name; value = value }
+-- `name := value`, with `eager` or `export` before it or not
+abbrev pub assignment_of : {A B : Type 0} → (eager export : Bool) → A → Expr A B → AssignmentParts A B
+assignment_of eager export name value = record { eager = eager; export = export; name = name; value = value }
+
+-- a module without a doc
+abbrev pub bare_module : {A : Type 0} → (optional : Bool) → A → Option (Quoted A) → ModuleParts A
+bare_module optional name path = record { doc = None; optional = optional; name = name; path = path }
 
 -- a recipe without a doc
 abbrev pub bare_recipe : {A B C S : Type 0} → Header A B S → List (BodyLine A B C) → RecipeParts A B C S
@@ -313,6 +362,26 @@ module _ {A B C D : Type 0} (f : A → C) (g : B → D) where
   over_attribute (Cache extra inputs outputs) = Cache (option_map over_expr extra) (option_map over_expr inputs) (option_map over_expr outputs)
   over_attribute (Arg rules) = Arg (over_rules rules)
 
+  abbrev pub over_alias : AliasParts A → AliasParts C
+  over_alias a = record { name = f a.name; target = map f a.target }
+
+  abbrev pub over_function : FunctionParts A B → FunctionParts C D
+  over_function a = record { name = f a.name; parameters = map f a.parameters; body = over_expr a.body }
+
+  abbrev pub over_import : ImportParts A → ImportParts C
+  over_import i = record { optional = i.optional; path = over_quoted i.path }
+
+  abbrev pub over_module : ModuleParts A → ModuleParts C
+  over_module m = record { doc = m.doc; optional = m.optional; name = f m.name; path = option_map over_quoted m.path }
+
+  abbrev pub over_setting_value : SettingValue A B → SettingValue C D
+  over_setting_value (Truth value) = Truth value
+  over_setting_value (Value value) = Value (over_expr value)
+  over_setting_value (Interpreter command arguments) = Interpreter (over_expr command) (over_exprs arguments)
+
+  abbrev pub over_setting : SettingParts A B → SettingParts C D
+  over_setting s = record { keyword = s.keyword; name = f s.name; value = over_setting_value s.value }
+
   abbrev pub over_assignment : AssignmentParts A B → AssignmentParts C D
   over_assignment a = record { eager = a.eager; export = a.export; name = f a.name; value = over_expr a.value }
 
@@ -347,8 +416,14 @@ module _ {A B C S A' B' C' S' : Type 0} (f : A → A') (g : B → B') (h : C →
   over_recipe r = record { doc = r.doc; header = over_header f g k r.header; body = map (over_line f g h) r.body }
 
   abbrev pub over_content : Content A B C S → Content A' B' C' S'
+  over_content (Alias parts) = Alias (over_alias f g parts)
   over_content (Assignment parts) = Assignment (over_assignment f g parts)
+  over_content (Function parts) = Function (over_function f g parts)
+  over_content (Import parts) = Import (over_import f g parts)
+  over_content (Module parts) = Module (over_module f g parts)
   over_content (Recipe parts) = Recipe (over_recipe parts)
+  over_content (Setting parts) = Setting (over_setting f g parts)
+  over_content (Unexport name) = Unexport (f name)
 
   abbrev pub over_item : {D D' : Type 0} → (D → D') → Item A B C S D → Item A' B' C' S' D'
   over_item attributes_over Newline = Newline
@@ -367,8 +442,14 @@ starless_header h =
     record { quiet = h.quiet; name = h.name; parameters = h.parameters; priors = map starless_dependency h.priors; subsequents = map starless_dependency h.subsequents }
 
 abbrev pub starless : {A B C S : Type 0} → Content A B C S → Content A B C (Unit {0})
+starless (Alias parts) = Alias parts
 starless (Assignment parts) = Assignment parts
+starless (Function parts) = Function parts
+starless (Import parts) = Import parts
+starless (Module parts) = Module parts
 starless (Recipe parts) = Recipe (record { doc = parts.doc; header = starless_header parts.header; body = parts.body })
+starless (Setting parts) = Setting parts
+starless (Unexport name) = Unexport name
 
 -- what a shape keeps of a token
 abbrev pub lexeme : Tok → List ℕ

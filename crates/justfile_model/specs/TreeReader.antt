@@ -23,6 +23,7 @@ token_leaves = record {
   text = λ t. t.tok;
   star = λ t. t.tok;
   parameter = λ conditions t rules number. t.tok;
+  function_parameter = λ conditions t number. t.tok;
   assignment = λ conditions t number. t.tok;
   recipe = λ conditions t number body. t.tok;
   has_number = λ number. true;

@@ -16,7 +16,7 @@ use Rattle.justfile_base.specs.declared.compile_error_kind.CompileErrorKind.TheV
 use Rattle.justfile_base.specs.declared.compile_error_kind.CompileErrorKind.{CompileErrorKind}
 use Rattle.justfile_base.specs.declared.fault.Fault.TheVariants as faults
 use Rattle.justfile_base.specs.declared.fault.Fault.{Fault}
-use Rattle.justfile_base.specs.declared.item_kind.ItemKind.TheVariants as items
+use Rattle.justfile_base.specs.declared.item_kind.ItemKind.{ItemKind}
 use Rattle.justfile_base.specs.declared.name.Name.{Name}
 use Rattle.justfile_base.specs.declared.token.Token.{Token}
 use Rattle.justfile_base.specs.declared.token_kind.TokenKind.TheVariants as kinds
@@ -81,37 +81,37 @@ extraneous_halts Y count opener (faults.Compile e) (halts.Stopped (stops.Literal
 extraneous_halts Y count opener faults.Memory (halts.Stopped (stops.Literal r)) s h k = absurd h
 extraneous_halts Y count opener faults.Numbers (halts.Stopped (stops.Literal r)) s h k = absurd h
 
--- ---- an assignment's attributes
+-- ---- the attributes of an item of a kind
 
 abbrev Found : Type 0
 Found = Option (Entry Leaf Token)
 
-module _ (ws : Entries) (name : TableEntry) (s : State) (entries : Entries) (is : entries ≡ in_content_order ws) where
-  -- the refusal of the first that an assignment may not have
+module _ (item : ItemKind) (ws : Entries) (name : TableEntry) (s : State) (entries : Entries) (is : entries ≡ in_content_order ws) where
+  -- the refusal of the first that such an item may not have
   abbrev refusing : Found → Read (Unit {0})
-  refusing o = obeying (of_some (λ (e : Entry Leaf Token). record { rule = InvalidAttribute items.Assignment (kind_of_attribute e.attribute); token = name.token.now } ∷ []) o) s
+  refusing o = obeying (of_some (λ (e : Entry Leaf Token). record { rule = InvalidAttribute item (kind_of_attribute e.attribute); token = name.token.now } ∷ []) o) s
 
-  allowed_is : reader.allowed ws name s ≡ refusing (first_invalid sees_leaves items.Assignment entries)
+  allowed_is : reader.allowed item ws name s ≡ refusing (first_invalid sees_leaves item entries)
   unfolding leaves
   allowed_is =
-      ap (λ (es : Entries). refusing (first_invalid sees_leaves items.Assignment (in_content_order es))) (map-id ws)
-      ∙ ap (λ (es : Entries). refusing (first_invalid sees_leaves items.Assignment es)) (sym is)
+      ap (λ (es : Entries). refusing (first_invalid sees_leaves item (in_content_order es))) (map-id ws)
+      ∙ ap (λ (es : Entries). refusing (first_invalid sees_leaves item es)) (sym is)
 
-  pub is_allowed : first_invalid sees_leaves items.Assignment entries ≡ None → reader.allowed ws name s ≡ Ok (tt, s)
+  pub is_allowed : first_invalid sees_leaves item entries ≡ None → reader.allowed item ws name s ≡ Ok (tt, s)
   is_allowed h = allowed_is ∙ ap refusing h
 
-  says : (kind : AttributeKind) (said : CompileErrorKind) → SaysInvalid items.Assignment name.token.now kind said → SaysRule name.token.now (InvalidAttribute items.Assignment kind) said
-  says kind (errors.InvalidAttribute item text kind') h = h
+  says : (kind : AttributeKind) (said : CompileErrorKind) → SaysInvalid item name.token.now kind said → SaysRule name.token.now (InvalidAttribute item kind) said
+  says kind (errors.InvalidAttribute item' text kind') h = h
   says kind _ h = absurd h
 
-  pub is_disallowed : (e : CompileError) (halt : Halt) → IsInvalidBy (first_invalid sees_leaves items.Assignment entries) items.Assignment name.token.now e
-      → HaltsFor halt (faults.Compile e) → HaltsAt halt s ⊥ (reader.allowed ws name s)
-  is_disallowed e halt invalid h = subst (λ (f : Read (Unit {0})). HaltsAt halt s ⊥ f) (sym allowed_is) (go (first_invalid sees_leaves items.Assignment entries) invalid)
+  pub is_disallowed : (e : CompileError) (halt : Halt) → IsInvalidBy (first_invalid sees_leaves item entries) item name.token.now e
+      → HaltsFor halt (faults.Compile e) → HaltsAt halt s ⊥ (reader.allowed item ws name s)
+  is_disallowed e halt invalid h = subst (λ (f : Read (Unit {0})). HaltsAt halt s ⊥ f) (sym allowed_is) (go (first_invalid sees_leaves item entries) invalid)
     where
-      go : (o : Found) → IsInvalidBy o items.Assignment name.token.now e → HaltsAt halt s ⊥ (refusing o)
+      go : (o : Found) → IsInvalidBy o item name.token.now e → HaltsAt halt s ⊥ (refusing o)
       go None k = absurd k
       go (Some first) k =
-          rule_halts (Unit {0}) (Unit {0} × State) (record { rule = InvalidAttribute items.Assignment (kind_of_attribute first.attribute); token = name.token.now }) (faults.Compile e) halt s h
+          rule_halts (Unit {0}) (Unit {0} × State) (record { rule = InvalidAttribute item (kind_of_attribute first.attribute); token = name.token.now }) (faults.Compile e) halt s h
           (record { token = k.0; says = says (kind_of_attribute first.attribute) e.kind k.1 })
 
 -- ---- a recipe's attributes that exclude each other

@@ -11,7 +11,7 @@ use Rattle.std.specs.List.{take-map}
 use Rattle.justfile_attribute.proofs.Ordered.{kind_seen}
 use Rattle.justfile_attribute.specs.Attribute.{leaf_attribute_of}
 use Rattle.justfile_attribute.specs.declared.attribute.Attribute.{Attribute}
-use Rattle.justfile_attribute_set.specs.AttributeSet.{attributes_of, pairs_of}
+use Rattle.justfile_attribute_set.specs.AttributeSet.{AttributeSet, attributes_of, leaf_entries_of, pairs_of}
 use Rattle.justfile_attribute_set.specs.Attributes.{has_kind, is_of_kind, kind_of}
 use Rattle.justfile_attribute_set.specs.Keys.{firsts}
 use Rattle.justfile_attribute_set.specs.Pairs.{Pair, leaf_entry_of}
@@ -19,16 +19,18 @@ use Rattle.justfile_base.specs.declared.attribute_kind.AttributeKind.{AttributeK
 use Rattle.justfile_base.specs.declared.attribute_kind.AttributeKind.TheVariants as kinds
 use Rattle.justfile_file.specs.declared.item.Item.{Item}
 use Rattle.justfile_file.specs.declared.item.Item.TheVariants as items
-use Rattle.justfile_file.specs.declared.recipe.UnresolvedRecipe.{UnresolvedRecipe}
 use Rattle.justfile_model.specs.AttributeKinds.{same_attribute}
 use Rattle.justfile_model.specs.ContentKeys.{kind_of_attribute}
-use Rattle.justfile_model.specs.Docs.{Nothing, documented, item_with_doc}
+use Rattle.justfile_base.specs.declared.token.Token.{Token}
+use Rattle.justfile_model.specs.Docs.{Nothing, documented, item_with_doc, redocumented, wants_doc}
 use Rattle.justfile_model.specs.Files.{says_doc}
 use Rattle.justfile_model.specs.Tree as tree
-use Rattle.justfile_parse.specs.Docs.{LeafItem, comment_of, doc_before, doc_first, is_newline, says_no_doc, with_doc, with_item}
+use Rattle.justfile_model.specs.Tree.{Content, Entry}
+use Rattle.justfile_parse.specs.Docs.{LeafItem, comment_of, doc_before, doc_first, is_newline, with_doc, with_item}
 use Rattle.justfile_parse.proofs.TakenDocs.{from_first, with_items}
-use Rattle.justfile_parse.specs.Tree.{doc_text, item_tree, recipe_tree}
+use Rattle.justfile_parse.specs.Tree.{item_tree}
 use Rattle.justfile_parse.specs.Whole.{AreWhole, IsWholeItem}
+use Rattle.justfile_tree.specs.LeafTree.{Leaf}
 
 -- ---- the last of the items
 
@@ -111,11 +113,17 @@ module _ (xs : List Item) (x : Item) (last : Some x ≡ slice_get xs (length xs 
     where
       go : (y : Item) → IsWholeItem y → comment_of (item_tree y) ≡ Some text → IsTrue (starts_with nat_eq text (codes "#"))
       go (items.Comment other) w k = subst (λ (t : List ℕ). IsTrue (starts_with nat_eq t (codes "#"))) (some_is other.now text k) w
+      go (items.Alias a) w k = cc
       go (items.Assignment a) w k = cc
+      go (items.Function f) w k = cc
+      go (items.Import attributes optional relative) w k = cc
+      go (items.Module attributes doc name optional relative) w k = cc
       go items.Newline w k = cc
       go (items.Recipe r) w k = cc
+      go (items.Setting set) w k = cc
+      go (items.Unexport attributes name) w k = cc
 
--- ---- a recipe that wants a doc
+-- ---- an item that wants a doc
 
 kind_is : (a : Attribute) → same_attribute (kind_of_attribute (leaf_attribute_of a)) kinds.Doc ≡ is_of_kind kinds.Doc a
 unfolding kind_of
@@ -125,8 +133,10 @@ pairs_say : (pairs : List Pair) → says_doc (map leaf_entry_of pairs) ≡ has_k
 pairs_say [] = refl
 pairs_say (p ∷ ps) = λ i. kind_is p.0 i || pairs_say ps i
 
-pub wants_is : (r : UnresolvedRecipe) (b : Bool) → is_none r.doc ≡ true → b ≡ has_kind kinds.Doc (attributes_of r.attributes) → not b ≡ says_no_doc (recipe_tree r)
-wants_is r b none e = by_doc r.doc none ∙ ap (λ (c : Bool). true && not c && not (is_some (doc_text r))) (e ∙ sym (pairs_say (pairs_of r.attributes)))
+-- neither this text is a doc, nor an attribute says one
+pub lacks_doc : (set : AttributeSet) (doc : Option (String Global)) (b : Bool) → is_none doc ≡ true → b ≡ has_kind kinds.Doc (attributes_of set)
+    → not b ≡ (true && not (says_doc (leaf_entries_of set)) && not (is_some (option_map string_bytes doc)))
+lacks_doc set doc b none e = by_doc doc none ∙ ap (λ (c : Bool). true && not c && not (is_some (option_map string_bytes doc))) (e ∙ sym (pairs_say (pairs_of set)))
   where
     by_doc : (o : Option (String Global)) → is_none o ≡ true → not b ≡ (true && not b && not (is_some (option_map string_bytes o)))
     by_doc None h = go b
@@ -136,32 +146,39 @@ wants_is r b none e = by_doc r.doc none ∙ ap (λ (c : Bool). true && not c && 
         go false = refl
     by_doc (Some s) h = cc
 
+-- the text is a doc already
+pub has_doc : (set : AttributeSet) (doc : Option (String Global)) → is_none doc ≡ false
+    → false ≡ (true && not (says_doc (leaf_entries_of set)) && not (is_some (option_map string_bytes doc)))
+has_doc set None h = cc
+has_doc set (Some s) h = go (says_doc (leaf_entries_of set))
+  where
+    go : (c : Bool) → false ≡ (true && not c && not true)
+    go true = refl
+    go false = refl
+
+-- an item with a doc that it wants
+pub documented_is : (entries : List (Entry Leaf Token)) (content : Content Leaf Token ℕ (Unit {0})) (doc : List ℕ) → wants_doc says_doc entries content ≡ true
+    → Some (tree.Construct entries (redocumented (Some doc) content)) ≡ item_with_doc says_doc doc (tree.Construct entries content)
+documented_is entries content doc h = sym (ap (λ (b : Bool). cond b (Some (tree.Construct entries (redocumented (Some doc) content))) None) h)
+
 -- ---- items that are added
 
 pub cut_whole : (old new : List Item) (n : ℕ) → new ≡ take n old → AreWhole old → AreWhole new
 cut_whole old new n e h = subst AreWhole (sym e) (front_whole n old h)
 
-module _ {E : Type 0} (result : Result (Unit {0}) E) (old cut new : List Item) (n : ℕ) (r : UnresolvedRecipe) (doc : String Global) (text : List ℕ) where
-  abbrev with_this : LeafItem
-  with_this = recipe_tree (record r { doc = Some doc })
+pub doc_added : {E : Type 0} (result : Result (Unit {0}) E) (old cut new : List Item) (n : ℕ) (i with_this : LeafItem) (documented : Option LeafItem)
+    → Some with_this ≡ documented → n ≡ length old - 2 → cut ≡ take n old
+    → OnOk result (map item_tree new ≡ map item_tree cut ++ with_this ∷ []) → OnOk result (map item_tree new ≡ with_doc (map item_tree old) i documented)
+doc_added result old cut new n i with_this documented is count e added = go result added
+  where
+    front : map item_tree cut ≡ take (length (map item_tree old) - 2) (map item_tree old)
+    front =
+        ap (map item_tree) e ∙ sym (take-map item_tree n old)
+        ∙ ap (λ (m : ℕ). take m (map item_tree old)) (count ∙ ap (λ (m : ℕ). m - 2) (sym (length-map old item_tree)))
 
-  pub doc_added : says_no_doc (recipe_tree r) ≡ true → string_bytes doc ≡ text → n ≡ length old - 2 → cut ≡ take n old
-      → OnOk result (map item_tree new ≡ map item_tree cut ++ with_this ∷ [])
-      → OnOk result (map item_tree new ≡ with_doc (map item_tree old) (recipe_tree r) (item_with_doc says_doc text (recipe_tree r)))
-  doc_added wanted said count e added = go result added
-    where
-      front : map item_tree cut ≡ take (length (map item_tree old) - 2) (map item_tree old)
-      front =
-          ap (map item_tree) e ∙ sym (take-map item_tree n old)
-          ∙ ap (λ (m : ℕ). take m (map item_tree old)) (count ∙ ap (λ (m : ℕ). m - 2) (sym (length-map old item_tree)))
-
-      documented : item_with_doc says_doc text (recipe_tree r) ≡ Some (with_this)
-      documented = rw (sym said) (ap (λ (b : Bool). cond b (Some with_this) None) wanted)
-
-      go : (x : Result (Unit {0}) E) → OnOk x (map item_tree new ≡ map item_tree cut ++ with_this ∷ [])
-          → OnOk x (map item_tree new ≡ with_doc (map item_tree old) (recipe_tree r) (item_with_doc says_doc text (recipe_tree r)))
-      go (Ok done) h = h ∙ ap (λ (l : List LeafItem). l ++ with_this ∷ []) front ∙ sym (ap (with_doc (map item_tree old) (recipe_tree r)) documented)
-      go (Err failed) h = tt
+    go : {E : Type 0} (x : Result (Unit {0}) E) → OnOk x (map item_tree new ≡ map item_tree cut ++ with_this ∷ []) → OnOk x (map item_tree new ≡ with_doc (map item_tree old) i documented)
+    go (Ok done) h = h ∙ ap (λ (l : List LeafItem). l ++ with_this ∷ []) front ∙ ap (with_doc (map item_tree old) i) is
+    go (Err failed) h = tt
 
 -- ---- one item after another
 

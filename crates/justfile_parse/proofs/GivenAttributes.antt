@@ -32,13 +32,13 @@ use Rattle.justfile_tree.specs.declared.expression.Expression.{Expression}
 
 module _ (expander : Expansions) (P Q : Token → Type 0) (weaker : (t : Token) → P t → Q t)
     (expression : (e : Expression) → IsGivenExpression expander P e → IsGivenExpression expander Q e) where
-  given_literal : (l : StringLiteral) → IsGivenLiteral expander P l → IsGivenLiteral expander Q l
+  pub given_literal : (l : StringLiteral) → IsGivenLiteral expander P l → IsGivenLiteral expander Q l
   given_literal l h = record { among = weaker l.token h.among; cooked = h.cooked; kind = h.kind; part = h.part }
 
   given_literals : (ls : List StringLiteral) → All (IsGivenLiteral expander P) ls → All (IsGivenLiteral expander Q) ls
   given_literals = All-weaker (IsGivenLiteral expander P) (IsGivenLiteral expander Q) given_literal
 
-  if_given : {X : Type 0} (A B : X → Type 0) → ((x : X) → A x → B x) → (o : Option X) → IfThere A o → IfThere B o
+  pub if_given : {X : Type 0} (A B : X → Type 0) → ((x : X) → A x → B x) → (o : Option X) → IfThere A o → IfThere B o
   if_given A B f None h = tt
   if_given A B f (Some x) h = f x h
 
@@ -124,7 +124,7 @@ module _ (expander : Expansions) (P : Token → Type 0) (expression_cooks : (e :
   abbrev quoted : StringLiteral → Quoted Tok
   quoted = quoted_by expr_of literal_tok tok_of
 
-  literal_cooks : (l : StringLiteral) → IsGivenLiteral expander P l → Cook (quoted_literals (quoted l)) (literal_cooked l)
+  pub literal_cooks : (l : StringLiteral) → IsGivenLiteral expander P l → Cook (quoted_literals (quoted l)) (literal_cooked l)
   literal_cooks l h = string_cooks expander l.expand (literal_tok l) (lexeme_of l.token) (string_bytes l.cooked) (ap (λ (t : Tok). t.lexeme) (string_tok l h.part)) h.cooked
 
   literals_cook : (ls : List StringLiteral) → All (IsGivenLiteral expander P) ls → Cook (flat_map quoted_literals (map quoted ls)) (flat_map literal_cooked ls)

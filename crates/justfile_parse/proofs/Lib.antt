@@ -5,6 +5,7 @@ pub mod Constructs
 pub mod DocSteps
 pub mod Formats
 pub mod GivenAttributes
+pub mod GivenParts
 pub mod Hashes
 pub mod Lines
 pub mod Loop
@@ -19,11 +20,14 @@ pub mod SeenAttributes
 pub mod SeenDocs
 pub mod SeenHeaders
 pub mod SeenItems
+pub mod SeenParts
 pub mod SeenRules
 pub mod Shebangs
 pub mod Tables
 pub mod TakenDocs
 pub mod Trims
+pub mod UsedFeatures
 pub mod Wanting
 pub mod Whole
 pub mod Wholes
+pub mod Words

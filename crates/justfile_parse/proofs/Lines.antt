@@ -10,7 +10,9 @@ use Rattle.justfile_file.specs.declared.line.Line as body
 use Rattle.justfile_model.specs.Tree as tree
 use Rattle.justfile_model.specs.Tree.{OrderedItem}
 use Rattle.justfile_model.specs.Reader as files
-use Rattle.justfile_model.specs.Reader.{after_numbered, comment_item, has_body, some_line}
+use Rattle.justfile_model.specs.Reader.{comment_item, has_body, some_line}
+use Rattle.justfile_model.specs.PartReader as parts
+use Rattle.justfile_model.specs.PartReader.{after_numbered}
 use Rattle.justfile_model.specs.Reading.{◌>>=◌, Counters, prepend}
 use Rattle.justfile_parse_expression.specs.TableReader.{Read, Refusal, State, accept, expect, leaves}
 use Rattle.justfile_parse.specs.ItemTable.{ReadItems, item_rest, ended, kept, line, line_end, on_line}
@@ -109,9 +111,15 @@ module _ (done : Items) (s : State) where
 
 -- whether an item has a body
 pub has_body_is : (i : file.Item) → has_body (item_of i) ≡ has_body (item_tree i)
+has_body_is (items.Alias a) = refl
 has_body_is (items.Assignment a) = refl
 has_body_is (items.Comment text) = refl
+has_body_is (items.Function f) = refl
+has_body_is (items.Import attributes optional relative) = refl
+has_body_is (items.Module attributes doc name optional relative) = refl
 has_body_is items.Newline = refl
+has_body_is (items.Setting s) = refl
+has_body_is (items.Unexport attributes name) = refl
 has_body_is (items.Recipe r) = by_lines r.body.items
   where
     by_lines : (ls : List body.Line) → some_line (map body_line_of ls) ≡ some_line (map line_tree ls)

@@ -7,7 +7,7 @@ use Rattle.justfile_base.specs.declared.token_kind.TokenKind.TheVariants as kind
 use Rattle.justfile_file.specs.declared.item.Item as file
 use Rattle.justfile_model.specs.Tree.{OrderedItem}
 use Rattle.justfile_model.specs.Reader as files
-use Rattle.justfile_model.specs.Reader.{after_numbered}
+use Rattle.justfile_model.specs.PartReader.{after_numbered}
 use Rattle.justfile_model.specs.Reading.{◌>>=◌, Counters}
 use Rattle.justfile_parse.specs.ItemTable as reader
 use Rattle.justfile_parse.specs.ItemTable.{ReadItems, after_mark, items, kept, line, read_nothing}

@@ -12,7 +12,7 @@ use Rattle.justfile_parse_expression.specs.declared.significant.TableEntry.{Tabl
 use Rattle.justfile_parse_header.specs.Counting.{HasDrawn, counters_of, names}
 use Rattle.justfile_parse_header.specs.HeaderTable.{draw_binding}
 use Rattle.justfile_parse_header.proofs.Draws.{one_drawn}
-use Rattle.justfile_parse_header.proofs.Fewer.{name_fewer}
+use Rattle.justfile_parse_header.proofs.Fewer.{expect_fewer, fewer_at, name_fewer}
 
 -- nothing is numbered
 pub unmoved : (old new : Numerator) (most : ℕ) → new ≡ old → IsMoved old new most
@@ -32,6 +32,13 @@ pub binding_moved : (old new : Numerator) (number : ℕ) (s rest there : State) 
     → draw_binding (counters_of old) there ≡ Ok ((number, counters_of new), there) → IsMoved old new (names s)
 binding_moved old new number s rest there name taken drawn =
     drawn_moved old new (names s) 0 (one_drawn old new number there (names s) 0 drawn (omega (arith, name_fewer s (name, rest) taken)))
+
+-- the parameters of a function are numbered, whose name and parenthesis were taken
+pub function_moved : (old new : Numerator) (s rest opened : State) (name opener : TableEntry) (following : ℕ) → expect kinds.Identifier s ≡ Ok (name, rest)
+    → expect kinds.ParenL rest ≡ Ok (opener, opened) → HasDrawn old new (names opened) following → IsMoved old new (names s)
+function_moved old new s rest opened name opener following taken next drawn =
+    more_moved old new (names opened) (names s) (drawn_moved old new (names opened) following drawn)
+    (omega (arith, name_fewer s (name, rest) taken, fewer_at rest (expect kinds.ParenL rest) (opener, opened) (expect_fewer kinds.ParenL rest) next))
 
 -- after its parameters a recipe is numbered, whose name was taken
 pub recipe_moved : (old next new : Numerator) (number : ℕ) (s : State) (before following : ℕ) → HasDrawn old next before (following + 1)

@@ -24,7 +24,7 @@ use Rattle.justfile_model.proofs.Counting.{block_counts, on_line_counts}
 use Rattle.justfile_model.proofs.Natural as natural
 use Rattle.justfile_model.proofs.ReadingSteps.{known}
 use Rattle.justfile_model.proofs.Related as a
-use Rattle.justfile_model.proofs.Related.{AlikeItem, AlikeParameters, Each, Never, Related}
+use Rattle.justfile_model.proofs.Related.{AlikeItem, AlikeNames, AlikeParameters, Each, Never, Related}
 use Rattle.justfile_model.proofs.Sound.{Starts, before_sound, of_block, of_comment, of_line, on_line_at}
 use Rattle.justfile_parse.specs.ItemTable.{ReadItem, ReadItems, after_mark, item_attributes, item_rest, ended, kept, line, line_end, on_line}
 use Rattle.justfile_parse_attribute.specs.AttributeTable.{Entries}
@@ -63,10 +63,20 @@ module _ (n : Counters) (s : State) (open_none : s.depth ≡ 0) where
   same_parameters a.no_parameter = refl
   same_parameters (a.a_parameter h hs) = ap suc (same_parameters hs)
 
+  same_names : {number : ℕ} {xs : List Leaf} {xs' : List Tok} → AlikeNames (rel s.run) number xs xs' → length xs ≡ length xs'
+  same_names a.no_name = refl
+  same_names (a.a_name h hs) = ap suc (same_names hs)
+
   same_count : {i : OrderedItem Leaf Token ℕ} {i' : WrittenItem Tok Tok ℕ Tok} → AlikeItem (rel s.run) n i i' → item_bindings i + item_recipes i ≡ item_bindings i' + item_recipes i'
+  same_count (a.alias none h hs) = refl
   same_count (a.assignment none h e) = refl
   same_count a.comment = refl
+  same_count (a.function none h hs e) = ap (λ (k : ℕ). k + 0) (same_names hs)
+  same_count (a.import none h) = refl
+  same_count (a.module_of none h o) = refl
   same_count a.newline = refl
+  same_count (a.setting none h v) = refl
+  same_count (a.unexport none h) = refl
   same_count (a.recipe none h body) = ap (λ (k : ℕ). k + 1) (same_parameters h.parameters)
 
   -- what begins a line takes an identifier for its number

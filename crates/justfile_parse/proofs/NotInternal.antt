@@ -13,6 +13,7 @@ use Rattle.justfile_base.specs.declared.compile_error.CompileError.{CompileError
 use Rattle.justfile_base.specs.declared.compile_error_kind.CompileErrorKind.{CompileErrorKind}
 use Rattle.justfile_base.specs.declared.compile_error_kind.CompileErrorKind.TheVariants.{Internal}
 use Rattle.justfile_base.specs.declared.delimiter.Delimiter.{Delimiter}
+use Rattle.justfile_base.specs.declared.keyword.Keyword.{Keyword}
 use Rattle.justfile_base.specs.declared.string_kind.StringDelimiter.{StringDelimiter}
 use Rattle.justfile_base.specs.declared.string_kind.StringDelimiter.TheVariants as delimiters
 use Rattle.justfile_base.specs.declared.string_kind.StringKind.{StringKind}
@@ -29,7 +30,7 @@ use Rattle.justfile_attribute_rules.specs.RuleErrors.{SaysRule}
 use Rattle.justfile_model.specs.Rules as rules
 use Rattle.justfile_model.specs.Rules.{Rule}
 use Rattle.justfile_parse.specs.Errors.{IsErrorOf, IsUnexpected}
-use Rattle.justfile_parse_attribute.specs.Halting.{IsAfterVariadic, IsExtraneous}
+use Rattle.justfile_parse_attribute.specs.Halting.{IsAfterVariadic, IsExpectedKeyword, IsExtraneous, IsUnknownSetting}
 use Rattle.justfile_model.specs.LexicalFault.{LexicalFault, NotLexical, LexicalRefusal, Here, Unclosed, lexical_fault_of}
 use Rattle.justfile_model.specs.LiteralText.{raw_len}
 use Rattle.justfile_model.specs.Modes.{Mode, head_of, innermost, is_empty, mode, nested}
@@ -206,6 +207,14 @@ variadic_kind : (name : Token) (kind : CompileErrorKind) → IsAfterVariadic nam
 variadic_kind name (Internal message) h = absurd h
 variadic_kind name _ h = refl
 
+unknown_kind : (name : Token) (kind : CompileErrorKind) → IsUnknownSetting name kind → internal_message kind ≡ None
+unknown_kind name (Internal message) h = absurd h
+unknown_kind name _ h = refl
+
+expected_kind : (expected : List Keyword) (found : Token) (kind : CompileErrorKind) → IsExpectedKeyword expected found kind → internal_message kind ≡ None
+expected_kind expected found (Internal message) h = absurd h
+expected_kind expected found _ h = refl
+
 pub refusal_not_internal : (tokens : List SignificantToken) (r : model.Refusal) (e : CompileError) → IsErrorOf tokens r e → internal_message e.kind ≡ None
 refusal_not_internal tokens (reader.Unexpected at) e h = unexpected_kind e.kind e.token h.0
 refusal_not_internal tokens (reader.TooDeep at) e h = ap internal_message h.0
@@ -213,4 +222,6 @@ refusal_not_internal tokens (reader.NotCooked fault t) e h = literal_kind fault 
 refusal_not_internal tokens (reader.BreaksRule rule) e h = rule_kind h.rule.token h.rule.rule e.kind h.error.says
 refusal_not_internal tokens (reader.Extraneous count opener) e h = extraneous_kind count e.kind h.0
 refusal_not_internal tokens (reader.AfterVariadic name) e h = variadic_kind e.token e.kind h.0
+refusal_not_internal tokens (reader.UnknownSetting name) e h = unknown_kind e.token e.kind h.0
+refusal_not_internal tokens (reader.ExpectedKeyword expected found) e h = expected_kind expected e.token e.kind h.0
 refusal_not_internal tokens (reader.NoNumber counters) e h = absurd h

@@ -39,7 +39,7 @@ use Rattle.justfile_file.specs.declared.fragment.Fragment.TheVariants as fragmen
 use Rattle.justfile_file.specs.declared.line.Line.{Line}
 use Rattle.justfile_file.specs.declared.ast.Ast.{Ast}
 use Rattle.justfile_file.specs.declared.item.Item.{Item}
-use Rattle.justfile_file.specs.declared.item.Item.TheVariants.{Assignment, Comment, Newline, Recipe}
+use Rattle.justfile_file.specs.declared.item.Item.TheVariants.{Alias, Assignment, Comment, Function, Import, Module, Newline, Recipe, Setting, Unexport}
 use Rattle.justfile_model.specs.Answers.{IsFrom, IsLexerFault}
 use Rattle.justfile_model.specs.Conditions.{Conditions}
 use Rattle.justfile_model.specs.Files.{FileDerives, body_literals, dependency_literals, entries_literals, expr_literals, exprs_literals, fragments_literals, header_literals, item_literals, literals, optional_literals, ordered, parameter_literals, parts_literals}
@@ -67,10 +67,11 @@ use Rattle.justfile_parse.specs.Parsing.{HasNoTree, IsOneLex, IsParsed, IsParsed
 use Rattle.justfile_parse.specs.MethodResults.{IsRead, IsUnread}
 use Rattle.justfile_parse_expression.specs.Significant.{significant_of}
 use Rattle.justfile_parse_expression.specs.declared.significant.TableEntry.{TableEntry}
-use Rattle.justfile_parse.specs.Unstable.{unstable_of}
+use Rattle.justfile_model.specs.UnstableFeatures.{unstable_features}
 use Rattle.justfile_parse.specs.WantsNumber.{WantsNumber}
 use Rattle.justfile_parse.proofs.Comments.{AreComments, lexed_comments}
 use Rattle.justfile_parse.proofs.GivenAttributes.{given_set, joined_cook, lexemes, set_cooks, string_cooks, string_tok}
+use Rattle.justfile_parse.proofs.GivenParts as parts
 use Rattle.justfile_parse.proofs.NotInternal.{not_internal, refusal_not_internal}
 use Rattle.justfile_tree.specs.Expression.{assert_of, conditional_of, expr_of, expr_cooked, exprs_cooked, exprs_of_row, format_of, optional_cooked, join_of, literal_tok, part_tok, parts_cooked, parts_of_row}
 use Rattle.justfile_tree.specs.declared.expression.Expression.{Expression, And', Assert', Backtick, Call', Comparison', Concatenation', Conditional', FormatString', Group', Join', List', ListConcatenation', Not', Or', StringLiteral, Variable, Held-Expression-Assert-1 as OptionalExpression, None', Some', Row_of-Expression as ExpressionRow, end_of-Expression as row_end, more_of-Expression as row_more, Row_of-Expression-FormatString-1-2 as FormatRow, end_of-Expression-FormatString-1-2 as format_row_end, more_of-Expression-FormatString-1-2 as format_row_more}
@@ -195,6 +196,12 @@ module _ (expander : Expansions) (P Q : Token → Type 0) (weaker : (t : Token) 
   )
 
   pub given_weaker : (file_depth : ℕ) (import_offsets : List ℕ) (i : Item) → IsGivenItem expander P file_depth import_offsets i → IsGivenItem expander Q file_depth import_offsets i
+  given_weaker file_depth import_offsets (Alias a) h =
+      record {
+        among = weaker a.name.token h.among;
+        target = parts.given_names expander P Q weaker given_expression (names_in a.target) h.target;
+        attributes = given_set expander P Q weaker given_expression a.attributes h.attributes;
+      }
   given_weaker file_depth import_offsets (Assignment a) h =
       record {
         among = weaker a.name.token h.among;
@@ -205,6 +212,24 @@ module _ (expander : Expansions) (P Q : Token → Type 0) (weaker : (t : Token) 
         value = given_expression a.value h.value;
       }
   given_weaker file_depth import_offsets (Comment text) h = tt
+  given_weaker file_depth import_offsets (Function f) h =
+      record {
+        among = weaker f.name.token h.among;
+        parameters = parts.given_numbered expander P Q weaker given_expression f.parameters.items h.parameters;
+        body = given_expression f.body h.body;
+        attributes = given_set expander P Q weaker given_expression f.attributes h.attributes;
+      }
+  given_weaker file_depth import_offsets (Import set optional relative) h =
+      record {
+        relative_is = parts.given_literal expander P Q weaker given_expression relative h.relative_is;
+        attributes_are = given_set expander P Q weaker given_expression set h.attributes_are;
+      }
+  given_weaker file_depth import_offsets (Module set doc name optional relative) h =
+      record {
+        among = weaker name.token h.among;
+        relative_is = parts.given_path expander P Q weaker given_expression relative h.relative_is;
+        attributes_are = given_set expander P Q weaker given_expression set h.attributes_are;
+      }
   given_weaker file_depth import_offsets Newline h = tt
   given_weaker file_depth import_offsets (Recipe r) h =
       record {
@@ -220,6 +245,14 @@ module _ (expander : Expansions) (P Q : Token → Type 0) (weaker : (t : Token) 
         shebang = h.shebang;
         attributes = given_set expander P Q weaker given_expression r.attributes h.attributes;
       }
+  given_weaker file_depth import_offsets (Setting s) h =
+      record {
+        among = weaker s.name.token h.among;
+        value = parts.given_setting expander P Q weaker given_expression s.value h.value;
+        attributes = given_set expander P Q weaker given_expression s.attributes h.attributes;
+      }
+  given_weaker file_depth import_offsets (Unexport set name) h =
+      record { among = weaker name.token h.among; attributes_are = given_set expander P Q weaker given_expression set h.attributes_are }
 
 -- ---- the texts of literals
 
@@ -343,9 +376,19 @@ module _ (expander : Expansions) (P : Token → Type 0) where
       (dependencies_cook (subsequents_of r) (All-drop (IsGivenDependency expander P) r.priors r.dependencies.items h.dependencies))
 
   item_cooks : (file_depth : ℕ) (import_offsets : List ℕ) (i : Item) → IsGivenItem expander P file_depth import_offsets i → AreCookedTexts expander (lexemes (item_literals entries_literals (item_of i))) (item_cooked i)
+  item_cooks file_depth import_offsets (Alias a) h =
+      parts.bare_cook expander (entries_literals (entries_of a.attributes)) (set_cooked a.attributes) (set_cooks expander P expression_cooks a.attributes h.attributes)
   item_cooks file_depth import_offsets (Assignment a) h =
       joined_cook expander (entries_literals (entries_of a.attributes)) _ (set_cooked a.attributes) _ (set_cooks expander P expression_cooks a.attributes h.attributes) (expression_cooks a.value h.value)
   item_cooks file_depth import_offsets (Comment text) h = tt
+  item_cooks file_depth import_offsets (Function f) h =
+      joined_cook expander (entries_literals (entries_of f.attributes)) _ (set_cooked f.attributes) _ (set_cooks expander P expression_cooks f.attributes h.attributes) (expression_cooks f.body h.body)
+  item_cooks file_depth import_offsets (Import set optional relative) h =
+      joined_cook expander (entries_literals (entries_of set)) _ (set_cooked set) _ (set_cooks expander P expression_cooks set h.attributes_are)
+      (parts.relative_cooks expander P expression_cooks relative h.relative_is)
+  item_cooks file_depth import_offsets (Module set doc name optional relative) h =
+      joined_cook expander (entries_literals (entries_of set)) _ (set_cooked set) _ (set_cooks expander P expression_cooks set h.attributes_are)
+      (parts.path_cooks expander P expression_cooks relative h.relative_is)
   item_cooks file_depth import_offsets Newline h = tt
   item_cooks file_depth import_offsets (Recipe r) h =
       let header = header_literals (header_of r) in
@@ -355,6 +398,11 @@ module _ (expander : Expansions) (P : Token → Type 0) where
       (joined_cook expander (entries_literals (entries_of r.attributes)) (header ++ body) (set_cooked r.attributes) (header_cooked r ++ texts)
       (set_cooks expander P expression_cooks r.attributes h.attributes)
       (joined_cook expander header body (header_cooked r) texts (header_cooks r h) (lines_cook r.body.items h.body)))
+  item_cooks file_depth import_offsets (Setting s) h =
+      joined_cook expander (entries_literals (entries_of s.attributes)) _ (set_cooked s.attributes) _ (set_cooks expander P expression_cooks s.attributes h.attributes)
+      (parts.setting_cooks expander P expression_cooks s.value h.value)
+  item_cooks file_depth import_offsets (Unexport set name) h =
+      parts.bare_cook expander (entries_literals (entries_of set)) (set_cooked set) (set_cooks expander P expression_cooks set h.attributes_are)
 
 -- the literals' texts are theirs
 pub cooks_of : (expander : Expansions) (P : Token → Type 0) (file_depth : ℕ) (import_offsets : List ℕ) (items : List Item) → All (IsGivenItem expander P file_depth import_offsets) items → AreCookedTexts expander (lexemes (literals (map item_of items))) (flat_map item_cooked items)
@@ -422,7 +470,7 @@ module _ (conditions : Conditions) (tokens : List Token) (table : List TableEntr
       )
 
   pub parsed_of : All (λ entry. Contains tokens entry.token.now) table → (file_depth : ℕ) (import_offsets : List ℕ) (ast : Ast)
-      → IsRead conditions table file_depth import_offsets (map significant_of table) old new (ast.items.items, ast.list_features.items) → ast.unstable_features.keys ≡ unstable_of ast.items.items
+      → IsRead conditions table file_depth import_offsets (map significant_of table) old new (ast.items.items, ast.list_features.items) → ast.unstable_features.keys ≡ unstable_features (tree_of ast)
       → IsParsed conditions (map tok_of tokens) (Contains tokens) file_depth import_offsets old new ast
   parsed_of all file_depth import_offsets ast h unstable =
       record {

@@ -74,7 +74,7 @@ module _ (conditions : Conditions) (IsToken : Token → Type 0) (file_depth : �
 
   -- ---- attributes
 
-  quoted_seen : (l : strings.StringLiteral) {q : Quoted Tok} → AlikeQuoted seen (quoted_by leaf_tree_of literal_leaf own l) q
+  pub quoted_seen : (l : strings.StringLiteral) {q : Quoted Tok} → AlikeQuoted seen (quoted_by leaf_tree_of literal_leaf own l) q
       → (q ≡ quoted_by expr_of literal_tok tok_of l) × IsGivenLiteral conditions.expander IsToken l
   quoted_seen l {q} h =
       let x = seeing.string_seen conditions IsToken file_depth import_offsets h.lexeme l q.token h.token in
@@ -85,7 +85,7 @@ module _ (conditions : Conditions) (IsToken : Token → Type 0) (file_depth : �
   quoted_row ls h = seeing.all_seen conditions IsToken file_depth import_offsets (quoted_by leaf_tree_of literal_leaf own) (quoted_by expr_of literal_tok tok_of) (IsGivenLiteral conditions.expander IsToken) (λ l q k. quoted_seen l k) ls h
 
   -- what may be absent
-  if_seen : {Z T U : Type 0} {Rel : T → U → Type 0} (view : Z → T) (model_view : Z → U) (IsGood : Z → Type 0) → ((z : Z) (u : U) → Rel (view z) u → (u ≡ model_view z) × IsGood z)
+  pub if_seen : {Z T U : Type 0} {Rel : T → U → Type 0} (view : Z → T) (model_view : Z → U) (IsGood : Z → Type 0) → ((z : Z) (u : U) → Rel (view z) u → (u ≡ model_view z) × IsGood z)
       → (o : Option Z) {ou : Option U} → AlikeOption Rel (option_map view o) ou → (ou ≡ option_map model_view o) × IfThere IsGood o
   if_seen view model_view IsGood one None absent = (refl, tt)
   if_seen view model_view IsGood one (Some z) (present {y = u} h) = let x = one z u h in (ap Some x.0, x.1)
@@ -277,6 +277,9 @@ module _ (conditions : Conditions) (IsToken : Token → Type 0) (file_depth : �
     literal_bytes : token_content (leaf_token leaf) ≡ tok_content tok
     literal_bytes = ap token_content literal_held ∙ ap tok_content (sym h.tok_is)
 
+    literal_lexeme : lexeme_of (leaf_token leaf) ≡ lexeme tok
+    literal_lexeme = ap lexeme_of literal_held ∙ ap lexeme (sym h.tok_is)
+
   plain_text : {x : List ℕ} {leaf : Leaf} {tok : Tok} (h : IsLiteralLeaf (literals.Plain x) leaf tok) → text_under E lexeme (literals.Plain tok) ≡ Some h.text
   plain_text h = ap (λ (k : List ℕ). text_or_none (cooked_text E (literals.Plain k))) (literal_spelled h) ∙ ap text_or_none h.cooked
 
@@ -334,6 +337,7 @@ module _ (conditions : Conditions) (IsToken : Token → Type 0) (file_depth : �
   sees_alike = record {
     bytes = λ n n' h. leaf_bytes (λ t. refl) h;
     name_place = λ n n' h. leaf_place (λ t. refl) h;
+    literal_bytes = λ l t t' h. literal_lexeme h;
     literal_place = λ l t t' h. literal_place h;
     assignment_place = λ number n n' h. leaf_place (λ t. refl) h;
     parameter_bytes = λ number n rules n' rules' h. leaf_bytes (λ t. refl) h;

@@ -14,19 +14,19 @@ use Rattle.justfile_file.specs.declared.item.Item.{Item}
 use Rattle.justfile_file.specs.declared.item.Item.TheVariants as items
 use Rattle.justfile_model.specs.AttributeKinds.{same_attribute}
 use Rattle.justfile_model.specs.Conditions.{Conditions}
-use Rattle.justfile_model.specs.Docs.{Before, LineEnd, Nothing, Other, comment_taken, doc_in, doc_or_comment, documented, redocumented, taken}
+use Rattle.justfile_model.specs.Docs.{Before, LineEnd, Nothing, Other, comment_taken, doc_in, doc_of, doc_or_comment, documented, redocumented, taken, takes_doc}
 use Rattle.justfile_model.specs.Files.{NumbersFrom, if_both, ordered, ordered_item, says_doc, undocumented}
 use Rattle.justfile_model.specs.Reading.{Counters}
 use Rattle.justfile_model.specs.Sight.{sees_tokens}
 use Rattle.justfile_model.specs.Tok.{Tok}
 use Rattle.justfile_model.specs.Tree as tree
-use Rattle.justfile_model.specs.Tree.{AssignmentParts, BodyLine, Entry, Header, Item as AnyItem, OrderedItem, Tree, WrittenItem, WrittenTree, bare_recipe}
+use Rattle.justfile_model.specs.Tree.{Content, Entry, Item as AnyItem, OrderedItem, Tree, WrittenItem, WrittenTree}
 use Rattle.justfile_model.proofs.Binds.{some_back}
-use Rattle.justfile_model.proofs.Counters.{count}
+use Rattle.justfile_model.proofs.Counters.{count, count_content}
 use Rattle.justfile_model.proofs.Related as a
 use Rattle.justfile_model.proofs.Related.{AlikeItem, AlikeItems}
 use Rattle.justfile_parse.specs.Filled.{IsGivenItem}
-use Rattle.justfile_parse.specs.Tree.{doc_text, item_tree}
+use Rattle.justfile_parse.specs.Tree.{item_tree}
 use Rattle.justfile_parse.specs.Whole.{IsWholeItem}
 use Rattle.justfile_parse_expression.proofs.Seen.{Relates}
 use Rattle.justfile_tree.specs.LeafTree.{Leaf}
@@ -48,8 +48,64 @@ redoc doc (tree.Comment text) = tree.Comment text
 redoc doc (tree.Construct attributes content) = tree.Construct attributes (redocumented doc content)
 
 abbrev doc_at : {A B C S D : Type 0} → AnyItem A B C S D → Option (List ℕ)
-doc_at (tree.Construct attributes (tree.Recipe parts)) = parts.doc
+doc_at (tree.Construct attributes content) = doc_of content
 doc_at _ = None
+
+module _ {A B C S : Type 0} where
+  -- with another doc, a construct takes a doc as before
+  still_takes : (doc : Option (List ℕ)) (content : Content A B C S) → takes_doc (redocumented doc content) ≡ takes_doc content
+  still_takes doc (tree.Alias parts) = refl
+  still_takes doc (tree.Assignment parts) = refl
+  still_takes doc (tree.Function parts) = refl
+  still_takes doc (tree.Import parts) = refl
+  still_takes doc (tree.Module parts) = refl
+  still_takes doc (tree.Recipe parts) = refl
+  still_takes doc (tree.Setting parts) = refl
+  still_takes doc (tree.Unexport name) = refl
+
+  -- it has that doc, if it takes one
+  doc_given : (doc : Option (List ℕ)) (content : Content A B C S) → doc_of (redocumented doc content) ≡ cond (takes_doc content) doc None
+  doc_given doc (tree.Alias parts) = refl
+  doc_given doc (tree.Assignment parts) = refl
+  doc_given doc (tree.Function parts) = refl
+  doc_given doc (tree.Import parts) = refl
+  doc_given doc (tree.Module parts) = refl
+  doc_given doc (tree.Recipe parts) = refl
+  doc_given doc (tree.Setting parts) = refl
+  doc_given doc (tree.Unexport name) = refl
+
+  -- the last doc counts
+  given_again : (doc other : Option (List ℕ)) (content : Content A B C S) → redocumented doc (redocumented other content) ≡ redocumented doc content
+  given_again doc other (tree.Alias parts) = refl
+  given_again doc other (tree.Assignment parts) = refl
+  given_again doc other (tree.Function parts) = refl
+  given_again doc other (tree.Import parts) = refl
+  given_again doc other (tree.Module parts) = refl
+  given_again doc other (tree.Recipe parts) = refl
+  given_again doc other (tree.Setting parts) = refl
+  given_again doc other (tree.Unexport name) = refl
+
+  -- with its own doc it is as it was
+  own_doc : (content : Content A B C S) → redocumented (doc_of content) content ≡ content
+  own_doc (tree.Alias parts) = refl
+  own_doc (tree.Assignment parts) = refl
+  own_doc (tree.Function parts) = refl
+  own_doc (tree.Import parts) = refl
+  own_doc (tree.Module parts) = refl
+  own_doc (tree.Recipe parts) = refl
+  own_doc (tree.Setting parts) = refl
+  own_doc (tree.Unexport name) = refl
+
+  -- a doc takes no number
+  count_kept : (n : Counters) (doc : Option (List ℕ)) (content : Content A B C S) → count_content n (redocumented doc content) ≡ count_content n content
+  count_kept n doc (tree.Alias parts) = refl
+  count_kept n doc (tree.Assignment parts) = refl
+  count_kept n doc (tree.Function parts) = refl
+  count_kept n doc (tree.Import parts) = refl
+  count_kept n doc (tree.Module parts) = refl
+  count_kept n doc (tree.Recipe parts) = refl
+  count_kept n doc (tree.Setting parts) = refl
+  count_kept n doc (tree.Unexport name) = refl
 
 -- items, each with its doc or without
 abbrev LeafItem : Type 0
@@ -71,16 +127,11 @@ module _ (conditions : Conditions) (IsToken : Token → Type 0) (file_depth : �
   data Docs (n : Counters) : LeafItem → TreeItem → Type 0 where
     newline : Docs n tree.Newline tree.Newline
     comment : {text : List ℕ} → Docs n (tree.Comment text) (tree.Comment text)
-    assignment : {entries : List (Entry Leaf Token)} {others : List (Entry Tok Tok)} {parts : AssignmentParts Leaf Token} {other : AssignmentParts Tok Tok}
-        {t : WrittenItem Tok Tok ℕ Tok} → AlikeItem seen n (tree.Construct entries (tree.Assignment parts)) t
-        → meant t ≡ Some (tree.Construct others (tree.Assignment other))
-        → Docs n (tree.Construct entries (tree.Assignment parts)) (tree.Construct others (tree.Assignment other))
-    recipe : {entries : List (Entry Leaf Token)} {others : List (Entry Tok Tok)} {doc : Option (List ℕ)} {header : Header Leaf Token (Unit {0})}
-        {body : List (BodyLine Leaf Token ℕ)} {other : Header Tok Tok (Unit {0})} {lines : List (BodyLine Tok Tok ℕ)} {t : WrittenItem Tok Tok ℕ Tok}
-        → says_doc entries ≡ says_doc others → AlikeItem seen n (tree.Construct entries (tree.Recipe (bare_recipe header body))) t
-        → meant t ≡ Some (tree.Construct others (tree.Recipe (bare_recipe other lines)))
-        → Docs n (tree.Construct entries (tree.Recipe (record { doc = doc; header = header; body = body })))
-        (tree.Construct others (tree.Recipe (record { doc = doc; header = other; body = lines })))
+    construct : {entries : List (Entry Leaf Token)} {others : List (Entry Tok Tok)} {content : Content Leaf Token ℕ (Unit {0})}
+        {other : Content Tok Tok ℕ (Unit {0})} {t : WrittenItem Tok Tok ℕ Tok}
+        → says_doc entries ≡ says_doc others → takes_doc content ≡ takes_doc other → doc_of content ≡ doc_of other
+        → AlikeItem seen n (tree.Construct entries (redocumented None content)) t → meant t ≡ Some (tree.Construct others (redocumented None other))
+        → Docs n (tree.Construct entries content) (tree.Construct others other)
 
   -- items, where the counters stand before the first
   data AllDocs : Counters → List LeafItem → Tree → Type 0 where
@@ -89,28 +140,38 @@ module _ (conditions : Conditions) (IsToken : Token → Type 0) (file_depth : �
 
   -- ---- docs are taken on both sides
 
-  -- a recipe with the doc of the comment before it, unless it has one
-  recipe_alike : (text doc : List ℕ) (old : Option (List ℕ)) {n : Counters} {entries : List (Entry Leaf Token)} {others : List (Entry Tok Tok)} {header : Header Leaf Token (Unit {0})}
-      {body : List (BodyLine Leaf Token ℕ)} {other : Header Tok Tok (Unit {0})} {lines : List (BodyLine Tok Tok ℕ)} {t : WrittenItem Tok Tok ℕ Tok} {ls : List LeafItem} {us : Tree}
-      (b b' : Bool) → b ≡ b' → says_doc entries ≡ says_doc others → AlikeItem seen n (tree.Construct entries (tree.Recipe (bare_recipe header body))) t
-      → meant t ≡ Some (tree.Construct others (tree.Recipe (bare_recipe other lines)))
-      → AllDocs (count n (tree.Construct entries (tree.Recipe (bare_recipe header body)))) ls us
-      → AllDocs n (doc_or_comment says_doc text (tree.Construct entries (tree.Recipe (record { doc = old; header = header; body = body }))) ls
-      (cond b (Some (tree.Construct entries (tree.Recipe (record { doc = Some doc; header = header; body = body })))) None))
-      (doc_or_comment says_doc text (tree.Construct others (tree.Recipe (record { doc = old; header = other; body = lines }))) us
-      (cond b' (Some (tree.Construct others (tree.Recipe (record { doc = Some doc; header = other; body = lines })))) None))
-  recipe_alike text doc old true true same says h means hs = more_docs (recipe says h means) hs
-  recipe_alike text doc old false false same says h means hs = more_docs comment (more_docs newline (more_docs (recipe says h means) hs))
-  recipe_alike text doc old true false same says h means hs = cc
-  recipe_alike text doc old false true same says h means hs = cc
+  -- a construct with this doc
+  documented_construct : (doc : Option (List ℕ)) (content : Content Leaf Token ℕ (Unit {0})) (other : Content Tok Tok ℕ (Unit {0})) {n : Counters} {entries : List (Entry Leaf Token)}
+      {others : List (Entry Tok Tok)} {t : WrittenItem Tok Tok ℕ Tok}
+      → says_doc entries ≡ says_doc others → takes_doc content ≡ takes_doc other
+      → AlikeItem seen n (tree.Construct entries (redocumented None content)) t → meant t ≡ Some (tree.Construct others (redocumented None other))
+      → Docs n (tree.Construct entries (redocumented doc content)) (tree.Construct others (redocumented doc other))
+  documented_construct doc content other {n} {entries} {others} {t} says takes h means =
+      construct says (still_takes doc content ∙ takes ∙ sym (still_takes doc other))
+      (doc_given doc content ∙ ap (λ (b : Bool). cond b doc None) takes ∙ sym (doc_given doc other))
+      (subst (λ (c : Content Leaf Token ℕ (Unit {0})). AlikeItem seen n (tree.Construct entries c) t) (sym (given_again None doc content)) h)
+      (means ∙ ap (λ (c : Content Tok Tok ℕ (Unit {0})). Some (tree.Construct others c)) (sym (given_again None doc other)))
+
+  -- a construct with the doc of the comment before it, if it may have it
+  construct_alike : (text doc : List ℕ) (content : Content Leaf Token ℕ (Unit {0})) (other : Content Tok Tok ℕ (Unit {0})) {n : Counters} {entries : List (Entry Leaf Token)}
+      {others : List (Entry Tok Tok)} {t : WrittenItem Tok Tok ℕ Tok} {ls : List LeafItem} {us : Tree}
+      (b b' : Bool) → b ≡ b' → says_doc entries ≡ says_doc others → takes_doc content ≡ takes_doc other → doc_of content ≡ doc_of other
+      → AlikeItem seen n (tree.Construct entries (redocumented None content)) t → meant t ≡ Some (tree.Construct others (redocumented None other))
+      → AllDocs (count n (tree.Construct entries content)) ls us
+      → AllDocs n (doc_or_comment says_doc text (tree.Construct entries content) ls (cond b (Some (tree.Construct entries (redocumented (Some doc) content))) None))
+      (doc_or_comment says_doc text (tree.Construct others other) us (cond b' (Some (tree.Construct others (redocumented (Some doc) other))) None))
+  construct_alike text doc content other {n} {ls = ls} {us = us} true true same says takes docs h means hs =
+      more_docs (documented_construct (Some doc) content other says takes h means) (subst (λ (c : Counters). AllDocs c ls us) (sym (count_kept n (Some doc) content)) hs)
+  construct_alike text doc content other false false same says takes docs h means hs = more_docs comment (more_docs newline (more_docs (construct says takes docs h means) hs))
+  construct_alike text doc content other true false same says takes docs h means hs = cc
+  construct_alike text doc content other false true same says takes docs h means hs = cc
 
   item_alike : (text doc : List ℕ) {n : Counters} {l : LeafItem} {u : TreeItem} {ls : List LeafItem} {us : Tree} → Docs n l u → AllDocs (count n l) ls us
       → AllDocs n (comment_taken says_doc text l ls (Some doc)) (comment_taken says_doc text u us (Some doc))
   item_alike text doc newline hs = more_docs comment (more_docs newline (more_docs newline hs))
   item_alike text doc comment hs = more_docs comment (more_docs newline (more_docs comment hs))
-  item_alike text doc (assignment h means) hs = more_docs comment (more_docs newline (more_docs (assignment h means) hs))
-  item_alike text doc (recipe {doc = old} says h means) hs =
-      recipe_alike text doc old _ _ (λ i. true && not (says i) && not (is_some old)) says h means hs
+  item_alike text doc (construct {content = content} {other = other} says takes docs h means) hs =
+      construct_alike text doc content other _ _ (λ i. takes i && not (says i) && not (is_some (docs i))) says takes docs h means hs
 
   wanted_alike : (text : List ℕ) (doc : Option (List ℕ)) {n : Counters} {l : LeafItem} {u : TreeItem} {ls : List LeafItem} {us : Tree} → Docs n l u → AllDocs (count n l) ls us
       → AllDocs n (comment_taken says_doc text l ls doc) (comment_taken says_doc text u us doc)
@@ -123,15 +184,13 @@ module _ (conditions : Conditions) (IsToken : Token → Type 0) (file_depth : �
   comment_alike before text (more_docs newline no_docs) = more_docs comment (more_docs newline no_docs)
   comment_alike before text (more_docs newline (more_docs h hs)) = wanted_alike text (doc_in before text) h hs
   comment_alike before text (more_docs comment hs) = more_docs comment (more_docs comment hs)
-  comment_alike before text (more_docs (assignment h means) hs) = more_docs comment (more_docs (assignment h means) hs)
-  comment_alike before text (more_docs (recipe says h means) hs) = more_docs comment (more_docs (recipe says h means) hs)
+  comment_alike before text (more_docs (construct says takes docs h means) hs) = more_docs comment (more_docs (construct says takes docs h means) hs)
 
   documented_alike : (before : Before) {n : Counters} {ls : List LeafItem} {us : Tree} → AllDocs n ls us → AllDocs n (documented says_doc before ls) (documented says_doc before us)
   documented_alike before no_docs = no_docs
   documented_alike before (more_docs newline hs) = more_docs newline (documented_alike LineEnd hs)
   documented_alike before (more_docs (comment {text = text}) hs) = comment_alike before text (documented_alike Other hs)
-  documented_alike before (more_docs (assignment h means) hs) = more_docs (assignment h means) (documented_alike Other hs)
-  documented_alike before (more_docs (recipe says h means) hs) = more_docs (recipe says h means) (documented_alike Other hs)
+  documented_alike before (more_docs (construct says takes docs h means) hs) = more_docs (construct says takes docs h means) (documented_alike Other hs)
 
   -- ---- before docs are taken
 
@@ -139,20 +198,58 @@ module _ (conditions : Conditions) (IsToken : Token → Type 0) (file_depth : �
   bare_is : {n : Counters} {l : LeafItem} {t : WrittenItem Tok Tok ℕ Tok} → AlikeItem seen n l t → undoc l ≡ l
   bare_is a.newline = refl
   bare_is a.comment = refl
+  bare_is (a.alias d h hs) = refl
   bare_is (a.assignment d h e) = refl
+  bare_is (a.function d h hs e) = refl
+  bare_is (a.import d q) = refl
+  bare_is (a.module_of d h o) = refl
+  bare_is (a.setting d h v) = refl
+  bare_is (a.unexport d h) = refl
   bare_is (a.recipe d h ls) = refl
 
+  -- what the definitions see of an item has the doc that the parser's tree has
+  redocumented_item : (i : Item) → redoc (doc_at (item_tree i)) (item_of i) ≡ item_of i
+  redocumented_item (items.Alias b) = refl
+  redocumented_item (items.Assignment b) = refl
+  redocumented_item (items.Comment text) = refl
+  redocumented_item (items.Function f) = refl
+  redocumented_item (items.Import set optional relative) = refl
+  redocumented_item (items.Module set doc name optional relative) = refl
+  redocumented_item items.Newline = refl
+  redocumented_item (items.Recipe r) = refl
+  redocumented_item (items.Setting s) = refl
+  redocumented_item (items.Unexport set name) = refl
+
+  undoc_is : {A B C S D : Type 0} (i : AnyItem A B C S D) → undoc i ≡ redoc None i
+  undoc_is tree.Newline = refl
+  undoc_is (tree.Comment text) = refl
+  undoc_is (tree.Construct attributes content) = refl
+
+  no_doc : {A B C S D : Type 0} (i : AnyItem A B C S D) → doc_at (undoc i) ≡ None
+  no_doc tree.Newline = refl
+  no_doc (tree.Comment text) = refl
+  no_doc (tree.Construct attributes content) = doc_given None content ∙ none_or_none (takes_doc content)
+    where
+      none_or_none : (b : Bool) → ◌≡◌ {A = Option (List ℕ)} (cond b None None) None
+      none_or_none true = refl
+      none_or_none false = refl
+
   without_doc : (i : Item) → undoc (item_tree i) ≡ item_tree i → undoc (item_of i) ≡ item_of i
-  without_doc (items.Assignment b) e = refl
-  without_doc (items.Comment text) e = refl
-  without_doc items.Newline e = refl
-  without_doc (items.Recipe r) e = let none : None ≡ doc_text r = ap doc_at e in ap (λ (doc : Option (List ℕ)). redoc doc (item_of (items.Recipe r))) none
+  without_doc i e =
+      let none : None ≡ doc_at (item_tree i) = sym (no_doc (item_tree i)) ∙ ap doc_at e in
+      undoc_is (item_of i) ∙ ap (λ (doc : Option (List ℕ)). redoc doc (item_of i)) none ∙ redocumented_item i
 
   docs_of : (n : Counters) (i : Item) {t : WrittenItem Tok Tok ℕ Tok} → AlikeItem seen n (undoc (item_tree i)) t → meant t ≡ Some (undoc (item_of i)) → Docs n (item_tree i) (item_of i)
-  docs_of n (items.Assignment b) h means = assignment h means
+  docs_of n (items.Alias b) h means = construct (set_says b.attributes) refl refl h means
+  docs_of n (items.Assignment b) h means = construct (set_says b.attributes) refl refl h means
   docs_of n (items.Comment text) h means = comment
+  docs_of n (items.Function f) h means = construct (set_says f.attributes) refl refl h means
+  docs_of n (items.Import set optional relative) h means = construct (set_says set) refl refl h means
+  docs_of n (items.Module set doc name optional relative) h means = construct (set_says set) refl refl h means
   docs_of n items.Newline h means = newline
-  docs_of n (items.Recipe r) h means = recipe (set_says r.attributes) h means
+  docs_of n (items.Recipe r) h means = construct (set_says r.attributes) refl refl h means
+  docs_of n (items.Setting s) h means = construct (set_says s.attributes) refl refl h means
+  docs_of n (items.Unexport set name) h means = construct (set_says set) refl refl h means
 
   -- what is read means these items
   record Begun (n : Counters) (is : List Item) (ts : WrittenTree) : Type 0 where
@@ -185,17 +282,41 @@ module _ (conditions : Conditions) (IsToken : Token → Type 0) (file_depth : �
     written : WrittenItem Tok Tok ℕ Tok
     seen_is : SeenItem conditions IsToken file_depth import_offsets n i written
 
+  -- an item that is a construct, of which the definitions see this
+  ended_construct : (n : Counters) (i : Item) {others : List (Entry Tok Tok)} {other : Content Tok Tok ℕ (Unit {0})} {t : WrittenItem Tok Tok ℕ Tok}
+      → doc_at (item_tree i) ≡ doc_of other → AlikeItem seen n (undoc (item_tree i)) t → meant t ≡ Some (tree.Construct others (redocumented None other))
+      → EndedItem n i (tree.Construct others other)
+  ended_construct n i {others} {other} {t} docs h means =
+      let x = item_seen conditions IsToken file_depth import_offsets n i h in
+      let bare : tree.Construct others (redocumented None other) ≡ undoc (item_of i)
+      = some_back (tree.Construct others (redocumented None other)) (undoc (item_of i)) (sym means ∙ x.same) in
+      record {
+        same =
+            ap (λ (c : Content Tok Tok ℕ (Unit {0})). tree.Construct others c) (sym (given_again (doc_of other) None other ∙ own_doc other))
+            ∙ ap (λ (doc : Option (List ℕ)). redoc doc (tree.Construct others (redocumented None other))) (sym docs)
+            ∙ ap (redoc (doc_at (item_tree i))) bare
+            ∙ undone (doc_at (item_tree i)) (item_of i)
+            ∙ redocumented_item i;
+        written = t;
+        seen_is = x;
+      }
+    where
+      undone : {A B C S D : Type 0} (doc : Option (List ℕ)) (u : AnyItem A B C S D) → redoc doc (undoc u) ≡ redoc doc u
+      undone doc tree.Newline = refl
+      undone doc (tree.Comment text) = refl
+      undone doc (tree.Construct attributes content) = ap (tree.Construct attributes) (given_again doc None content)
+
   ended_item : (n : Counters) (i : Item) {u : TreeItem} → Docs n (item_tree i) u → EndedItem n i u
-  ended_item n (items.Assignment b) (assignment {others = others} {other = other} {t = t} h means) =
-      let x = item_seen conditions IsToken file_depth import_offsets n (items.Assignment b) h in
-      record { same = some_back (tree.Construct others (tree.Assignment other)) (item_of (items.Assignment b)) (sym means ∙ x.same); written = t; seen_is = x }
+  ended_item n (items.Alias b) (construct says takes docs h means) = ended_construct n (items.Alias b) docs h means
+  ended_item n (items.Assignment b) (construct says takes docs h means) = ended_construct n (items.Assignment b) docs h means
   ended_item n (items.Comment text) comment = record { same = refl; written = tree.Comment text.now; seen_is = item_seen conditions IsToken file_depth import_offsets n (items.Comment text) a.comment }
+  ended_item n (items.Function f) (construct says takes docs h means) = ended_construct n (items.Function f) docs h means
+  ended_item n (items.Import set optional relative) (construct says takes docs h means) = ended_construct n (items.Import set optional relative) docs h means
+  ended_item n (items.Module set doc name optional relative) (construct says takes docs h means) = ended_construct n (items.Module set doc name optional relative) docs h means
   ended_item n items.Newline newline = record { same = refl; written = tree.Newline; seen_is = item_seen conditions IsToken file_depth import_offsets n items.Newline a.newline }
-  ended_item n (items.Recipe r) (recipe {others = others} {other = other} {lines = lines} {t = t} says h means) =
-      let x = item_seen conditions IsToken file_depth import_offsets n (items.Recipe r) h in
-      let bare : tree.Construct others (tree.Recipe (bare_recipe other lines)) ≡ undoc (item_of (items.Recipe r)) =
-      some_back (tree.Construct others (tree.Recipe (bare_recipe other lines))) (undoc (item_of (items.Recipe r))) (sym means ∙ x.same) in
-      record { same = ap (redoc (doc_text r)) bare; written = t; seen_is = x }
+  ended_item n (items.Recipe r) (construct says takes docs h means) = ended_construct n (items.Recipe r) docs h means
+  ended_item n (items.Setting s) (construct says takes docs h means) = ended_construct n (items.Setting s) docs h means
+  ended_item n (items.Unexport set name) (construct says takes docs h means) = ended_construct n (items.Unexport set name) docs h means
 
   ended : (n : Counters) (is : List Item) {us : Tree} → AllDocs n (map item_tree is) us → Ended n is us
   ended n [] no_docs = record { same = refl; given = λ whole. All-nil (IsGivenItem conditions.expander IsToken file_depth import_offsets); numbered = tt; recipes_numbered = tt }

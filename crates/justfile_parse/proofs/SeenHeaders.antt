@@ -38,12 +38,20 @@ module _ (conditions : Conditions) (IsToken : Token → Type 0) (file_depth : �
   abbrev IsLeaf : (Token → Leaf) → Leaf → Tok → Type 0
   IsLeaf = table.IsLeaf conditions IsToken file_depth import_offsets
 
-  -- ---- dependencies
+  -- ---- names
 
-  name_seen : (name : Name) (tok : Tok) → IsLeaf (λ token. Named token None) (name_tree name) tok → (tok ≡ name_of name) × IsGivenName conditions.expander IsToken name
+  pub name_seen : (name : Name) (tok : Tok) → IsLeaf (λ token. Named token None) (name_tree name) tok → (tok ≡ name_of name) × IsGivenName conditions.expander IsToken name
   name_seen name tok h =
       let x = seeing.variable_seen conditions IsToken file_depth import_offsets name.token None tok h in
       (x.1, x.0)
+
+  -- the names of a path
+  pub path_seen : (names : List Name) {ts : List Tok} → Each (IsLeaf (λ token. Named token None)) (map name_tree names) ts
+      → (ts ≡ map name_of names) × All (IsGivenName conditions.expander IsToken) names
+  path_seen names h =
+      seeing.all_seen conditions IsToken file_depth import_offsets name_tree name_of (IsGivenName conditions.expander IsToken) name_seen names h
+
+  -- ---- dependencies
 
   star_seen : (starred : Bool) {star : Option Tok} → AlikeOption seen.star (star_of starred) star → option_map (λ (t : Tok). tt) star ≡ star_of starred
   star_seen true (present h) = refl
@@ -58,7 +66,7 @@ module _ (conditions : Conditions) (IsToken : Token → Type 0) (file_depth : �
   dependency_seen : (d : UnresolvedDependency) (t : tree.Dependency Tok Tok Tok) → AlikeDependency seen (dependency_tree d) t
       → (starless_dependency t ≡ dependency_of d) × IsGivenDependency conditions.expander IsToken d
   dependency_seen d t h =
-      let p = seeing.all_seen conditions IsToken file_depth import_offsets name_tree name_of (IsGivenName conditions.expander IsToken) name_seen (names_in d.recipe) h.path in
+      let p = path_seen (names_in d.recipe) h.path in
       let q = seeing.each_seen conditions IsToken file_depth import_offsets argument_tree dependency_argument_of starless_argument (IsGivenArgument conditions.expander IsToken) argument_seen d.arguments.items h.arguments in
       ((λ i. record { star = star_seen (is_starred d) h.star i; path = p.0 i; arguments = q.0 i }), (p.1, q.1))
 

@@ -1,13 +1,23 @@
 -- Items of the code side by side with those that the definitions read, whose docs are comments still.
-use Rattle.std.proofs.Common.{◌≡◌, ℕ, List, [], ◌∷◌, ◌++◌, map, All, Some, None, refl, sym, ap, subst, ◌∙◌}
+use Rattle.std.proofs.Common.{◌≡◌, ℕ, Bool, List, [], ◌∷◌, ◌++◌, map, All, Option, Some, None, refl, sym, ap, subst, ◌∙◌}
+use Rattle.std.specs.Prelude.{String}
+use Rattle.std.specs.Global.{Global}
+use Rattle.std.specs.Option.{option_map}
 use Rattle.std.proofs.lemmas.List.Elements.{All-cons, All-nil}
+use Rattle.justfile_base.specs.Namepath.{names_in}
+use Rattle.justfile_base.specs.declared.name.Name.{Name}
+use Rattle.justfile_base.specs.declared.namepath.Namepath.{Namepath}
+use Rattle.justfile_base.specs.declared.string_literal.StringLiteral.{StringLiteral}
 use Rattle.justfile_base.specs.declared.token.Token.{Token}
 use Rattle.justfile_file.specs.Ast.{noted_of}
 use Rattle.justfile_file.specs.Item.{body_line_of, header_of, item_numbers, item_of, item_recipe_numbers, priors_of, subsequents_of}
+use Rattle.justfile_file.specs.declared.alias.Alias.{Alias}
 use Rattle.justfile_file.specs.declared.binding.Binding.{Binding}
+use Rattle.justfile_file.specs.declared.function_definition.FunctionDefinition.{FunctionDefinition}
 use Rattle.justfile_file.specs.declared.item.Item.{Item}
 use Rattle.justfile_file.specs.declared.item.Item.TheVariants as items
 use Rattle.justfile_file.specs.declared.recipe.UnresolvedRecipe.{UnresolvedRecipe}
+use Rattle.justfile_file.specs.declared.set.Set.{Set}
 use Rattle.justfile_model.specs.Conditions.{Conditions}
 use Rattle.justfile_model.specs.Docs.{redocumented}
 use Rattle.justfile_model.specs.Features.{Noted}
@@ -18,22 +28,26 @@ use Rattle.justfile_model.specs.Reading.{Counters}
 use Rattle.justfile_model.specs.Sight.{sees_tokens}
 use Rattle.justfile_model.specs.Tok.{Tok, tok_of}
 use Rattle.justfile_model.specs.Tree as tree
-use Rattle.justfile_model.specs.Tree.{BodyLine, Content, Entry, Expr, Header, Item as AnyItem, WrittenAttribute, WrittenItem, bare_recipe, plain_assignment, starless, starless_header}
+use Rattle.justfile_model.specs.Tree.{BodyLine, Content, Entry, Expr, Header, Item as AnyItem, Quoted, SettingValue, WrittenAttribute, WrittenItem, assignment_of, bare_module, bare_recipe, starless, starless_header}
 use Rattle.justfile_model.specs.declared.list_feature.ListFeature.{ListFeature}
-use Rattle.justfile_model.proofs.Counters.{count}
+use Rattle.justfile_model.proofs.Counters.{count, parameters_recipes}
 use Rattle.justfile_model.proofs.Related as a
-use Rattle.justfile_model.proofs.Related.{Alike, AlikeHeader, AlikeItem, AlikeLine, Each}
-use Rattle.justfile_tree.specs.LeafTree.{Assigned, AssignmentName, Headed, Leaf, RecipeName, leaf_tree_of}
+use Rattle.justfile_model.proofs.Related.{Alike, AlikeHeader, AlikeItem, AlikeLine, AlikeNames, AlikeOption, AlikeQuoted, AlikeValue, Each}
+use Rattle.justfile_setting.specs.LeafSetting.{leaf_value_of}
+use Rattle.justfile_setting.specs.Setting.{keyword_of}
+use Rattle.justfile_tree.specs.LeafTree.{Assigned, AssignmentName, Headed, Leaf, Named, RecipeName, leaf_tree_of}
 use Rattle.justfile_tree.specs.declared.expression.Expression.{Expression}
 use Rattle.justfile_attribute_set.specs.AttributeSet as sets
-use Rattle.justfile_attribute_set.specs.AttributeSet.{leaf_entries_of}
+use Rattle.justfile_attribute_set.specs.AttributeSet.{AttributeSet, leaf_entries_of}
 use Rattle.justfile_parse.specs.Filled.{IsGivenItem, IsGivenLine}
 use Rattle.justfile_parse_expression.specs.TableReader.{assigned_leaf, headed_leaf}
-use Rattle.justfile_parse.specs.Tree.{assignment_name, item_tree, line_tree, recipe_header, recipe_name}
+use Rattle.justfile_parse.specs.Tree.{assignment_name, item_tree, line_tree, numbered_tree, quoted_tree, recipe_header, recipe_name}
+use Rattle.justfile_parse_header.specs.Tree.{name_tree, path_tree}
 use Rattle.justfile_parse.specs.Whole.{IsWholeItem}
 use Rattle.justfile_parse_expression.proofs.Seen as table
 use Rattle.justfile_parse.proofs.Seen as seeing
 use Rattle.justfile_parse.proofs.SeenHeaders as headers
+use Rattle.justfile_parse.proofs.SeenParts as parts
 use Rattle.justfile_parse_expression.proofs.Seen.{Relates, in_run}
 use Rattle.justfile_parse.proofs.Seen.{AreMeant}
 use Rattle.justfile_parse.proofs.Shebangs.{shebang_given}
@@ -75,7 +89,7 @@ module _ (conditions : Conditions) (IsToken : Token → Type 0) (file_depth : �
 
   assignment_seen : (n : Counters) (b : Binding Expression) {ws : List (WrittenAttribute Tok Tok)} {t : Tok} {e : Expr Tok Tok} → AreMeant conditions IsToken file_depth import_offsets (leaf_entries_of b.attributes) ws
       → IsLeaf (λ token. assigned_leaf (in_run conditions IsToken file_depth import_offsets) token n.bindings) (Assigned (assignment_name b)) t → Alike seen (leaf_tree_of b.value) e
-      → SeenItem n (items.Assignment b) (tree.Construct ws (tree.Assignment (plain_assignment t e)))
+      → SeenItem n (items.Assignment b) (tree.Construct ws (tree.Assignment (assignment_of b.eager b.export t e)))
   assignment_seen n b {ws} {t} {e} means h v =
       let same : assignment_name b ≡ assigned_in (assignment_name b) (assigned_leaf (in_run conditions IsToken file_depth import_offsets) h.token n.bindings) = ap (assigned_in (assignment_name b)) h.is in
       let token : h.token ≡ b.name.token = ap (λ (x : AssignmentName). x.name) (sym same) in
@@ -84,8 +98,8 @@ module _ (conditions : Conditions) (IsToken : Token → Type 0) (file_depth : �
       let x = seeing.seen_expression conditions IsToken file_depth import_offsets b.value v in
       record {
         same =
-            meant_item conditions.expander (tree.Assignment (plain_assignment t e)) ws (sets.entries_of b.attributes) m.0
-            ∙ (λ i. Some (tree.Construct (sets.entries_of b.attributes) (tree.Assignment (plain_assignment ((h.tok_is ∙ ap tok_of token) i) (x.same i)))));
+            meant_item conditions.expander (tree.Assignment (assignment_of b.eager b.export t e)) ws (sets.entries_of b.attributes) m.0
+            ∙ (λ i. Some (tree.Construct (sets.entries_of b.attributes) (tree.Assignment (assignment_of b.eager b.export ((h.tok_is ∙ ap tok_of token) i) (x.same i)))));
         given = λ whole. record {
           among = subst IsToken token h.among;
           file_depth_is = ap (λ (x : AssignmentName). x.file_depth) same;
@@ -139,11 +153,116 @@ module _ (conditions : Conditions) (IsToken : Token → Type 0) (file_depth : �
         recipe_numbers = λ more q. (number, q);
       }
 
+  -- the name of what draws no number, or draws it at another token
+  abbrev IsName : Leaf → Tok → Type 0
+  IsName = IsLeaf (λ token. Named token None)
+
+  alias_seen : (n : Counters) (b : Alias Namepath) {ws : List (WrittenAttribute Tok Tok)} {t : Tok} {ts : List Tok} → AreMeant conditions IsToken file_depth import_offsets (leaf_entries_of b.attributes) ws
+      → IsName (name_tree b.name) t → Each IsName (path_tree b.target) ts
+      → SeenItem n (items.Alias b) (tree.Construct ws (tree.Alias (record { name = t; target = ts })))
+  alias_seen n b {ws} {t} {ts} means h hs =
+      let m = means b.attributes refl in
+      let x = headers.name_seen conditions IsToken file_depth import_offsets b.name t h in
+      let y = headers.path_seen conditions IsToken file_depth import_offsets (names_in b.target) hs in
+      record {
+        same =
+            meant_item conditions.expander (tree.Alias (record { name = t; target = ts })) ws (sets.entries_of b.attributes) m.0
+            ∙ (λ i. Some (tree.Construct (sets.entries_of b.attributes) (tree.Alias (record { name = x.0 i; target = y.0 i }))));
+        given = λ whole. record { among = x.1; target = y.1; attributes = m.1 };
+        numbers = λ more k. k;
+        recipe_numbers = λ more k. k;
+      }
+
+  function_seen : (n : Counters) (f : FunctionDefinition) {ws : List (WrittenAttribute Tok Tok)} {t : Tok} {ts : List Tok} {e : Expr Tok Tok} → AreMeant conditions IsToken file_depth import_offsets (leaf_entries_of f.attributes) ws
+      → IsName (name_tree f.name) t → AlikeNames seen n.bindings (map numbered_tree f.parameters.items) ts → Alike seen (leaf_tree_of f.body) e
+      → SeenItem n (items.Function f) (tree.Construct ws (tree.Function (record { name = t; parameters = ts; body = e })))
+  function_seen n f {ws} {t} {ts} {e} means h hs v =
+      let m = means f.attributes refl in
+      let x = headers.name_seen conditions IsToken file_depth import_offsets f.name t h in
+      let y = parts.names_seen conditions IsToken file_depth import_offsets n f.parameters.items hs in
+      let z = seeing.seen_expression conditions IsToken file_depth import_offsets f.body v in
+      record {
+        same =
+            meant_item conditions.expander (tree.Function (record { name = t; parameters = ts; body = e })) ws (sets.entries_of f.attributes) m.0
+            ∙ (λ i. Some (tree.Construct (sets.entries_of f.attributes) (tree.Function (record { name = x.0 i; parameters = y.same i; body = z.same i }))));
+        given = λ whole. record { among = x.1; parameters = y.given; body = z.given; attributes = m.1 };
+        numbers = y.numbers;
+        recipe_numbers = λ more k. subst (λ (c : ℕ). NumbersFrom c more) (parameters_recipes n (map numbered_tree f.parameters.items)) k;
+      }
+
+  import_seen : (n : Counters) (set : AttributeSet) (optional : Bool) (relative : StringLiteral) {ws : List (WrittenAttribute Tok Tok)} {q : Quoted Tok}
+      → AreMeant conditions IsToken file_depth import_offsets (leaf_entries_of set) ws → AlikeQuoted seen (quoted_tree relative) q
+      → SeenItem n (items.Import set optional relative) (tree.Construct ws (tree.Import (record { optional = optional; path = q })))
+  import_seen n set optional relative {ws} {q} means h =
+      let m = means set refl in
+      let x = parts.relative_seen conditions IsToken file_depth import_offsets relative q h in
+      record {
+        same =
+            meant_item conditions.expander (tree.Import (record { optional = optional; path = q })) ws (sets.entries_of set) m.0
+            ∙ (λ i. Some (tree.Construct (sets.entries_of set) (tree.Import (record { optional = optional; path = x.0 i }))));
+        given = λ whole. record { relative_is = x.1; attributes_are = m.1 };
+        numbers = λ more k. k;
+        recipe_numbers = λ more k. k;
+      }
+
+  module_seen : (n : Counters) (set : AttributeSet) (doc : Option (String Global)) (name : Name) (optional : Bool) (relative : Option StringLiteral)
+      {ws : List (WrittenAttribute Tok Tok)} {t : Tok} {o : Option (Quoted Tok)} → AreMeant conditions IsToken file_depth import_offsets (leaf_entries_of set) ws
+      → IsName (name_tree name) t → AlikeOption (AlikeQuoted seen) (option_map quoted_tree relative) o
+      → SeenItem n (items.Module set doc name optional relative) (tree.Construct ws (tree.Module (bare_module optional t o)))
+  module_seen n set doc name optional relative {ws} {t} {o} means h k =
+      let m = means set refl in
+      let x = headers.name_seen conditions IsToken file_depth import_offsets name t h in
+      let y = parts.optional_relative_seen conditions IsToken file_depth import_offsets relative k in
+      record {
+        same =
+            meant_item conditions.expander (tree.Module (bare_module optional t o)) ws (sets.entries_of set) m.0
+            ∙ (λ i. Some (tree.Construct (sets.entries_of set) (tree.Module (bare_module optional (x.0 i) (y.0 i)))));
+        given = λ whole. record { among = x.1; relative_is = y.1; attributes_are = m.1 };
+        numbers = λ more k. k;
+        recipe_numbers = λ more k. k;
+      }
+
+  set_seen : (n : Counters) (s : Set) {ws : List (WrittenAttribute Tok Tok)} {t : Tok} {v : SettingValue Tok Tok} → AreMeant conditions IsToken file_depth import_offsets (leaf_entries_of s.attributes) ws
+      → IsName (name_tree s.name) t → AlikeValue seen (leaf_value_of s.value) v
+      → SeenItem n (items.Setting s) (tree.Construct ws (tree.Setting (record { keyword = keyword_of s.value; name = t; value = v })))
+  set_seen n s {ws} {t} {v} means h k =
+      let m = means s.attributes refl in
+      let x = headers.name_seen conditions IsToken file_depth import_offsets s.name t h in
+      let y = parts.setting_seen conditions IsToken file_depth import_offsets s.value k in
+      record {
+        same =
+            meant_item conditions.expander (tree.Setting (record { keyword = keyword_of s.value; name = t; value = v })) ws (sets.entries_of s.attributes) m.0
+            ∙ (λ i. Some (tree.Construct (sets.entries_of s.attributes) (tree.Setting (record { keyword = keyword_of s.value; name = x.0 i; value = y.same i }))));
+        given = λ whole. record { among = x.1; value = y.given whole; attributes = m.1 };
+        numbers = λ more k. k;
+        recipe_numbers = λ more k. k;
+      }
+
+  unexport_seen : (n : Counters) (set : AttributeSet) (name : Name) {ws : List (WrittenAttribute Tok Tok)} {t : Tok} → AreMeant conditions IsToken file_depth import_offsets (leaf_entries_of set) ws
+      → IsName (name_tree name) t → SeenItem n (items.Unexport set name) (tree.Construct ws (tree.Unexport t))
+  unexport_seen n set name {ws} {t} means h =
+      let m = means set refl in
+      let x = headers.name_seen conditions IsToken file_depth import_offsets name t h in
+      record {
+        same =
+            meant_item conditions.expander (tree.Unexport t) ws (sets.entries_of set) m.0
+            ∙ (λ i. Some (tree.Construct (sets.entries_of set) (tree.Unexport (x.0 i))));
+        given = λ whole. record { among = x.1; attributes_are = m.1 };
+        numbers = λ more k. k;
+        recipe_numbers = λ more k. k;
+      }
+
   pub item_seen : (n : Counters) (i : Item) {t : WrittenItem Tok Tok ℕ Tok} → AlikeItem seen n (undoc (item_tree i)) t → SeenItem n i t
+  item_seen n (items.Alias b) (a.alias means h hs) = alias_seen n b means h hs
   item_seen n (items.Assignment b) (a.assignment means h v) = assignment_seen n b means h v
   item_seen n (items.Comment text) a.comment = record { same = refl; given = λ whole. tt; numbers = λ more h. h; recipe_numbers = λ more h. h }
+  item_seen n (items.Function f) (a.function means h hs v) = function_seen n f means h hs v
+  item_seen n (items.Import set optional relative) (a.import means h) = import_seen n set optional relative means h
+  item_seen n (items.Module set doc name optional relative) (a.module_of means h k) = module_seen n set doc name optional relative means h k
   item_seen n items.Newline a.newline = record { same = refl; given = λ whole. tt; numbers = λ more h. h; recipe_numbers = λ more h. h }
   item_seen n (items.Recipe r) (a.recipe means h ls) = recipe_seen n r means h ls
+  item_seen n (items.Setting s) (a.setting means h v) = set_seen n s means h v
+  item_seen n (items.Unexport set name) (a.unexport means h) = unexport_seen n set name means h
 
   -- features at such tokens
   pub noted_seen : (fs : List (ListFeature × Token)) {ns : List (Noted Tok)} → Each (a.AlikeNoted seen) fs ns → (ns ≡ map noted_of fs) × All (λ (x : ListFeature × Token). IsToken x.1) fs

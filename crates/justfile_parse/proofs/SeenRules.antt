@@ -44,6 +44,10 @@ module _ (Spot : Token → Tok → Type 0) (is : (t : Token) (k : Tok) → Spot 
   same_rule alike.no_star = refl
   same_rule alike.star_outside = refl
   same_rule (alike.undefined_arg e) = λ i. rules.UndefinedArgAttribute (e i)
+  same_rule alike.setting_expression = refl
+  same_rule (alike.invalid_indentation e) = λ i. rules.InvalidIndentation (e i)
+  same_rule (alike.invalid_version e) = λ i. rules.InvalidMinimumVersion (e i)
+  same_rule (alike.minimum_version e f) = λ i. rules.MinimumVersion (e i) (f i)
 
   -- the same rule, of the tokens that are seen
   pub same_broken : {b : Broken Token} {c : Broken Tok} → AlikeBroken Spot b c → over_broken tok_of b ≡ c

@@ -60,14 +60,21 @@ stays_before b text (i ∷ items) none = go (doc_in b text)
     go None = refl
     go (Some doc) = ap (doc_or_comment says_doc text i items) (none doc)
 
+not_twice : (entries : List (Entry Leaf Token)) (content : Content Leaf Token ℕ (Unit {0})) (doc : List ℕ) (b : Bool)
+    → cond (true && not b && not true) (Some (Construct entries (redocumented (Some doc) content))) None ≡ None
+not_twice entries content doc true = refl
+not_twice entries content doc false = refl
+
 has_doc_already : (entries : List (Entry Leaf Token)) (content : Content Leaf Token ℕ (Unit {0})) (doc other : List ℕ)
     → item_with_doc says_doc other (Construct entries (redocumented (Some doc) content)) ≡ None
+has_doc_already entries (tree.Alias parts) doc other = refl
 has_doc_already entries (tree.Assignment parts) doc other = refl
-has_doc_already entries (tree.Recipe parts) doc other = go (says_doc entries)
-  where
-    go : (b : Bool) → cond (true && not b && not true) (Some (Construct entries (redocumented (Some other) (redocumented (Some doc) (tree.Recipe parts))))) None ≡ None
-    go true = refl
-    go false = refl
+has_doc_already entries (tree.Function parts) doc other = refl
+has_doc_already entries (tree.Import parts) doc other = refl
+has_doc_already entries (tree.Module parts) doc other = not_twice entries (redocumented (Some doc) (tree.Module parts)) other (says_doc entries)
+has_doc_already entries (tree.Recipe parts) doc other = not_twice entries (redocumented (Some doc) (tree.Recipe parts)) other (says_doc entries)
+has_doc_already entries (tree.Setting parts) doc other = refl
+has_doc_already entries (tree.Unexport name) doc other = refl
 
 -- what begins with a comment takes no doc
 comment_takes_none : (b : Before) (text : List ℕ) (items : Items) → TakesNone (taken says_doc b (Comment text) items)

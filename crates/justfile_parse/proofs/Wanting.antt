@@ -13,8 +13,10 @@ use Rattle.justfile_model.specs.declared.parameter_kind.ParameterKind.TheVariant
 use Rattle.justfile_model.proofs.HeaderReading.{parameter_goes, singulars_is}
 use Rattle.justfile_model.proofs.NaturalHeaders as natural
 use Rattle.justfile_model.proofs.NaturalHeaders.{LacksHeader, LacksLast, LacksParameter, LacksSingular}
+use Rattle.justfile_model.proofs.NaturalParts as parts
+use Rattle.justfile_model.proofs.NaturalParts.{LacksName}
 use Rattle.justfile_model.proofs.ReadingSteps.{past}
-use Rattle.justfile_parse.specs.WantsNumber.{AreNumbered, HeaderLacks, IsAfterPrefix, LacksRecipe, Place, Rules, attributes_at, more, none, nothing, parameter, plus, star}
+use Rattle.justfile_parse.specs.WantsNumber.{AreNamed, AreNumbered, HeaderLacks, IsAfterPrefix, LacksRecipe, NamePlace, Place, Rules, a_name, attributes_at, more, no_name, none, nothing, numbered_name, parameter, plus, star}
 
 module _ (rules : Rules) where
   -- what is read of parameters
@@ -92,6 +94,19 @@ module _ (rules : Rules) where
         is_parameter = l.is_parameter;
         at_end = last;
       }
+
+-- after names that got their numbers one comes next that lacks its number, where the counters stand there
+pub record Naming (from : NamePlace) (m : Counters) : Type 0 where
+  pub place : NamePlace
+  pub named : AreNamed from place
+  pub counters : place.0 ≡ m
+  pub is_name : IsOk (numbered_name place)
+
+pub naming : {x : NamePlace} {m : Counters} → LacksName token_leaves x m → Naming x m
+naming (parts.name_lacks {x = x} reads) = record { place = x; named = no_name; counters = refl; is_name = reads refl }
+naming (parts.later_lacks is taken lacks) =
+    let l = naming lacks in
+    record { place = l.place; named = a_name is taken l.named; counters = l.counters; is_name = l.is_name }
 
 -- a recipe whose own number is wanting
 pub recipe_lacks : {ws : List ReadAttribute} {header : State} (n m : Counters) (s : State) → attributes_at s ≡ Ok (ws, header) → (found : Read (WrittenItem Tok Tok ℕ Tok × Counters))

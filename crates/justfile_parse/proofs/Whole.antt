@@ -1,5 +1,5 @@
 -- A whole file: what is read of a table is what the definitions read of its tokens, or is refused as they refuse it.
-use Rattle.std.proofs.Common.{◌≡◌, ℕ, ◌+◌, false, List, [], ◌∷◌, map, All, Option, Result, Ok, Err, refl, sym, ap, ◌∙◌, subst, arith}
+use Rattle.std.proofs.Common.{◌≡◌, ℕ, ◌+◌, Bool, false, List, [], ◌∷◌, map, All, Option, Result, Ok, Err, refl, sym, ap, ◌∙◌, subst, arith}
 use Rattle.std.specs.Prelude.{◌-◌, ◌^◌}
 use Rattle.std.proofs.lemmas.Bool.Decides.{nat_tests}
 use Rattle.std.proofs.lemmas.List.{length-map}
@@ -10,7 +10,7 @@ use Rattle.justfile_base.specs.declared.fault.Fault.{Fault}
 use Rattle.justfile_base.specs.declared.fault.Fault.TheVariants as faults
 use Rattle.justfile_base.specs.declared.numerator.Numerator.{Numerator}
 use Rattle.justfile_base.specs.declared.token.Token.{Token}
-use Rattle.justfile_file.specs.Item.{item_of}
+use Rattle.justfile_file.specs.Item.{function_parameter_of, item_of}
 use Rattle.justfile_file.specs.declared.item.Item.{Item}
 use Rattle.justfile_file.specs.declared.item.Item.TheVariants as items
 use Rattle.justfile_model.specs.Conditions.{Conditions}
@@ -38,7 +38,7 @@ use Rattle.justfile_model.proofs.Related.{AlikeItems, AlikeNext, Each, Refusals,
 use Rattle.justfile_model.proofs.Renumbered.{file_by, whole}
 use Rattle.justfile_base.specs.declared.compile_error_kind.CompileErrorKind.{CompileErrorKind}
 use Rattle.justfile_parse.specs.Errors.{IsAt, IsErrorOf}
-use Rattle.justfile_parse_attribute.specs.Halting.{IsAfterVariadic, IsExtraneous}
+use Rattle.justfile_parse_attribute.specs.Halting.{IsAfterVariadic, IsExpectedKeyword, IsExtraneous, IsUnknownSetting}
 use Rattle.justfile_parse_attribute.specs.Halting.{HaltsAt, IsBrokenBy}
 use Rattle.justfile_parse.specs.Halting.{IsFaultOfHalt}
 use Rattle.justfile_parse.specs.Whole.{AreWhole}
@@ -52,9 +52,10 @@ use Rattle.justfile_parse_expression.specs.TableReader.{Run, State, leaves}
 use Rattle.justfile_parse.specs.MethodResults.{IsFaultOf, IsKindAt, IsNextPlace, IsRead, IsUnread}
 use Rattle.justfile_parse_expression.specs.MethodResults.{StopsAt, literal_refusal, refusal_at}
 use Rattle.justfile_parse_expression.specs.Significant.{significant_of}
-use Rattle.justfile_parse.specs.Tree.{item_tree}
+use Rattle.justfile_parse.specs.Tree.{item_tree, numbered_tree}
 use Rattle.justfile_tree.specs.LeafTree.{Leaf}
-use Rattle.justfile_parse.specs.WantsNumber.{AreLines, BeginsHeader, LacksNumber, WantsNumber, a_line, at_once, binding, no_line, parameter_number, quiet, recipe_number}
+use Rattle.justfile_parse.specs.WantsNumber as wants
+use Rattle.justfile_parse.specs.WantsNumber.{AreLines, BeginsAssignment, BeginsHeader, LacksNumber, WantsNumber, a_line, at_name, at_once, binding, name_number, no_line, parameter_number, quiet, recipe_number}
 use Rattle.justfile_parse_expression.specs.declared.significant.TableEntry.{TableEntry}
 use Rattle.justfile_parse_expression.specs.declared.stop.LiteralRefusal.{LiteralRefusal}
 use Rattle.justfile_parse_expression.specs.declared.stop.Refusal.{Refusal}
@@ -69,25 +70,38 @@ use Rattle.justfile_parse.proofs.SeenAttributes.{IsKept, attributed}
 use Rattle.justfile_parse.proofs.SeenDocs.{items_seen}
 use Rattle.justfile_parse.proofs.SeenItems.{noted_seen}
 use Rattle.justfile_parse.proofs.SeenRules.{same_broken}
-use Rattle.justfile_parse.proofs.Wanting.{header_lacks, recipe_lacks}
+use Rattle.justfile_parse.proofs.Wanting.{header_lacks, naming, recipe_lacks}
 use Rattle.justfile_parse_header.specs.Counting.{counters_of}
 use Rattle.justfile_parse_header.specs.Tree.{parameter_tree}
 
 -- a tree holds as many bindings and recipes whatever stands at its leaves
 same_bindings : (is : List Item) → bindings (map item_tree is) ≡ bindings (map item_of is)
 same_bindings [] = refl
+same_bindings (items.Alias b ∷ is) = ap (λ (n : ℕ). 0 + n) (same_bindings is)
 same_bindings (items.Assignment b ∷ is) = ap (λ (n : ℕ). 1 + n) (same_bindings is)
 same_bindings (items.Comment text ∷ is) = ap (λ (n : ℕ). 0 + n) (same_bindings is)
+same_bindings (items.Function f ∷ is) =
+    λ i. (length-map f.parameters.items numbered_tree ∙ sym (length-map f.parameters.items function_parameter_of)) i + same_bindings is i
+same_bindings (items.Import set optional relative ∷ is) = ap (λ (n : ℕ). 0 + n) (same_bindings is)
+same_bindings (items.Module set doc name optional relative ∷ is) = ap (λ (n : ℕ). 0 + n) (same_bindings is)
 same_bindings (items.Newline ∷ is) = ap (λ (n : ℕ). 0 + n) (same_bindings is)
 same_bindings (items.Recipe r ∷ is) =
     λ i. (length-map r.parameters.items parameter_tree ∙ sym (length-map r.parameters.items parameter_of)) i + same_bindings is i
+same_bindings (items.Setting s ∷ is) = ap (λ (n : ℕ). 0 + n) (same_bindings is)
+same_bindings (items.Unexport set name ∷ is) = ap (λ (n : ℕ). 0 + n) (same_bindings is)
 
 same_recipes : (is : List Item) → recipes (map item_tree is) ≡ recipes (map item_of is)
 same_recipes [] = refl
+same_recipes (items.Alias b ∷ is) = ap (λ (n : ℕ). 0 + n) (same_recipes is)
 same_recipes (items.Assignment b ∷ is) = ap (λ (n : ℕ). 0 + n) (same_recipes is)
 same_recipes (items.Comment text ∷ is) = ap (λ (n : ℕ). 0 + n) (same_recipes is)
+same_recipes (items.Function f ∷ is) = ap (λ (n : ℕ). 0 + n) (same_recipes is)
+same_recipes (items.Import set optional relative ∷ is) = ap (λ (n : ℕ). 0 + n) (same_recipes is)
+same_recipes (items.Module set doc name optional relative ∷ is) = ap (λ (n : ℕ). 0 + n) (same_recipes is)
 same_recipes (items.Newline ∷ is) = ap (λ (n : ℕ). 0 + n) (same_recipes is)
 same_recipes (items.Recipe r ∷ is) = ap (λ (n : ℕ). 1 + n) (same_recipes is)
+same_recipes (items.Setting s ∷ is) = ap (λ (n : ℕ). 0 + n) (same_recipes is)
+same_recipes (items.Unexport set name ∷ is) = ap (λ (n : ℕ). 0 + n) (same_recipes is)
 
 module _ (conditions : Conditions) (table : List TableEntry) (file_depth : ℕ) (import_offsets : List ℕ) where
   abbrev tokens : List SignificantToken
@@ -216,7 +230,7 @@ module _ (conditions : Conditions) (table : List TableEntry) (file_depth : ℕ) 
   unfolding literal_refusal
   literal_at l e' (a.not_cooked h) = ((kind_is_due l.error.kind l.is_literal, h.is), h.among)
 
-  -- a rule that is broken, attributes before no construct, or a name after the last parameter
+  -- a rule that is broken, attributes before no construct, a name after the last parameter, one of no setting, or a word that may not stand there
   broken_at : (error : CompileError) (r : table_reader.Refusal) (e' : model.Refusal) → IsBrokenBy {Y = Pair} (Err r) error → Refusals rel r e' → IsErrorOf tokens e' error × IsInTable table error.token
   broken_at error (reading.BreaksRule b) e' says (a.breaks h) =
       (record { rule = b; error = says; same = same_broken rel.spot (λ t k h. h.is) h }, subst (IsInTable table) (sym says.token) h.token.among)
@@ -227,6 +241,10 @@ module _ (conditions : Conditions) (table : List TableEntry) (file_depth : ℕ) 
       extraneous_as e kind h = subst (λ (k : ℕ). IsExtraneous k kind) e h
   broken_at error (reading.AfterVariadic name) e' says (a.after_variadic h) =
       ((subst (λ (t : Token). IsAfterVariadic t error.kind) (sym says.1) says.0, ap tok_of says.1 ∙ h.is), subst (IsInTable table) (sym says.1) h.among)
+  broken_at error (reading.UnknownSetting name) e' says (a.unknown_setting h) =
+      ((subst (λ (t : Token). IsUnknownSetting t error.kind) (sym says.1) says.0, ap tok_of says.1 ∙ h.is), subst (IsInTable table) (sym says.1) h.among)
+  broken_at error (reading.ExpectedKeyword expected found) e' says (a.expected_keyword h) =
+      ((subst (λ (t : Token). IsExpectedKeyword expected t error.kind) (sym says.1) says.0, ap tok_of says.1 ∙ h.is), subst (IsInTable table) (sym says.1) h.among)
   broken_at error (reading.Unexpected at) e' says h = absurd says
   broken_at error (reading.TooDeep at) e' says h = absurd says
   broken_at error (reading.NotCooked fault at) e' says h = absurd says
@@ -260,9 +278,43 @@ module _ (conditions : Conditions) (table : List TableEntry) (file_depth : ℕ) 
   begins_of natural.at_once = at_once
   begins_of (natural.after_at is) = quiet is
 
+  begins_assignment : {s from : model.State} {is_eager is_export : Bool} → natural.AfterWord rel leaves token_leaves agree kept token_attributes Keeps keeps s is_eager is_export from
+      → BeginsAssignment s is_eager is_export from
+  begins_assignment natural.no_word = at_name
+  begins_assignment (natural.after_eager is) = wants.eager is
+  begins_assignment (natural.after_export is) = wants.export is
+
   lacks_of : {n m : Counters} (left : model.State) → natural.Lacks rel leaves token_leaves agree kept token_attributes Keeps keeps n left m → LacksNumber left n m
-  lacks_of {n} left (natural.binding {ws = ws} {rest = rest} before is has) =
-      binding (record { attributes = ws; header = rest; attributes_read = before; assigns = has refl; at_end = last n.bindings is })
+  lacks_of {n} left (natural.binding {ws = ws} {rest = rest} {from = from} {eager = is_eager} {export = is_export} before after is has) =
+      binding (record {
+        attributes = ws;
+        header = rest;
+        attributes_read = before;
+        is_eager = is_eager;
+        is_export = is_export;
+        begin = from;
+        begins = begins_assignment after;
+        assigns = has refl;
+        at_end = last n.bindings is;
+      })
+  lacks_of {n} {m} left (natural.function_parameter {ws = ws} {rest = rest} before is lacks) =
+      let l = naming lacks.lacks in
+      name_number (record {
+        attributes = ws;
+        header = rest;
+        attributes_read = before;
+        name = lacks.name;
+        name_read = lacks.named;
+        checked = lacks.checked;
+        attributes_allowed = lacks.allowed;
+        opener = lacks.opener;
+        opener_read = lacks.opened;
+        place = l.place;
+        named = l.named;
+        counters = l.counters;
+        is_name = l.is_name;
+        at_end = last m.bindings is;
+      })
   lacks_of {n} {m} left (natural.parameter {ws = ws} {rest = rest} {from = from} before begins is lacks) =
       parameter_number (record {
         attributes = ws;

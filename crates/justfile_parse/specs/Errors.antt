@@ -18,7 +18,7 @@ use Rattle.justfile_model.specs.SignificantTokens.{SignificantToken}
 use Rattle.justfile_model.specs.Tok.{Tok, tok_of}
 use Rattle.justfile_model.specs.Tree.{WrittenTree}
 use Rattle.justfile_model.specs.TreeReader.{Refusal, tree_of_tokens}
-use Rattle.justfile_parse_attribute.specs.Halting.{IsAfterVariadic, IsExtraneous}
+use Rattle.justfile_parse_attribute.specs.Halting.{IsAfterVariadic, IsExpectedKeyword, IsExtraneous, IsUnknownSetting}
 
 -- the token is this one, or the last of the tokens where there is none
 abbrev pub IsAt : List SignificantToken → Option SignificantToken → Token → Type 0
@@ -44,6 +44,8 @@ IsErrorOf tokens (reading.NotCooked fault t) e = IsKindOf fault e.kind × (tok_o
 IsErrorOf tokens (reading.BreaksRule rule) e = IsErrorOfBroken rule e
 IsErrorOf tokens (reading.Extraneous count opener) e = IsExtraneous count e.kind × (tok_of e.token ≡ opener)
 IsErrorOf tokens (reading.AfterVariadic name) e = IsAfterVariadic e.token e.kind × (tok_of e.token ≡ name)
+IsErrorOf tokens (reading.UnknownSetting name) e = IsUnknownSetting e.token e.kind × (tok_of e.token ≡ name)
+IsErrorOf tokens (reading.ExpectedKeyword expected found) e = IsExpectedKeyword expected e.token e.kind × (tok_of e.token ≡ found)
 IsErrorOf tokens (reading.NoNumber counters) e = ⊥
 
 -- The error is that of the refusal of the tokens. Where the grammar alone has a tree of them, that is the refusal of the first of its

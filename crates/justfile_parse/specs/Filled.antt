@@ -12,21 +12,27 @@ use Rattle.justfile_base.specs.declared.format_string_part.FormatStringPart.TheV
 use Rattle.justfile_base.specs.declared.string_kind.StringKind.{StringKind}
 use Rattle.std.specs.Global.{Box}
 use Rattle.std.specs.List.{flat_map, slice_get}
+use Rattle.justfile_base.specs.Indentation.{indentation_text}
 use Rattle.justfile_base.specs.Namepath.{names_in}
 use Rattle.justfile_base.specs.Numerator.{bindings_of, recipes_of}
 use Rattle.justfile_base.specs.StringKind.{kind_of}
 use Rattle.justfile_base.specs.Token.{lexeme_of}
+use Rattle.justfile_base.specs.declared.namepath.Namepath.{Namepath}
+use Rattle.justfile_base.specs.declared.number.Number.{Number}
 use Rattle.justfile_base.specs.declared.numerator.Numerator.{Numerator}
 use Rattle.justfile_base.specs.declared.string_literal.StringLiteral as literals
 use Rattle.justfile_base.specs.declared.token.Token.{Token}
 use Rattle.justfile_literal.specs.Literal.{IsPartOf}
+use Rattle.justfile_file.specs.declared.alias.Alias as aliases
 use Rattle.justfile_file.specs.declared.binding.Binding.{Binding}
 use Rattle.justfile_file.specs.declared.fragment.Fragment.{Fragment}
 use Rattle.justfile_file.specs.declared.fragment.Fragment.TheVariants as fragments
+use Rattle.justfile_file.specs.declared.function_definition.FunctionDefinition.{FunctionDefinition}
 use Rattle.justfile_file.specs.declared.item.Item.{Item}
-use Rattle.justfile_file.specs.declared.item.Item.TheVariants.{Assignment, Comment, Newline, Recipe}
+use Rattle.justfile_file.specs.declared.item.Item.TheVariants.{Alias, Assignment, Comment, Function, Import, Module, Newline, Recipe, Setting, Unexport}
 use Rattle.justfile_file.specs.declared.line.Line.{Line}
 use Rattle.justfile_file.specs.declared.recipe.UnresolvedRecipe.{UnresolvedRecipe}
+use Rattle.justfile_file.specs.declared.set.Set.{Set}
 use Rattle.justfile_file.specs.Item.{item_of, item_numbers, item_recipe_numbers}
 use Rattle.justfile_file.specs.Line.{IsShebang}
 use Rattle.justfile_header.specs.declared.parameter.Parameter.{Parameter}
@@ -40,6 +46,8 @@ use Rattle.justfile_parse.specs.Whole.{is_hidden}
 use Rattle.justfile_parse_expression.specs.declared.significant.TableEntry.{TableEntry}
 use Rattle.justfile_parse_header.specs.Said.{AreWholeParameters}
 use Rattle.justfile_parse_header.specs.Tree.{rules_of}
+use Rattle.justfile_setting.specs.declared.setting.Setting as values
+use Rattle.justfile_setting.specs.declared.setting.Setting.TheVariants as settings
 
 -- the table has an entry for the token, by a reference to it
 pub record IsInTable (table : List TableEntry) (token : Token) : Type 0 where
@@ -179,6 +187,37 @@ module _ (expander : Expansions) (IsToken : Token → Type 0) where
   abbrev pub IsGivenDependency : UnresolvedDependency → Type 0
   IsGivenDependency d = All IsGivenName (names_in d.recipe) × All IsGivenArgument d.arguments.items
 
+  -- the command and the arguments of an interpreter that a setting names
+  abbrev pub IsGivenCommandLine : Box (Interpreter Expression) → Type 0
+  IsGivenCommandLine i = IsGivenExpression expander IsToken i.value.command × All (IsGivenExpression expander IsToken) i.value.arguments.items
+
+  -- The literals of a setting have their texts. An indentation has that of its literal.
+  abbrev pub IsGivenSetting : values.Setting → Type 0
+  IsGivenSetting (settings.DotenvCommand value) = IsGivenBoxed value
+  IsGivenSetting (settings.DotenvFilename value) = IsGivenBoxed value
+  IsGivenSetting (settings.DotenvPath value) = IsGivenBoxed value
+  IsGivenSetting (settings.Indentation literal indentation) = IsGivenLiteral expander IsToken literal × (indentation_text indentation ≡ string_bytes literal.cooked)
+  IsGivenSetting (settings.MinimumVersion literal) = IsGivenLiteral expander IsToken literal
+  IsGivenSetting (settings.ScriptInterpreter interpreter) = IsGivenCommandLine interpreter
+  IsGivenSetting (settings.Shell interpreter) = IsGivenCommandLine interpreter
+  IsGivenSetting (settings.Tempdir value) = IsGivenBoxed value
+  IsGivenSetting (settings.WindowsShell interpreter) = IsGivenCommandLine interpreter
+  IsGivenSetting (settings.WorkingDirectory value) = IsGivenBoxed value
+  IsGivenSetting _ = Unit {0}
+
+  -- the name of a function's parameter, which has a number
+  abbrev pub IsGivenNumbered : Name × Number → Type 0
+  IsGivenNumbered x = IsGivenName x.0
+
+  -- the literal of a file's path
+  abbrev pub IsGivenPath : Option literals.StringLiteral → Type 0
+  IsGivenPath relative = IfThere (IsGivenLiteral expander IsToken) relative
+
+pub record IsGivenAlias (expander : Expansions) (IsToken : Token → Type 0) (alias : aliases.Alias Namepath) : Type 0 where
+  pub among : IsToken alias.name.token
+  pub target : All (IsGivenName expander IsToken) (names_in alias.target)
+  pub attributes : AreGivenAttributes expander IsToken alias.attributes
+
 pub record IsGivenBinding (expander : Expansions) (IsToken : Token → Type 0) (file_depth : ℕ) (binding : Binding Expression) : Type 0 where
   pub among : IsToken binding.name.token
   pub file_depth_is : binding.file_depth ≡ file_depth
@@ -186,6 +225,30 @@ pub record IsGivenBinding (expander : Expansions) (IsToken : Token → Type 0) (
   pub private : binding.private ≡ is_hidden binding.name.token binding.attributes
   pub attributes : AreGivenAttributes expander IsToken binding.attributes
   pub value : IsGivenExpression expander IsToken binding.value
+
+pub record IsGivenFunction (expander : Expansions) (IsToken : Token → Type 0) (function : FunctionDefinition) : Type 0 where
+  pub among : IsToken function.name.token
+  pub parameters : All (IsGivenNumbered expander IsToken) function.parameters.items
+  pub body : IsGivenExpression expander IsToken function.body
+  pub attributes : AreGivenAttributes expander IsToken function.attributes
+
+pub record IsGivenImport (expander : Expansions) (IsToken : Token → Type 0) (attributes : AttributeSet) (relative : literals.StringLiteral) : Type 0 where
+  pub relative_is : IsGivenLiteral expander IsToken relative
+  pub attributes_are : AreGivenAttributes expander IsToken attributes
+
+pub record IsGivenModule (expander : Expansions) (IsToken : Token → Type 0) (attributes : AttributeSet) (name : Name) (relative : Option literals.StringLiteral) : Type 0 where
+  pub among : IsToken name.token
+  pub relative_is : IsGivenPath expander IsToken relative
+  pub attributes_are : AreGivenAttributes expander IsToken attributes
+
+pub record IsGivenSet (expander : Expansions) (IsToken : Token → Type 0) (set : Set) : Type 0 where
+  pub among : IsToken set.name.token
+  pub value : IsGivenSetting expander IsToken set.value
+  pub attributes : AreGivenAttributes expander IsToken set.attributes
+
+pub record IsGivenUnexport (expander : Expansions) (IsToken : Token → Type 0) (attributes : AttributeSet) (name : Name) : Type 0 where
+  pub among : IsToken name.token
+  pub attributes_are : AreGivenAttributes expander IsToken attributes
 
 abbrev pub IsGivenFragment : Expansions → (Token → Type 0) → Fragment → Type 0
 IsGivenFragment expander IsToken (fragments.Interpolation expression) = IsGivenExpression expander IsToken expression
@@ -214,10 +277,16 @@ pub record IsGivenRecipe (expander : Expansions) (IsToken : Token → Type 0) (f
   pub attributes : AreGivenAttributes expander IsToken recipe.attributes
 
 abbrev pub IsGivenItem : Expansions → (Token → Type 0) → ℕ → List ℕ → Item → Type 0
+IsGivenItem expander IsToken file_depth import_offsets (Alias alias) = IsGivenAlias expander IsToken alias
 IsGivenItem expander IsToken file_depth import_offsets (Assignment binding) = IsGivenBinding expander IsToken file_depth binding
 IsGivenItem expander IsToken file_depth import_offsets (Comment text) = Unit {0}
+IsGivenItem expander IsToken file_depth import_offsets (Function function) = IsGivenFunction expander IsToken function
+IsGivenItem expander IsToken file_depth import_offsets (Import attributes optional relative) = IsGivenImport expander IsToken attributes relative
+IsGivenItem expander IsToken file_depth import_offsets (Module attributes doc name optional relative) = IsGivenModule expander IsToken attributes name relative
 IsGivenItem expander IsToken file_depth import_offsets Newline = Unit {0}
 IsGivenItem expander IsToken file_depth import_offsets (Recipe recipe) = IsGivenRecipe expander IsToken file_depth import_offsets recipe
+IsGivenItem expander IsToken file_depth import_offsets (Setting set) = IsGivenSet expander IsToken set
+IsGivenItem expander IsToken file_depth import_offsets (Unexport attributes name) = IsGivenUnexport expander IsToken attributes name
 
 -- Items, read so far from a file whose numbers the first numerator gives, where the next numerator gives the numbers of what follows.
 pub record IsGivenItems (expander : Expansions) (IsToken : Token → Type 0) (file_depth : ℕ) (import_offsets : List ℕ) (first next : Numerator) (items : List Item) : Type 0 where

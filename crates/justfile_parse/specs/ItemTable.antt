@@ -5,9 +5,8 @@ use Rattle.justfile_base.specs.Token.{lexeme_of}
 use Rattle.justfile_base.specs.declared.token.Token.{Token}
 use Rattle.justfile_model.specs.Tree as tree
 use Rattle.justfile_model.specs.Tree.{BodyLine, Entry, Fragment, OrderedItem}
-use Rattle.justfile_base.specs.declared.item_kind.ItemKind.TheVariants as item_kinds
-use Rattle.justfile_model.specs.AttributeRules.{allowed_broken}
-use Rattle.justfile_model.specs.Rules.{Broken}
+use Rattle.justfile_base.specs.declared.item_kind.ItemKind.{ItemKind}
+use Rattle.justfile_base.specs.declared.token_kind.TokenKind.{TokenKind}
 use Rattle.justfile_model.specs.AttributeReader as attributes
 use Rattle.justfile_model.specs.AttributeReader.{AttributeLeaves}
 use Rattle.justfile_model.specs.ContentKeys.{entry_cmp}
@@ -69,8 +68,36 @@ ReadItem = Read (OrderedItem Leaf Token ℕ × Counters)
 abbrev pub ReadItems : Type 0
 ReadItems = Read (List (OrderedItem Leaf Token ℕ) × Counters)
 
-abbrev pub assignment : Entries → Counters → State → ReadItem
+-- whether the next token is of this kind; then it is taken
+abbrev pub accepted : TokenKind → State → Bool × State
+accepted = reading.accepted leaves
+
+abbrev pub alias : Entries → Counters → State → ReadItem
+alias = files.alias leaves kept
+
+abbrev pub assignment : (eager export : Bool) → Entries → Counters → State → ReadItem
 assignment = files.assignment leaves kept
+
+abbrev pub function : Entries → Counters → State → ReadItem
+function = files.function leaves kept
+
+abbrev pub imported : (optional : Bool) → Entries → Counters → State → ReadItem
+imported = files.imported leaves kept
+
+abbrev pub import : Entries → Counters → State → ReadItem
+import = files.import leaves kept
+
+abbrev pub named_module : (optional : Bool) → Entries → Counters → State → ReadItem
+named_module = files.named_module leaves kept
+
+abbrev pub any_module : Entries → Counters → State → ReadItem
+any_module = files.any_module leaves kept
+
+abbrev pub setting : Entries → Counters → State → ReadItem
+setting = files.setting leaves kept
+
+abbrev pub unexport : Entries → Counters → State → ReadItem
+unexport = files.unexport leaves kept
 
 abbrev pub recipe : (quiet : Bool) → Entries → Counters → State → ReadItem
 recipe = files.recipe leaves kept
@@ -86,10 +113,6 @@ item_attributes = files.attributes leaves kept
 abbrev pub in_content_order : Entries → Entries
 in_content_order entries = in_order (entry_cmp sees_leaves) entries
 
--- what an assignment with this name breaks by attributes that it may not have
-abbrev pub disallowed : Entries → (name : Token) → List (Broken Token)
-disallowed entries name = allowed_broken sees_leaves item_kinds.Assignment name (in_content_order entries)
-
 -- the lines of attributes before a construct
 abbrev pub lines_of_attributes : State → Read Entries
 lines_of_attributes = attributes.attribute_lines leaves kept.sight kept.keep kept.entry
@@ -102,13 +125,17 @@ before_item = files.before_item leaves kept
 abbrev pub stands_alone : State → Bool
 stands_alone = files.stands_alone leaves kept
 
--- the attributes of an assignment with this name are those that it may have
-abbrev pub allowed : Entries → TableEntry → State → Read (Unit {0})
+-- the attributes of an item of this kind with this name are those that it may have
+abbrev pub allowed : ItemKind → Entries → TableEntry → State → Read (Unit {0})
 allowed = files.allowed leaves kept
 
 -- no two attributes of the recipe with this name exclude each other
 abbrev pub no_exclusion : Entries → TableEntry → State → Read (Unit {0})
 no_exclusion = files.no_exclusion leaves kept
+
+-- a construct that begins with no word of its own, after its attributes
+abbrev pub wordless : Entries → Counters → State → ReadItem
+wordless = files.wordless leaves kept
 
 -- a construct after its attributes
 abbrev pub content : Entries → Counters → State → ReadItem

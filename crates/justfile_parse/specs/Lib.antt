@@ -10,3 +10,4 @@ pub mod Tree
 pub mod Unstable
 pub mod WantsNumber
 pub mod Whole
+pub mod Words

@@ -20,10 +20,10 @@ use Rattle.justfile_model.specs.Literals.{over_literal, Expansions, AreCookedTex
 use Rattle.justfile_model.specs.SignificantTokens.{significant_tokens}
 use Rattle.justfile_model.specs.Tok.{Tok, tok_of}
 use Rattle.justfile_model.specs.Tree.{Tree, lexeme}
+use Rattle.justfile_model.specs.UnstableFeatures.{unstable_features}
 use Rattle.justfile_model.specs.declared.list_feature.ListFeature.{ListFeature}
 use Rattle.justfile_parse.specs.Errors.{IsRefused}
 use Rattle.justfile_parse.specs.Filled.{IsGivenItem}
-use Rattle.justfile_parse.specs.Unstable.{unstable_of}
 use Rattle.justfile_parse.specs.WantsNumber.{WantsNumber}
 
 -- the tokens, all of one source, are those of its text
@@ -34,7 +34,7 @@ pub record IsOneLex (tokens : List Token) : Type 0 where
   pub source : All (λ t. t.src.now ≡ text) tokens
 
 -- What a file has beside its tree. Its literals have their texts. Its bindings and its recipes have the numbers from the numerator's next on.
--- Its parts are what the parser gives them. Its features stand at tokens that `IsToken` allows, and it uses what is unstable as its items say.
+-- Its parts are what the parser gives them. Its features stand at tokens that `IsToken` allows, and it uses what is unstable as its tree says.
 pub record IsFilled (expander : Expansions) (IsToken : Token → Type 0) (file_depth : ℕ) (import_offsets : List ℕ) (old new : Numerator) (ast : Ast) : Type 0 where
   pub cooks : AreCookedTexts expander (map (over_literal lexeme) (literals (tree_of ast))) (cooked_texts ast)
   pub numbered : NumbersFrom (bindings_of old) (binding_numbers ast)
@@ -43,7 +43,7 @@ pub record IsFilled (expander : Expansions) (IsToken : Token → Type 0) (file_d
   pub recipes_counted : recipes_of new ≡ recipes_of old + recipes (tree_of ast)
   pub given : All (IsGivenItem expander IsToken file_depth import_offsets) ast.items.items
   pub noted : All (λ (x : ListFeature × Token). IsToken x.1) ast.list_features.items
-  pub unstable : ast.unstable_features.keys ≡ unstable_of ast.items.items
+  pub unstable : ast.unstable_features.keys ≡ unstable_features (tree_of ast)
 
 -- the file's tokens derive its tree and its features
 pub record IsParsed (conditions : Conditions) (tokens : List Tok) (IsToken : Token → Type 0) (file_depth : ℕ) (import_offsets : List ℕ) (old new : Numerator) (ast : Ast) : Type 0 where

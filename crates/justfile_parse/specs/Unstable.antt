@@ -1,23 +1,19 @@
 -- What a file uses that only an unstable justfile may.
-use Rattle.std.specs.Prelude.{Bool, false, List, [], ◌∷◌, if◌then◌else◌}
-use Rattle.std.specs.List.{list_any}
-use Rattle.justfile_attribute_set.specs.AttributeSet.{AttributeSet, attributes_of}
-use Rattle.justfile_attribute_set.specs.Attributes.{has_kind}
-use Rattle.justfile_base.specs.declared.attribute_kind.AttributeKind.TheVariants as kinds
+use Rattle.std.specs.Prelude.{Bool, List, map, cond}
+use Rattle.std.specs.BTreeSet.{insert_key}
+use Rattle.justfile_base.specs.contracts.unstable_feature.UnstableFeatureOrd.TheImpl as feature_order
 use Rattle.justfile_base.specs.declared.unstable_feature.UnstableFeature.{UnstableFeature}
-use Rattle.justfile_base.specs.declared.unstable_feature.UnstableFeature.TheVariants.{CachedRecipes}
+use Rattle.justfile_file.specs.Item.{item_of}
 use Rattle.justfile_file.specs.declared.item.Item.{Item}
-use Rattle.justfile_file.specs.declared.item.Item.TheVariants.{Assignment, Comment, Newline, Recipe}
+use Rattle.justfile_model.specs.UnstableFeatures.{unstable_features, uses}
 
-abbrev pub has_cache : AttributeSet → Bool
-has_cache set = has_kind kinds.Cache (attributes_of set)
-
--- the item has the attribute `cache`
-abbrev pub is_cached : Item → Bool
-is_cached (Assignment a) = has_cache a.attributes
-is_cached (Comment text) = false
-is_cached Newline = false
-is_cached (Recipe r) = has_cache r.attributes
+-- the item uses the feature
+abbrev pub uses_feature : UnstableFeature → Item → Bool
+uses_feature feature item = uses feature (item_of item)
 
 abbrev pub unstable_of : List Item → List UnstableFeature
-unstable_of items = if list_any is_cached items then CachedRecipes ∷ [] else []
+unstable_of items = unstable_features (map item_of items)
+
+-- features with another one, if it is used
+abbrev pub with_used : Bool → UnstableFeature → List UnstableFeature → List UnstableFeature
+with_used used feature features = cond used (insert_key feature_order.cmp-value.it features feature) features

@@ -1,10 +1,12 @@
 -- Where a number is wanted.
-use Rattle.std.specs.Prelude.{◌≡◌, ℕ, ◌+◌, ◌-◌, ◌^◌, List, [], Some, Ok, IsOk}
+use Rattle.std.specs.Prelude.{◌≡◌, ℕ, ◌+◌, ◌-◌, ◌^◌, Bool, true, false, List, [], Some, Ok, IsOk, codes}
 use Rattle.justfile_base.specs.declared.numerator.Numerator.{Numerator}
+use Rattle.justfile_base.specs.declared.item_kind.ItemKind.TheVariants as item_kinds
 use Rattle.justfile_base.specs.declared.token_kind.TokenKind.{TokenKind}
 use Rattle.justfile_base.specs.declared.token_kind.TokenKind.TheVariants as kinds
 use Rattle.justfile_model.specs.Conditions.{Conditions}
 use Rattle.justfile_model.specs.HeaderReader as headers
+use Rattle.justfile_model.specs.PartReader as parts
 use Rattle.justfile_model.specs.ReadAttribute.{ReadAttribute, token_sight}
 use Rattle.justfile_model.specs.Reader as files
 use Rattle.justfile_model.specs.Reader.{after_mark, any_recipe, argument_rules, assignment, line, with_recipes}
@@ -28,13 +30,63 @@ next = reading.accept token_leaves
 
 -- ---- of an assignment
 
--- an assignment comes next, after its attributes and up to the end of its value, and the counter of bindings is at its end: it has no number for it
+-- this word comes next, and a name and `:=` follow it
+abbrev pub word_before : List ℕ → State → Taken
+word_before word = parts.accept_before token_leaves word (parts.is_assigned token_leaves)
+
+-- where an assignment begins: after `eager`, after `export`, or here
+pub data BeginsAssignment (s : State) : (eager export : Bool) → State → Type 0 where
+  at_name : BeginsAssignment s false false s
+  eager : {word : SignificantToken × State} → word_before (codes "eager") s ≡ Some word → BeginsAssignment s true false word.1
+  export : {word : SignificantToken × State} → word_before (codes "export") s ≡ Some word → BeginsAssignment s false true word.1
+
+-- An assignment comes next, after its attributes and a word or none, and up to the end of its value, and the counter of bindings is at its end: it
+-- has no number for it.
 pub record LacksBinding (s : State) (n : Counters) : Type 0 where
   pub attributes : List ReadAttribute
   pub header : State
   pub attributes_read : attributes_at s ≡ Ok (attributes, header)
-  pub assigns : IsOk (assignment token_leaves token_attributes attributes n header)
+  pub is_eager : Bool
+  pub is_export : Bool
+  pub begin : State
+  pub begins : BeginsAssignment header is_eager is_export begin
+  pub assigns : IsOk (assignment token_leaves token_attributes is_eager is_export attributes n begin)
   pub at_end : n.bindings ≡ 2 ^ 32 - 1
+
+-- ---- of a parameter of a function
+
+-- where a name begins: the counters, and what is left
+abbrev pub NamePlace : Type 0
+NamePlace = Counters × State
+
+-- a name with its number
+abbrev pub numbered_name : NamePlace → Read (Tok × Counters)
+numbered_name x = parts.numbered_name token_leaves x.0 x.1
+
+-- names come next, a comma after each, and each of them gets its number
+pub data AreNamed : (from to : NamePlace) → Type 0 where
+  no_name : {x : NamePlace} → AreNamed x x
+  a_name : {x y : NamePlace} {name : (Tok × Counters) × State} {comma : SignificantToken × State} → numbered_name x ≡ Ok name
+      → next kinds.Comma name.1 ≡ Some comma → AreNamed (name.0.1, comma.1) y
+      → AreNamed x y
+
+-- A function comes next, after its attributes, which it may have. After names that got their numbers a name comes next, and the counter of bindings
+-- is at its end: it has no number for it.
+pub record LacksName (s : State) (old new : Counters) : Type 0 where
+  pub attributes : List ReadAttribute
+  pub header : State
+  pub attributes_read : attributes_at s ≡ Ok (attributes, header)
+  pub name : SignificantToken × State
+  pub name_read : reading.expect token_leaves kinds.Identifier header ≡ Ok name
+  pub checked : Unit {0} × State
+  pub attributes_allowed : files.allowed token_leaves token_attributes item_kinds.Function attributes name.0 name.1 ≡ Ok checked
+  pub opener : SignificantToken × State
+  pub opener_read : reading.expect token_leaves kinds.ParenL checked.1 ≡ Ok opener
+  pub place : NamePlace
+  pub named : AreNamed (old, opener.1) place
+  pub counters : place.0 ≡ new
+  pub is_name : IsOk (numbered_name place)
+  pub at_end : new.bindings ≡ 2 ^ 32 - 1
 
 -- ---- of a parameter
 
@@ -111,6 +163,7 @@ pub record LacksRecipe (s : State) (old new : Counters) : Type 0 where
 -- where the number is wanted are the new ones.
 pub data LacksNumber (s : State) (old : Counters) : (new : Counters) → Type 0 where
   binding : LacksBinding s old → LacksNumber s old old
+  name_number : {new : Counters} → LacksName s old new → LacksNumber s old new
   parameter_number : {new : Counters} → LacksParameter s old new → LacksNumber s old new
   recipe_number : {new : Counters} → LacksRecipe s old new → LacksNumber s old new
 
@@ -119,7 +172,7 @@ pub data AreLines : Counters → State → Counters → State → Type 0 where
   no_line : {n : Counters} {s : State} → AreLines n s n s
   a_line : {n m k : Counters} {s rest left : State} {items : WrittenTree} → line token_leaves token_attributes n s ≡ Ok ((items, m), rest) → AreLines m rest k left → AreLines n s k left
 
--- after lines whose bindings and recipes got their numbers, an assignment, a parameter or a recipe lacks its number
+-- after lines whose bindings and recipes got their numbers, an assignment, a parameter of a function or of a recipe, or a recipe lacks its number
 pub record LinesWantNumber (s : State) (old new : Numerator) : Type 0 where
   pub left : State
   pub counters : Counters

@@ -1,4 +1,4 @@
--- What follows, of a construct, from its name, its attributes and its body.
+-- What follows, of a construct, from its name, its attributes, its value and its body.
 use Rattle.std.specs.Prelude.{◌≡◌, ◌≤◌, ℕ, All, Bool, IsTrue, ◌||◌, ◌==◌, List, codes, length, nat_eq, slice_index, map}
 use Rattle.std.specs.List.{starts_with}
 use Rattle.justfile_attribute_set.specs.AttributeSet.{AttributeSet, attributes_of}
@@ -8,13 +8,14 @@ use Rattle.justfile_base.specs.declared.attribute_kind.AttributeKind.TheVariants
 use Rattle.justfile_base.specs.declared.token.Token.{Token}
 use Rattle.justfile_file.specs.declared.binding.Binding.{Binding}
 use Rattle.justfile_file.specs.declared.item.Item.{Item}
-use Rattle.justfile_file.specs.declared.item.Item.TheVariants.{Assignment, Comment, Newline, Recipe}
+use Rattle.justfile_file.specs.declared.item.Item.TheVariants.{Alias, Assignment, Comment, Function, Import, Module, Newline, Recipe, Setting, Unexport}
 use Rattle.justfile_file.specs.declared.recipe.UnresolvedRecipe.{UnresolvedRecipe}
 use Rattle.justfile_parse.specs.ItemTable.{has_shebang}
 use Rattle.justfile_parse.specs.Tree.{line_tree}
 pub use Rattle.justfile_parse_attribute.specs.KeyedBounds.{AreKeyedPairs}
 use Rattle.justfile_parse_header.specs.Said.{AreWholeParameters}
 use Rattle.justfile_parse_header.specs.Tree.{rules_of}
+use Rattle.justfile_setting.specs.Setting.{IsWholeSetting}
 use Rattle.justfile_tree.specs.declared.expression.Expression.{Expression}
 
 -- a name that begins with `_` is private
@@ -38,10 +39,16 @@ pub record IsWholeRecipe (r : UnresolvedRecipe) : Type 0 where
 
 -- a comment begins with `#`
 abbrev pub IsWholeItem : Item → Type 0
+IsWholeItem (Alias a) = Unit {0}
 IsWholeItem (Assignment a) = IsWholeAssignment a
 IsWholeItem (Comment text) = IsTrue (starts_with nat_eq text.now (codes "#"))
+IsWholeItem (Function f) = Unit {0}
+IsWholeItem (Import attributes optional relative) = Unit {0}
+IsWholeItem (Module attributes doc name optional relative) = Unit {0}
 IsWholeItem Newline = Unit {0}
 IsWholeItem (Recipe r) = IsWholeRecipe r
+IsWholeItem (Setting s) = IsWholeSetting s.value
+IsWholeItem (Unexport attributes name) = Unit {0}
 
 -- all of them are
 unfoldable pub AreWhole : List Item → Type 0

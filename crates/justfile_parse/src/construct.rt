@@ -1,12 +1,13 @@
 //! The attributes of a construct, once it is known which construct it is.
 ghost use Rattle.std.specs.Prelude.{◌≡◌, ◌&&◌, IfOk, map};
-ghost use Rattle.justfile_attribute_set.specs.AttributeSet.{leaf_entries_of};
+ghost use Rattle.justfile_attribute_set.specs.AttributeSet.{IsConstruct, leaf_entries_of};
 ghost use Rattle.justfile_model.specs.ContentKeys.{has_attribute};
 ghost use Rattle.justfile_model.specs.HeaderReader.{obeying};
 ghost use Rattle.justfile_model.specs.RecipeRules.{exclusions_broken};
 ghost use Rattle.justfile_parse.specs.Exclusions.{IsExclusion};
 ghost use Rattle.justfile_parse.specs.Halting.{IsExtraneousFault};
 ghost use Rattle.justfile_parse.specs.ItemTable as reader;
+ghost use Rattle.justfile_parse.specs.Whole.{is_hidden, is_private};
 ghost use Rattle.justfile_parse_attribute.specs.Attributes.{entry_of_pair};
 ghost use Rattle.justfile_parse_attribute.specs.Halting.{ReadsRuled};
 ghost use Rattle.justfile_parse_expression.specs.TableReader.{State};
@@ -19,18 +20,20 @@ use justfile_parse_attribute::{Halt, make_halt};
 use justfile_parse_expression::significant::TableEntry;
 use std::alloc::Global;
 
-/// The attributes of an assignment with this name, if it may have them.
+/// The attributes of an item of this kind, whose name or path is at this token, if it may have them.
 #[tactic(auto, using(crate::proofs::Constructs::is_allowed, crate::proofs::Constructs::is_disallowed))]
 pub(crate) fn allowed<'src>(
     alloc: Global,
+    item: ItemKind,
     attributes: Vec<(Attribute<'src>, Name<'src>)>,
     name: TableEntry<'_, 'src>,
 ) -> Result<AttributeSet<'src>, Halt<'src>>
-    ensures reads { (s : State) → ReadsRuled (λ _. tt) result s (reader.allowed (map entry_of_pair attributes.entry.items) name.entry s) }
+    requires { IsConstruct item }
+    ensures reads { (s : State) → ReadsRuled (λ _. tt) result s (reader.allowed item (map entry_of_pair attributes.entry.items) name.entry s) }
     ensures entries { IfOk result (λ set. leaf_entries_of set ≡ reader.in_content_order (map entry_of_pair attributes.entry.items)) }
 {
     let set = AttributeSet::from_read(attributes)?;
-    match set.ensure_valid_attributes(ItemKind::Assignment, *name.token) {
+    match set.ensure_valid_attributes(item, *name.token) {
         Ok(()) => Ok(set),
         Err(error) => Err(make_halt(alloc, Fault::Compile(error))),
     }
@@ -89,4 +92,18 @@ pub(crate) fn extraneous<'src>(count: usize, opener: Token<'src>) -> Fault<'src>
     ensures { IsExtraneousFault count opener.entry result }
 {
     Fault::Compile(opener.error(CompileErrorKind::ExtraneousAttributes { count }))
+}
+
+/// Whether what has this name and these attributes is private.
+pub(crate) fn is_hidden(name: Token<'_>, attributes: &AttributeSet<'_>) -> bool
+    ensures { result ≡ is_hidden name.entry attributes.now }
+{
+    is_private(name.lexeme().as_bytes()) || attributes.private()
+}
+
+/// Whether a name is private: whether it begins with `_`.
+fn is_private(name: &[u8]) -> bool
+    ensures { result ≡ is_private name.now }
+{
+    name.first() == Some(&b'_')
 }

@@ -1,17 +1,21 @@
-//! The docs of recipes: the comments before them.
-ghost use Rattle.std.specs.Prelude.{◌≡◌, ◌∷◌, ◌++◌, ◌≤◌, [], IfOk, IsTrue, OnOk, codes, map, nat_eq, reverse, true, vec_len};
+//! The docs of recipes and modules: the comments before them.
+ghost use Rattle.std.specs.Prelude.{◌≡◌, ◌∷◌, ◌++◌, ◌≤◌, ◌&&◌, [], IfOk, IsTrue, OnOk, Some, codes, map, nat_eq, not, reverse, string_bytes, true, vec_len};
 ghost use Rattle.std.specs.List.{starts_with};
-ghost use Rattle.std.specs.Option.{option_map};
+ghost use Rattle.std.specs.Option.{is_some, option_map};
+ghost use Rattle.justfile_attribute_set.specs.AttributeSet.{attributes_of};
+ghost use Rattle.justfile_attribute_set.specs.Attributes.{has_kind};
+ghost use Rattle.justfile_base.specs.declared.attribute_kind.AttributeKind.TheVariants as kinds;
 ghost use Rattle.justfile_model.specs.Docs.{doc_in, documented, item_with_doc};
 ghost use Rattle.justfile_model.specs.Docs as before;
 ghost use Rattle.justfile_model.specs.Files.{says_doc};
 ghost use Rattle.justfile_model.specs.Tree as tree;
 ghost use Rattle.justfile_parse.specs.Docs.{comment_of, doc_before, doc_first, is_newline, says_no_doc, with_doc, with_item};
-ghost use Rattle.justfile_parse.specs.Tree.{item_tree, recipe_tree};
-ghost use Rattle.justfile_parse.specs.Whole.{AreWhole, IsWholeItem, IsWholeRecipe};
+ghost use Rattle.justfile_parse.specs.Tree.{item_tree};
+ghost use Rattle.justfile_parse.specs.Whole.{AreWhole, IsWholeItem};
 
+use justfile_attribute_set::AttributeSet;
 use justfile_base::AttributeKind;
-use justfile_file::{Item, UnresolvedRecipe};
+use justfile_file::Item;
 use std::alloc::{AllocError, Global};
 
 /// The items with their docs, in place of comments.
@@ -45,50 +49,47 @@ fn push_documented<'src>(
     ensures trees { OnOk result (map item_tree items.new.items ≡ with_item (map item_tree items.old.items) (item_tree item.entry)) }
     ensures whole { OnOk result (AreWhole items.new.items) }
 {
-    match item {
-        Item::Recipe(recipe) => push_recipe(alloc, items, recipe),
-        item => push_item(items, item),
-    }
-}
-
-/// Adds a recipe with its doc, in place of the comment before it.
-fn push_recipe<'src>(
-    alloc: Global,
-    items: &mut Vec<Item<'src>>,
-    recipe: UnresolvedRecipe<'src>,
-) -> Result<(), AllocError>
-    requires items { AreWhole items.old.items }
-    requires recipe { IsWholeRecipe recipe }
-    ensures trees { OnOk result (map item_tree items.new.items ≡ with_item (map item_tree items.old.items) (recipe_tree recipe.entry)) }
-    ensures whole { OnOk result (AreWhole items.new.items) }
-{
-    if !wants_doc(&recipe) {
-        return push_item(items, Item::Recipe(recipe));
+    if !wants_doc(&item) {
+        return push_item(items, item);
     }
     match find_doc(items.as_slice()) {
-        Some(doc) => push_with_doc(alloc, items, recipe, doc),
-        None => push_item(items, Item::Recipe(recipe)),
+        Some(doc) => push_with_doc(alloc, items, item, doc),
+        None => push_item(items, item),
     }
 }
 
-/// Adds a recipe with this doc, in place of the comment and the line end before it.
+/// Adds an item with this doc, in place of the comment and the line end before it.
 fn push_with_doc<'src>(
     alloc: Global,
     items: &mut Vec<Item<'src>>,
-    mut recipe: UnresolvedRecipe<'src>,
+    mut item: Item<'src>,
     doc: &str,
 ) -> Result<(), AllocError>
     requires two { 2 ≤ vec_len items.old }
     requires items { AreWhole items.old.items }
-    requires recipe { IsWholeRecipe recipe }
-    requires wanted { says_no_doc (recipe_tree recipe) ≡ true }
+    requires item { IsWholeItem item }
+    requires wanted { says_no_doc (item_tree item) ≡ true }
     ensures trees { OnOk result (map item_tree items.new.items
-        ≡ with_doc (map item_tree items.old.items) (recipe_tree recipe.entry) (item_with_doc says_doc doc.now (recipe_tree recipe.entry))) }
+        ≡ with_doc (map item_tree items.old.items) (item_tree item.entry) (item_with_doc says_doc doc.now (item_tree item.entry))) }
     ensures whole { OnOk result (AreWhole items.new.items) }
 {
-    recipe.doc = Some(doc.to_string(alloc)?);
+    set_doc(&mut item, doc.to_string(alloc)?);
     items.truncate(items.len() - 2);
-    push_item(items, Item::Recipe(recipe))
+    push_item(items, item)
+}
+
+/// Sets the doc of an item that takes one.
+fn set_doc(item: &mut Item<'_>, text: String)
+    requires whole { IsWholeItem item.old }
+    requires wanted { says_no_doc (item_tree item.old) ≡ true }
+    ensures tree { Some (item_tree item.new) ≡ item_with_doc says_doc (string_bytes text) (item_tree item.old) }
+    ensures whole { IsWholeItem item.new }
+{
+    match item {
+        Item::Module { doc, .. } => *doc = Some(text),
+        Item::Recipe(recipe) => recipe.doc = Some(text),
+        _ => {}
+    }
 }
 
 /// Adds an item as it is.
@@ -102,11 +103,26 @@ fn push_item<'src>(items: &mut Vec<Item<'src>>, item: Item<'src>) -> Result<(), 
     Ok(())
 }
 
-/// Whether neither an attribute nor a comment says the recipe's doc yet.
-fn wants_doc(recipe: &UnresolvedRecipe<'_>) -> bool
-    ensures { result ≡ says_no_doc (recipe_tree recipe.now) }
+/// Whether the item takes a doc, and neither an attribute nor a comment says it yet.
+fn wants_doc(item: &Item<'_>) -> bool
+    ensures { result ≡ says_no_doc (item_tree item.now) }
 {
-    recipe.doc.is_none() && !recipe.attributes.contains(AttributeKind::Doc)
+    match item {
+        Item::Module {
+            attributes,
+            doc,
+            ..
+        } => lacks_doc(attributes, doc),
+        Item::Recipe(recipe) => lacks_doc(&recipe.attributes, &recipe.doc),
+        _ => false,
+    }
+}
+
+/// Whether neither an attribute says a doc nor this text.
+fn lacks_doc(attributes: &AttributeSet<'_>, doc: &Option<String>) -> bool
+    ensures { result ≡ (not (has_kind kinds.Doc (attributes_of attributes.now)) && not (is_some doc.now)) }
+{
+    doc.is_none() && !attributes.contains(AttributeKind::Doc)
 }
 
 /// The doc that ends these items: a comment and one line end, after a line end or nothing.

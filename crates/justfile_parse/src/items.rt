@@ -1,5 +1,5 @@
 //! The items of a file, and the numbers that they get.
-ghost use Rattle.std.specs.Prelude.{◌≡◌, ◌<◌, ◌≤◌, ◌∷◌, ◌++◌, [], IsTrue, OnOk, codes, map, nat_eq};
+ghost use Rattle.std.specs.Prelude.{◌≡◌, ◌<◌, ◌≤◌, ◌∷◌, ◌++◌, [], IfOk, IsTrue, OnOk, codes, map, nat_eq};
 ghost use Rattle.std.specs.List.{starts_with};
 ghost use Rattle.std.specs.Str.{trim_end};
 ghost use Rattle.justfile_base.specs.Token.{lexeme_of};
@@ -7,27 +7,20 @@ ghost use Rattle.justfile_model.specs.SignificantTokens.{identifiers};
 ghost use Rattle.justfile_model.specs.Tree as tree;
 ghost use Rattle.justfile_parse_header.specs.Counting.{ReadsCounted, counters_of};
 ghost use Rattle.justfile_model.specs.Reading.{prepend};
-ghost use Rattle.justfile_model.specs.Reader.{after_numbered};
+ghost use Rattle.justfile_model.specs.PartReader.{after_numbered};
 ghost use Rattle.justfile_parse.specs.ItemTable as reader;
-ghost use Rattle.std.specs.Prelude.{IfOk};
-ghost use Rattle.justfile_parse_attribute.specs.Attributes.{entry_of_pair};
-ghost use Rattle.justfile_parse_attribute.specs.Halting.{ReadsRuled};
 ghost use Rattle.justfile_parse.specs.MethodResults.{IsMoved};
 ghost use Rattle.justfile_parse_expression.specs.MethodResults.{Reads, UnlessMemory};
-ghost use Rattle.justfile_parse.specs.Whole.{AreKeyedPairs, AreWhole, IsWholeAssignment, IsWholeItem, KeepsWhole, is_hidden, is_private};
+ghost use Rattle.justfile_parse.specs.Whole.{AreWhole, IsWholeItem, KeepsWhole};
 ghost use Rattle.justfile_parse_expression.specs.Significant.{significant_of};
-ghost use Rattle.justfile_parse.specs.Tree.{assignment_tree, item_tree};
+ghost use Rattle.justfile_parse.specs.Tree.{item_tree};
 ghost use Rattle.justfile_parse_expression.specs.View.{left, state_of};
 
-use crate::construct::{allowed, extraneous};
-use crate::recipe::parse_any_recipe;
-use justfile_attribute::Attribute;
-use justfile_attribute_set::AttributeSet;
-use justfile_base::{Expander, Name, Numerator, Token, TokenKind};
-use justfile_file::{Assignment, Binding, Item};
-use justfile_parse_attribute::{Halt, make_halt, parse_attributes};
+use crate::content::parse_construct;
+use justfile_base::{Expander, Numerator, Token, TokenKind};
+use justfile_file::Item;
+use justfile_parse_attribute::Halt;
 use justfile_parse_expression::{ExpressionParser, Refusal, Stop};
-use justfile_parse_header::draw_binding;
 
 /// The items up to the end of the file, where no expression is open.
 #[tactic(auto, using(crate::proofs::Loop::moved, crate::proofs::Loop::moved_on))]
@@ -108,102 +101,6 @@ fn parse_item<'src, X: Expander>(
     parse_construct(parser, numerator)
 }
 
-/// A construct with its attributes, where no expression is open.
-#[tactic(auto, using(crate::proofs::Moved::unmoved), unfolding(justfile_model::specs::Reader::construct))]
-fn parse_construct<'src, X: Expander>(
-    parser: &mut ExpressionParser<'_, 'src, X>,
-    numerator: &mut Numerator,
-) -> Result<Item<'src>, Halt<'src>>
-    requires { (state_of X.answer parser.old).depth ≡ 0 }
-    ensures reads { ReadsCounted item_tree result numerator.new (state_of X.answer parser.new)
-        (reader.construct (counters_of numerator.old) (state_of X.answer parser.old)) }
-    ensures whole { IfOk result IsWholeItem }
-    ensures progress { OnOk result (left parser.new < left parser.old) }
-    ensures moved { IsMoved numerator.old numerator.new (identifiers (map significant_of (state_of X.answer parser.old).left)) }
-{
-    let attributes = parse_item_attributes(parser)?;
-    parse_content(parser, attributes, numerator)
-}
-
-/// The attributes before a construct, which follows them.
-#[tactic(auto, unfolding(justfile_model::specs::Reader::attributes))]
-fn parse_item_attributes<'src, X: Expander>(
-    parser: &mut ExpressionParser<'_, 'src, X>,
-) -> Result<Vec<(Attribute<'src>, Name<'src>)>, Halt<'src>>
-    ensures reads { ReadsRuled (λ pairs. map entry_of_pair pairs.items) result (state_of X.answer parser.new)
-        (reader.item_attributes (state_of X.answer parser.old)) }
-    ensures keyed { IfOk result (λ pairs. AreKeyedPairs pairs.items) }
-    ensures progress { OnOk result (left parser.new ≤ left parser.old) }
-{
-    let Some(opener) = parser.peek_if(TokenKind::BracketL) else {
-        return Ok(Vec::new(parser.alloc));
-    };
-    let attributes = parse_attributes(parser)?;
-    if stands_alone(parser) {
-        return Err(make_halt(parser.alloc, extraneous(attributes.len(), *opener.token)));
-    }
-    Ok(attributes)
-}
-
-/// Whether a blank line or a comment comes next.
-fn stands_alone<X: Expander>(parser: &ExpressionParser<'_, '_, X>) -> bool
-    ensures { result ≡ reader.stands_alone (state_of X.answer parser.now) }
-{
-    parser.peek_kinds(&[TokenKind::Eol]) || parser.peek_kinds(&[TokenKind::Comment])
-}
-
-/// A construct after its attributes.
-#[tactic(auto, unfolding(justfile_model::specs::Reader::content))]
-fn parse_content<'src, X: Expander>(
-    parser: &mut ExpressionParser<'_, 'src, X>,
-    attributes: Vec<(Attribute<'src>, Name<'src>)>,
-    numerator: &mut Numerator,
-) -> Result<Item<'src>, Halt<'src>>
-    requires { AreKeyedPairs attributes.items }
-    ensures reads { ReadsCounted item_tree result numerator.new (state_of X.answer parser.new)
-        (reader.content (map entry_of_pair attributes.entry.items) (counters_of numerator.old) (state_of X.answer parser.old)) }
-    ensures whole { IfOk result IsWholeItem }
-    ensures progress { OnOk result (left parser.new < left parser.old) }
-    ensures moved { IsMoved numerator.old numerator.new (identifiers (map significant_of (state_of X.answer parser.old).left)) }
-{
-    if parser.peek_kinds(&[TokenKind::Identifier, TokenKind::ColonEquals]) {
-        let assignment = parse_assignment(parser, attributes, numerator)?;
-        return Ok(Item::Assignment(assignment));
-    }
-    let recipe = parse_any_recipe(parser, attributes, numerator)?;
-    Ok(Item::Recipe(recipe))
-}
-
-/// NAME `:=` expression, after its attributes.
-#[tactic(auto, using(crate::proofs::Moved::unmoved, justfile_parse_expression::proofs::Rest::file_depth_is), unfolding(justfile_model::specs::Reader::assignment, justfile_parse_expression::specs::TableReader::leaves))]
-fn parse_assignment<'src, X: Expander>(
-    parser: &mut ExpressionParser<'_, 'src, X>,
-    attributes: Vec<(Attribute<'src>, Name<'src>)>,
-    numerator: &mut Numerator,
-) -> Result<Assignment<'src>, Halt<'src>>
-    ensures reads { ReadsCounted assignment_tree result numerator.new (state_of X.answer parser.new)
-        (reader.assignment (map entry_of_pair attributes.entry.items) (counters_of numerator.old) (state_of X.answer parser.old)) }
-    ensures whole { IfOk result IsWholeAssignment }
-    ensures progress { OnOk result (left parser.new < left parser.old) }
-    ensures moved { IsMoved numerator.old numerator.new (identifiers (map significant_of (state_of X.answer parser.old).left)) }
-{
-    let name = parser.expect(TokenKind::Identifier)?;
-    parser.expect(TokenKind::ColonEquals)?;
-    let value = parser.parse_expression()?;
-    let attributes = allowed(parser.alloc, attributes, name)?;
-    let number = draw_binding(numerator)?;
-    let private = is_hidden(*name.token, &attributes);
-    Ok(Binding {
-        attributes,
-        file_depth: parser.file_depth,
-        name: Name::from_identifier(*name.token),
-        number,
-        prelude: false,
-        private,
-        value: Box::into_inner(value),
-    })
-}
-
 /// What ends an item: after a body a line starts, and the line end before it is made.
 #[tactic(auto, using(crate::proofs::Lines::ended_body, crate::proofs::Lines::ended_after, crate::proofs::Wholes::newline_whole))]
 fn parse_item_end<'src, X: Expander>(
@@ -260,20 +157,6 @@ fn parse_line_end<'src, X: Expander>(
     parser.expect(TokenKind::Eol)?;
     push_item(items, Item::Newline)?;
     Ok(())
-}
-
-/// Whether what has this name and these attributes is private.
-pub(crate) fn is_hidden(name: Token<'_>, attributes: &AttributeSet<'_>) -> bool
-    ensures { result ≡ is_hidden name.entry attributes.now }
-{
-    is_private(name.lexeme().as_bytes()) || attributes.private()
-}
-
-/// Whether a name is private: whether it begins with `_`.
-fn is_private(name: &[u8]) -> bool
-    ensures { result ≡ is_private name.now }
-{
-    name.first() == Some(&b'_')
 }
 
 /// A comment, without the white space at its end.

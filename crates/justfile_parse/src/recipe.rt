@@ -14,8 +14,7 @@ ghost use Rattle.justfile_parse_expression.specs.View.{left, state_of};
 ghost use Rattle.justfile_parse_header.specs.Counting.{ReadsCounted, ReadsNumbered, counters_of};
 
 use crate::body::parse_body_after_header;
-use crate::construct::check_exclusions;
-use crate::items::is_hidden;
+use crate::construct::{check_exclusions, is_hidden};
 use justfile_attribute::Attribute;
 use justfile_attribute_set::AttributeSet;
 use justfile_base::{AttributeKind, Expander, Name, Number, Numerator, TokenKind};

@@ -1,11 +1,18 @@
 //! What a file uses that only an unstable justfile may.
-ghost use Rattle.std.specs.Prelude.{◌≡◌, IfOk};
+ghost use Rattle.std.specs.Prelude.{◌≡◌, IfOk, OnOk};
 ghost use Rattle.std.specs.List.{list_any};
-ghost use Rattle.justfile_parse.specs.Unstable.{has_cache, is_cached, unstable_of};
+ghost use Rattle.justfile_attribute_set.specs.AttributeSet.{entries_of};
+ghost use Rattle.justfile_base.specs.declared.attribute_kind.AttributeKind.TheVariants as kinds;
+ghost use Rattle.justfile_base.specs.declared.unstable_feature.UnstableFeature.TheVariants as features;
+ghost use Rattle.justfile_model.specs.ContentKeys.{has_attribute};
+ghost use Rattle.justfile_model.specs.UnstableFeatures.{is_lists};
+ghost use Rattle.justfile_parse.specs.Unstable.{unstable_of, uses_feature, with_used};
+ghost use Rattle.justfile_setting.specs.Setting.{keyword_of};
 
 use justfile_attribute_set::AttributeSet;
 use justfile_base::{AttributeKind, UnstableFeature};
 use justfile_file::Item;
+use justfile_setting::Setting;
 use std::alloc::{AllocError, Global};
 use std::collections::BTreeSet;
 
@@ -30,6 +37,7 @@ pub(crate) fn with_unstable<'src>(
 /// # Errors
 ///
 /// `AllocError` if the program is out of memory.
+#[tactic(auto, using(crate::proofs::UsedFeatures::features_are))]
 fn unstable_features(
     alloc: Global,
     items: &mut Vec<Item<'_>>,
@@ -38,32 +46,97 @@ fn unstable_features(
     ensures same { items.new ≡ items.old }
 {
     let mut features = BTreeSet::new(alloc);
-    if are_cached(items.as_slice()) {
-        features.insert(UnstableFeature::CachedRecipes)?;
-    }
+    let cached = are_cached(items.as_slice());
+    insert_if(cached, UnstableFeature::CachedRecipes, &mut features)?;
+    let listed = set_lists(items.as_slice());
+    insert_if(listed, UnstableFeature::ListsSetting, &mut features)?;
+    let defined = define_functions(items.as_slice());
+    insert_if(
+        defined,
+        UnstableFeature::UserDefinedFunctions,
+        &mut features,
+    )?;
     Ok(features)
+}
+
+/// Adds a feature, if it is used.
+fn insert_if(
+    used: bool,
+    feature: UnstableFeature,
+    features: &mut BTreeSet<UnstableFeature>,
+) -> Result<(), AllocError>
+    ensures { OnOk result (features.new.keys ≡ with_used used feature features.old.keys) }
+{
+    if used {
+        features.insert(feature)?;
+    }
+    Ok(())
 }
 
 /// Whether one of the items has the attribute `cache`.
 fn are_cached(items: &[Item<'_>]) -> bool
-    ensures { result ≡ list_any is_cached items.now }
+    ensures { result ≡ list_any (uses_feature features.CachedRecipes) items.now }
 {
     items.iter().any(|item| is_cached(item))
 }
 
 /// Whether an item has the attribute `cache`.
 fn is_cached(item: &Item<'_>) -> bool
-    ensures { result ≡ is_cached item.now }
+    ensures { result ≡ uses_feature features.CachedRecipes item.now }
 {
     match item {
+        Item::Alias(alias) => has_cache(&alias.attributes),
         Item::Assignment(assignment) => has_cache(&assignment.attributes),
         Item::Comment(_) | Item::Newline => false,
+        Item::Function(function) => has_cache(&function.attributes),
+        Item::Import { attributes, .. }
+        | Item::Module { attributes, .. }
+        | Item::Unexport { attributes, .. } => has_cache(attributes),
         Item::Recipe(recipe) => has_cache(&recipe.attributes),
+        Item::Setting(set) => has_cache(&set.attributes),
     }
 }
 
+#[tactic(auto, using(crate::proofs::UsedFeatures::has_written))]
 fn has_cache(attributes: &AttributeSet<'_>) -> bool
-    ensures { result ≡ has_cache attributes.now }
+    ensures { result ≡ has_attribute kinds.Cache (entries_of attributes.now) }
 {
     attributes.contains(AttributeKind::Cache)
+}
+
+/// Whether one of the items is the setting `lists`.
+fn set_lists(items: &[Item<'_>]) -> bool
+    ensures { result ≡ list_any (uses_feature features.ListsSetting) items.now }
+{
+    items.iter().any(|item| sets_lists(item))
+}
+
+/// Whether an item is the setting `lists`.
+fn sets_lists(item: &Item<'_>) -> bool
+    ensures { result ≡ uses_feature features.ListsSetting item.now }
+{
+    match item {
+        Item::Setting(set) => is_lists(&set.value),
+        _ => false,
+    }
+}
+
+fn is_lists(setting: &Setting<'_>) -> bool
+    ensures { result ≡ is_lists (keyword_of setting.now) }
+{
+    matches!(setting, Setting::Lists(_))
+}
+
+/// Whether one of the items defines a function.
+fn define_functions(items: &[Item<'_>]) -> bool
+    ensures { result ≡ list_any (uses_feature features.UserDefinedFunctions) items.now }
+{
+    items.iter().any(|item| defines_function(item))
+}
+
+/// Whether an item defines a function.
+fn defines_function(item: &Item<'_>) -> bool
+    ensures { result ≡ uses_feature features.UserDefinedFunctions item.now }
+{
+    matches!(item, Item::Function(_))
 }

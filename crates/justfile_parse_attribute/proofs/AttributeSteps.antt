@@ -50,6 +50,8 @@ broken_first (Err (reading.NotCooked fault t)) next e h = absurd h
 broken_first (Err (reading.BreaksRule broken)) next e h = h
 broken_first (Err (reading.Extraneous count opener)) next e h = h
 broken_first (Err (reading.AfterVariadic name)) next e h = h
+broken_first (Err (reading.UnknownSetting name)) next e h = h
+broken_first (Err (reading.ExpectedKeyword expected t)) next e h = h
 broken_first (Err (reading.NoNumber counters)) next e h = absurd h
 
 -- reading halts for the fault of a rule

@@ -1,10 +1,11 @@
 -- What a method returns that reads attributes, and so may find a rule broken.
-use Rattle.std.specs.Prelude.{◌≡◌, ℕ, Result, Ok, Err}
+use Rattle.std.specs.Prelude.{◌≡◌, ℕ, List, Result, Ok, Err}
 use Rattle.justfile_base.specs.declared.compile_error.CompileError.{CompileError}
 use Rattle.justfile_base.specs.declared.fault.Fault.{Fault}
 use Rattle.justfile_base.specs.declared.fault.Fault.TheVariants as faults
 use Rattle.justfile_attribute_rules.specs.RuleErrors.{IsErrorOfRule}
 use Rattle.justfile_base.specs.Token.{lexeme_of}
+use Rattle.justfile_base.specs.declared.keyword.Keyword.{Keyword}
 use Rattle.justfile_base.specs.declared.token.Token.{Token}
 use Rattle.justfile_model.specs.Reading as reading
 use Rattle.justfile_parse_expression.specs.MethodResults.{StopsAt}
@@ -26,12 +27,31 @@ abbrev pub IsAfterVariadic : (name : Token) → CompileErrorKind → Type 0
 IsAfterVariadic name (kinds.ParameterFollowsVariadicParameter parameter) = parameter.now ≡ lexeme_of name
 IsAfterVariadic name kind = ⊥
 
--- nothing is read, as a rule is broken, attributes stand before no construct or a name follows the last parameter, which the error says
+-- the kind says a name that is that of no setting
+abbrev pub IsUnknownSetting : (name : Token) → CompileErrorKind → Type 0
+IsUnknownSetting name (kinds.UnknownSetting setting) = setting.now ≡ lexeme_of name
+IsUnknownSetting name kind = ⊥
+
+-- the kind says which keywords may stand where this token was found
+abbrev pub IsExpectedKeyword : List Keyword → (found : Token) → CompileErrorKind → Type 0
+IsExpectedKeyword expected found (kinds.ExpectedKeyword expected' found') = (expected'.items ≡ expected) × (found' ≡ found)
+IsExpectedKeyword expected found kind = ⊥
+
+-- Nothing is read, as a rule is broken, attributes stand before no construct, a name follows the last parameter, a setting is unknown or a
+-- word is not one of those that may stand there, which the error says.
 abbrev pub IsBrokenBy : {Y : Type 0} → Result Y table.Refusal → CompileError → Type 0
 IsBrokenBy (Err (reading.BreaksRule broken)) e = IsErrorOfRule broken e
 IsBrokenBy (Err (reading.Extraneous count opener)) e = IsExtraneous count e.kind × (e.token ≡ opener)
 IsBrokenBy (Err (reading.AfterVariadic name)) e = IsAfterVariadic name e.kind × (e.token ≡ name)
+IsBrokenBy (Err (reading.UnknownSetting name)) e = IsUnknownSetting name e.kind × (e.token ≡ name)
+IsBrokenBy (Err (reading.ExpectedKeyword expected found)) e = IsExpectedKeyword expected found e.kind × (e.token ≡ found)
 IsBrokenBy _ e = ⊥
+
+-- the fault says why tokens are refused, or memory ran out
+abbrev pub IsFaultOf : table.Refusal → Fault → Type 0
+IsFaultOf refusal (faults.Compile e) = IsBrokenBy {Y = Unit {0}} (Err refusal) e
+IsFaultOf refusal faults.Memory = Unit {0}
+IsFaultOf refusal faults.Numbers = ⊥
 
 -- Where reading halted, the tokens can't be read, or a rule is broken.
 abbrev pub HaltsAt : {Y : Type 0} → Halt → State → (IsShort : Type 0) → Result Y table.Refusal → Type 0

@@ -115,7 +115,7 @@ fn parse_next_attribute<'src, X: Expander>(
 /// What stands after an element of a list: a comma, or the closing delimiter. Whether the list is
 /// at its end.
 #[tactic(auto, unfolding(crate::specs::AttributeTable::separator))]
-fn parse_separator<'src, X: Expander>(
+pub fn parse_separator<'src, X: Expander>(
     parser: &mut ExpressionParser<'_, 'src, X>,
     closing: TokenKind,
 ) -> Result<bool, Stop<'src>>

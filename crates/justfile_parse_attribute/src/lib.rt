@@ -6,5 +6,5 @@ mod attributes;
 mod halt;
 mod new_attribute;
 
-pub use crate::attributes::parse_attributes;
+pub use crate::attributes::{parse_attributes, parse_separator};
 pub use crate::halt::{Halt, make_halt};

@@ -18,7 +18,7 @@ use Rattle.justfile_model.specs.ExpressionReader as expressions
 use Rattle.justfile_model.specs.ExpressionReader.{by_text}
 use Rattle.justfile_model.specs.Reading.{NotCooked}
 use Rattle.justfile_parse_expression.specs.TableReader as reader
-use Rattle.justfile_parse_expression.specs.TableReader.{Refusal, State, leaves, part_by}
+use Rattle.justfile_parse_expression.specs.TableReader.{Refusal, State, leaves, part_by, string_leaf}
 use Rattle.justfile_model.specs.Literals as literal
 use Rattle.justfile_model.specs.Literals.{Expansions, LiteralFault, Unasked, cooked_text, format_text, string_of}
 use Rattle.justfile_model.specs.Tree as tree
@@ -99,16 +99,16 @@ module _ {X : Type 0} (answer : X → List ℕ → Result (List ℕ) (List ℕ))
   by = answers_by answer p.expander.now
 
   module _ (expand : Bool) where
-    pub string_given : (l : StringLiteral) → IsStringOf by entry.token.now expand l → reader.literal_string expand (entry, state_of answer p) ≡ Ok (tree.StringLiteral l.expand (Literal (literal_of l)), state_of answer p)
-    unfolding expressions.literal_string expressions.cooked leaves state_of state_at
+    pub string_given : (l : StringLiteral) → IsStringOf by entry.token.now expand l → string_leaf expand (entry, state_of answer p) ≡ Ok (Literal (literal_of l), state_of answer p)
+    unfolding string_leaf expressions.cooked leaves state_of state_at
     string_given l is = by_expand expand is
       where
-        by_expand : (expand : Bool) → IsStringOf by entry.token.now expand l → reader.literal_string expand (entry, state_of answer p) ≡ Ok (tree.StringLiteral l.expand (Literal (literal_of l)), state_of answer p)
+        by_expand : (expand : Bool) → IsStringOf by entry.token.now expand l → string_leaf expand (entry, state_of answer p) ≡ Ok (Literal (literal_of l), state_of answer p)
         by_expand true is = rw (is.cooked, is.expand_is, is.kind, is.part, is.token_is) refl
         by_expand false is = rw (is.cooked, is.expand_is, is.kind, is.part, is.token_is) refl
 
-    pub string_refused : (fault : Fault) (stop : Stop) → IsTextFault (cooked_text by (string_of expand (lexeme_of entry.token.now))) entry.token.now fault → TextStops stop fault → StopsAt stop (state_of answer p) ⊥ (reader.literal_string expand (entry, state_of answer p))
-    unfolding expressions.literal_string expressions.cooked leaves state_of state_at
+    pub string_refused : (fault : Fault) (stop : Stop) → IsTextFault (cooked_text by (string_of expand (lexeme_of entry.token.now))) entry.token.now fault → TextStops stop fault → StopsAt stop (state_of answer p) ⊥ (string_leaf expand (entry, state_of answer p))
+    unfolding string_leaf expressions.cooked leaves state_of state_at
     string_refused fault stop h is = text_refused _ (state_of answer p) (cooked_text by (string_of expand (lexeme_of entry.token.now))) entry fault stop h is
 
   pub command_given : (text : List ℕ) → ((expander : Expansions) → cooked_text expander (literal.Command (lexeme_of entry.token.now)) ≡ Ok text) → reader.backtick (entry, state_of answer p) ≡ Ok (tree.Backtick (Command entry.token.now text), state_of answer p)

@@ -7,14 +7,14 @@ use Rattle.justfile_base.specs.declared.token.Token.{Token}
 use Rattle.justfile_base.specs.declared.token_kind.TokenKind.{TokenKind}
 use Rattle.justfile_base.specs.declared.token_kind.TokenKind.TheVariants as kinds
 use Rattle.justfile_model.specs.Expressions.{front}
-use Rattle.justfile_model.specs.Literals.{LiteralFault, format_text}
+use Rattle.justfile_model.specs.Literals.{LiteralFault, cooked_text, format_text, string_of}
 use Rattle.justfile_model.specs.Tree as t
 use Rattle.justfile_model.specs.Tree.{Expr, Parts}
 use Rattle.justfile_model.specs.ExpressionReader as expressions
 use Rattle.justfile_model.specs.ExpressionReader.{by_text}
 use Rattle.justfile_model.specs.Reading.{◌>>=◌, choose}
 use Rattle.justfile_parse_expression.specs.TableReader as r
-use Rattle.justfile_parse_expression.specs.TableReader.{At, Read, ReadExpr, State, accept, accept_word, assert, braced, condition, enclosed, expect, format_parts, format_string, group, leaves, list, name, note_first, part, part_by, read, whole_format_string}
+use Rattle.justfile_parse_expression.specs.TableReader.{At, Read, ReadExpr, State, accept, accept_word, assert, braced, condition, enclosed, expect, format_parts, format_string, group, leaves, list, literal_string, name, note_first, part, part_by, read, string_leaf, whole_format_string}
 use Rattle.justfile_tree.specs.LeafTree.{Leaf}
 use Rattle.justfile_model.specs.declared.level.Level.TheVariants.{Expression}
 use Rattle.justfile_parse_expression.specs.declared.significant.TableEntry.{TableEntry}
@@ -82,6 +82,10 @@ assert_is s =
 made_of_text : {A B : Type 0} (make : List ℕ → A) (f : A → B) (x : TableEntry × State) (text : Result (List ℕ) LiteralFault) → by_text leaves (λ text. f (make text)) x text ≡ (by_text leaves make x text >>= then_made f)
 made_of_text make f x (Ok text) = refl
 made_of_text make f x (Err fault) = refl
+
+pub string_is : (expand : Bool) (x : TableEntry × State) → literal_string expand x ≡ (string_leaf expand x >>= then_made (t.StringLiteral expand))
+unfolding expressions.literal_string expressions.cooked string_leaf
+string_is expand x = made_of_text _ (t.StringLiteral expand) x (cooked_text (leaves.conditions x.1.run).expander (string_of expand (leaves.see x.0).tok.lexeme))
 
 pub single_is : (x : TableEntry × State) → whole_format_string x ≡ (part_by (kind_of (lexeme_of x.0.token.now)) string_parts.Single x >>= then_made t.FormatLiteral)
 unfolding expressions.whole_format_string expressions.cooked part_by leaves

@@ -74,6 +74,7 @@ module _ (conditions : Conditions) (IsToken : Token → Type 0) (file_depth : �
     assignment = λ number. IsLeaf (λ token. assigned_leaf in_run token number);
     recipe = λ number leaf body tok lines. IsLeaf (λ token. headed_leaf in_run token number) leaf tok;
     parameter = λ number leaf rules tok others. IsLeaf (λ token. Named token (Some (number_of number))) leaf tok;
+    function_parameter = λ number. IsLeaf (λ token. Named token (Some (number_of number)));
   }
 
   -- ---- what the two make of tokens
@@ -110,5 +111,6 @@ module _ (conditions : Conditions) (IsToken : Token → Type 0) (file_depth : �
     recipe = λ run C entry t r h number body lines same.
         subst (λ (leaf : Leaf). IsLeaf (λ token. headed_leaf in_run token number) leaf t.tok) (sym (headed_is run C r entry.token.now number)) (named (λ token. headed_leaf in_run token number) entry t h);
     parameter = λ run C entry t r h same number. named (λ token. Named token (Some (number_of number))) entry t h;
+    function_parameter = λ run C entry t r h number. named (λ token. Named token (Some (number_of number))) entry t h;
     has_number = λ n h. refl;
   }

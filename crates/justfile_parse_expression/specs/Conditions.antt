@@ -2,14 +2,12 @@
 use Rattle.std.specs.Prelude.{ℕ, List, Result}
 use Rattle.justfile_base.specs.declared.version.Version.{Version}
 use Rattle.justfile_literal.specs.Literal.{answers_by}
-use Rattle.justfile_model.specs.Conditions.{Conditions, VersionNumbers}
+use Rattle.justfile_model.specs.Conditions.{Conditions}
+use Rattle.justfile_model.specs.Versions.{version_numbers}
 
 -- how many expressions may be open
 abbrev pub depth_limit : ℕ
 depth_limit = 256
-
-abbrev pub version_numbers : Version → VersionNumbers
-version_numbers v = record { major = v.major; minor = v.minor; patch = v.patch }
 
 -- the limit of depth, what an expander answers, and the running version
 abbrev pub conditions_of : {X : Type 0} → (answer : X → List ℕ → Result (List ℕ) (List ℕ)) → (expander : X) → (current : Version) → Conditions

@@ -60,6 +60,7 @@ leaves = record {
   text = λ t. Text t.token.now;
   star = λ t. tt;
   parameter = λ run t rules number. Named t.token.now (Some (number_of number));
+  function_parameter = λ run t number. Named t.token.now (Some (number_of number));
   assignment = λ run t number. assigned_leaf run t.token.now number;
   recipe = λ run t number body. headed_leaf run t.token.now number;
   has_number = λ n. not (n == 2 ^ 32 - 1);
@@ -119,6 +120,10 @@ expect = reading.expect leaves
 
 abbrev pub next_are : List TokenKind → State → Bool
 next_are = reading.next_are leaves
+
+-- a string, of which the text is expanded or not
+unfoldable pub string_leaf : (expanded : Bool) → TableEntry × State → Read Leaf
+string_leaf expanded = expressions.cooked leaves (λ leaf. leaf) (literals.string_of expanded)
 
 abbrev pub literal_string : (expanded : Bool) → TableEntry × State → ReadExpr
 literal_string = expressions.literal_string leaves

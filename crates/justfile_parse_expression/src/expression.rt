@@ -395,7 +395,10 @@ impl<'run, 'src, X: Expander> ExpressionParser<'run, 'src, X> {
     #[cycle(expression)]
     #[tactic(auto, using(crate::proofs::Elements::begins, crate::proofs::Elements::goes_on, crate::proofs::Elements::closes, crate::proofs::Elements::closes_last))]
     #[inline(never)]
-    fn parse_sequence(&mut self, closing: TokenKind) -> Result<Vec<Expression<'src>>, Stop<'src>>
+    pub fn parse_sequence(
+        &mut self,
+        closing: TokenKind,
+    ) -> Result<Vec<Expression<'src>>, Stop<'src>>
         ensures reads { Reads (λ es. trees_of es.items) result (state_of X.answer self.new)
             (reader.read (reader.Sequence closing (state_of X.answer self.old))) }
         ensures progress { OnOk result (left self.new < left self.old) }
@@ -417,7 +420,7 @@ impl<'run, 'src, X: Expander> ExpressionParser<'run, 'src, X> {
     /// An element of a sequence, and whether the sequence is closed after it.
     #[cycle(expression)]
     #[tactic(auto, unfolding(justfile_model::specs::ExpressionReader::element_rule))]
-    fn parse_element(
+    pub fn parse_element(
         &mut self,
         closing: TokenKind,
     ) -> Result<(Box<Expression<'src>>, bool), Stop<'src>>

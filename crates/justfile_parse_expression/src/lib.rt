@@ -9,5 +9,5 @@ mod parser;
 pub mod significant;
 mod stop;
 
-pub use crate::parser::ExpressionParser;
+pub use crate::parser::{ExpressionParser, is_word};
 pub use crate::stop::{LiteralRefusal, Refusal, Stop};

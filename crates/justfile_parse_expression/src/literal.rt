@@ -45,8 +45,8 @@ impl<'run, 'src, X: Expander> ExpressionParser<'run, 'src, X> {
         }
     }
 
-    /// The literal that a string is.
-    #[tactic(auto, using(crate::proofs::Cooked::quoted_string, crate::proofs::Cooked::string_given, crate::proofs::Cooked::string_refused, crate::proofs::Cooked::is_literal))]
+    /// The expression that a string is.
+    #[tactic(auto, using(crate::proofs::Rules::string_is))]
     fn cook_string(
         &self,
         entry: TableEntry<'run, 'src>,
@@ -56,10 +56,24 @@ impl<'run, 'src, X: Expander> ExpressionParser<'run, 'src, X> {
         ensures reads { Reads (λ e. leaf_tree_of e.value) result (state_of X.answer self.now)
             (reader.literal_string expand (entry.entry, state_of X.answer self.now)) }
     {
+        let string_literal = self.cook_literal(entry, expand)?;
+        self.box_expression(Expression::StringLiteral { string_literal })
+    }
+
+    /// The literal that a string is, of which the text is expanded or not.
+    #[tactic(auto, using(crate::proofs::Cooked::quoted_string, crate::proofs::Cooked::string_given, crate::proofs::Cooked::string_refused, crate::proofs::Cooked::is_literal))]
+    pub fn cook_literal(
+        &self,
+        entry: TableEntry<'run, 'src>,
+        expand: bool,
+    ) -> Result<StringLiteral<'src>, Stop<'src>>
+        requires { IsOf kinds.StringToken entry }
+        ensures reads { Reads (λ l. Literal (literal_of l)) result (state_of X.answer self.now)
+            (reader.string_leaf expand (entry.entry, state_of X.answer self.now)) }
+        ensures expand { IfOk result (λ l. l.expand ≡ expand) }
+    {
         match string_literal(self.alloc, *entry.token, expand, self.expander) {
-            Ok(string_literal) => Ok(self.box_expression(Expression::StringLiteral {
-                string_literal,
-            })?),
+            Ok(literal) => Ok(literal),
             Err(fault) => Err(make_stop(self.alloc, fault)),
         }
     }

@@ -9,6 +9,7 @@ ghost use Rattle.justfile_parse_expression.specs.Conditions.{conditions_of, dept
 ghost use Rattle.justfile_parse_expression.specs.Formats.{AreEnded, IsTable, prop_ended};
 ghost use Rattle.justfile_parse_expression.specs.Literal.{IsOf, is_sound};
 ghost use Rattle.justfile_model.specs.Reading.{at, is_word, marks};
+ghost use Rattle.justfile_model.specs.Versions.{version_numbers};
 ghost use Rattle.justfile_parse_expression.specs.TableReader as reader;
 ghost use Rattle.justfile_parse_expression.specs.MethodResults.{Peeks, Reads, Takes};
 ghost use Rattle.justfile_parse_expression.specs.Significant.{significant_of};
@@ -82,6 +83,14 @@ impl<'run, 'src, X: Expander> ExpressionParser<'run, 'src, X> {
         }
     }
 
+    /// The running version.
+    #[tactic(auto, unfolding(crate::specs::View::state_at, crate::specs::View::state_of))]
+    pub fn current(&self) -> Version
+        ensures { (state_of X.answer self.now).run.conditions.current ≡ version_numbers result }
+    {
+        self.current
+    }
+
     /// The next token; it is not taken yet.
     #[tactic(auto, using(crate::proofs::Rest::peeked, crate::proofs::Rest::ended, crate::proofs::Rest::sound_at))]
     pub(crate) fn peek(&self) -> Option<TableEntry<'run, 'src>>
@@ -131,7 +140,7 @@ impl<'run, 'src, X: Expander> ExpressionParser<'run, 'src, X> {
 
     /// Takes the next token if it is this keyword.
     #[tactic(auto, unfolding(crate::specs::TableReader::leaves, justfile_model::specs::Reading::accept_word, crate::specs::View::state_of, crate::specs::View::left))]
-    pub(crate) fn accept_keyword(&mut self, keyword: Keyword) -> Option<TableEntry<'run, 'src>>
+    pub fn accept_keyword(&mut self, keyword: Keyword) -> Option<TableEntry<'run, 'src>>
         ensures takes { Takes result (state_of X.answer self.new)
             (reader.accept_word (keyword_text keyword) (state_of X.answer self.old)) }
         ensures moves { Moves result self.old self.new }
@@ -143,6 +152,17 @@ impl<'run, 'src, X: Expander> ExpressionParser<'run, 'src, X> {
             Some(entry)
         } else {
             None
+        }
+    }
+
+    /// Whether the next token is this keyword.
+    #[tactic(auto, unfolding(crate::specs::TableReader::leaves, justfile_model::specs::Reading::accept_word))]
+    pub fn peek_keyword(&self, keyword: Keyword) -> bool
+        ensures { result ≡ is_some (reader.accept_word (keyword_text keyword) (state_of X.answer self.now)) }
+    {
+        match self.peek() {
+            Some(entry) => is_word(entry, keyword.lexeme()),
+            None => false,
         }
     }
 
@@ -226,7 +246,7 @@ impl<'run, 'src, X: Expander> ExpressionParser<'run, 'src, X> {
 
 /// Whether the token is this word.
 #[tactic(auto, unfolding(justfile_model::specs::Reading::is_word, justfile_model::specs::Reading::same_kind))]
-pub(crate) fn is_word(entry: TableEntry<'_, '_>, word: &str) -> bool
+pub fn is_word(entry: TableEntry<'_, '_>, word: &str) -> bool
     ensures is { result ≡ is_word word.now (significant_of entry.entry) }
     ensures kind { IsTrue result → entry.entry.token.now.kind ≡ kinds.Identifier }
 {

@@ -30,6 +30,8 @@ module _ {X Y : Type 0} (found : Read X) (other : Read Y) (fails : (e : Refusal)
       go (Err (reading.BreaksRule rule)) is h = subst (λ (o : Read Y). IsBrokenBy o e) (sym (fails (reading.BreaksRule rule) is)) h
       go (Err (reading.Extraneous count opener)) is h = subst (λ (o : Read Y). IsBrokenBy o e) (sym (fails (reading.Extraneous count opener) is)) h
       go (Err (reading.AfterVariadic name)) is h = subst (λ (o : Read Y). IsBrokenBy o e) (sym (fails (reading.AfterVariadic name) is)) h
+      go (Err (reading.UnknownSetting name)) is h = subst (λ (o : Read Y). IsBrokenBy o e) (sym (fails (reading.UnknownSetting name) is)) h
+      go (Err (reading.ExpectedKeyword expected t)) is h = subst (λ (o : Read Y). IsBrokenBy o e) (sym (fails (reading.ExpectedKeyword expected t) is)) h
       go (Err (reading.NoNumber counters)) is h = absurd h
 
   pub halted : (halt : Halt) (left : State) (Short Wanting : Type 0) → (Short → Wanting) → HaltsAt halt left Short found → HaltsAt halt left Wanting other

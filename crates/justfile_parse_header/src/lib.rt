@@ -11,4 +11,5 @@ mod parameter;
 mod said;
 
 pub use crate::header::{Header, parse_header};
+pub use crate::namepath::parse_namepath;
 pub use crate::number::draw_binding;

@@ -10,7 +10,7 @@ use justfile_parse_expression::{ExpressionParser, Stop};
 
 /// Names with two colons between each two.
 #[tactic(auto, using(crate::proofs::Paths::path_begins, crate::proofs::Paths::path_ends, crate::proofs::Paths::path_goes_on))]
-pub(crate) fn parse_namepath<'src, X: Expander>(
+pub fn parse_namepath<'src, X: Expander>(
     parser: &mut ExpressionParser<'_, 'src, X>,
 ) -> Result<Namepath<'src>, Stop<'src>>
     ensures reads { Reads path_tree result (state_of X.answer parser.new) (reader.path (state_of X.answer parser.old)) }

@@ -171,7 +171,7 @@ no_else : (b : Bool) {ts : Tokens} → EndsIn (cond b OfOpen OfClosed) ts → b 
 no_else true h e = h.is.1
 no_else false h e = cc
 
-is_word : (w : List ℕ) {b : Bool} → IsWord w (record { tok = placed (word w) 0 0 0; glued = b })
+pub is_word : (w : List ℕ) {b : Bool} → IsWord w (record { tok = placed (word w) 0 0 0; glued = b })
 is_word w = record { is_name = refl; spelled = refl }
 
 is_marked : (w : List ℕ) (kind : TokenKind) (l : List ℕ) {b : Bool} → IsMarked w kind (record { tok = placed (word w) 0 0 0; glued = b }) (record { tok = placed (mark kind l) 0 0 0; glued = true })
@@ -376,7 +376,7 @@ module _ (Open Open' : ℕ → Option SignificantToken → Type 0) (fewer : (d d
     value_back (g.group kind e kind2) d' le b on ends apart = g.group refl (expression_back e d' le true _ (ends_before _ _ _ refl) (stop_before _ _ refl)) refl
     value_back (g.list kind s) d' le b on ends apart = g.list refl (sequence_back false s refl d' le true on)
 
-    sequence_back : (p : Bool) {closing : TokenKind} {d : ℕ} {es : Values} {fs : Shown} {ts rest : Tokens} → Sequence lexeme nothing Open closing d es fs ts rest → closing ≡ (closer p).kind → (d' : ℕ) → d' ≤ d → (b : Bool) (on : List Mark)
+    pub sequence_back : (p : Bool) {closing : TokenKind} {d : ℕ} {es : Values} {fs : Shown} {ts rest : Tokens} → Sequence lexeme nothing Open closing d es fs ts rest → closing ≡ (closer p).kind → (d' : ℕ) → d' ≤ d → (b : Bool) (on : List Mark)
         → Sequence lexeme nothing Open' (closer p).kind d' es fs (significant b (exprs_marks es (closer p ∷ on))) (significant true on)
     sequence_back p (g.none kind) same d' le b on = end_none p d' b on
     sequence_back p {closing} (g.last {e = e'} {fs} next e kind) same d' le b on =

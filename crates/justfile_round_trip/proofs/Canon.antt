@@ -205,7 +205,7 @@ pub then : (a b more : List ℕ) {y x : List ℕ} → b ++ more ≡ y → a ++ y
 then a b more e f = append_assoc a b more ∙ ap (λ z. a ++ z) e ∙ f
 
 -- and a fixed one between them
-joined : (a p b more : List ℕ) {y x : List ℕ} → b ++ more ≡ y → a ++ (p ++ y) ≡ x → ((a ++ p) ++ b) ++ more ≡ x
+pub joined : (a p b more : List ℕ) {y x : List ℕ} → b ++ more ≡ y → a ++ (p ++ y) ≡ x → ((a ++ p) ++ b) ++ more ≡ x
 joined a p b more {y} e f = then (a ++ p) b more e (then a p y refl f)
 
 -- and one after both
@@ -250,7 +250,7 @@ mutual
   expr_is (Group e) more = then (codes "(" ++ expr_text e) (codes ")") more refl (ap (λ t. codes "(" ++ t) (expr_is e _))
   expr_is (ListOf opener es) more = then (codes "[" ++ exprs_text es) (codes "]") more refl (ap (λ t. codes "[" ++ t) (exprs_is es _))
 
-  exprs_is : (es : Values) (more : List ℕ) → exprs_text es ++ more ≡ exprs_on es more
+  pub exprs_is : (es : Values) (more : List ℕ) → exprs_text es ++ more ≡ exprs_on es more
   exprs_is tree.none more = refl
   exprs_is (tree.more e tree.none) more = expr_is e more
   exprs_is (tree.more e (tree.more e2 es)) more = joined (expr_text e) (codes ", ") (exprs_text (tree.more e2 es)) more (exprs_is (tree.more e2 es) more) (expr_is e _)

@@ -209,7 +209,7 @@ path_rest_is [] more = refl
 path_rest_is (name ∷ names) more =
     ap (λ t. 58 ∷ 58 ∷ t) (then name (flat_map separated_name names) more (path_rest_is names more) refl)
 
-path_is : (names : List (List ℕ)) (more : List ℕ) → path_text names ++ more ≡ path_on names more
+pub path_is : (names : List (List ℕ)) (more : List ℕ) → path_text names ++ more ≡ path_on names more
 path_is [] more = refl
 path_is (name ∷ names) more = then name (flat_map separated_name names) more (path_rest_is names more) refl
 

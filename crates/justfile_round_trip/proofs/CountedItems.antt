@@ -3,6 +3,7 @@ use Rattle.std.proofs.Common.{◌≡◌, ℕ, ◌+◌, false, List, [], ◌∷�
 use Rattle.std.specs.Prelude.{if◌then◌else◌}
 use denote.Enum.Bare.{sameb}
 use Rattle.justfile_model.specs.AttributeRules.{attributes_broken, of_some}
+use Rattle.justfile_model.specs.Conditions.{VersionNumbers}
 use Rattle.justfile_model.specs.ConstructRules.{construct_broken, form_broken}
 use Rattle.justfile_model.specs.Docs.{Before, documented, redocumented}
 use Rattle.justfile_model.specs.contracts.list_feature.ListFeature.{the_type}
@@ -84,43 +85,51 @@ module _ (feature : ListFeature) where
     shape_weight (tree.Comment t ∷ s) = shape_weight s
     shape_weight (Construct entries content ∷ s) = content_weight entries content + shape_weight s
 
-    construct_times : (ws : List Written) (content : ShapeContent) (entries : List ShapeEntry) → entries_of (sees expander) ws ≡ Some entries
-        → construct_broken (sees expander) ws content ≡ []
-        → times feature (construct_features (sees expander) ws content (record { attributes = written_features ws; content = content_features content })) ≡ content_weight entries content
-    construct_times ws content entries means unbroken =
-        let n = nothing_in (attributes_broken (sees expander) ws) _ (nothing_in _ (form_broken content) unbroken).0 in
-        let noted = noted_at_name content entries in
-        ap (λ o. times feature (written_features ws ++ of_some (noted_at_name content) o ++ content_features content)) means
-        ∙ times_joined (written_features ws ++ noted) (content_features content)
-        ∙ ap (λ x. x + times feature (content_features content)) (times_joined (written_features ws) noted)
-        ∙ ap (λ x. x + times feature noted + times feature (content_features content)) (attributes_times ws entries means n.0)
+    -- where this is the running version
+    module _ (current : VersionNumbers) where
+      construct_times : (ws : List Written) (content : ShapeContent) (entries : List ShapeEntry) → entries_of (sees expander) ws ≡ Some entries
+          → construct_broken current (sees expander) ws content ≡ []
+          → times feature (construct_features (sees expander) ws content (record { attributes = written_features ws; content = content_features content })) ≡ content_weight entries content
+      construct_times ws content entries means unbroken =
+          let n = nothing_in (attributes_broken (sees expander) ws) _ (nothing_in _ (form_broken current (sees expander) content) unbroken).0 in
+          let noted = noted_at_name content entries in
+          ap (λ o. times feature (written_features ws ++ of_some (noted_at_name content) o ++ content_features content)) means
+          ∙ times_joined (written_features ws ++ noted) (content_features content)
+          ∙ ap (λ x. x + times feature (content_features content)) (times_joined (written_features ws) noted)
+          ∙ ap (λ x. x + times feature noted + times feature (content_features content)) (attributes_times ws entries means n.0)
 
-    item_times : (i : ShapeWritten) (items : WrittenShape) (x : ShapeItem) (others : Shape) → ordered_item (sees expander) i ≡ Some x
-        → item_broken (sees expander) i ≡ []
-        → times feature (all_features (sees expander) items (items_features items)) ≡ shape_weight others
-        → times feature (all_features (sees expander) (i ∷ items) (items_features (i ∷ items))) ≡ shape_weight (x ∷ others)
-    item_times tree.Newline items x others h unbroken more = more ∙ ap (λ (y : ShapeItem). shape_weight (y ∷ others)) (some_back tree.Newline x h)
-    item_times (tree.Comment t) items x others h unbroken more = more ∙ ap (λ (y : ShapeItem). shape_weight (y ∷ others)) (some_back (tree.Comment t) x h)
-    item_times (Construct ws content) items x others h unbroken more =
-        let m = construct_meant (sees expander) ws content x h in
-        let f : ConstructFeatures (Unit {0}) = record { attributes = written_features ws; content = content_features content } in
-        times_joined (construct_features (sees expander) ws content f) (all_features (sees expander) items (items_features items))
-        ∙ (λ i. construct_times ws content m.entries m.means unbroken i + more i)
-        ∙ ap (λ (y : ShapeItem). shape_weight (y ∷ others)) (sym (m.item_is ∙ ap (Construct m.entries) (content_starless content)))
+      item_times : (i : ShapeWritten) (items : WrittenShape) (x : ShapeItem) (others : Shape) → ordered_item (sees expander) i ≡ Some x
+          → item_broken current (sees expander) i ≡ []
+          → times feature (all_features (sees expander) items (items_features items)) ≡ shape_weight others
+          → times feature (all_features (sees expander) (i ∷ items) (items_features (i ∷ items))) ≡ shape_weight (x ∷ others)
+      item_times tree.Newline items x others h unbroken more = more ∙ ap (λ (y : ShapeItem). shape_weight (y ∷ others)) (some_back tree.Newline x h)
+      item_times (tree.Comment t) items x others h unbroken more = more ∙ ap (λ (y : ShapeItem). shape_weight (y ∷ others)) (some_back (tree.Comment t) x h)
+      item_times (Construct ws content) items x others h unbroken more =
+          let m = construct_meant (sees expander) ws content x h in
+          let f : ConstructFeatures (Unit {0}) = record { attributes = written_features ws; content = content_features content } in
+          times_joined (construct_features (sees expander) ws content f) (all_features (sees expander) items (items_features items))
+          ∙ (λ i. construct_times ws content m.entries m.means unbroken i + more i)
+          ∙ ap (λ (y : ShapeItem). shape_weight (y ∷ others)) (sym (m.item_is ∙ ap (Construct m.entries) (content_starless content)))
 
-    -- what is written has each feature as often as what it means, if that breaks no rule
-    pub undocumented_times : (items : WrittenShape) (all : Shape) → undocumented (sees expander) items ≡ Some all → broken (sees expander) items ≡ []
-        → times feature (all_features (sees expander) items (items_features items)) ≡ shape_weight all
-    undocumented_times [] all h unbroken = ap shape_weight (some_back [] all h)
-    undocumented_times (i ∷ items) all h unbroken =
-        let m = meanings_of (sees expander) i items all h in
-        let n = nothing_in (item_broken (sees expander) i) (broken (sees expander) items) unbroken in
-        item_times i items m.first m.others m.first_is n.0 (undocumented_times items m.others m.others_are n.1) ∙ ap shape_weight (sym m.all_are)
+      -- what is written has each feature as often as what it means, if that breaks no rule
+      pub undocumented_times : (items : WrittenShape) (all : Shape) → undocumented (sees expander) items ≡ Some all → broken current (sees expander) items ≡ []
+          → times feature (all_features (sees expander) items (items_features items)) ≡ shape_weight all
+      undocumented_times [] all h unbroken = ap shape_weight (some_back [] all h)
+      undocumented_times (i ∷ items) all h unbroken =
+          let m = meanings_of (sees expander) i items all h in
+          let n = nothing_in (item_broken current (sees expander) i) (broken current (sees expander) items) unbroken in
+          item_times i items m.first m.others m.first_is n.0 (undocumented_times items m.others m.others_are n.1) ∙ ap shape_weight (sym m.all_are)
 
     -- ---- docs and line ends have no part in it
 
     redocumented_weight : (entries : List ShapeEntry) (content : ShapeContent) (doc : Option (List ℕ)) → content_weight entries (redocumented doc content) ≡ content_weight entries content
     redocumented_weight entries (tree.Assignment parts) doc = refl
+    redocumented_weight entries (tree.Alias parts) doc = refl
+    redocumented_weight entries (tree.Function parts) doc = refl
+    redocumented_weight entries (tree.Import parts) doc = refl
+    redocumented_weight entries (tree.Module parts) doc = refl
+    redocumented_weight entries (tree.Setting parts) doc = refl
+    redocumented_weight entries (tree.Unexport name) doc = refl
     redocumented_weight entries (tree.Recipe parts) doc = refl
 
     weight_counts : CountsConstructs shape_weight

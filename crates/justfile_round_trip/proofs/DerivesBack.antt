@@ -1,28 +1,31 @@
 -- The tokens of a good shape derive it, and its text is UTF-8.
-use Rattle.std.proofs.Common.{◌≡◌, ℕ, Bool, true, false, List, [], ◌∷◌, ◌++◌, map, refl, sym, subst}
+use Rattle.std.proofs.Common.{ℕ, Bool, true, List, [], ◌∷◌, ◌++◌, map, refl, sym, subst}
 use Rattle.std.specs.Str.{IsUtf8}
 use Rattle.std.proofs.lemmas.Str.{IsUtf8-nil, IsUtf8-append}
 use Rattle.std.proofs.Math.Utf8.{encode}
 use Rattle.justfile_base.specs.declared.token_kind.TokenKind.TheVariants as kinds
 use Rattle.justfile_model.specs.SignificantTokens.{SignificantToken}
 use Rattle.justfile_model.specs.Tree as tree
-use Rattle.justfile_model.specs.Tree.{Shape, Construct, bare_recipe, lexeme, nothing, plain_assignment}
+use Rattle.justfile_model.specs.Tree.{Shape, Construct, bare_recipe, lexeme, nothing}
 use Rattle.justfile_model.specs.AttributeLines.{AttributeLines}
 use Rattle.justfile_model.specs.Grammar as g
-use Rattle.justfile_model.specs.Expressions.{NotNext, Under}
+use Rattle.justfile_model.specs.Expressions.{Under}
 use Rattle.justfile_model.specs.Features.{ConstructFeatures}
 use Rattle.justfile_model.specs.Files.{keeps_lexemes}
 use Rattle.justfile_model.specs.Grammar.{Items, LineEnd, Block, NotEmpty}
+use Rattle.justfile_model.specs.ItemParts.{EndsLine, at_comment, at_line_end}
 use Rattle.justfile_model.specs.Rewritten.{rewritten_entries, rewritten_item}
 use Rattle.justfile_round_trip.proofs.Reading.{Mark, mark}
 use Rattle.justfile_round_trip.proofs.AttributesUtf8.{entries_utf8}
 use Rattle.justfile_round_trip.proofs.BackAttributes.{glued_after, entries_back}
-use Rattle.justfile_round_trip.proofs.Canon.{Shown, Row, ShapeContent, ShapeItem, space, newline, word, expr_marks, body_marks}
+use Rattle.justfile_round_trip.proofs.BackContents.{content_back, content_no_bracket, content_utf8, header_no_bracket}
+use Rattle.justfile_round_trip.proofs.Canon.{Shown, Row, ShapeContent, ShapeItem, space, newline, body_marks}
 use Rattle.justfile_round_trip.proofs.CanonAttributes.{ShapeEntry, entries_marks}
-use Rattle.justfile_round_trip.proofs.CanonHeaders.{ShapeHeader, at_marks, header_rest_marks, header_marks}
-use Rattle.justfile_round_trip.proofs.CanonItems.{assignment_item, recipe_item, end_on, end_marks, text_on, marks}
-use Rattle.justfile_round_trip.proofs.Good.{significant, ends_value, GoodComment, EndedBody}
+use Rattle.justfile_round_trip.proofs.CanonHeaders.{ShapeHeader, header_rest_marks, header_marks}
+use Rattle.justfile_round_trip.proofs.CanonItems.{content_marks, item_marks, end_on, end_marks, text_on, marks_from, marks}
+use Rattle.justfile_round_trip.proofs.Good.{significant, GoodComment, EndedBody}
 use Rattle.justfile_round_trip.proofs.GoodAttributes.{GoodEntries}
+use Rattle.justfile_round_trip.proofs.GoodContents.{GoodContent, content_no_body}
 use Rattle.justfile_round_trip.proofs.GoodHeaders.{GoodHeader}
 use Rattle.justfile_round_trip.proofs.GoodItems as good
 use Rattle.justfile_round_trip.proofs.GoodItems.{AtStart, ItemRest, AtEnd}
@@ -60,18 +63,6 @@ module _ (limit : ℕ) where
             (g.recipe {lines = body} (h.derives.derives glued (newline ∷ body_marks ind body on) refl) (g.at_once refl refl) read.1 (subst NotEmpty (sym b.ended) tt)),
       )
 
-  -- lines of attributes before a name
-  attributes_before : (entries : List ShapeEntry) (name : List ℕ) (glued : Bool) (on : List Mark) → GoodEntries limit entries
-      → (ns : Shown) × AttributeLines lexeme nothing (Under limit) (rewritten_entries entries) ns
-      (significant glued (entries_marks entries (mark kinds.Identifier name ∷ on)))
-      (significant (glued_after (rewritten_entries entries) glued) (mark kinds.Identifier name ∷ on))
-  attributes_before entries name glued on h = entries_back limit entries glued (mark kinds.Identifier name ∷ on) h (λ e. cc)
-
-  -- a header begins with no bracket
-  header_no_bracket : (quiet : Bool) (name : List ℕ) (glued : Bool) (on : List Mark) → NotNext kinds.BracketL (significant glued (at_marks quiet (word name ∷ on)))
-  header_no_bracket true name glued on = λ e. cc
-  header_no_bracket false name glued on = λ e. cc
-
   -- lines of attributes before a header
   attributes_before_header : (entries : List ShapeEntry) (header : ShapeHeader) (glued : Bool) (on : List Mark) → GoodEntries limit entries
       → (ns : Shown) × AttributeLines lexeme nothing (Under limit) (rewritten_entries entries) ns
@@ -79,14 +70,22 @@ module _ (limit : ℕ) where
       (significant (glued_after (rewritten_entries entries) glued) (header_marks header on))
   attributes_before_header entries header glued on h =
       entries_back limit entries glued (header_marks header on) h
-      (header_no_bracket header.quiet header.name (glued_after (rewritten_entries entries) glued) (header_rest_marks header on))
+      (header_no_bracket limit header.quiet header.name (glued_after (rewritten_entries entries) glued) (header_rest_marks header on))
 
 module _ (limit : ℕ) (ind : List ℕ) where
-  -- after a construct on one line nothing goes on with a value
-  value_ends : (entries : List ShapeEntry) (content : ShapeContent) {items : Shape} → ItemRest limit items
-      → ends_value (significant true (end_marks (Construct entries content) items (marks ind items))) ≡ true
-  value_ends entries content (good.trailing h more) = refl
-  value_ends entries content (good.bare (good.line_end more)) = refl
+  -- a line ends after a construct on one line
+  line_ends : (entries : List ShapeEntry) (content : ShapeContent) {items : Shape} → ItemRest limit items
+      → EndsLine (significant true (end_marks (Construct entries content) items (marks ind items)))
+  line_ends entries content (good.trailing h more) = at_comment refl
+  line_ends entries content (good.bare (good.line_end more)) = at_line_end refl
+
+  -- it has no body whose lines would come after it
+  unbodied : {content : ShapeContent} → GoodContent limit content → (entries : List ShapeEntry) (items : Shape) (glued : Bool)
+      → Derived limit (Construct entries content ∷ items) (significant glued (item_marks (Construct entries content) (end_marks (Construct entries content) items (marks ind items))))
+      → Derived limit (Construct entries content ∷ items) (significant glued (marks ind (Construct entries content ∷ items)))
+  unbodied {content} h entries items glued d =
+      let i = Construct entries content in
+      subst (λ body. Derived limit (i ∷ items) (significant glued (item_marks i (end_marks i items (marks_from ind body items))))) (sym (content_no_body limit h)) d
 
   mutual
     pub derive_start : {items : Shape} → AtStart limit items → (glued : Bool) → Derived limit items (significant glued (marks ind items))
@@ -95,20 +94,13 @@ module _ (limit : ℕ) (ind : List ℕ) where
     derive_start (good.comment {t = t} {items = items} h more) glued =
         let r = derive_end t more in
         comment_back limit t items glued (end_marks (tree.Comment t) items (marks ind items)) h (r.0, g.bare r.1)
-    derive_start (good.assignment {entries = entries} {name = name} {value = value} {items = items} attributes named h more) glued =
-        let content : ShapeContent = tree.Assignment (plain_assignment name value) in
+    derive_start (good.on_line {entries = entries} {content = content} {items = items} attributes h more) glued =
         let on = end_marks (Construct entries content) items (marks ind items) in
-        let a = attributes_before limit entries name glued (space ∷ mark kinds.ColonEquals (58 ∷ 61 ∷ []) ∷ space ∷ expr_marks value on) attributes in
+        let after = glued_after (rewritten_entries entries) glued in
+        let a = entries_back limit entries glued (content_marks content on) attributes (content_no_bracket limit h after on) in
+        let x = content_back limit h after on (line_ends entries content more) in
         let r = derive_after entries content more in
-        (record { attributes = a.0; content = h.features } ∷ r.0, g.on_line a.1 (g.assignment refl refl (h.derives.derives false on (value_ends entries content more))) r.1)
-    derive_start (good.header {entries = entries} {h = header} {items = items} attributes h more) glued =
-        let content : ShapeContent = tree.Recipe (bare_recipe header []) in
-        let on = end_marks (Construct entries content) items (marks ind items) in
-        let a = attributes_before_header limit entries header glued on attributes in
-        let r = derive_after entries content more in (
-          record { attributes = a.0; content = h.features } ∷ r.0,
-          g.on_line a.1 (g.header (h.derives.derives (glued_after (rewritten_entries entries) glued) on (value_ends entries content more))) r.1,
-        )
+        unbodied h entries items glued (record { attributes = a.0; content = x.0 } ∷ r.0, g.on_line a.1 x.1 r.1)
     derive_start (good.recipe {entries = entries} {h = header} {l = l} {ls = ls} attributes h body (good.body_end {items = items} follows last more)) glued =
         let a = attributes_before_header limit entries header glued (newline ∷ body_marks ind (l ∷ ls) (marks ind items)) attributes in
         let b = block_back limit ind header l ls (glued_after (rewritten_entries entries) glued) (marks ind items) h body in
@@ -130,10 +122,6 @@ space_utf8 : IsUtf8 (32 ∷ [])
 unfolding encode
 space_utf8 = (32 ∷ [], (refl, refl))
 
-operator_utf8 : IsUtf8 (32 ∷ 58 ∷ 61 ∷ 32 ∷ [])
-unfolding encode
-operator_utf8 = (32 ∷ 58 ∷ 61 ∷ 32 ∷ [], (refl, refl))
-
 end_utf8 : (i : ShapeItem) (items : Shape) (more : List ℕ) → IsUtf8 more → IsUtf8 (end_on i items more)
 end_utf8 tree.Newline items more u = IsUtf8-append (10 ∷ []) more newline_utf8 u
 end_utf8 (tree.Comment t) [] more u = u
@@ -149,12 +137,8 @@ module _ (limit : ℕ) (ind : List ℕ) (level : IsLevel ind) where
     start_utf8 good.end = IsUtf8-nil
     start_utf8 (good.newline {items = items} more) = end_utf8 tree.Newline items _ (start_utf8 more)
     start_utf8 (good.comment {t = t} {items = items} h more) = IsUtf8-append t _ h.utf8 (end_utf8 (tree.Comment t) items _ (line_end_utf8 more))
-    start_utf8 (good.assignment {entries = entries} {name = name} {value = value} {items = items} attributes named h more) =
-        entries_utf8 limit entries _ attributes
-        (IsUtf8-append name _ named.utf8
-        (IsUtf8-append (32 ∷ 58 ∷ 61 ∷ 32 ∷ []) _ operator_utf8 (h.utf8 _ (end_utf8 (assignment_item entries name value) items _ (after_utf8 more)))))
-    start_utf8 (good.header {entries = entries} {h = header} {items = items} attributes h more) =
-        entries_utf8 limit entries _ attributes (h.utf8 _ (end_utf8 (recipe_item entries header []) items _ (after_utf8 more)))
+    start_utf8 (good.on_line {entries = entries} {content = content} {items = items} attributes h more) =
+        entries_utf8 limit entries _ attributes (content_utf8 limit h ind _ (end_utf8 (Construct entries content) items _ (after_utf8 more)))
     start_utf8 (good.recipe {entries = entries} {h = header} {l = l} {ls = ls} attributes h body (good.body_end {items = items} follows last more)) =
         entries_utf8 limit entries _ attributes (h.utf8 _ (body_utf8 limit ind (l ∷ ls) _ level body.good (end_utf8 tree.Newline items _ (start_utf8 more))))
 

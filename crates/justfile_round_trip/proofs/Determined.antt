@@ -36,7 +36,7 @@ abbrev mutual
   value_features condition (tree.Group v) = value_features false v
   value_features condition (tree.ListOf opener es) = noted features.ListLiteral tt ++ values_features es
 
-  values_features : Values → Shown
+  pub values_features : Values → Shown
   values_features tree.none = []
   values_features (tree.more v es) = value_features false v ++ values_features es
 
@@ -116,7 +116,7 @@ module _ (Open : ℕ → Option SignificantToken → Type 0) where
     of_value (e.group kind x kind2) = of_expression x
     of_value (e.list kind xs) = λ i. noted features.ListLiteral tt ++ of_sequence xs i
 
-    of_sequence : {closing : TokenKind} {d : ℕ} {es : Values} {fs : Shown} {ts rest : Tokens} → Sequence lexeme nothing Open closing d es fs ts rest → fs ≡ values_features es
+    pub of_sequence : {closing : TokenKind} {d : ℕ} {es : Values} {fs : Shown} {ts rest : Tokens} → Sequence lexeme nothing Open closing d es fs ts rest → fs ≡ values_features es
     of_sequence (e.none kind) = refl
     of_sequence (e.last {fs = fs} next x kind) = sym (append-nil fs) ∙ ap (λ fs. fs ++ []) (of_expression x)
     of_sequence (e.more next x kind xs) = λ i. of_expression x i ++ of_sequence xs i

@@ -5,17 +5,24 @@ use Rattle.justfile_model.specs.declared.parameter_kind.ParameterKind.{Parameter
 use Rattle.justfile_model.specs.Features.{ConstructFeatures}
 use Rattle.justfile_model.specs.Headers as h
 use Rattle.justfile_model.specs.Headers.{NamedParameter, ParameterOf, Parameters, DependencyArguments, DependencyOf, Dependencies, AllDependencies, HeaderOf}
+use Rattle.justfile_model.specs.ItemParts as p
+use Rattle.justfile_model.specs.ItemParts.{ValueOf}
+use Rattle.justfile_model.specs.Settings.{SettingForm}
 use Rattle.justfile_model.specs.SignificantTokens.{SignificantToken}
 use Rattle.justfile_model.specs.Tree as tree
-use Rattle.justfile_model.specs.Tree.{Construct, WrittenShape, lexeme, nothing, line_before, trimmed}
+use Rattle.justfile_model.specs.Tree.{Construct, SettingValue, WrittenShape, lexeme, nothing, line_before, trimmed}
 use Rattle.justfile_model.specs.Expressions.{Tokens}
 use Rattle.justfile_model.specs.Grammar as g
 use Rattle.justfile_model.specs.Files.{keeps_lexemes}
 use Rattle.justfile_model.specs.Grammar.{LineRest, BodyLines, OnLine, Block, Items, ItemRest, LineEnd, File}
 use Rattle.justfile_round_trip.proofs.Canon.{Shown, Fragment, Row, ShapeContent, Value}
 use Rattle.justfile_round_trip.proofs.CanonHeaders.{ShapeParameter, ShapeArgument, ShapeDependency, ShapeHeader}
-use Rattle.justfile_round_trip.proofs.Determined.{value_features, of_expression, of_value}
+use Rattle.justfile_round_trip.proofs.Determined.{value_features, values_features, of_expression, of_value, of_sequence}
 use Rattle.justfile_round_trip.proofs.DeterminedAttributes.{written_features, of_attribute_lines}
+
+-- the value of a setting
+abbrev ShapeSetting : Type 0
+ShapeSetting = SettingValue (List ℕ) (Unit {0})
 
 abbrev fragments_features : List Fragment → Shown
 fragments_features [] = []
@@ -45,9 +52,20 @@ dependencies_features (d ∷ ds) = arguments_features d.arguments ++ dependencie
 abbrev header_features : ShapeHeader → Shown
 header_features h = parameters_features h.parameters ++ (dependencies_features h.priors ++ dependencies_features h.subsequents)
 
+abbrev setting_features : ShapeSetting → Shown
+setting_features (tree.Truth value) = []
+setting_features (tree.Value value) = value_features false value
+setting_features (tree.Interpreter command arguments) = values_features (tree.more command arguments)
+
 abbrev pub content_features : ShapeContent → Shown
+content_features (tree.Alias parts) = []
 content_features (tree.Assignment parts) = value_features false parts.value
+content_features (tree.Function parts) = value_features false parts.body
+content_features (tree.Import parts) = []
+content_features (tree.Module parts) = []
 content_features (tree.Recipe parts) = header_features parts.header ++ body_features parts.body
+content_features (tree.Setting parts) = setting_features parts.value
+content_features (tree.Unexport name) = []
 
 -- of what is written
 abbrev pub items_features : WrittenShape → List (ConstructFeatures (Unit {0}))
@@ -116,8 +134,28 @@ module _ (Open : ℕ → Option SignificantToken → Type 0) where
   of_header (h.quiet kind (h.header kind2 ps all)) = λ i. of_parameters ps i ++ of_all all i
   of_header (h.loud (h.header kind2 ps all)) = λ i. of_parameters ps i ++ of_all all i
 
+  of_setting : {form : SettingForm} {v : ShapeSetting} {ns : Shown} {ts rest : Tokens} → ValueOf lexeme nothing Open form v ns ts rest → ns ≡ setting_features v
+  of_setting (p.bare next) = refl
+  of_setting (p.yes kind is) = refl
+  of_setting (p.no kind is) = refl
+  of_setting (p.expression kind x) = of_expression Open x
+  of_setting (p.plain kind x) = of_expression Open x
+  of_setting (p.interpreter kind kind2 xs) = of_sequence Open xs
+
   of_item : {c : ShapeContent} {ns : Shown} {ts rest : Tokens} → OnLine keeps_lexemes Open c ns ts rest → ns ≡ content_features c
+  of_item (g.alias is kind kind2 to) = refl
   of_item (g.assignment kind kind2 x) = of_expression Open x
+  of_item (g.eager is kind kind2 x) = of_expression Open x
+  of_item (g.export is kind kind2 x) = of_expression Open x
+  of_item (g.function kind kind2 names kind3 x) = of_expression Open x
+  of_item (g.import is at) = refl
+  of_item (g.optional_import is kind at) = refl
+  of_item (g.module_alone is kind next) = refl
+  of_item (g.module_at is kind at) = refl
+  of_item (g.optional_module_alone is kind kind2 next) = refl
+  of_item (g.optional_module_at is kind kind2 at) = refl
+  of_item (g.setting is named form v) = of_setting v
+  of_item (g.unexport is kind next) = refl
   of_item (g.header {fs = ns} x) = sym (append-nil ns) ∙ ap (λ y. y ++ []) (of_header x)
 
   of_block : {c : ShapeContent} {ns : Shown} {ts rest : Tokens} → Block keeps_lexemes Open c ns ts rest → ns ≡ content_features c

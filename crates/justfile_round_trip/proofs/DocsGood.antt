@@ -1,22 +1,23 @@
 -- Where items are good, they are with their docs as comments after these were taken.
 use Rattle.std.proofs.Common.{◌≡◌, ℕ, Bool, true, false, cond, List, [], ◌∷◌, Option, Some, None, refl, sym, subst, ap, ◌∙◌}
-use Rattle.std.specs.Prelude.{◌||◌, not}
+use Rattle.std.specs.Prelude.{◌&&◌, ◌||◌, is_some, not}
 use Rattle.std.specs.List.{AllByRecursion}
-use Rattle.justfile_model.specs.Docs.{Before, LineEnd, Other, comment_taken, doc_in, doc_of, doc_or_comment, documented, redocumented, taken, wants_doc}
+use Rattle.justfile_model.specs.Docs.{Before, LineEnd, Other, comment_taken, doc_in, doc_of, doc_or_comment, documented, redocumented, taken, takes_doc, wants_doc}
 use Rattle.justfile_model.specs.Files.{says_doc}
 use Rattle.justfile_model.specs.Modes.{is_empty}
 use Rattle.justfile_model.specs.Printing.{doc_comment, shown_doc}
 use Rattle.justfile_model.specs.Rewritten.{after_doc, doc_written, docs_written}
-use Rattle.justfile_model.specs.Tree.{Assignment, Comment, Construct, Newline, Recipe, Shape, bare_recipe, plain_assignment}
+use Rattle.justfile_model.specs.Tree.{Alias, Assignment, Comment, Construct, Function, Import, Module, Newline, Recipe, Setting, Shape, Unexport, bare_recipe}
 use Rattle.justfile_model.proofs.DocComments.{doc_comment_ends, doc_comment_first}
 use Rattle.justfile_model.proofs.DocsText.{none_shown}
 use Rattle.justfile_model.proofs.PlainFiles.{InComment, IsPlain}
-use Rattle.justfile_model.proofs.PrintedDocs.{Utf8Comment, wants_is}
+use Rattle.justfile_model.proofs.PrintedDocs.{Utf8Comment}
 use Rattle.justfile_model.proofs.TrimLaws.{doc_comment_trimmed, doc_comment_utf8, doc_of_comment, past_hash}
 use Rattle.justfile_round_trip.proofs.Canon.{ShapeContent, ShapeItem}
 use Rattle.justfile_round_trip.proofs.CanonAttributes.{ShapeEntry}
 use Rattle.justfile_round_trip.proofs.DocsNormal.{Begun, begun_comment, comment, construct}
 use Rattle.justfile_round_trip.proofs.Good.{GoodComment}
+use Rattle.justfile_round_trip.proofs.GoodContents.{content_no_doc, content_undocumented}
 use Rattle.justfile_round_trip.proofs.GoodItems as good
 use Rattle.justfile_round_trip.proofs.GoodItems.{AtStart, ItemRest, blank_only, follows_body}
 
@@ -38,15 +39,33 @@ bare_written : (entries : List ShapeEntry) (content : ShapeContent) (items : Sha
     → doc_written (Construct entries content) items ≡ Construct entries (redocumented None content) ∷ items
 bare_written entries content items e = ap (λ o. after_doc o (Construct entries (redocumented None content) ∷ items)) (none_shown entries content e)
 
+-- where a doc is wanted, no attribute says one, and there is none yet
+unsaid : (takes says : Bool) (o : Option (List ℕ)) → (takes && not says && not (is_some o)) ≡ true → (says ≡ false) × (o ≡ None)
+unsaid true false None h = (refl, refl)
+unsaid true false (Some doc) h = cc
+unsaid true true o h = cc
+unsaid false says o h = cc
+
+doc_before : (doc : List ℕ) (content : ShapeContent) (entries : List ShapeEntry) (items : Shape) → wants_doc says_doc entries content ≡ true
+    → after_doc (cond (says_doc entries) None (Some doc)) (Construct entries (redocumented None content) ∷ items)
+    ≡ Comment (doc_comment doc) ∷ Newline ∷ doc_written (Construct entries content) items
+doc_before doc content entries items h =
+    let w = unsaid (takes_doc content) (says_doc entries) (doc_of content) h in
+    ap (λ b. after_doc (cond b None (Some doc)) (Construct entries (redocumented None content) ∷ items)) w.0
+    ∙ ap (λ x. Comment (doc_comment doc) ∷ Newline ∷ x) (sym (bare_written entries content items w.1))
+
 -- one that gets a doc is written after its comment
 doc_put : (doc : List ℕ) (content : ShapeContent) (entries : List ShapeEntry) (items : Shape) → wants_doc says_doc entries content ≡ true
     → doc_written (Construct entries (redocumented (Some doc) content)) items
     ≡ Comment (doc_comment doc) ∷ Newline ∷ doc_written (Construct entries content) items
+doc_put doc (Module parts) entries items h = doc_before doc (Module parts) entries items h
+doc_put doc (Recipe parts) entries items h = doc_before doc (Recipe parts) entries items h
+doc_put doc (Alias parts) entries items h = cc
 doc_put doc (Assignment parts) entries items h = cc
-doc_put doc (Recipe parts) entries items h =
-    let w = wants_is entries parts h in
-    ap (λ b. after_doc (cond b None (Some doc)) (Construct entries (redocumented None (Recipe parts)) ∷ items)) w.0
-    ∙ ap (λ x. Comment (doc_comment doc) ∷ Newline ∷ x) (sym (bare_written entries (Recipe parts) items w.1))
+doc_put doc (Function parts) entries items h = cc
+doc_put doc (Import parts) entries items h = cc
+doc_put doc (Setting parts) entries items h = cc
+doc_put doc (Unexport name) entries items h = cc
 
 module _ (limit : ℕ) where
   -- ---- a comment before items that are good
@@ -121,10 +140,10 @@ module _ (limit : ℕ) where
     docs_good before good.end = good.end
     docs_good before (good.newline more) = good.newline (docs_good LineEnd more)
     docs_good before (good.comment {t = t} h (good.line_end {items = items} more)) = comment_good before t (documented says_doc LineEnd items) h (docs_good LineEnd more)
-    docs_good before (good.assignment {entries = entries} {name = name} {value = value} {items = items} attributes named h more) =
-        construct_good entries (Assignment (plain_assignment name value)) (documented says_doc Other items) refl (good.assignment attributes named h (rest_good more))
-    docs_good before (good.header {entries = entries} {h = header} {items = items} attributes h more) =
-        construct_good entries (Recipe (bare_recipe header [])) (documented says_doc Other items) refl (good.header attributes h (rest_good more))
+    docs_good before (good.on_line {entries = entries} {content = content} {items = items} attributes h more) =
+        construct_good entries content (documented says_doc Other items) (content_no_doc limit h)
+        (subst (λ c. AtStart limit (Construct entries c ∷ docs_written (documented says_doc Other items))) (sym (content_undocumented limit h))
+        (good.on_line attributes h (rest_good more)))
     docs_good before (good.recipe {entries = entries} {h = header} {l = l} {ls = ls} attributes h body (good.body_end {items = items} follows last more)) =
         construct_good entries (Recipe (bare_recipe header (l ∷ ls))) (documented says_doc Other (Newline ∷ items)) refl
         (good.recipe attributes h body
@@ -142,8 +161,7 @@ module _ (limit : ℕ) where
     start_plain good.end = tt
     start_plain (good.newline more) = (tt, start_plain more)
     start_plain (good.comment h (good.line_end more)) = (tt, (tt, start_plain more))
-    start_plain (good.assignment attributes named h more) = (refl, rest_plain more)
-    start_plain (good.header attributes h more) = (refl, rest_plain more)
+    start_plain (good.on_line attributes h more) = (content_no_doc limit h, rest_plain more)
     start_plain (good.recipe attributes h body (good.body_end follows last more)) = (refl, (tt, start_plain more))
 
     rest_plain : {s : Shape} → ItemRest limit s → AllByRecursion IsPlain s
@@ -158,8 +176,7 @@ module _ (limit : ℕ) where
     start_comments good.end = tt
     start_comments (good.newline more) = (tt, start_comments more)
     start_comments (good.comment {t = t} h (good.line_end more)) = (comment_utf8 t h, (tt, start_comments more))
-    start_comments (good.assignment attributes named h more) = (tt, rest_comments more)
-    start_comments (good.header attributes h more) = (tt, rest_comments more)
+    start_comments (good.on_line attributes h more) = (tt, rest_comments more)
     start_comments (good.recipe attributes h body (good.body_end follows last more)) = (tt, (tt, start_comments more))
 
     rest_comments : {s : Shape} → ItemRest limit s → AllByRecursion (InComment Utf8Comment) s

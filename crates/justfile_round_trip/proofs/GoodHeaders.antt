@@ -7,7 +7,7 @@ use Rattle.justfile_model.specs.Tree.{lexeme, nothing}
 use Rattle.justfile_round_trip.proofs.Reading.{Mark}
 use Rattle.justfile_round_trip.proofs.Canon.{Shown, Value}
 use Rattle.justfile_round_trip.proofs.CanonHeaders.{ShapeParameter, ShapeArgument, ShapeDependency, ShapeHeader, header_on, header_marks}
-use Rattle.justfile_round_trip.proofs.Good.{GoodName, GoodValue, ends_value, significant}
+use Rattle.justfile_round_trip.proofs.Good.{GoodValue, ends_value, significant}
 use Rattle.justfile_round_trip.proofs.Inline.{IsName}
 
 abbrev pub GoodDefault : Option Value → Type 0

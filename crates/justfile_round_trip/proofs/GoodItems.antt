@@ -4,12 +4,13 @@ use Rattle.std.specs.Prelude.{◌||◌, not}
 use Rattle.justfile_model.specs.Modes.{is_empty}
 use Rattle.justfile_model.specs.Tree as tree
 use Rattle.justfile_model.specs.Tree.{Shape}
-use Rattle.justfile_round_trip.proofs.Canon.{Value, Row}
+use Rattle.justfile_round_trip.proofs.Canon.{Row, ShapeContent}
 use Rattle.justfile_round_trip.proofs.CanonAttributes.{ShapeEntry}
 use Rattle.justfile_round_trip.proofs.CanonHeaders.{ShapeHeader}
-use Rattle.justfile_round_trip.proofs.CanonItems.{NoDocs, assignment_item, recipe_item}
-use Rattle.justfile_round_trip.proofs.Good.{GoodName, GoodComment, GoodExpression, EndedBody, pale_after}
+use Rattle.justfile_round_trip.proofs.CanonItems.{NoDocs, recipe_item}
+use Rattle.justfile_round_trip.proofs.Good.{GoodComment, EndedBody, pale_after}
 use Rattle.justfile_round_trip.proofs.GoodAttributes.{GoodEntries}
+use Rattle.justfile_round_trip.proofs.GoodContents.{GoodContent, content_no_doc}
 use Rattle.justfile_round_trip.proofs.GoodHeaders.{GoodHeader}
 
 -- line ends alone
@@ -24,16 +25,13 @@ follows_body items = is_empty items || not (blank_only items)
 
 module _ (limit : ℕ) where
   mutual
-    -- items from the start of a line on; so far all assignments are plain
+    -- items from the start of a line on
     pub data AtStart : Shape → Type 0 where
       end : AtStart []
       newline : {items : Shape} → AtStart items → AtStart (tree.Newline ∷ items)
       comment : {t : List ℕ} {items : Shape} → GoodComment t → AtEnd items → AtStart (tree.Comment t ∷ items)
-      assignment : {entries : List ShapeEntry} {name : List ℕ} {value : Value} {items : Shape} → GoodEntries limit entries → GoodName name
-          → GoodExpression limit value → ItemRest items
-          → AtStart (assignment_item entries name value ∷ items)
-      header : {entries : List ShapeEntry} {h : ShapeHeader} {items : Shape} → GoodEntries limit entries → GoodHeader limit h → ItemRest items
-          → AtStart (recipe_item entries h [] ∷ items)
+      on_line : {entries : List ShapeEntry} {content : ShapeContent} {items : Shape} → GoodEntries limit entries → GoodContent limit content → ItemRest items
+          → AtStart (tree.Construct entries content ∷ items)
       recipe : {entries : List ShapeEntry} {h : ShapeHeader} {l : Row} {ls : List Row} {items : Shape} → GoodEntries limit entries → GoodHeader limit h
           → EndedBody limit (l ∷ ls) → AfterBody (l ∷ ls) items
           → AtStart (recipe_item entries h (l ∷ ls) ∷ items)
@@ -63,8 +61,7 @@ module _ (limit : ℕ) where
     start_no_doc end = tt
     start_no_doc (newline more) = (tt, start_no_doc more)
     start_no_doc (comment c more) = (tt, end_no_doc more)
-    start_no_doc (assignment attributes named value more) = (refl, rest_no_doc more)
-    start_no_doc (header attributes h more) = (refl, rest_no_doc more)
+    start_no_doc (on_line attributes h more) = (content_no_doc limit h, rest_no_doc more)
     start_no_doc (recipe attributes h body (body_end follows last more)) = (refl, (tt, start_no_doc more))
 
     rest_no_doc : {items : Shape} → ItemRest items → NoDocs items

@@ -1,26 +1,26 @@
 -- The text of good items is lexed back.
-use Rattle.std.proofs.Common.{◌≡◌, ℕ, Bool, true, false, List, [], ◌∷◌, ◌++◌, None, refl, ap}
+use Rattle.std.proofs.Common.{ℕ, Bool, false, List, [], ◌∷◌, ◌++◌, None, refl, sym, ap, subst}
 use Rattle.justfile_base.specs.declared.token_kind.TokenKind.TheVariants as kinds
 use Rattle.justfile_base.specs.ByteClass.{class_of}
 use Rattle.justfile_model.specs.Tree as tree
 use Rattle.justfile_model.specs.Tree.{Shape}
 use Rattle.justfile_model.specs.Next.{next}
 use Rattle.justfile_round_trip.proofs.Reading.{Mark, mark, LexesTo, end}
-use Rattle.justfile_round_trip.proofs.Inline.{head_is, joins, amid, space_step}
-use Rattle.justfile_round_trip.proofs.Fixed.{colon_equals_step}
-use Rattle.justfile_round_trip.proofs.Lines.{at_item, item_name, item_comment, comment_step, comment_no_blank, blank_line, line_end}
-use Rattle.justfile_round_trip.proofs.Canon.{Value, Row, space, newline}
+use Rattle.justfile_round_trip.proofs.Inline.{amid, space_step}
+use Rattle.justfile_round_trip.proofs.Lines.{at_item, item_comment, comment_step, comment_no_blank, blank_line, line_end}
+use Rattle.justfile_round_trip.proofs.Canon.{Row, ShapeContent, space, newline}
 use Rattle.justfile_round_trip.proofs.CanonAttributes.{ShapeEntry}
 use Rattle.justfile_round_trip.proofs.CanonHeaders.{ShapeHeader}
-use Rattle.justfile_round_trip.proofs.CanonItems.{assignment_item, recipe_item, item_on, item_marks, text_on, marks}
-use Rattle.justfile_round_trip.proofs.Good.{GoodName, GoodExpression, GoodComment, EndedBody}
+use Rattle.justfile_round_trip.proofs.CanonItems.{recipe_item, item_marks, end_marks, text_on, marks_from, marks}
+use Rattle.justfile_round_trip.proofs.Good.{GoodComment, EndedBody}
 use Rattle.justfile_round_trip.proofs.GoodAttributes.{GoodEntries}
+use Rattle.justfile_round_trip.proofs.GoodContents.{GoodContent, content_no_body}
 use Rattle.justfile_round_trip.proofs.GoodHeaders.{GoodHeader}
 use Rattle.justfile_round_trip.proofs.GoodItems as good
 use Rattle.justfile_round_trip.proofs.GoodItems.{AtStart, ItemRest, AtEnd, AfterBody}
 use Rattle.justfile_round_trip.proofs.LexesAttributes.{lex_entries}
+use Rattle.justfile_round_trip.proofs.LexesParts.{lex_content}
 use Rattle.justfile_round_trip.proofs.LexesHeaders.{lex_header}
-use Rattle.justfile_round_trip.proofs.LexesValues.{value_no_blank, lex_value}
 use Rattle.justfile_round_trip.proofs.BodyLines.{IsLevel}
 use Rattle.justfile_round_trip.proofs.Bodies.{lex_after_header}
 use Rattle.justfile_round_trip.proofs.BodyFollows.{text_follows}
@@ -34,14 +34,14 @@ unfolding next
 at_end c = end (at_item c) refl
 
 module _ (limit : ℕ) (ind : List ℕ) (level : IsLevel ind) where
-  assigned : (c : Bool) (entries : List ShapeEntry) (name : List ℕ) (value : Value) {more : List ℕ} {ts : List Mark} → GoodEntries limit entries
-      → GoodName name → GoodExpression limit value → head_is joins more ≡ false → ((f : Bool) → LexesTo (amid [] [] c None f) more ts)
-      → LexesTo (at_item c) (item_on ind (assignment_item entries name value) more) (item_marks (assignment_item entries name value) ts)
-  unfolding class_of
-  assigned c entries name value {more} attributes named good stop k =
-      lex_entries limit c entries attributes
-      (item_name c name named.is_name refl
-      (space_step refl (colon_equals_step (space_step (value_no_blank value more good.lexes) (lex_value [] c None [] value good.lexes stop k)))))
+  -- it has no body whose lines would come after it
+  unbodied : (c : Bool) (entries : List ShapeEntry) (content : ShapeContent) → GoodContent limit content → (items : Shape)
+      → LexesTo (at_item c) (text_on ind (tree.Construct entries content ∷ items))
+      (item_marks (tree.Construct entries content) (end_marks (tree.Construct entries content) items (marks_from ind [] items)))
+      → LexesTo (at_item c) (text_on ind (tree.Construct entries content ∷ items)) (marks ind (tree.Construct entries content ∷ items))
+  unbodied c entries content h items r =
+      let i = tree.Construct entries content in
+      subst (λ body. LexesTo (at_item c) (text_on ind (i ∷ items)) (item_marks i (end_marks i items (marks_from ind body items)))) (sym (content_no_body limit h)) r
 
   mutual
     unfolding class_of
@@ -51,27 +51,19 @@ module _ (limit : ℕ) (ind : List ℕ) (level : IsLevel ind) where
     lex_start c good.end = at_end c
     lex_start c (good.newline more) = blank_line c (lex_start c more)
     lex_start c (good.comment {t = t} h more) = lex_end c t h more
-    lex_start c (good.assignment {entries = entries} {name = name} {value = value} attributes named h more) =
-        lex_after c entries name value attributes named h more
-    lex_start c (good.header {entries = entries} {h = header} attributes h more) = lex_bare c entries header attributes h more
+    lex_start c (good.on_line {entries = entries} {content = content} attributes h more) = lex_after c entries content attributes h more
     lex_start c (good.recipe {entries = entries} {h = header} {l = l} {ls = ls} attributes h body more) = lex_block c entries header l ls attributes h body more
 
-    -- an assignment, and what follows it
-    lex_after : (c : Bool) (entries : List ShapeEntry) (name : List ℕ) (value : Value) {items : Shape} → GoodEntries limit entries → GoodName name
-        → GoodExpression limit value → ItemRest limit items
-        → LexesTo (at_item c) (text_on ind (assignment_item entries name value ∷ items)) (marks ind (assignment_item entries name value ∷ items))
-    lex_after c entries name value attributes named h (good.trailing {t = t} commented (good.line_end more)) =
-        assigned c entries name value attributes named h refl (λ f. trailing c f t commented (lex_start c more))
-    lex_after c entries name value attributes named h (good.bare (good.line_end more)) =
-        assigned c entries name value attributes named h refl (λ f. line_end c f (lex_start c more))
-
-    -- a recipe without a body, and what follows it
-    lex_bare : (c : Bool) (entries : List ShapeEntry) (header : ShapeHeader) {items : Shape} → GoodEntries limit entries → GoodHeader limit header → ItemRest limit items
-        → LexesTo (at_item c) (text_on ind (recipe_item entries header [] ∷ items)) (marks ind (recipe_item entries header [] ∷ items))
-    lex_bare c entries header attributes h (good.trailing {t = t} commented (good.line_end more)) =
-        lex_entries limit c entries attributes (lex_header c header 32 h.lexes refl refl refl (λ f. trailing true f t commented (lex_start true more)))
-    lex_bare c entries header attributes h (good.bare (good.line_end more)) =
-        lex_entries limit c entries attributes (lex_header c header 10 h.lexes refl refl refl (λ f. line_end true f (lex_start true more)))
+    -- a construct on one line, and what follows it
+    lex_after : (c : Bool) (entries : List ShapeEntry) (content : ShapeContent) {items : Shape} → GoodEntries limit entries → GoodContent limit content
+        → ItemRest limit items
+        → LexesTo (at_item c) (text_on ind (tree.Construct entries content ∷ items)) (marks ind (tree.Construct entries content ∷ items))
+    lex_after c entries content attributes h (good.trailing {t = t} commented (good.line_end {items = items} more)) =
+        unbodied c entries content h (tree.Comment t ∷ tree.Newline ∷ items)
+        (lex_entries limit c entries attributes (lex_content c limit h ind 32 refl refl refl (λ d f. trailing d f t commented (lex_start d more))))
+    lex_after c entries content attributes h (good.bare (good.line_end {items = items} more)) =
+        unbodied c entries content h (tree.Newline ∷ items)
+        (lex_entries limit c entries attributes (lex_content c limit h ind 10 refl refl refl (λ d f. line_end d f (lex_start d more))))
 
     -- a recipe with a body, the end of its last line, and what follows that
     lex_block : (c : Bool) (entries : List ShapeEntry) (header : ShapeHeader) (l : Row) (ls : List Row) {items : Shape} → GoodEntries limit entries

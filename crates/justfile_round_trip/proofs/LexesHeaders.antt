@@ -61,7 +61,7 @@ unfolding class_of
 path_rest_joins [] more h = h
 path_rest_joins (n ∷ names) more h = refl
 
-path_no_blank : (names : List (List ℕ)) (more : List ℕ) → IsPath names → head_is blank (path_on names more) ≡ false
+pub path_no_blank : (names : List (List ℕ)) (more : List ℕ) → IsPath names → head_is blank (path_on names more) ≡ false
 path_no_blank [] more h = absurd h
 path_no_blank (n ∷ names) more h = name_no_blank n _ h.0
 
@@ -127,18 +127,18 @@ module _ (c : Bool) where
 
 -- ---- dependencies
 
-lex_path_rest : (os : List OpenDelimiter) (names : List (List ℕ)) {more : List ℕ} {ts : List Mark} → AreNames names → head_is joins more ≡ false
-    → ((f : Bool) → LexesTo (amid os [] true None f) more ts)
-    → (f : Bool) → LexesTo (amid os [] true None f) (path_rest_on names more) (path_rest_marks names ts)
-lex_path_rest os [] h stop k f = k f
-lex_path_rest os (n ∷ names) {more} h stop k f =
-    colon_colon_step (name_step n h.0 (head_word _ (path_rest_joins names more stop)) (lex_path_rest os names h.1 stop k _))
+lex_path_rest : (c : Bool) (os : List OpenDelimiter) (names : List (List ℕ)) {more : List ℕ} {ts : List Mark} → AreNames names → head_is joins more ≡ false
+    → ((f : Bool) → LexesTo (amid os [] c None f) more ts)
+    → (f : Bool) → LexesTo (amid os [] c None f) (path_rest_on names more) (path_rest_marks names ts)
+lex_path_rest c os [] h stop k f = k f
+lex_path_rest c os (n ∷ names) {more} h stop k f =
+    colon_colon_step (name_step n h.0 (head_word _ (path_rest_joins names more stop)) (lex_path_rest c os names h.1 stop k _))
 
-lex_path : (os : List OpenDelimiter) (names : List (List ℕ)) {more : List ℕ} {ts : List Mark} → IsPath names → head_is joins more ≡ false
-    → ((f : Bool) → LexesTo (amid os [] true None f) more ts)
-    → LexesTo (amid os [] true None false) (path_on names more) (path_marks names ts)
-lex_path os [] h stop k = absurd h
-lex_path os (n ∷ names) {more} h stop k = name_step n h.0 (head_word _ (path_rest_joins names more stop)) (lex_path_rest os names h.1 stop k _)
+pub lex_path : (c : Bool) (os : List OpenDelimiter) (names : List (List ℕ)) {more : List ℕ} {ts : List Mark} → IsPath names → head_is joins more ≡ false
+    → ((f : Bool) → LexesTo (amid os [] c None f) more ts)
+    → LexesTo (amid os [] c None false) (path_on names more) (path_marks names ts)
+lex_path c os [] h stop k = absurd h
+lex_path c os (n ∷ names) {more} h stop k = name_step n h.0 (head_word _ (path_rest_joins names more stop)) (lex_path_rest c os names h.1 stop k _)
 
 lex_star : (os : List OpenDelimiter) (star : Option (Unit {0})) (e : Value) {more : List ℕ} {ts : List Mark} → GoodValue e → head_is joins more ≡ false
     → ((f : Bool) → LexesTo (amid os [] true None f) more ts)
@@ -158,12 +158,12 @@ lex_parenthesis : (path : List (List ℕ)) (arguments : List ShapeArgument) {mor
     → LexesTo (amid [] [] true None false) more ts
     → LexesTo (amid [] [] true None false) (40 ∷ path_on path (dependency_arguments_on arguments (41 ∷ more))) (mark kinds.ParenL (40 ∷ []) ∷ path_marks path (dependency_arguments_marks arguments (paren_right ∷ ts)))
 lex_parenthesis path arguments {more} p h k =
-    open_paren_step (λ line. lex_path (opener Paren line ∷ []) path p (arguments_join arguments more) (lex_arguments line arguments h k))
+    open_paren_step (λ line. lex_path true (opener Paren line ∷ []) path p (arguments_join arguments more) (lex_arguments line arguments h k))
 
 lex_parts : (star : Option (Unit {0})) (path : List (List ℕ)) (arguments : List ShapeArgument) {more : List ℕ} {ts : List Mark} → IsPath path
     → GoodDependencyArguments arguments → head_is joins more ≡ false → ((f : Bool) → LexesTo (amid [] [] true None f) more ts)
     → LexesTo (amid [] [] true None false) (dependency_parts_on star path arguments more) (dependency_parts_marks star path arguments ts)
-lex_parts star path [] p h stop k = lex_path [] path p stop k
+lex_parts star path [] p h stop k = lex_path true [] path p stop k
 lex_parts None path (a ∷ arguments) p h stop k = lex_parenthesis path (a ∷ arguments) p h (k false)
 lex_parts (Some star) path (a ∷ arguments) p h stop k = asterisk_step (lex_parenthesis path (a ∷ arguments) p h (k false))
 

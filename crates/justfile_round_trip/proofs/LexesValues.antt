@@ -218,7 +218,7 @@ module _ (ls : List (List ℕ)) (c : Bool) (i : Option Tok) where
     lex_value os (Group e) h stop k = open_paren_step (λ line. lex_value (opener Paren line ∷ os) e h refl (λ f. close_paren_step (k false)))
     lex_value os (ListOf operator es) h stop k = open_bracket_step (λ line. lex_values (opener Bracket line ∷ os) es h refl (λ f. close_bracket_step (k false)))
 
-    lex_values : (os : List OpenDelimiter) (es : Values) {more : List ℕ} {ts : List Mark} → GoodValues es → head_is joins more ≡ false → ((f : Bool) → LexesTo (amid os ls c i f) more ts) → LexesTo (amid os ls c i false) (exprs_on es more) (exprs_marks es ts)
+    pub lex_values : (os : List OpenDelimiter) (es : Values) {more : List ℕ} {ts : List Mark} → GoodValues es → head_is joins more ≡ false → ((f : Bool) → LexesTo (amid os ls c i f) more ts) → LexesTo (amid os ls c i false) (exprs_on es more) (exprs_marks es ts)
     lex_values os tree.none h stop k = k false
     lex_values os (tree.more e es) {more} h stop k = lex_value os e h.0 (others_join es more stop) (lex_others os es h.1 stop k)
 

@@ -1,6 +1,7 @@
 pub mod AttributesUtf8
 pub mod Back
 pub mod BackAttributes
+pub mod BackContents
 pub mod BackHeaders
 pub mod Bodies
 pub mod BodyDerives
@@ -14,6 +15,7 @@ pub mod Canon
 pub mod CanonAttributes
 pub mod CanonHeaders
 pub mod CanonItems
+pub mod CanonParts
 pub mod Comments
 pub mod CountedAttributes
 pub mod CountedItems
@@ -31,12 +33,14 @@ pub mod FormatParts
 pub mod FormatScans
 pub mod Good
 pub mod GoodAttributes
+pub mod GoodContents
 pub mod GoodHeaders
 pub mod GoodItems
 pub mod Inline
 pub mod LexesAttributes
 pub mod LexesBack
 pub mod LexesHeaders
+pub mod LexesParts
 pub mod LexesValues
 pub mod Lines
 pub mod LiteralModes
@@ -56,4 +60,5 @@ pub mod WalksHeaders
 pub mod Written
 pub mod WrittenAttributes
 pub mod WrittenHeaders
+pub mod WrittenParts
 pub mod WrittenValues

@@ -43,6 +43,12 @@ same_dependencies (d ∷ ds) = λ i. same_dependency d i ∷ same_dependencies d
 
 same_content : (content : ShapeContent) → starless content ≡ content
 same_content (tree.Assignment parts) = refl
+same_content (tree.Alias parts) = refl
+same_content (tree.Function parts) = refl
+same_content (tree.Import parts) = refl
+same_content (tree.Module parts) = refl
+same_content (tree.Setting parts) = refl
+same_content (tree.Unexport name) = refl
 same_content (tree.Recipe parts) = λ i. tree.Recipe (record {
   doc = parts.doc;
   header = record {

@@ -96,8 +96,14 @@ times_over f feature (n ∷ ns) = ap (λ count. (if sameb the_type n.0 feature t
 -- ---- numbers
 
 content_numbers : (c : Content Tok Tok ℕ (Unit {0})) → content_bindings (over_content lexeme nothing nothing (λ star. star) c) ≡ content_bindings c
+content_numbers (tree.Alias parts) = refl
 content_numbers (tree.Assignment parts) = refl
+content_numbers (tree.Function parts) = length-map parts.parameters lexeme
+content_numbers (tree.Import parts) = refl
+content_numbers (tree.Module parts) = refl
 content_numbers (tree.Recipe parts) = length-map parts.header.parameters (over_parameter lexeme nothing)
+content_numbers (tree.Setting parts) = refl
+content_numbers (tree.Unexport name) = refl
 
 numbers : (t : Tree) → bindings (shape_of t) ≡ bindings t
 numbers [] = refl
@@ -106,8 +112,14 @@ numbers (tree.Comment text ∷ t) = ap (λ n. 0 + n) (numbers t)
 numbers (Construct entries content ∷ t) = λ k. content_numbers content k + numbers t k
 
 content_counts : (c : Content Tok Tok ℕ (Unit {0})) → content_recipes (over_content lexeme nothing nothing (λ star. star) c) ≡ content_recipes c
+content_counts (tree.Alias parts) = refl
 content_counts (tree.Assignment parts) = refl
+content_counts (tree.Function parts) = refl
+content_counts (tree.Import parts) = refl
+content_counts (tree.Module parts) = refl
 content_counts (tree.Recipe parts) = refl
+content_counts (tree.Setting parts) = refl
+content_counts (tree.Unexport name) = refl
 
 counts : (t : Tree) → recipes (shape_of t) ≡ recipes t
 counts [] = refl
@@ -136,7 +148,7 @@ module _ (conditions : Conditions) where
       let prints : printable (meant sight f.written) ≡ true = sym (documented_counts printable printable_count says_doc Nothing (meant sight f.written)) ∙ ap printable (sym shape_is) ∙ p in
       record {
         plain = normal (meant sight f.written);
-        good = file_good conditions.limit sight f.derives f.unbroken (lexed_sound source h.tokens h.utf8 h.lexed) (lexed_bodies source h.tokens h.lexed) prints;
+        good = file_good conditions.limit conditions.current sight f.derives f.unbroken (lexed_sound source h.tokens h.utf8 h.lexed) (lexed_bodies source h.tokens h.lexed) prints;
         shape_is = ap normal shape_is ∙ sym (normal_documented Nothing (meant sight f.written));
       }
 
@@ -149,10 +161,10 @@ module _ (conditions : Conditions) where
   docs_settled s d = subst (SettledDocs Nothing) (sym d.shape_is) (documented_settled Nothing d.plain (start_plain conditions.limit d.good) (start_comments conditions.limit d.good))
 
   -- and what is printed of it means it again, breaks no rule, and has literals with texts
-  source_again : (ts : List SignificantToken) (s : Shape) (ns : Shown) → ShapeDerives conditions ts s ns → AllPrintAgain conditions.expander (normal s)
+  source_again : (ts : List SignificantToken) (s : Shape) (ns : Shown) → ShapeDerives conditions ts s ns → AllPrintAgain conditions.current conditions.expander (normal s)
   source_again ts s ns f =
-      normal_again conditions.expander s
-      (shape_again conditions.expander f.written s f.ordered_is f.unbroken (texts_are_there conditions.expander _ f.cooked f.cooks))
+      normal_again conditions.current conditions.expander s
+      (shape_again conditions.current conditions.expander f.written s f.ordered_is f.unbroken (texts_are_there conditions.expander _ f.cooked f.cooks))
 
   -- each feature is as often in what a text derives as in what is printed of its shape
   source_times : (feature : ListFeature) (ts : List SignificantToken) (s : Shape) (ns : Shown) → ShapeDerives conditions ts s ns
@@ -161,7 +173,7 @@ module _ (conditions : Conditions) where
       let sight = sees_lexemes conditions.expander in
       let m = undocumented_of sight f.written s f.ordered_is in
       ap (times feature) (f.features_are ∙ ap (all_features sight f.written) (of_file (Under conditions.limit) f.derives))
-      ∙ undocumented_times feature conditions.expander f.written m.items m.items_are f.unbroken
+      ∙ undocumented_times feature conditions.expander conditions.current f.written m.items m.items_are f.unbroken
       ∙ sym (documented_weight feature conditions.expander Nothing m.items)
       ∙ ap (shape_weight feature conditions.expander) (sym m.all_are)
 
@@ -171,12 +183,12 @@ module _ (conditions : Conditions) where
     derives : ShapeDerives conditions (significant_tokens (back_tokens s indentation)) s features
     weight : (feature : ListFeature) → times feature features ≡ shape_weight feature conditions.expander s
 
-  good_derives : (s : Shape) (indentation : List ℕ) → Documented s → AllPrintAgain conditions.expander s → DerivesAgain s indentation
+  good_derives : (s : Shape) (indentation : List ℕ) → Documented s → AllPrintAgain conditions.current conditions.expander s → DerivesAgain s indentation
   good_derives s indentation d again =
       let sight = sees_lexemes conditions.expander in
       let file = good_file conditions.limit s indentation (written_good s d) in
-      let texts = rewritten_texts conditions.expander s again in
-      let unbroken = rewritten_unbroken conditions.expander s again in
+      let texts = rewritten_texts conditions.current conditions.expander s again in
+      let unbroken = rewritten_unbroken conditions.current conditions.expander s again in
       record {
         features = all_features sight (rewritten s) file.0;
         derives = record {
@@ -187,11 +199,11 @@ module _ (conditions : Conditions) where
           cooked = texts_of conditions.expander _ texts;
           cooks = texts_cook conditions.expander _ texts;
           unbroken = unbroken;
-          ordered_is = rewritten_means conditions.expander s again (docs_settled s d);
+          ordered_is = rewritten_means conditions.current conditions.expander s again (docs_settled s d);
         };
         weight = λ feature.
             ap (λ fs. times feature (all_features sight (rewritten s) fs)) (of_file (Under conditions.limit) file.1)
-            ∙ undocumented_times feature conditions.expander (rewritten s) (docs_written s) (rewritten_undocumented conditions.expander s again) unbroken
+            ∙ undocumented_times feature conditions.expander conditions.current (rewritten s) (docs_written s) (rewritten_undocumented conditions.current conditions.expander s again) unbroken
             ∙ written_docs_weight feature conditions.expander s;
       }
 

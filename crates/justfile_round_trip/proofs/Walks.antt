@@ -77,7 +77,7 @@ module _ {A B : Type 0} (leaf : Tok → A) (spot : Tok → B) (Open : ℕ → Op
     walk_value (g.group {opener = t} {closer = u} {following = on} {rest = rest} kind x kind2) w = step kinds.ParenR u rest kind2 refl (walk x (step kinds.ParenL t on kind refl w))
     walk_value (g.list {opener = t} {tokens = on} kind s) w = walk_sequence s refl (step kinds.BracketL t on kind refl w)
 
-    walk_sequence : {closing : TokenKind} {d : ℕ} {es : Exprs A B} {fs : List (Noted B)} {ts rest : Tokens} → Sequence leaf spot Open closing d es fs ts rest → quiet closing ≡ true → W ts → W rest
+    pub walk_sequence : {closing : TokenKind} {d : ℕ} {es : Exprs A B} {fs : List (Noted B)} {ts rest : Tokens} → Sequence leaf spot Open closing d es fs ts rest → quiet closing ≡ true → W ts → W rest
     walk_sequence {closing} (g.none {closer = t} {rest = rest} kind) q w = step closing t rest kind q w
     walk_sequence {closing} (g.last {closer = t} {rest = rest} next x kind) q w = step closing t rest kind q (walk x w)
     walk_sequence (g.more {comma = t} {following = on} next x kind s) q w = walk_sequence s q (step kinds.Comma t on kind refl (walk x w))

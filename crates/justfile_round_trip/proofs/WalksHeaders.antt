@@ -1,5 +1,5 @@
 -- What each token of a header leaves as it was, the header leaves as it was, and after it a colon has come.
-use Rattle.std.proofs.Common.{◌≡◌, ℕ, Bool, true, false, List, ◌∷◌, Option, refl, ap, ◌∙◌}
+use Rattle.std.proofs.Common.{◌≡◌, ℕ, Bool, true, false, List, ◌∷◌, refl, ap, ◌∙◌}
 use Rattle.justfile_base.specs.declared.token_kind.TokenKind.{TokenKind}
 use Rattle.justfile_base.specs.declared.token_kind.TokenKind.TheVariants as kinds
 use Rattle.justfile_model.specs.declared.parameter_kind.ParameterKind.{ParameterKind}
@@ -62,7 +62,7 @@ module _ (limit : ℕ) where
     walk_path_rest (g.next {colons = t} {name = u} {tokens = ts} kind kind2 r) w =
         walk_path_rest r (on kinds.Identifier u ts kind2 refl (on kinds.ColonColon t (u ∷ ts) kind refl w))
 
-    walk_path : {names : List (List ℕ)} {ts rest : Tokens} → PathOf lexeme names ts rest → Walked P ts → Walked P rest
+    pub walk_path : {names : List (List ℕ)} {ts rest : Tokens} → PathOf lexeme names ts rest → Walked P ts → Walked P rest
     walk_path (g.path {name = t} {tokens = ts} kind r) w = walk_path_rest r (on kinds.Identifier t ts kind refl w)
 
     walk_arguments : {arguments : List ShapeArgument} {fs : Shown} {ts rest : Tokens} → DependencyArguments lexeme nothing nothing (Under limit) arguments fs ts rest

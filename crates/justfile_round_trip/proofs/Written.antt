@@ -1,14 +1,14 @@
 -- The normal shape of what any text derives is good.
-use Rattle.std.proofs.Common.{◌≡◌, ℕ, Bool, true, false, List, [], ◌∷◌, ◌++◌, Option, Some, None, refl, sym, ap, ◌∙◌, subst}
+use Rattle.std.proofs.Common.{◌≡◌, ℕ, Bool, true, false, ◌&&◌, List, [], ◌∷◌, ◌++◌, Option, Some, None, refl, sym, ap, ◌∙◌, subst}
 use Rattle.std.specs.Str.{trim_end}
 use Rattle.std.proofs.lemmas.Bool.{and_parts}
-use Rattle.justfile_base.specs.declared.token_kind.TokenKind.{TokenKind}
 use Rattle.justfile_base.specs.declared.token_kind.TokenKind.TheVariants as kinds
 use Rattle.justfile_model.specs.SignificantTokens.{SignificantToken}
 use Rattle.justfile_model.specs.Tree as tree
 use Rattle.justfile_model.specs.AttributeLines as attribute
 use Rattle.justfile_model.specs.AttributeLines.{AttributeLines}
 use Rattle.justfile_model.specs.AttributeRules.{attributes_broken, of_some}
+use Rattle.justfile_model.specs.Conditions.{VersionNumbers}
 use Rattle.justfile_model.specs.ConstructRules.{construct_broken, form_broken, meaning_broken}
 use Rattle.justfile_model.specs.Features.{ConstructFeatures}
 use Rattle.justfile_model.specs.Headers as header
@@ -16,56 +16,37 @@ use Rattle.justfile_model.specs.Headers.{HeaderOf}
 use Rattle.justfile_model.specs.Meaning.{entries_of}
 use Rattle.justfile_model.specs.RecipeRules.{header_broken}
 use Rattle.justfile_model.specs.Sight.{Sight}
-use Rattle.justfile_model.specs.Tree.{Shape, WrittenShape, bare_recipe, lexeme, nothing, plain_assignment, trimmed}
+use Rattle.justfile_model.specs.Tree.{Shape, WrittenShape, assignment_of, bare_recipe, lexeme, nothing, trimmed}
 use Rattle.justfile_model.specs.Grammar as g
-use Rattle.justfile_model.specs.Expressions.{IsKind, Under}
-use Rattle.justfile_model.specs.Grammar.{BeforeBody, NotEmpty, Items, ItemRest, LineEnd, File}
+use Rattle.justfile_model.specs.Expressions.{IsKind, Under, Expression}
+use Rattle.justfile_model.specs.Grammar.{BeforeBody, NotEmpty, OnLine, Items, ItemRest, LineEnd, File}
 use Rattle.justfile_model.specs.Files.{broken, item_broken, keeps_lexemes}
 use Rattle.justfile_model.specs.NormalShape.{after_newline, normal_rest, normal}
-use Rattle.justfile_model.specs.Printing.{printable_body, printable}
+use Rattle.justfile_model.specs.Printing.{printable_body, printable_content, printable}
 use Rattle.justfile_model.proofs.Binds.{nothing_in}
-use Rattle.justfile_round_trip.proofs.Canon.{Shown, Fragment, Row, ShapeContent}
+use Rattle.justfile_round_trip.proofs.Canon.{Shown, Value, Fragment, Row, ShapeContent}
 use Rattle.justfile_round_trip.proofs.CanonAttributes.{Written, ShapeEntry}
 use Rattle.justfile_round_trip.proofs.CanonHeaders.{ShapeHeader}
 use Rattle.justfile_round_trip.proofs.CanonItems.{recipe_item}
-use Rattle.justfile_round_trip.proofs.Good.{GoodName, GoodComment, EndedBody, pale_after}
+use Rattle.justfile_round_trip.proofs.Good.{EndedBody, pale_after}
 use Rattle.justfile_round_trip.proofs.GoodAttributes.{GoodEntries}
 use Rattle.justfile_round_trip.proofs.GoodHeaders.{GoodHeader}
+use Rattle.justfile_round_trip.proofs.GoodContents as contents
+use Rattle.justfile_round_trip.proofs.GoodContents.{GoodContent}
 use Rattle.justfile_round_trip.proofs.GoodItems as good
 use Rattle.justfile_round_trip.proofs.GoodItems.{follows_body, AtStart, AtEnd, After, AfterBody, past_newline}
 use Rattle.justfile_round_trip.proofs.Means.{ShapeWritten, entries_or_none, meant}
 use Rattle.justfile_round_trip.proofs.WrittenAttributes.{attributes_good}
-use Rattle.justfile_round_trip.proofs.Sound.{Around, around, outside, Known, is_comment, Sound}
-use Rattle.justfile_round_trip.proofs.Comments.{good_comment}
+use Rattle.justfile_round_trip.proofs.Sound.{Around, around, outside, Known, Sound}
 use Rattle.justfile_round_trip.proofs.BodyTokens.{First}
 use Rattle.justfile_round_trip.proofs.BodyFacts.{outline_after, no_body, NextIs, BodySound}
-use Rattle.justfile_round_trip.proofs.BodyGood.{LineOf, LinesOf, PartsGood, AllPartsGood, inner, shifts, IsOutside, outside_after, outside_first, indent_leads, Walked, walk_outside, body_read}
+use Rattle.justfile_round_trip.proofs.BodyGood.{LineOf, LinesOf, PartsGood, AllPartsGood, inner, outside_first, indent_leads, Walked, body_read}
 use Rattle.justfile_round_trip.proofs.WalksHeaders.{IsHeader, header_after, outside_header, past_walked, walk_header}
 use Rattle.justfile_round_trip.proofs.WrittenHeaders.{header_at}
+use Rattle.justfile_round_trip.proofs.WrittenParts.{Ahead, Passed, file_path_good, lexed_comment, lexed_name, names_good, past_token, path_good, setting_value_good, value_good}
 use Rattle.justfile_round_trip.proofs.Trimmed.{trimmed_twice, trimmed_printable}
 use Rattle.justfile_round_trip.proofs.BodyFollows.{following, newline_follows}
-use Rattle.justfile_round_trip.proofs.WrittenValues.{fact_as, past, value_at, good_expression}
-
--- ---- along a derivation
-
--- lists that are empty together
--- Of the tokens outside bodies: nothing is open there, and what is known of each of them and of the bodies after them. A comment is the token before them, or not.
-record Ahead (c : Bool) (ts : List SignificantToken) : Type 0 where
-  facts : Sound outside c ts
-  bodies : Walked IsOutside ts
-
--- after a token that opens nothing
-past_token : {c : Bool} (t : SignificantToken) (ts : List SignificantToken) (k : TokenKind) → IsKind k t → around k t.tok.lexeme outside ≡ outside → shifts k ≡ false → Ahead c (t ∷ ts) → Ahead (is_comment k) ts
-past_token t ts k e same stays h = record {
-  facts = subst (λ s. Sound s (is_comment k) ts) same (past outside t ts k e h.facts.2);
-  bodies = past_walked IsOutside outside_after t ts k e stays h.bodies;
-}
-
-lexed_comment : {s : Around} {c : Bool} (t : SignificantToken) → IsKind kinds.Comment t → Known s c t.tok → GoodComment (trim_end t.tok.lexeme)
-lexed_comment t kind h = good_comment t.tok.lexeme h.utf8 (fact_as t kinds.Comment kind h)
-
-lexed_name : {s : Around} {c : Bool} (t : SignificantToken) → IsKind kinds.Identifier t → Known s c t.tok → GoodName t.tok.lexeme
-lexed_name t kind h = record { is_name = fact_as t kinds.Identifier kind h; utf8 = h.utf8 }
+use Rattle.justfile_round_trip.proofs.WrittenValues.{past, value_at, good_expression}
 
 -- ---- bodies
 
@@ -127,12 +108,12 @@ module _ (limit : ℕ) where
     good : EndedBody limit body
     some : NotEmpty body
     last : pale_after body ≡ true → NextIs (λ k. k ≡ kinds.Eof) rest
-    following : Ahead false rest
+    following : Ahead outside false rest
 
   block_good : {fs ns : Shown} {h : ShapeHeader} {lines : List Row} {comment : Option (List ℕ)} {tokens next body rest : List SignificantToken}
       → HeaderOf lexeme nothing nothing (Under limit) h fs tokens next → header_broken h ≡ [] → BeforeBody comment next body → LinesOf limit lines ns body rest
       → NotEmpty (trimmed lines)
-      → (c : Bool) → Ahead c tokens → printable_body (trimmed lines) ≡ true → BlockGood h (trimmed lines) rest
+      → (c : Bool) → Ahead outside c tokens → printable_body (trimmed lines) ≡ true → BlockGood h (trimmed lines) rest
   block_good {lines = lines} head unbroken before read some c h p =
       let named = header_at limit head unbroken c h.facts in
       let start = before_body before named.following (walk_header limit head h.bodies) in
@@ -145,6 +126,14 @@ module _ (limit : ℕ) where
         last = body.last;
         following = record { facts = parts.following; bodies = record { outline = no_body; is = outside_first; sound = body.sound } };
       }
+
+  -- an assignment, after the word before it
+  assigned : (eager export : Bool) → (eager && export) ≡ false → {e : Value} {ns : Shown} (name operator : SignificantToken) (ts : List SignificantToken) {rest : List SignificantToken}
+      → IsKind kinds.Identifier name → IsKind kinds.ColonEquals operator → Expression lexeme nothing (Under limit) false 0 e ns ts rest
+      → Ahead outside false (name ∷ operator ∷ ts) → Passed (GoodContent limit (tree.Assignment (assignment_of eager export name.tok.lexeme e))) rest
+  assigned eager export one name operator ts kind kind2 x h =
+      let v = value_good limit x (past_token operator ts kinds.ColonEquals kind2 refl (past_token name (operator ∷ ts) kinds.Identifier kind refl h)) in
+      record { good = contents.assignment one (lexed_name name kind h.facts.0) v.good; following = v.following }
 
   -- ---- line ends of the normal shape
 
@@ -196,28 +185,92 @@ module _ (limit : ℕ) where
   no_header (header.quiet kind named) e = let bad : kinds.At ≡ kinds.Eof = sym kind ∙ e in cc
   no_header (header.loud (header.header {name = name} kind parameters all)) e = no_name name kind e
 
+  no_content : {P : Type 0} {c : ShapeContent} {fs : Shown} {ts rest : List SignificantToken} → OnLine keeps_lexemes (Under limit) c fs ts rest
+      → NextIs (λ k. k ≡ kinds.Eof) ts → P
+  no_content (g.alias {word = word} is kind kind2 to) e = no_name word is.is_name e
+  no_content (g.assignment {name = name} kind kind2 x) e = no_name name kind e
+  no_content (g.eager {word = word} is kind kind2 x) e = no_name word is.is_name e
+  no_content (g.export {word = word} is kind kind2 x) e = no_name word is.is_name e
+  no_content (g.function {name = name} kind kind2 names kind3 x) e = no_name name kind e
+  no_content (g.import {word = word} is at) e = no_name word is.is_name e
+  no_content (g.optional_import {word = word} is kind at) e = no_name word is.is_name e
+  no_content (g.module_alone {word = word} is kind next) e = no_name word is.is_name e
+  no_content (g.module_at {word = word} is kind at) e = no_name word is.is_name e
+  no_content (g.optional_module_alone {word = word} is kind kind2 next) e = no_name word is.is_name e
+  no_content (g.optional_module_at {word = word} is kind kind2 at) e = no_name word is.is_name e
+  no_content (g.setting {word = word} is named form v) e = no_name word is.is_name e
+  no_content (g.unexport {word = word} is kind next) e = no_name word is.is_name e
+  no_content (g.header head) e = no_header head e
+
   file_ended : {items : WrittenShape} {ns : List (ConstructFeatures (Unit {0}))} {ts : List SignificantToken} → Items keeps_lexemes (Under limit) items ns ts → NextIs (λ k. k ≡ kinds.Eof) ts → items ≡ []
   file_ended (g.end kind) e = refl
   file_ended (g.blank kind more) e = let bad : kinds.Eol ≡ kinds.Eof = sym kind ∙ e in cc
   file_ended (g.comment kind more) e = let bad : kinds.Comment ≡ kinds.Eof = sym kind ∙ e in cc
-  file_ended (g.on_line a (g.assignment {name = name} kind kind2 x) more) e = no_construct a (no_name name kind) e
-  file_ended (g.on_line a (g.header head) more) e = no_construct a (no_header head) e
+  file_ended (g.on_line a x more) e = no_construct a (no_content x) e
   file_ended (g.block a (g.recipe head before read some) more) e = no_construct a (no_header head) e
 
   -- ---- items
 
-  module _ (sight : Sight (List ℕ) (Unit {0})) where
+  -- where this is the running version
+  module _ (current : VersionNumbers) (sight : Sight (List ℕ) (Unit {0})) where
     -- what is printed of written items
     abbrev rest_of : WrittenShape → Shape
     rest_of items = normal_rest (meant sight items)
 
+    -- a construct on one line that breaks no rule whatever its attributes are
+    content_good : {content : ShapeContent} {ns : Shown} {ts rest : List SignificantToken} → OnLine keeps_lexemes (Under limit) content ns ts rest
+        → form_broken current sight content ≡ [] → Ahead outside false ts → Passed (GoodContent limit content) rest
+    content_good (g.alias {word = word} {name = name} {operator = operator} {tokens = ts} is kind kind2 to) u h =
+        let named = past_token word (name ∷ operator ∷ ts) kinds.Identifier is.is_name refl h in
+        let x = path_good to (past_token operator ts kinds.ColonEquals kind2 refl (past_token name (operator ∷ ts) kinds.Identifier kind refl named)) in
+        record { good = contents.alias (lexed_name name kind named.facts.0) x.good; following = x.following }
+    content_good (g.assignment {name = name} {operator = operator} {tokens = ts} kind kind2 x) u h = assigned false false refl name operator ts kind kind2 x h
+    content_good (g.eager {word = word} {name = name} {operator = operator} {tokens = ts} is kind kind2 x) u h =
+        assigned true false refl name operator ts kind kind2 x (past_token word (name ∷ operator ∷ ts) kinds.Identifier is.is_name refl h)
+    content_good (g.export {word = word} {name = name} {operator = operator} {tokens = ts} is kind kind2 x) u h =
+        assigned false true refl name operator ts kind kind2 x (past_token word (name ∷ operator ∷ ts) kinds.Identifier is.is_name refl h)
+    content_good (g.function {name = name} {opener = opener} {operator = operator} {tokens = ts} {next = next} kind kind2 names kind3 x) u h =
+        let inside = names_good names (past_token opener ts kinds.ParenL kind2 refl (past_token name (opener ∷ ts) kinds.Identifier kind refl h)) in
+        let v = value_good limit x (past_token operator next kinds.ColonEquals kind3 refl inside.following) in
+        record { good = contents.function (lexed_name name kind h.facts.0) inside.good v.good; following = v.following }
+    content_good (g.import {word = word} {tokens = ts} is at) u h =
+        let x = file_path_good at (past_token word ts kinds.Identifier is.is_name refl h) in
+        record { good = contents.import x.good; following = x.following }
+    content_good (g.optional_import {word = word} {mark = mark} {tokens = ts} is kind at) u h =
+        let x = file_path_good at (past_token mark ts kinds.QuestionMark kind refl (past_token word (mark ∷ ts) kinds.Identifier is.is_name refl h)) in
+        record { good = contents.import x.good; following = x.following }
+    content_good (g.module_alone {word = word} {name = name} {rest = rest} is kind next) u h =
+        let named = past_token word (name ∷ rest) kinds.Identifier is.is_name refl h in
+        record { good = contents.module_named (lexed_name name kind named.facts.0) tt; following = past_token name rest kinds.Identifier kind refl named }
+    content_good (g.module_at {word = word} {name = name} {tokens = ts} is kind at) u h =
+        let named = past_token word (name ∷ ts) kinds.Identifier is.is_name refl h in
+        let x = file_path_good at (past_token name ts kinds.Identifier kind refl named) in
+        record { good = contents.module_named (lexed_name name kind named.facts.0) x.good; following = x.following }
+    content_good (g.optional_module_alone {word = word} {mark = mark} {name = name} {rest = rest} is kind kind2 next) u h =
+        let named = past_token mark (name ∷ rest) kinds.QuestionMark kind refl (past_token word (mark ∷ name ∷ rest) kinds.Identifier is.is_name refl h) in
+        record { good = contents.module_named (lexed_name name kind2 named.facts.0) tt; following = past_token name rest kinds.Identifier kind2 refl named }
+    content_good (g.optional_module_at {word = word} {mark = mark} {name = name} {tokens = ts} is kind kind2 at) u h =
+        let named = past_token mark (name ∷ ts) kinds.QuestionMark kind refl (past_token word (mark ∷ name ∷ ts) kinds.Identifier is.is_name refl h) in
+        let x = file_path_good at (past_token name ts kinds.Identifier kind2 refl named) in
+        record { good = contents.module_named (lexed_name name kind2 named.facts.0) x.good; following = x.following }
+    content_good (g.setting {word = word} {name = name} {tokens = ts} is named form v) u h =
+        let on = past_token word (name ∷ ts) kinds.Identifier is.is_name refl h in
+        let x = setting_value_good limit v (past_token name ts kinds.Identifier named.is_name refl on) in
+        record { good = contents.setting (lexed_name name named.is_name on.facts.0) named.spelled form x.good; following = x.following }
+    content_good (g.unexport {word = word} {name = name} {rest = rest} is kind next) u h =
+        let named = past_token word (name ∷ rest) kinds.Identifier is.is_name refl h in
+        record { good = contents.unexport (lexed_name name kind named.facts.0); following = past_token name rest kinds.Identifier kind refl named }
+    content_good (g.header head) u h =
+        let found = header_at limit head u false h.facts in
+        record { good = contents.header found.good; following = record { facts = found.following; bodies = outside_header (walk_header limit head h.bodies) } }
+
     -- attributes before a construct, and what is known after them
     record AttributesAhead (ws : List Written) (rest : List SignificantToken) : Type 0 where
       entries : GoodEntries limit (entries_or_none (entries_of sight ws))
-      following : Ahead false rest
+      following : Ahead outside false rest
 
     attributes_ahead : {ws : List Written} {ns : Shown} {ts rest : List SignificantToken} → AttributeLines lexeme nothing (Under limit) ws ns ts rest
-        → (c : Bool) → Ahead c ts → AttributesAhead ws rest
+        → (c : Bool) → Ahead outside c ts → AttributesAhead ws rest
     attributes_ahead {ws} a c h =
         let x = attributes_good limit sight a c h.facts h.bodies in
         record { entries = by x.entries (entries_of sight ws) refl; following = record { facts = x.facts; bodies = x.bodies } }
@@ -232,53 +285,45 @@ module _ (limit : ℕ) where
     trailing_good t items true kind h e = absurd (h.apart refl refl kind)
     trailing_good t items false kind h e = good.trailing (lexed_comment t kind h) e
 
-    -- a recipe that breaks no rule has its stars where they may stand
-    stars_placed : (ws : List Written) (h : ShapeHeader) (body : List Row) (items : WrittenShape)
-        → broken sight (tree.Construct ws (tree.Recipe (bare_recipe h body)) ∷ items) ≡ [] → header_broken h ≡ []
-    stars_placed ws h body items unbroken =
-        let content : ShapeContent = tree.Recipe (bare_recipe h body) in
-        let here = nothing_in (construct_broken sight ws content) (broken sight items) unbroken in
-        (nothing_in (attributes_broken sight ws ++ of_some (meaning_broken sight content) (entries_of sight ws)) (form_broken content) here.0).1
+    -- what breaks no rule breaks none whatever its attributes are: a recipe has its stars where they may stand
+    form_unbroken : (ws : List Written) (content : ShapeContent) (items : WrittenShape) → broken current sight (tree.Construct ws content ∷ items) ≡ []
+        → form_broken current sight content ≡ []
+    form_unbroken ws content items unbroken =
+        let here = nothing_in (construct_broken current sight ws content) (broken current sight items) unbroken in
+        let attributed = attributes_broken sight ws ++ of_some (meaning_broken sight content) (entries_of sight ws) in
+        (nothing_in attributed (form_broken current sight content) here.0).1
 
     -- others break no rule either
-    others_unbroken : (i : ShapeWritten) (items : WrittenShape) → broken sight (i ∷ items) ≡ [] → broken sight items ≡ []
-    others_unbroken i items unbroken = (nothing_in (item_broken sight i) (broken sight items) unbroken).1
+    others_unbroken : (i : ShapeWritten) (items : WrittenShape) → broken current sight (i ∷ items) ≡ [] → broken current sight items ≡ []
+    others_unbroken i items unbroken = (nothing_in (item_broken current sight i) (broken current sight items) unbroken).1
 
     mutual
       items_good : {items : WrittenShape} {ns : List (ConstructFeatures (Unit {0}))} {ts : List SignificantToken} → Items keeps_lexemes (Under limit) items ns ts
-          → broken sight items ≡ [] → (c : Bool) → Ahead c ts → printable (meant sight items) ≡ true → AtStart limit (rest_of items)
+          → broken current sight items ≡ [] → (c : Bool) → Ahead outside c ts → printable (meant sight items) ≡ true → AtStart limit (rest_of items)
       items_good (g.end kind) u c h p = good.newline good.end
-      items_good (g.blank {items = items} {token = t} {rest = rest} kind more) u c h p = start_after_newline (rest_of items) (items_good more u false (past_token t rest kinds.Eol kind refl refl h) p)
-      items_good (g.comment {token = t} {rest = rest} kind more) u c h p = good.comment (lexed_comment t kind h.facts.0) (after_good more u true (past_token t rest kinds.Comment kind refl refl h) p)
-      items_good (g.on_line {ws = ws} {items = items} a (g.assignment {e = e} {name = name} {operator = operator} {tokens = tokens} kind kind2 x) more) u c h p =
+      items_good (g.blank {items = items} {token = t} {rest = rest} kind more) u c h p = start_after_newline (rest_of items) (items_good more u false (past_token t rest kinds.Eol kind refl h) p)
+      items_good (g.comment {token = t} {rest = rest} kind more) u c h p = good.comment (lexed_comment t kind h.facts.0) (after_good more u true (past_token t rest kinds.Comment kind refl h) p)
+      items_good (g.on_line {ws = ws} {c = content} {items = items} a x more) u c h p =
           let before = attributes_ahead a c h in
-          let named = before.following in
-          let on = past_token operator tokens kinds.ColonEquals kind2 refl refl (past_token name (operator ∷ tokens) kinds.Identifier kind refl refl named) in
-          let v = value_at (Under limit) x outside false on.facts in
-          good.assignment before.entries (lexed_name name kind named.facts.0) (good_expression limit x v)
-          (after_good more (others_unbroken (tree.Construct ws (tree.Assignment (plain_assignment name.tok.lexeme e))) items u) false (record { facts = v.following; bodies = walk_outside limit x on.bodies }) p)
-      items_good (g.on_line {ws = ws} {items = items} a (g.header {h = header} head) more) u c h p =
-          let before = attributes_ahead a c h in
-          let found = header_at limit head (stars_placed ws header [] items u) false before.following.facts in
-          good.header before.entries found.good
-          (after_good more (others_unbroken (tree.Construct ws (tree.Recipe (bare_recipe header []))) items u) false
-          (record { facts = found.following; bodies = outside_header (walk_header limit head before.following.bodies) }) p)
+          let found = content_good x (form_unbroken ws content items u) before.following in
+          good.on_line before.entries found.good
+          (after_good more (others_unbroken (tree.Construct ws content) items u) false found.following (and_parts (printable_content content) (printable (meant sight items)) p).1)
       items_good (g.block {ws = ws} {items = items} {rest = rest} a (g.recipe {h = header} {lines = lines} head before read some) more) u c h p =
           let parts = and_parts (printable_body (trimmed lines)) (printable (meant sight items)) p in
           let attributes = attributes_ahead a c h in
-          let b = block_good head (stars_placed ws header (trimmed lines) (tree.Newline ∷ items) u) before read some false attributes.following parts.0 in
-          let others : broken sight items ≡ [] = others_unbroken (tree.Construct ws (tree.Recipe (bare_recipe header (trimmed lines)))) (tree.Newline ∷ items) u in
+          let b = block_good head (form_unbroken ws (tree.Recipe (bare_recipe header (trimmed lines))) (tree.Newline ∷ items) u) before read some false attributes.following parts.0 in
+          let others : broken current sight items ≡ [] = others_unbroken (tree.Construct ws (tree.Recipe (bare_recipe header (trimmed lines)))) (tree.Newline ∷ items) u in
           start_block (entries_or_none (entries_of sight ws)) header (trimmed lines) (after_newline (rest_of items)) b.some attributes.entries b.header b.good
           (optional_body_newline (trimmed lines) (meant sight items) (λ pale. ap (meant sight) (file_ended more (b.last pale))) (items_good more others false b.following parts.1))
 
       after_good : {items : WrittenShape} {ns : List (ConstructFeatures (Unit {0}))} {ts : List SignificantToken} → ItemRest keeps_lexemes (Under limit) items ns ts
-          → broken sight items ≡ [] → (c : Bool) → Ahead c ts → printable (meant sight items) ≡ true → After limit c (rest_of items)
-      after_good (g.trailing {items = items} {token = t} {rest = rest} kind e) u c h p = trailing_good t items c kind h.facts.0 (line_end_good e u true (past_token t rest kinds.Comment kind refl refl h) p)
+          → broken current sight items ≡ [] → (c : Bool) → Ahead outside c ts → printable (meant sight items) ≡ true → After limit c (rest_of items)
+      after_good (g.trailing {items = items} {token = t} {rest = rest} kind e) u c h p = trailing_good t items c kind h.facts.0 (line_end_good e u true (past_token t rest kinds.Comment kind refl h) p)
       after_good (g.bare {items = items} e) u c h p = after_end c (rest_of items) (line_end_good e u c h p)
 
       line_end_good : {items : WrittenShape} {ns : List (ConstructFeatures (Unit {0}))} {ts : List SignificantToken} → LineEnd keeps_lexemes (Under limit) items ns ts
-          → broken sight items ≡ [] → (c : Bool) → Ahead c ts → printable (meant sight items) ≡ true → AtEnd limit (rest_of items)
-      line_end_good (g.line_end {items = items} {token = t} {rest = rest} kind more) u c h p = end_after_newline (rest_of items) (items_good more u false (past_token t rest kinds.Eol kind refl refl h) p)
+          → broken current sight items ≡ [] → (c : Bool) → Ahead outside c ts → printable (meant sight items) ≡ true → AtEnd limit (rest_of items)
+      line_end_good (g.line_end {items = items} {token = t} {rest = rest} kind more) u c h p = end_after_newline (rest_of items) (items_good more u false (past_token t rest kinds.Eol kind refl h) p)
       line_end_good (g.file_end kind) u c h p = good.line_end good.end
 
     normal_good : (shape : Shape) → AtStart limit (normal_rest shape) → AtStart limit (normal shape)
@@ -287,10 +332,10 @@ module _ (limit : ℕ) where
 
     -- the normal shape of a file that breaks no rule, before its docs are taken
     pub file_good : {items : WrittenShape} {ns : List (ConstructFeatures (Unit {0}))} {ts : List SignificantToken} → File keeps_lexemes (Under limit) items ns ts
-        → broken sight items ≡ [] → Sound outside false ts → BodySound no_body ts → printable (meant sight items) ≡ true → AtStart limit (normal (meant sight items))
+        → broken current sight items ≡ [] → Sound outside false ts → BodySound no_body ts → printable (meant sight items) ≡ true → AtStart limit (normal (meant sight items))
     file_good {items} {ts = ts} file u s b p = normal_good (meant sight items) (by file u (record { facts = s; bodies = record { outline = no_body; is = outside_first; sound = b } }) p)
       where
-        by : {items : WrittenShape} {ns : List (ConstructFeatures (Unit {0}))} {ts : List SignificantToken} → File keeps_lexemes (Under limit) items ns ts → broken sight items ≡ []
-            → Ahead false ts → printable (meant sight items) ≡ true → AtStart limit (rest_of items)
-        by (g.marked {token = t} {rest = rest} kind more) u h p = items_good more u false (past_token t rest kinds.ByteOrderMark kind refl refl h) p
+        by : {items : WrittenShape} {ns : List (ConstructFeatures (Unit {0}))} {ts : List SignificantToken} → File keeps_lexemes (Under limit) items ns ts → broken current sight items ≡ []
+            → Ahead outside false ts → printable (meant sight items) ≡ true → AtStart limit (rest_of items)
+        by (g.marked {token = t} {rest = rest} kind more) u h p = items_good more u false (past_token t rest kinds.ByteOrderMark kind refl h) p
         by (g.unmarked more) u h p = items_good more u false h p

@@ -9,10 +9,9 @@ use Rattle.justfile_model.specs.Expressions.{Tokens, Under}
 use Rattle.justfile_model.specs.Headers as g
 use Rattle.justfile_model.specs.Headers.{PathRest, PathOf, NamedParameter, ParameterOf, Parameters, DependencyArguments, DependencyOf, Dependencies, AllDependencies, NamedHeader, HeaderOf}
 use Rattle.justfile_model.specs.RecipeRules.{header_broken}
-use Rattle.justfile_model.specs.SignificantTokens.{SignificantToken}
 use Rattle.justfile_model.specs.Tree.{lexeme, nothing}
 use Rattle.justfile_round_trip.proofs.BackHeaders.{header_back}
-use Rattle.justfile_round_trip.proofs.Canon.{Shown, Value}
+use Rattle.justfile_round_trip.proofs.Canon.{Shown}
 use Rattle.justfile_round_trip.proofs.CanonHeaders.{ShapeParameter, ShapeArgument, ShapeDependency, ShapeHeader, prefix_on, dollar_on, default_on, parameter_on, parameters_on, path_rest_on, path_on, star_on, dependency_arguments_on, dependency_parts_on, dependency_on, dependencies_on, subsequents_on, at_on, header_rest_on, header_on}
 use Rattle.justfile_round_trip.proofs.GoodHeaders.{GoodDefault, GoodParameters, AreNames, IsPath, GoodDependencyArguments, GoodDependencies, LexesHeader, GoodHeader}
 use Rattle.justfile_round_trip.proofs.Inline.{IsName}
@@ -22,7 +21,7 @@ use Rattle.justfile_round_trip.proofs.WrittenValues.{fact_as, on, one_at, past, 
 -- ---- UTF-8
 
 -- a text before others that are UTF-8 is UTF-8
-abbrev Keeps : (List ℕ → List ℕ) → Type 0
+abbrev pub Keeps : (List ℕ → List ℕ) → Type 0
 Keeps f = (more : List ℕ) → IsUtf8 more → IsUtf8 (f more)
 
 prefix_utf8 : (k : ParameterKind) → Keeps (prefix_on k)
@@ -54,10 +53,10 @@ subsequents_utf8 (d ∷ ds) k more u = plain (32 ∷ 38 ∷ 38 ∷ []) _ refl (k
 -- ---- along a derivation
 
 -- what was found of a part of a header: its lexemes are good, its text is UTF-8, and nothing stays open
-record Found (s : Around) (Good : Type 0) (text : List ℕ → List ℕ) (rest : Tokens) : Type 0 where
-  good : Good
-  utf8 : Keeps text
-  following : Sound s false rest
+pub record Found (s : Around) (Good : Type 0) (text : List ℕ → List ℕ) (rest : Tokens) : Type 0 where
+  pub good : Good
+  pub utf8 : Keeps text
+  pub following : Sound s false rest
 
 module _ (limit : ℕ) where
   named_at : {kind : ParameterKind} {export : Bool} {p : ShapeParameter} {fs : Shown} {ts rest : Tokens}
@@ -121,7 +120,7 @@ module _ (limit : ℕ) where
         following = x.following;
       }
 
-  path_at : {names : List (List ℕ)} {ts rest : Tokens} → PathOf lexeme names ts rest → (s : Around) → Sound s false ts → Found s (IsPath names) (path_on names) rest
+  pub path_at : {names : List (List ℕ)} {ts rest : Tokens} → PathOf lexeme names ts rest → (s : Around) → Sound s false ts → Found s (IsPath names) (path_on names) rest
   path_at (g.path {name = t} {tokens = ts} kind r) s h =
       let x = path_rest_at r s (on s false t ts kinds.Identifier kind (λ l. refl) refl h) in
       record { good = (fact_as t kinds.Identifier kind h.0, x.good); utf8 = λ more u. IsUtf8-append t.tok.lexeme _ h.0.utf8 (x.utf8 more u); following = x.following }

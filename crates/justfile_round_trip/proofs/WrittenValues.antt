@@ -19,9 +19,10 @@ use Rattle.justfile_model.specs.Printing.{is_conditional}
 use Rattle.justfile_round_trip.proofs.Canon as canon
 use Rattle.justfile_round_trip.proofs.Canon.{Shown, Values, Pieces, operator_codes, expr_on, exprs_on, others_on, parts_on}
 use Rattle.justfile_round_trip.proofs.Good.{GoodValue, GoodValues, GoodParts, GoodExpression, significant, ends_value}
+use Rattle.justfile_round_trip.proofs.GoodContents.{GoodSequence}
 use Rattle.justfile_round_trip.proofs.Sound.{Around, around, Known, LexemeFact, is_comment, Sound}
 use Rattle.justfile_round_trip.proofs.Ends.{End, tail, EndsIn}
-use Rattle.justfile_round_trip.proofs.Back.{StopE, here_too, stop_before, ends_before, expression_back, lower}
+use Rattle.justfile_round_trip.proofs.Back.{StopE, here_too, stop_before, ends_before, expression_back, sequence_back, lower}
 
 -- ---- UTF-8 of fixed texts
 
@@ -85,10 +86,10 @@ pub record ValueAt (s : Around) (e : canon.Value) (rest : Tokens) : Type 0 where
   pub utf8 : (more : List ℕ) → IsUtf8 more → IsUtf8 (expr_on e more)
   pub following : Sound s false rest
 
-record ValuesAt (s : Around) (es : Values) (rest : Tokens) : Type 0 where
-  lexes : GoodValues es
-  utf8 : (more : List ℕ) → IsUtf8 more → IsUtf8 (exprs_on es more)
-  following : Sound s false rest
+pub record ValuesAt (s : Around) (es : Values) (rest : Tokens) : Type 0 where
+  pub lexes : GoodValues es
+  pub utf8 : (more : List ℕ) → IsUtf8 more → IsUtf8 (exprs_on es more)
+  pub following : Sound s false rest
 
 record PartsAt (s : Around) (k : StringKind) (ps : Pieces) (rest : Tokens) : Type 0 where
   lexes : GoodParts k ps
@@ -221,7 +222,7 @@ module _ (Open : ℕ → Option SignificantToken → Type 0) where
         record { lexes = y.lexes; utf8 = λ more u. plain (codes "[") _ refl (y.utf8 _ (plain (codes "]") _ refl u)); following = y.following }
 
     -- up to the closing delimiter, which closes what is inside
-    sequence_at : {closing : TokenKind} {d : ℕ} {es : Values} {fs : Shown} {ts rest : Tokens} → Sequence lexeme nothing Open closing d es fs ts rest → (s inside : Around) → ((l : List ℕ) → around closing l inside ≡ s) → is_comment closing ≡ false
+    pub sequence_at : {closing : TokenKind} {d : ℕ} {es : Values} {fs : Shown} {ts rest : Tokens} → Sequence lexeme nothing Open closing d es fs ts rest → (s inside : Around) → ((l : List ℕ) → around closing l inside ≡ s) → is_comment closing ≡ false
         → (c : Bool) → Sound inside c ts → ValuesAt s es rest
     sequence_at {closing} (g.none {closer = t} {rest = rest} kind) s inside shut no_comment c h =
         record { lexes = tt; utf8 = λ more u. u; following = subst (λ b. Sound s b rest) no_comment (subst (λ x. Sound x (is_comment closing) rest) (shut t.tok.lexeme) (past inside t rest closing kind h.2)) }
@@ -257,5 +258,13 @@ good_expression limit {e = e} {fs} x v = record {
   lexes = v.lexes;
   features = fs;
   derives = record { derives = λ glued on stop. let q = stops (tail e) (significant true on) stop in expression_back (Under limit) (Under limit) (lower limit) x 0 (omega arith) glued on q.0 q.1 };
+  utf8 = v.utf8;
+}
+
+pub good_sequence : (limit : ℕ) {s : Around} {es : Values} {fs : Shown} {ts rest : Tokens} → Sequence lexeme nothing (Under limit) kinds.BracketR 0 es fs ts rest → ValuesAt s es rest → GoodSequence limit es
+good_sequence limit {fs = fs} xs v = record {
+  lexes = v.lexes;
+  features = fs;
+  derives = record { derives = λ glued on. sequence_back (Under limit) (Under limit) (lower limit) false xs refl 0 (omega arith) glued on };
   utf8 = v.utf8;
 }

@@ -61,9 +61,15 @@ pub(crate) fn put_attributes(shown: &mut Text, attributes: &AttributeSet<'_>) {
 /// The attributes of an item, if it is one that may have some.
 fn attributes_of<'ast, 'src>(item: &'ast Item<'src>) -> Option<&'ast AttributeSet<'src>> {
     match item {
+        Item::Alias(alias) => Some(&alias.attributes),
         Item::Assignment(assignment) => Some(&assignment.attributes),
         Item::Comment(_) | Item::Newline => None,
+        Item::Function(function) => Some(&function.attributes),
+        Item::Import { attributes, .. } => Some(attributes),
+        Item::Module { attributes, .. } => Some(attributes),
         Item::Recipe(recipe) => Some(&recipe.attributes),
+        Item::Setting(set) => Some(&set.attributes),
+        Item::Unexport { attributes, .. } => Some(attributes),
     }
 }
 

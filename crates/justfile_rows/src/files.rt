@@ -6,11 +6,12 @@ use crate::expansion::Expansion;
 use crate::fields::indentation_of;
 use crate::headers::docs;
 use crate::items::{
-    FILE_DEPTH, IMPORT_OFFSETS, WORKING_DIRECTORY, enabled, features, file, unstable,
+    FILE_DEPTH, IMPORT_OFFSETS, WORKING_DIRECTORY, enabled, features, file, indented, unstable,
 };
 use crate::printing::{copies, prints, prints_item};
 use crate::recipes::push_of_recipe;
 use crate::refusal::push_fault;
+use crate::settings::settings;
 use crate::values::push_of_value;
 use crate::word::Word;
 use justfile_syntax::ast::Ast;
@@ -65,6 +66,7 @@ fn push_file(ast: &mut Ast<'_>, answer: &mut Answer, word: Word, fields: &[Strin
         Word::Docs => docs(&ast.items, answer),
         Word::Enabled => enabled(&ast.items, answer),
         Word::Features => features(answer, &ast.list_features),
+        Word::Indented => indented(ast, answer),
         Word::Items | Word::Numbers => file(ast, answer),
         Word::Arguments
         | Word::Defaults
@@ -74,6 +76,7 @@ fn push_file(ast: &mut Ast<'_>, answer: &mut Answer, word: Word, fields: &[Strin
         | Word::Recipe
         | Word::Sigils => push_of_recipe(&ast.items, answer, word, fields),
         Word::Expands | Word::Literal | Word::Value => push_of_value(&ast.items, answer, word),
+        Word::Settings => settings(&ast.items, answer),
         Word::Unstable => unstable(answer, &ast.unstable_features),
         _ => push_printed(ast, answer, word, indentation_for(word, fields)),
     }

@@ -1,6 +1,6 @@
 //! What is seen of the doc, the parameters and the dependencies of a recipe.
 
-use crate::items::{put_expression, put_marked, put_name};
+use crate::items::{put_expression, put_if, put_marked, put_name};
 use crate::values::push_parts;
 use justfile_syntax::expression::Expression;
 use justfile_syntax::item::Item;
@@ -9,13 +9,7 @@ use justfile_syntax::recipe::UnresolvedRecipe;
 use justfile_syntax::unresolved_dependency::{DependencyArgument, UnresolvedDependency};
 use row_notation::{Answer, Text};
 
-fn put_if(shown: &mut Text, word: &str, is_so: bool) {
-    if is_so {
-        shown.put(word);
-    }
-}
-
-/// The doc of a recipe in ‹›, if it has one.
+/// The doc of a recipe or a module in ‹›, if it has one.
 pub(crate) fn put_doc(shown: &mut Text, doc: &Option<String>) {
     if let Some(text) = doc {
         put_marked(shown, "doc ", text.as_str());
@@ -47,11 +41,13 @@ pub(crate) fn put_dependencies(
     }
 }
 
-/// The doc of each recipe of a file's items in ‹›, or `none`.
+/// The doc of each recipe and each module of a file's items in ‹›, or `none`.
 pub(crate) fn docs(items: &[Item<'_>], answer: &mut Answer) {
     for item in items {
-        if let Item::Recipe(recipe) = item {
-            push_doc(answer, &recipe.doc);
+        match item {
+            Item::Module { doc, .. } => push_doc(answer, doc),
+            Item::Recipe(recipe) => push_doc(answer, &recipe.doc),
+            _ => {}
         }
     }
 }

@@ -2,15 +2,21 @@
 
 use crate::attributes::put_attributes;
 use crate::headers::{put_dependencies, put_doc, put_parameters};
+use crate::settings::put_set;
+use justfile_syntax::alias::Alias;
 use justfile_syntax::assignment::Assignment;
 use justfile_syntax::ast::Ast;
+use justfile_syntax::attribute_set::AttributeSet;
 use justfile_syntax::expression::Expression;
 use justfile_syntax::fragment::Fragment;
+use justfile_syntax::function_definition::FunctionDefinition;
 use justfile_syntax::item::Item;
 use justfile_syntax::line::Line;
 use justfile_syntax::list_feature::ListFeature;
 use justfile_syntax::name::Name;
+use justfile_syntax::namepath::Namepath;
 use justfile_syntax::recipe::UnresolvedRecipe;
+use justfile_syntax::string_literal::StringLiteral;
 use justfile_syntax::token::Token;
 use justfile_syntax::unstable_feature::UnstableFeature;
 use row_notation::{Answer, Text};
@@ -22,6 +28,13 @@ pub(crate) const FILE_DEPTH: u32 = 2;
 pub(crate) const IMPORT_OFFSETS: &[usize] = &[3, 14];
 
 pub(crate) const WORKING_DIRECTORY: &str = "/home";
+
+/// A word, if it is so.
+pub(crate) fn put_if(shown: &mut Text, word: &str, is_so: bool) {
+    if is_so {
+        shown.put(word);
+    }
+}
 
 /// A word, and a text in ‹›.
 pub(crate) fn put_marked(shown: &mut Text, word: &str, text: &str) {
@@ -81,13 +94,17 @@ fn put_recipe(shown: &mut Text, recipe: &UnresolvedRecipe<'_>) {
     }
 }
 
-/// The value of an assignment, after a word for its form.
-fn put_value(shown: &mut Text, value: &Expression<'_>) {
+/// A literal: whether it is marked to be expanded, and what it stands for.
+pub(crate) fn put_literal(shown: &mut Text, literal: &StringLiteral<'_>) {
+    let word = if literal.expand { "marked " } else { "text " };
+    put_marked(shown, word, literal.cooked.as_str());
+}
+
+/// A value, after a word for its form.
+pub(crate) fn put_value(shown: &mut Text, value: &Expression<'_>) {
     match value {
         Expression::Backtick { contents, .. } => put_marked(shown, "command ", contents.as_str()),
-        Expression::StringLiteral { string_literal } => {
-            put_marked(shown, "text ", string_literal.cooked.as_str());
-        }
+        Expression::StringLiteral { string_literal } => put_literal(shown, string_literal),
         Expression::Variable { name, .. } => {
             shown.put("name ");
             put_name(shown, *name);
@@ -99,10 +116,12 @@ fn put_value(shown: &mut Text, value: &Expression<'_>) {
     }
 }
 
-/// An assignment: its attributes, its name, its number, its depth, whether it is private, and its
-/// value.
+/// An assignment: its attributes, its marks, its name, its number, its depth, whether it is private,
+/// and its value.
 fn put_assignment(shown: &mut Text, assignment: &Assignment<'_>) {
     put_attributes(shown, &assignment.attributes);
+    put_if(shown, "eager ", assignment.eager);
+    put_if(shown, "export ", assignment.export);
     put_name(shown, assignment.name);
     shown.put(" ");
     shown.put_number(assignment.number.0 as usize);
@@ -116,15 +135,88 @@ fn put_assignment(shown: &mut Text, assignment: &Assignment<'_>) {
     put_value(shown, &assignment.value);
 }
 
+/// An alias: its attributes, its name, and the names of its target's path.
+fn put_alias(shown: &mut Text, alias: &Alias<'_, Namepath<'_>>) {
+    put_attributes(shown, &alias.attributes);
+    shown.put("alias ");
+    put_name(shown, alias.name);
+    for name in alias.target.iter() {
+        shown.put(" ");
+        put_name(shown, *name);
+    }
+}
+
+/// A function: its attributes, its name, its parameters, each with its number, and its value.
+fn put_function(shown: &mut Text, function: &FunctionDefinition<'_>) {
+    put_attributes(shown, &function.attributes);
+    shown.put("function ");
+    put_name(shown, function.name);
+    for (name, number) in &function.parameters {
+        shown.put(" ");
+        put_name(shown, *name);
+        shown.put("@");
+        shown.put_number(number.0 as usize);
+    }
+    shown.put(" ");
+    put_value(shown, &function.body);
+}
+
+/// What begins an import or a module: its attributes, and its word with `?` if the file may be missing.
+fn put_word(shown: &mut Text, attributes: &AttributeSet<'_>, word: &str, optional: bool) {
+    put_attributes(shown, attributes);
+    shown.put(word);
+    put_if(shown, "?", optional);
+    shown.put(" ");
+}
+
+/// The path of a module after a blank, if it has one.
+fn put_path(shown: &mut Text, path: &Option<StringLiteral<'_>>) {
+    if let Some(literal) = path {
+        shown.put(" ");
+        put_literal(shown, literal);
+    }
+}
+
 /// What is seen of an item.
+fn put_item(shown: &mut Text, item: &Item<'_>) {
+    match item {
+        Item::Alias(alias) => put_alias(shown, alias),
+        Item::Assignment(assignment) => put_assignment(shown, assignment),
+        Item::Comment(text) => put_marked(shown, "comment ", text),
+        Item::Function(function) => put_function(shown, function),
+        Item::Import {
+            attributes,
+            optional,
+            relative,
+        } => {
+            put_word(shown, attributes, "import", *optional);
+            put_literal(shown, relative);
+        }
+        Item::Module {
+            attributes,
+            doc,
+            name,
+            optional,
+            relative,
+        } => {
+            put_doc(shown, doc);
+            put_word(shown, attributes, "mod", *optional);
+            put_name(shown, *name);
+            put_path(shown, relative);
+        }
+        Item::Newline => shown.put("newline"),
+        Item::Recipe(recipe) => put_recipe(shown, recipe),
+        Item::Setting(set) => put_set(shown, set),
+        Item::Unexport { attributes, name } => {
+            put_word(shown, attributes, "unexport", false);
+            put_name(shown, *name);
+        }
+    }
+}
+
 fn push_item(answer: &mut Answer, item: &Item<'_>) {
     let mut shown = Text::new(answer.alloc());
-    match item {
-        Item::Assignment(assignment) => put_assignment(&mut shown, assignment),
-        Item::Comment(text) => put_marked(&mut shown, "comment ", text),
-        Item::Newline => shown.put("newline"),
-        Item::Recipe(recipe) => put_recipe(&mut shown, recipe),
-    }
+    put_item(&mut shown, item);
     answer.push_text(shown);
 }
 
@@ -135,8 +227,8 @@ fn push_items(items: &[Item<'_>], answer: &mut Answer) {
     }
 }
 
-/// What is seen of a file: a field for each item, and for each thing besides that is not as it was
-/// handed in.
+/// What is seen of a file: a field for each item, whether the working directory is another one than
+/// was handed in, whether a feature is unstable, and whether the file says how it is indented.
 pub(crate) fn file(ast: &Ast<'_>, answer: &mut Answer) {
     push_items(&ast.items, answer);
     answer.push_if(
@@ -171,21 +263,34 @@ pub(crate) fn unstable(answer: &mut Answer, features: &BTreeSet<UnstableFeature>
     }
 }
 
-/// The names of the assignments and recipes that are there on this system.
+/// The indentation that a file says, or `none`.
+pub(crate) fn indented(ast: &Ast<'_>, answer: &mut Answer) {
+    match ast.indentation() {
+        Some(indentation) => answer.push_made(indentation.to_string(answer.alloc())),
+        None => answer.push("none"),
+    }
+}
+
+/// What items are called that are there on this system.
 pub(crate) fn enabled(items: &[Item<'_>], answer: &mut Answer) {
     for item in items {
         push_enabled(answer, item);
     }
 }
 
-/// The name of an item that is there, if it has one. An item without a name that isn't there is
-/// `missing`.
+/// What an item is called that is there; an import by its path. An item that has no name and isn't
+/// there is `missing`.
 fn push_enabled(answer: &mut Answer, item: &Item<'_>) {
+    let is_there = item.is_enabled();
     match item {
-        Item::Assignment(assignment) => {
-            answer.push_if(assignment.name.lexeme(), item.is_enabled());
-        }
-        Item::Comment(_) | Item::Newline => answer.push_if("missing", !item.is_enabled()),
-        Item::Recipe(recipe) => answer.push_if(recipe.name.lexeme(), item.is_enabled()),
+        Item::Alias(alias) => answer.push_if(alias.name.lexeme(), is_there),
+        Item::Assignment(assignment) => answer.push_if(assignment.name.lexeme(), is_there),
+        Item::Comment(_) | Item::Newline => answer.push_if("missing", !is_there),
+        Item::Function(function) => answer.push_if(function.name.lexeme(), is_there),
+        Item::Import { relative, .. } => answer.push_if(relative.token.lexeme(), is_there),
+        Item::Module { name, .. } => answer.push_if(name.lexeme(), is_there),
+        Item::Recipe(recipe) => answer.push_if(recipe.name.lexeme(), is_there),
+        Item::Setting(set) => answer.push_if(set.name.lexeme(), is_there),
+        Item::Unexport { name, .. } => answer.push_if(name.lexeme(), is_there),
     }
 }

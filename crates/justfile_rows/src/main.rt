@@ -22,6 +22,7 @@ mod printing;
 mod program;
 mod recipes;
 mod refusal;
+mod settings;
 mod stream;
 mod texts;
 mod values;

@@ -48,7 +48,7 @@ fn prints_once(ast: &mut Ast<'_>, answer: &mut Answer, indentation: Indentation)
 }
 
 /// Whether the first of a file's items has a body, and what it is printed as alone at an indentation.
-/// After that stands what an assignment is written as.
+/// After that stands what an alias, an assignment or a setting is written as.
 pub(crate) fn prints_item(items: &[Item<'_>], answer: &mut Answer, indentation: Indentation) {
     match items.first() {
         Some(item) => push_item(item, answer, indentation),
@@ -59,7 +59,10 @@ pub(crate) fn prints_item(items: &[Item<'_>], answer: &mut Answer, indentation: 
 fn push_item(item: &Item<'_>, answer: &mut Answer, indentation: Indentation) {
     answer.push(if item.has_body() { "body" } else { "bodiless" });
     answer.push_made(item.print(answer.alloc(), indentation));
-    if let Item::Assignment(assignment) = item {
-        answer.push_made(assignment.to_string(answer.alloc()));
+    match item {
+        Item::Alias(alias) => answer.push_made(alias.to_string(answer.alloc())),
+        Item::Assignment(assignment) => answer.push_made(assignment.to_string(answer.alloc())),
+        Item::Setting(set) => answer.push_made(set.to_string(answer.alloc())),
+        _ => {}
     }
 }

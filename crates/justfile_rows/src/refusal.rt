@@ -50,8 +50,22 @@ fn kind_with_key(alloc: Global, kind: &CompileErrorKind<'_>) -> Result<String, A
     }
 }
 
-/// The name of a kind with what it holds: a name or a literal with its offset, and of an unexpected
-/// token not what was expected.
+/// A kind of error that settings and paths of files bring.
+fn kind_of_setting(alloc: Global, kind: &CompileErrorKind<'_>) -> Result<String, AllocError> {
+    match kind {
+        CompileErrorKind::ExpectedKeyword { expected, found } => {
+            let (lexeme, at) = (found.lexeme(), found.offset);
+            format!(in alloc; "ExpectedKeyword {{ expected: {expected:?}, found: {lexeme}@{at} }}")
+        }
+        CompileErrorKind::MinimumVersion { current, minimum } => {
+            format!(in alloc; "MinimumVersion {{ current: {current}, minimum: {minimum} }}")
+        }
+        kind => kind_with_key(alloc, kind),
+    }
+}
+
+/// The name of a kind with what it holds: a name, a literal or a token with its offset, a version as it
+/// is written, and of an unexpected token not what was expected.
 pub(crate) fn kind_of(alloc: Global, kind: &CompileErrorKind<'_>) -> Result<String, AllocError> {
     match kind {
         CompileErrorKind::AttributeArgumentCountMismatch {
@@ -82,7 +96,7 @@ pub(crate) fn kind_of(alloc: Global, kind: &CompileErrorKind<'_>) -> Result<Stri
         CompileErrorKind::UnexpectedToken { found, .. } => {
             format!(in alloc; "UnexpectedToken {found:?}")
         }
-        kind => kind_with_key(alloc, kind),
+        kind => kind_of_setting(alloc, kind),
     }
 }
 

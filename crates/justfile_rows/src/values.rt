@@ -1,6 +1,7 @@
-//! What the value of the first assignment of a file is made of.
+//! What the first value of a file is made of.
 
 use crate::lexing::push_string_kind;
+use crate::settings::value_of;
 use crate::word::Word;
 use justfile_syntax::conditional_operator::ConditionalOperator;
 use justfile_syntax::expression::Expression;
@@ -11,40 +12,79 @@ use justfile_syntax::token::Token;
 use justfile_tree::child;
 use row_notation::{Answer, Text};
 
-/// The value of the first assignment of a file's items.
+/// The value of an item: of an assignment, of a function, or of a setting; of an interpreter its
+/// command.
+fn value_in<'ast, 'src>(item: &'ast Item<'src>) -> Option<&'ast Expression<'src>> {
+    match item {
+        Item::Assignment(assignment) => Some(&assignment.value),
+        Item::Function(function) => Some(&function.body),
+        Item::Setting(set) => value_of(&set.value),
+        _ => None,
+    }
+}
+
+/// The first value of a file's items.
 fn first_value<'ast, 'src>(items: &'ast [Item<'src>]) -> Option<&'ast Expression<'src>> {
     for item in items {
-        if let Item::Assignment(assignment) = item {
-            return Some(&assignment.value);
+        if let Some(value) = value_in(item) {
+            return Some(value);
         }
     }
     None
 }
 
-/// What a row's word asks of the first value of a file's items.
+/// The path of an import or a module.
+fn path_in<'ast, 'src>(item: &'ast Item<'src>) -> Option<&'ast StringLiteral<'src>> {
+    match item {
+        Item::Import { relative, .. } => Some(relative),
+        Item::Module { relative, .. } => relative.as_ref(),
+        _ => None,
+    }
+}
+
+/// The first path of a file's items.
+fn first_path<'ast, 'src>(items: &'ast [Item<'src>]) -> Option<&'ast StringLiteral<'src>> {
+    for item in items {
+        if let Some(path) = path_in(item) {
+            return Some(path);
+        }
+    }
+    None
+}
+
+/// What a row's word asks of the first value of a file's items, or of the first path if there is no
+/// value.
 pub(crate) fn push_of_value(items: &[Item<'_>], answer: &mut Answer, word: Word) {
     match first_value(items) {
         Some(value) if word == Word::Literal => push_place(answer, value),
         Some(value) => push_parts(answer, value),
+        None => push_of_path(items, answer, word),
+    }
+}
+
+fn push_of_path(items: &[Item<'_>], answer: &mut Answer, word: Word) {
+    match first_path(items) {
+        Some(path) if word == Word::Literal => push_literal_place(answer, path),
+        Some(path) => push_literal(answer, path),
         None => answer.push("none"),
     }
 }
 
-/// What a value is as a literal: its kind, whether it is marked to be expanded, its lexeme and its
-/// offset.
+/// What a value is as a literal.
 fn push_place(answer: &mut Answer, value: &Expression<'_>) {
-    let Expression::StringLiteral { string_literal } = value else {
-        return answer.push("none");
-    };
-    push_string_kind(answer, string_literal.kind);
-    answer.push(if string_literal.expand {
-        "marked"
-    } else {
-        "unmarked"
-    });
-    answer.push(string_literal.token.lexeme());
-    answer.push_number(string_literal.token.offset);
-    answer.push_if("part", string_literal.part.is_some());
+    match value {
+        Expression::StringLiteral { string_literal } => push_literal_place(answer, string_literal),
+        _ => answer.push("none"),
+    }
+}
+
+/// The kind of a literal, whether it is marked to be expanded, its lexeme and its offset.
+fn push_literal_place(answer: &mut Answer, literal: &StringLiteral<'_>) {
+    push_string_kind(answer, literal.kind);
+    answer.push(if literal.expand { "marked" } else { "unmarked" });
+    answer.push(literal.token.lexeme());
+    answer.push_number(literal.token.offset);
+    answer.push_if("part", literal.part.is_some());
 }
 
 /// What an expression is made of: its outermost form, with the token that is kept of it, and after

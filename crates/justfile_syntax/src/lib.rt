@@ -1,6 +1,10 @@
 //! The syntax of justfiles, each part under the module that it belongs to.
 #![tactic(auto)]
 
+pub mod alias {
+    pub use justfile_file::Alias;
+}
+
 pub mod assignment {
     pub use justfile_file::Assignment;
 }
@@ -56,6 +60,10 @@ pub mod fault {
 
 pub mod fragment {
     pub use justfile_file::Fragment;
+}
+
+pub mod function_definition {
+    pub use justfile_file::FunctionDefinition;
 }
 
 pub mod indentation {
@@ -147,6 +155,14 @@ pub mod parser {
 
 pub mod recipe {
     pub use justfile_file::UnresolvedRecipe;
+}
+
+pub mod set {
+    pub use justfile_file::Set;
+}
+
+pub mod setting {
+    pub use justfile_setting::Setting;
 }
 
 pub mod sigil {

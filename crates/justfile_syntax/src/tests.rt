@@ -4,6 +4,7 @@
 mod attributes;
 mod format_parts;
 mod headers;
+mod items;
 mod names;
 mod order;
 mod small;

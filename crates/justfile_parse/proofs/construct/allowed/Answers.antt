@@ -6,5 +6,5 @@ use Rattle.justfile_parse.proofs.construct.allowed.Goals as goal
 
 pub returns-clause-reads : goal.returns-clause-reads
 returns-clause-reads c =
-    λ s. is_disallowed (map entry_of_pair c.args.attributes.items) c.args.name s (leaf_entries_of c.in_ok-set.set) c.in_ok-set.ensures.entries c.in-Err.error c.make_halt.result
+    λ s. is_disallowed c.args.item (map entry_of_pair c.args.attributes.items) c.args.name s (leaf_entries_of c.in_ok-set.set) c.in_ok-set.ensures.entries c.in-Err.error c.make_halt.result
     c.in-Err.ensures.invalid c.make_halt.ensures

@@ -1,4 +1,7 @@
-use Rattle.std.proofs.Common.{arith}
+use Rattle.std.proofs.Common.{ℕ, ◌∙◌, List, ap, arith}
+use Rattle.justfile_model.specs.Docs.{item_with_doc}
+use Rattle.justfile_model.specs.Files.{says_doc}
+use Rattle.justfile_parse.specs.Tree.{item_tree}
 use Rattle.justfile_parse.proofs.DocSteps.{cut_whole, doc_added}
 use Rattle.justfile_parse.proofs.docs.push_with_doc.Goals as goal
 
@@ -7,5 +10,6 @@ push_item-requires-clause-items c = cut_whole c.args.items.now.items _ _ c.trunc
 
 pub returns-clause-trees : goal.returns-clause-trees
 returns-clause-trees c =
-    doc_added c.push_item.result c.args.items.now.items c.truncate.new.self.items c.push_item.new.items.items _ c.args.recipe c.in_ok-to_string.field-0 c.args.doc.now c.requires.wanted c.in_ok-to_string.ensures.ok (omega (arith, c.len.ensures, c.args.items.now.ok.0)) c.truncate.ensures.items
-    c.push_item.ensures.trees
+    doc_added c.push_item.result c.args.items.now.items c.truncate.new.self.items c.push_item.new.items.items _ (item_tree c.args.item) (item_tree c.set_doc.new.item) _
+    (c.set_doc.ensures.tree ∙ ap (λ (text : List ℕ). item_with_doc says_doc text (item_tree c.args.item)) c.in_ok-to_string.ensures.ok)
+    (omega (arith, c.len.ensures, c.args.items.now.ok.0)) c.truncate.ensures.items c.push_item.ensures.trees

@@ -1,0 +1,48 @@
+-- Settings by their keywords.
+use Rattle.std.specs.Prelude.{Option, Some, None}
+use Rattle.justfile_base.specs.declared.keyword.Keyword.{Keyword}
+use Rattle.justfile_base.specs.declared.keyword.Keyword.TheVariants.{AllowDuplicateRecipes, AllowDuplicateVariables, DefaultList, DefaultScript, DotenvCommand, DotenvFilename, DotenvLoad, DotenvOverride, DotenvPath, DotenvRequired, Export, Fallback, Guards, IgnoreComments, Indentation, Lazy, Lists, MinimumVersion, NoCd, NoExitMessage, PositionalArguments, Quiet, ScriptInterpreter, Shell, Tempdir, Unstable, WindowsPowershell, WindowsShell, WorkingDirectory}
+
+-- what follows the name of a setting
+pub data SettingForm : Type 0 where
+  -- nothing, or `:=` and `true` or `false`
+  TruthForm : SettingForm
+  -- `:=` and an expression
+  ExpressionForm : SettingForm
+  -- `:=` and expressions in brackets, one at least
+  InterpreterForm : SettingForm
+  -- `:=` and an expression that has to be a plain literal
+  PlainForm : SettingForm
+
+-- the form of the setting that a keyword is, if it is one
+abbrev pub setting_form : Keyword → Option SettingForm
+setting_form AllowDuplicateRecipes = Some TruthForm
+setting_form AllowDuplicateVariables = Some TruthForm
+setting_form DefaultList = Some TruthForm
+setting_form DefaultScript = Some TruthForm
+setting_form DotenvCommand = Some ExpressionForm
+setting_form DotenvFilename = Some ExpressionForm
+setting_form DotenvLoad = Some TruthForm
+setting_form DotenvOverride = Some TruthForm
+setting_form DotenvPath = Some ExpressionForm
+setting_form DotenvRequired = Some TruthForm
+setting_form Export = Some TruthForm
+setting_form Fallback = Some TruthForm
+setting_form Guards = Some TruthForm
+setting_form IgnoreComments = Some TruthForm
+setting_form Indentation = Some PlainForm
+setting_form Lazy = Some TruthForm
+setting_form Lists = Some TruthForm
+setting_form MinimumVersion = Some PlainForm
+setting_form NoCd = Some TruthForm
+setting_form NoExitMessage = Some TruthForm
+setting_form PositionalArguments = Some TruthForm
+setting_form Quiet = Some TruthForm
+setting_form ScriptInterpreter = Some InterpreterForm
+setting_form Shell = Some InterpreterForm
+setting_form Tempdir = Some ExpressionForm
+setting_form Unstable = Some TruthForm
+setting_form WindowsPowershell = Some TruthForm
+setting_form WindowsShell = Some InterpreterForm
+setting_form WorkingDirectory = Some ExpressionForm
+setting_form _ = None

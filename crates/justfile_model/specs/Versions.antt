@@ -1,0 +1,40 @@
+-- Versions that a file asks for.
+use Rattle.std.specs.Prelude.{ℕ, ◌^◌, Bool, true, false, ◌&&◌, ◌||◌, not, ◌==◌, nat_lt, nat_eq, List, [], ◌∷◌, length, Option, Some, None, if◌then◌else◌}
+use Rattle.std.specs.List.{list_all}
+use Rattle.std.specs.Str.Parse.{digits_value}
+use Rattle.justfile_base.specs.declared.version.Version.{Version}
+use Rattle.justfile_model.specs.Conditions.{VersionNumbers}
+
+abbrev pub version_numbers : Version → VersionNumbers
+version_numbers v = record { major = v.major; minor = v.minor; patch = v.patch }
+
+-- a byte before what stands between dots
+abbrev pub byte_before : ℕ → List (List ℕ) → List (List ℕ)
+byte_before b [] = (b ∷ []) ∷ []
+byte_before b (part ∷ parts) = if b == 46 then [] ∷ part ∷ parts else (b ∷ part) ∷ parts
+
+-- what stands between the dots of a text
+abbrev pub between_dots : List ℕ → List (List ℕ)
+between_dots [] = [] ∷ []
+between_dots (b ∷ bs) = byte_before b (between_dots bs)
+
+-- one decimal digit or more, of a number below 2^64; the first digits may be 0
+abbrev pub is_number : List ℕ → Bool
+is_number digits = not (length digits == 0) && list_all (λ c. not (nat_lt c 48) && nat_lt c 58) digits && nat_lt (digits_value 10 digits) (2 ^ 64)
+
+abbrev pub version_in : List (List ℕ) → Option VersionNumbers
+version_in (major ∷ minor ∷ patch ∷ []) =
+    if is_number major && is_number minor && is_number patch
+    then Some (record { major = digits_value 10 major; minor = digits_value 10 minor; patch = digits_value 10 patch })
+    else None
+version_in parts = None
+
+-- the version that a text is: three numbers with a dot between each two
+abbrev pub version_of : List ℕ → Option VersionNumbers
+version_of text = version_in (between_dots text)
+
+-- the first version is later, by the first of their numbers that differ
+abbrev pub is_above : VersionNumbers → VersionNumbers → Bool
+is_above v w =
+    nat_lt w.major v.major
+    || nat_eq w.major v.major && (nat_lt w.minor v.minor || nat_eq w.minor v.minor && nat_lt w.patch v.patch)

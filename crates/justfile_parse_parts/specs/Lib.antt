@@ -1,0 +1,2 @@
+pub mod PartTable
+pub mod Parts

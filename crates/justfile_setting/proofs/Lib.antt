@@ -1,0 +1,4 @@
+pub mod KeywordNames
+mod Loops
+pub mod SettingText
+pub mod VersionTexts

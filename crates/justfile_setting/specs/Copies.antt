@@ -1,0 +1,51 @@
+-- Copies of settings.
+use Rattle.std.specs.Prelude.{◌≡◌}
+use Rattle.std.specs.Global.{Box}
+use Rattle.justfile_attribute.specs.Interpreters.{IsSameCommand}
+use Rattle.justfile_attribute.specs.declared.interpreter.Interpreter.{Interpreter}
+use Rattle.justfile_base.specs.StringLiteral.{IsSameLiteral}
+use Rattle.justfile_tree.specs.Copies.{IsSameExpression}
+use Rattle.justfile_tree.specs.declared.expression.Expression.{Expression}
+use Rattle.justfile_setting.specs.declared.setting.Setting.{Setting}
+use Rattle.justfile_setting.specs.declared.setting.Setting.TheVariants as settings
+
+-- an expression, wherever its box lies
+abbrev pub IsSameBoxed : (copy original : Box Expression) → Type 0
+IsSameBoxed copy original = IsSameExpression copy.value original.value
+
+-- an interpreter, wherever its box lies
+abbrev pub IsSameBoxedCommand : (copy original : Box (Interpreter Expression)) → Type 0
+IsSameBoxedCommand copy original = IsSameCommand copy.value original.value
+
+-- the copy of a setting is of its case and has its fields
+abbrev pub IsSameSetting : (copy original : Setting) → Type 0
+IsSameSetting (settings.AllowDuplicateRecipes copy) (settings.AllowDuplicateRecipes original) = copy ≡ original
+IsSameSetting (settings.AllowDuplicateVariables copy) (settings.AllowDuplicateVariables original) = copy ≡ original
+IsSameSetting (settings.DefaultList copy) (settings.DefaultList original) = copy ≡ original
+IsSameSetting (settings.DefaultScript copy) (settings.DefaultScript original) = copy ≡ original
+IsSameSetting (settings.DotenvCommand copy) (settings.DotenvCommand original) = IsSameBoxed copy original
+IsSameSetting (settings.DotenvFilename copy) (settings.DotenvFilename original) = IsSameBoxed copy original
+IsSameSetting (settings.DotenvLoad copy) (settings.DotenvLoad original) = copy ≡ original
+IsSameSetting (settings.DotenvOverride copy) (settings.DotenvOverride original) = copy ≡ original
+IsSameSetting (settings.DotenvPath copy) (settings.DotenvPath original) = IsSameBoxed copy original
+IsSameSetting (settings.DotenvRequired copy) (settings.DotenvRequired original) = copy ≡ original
+IsSameSetting (settings.Export copy) (settings.Export original) = copy ≡ original
+IsSameSetting (settings.Fallback copy) (settings.Fallback original) = copy ≡ original
+IsSameSetting (settings.Guards copy) (settings.Guards original) = copy ≡ original
+IsSameSetting (settings.IgnoreComments copy) (settings.IgnoreComments original) = copy ≡ original
+IsSameSetting (settings.Indentation copy indentation) (settings.Indentation original indentation') = IsSameLiteral copy original × (indentation ≡ indentation')
+IsSameSetting (settings.Lazy copy) (settings.Lazy original) = copy ≡ original
+IsSameSetting (settings.Lists copy) (settings.Lists original) = copy ≡ original
+IsSameSetting (settings.MinimumVersion copy) (settings.MinimumVersion original) = IsSameLiteral copy original
+IsSameSetting (settings.NoCd copy) (settings.NoCd original) = copy ≡ original
+IsSameSetting (settings.NoExitMessage copy) (settings.NoExitMessage original) = copy ≡ original
+IsSameSetting (settings.PositionalArguments copy) (settings.PositionalArguments original) = copy ≡ original
+IsSameSetting (settings.Quiet copy) (settings.Quiet original) = copy ≡ original
+IsSameSetting (settings.ScriptInterpreter copy) (settings.ScriptInterpreter original) = IsSameBoxedCommand copy original
+IsSameSetting (settings.Shell copy) (settings.Shell original) = IsSameBoxedCommand copy original
+IsSameSetting (settings.Tempdir copy) (settings.Tempdir original) = IsSameBoxed copy original
+IsSameSetting (settings.Unstable copy) (settings.Unstable original) = copy ≡ original
+IsSameSetting (settings.WindowsPowerShell copy) (settings.WindowsPowerShell original) = copy ≡ original
+IsSameSetting (settings.WindowsShell copy) (settings.WindowsShell original) = IsSameBoxedCommand copy original
+IsSameSetting (settings.WorkingDirectory copy) (settings.WorkingDirectory original) = IsSameBoxed copy original
+IsSameSetting _ _ = ⊥

@@ -1,0 +1,10 @@
+-- The forms of settings, as the code names them.
+use Rattle.justfile_model.specs.Settings as forms
+use Rattle.justfile_setting.specs.declared.form.SettingForm.{SettingForm}
+use Rattle.justfile_setting.specs.declared.form.SettingForm.TheVariants as cases
+
+abbrev pub form_of : SettingForm → forms.SettingForm
+form_of cases.Expression = forms.ExpressionForm
+form_of cases.Interpreter = forms.InterpreterForm
+form_of cases.Plain = forms.PlainForm
+form_of cases.Truth = forms.TruthForm

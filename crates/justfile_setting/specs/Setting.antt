@@ -1,0 +1,138 @@
+-- What the definitions see of a setting.
+use Rattle.std.specs.Prelude.{◌≡◌, ℕ, Bool, true, false, List, [], ◌∷◌, ◌++◌, string_bytes}
+use Rattle.std.specs.Global.{Box}
+use Rattle.std.specs.List.{flat_map}
+use Rattle.justfile_attribute.specs.declared.interpreter.Interpreter.{Interpreter}
+use Rattle.justfile_base.specs.Indentation.{indentation_text}
+use Rattle.justfile_base.specs.declared.keyword.Keyword.{Keyword}
+use Rattle.justfile_base.specs.declared.keyword.Keyword.TheVariants as words
+use Rattle.justfile_base.specs.declared.string_literal.StringLiteral.{StringLiteral}
+use Rattle.justfile_model.specs.Tok.{Tok}
+use Rattle.justfile_model.specs.Tree as tree
+use Rattle.justfile_model.specs.Tree.{Expr, Exprs, SettingValue, lexeme, nothing, over_setting_value}
+use Rattle.justfile_tree.specs.Expression.{expr_of, exprs_of, expr_cooked, literal_tok}
+use Rattle.justfile_tree.specs.declared.expression.Expression.{Expression}
+use Rattle.justfile_setting.specs.declared.setting.Setting.{Setting}
+use Rattle.justfile_setting.specs.declared.setting.Setting.TheVariants as settings
+
+-- the keyword that the setting is named by
+abbrev pub keyword_of : Setting → Keyword
+keyword_of (settings.AllowDuplicateRecipes value) = words.AllowDuplicateRecipes
+keyword_of (settings.AllowDuplicateVariables value) = words.AllowDuplicateVariables
+keyword_of (settings.DefaultList value) = words.DefaultList
+keyword_of (settings.DefaultScript value) = words.DefaultScript
+keyword_of (settings.DotenvCommand value) = words.DotenvCommand
+keyword_of (settings.DotenvFilename value) = words.DotenvFilename
+keyword_of (settings.DotenvLoad value) = words.DotenvLoad
+keyword_of (settings.DotenvOverride value) = words.DotenvOverride
+keyword_of (settings.DotenvPath value) = words.DotenvPath
+keyword_of (settings.DotenvRequired value) = words.DotenvRequired
+keyword_of (settings.Export value) = words.Export
+keyword_of (settings.Fallback value) = words.Fallback
+keyword_of (settings.Guards value) = words.Guards
+keyword_of (settings.IgnoreComments value) = words.IgnoreComments
+keyword_of (settings.Indentation literal indentation) = words.Indentation
+keyword_of (settings.Lazy value) = words.Lazy
+keyword_of (settings.Lists value) = words.Lists
+keyword_of (settings.MinimumVersion literal) = words.MinimumVersion
+keyword_of (settings.NoCd value) = words.NoCd
+keyword_of (settings.NoExitMessage value) = words.NoExitMessage
+keyword_of (settings.PositionalArguments value) = words.PositionalArguments
+keyword_of (settings.Quiet value) = words.Quiet
+keyword_of (settings.ScriptInterpreter interpreter) = words.ScriptInterpreter
+keyword_of (settings.Shell interpreter) = words.Shell
+keyword_of (settings.Tempdir value) = words.Tempdir
+keyword_of (settings.Unstable value) = words.Unstable
+keyword_of (settings.WindowsPowerShell value) = words.WindowsPowershell
+keyword_of (settings.WindowsShell interpreter) = words.WindowsShell
+keyword_of (settings.WorkingDirectory value) = words.WorkingDirectory
+
+-- by the trees of expressions, and what is seen of a literal
+module _ {A B : Type 0} (expression : Expression → Expr A B) (expressions : List Expression → Exprs A B) (leaf : StringLiteral → A) where
+  -- an expression in a box
+  abbrev pub boxed_by : Box Expression → SettingValue A B
+  boxed_by e = tree.Value (expression e.value)
+
+  abbrev pub literal_by : StringLiteral → SettingValue A B
+  literal_by l = tree.Value (tree.StringLiteral l.expand (leaf l))
+
+  abbrev pub interpreter_by : Box (Interpreter Expression) → SettingValue A B
+  interpreter_by i = tree.Interpreter (expression i.value.command) (expressions i.value.arguments.items)
+
+  abbrev pub value_by : Setting → SettingValue A B
+  value_by (settings.AllowDuplicateRecipes value) = tree.Truth value
+  value_by (settings.AllowDuplicateVariables value) = tree.Truth value
+  value_by (settings.DefaultList value) = tree.Truth value
+  value_by (settings.DefaultScript value) = tree.Truth value
+  value_by (settings.DotenvCommand value) = boxed_by value
+  value_by (settings.DotenvFilename value) = boxed_by value
+  value_by (settings.DotenvLoad value) = tree.Truth value
+  value_by (settings.DotenvOverride value) = tree.Truth value
+  value_by (settings.DotenvPath value) = boxed_by value
+  value_by (settings.DotenvRequired value) = tree.Truth value
+  value_by (settings.Export value) = tree.Truth value
+  value_by (settings.Fallback value) = tree.Truth value
+  value_by (settings.Guards value) = tree.Truth value
+  value_by (settings.IgnoreComments value) = tree.Truth value
+  value_by (settings.Indentation literal indentation) = literal_by literal
+  value_by (settings.Lazy value) = tree.Truth value
+  value_by (settings.Lists value) = tree.Truth value
+  value_by (settings.MinimumVersion literal) = literal_by literal
+  value_by (settings.NoCd value) = tree.Truth value
+  value_by (settings.NoExitMessage value) = tree.Truth value
+  value_by (settings.PositionalArguments value) = tree.Truth value
+  value_by (settings.Quiet value) = tree.Truth value
+  value_by (settings.ScriptInterpreter interpreter) = interpreter_by interpreter
+  value_by (settings.Shell interpreter) = interpreter_by interpreter
+  value_by (settings.Tempdir value) = boxed_by value
+  value_by (settings.Unstable value) = tree.Truth value
+  value_by (settings.WindowsPowerShell value) = tree.Truth value
+  value_by (settings.WindowsShell interpreter) = interpreter_by interpreter
+  value_by (settings.WorkingDirectory value) = boxed_by value
+
+-- the tree of its value
+abbrev pub value_of : Setting → SettingValue Tok Tok
+value_of = value_by expr_of exprs_of literal_tok
+
+-- the tree of its value without places
+abbrev pub value_shape : Setting → SettingValue (List ℕ) (Unit {0})
+value_shape s = over_setting_value lexeme nothing (value_of s)
+
+-- the texts of the literals of an interpreter, in order
+abbrev pub interpreter_cooked : Box (Interpreter Expression) → List (List ℕ)
+interpreter_cooked i = expr_cooked i.value.command ++ flat_map expr_cooked i.value.arguments.items
+
+-- the texts of its literals, in order
+abbrev pub setting_cooked : Setting → List (List ℕ)
+setting_cooked (settings.DotenvCommand value) = expr_cooked value.value
+setting_cooked (settings.DotenvFilename value) = expr_cooked value.value
+setting_cooked (settings.DotenvPath value) = expr_cooked value.value
+setting_cooked (settings.Indentation literal indentation) = string_bytes literal.cooked ∷ []
+setting_cooked (settings.MinimumVersion literal) = string_bytes literal.cooked ∷ []
+setting_cooked (settings.ScriptInterpreter interpreter) = interpreter_cooked interpreter
+setting_cooked (settings.Shell interpreter) = interpreter_cooked interpreter
+setting_cooked (settings.Tempdir value) = expr_cooked value.value
+setting_cooked (settings.WindowsShell interpreter) = interpreter_cooked interpreter
+setting_cooked (settings.WorkingDirectory value) = expr_cooked value.value
+setting_cooked _ = []
+
+-- what the tree doesn't show of a setting: an indentation is the text of its literal
+abbrev pub IsWholeSetting : Setting → Type 0
+IsWholeSetting (settings.Indentation literal indentation) = indentation_text indentation ≡ string_bytes literal.cooked
+IsWholeSetting _ = Unit {0}
+
+-- a truth value that is true may be left out
+abbrev pub is_default : {A B : Type 0} → SettingValue A B → Bool
+is_default (tree.Truth value) = value
+is_default _ = false
+
+-- the settings that must not stand beside it
+abbrev pub conflicts : Setting → List Keyword
+conflicts (settings.DotenvCommand value) = words.DotenvFilename ∷ words.DotenvLoad ∷ words.DotenvPath ∷ words.DotenvRequired ∷ []
+conflicts (settings.DotenvFilename value) = words.DotenvCommand ∷ []
+conflicts (settings.DotenvLoad true) = words.DotenvCommand ∷ []
+conflicts (settings.DotenvPath value) = words.DotenvCommand ∷ []
+conflicts (settings.DotenvRequired true) = words.DotenvCommand ∷ []
+conflicts (settings.NoCd true) = words.WorkingDirectory ∷ []
+conflicts (settings.WorkingDirectory value) = words.NoCd ∷ []
+conflicts _ = []

@@ -1,0 +1,133 @@
+//! Settings of keywords and values.
+ghost use Rattle.std.specs.Prelude.{◌≡◌, Some};
+ghost use Rattle.std.specs.Option.{option_map};
+ghost use Rattle.justfile_model.specs.Settings as forms;
+ghost use Rattle.justfile_model.specs.Tree as tree;
+ghost use Rattle.justfile_setting.specs.Form.{form_of};
+ghost use Rattle.justfile_setting.specs.LeafSetting.{leaf_value_of};
+ghost use Rattle.justfile_setting.specs.Setting.{keyword_of, IsWholeSetting};
+ghost use Rattle.justfile_tree.specs.LeafTree.{leaf_tree_of, trees_of};
+
+use crate::setting::Setting;
+use justfile_attribute::Interpreter;
+use justfile_base::Keyword;
+use justfile_tree::Expression;
+
+/// What follows the name of a setting.
+#[derive(Clone, Copy, Debug, PartialEq, Eq)]
+pub enum SettingForm {
+    /// `:=` and an expression.
+    Expression,
+    /// `:=` and expressions in brackets.
+    Interpreter,
+    /// `:=` and a plain literal.
+    Plain,
+    /// Nothing, or `:=` and a truth value.
+    Truth,
+}
+
+/// The form of the setting that the keyword names, if it names one.
+pub fn setting_form(keyword: Keyword) -> Option<SettingForm>
+    ensures { option_map form_of result ≡ forms.setting_form keyword }
+{
+    match keyword {
+        Keyword::AllowDuplicateRecipes => Some(SettingForm::Truth),
+        Keyword::AllowDuplicateVariables => Some(SettingForm::Truth),
+        Keyword::DefaultList => Some(SettingForm::Truth),
+        Keyword::DefaultScript => Some(SettingForm::Truth),
+        Keyword::DotenvCommand => Some(SettingForm::Expression),
+        Keyword::DotenvFilename => Some(SettingForm::Expression),
+        Keyword::DotenvLoad => Some(SettingForm::Truth),
+        Keyword::DotenvOverride => Some(SettingForm::Truth),
+        Keyword::DotenvPath => Some(SettingForm::Expression),
+        Keyword::DotenvRequired => Some(SettingForm::Truth),
+        Keyword::Export => Some(SettingForm::Truth),
+        Keyword::Fallback => Some(SettingForm::Truth),
+        Keyword::Guards => Some(SettingForm::Truth),
+        Keyword::IgnoreComments => Some(SettingForm::Truth),
+        Keyword::Indentation => Some(SettingForm::Plain),
+        Keyword::Lazy => Some(SettingForm::Truth),
+        Keyword::Lists => Some(SettingForm::Truth),
+        Keyword::MinimumVersion => Some(SettingForm::Plain),
+        Keyword::NoCd => Some(SettingForm::Truth),
+        Keyword::NoExitMessage => Some(SettingForm::Truth),
+        Keyword::PositionalArguments => Some(SettingForm::Truth),
+        Keyword::Quiet => Some(SettingForm::Truth),
+        Keyword::ScriptInterpreter => Some(SettingForm::Interpreter),
+        Keyword::Shell => Some(SettingForm::Interpreter),
+        Keyword::Tempdir => Some(SettingForm::Expression),
+        Keyword::Unstable => Some(SettingForm::Truth),
+        Keyword::WindowsPowershell => Some(SettingForm::Truth),
+        Keyword::WindowsShell => Some(SettingForm::Interpreter),
+        Keyword::WorkingDirectory => Some(SettingForm::Expression),
+        _ => None,
+    }
+}
+
+impl<'src> Setting<'src> {
+    /// The setting that takes a truth value.
+    pub fn from_truth(keyword: Keyword, value: bool) -> Self
+        requires { forms.setting_form keyword ≡ Some forms.TruthForm }
+        ensures keyword { keyword_of result ≡ keyword }
+        ensures value { leaf_value_of result ≡ tree.Truth value }
+        ensures whole { IsWholeSetting result }
+    {
+        match keyword {
+            Keyword::AllowDuplicateRecipes => Setting::AllowDuplicateRecipes(value),
+            Keyword::AllowDuplicateVariables => Setting::AllowDuplicateVariables(value),
+            Keyword::DefaultList => Setting::DefaultList(value),
+            Keyword::DefaultScript => Setting::DefaultScript(value),
+            Keyword::DotenvLoad => Setting::DotenvLoad(value),
+            Keyword::DotenvOverride => Setting::DotenvOverride(value),
+            Keyword::DotenvRequired => Setting::DotenvRequired(value),
+            Keyword::Export => Setting::Export(value),
+            Keyword::Fallback => Setting::Fallback(value),
+            Keyword::Guards => Setting::Guards(value),
+            Keyword::IgnoreComments => Setting::IgnoreComments(value),
+            Keyword::Lazy => Setting::Lazy(value),
+            Keyword::Lists => Setting::Lists(value),
+            Keyword::NoCd => Setting::NoCd(value),
+            Keyword::NoExitMessage => Setting::NoExitMessage(value),
+            Keyword::PositionalArguments => Setting::PositionalArguments(value),
+            Keyword::Quiet => Setting::Quiet(value),
+            Keyword::Unstable => Setting::Unstable(value),
+            Keyword::WindowsPowershell => Setting::WindowsPowerShell(value),
+            _ => unreachable!(),
+        }
+    }
+
+    /// The setting that takes an expression.
+    pub fn from_expression(keyword: Keyword, value: Box<Expression<'src>>) -> Self
+        requires { forms.setting_form keyword ≡ Some forms.ExpressionForm }
+        ensures keyword { keyword_of result ≡ keyword }
+        ensures value { leaf_value_of result ≡ tree.Value (leaf_tree_of value.entry.value) }
+        ensures whole { IsWholeSetting result }
+    {
+        match keyword {
+            Keyword::DotenvCommand => Setting::DotenvCommand(value),
+            Keyword::DotenvFilename => Setting::DotenvFilename(value),
+            Keyword::DotenvPath => Setting::DotenvPath(value),
+            Keyword::Tempdir => Setting::Tempdir(value),
+            Keyword::WorkingDirectory => Setting::WorkingDirectory(value),
+            _ => unreachable!(),
+        }
+    }
+
+    /// The setting that takes an interpreter.
+    pub fn from_interpreter(
+        keyword: Keyword,
+        interpreter: Box<Interpreter<Expression<'src>>>,
+    ) -> Self
+        requires { forms.setting_form keyword ≡ Some forms.InterpreterForm }
+        ensures keyword { keyword_of result ≡ keyword }
+        ensures value { leaf_value_of result ≡ tree.Interpreter (leaf_tree_of interpreter.entry.value.command) (trees_of interpreter.entry.value.arguments.items) }
+        ensures whole { IsWholeSetting result }
+    {
+        match keyword {
+            Keyword::ScriptInterpreter => Setting::ScriptInterpreter(interpreter),
+            Keyword::Shell => Setting::Shell(interpreter),
+            Keyword::WindowsShell => Setting::WindowsShell(interpreter),
+            _ => unreachable!(),
+        }
+    }
+}
