@@ -65,7 +65,6 @@ impl<'src, T: PartialEq> PartialEq for Alias<'src, T> {
 }
 
 /// Puts the text of an alias, without its attributes.
-#[tactic(auto, using(crate::proofs::ItemTexts::alias_parts))]
 pub(crate) fn write_alias<S: Sink>(
     alias: &Alias<'_, Namepath<'_>>,
     sink: &mut S,
@@ -76,7 +75,8 @@ pub(crate) fn write_alias<S: Sink>(
     put_piece("alias ", sink)?;
     sink.put(alias.name.lexeme())?;
     put_piece(" := ", sink)?;
-    write_namepath(&alias.target, sink)
+    write_namepath(&alias.target, sink)?;
+    Ok(())
 }
 
 impl<'src> fmt::Display for Alias<'src, Namepath<'src>> {

@@ -1,5 +1,5 @@
 ghost use Rattle.std.specs.Prelude.{◌≡◌, All, OnOk, OnErr, IfOk, IfSome, map, string_bytes};
-ghost use Rattle.std.specs.List.{list_all};
+ghost use Rattle.std.specs.List.{AllZip, list_all};
 ghost use Rattle.std.specs.Option.{option_map};
 ghost use Rattle.justfile_base.specs.Indentation.{indentation_text};
 ghost use Rattle.justfile_model.specs.Enabled.{indentation_of};
@@ -7,13 +7,13 @@ ghost use Rattle.justfile_model.specs.NormalShape.{normal};
 ghost use Rattle.justfile_model.specs.Printing.{printable, printable_item, text};
 ghost use Rattle.justfile_tree.specs.Expression.{literal_tok};
 ghost use Rattle.justfile_file.specs.Ast.{ast_shape, tree_of};
+ghost use Rattle.justfile_file.specs.Copies.{IsSameItem};
 ghost use Rattle.justfile_file.specs.Gap.{front_text, end_text};
 ghost use Rattle.justfile_file.specs.Indented.{IsWholeItem, items_indentation};
 ghost use Rattle.justfile_file.specs.Item.{item_shape};
 ghost use Rattle.justfile_file.specs.PrintsBack.{PrintsBack};
 ghost use Rattle.justfile_file.specs.declared.gap.Gap.TheVariants.{Start};
 
-use crate::copied::all_copied;
 use crate::gap::Gap;
 use crate::item::{Item, write_step};
 use justfile_base::{Indentation, Modulepath, Token, UnstableFeature};
@@ -71,7 +71,7 @@ impl<'src> Ast<'src> {
         let unstable_features = self.unstable_features.clone()?;
         let working_directory = self.working_directory.as_str().to_string(alloc)?;
         Ok(Ast {
-            items: all_copied(alloc, &self.items)?,
+            items: copy_items(&self.items, alloc)?,
             list_features,
             module_path,
             unstable_features,
@@ -105,10 +105,27 @@ fn first_indentation(items: &[Item<'_>]) -> Option<Indentation>
 }
 
 /// Whether each of the items, printed, reads back.
+#[tactic(auto, using(crate::proofs::Printable::one_more, crate::proofs::Printable::one_fails, crate::proofs::Printable::none_left))]
 fn are_printable(items: &[Item<'_>]) -> bool
     ensures { result ≡ list_all (λ item. printable_item (item_shape item)) items.now }
 {
-    items.iter().all(|item| item.is_printable())
+    for item in items {
+        if !item.is_printable() {
+            return false;
+        }
+    }
+    true
+}
+
+/// Copies of the items.
+fn copy_items<'src>(items: &[Item<'src>], alloc: Global) -> Result<Vec<Item<'src>>, AllocError>
+    ensures { IfOk result (λ copies. AllZip IsSameItem copies.items items.now) }
+{
+    let mut copies = Vec::new(alloc);
+    for item in items {
+        copies.push(item.clone(alloc)?)?;
+    }
+    Ok(copies)
 }
 
 /// Puts the items of a file, but for the line ends at the end.

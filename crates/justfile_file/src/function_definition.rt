@@ -110,7 +110,7 @@ fn write_later_names<S: Sink>(
 }
 
 /// Puts the names of parameters, with a comma and a space between each two.
-#[tactic(auto, using(crate::proofs::ItemTexts::names_some, crate::proofs::ItemTexts::names_none))]
+#[tactic(auto, using(crate::proofs::ItemTexts::names_none))]
 fn write_names<S: Sink>(parameters: &[(Name<'_>, Number)], sink: &mut S) -> Result<(), S::Fault>
     ensures ok { OnOk result (S.took sink.old (parameter_names_text parameters.now) sink.new) }
     ensures err { OnErr result (S.failed sink.old (parameter_names_text parameters.now) sink.new) }
@@ -119,7 +119,8 @@ fn write_names<S: Sink>(parameters: &[(Name<'_>, Number)], sink: &mut S) -> Resu
         return Ok(());
     };
     sink.put(first.0.lexeme())?;
-    write_later_names(rest, sink)
+    write_later_names(rest, sink)?;
+    Ok(())
 }
 
 /// Puts the text of a function, without its attributes.

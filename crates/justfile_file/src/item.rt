@@ -12,7 +12,6 @@ ghost use Rattle.justfile_file.specs.declared.item.Item.TheVariants as items;
 use crate::alias::{Alias, write_alias};
 use crate::assignment::{Assignment, write_assignment};
 use crate::attributes::write_attributes;
-use crate::copied::Copied;
 use crate::doc::{copy_doc, write_doc};
 use crate::function_definition::{FunctionDefinition, write_function};
 use crate::gap::Gap;
@@ -200,14 +199,6 @@ impl<'src> Item<'src> {
     }
 }
 
-impl Copied for Item<'_> {
-    ghost is_copy = { IsSameItem };
-
-    fn copied(&self, alloc: Global) -> Result<Self, AllocError> {
-        self.clone(alloc)
-    }
-}
-
 /// A copy of an import.
 fn copy_import<'src>(
     attributes: &AttributeSet<'src>,
@@ -328,7 +319,6 @@ fn write_bare<S: Sink>(
 }
 
 /// Puts the text of an item, after a line for its doc and for each of its attributes.
-#[tactic(auto, using(crate::proofs::ShownDocs::item_parts))]
 pub(crate) fn write_item<S: Sink>(
     item: &Item<'_>,
     indentation: Indentation,
@@ -339,7 +329,8 @@ pub(crate) fn write_item<S: Sink>(
 {
     write_item_doc(item, sink)?;
     write_item_attributes(item, sink)?;
-    write_bare(item, indentation, sink)
+    write_bare(item, indentation, sink)?;
+    Ok(())
 }
 
 /// Puts what is printed of an item after a gap: a line end waits for the item that follows it.

@@ -69,7 +69,7 @@ impl<'src> Keyed<'src> for Set<'src> {
 }
 
 /// Puts the value of a setting after `:=`, unless it is the default.
-#[tactic(auto, using(crate::proofs::ItemTexts::value_default, crate::proofs::ItemTexts::value_other))]
+#[tactic(auto, using(crate::proofs::ItemTexts::value_default))]
 fn write_value<S: Sink>(setting: &Setting<'_>, sink: &mut S) -> Result<(), S::Fault>
     ensures ok { OnOk result (S.took sink.old (later_value_text setting.now) sink.new) }
     ensures err { OnErr result (S.failed sink.old (later_value_text setting.now) sink.new) }
@@ -78,7 +78,8 @@ fn write_value<S: Sink>(setting: &Setting<'_>, sink: &mut S) -> Result<(), S::Fa
         return Ok(());
     }
     put_piece(" := ", sink)?;
-    write_setting(setting, sink)
+    write_setting(setting, sink)?;
+    Ok(())
 }
 
 /// Puts the text of a setting, without its attributes.
