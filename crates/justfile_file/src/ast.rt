@@ -20,7 +20,6 @@ use justfile_base::{Indentation, Modulepath, Token, UnstableFeature};
 use justfile_tree::{ListFeature, Sink};
 use std::alloc::{AllocError, Global};
 use std::collections::BTreeSet;
-use std::fmt;
 
 /// A file that was parsed.
 #[derive(Drop)]
@@ -156,7 +155,7 @@ fn write_end<S: Sink>(items: &[Item<'_>], sink: &mut S) -> Result<(), S::Fault>
 }
 
 /// The walk over a file.
-pub(crate) fn write_ast<S: Sink>(
+fn write_ast<S: Sink>(
     ast: &Ast<'_>,
     indentation: Indentation,
     sink: &mut S,
@@ -167,11 +166,4 @@ pub(crate) fn write_ast<S: Sink>(
     write_items(&ast.items, indentation, sink)?;
     write_end(&ast.items, sink)?;
     Ok(())
-}
-
-/// Its canonical text, with four spaces before the lines of bodies.
-impl fmt::Debug for Ast<'_> {
-    fn fmt<W: fmt::Write>(&self, f: &mut fmt::Formatter<W>) -> fmt::Result {
-        write_ast(self, Indentation::default(), f)
-    }
 }
