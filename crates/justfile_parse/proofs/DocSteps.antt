@@ -83,6 +83,11 @@ no_comment tree.Newline others h = refl
 no_comment (tree.Comment text) others h = cc
 no_comment (tree.Construct entries content) others h = refl
 
+no_start : (i : LeafItem) (others : List LeafItem) (text : List ℕ) → is_newline i ≡ false → doc_first (tree.Newline ∷ tree.Comment text ∷ i ∷ others) ≡ None
+no_start tree.Newline others text h = cc
+no_start (tree.Comment other) others text h = refl
+no_start (tree.Construct entries content) others text h = refl
+
 comment_is : (i : LeafItem) (text : List ℕ) → comment_of i ≡ Some text → i ≡ tree.Comment text
 comment_is tree.Newline text h = cc
 comment_is (tree.Comment other) text h = ap (λ (t : List ℕ). tree.Comment t) (some_is other text h)
@@ -96,6 +101,11 @@ module _ (xs : List Item) (x : Item) (last : Some x ≡ slice_get xs (length xs 
   ended h =
       ap doc_first (last_first xs x last)
       ∙ ap (λ (i : LeafItem). doc_first (i ∷ reverse (map item_tree (before xs)))) (line_end (item_tree x) h)
+
+  pub not_started : (text : List ℕ) → is_newline (item_tree x) ≡ false → doc_first (tree.Newline ∷ tree.Comment text ∷ reverse (map item_tree xs)) ≡ None
+  not_started text h =
+      ap (λ (l : List LeafItem). doc_first (tree.Newline ∷ tree.Comment text ∷ l)) (last_first xs x last)
+      ∙ no_start (item_tree x) (reverse (map item_tree (before xs))) text h
 
   pub not_commented : comment_of (item_tree x) ≡ None → doc_first (tree.Newline ∷ reverse (map item_tree xs)) ≡ None
   not_commented h =
@@ -133,28 +143,14 @@ pairs_say : (pairs : List Pair) → says_doc (map leaf_entry_of pairs) ≡ has_k
 pairs_say [] = refl
 pairs_say (p ∷ ps) = λ i. kind_is p.0 i || pairs_say ps i
 
--- neither this text is a doc, nor an attribute says one
-pub lacks_doc : (set : AttributeSet) (doc : Option (String Global)) (b : Bool) → is_none doc ≡ true → b ≡ has_kind kinds.Doc (attributes_of set)
-    → not b ≡ (true && not (says_doc (leaf_entries_of set)) && not (is_some (option_map string_bytes doc)))
-lacks_doc set doc b none e = by_doc doc none ∙ ap (λ (c : Bool). true && not c && not (is_some (option_map string_bytes doc))) (e ∙ sym (pairs_say (pairs_of set)))
+-- neither an attribute says a doc, nor is there one yet
+pub lacks_is : (set : AttributeSet) (doc : Option (String Global))
+    → (not (has_kind kinds.Doc (attributes_of set)) && not (is_some doc)) ≡ (true && not (says_doc (leaf_entries_of set)) && not (is_some (option_map string_bytes doc)))
+lacks_is set doc = ap (λ (c : Bool). not c && not (is_some doc)) (sym (pairs_say (pairs_of set))) ∙ by_doc doc
   where
-    by_doc : (o : Option (String Global)) → is_none o ≡ true → not b ≡ (true && not b && not (is_some (option_map string_bytes o)))
-    by_doc None h = go b
-      where
-        go : (c : Bool) → not c ≡ (true && not c && not false)
-        go true = refl
-        go false = refl
-    by_doc (Some s) h = cc
-
--- the text is a doc already
-pub has_doc : (set : AttributeSet) (doc : Option (String Global)) → is_none doc ≡ false
-    → false ≡ (true && not (says_doc (leaf_entries_of set)) && not (is_some (option_map string_bytes doc)))
-has_doc set None h = cc
-has_doc set (Some s) h = go (says_doc (leaf_entries_of set))
-  where
-    go : (c : Bool) → false ≡ (true && not c && not true)
-    go true = refl
-    go false = refl
+    by_doc : (o : Option (String Global)) → (not (says_doc (leaf_entries_of set)) && not (is_some o)) ≡ (true && not (says_doc (leaf_entries_of set)) && not (is_some (option_map string_bytes o)))
+    by_doc None = refl
+    by_doc (Some s) = refl
 
 -- an item with a doc that it wants
 pub documented_is : (entries : List (Entry Leaf Token)) (content : Content Leaf Token ℕ (Unit {0})) (doc : List ℕ) → wants_doc says_doc entries content ≡ true

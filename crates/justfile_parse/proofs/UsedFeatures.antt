@@ -1,5 +1,6 @@
 -- What of a file's items is unstable.
-use Rattle.std.proofs.Common.{◌≡◌, ◌∙◌, Bool, true, false, ◌||◌, cond, List, [], ◌∷◌, ◌++◌, map, refl, ap}
+use Rattle.std.proofs.Common.{◌≡◌, ◌∙◌, ℕ, ◌+◌, ◌<◌, ◌≤◌, Bool, true, false, ◌||◌, cond, List, [], ◌∷◌, ◌++◌, length, drop, get_or, map, refl, sym, ap}
+use Rattle.std.proofs.lemmas.List.{at_drop_more, drop_all}
 use Rattle.std.specs.List.{list_any}
 use Rattle.justfile_attribute_set.specs.Attributes.{has_kind, kind_of}
 use Rattle.justfile_attribute_set.specs.Keys.{firsts}
@@ -44,4 +45,33 @@ pub features_are : (items : List Item) → with_used (list_any (uses_feature Use
     ≡ unstable_of items
 features_are items =
     in_order (list_any (uses_feature CachedRecipes) items) (list_any (uses_feature ListsSetting) items) (list_any (uses_feature UserDefinedFunctions) items)
-    ∙ (λ i. one_used (any_of CachedRecipes items (~ i)) CachedRecipes ++ one_used (any_of ListsSetting items (~ i)) ListsSetting ++ one_used (any_of UserDefinedFunctions items (~ i)) UserDefinedFunctions)
+    ∙ (λ i. one_used (sym (any_of CachedRecipes items) i) CachedRecipes ++ one_used (sym (any_of ListsSetting items) i) ListsSetting ++ one_used (sym (any_of UserDefinedFunctions items) i) UserDefinedFunctions)
+
+-- ---- the loop over the items
+
+-- the items from one on are that item and those after it
+used_from : (feature : UnstableFeature) (all : List Item) (n : ℕ) (i : Item) → n < length all → i ≡ get_or all n i
+    → list_any (uses_feature feature) (drop n all) ≡ (uses_feature feature i || list_any (uses_feature feature) (drop (n + 1) all))
+used_from feature all n i h e = at_drop_more (list_any (uses_feature feature)) all n i h ∙ ap (λ (k : Item). uses_feature feature k || list_any (uses_feature feature) (drop (n + 1) all)) (sym e)
+
+or_false : (a b : Bool) → a ≡ false → (a || b) ≡ b
+or_false false b e = refl
+or_false true b e = absurd cc
+
+or_true : (a b : Bool) → a ≡ true → (a || b) ≡ true
+or_true true b e = refl
+or_true false b e = absurd cc
+
+module _ (feature : UnstableFeature) (all : List Item) (n : ℕ) (so_far : list_any (uses_feature feature) all ≡ list_any (uses_feature feature) (drop n all)) where
+  -- the next item doesn't use the feature
+  pub none_here : (i : Item) → n < length all → i ≡ get_or all n i → uses_feature feature i ≡ false
+      → list_any (uses_feature feature) all ≡ list_any (uses_feature feature) (drop (n + 1) all)
+  none_here i h e fails = so_far ∙ used_from feature all n i h e ∙ or_false (uses_feature feature i) (list_any (uses_feature feature) (drop (n + 1) all)) fails
+
+  -- the next item does
+  pub found_here : (i : Item) → n < length all → i ≡ get_or all n i → uses_feature feature i ≡ true → list_any (uses_feature feature) all ≡ true
+  found_here i h e holds = so_far ∙ used_from feature all n i h e ∙ or_true (uses_feature feature i) (list_any (uses_feature feature) (drop (n + 1) all)) holds
+
+  -- no item is left
+  pub none_left : length all ≤ n → list_any (uses_feature feature) all ≡ false
+  none_left h = so_far ∙ ap (list_any (uses_feature feature)) (drop_all n all h)

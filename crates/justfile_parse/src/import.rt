@@ -53,9 +53,13 @@ fn parse_imported<'src, X: Expander>(
 }
 
 /// Whether `?` comes next; then it is taken.
+#[tactic(auto, unfolding(justfile_model::specs::Reading::accepted))]
 pub(crate) fn accept_question_mark<X: Expander>(parser: &mut ExpressionParser<'_, '_, X>) -> bool
     ensures accepts { (result, state_of X.answer parser.new) ≡ reader.accepted kinds.QuestionMark (state_of X.answer parser.old) }
     ensures progress { left parser.new ≤ left parser.old }
 {
-    parser.accept(TokenKind::QuestionMark).is_some()
+    match parser.accept(TokenKind::QuestionMark) {
+        Some(_mark) => true,
+        None => false,
+    }
 }

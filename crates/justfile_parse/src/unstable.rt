@@ -46,11 +46,11 @@ fn unstable_features(
     ensures same { items.new ≡ items.old }
 {
     let mut features = BTreeSet::new(alloc);
-    let cached = are_cached(items.as_slice());
+    let cached = are_used(items.as_slice(), UnstableFeature::CachedRecipes);
     insert_if(cached, UnstableFeature::CachedRecipes, &mut features)?;
-    let listed = set_lists(items.as_slice());
+    let listed = are_used(items.as_slice(), UnstableFeature::ListsSetting);
     insert_if(listed, UnstableFeature::ListsSetting, &mut features)?;
-    let defined = define_functions(items.as_slice());
+    let defined = are_used(items.as_slice(), UnstableFeature::UserDefinedFunctions);
     insert_if(
         defined,
         UnstableFeature::UserDefinedFunctions,
@@ -73,11 +73,28 @@ fn insert_if(
     Ok(())
 }
 
-/// Whether one of the items has the attribute `cache`.
-fn are_cached(items: &[Item<'_>]) -> bool
-    ensures { result ≡ list_any (uses_feature features.CachedRecipes) items.now }
+/// Whether one of the items uses the feature.
+#[tactic(auto, using(crate::proofs::UsedFeatures::none_here, crate::proofs::UsedFeatures::found_here, crate::proofs::UsedFeatures::none_left))]
+fn are_used(items: &[Item<'_>], feature: UnstableFeature) -> bool
+    ensures { result ≡ list_any (uses_feature feature) items.now }
 {
-    items.iter().any(|item| is_cached(item))
+    for item in items {
+        if is_used(item, feature) {
+            return true;
+        }
+    }
+    false
+}
+
+/// Whether an item uses the feature.
+fn is_used(item: &Item<'_>, feature: UnstableFeature) -> bool
+    ensures { result ≡ uses_feature feature item.now }
+{
+    match feature {
+        UnstableFeature::CachedRecipes => is_cached(item),
+        UnstableFeature::ListsSetting => sets_lists(item),
+        UnstableFeature::UserDefinedFunctions => defines_function(item),
+    }
 }
 
 /// Whether an item has the attribute `cache`.
@@ -104,13 +121,6 @@ fn has_cache(attributes: &AttributeSet<'_>) -> bool
     attributes.contains(AttributeKind::Cache)
 }
 
-/// Whether one of the items is the setting `lists`.
-fn set_lists(items: &[Item<'_>]) -> bool
-    ensures { result ≡ list_any (uses_feature features.ListsSetting) items.now }
-{
-    items.iter().any(|item| sets_lists(item))
-}
-
 /// Whether an item is the setting `lists`.
 fn sets_lists(item: &Item<'_>) -> bool
     ensures { result ≡ uses_feature features.ListsSetting item.now }
@@ -125,13 +135,6 @@ fn is_lists(setting: &Setting<'_>) -> bool
     ensures { result ≡ is_lists (keyword_of setting.now) }
 {
     matches!(setting, Setting::Lists(_))
-}
-
-/// Whether one of the items defines a function.
-fn define_functions(items: &[Item<'_>]) -> bool
-    ensures { result ≡ list_any (uses_feature features.UserDefinedFunctions) items.now }
-{
-    items.iter().any(|item| defines_function(item))
 }
 
 /// Whether an item defines a function.

@@ -1,6 +1,11 @@
-use Rattle.std.proofs.Common.{ap, not}
-use Rattle.justfile_parse.proofs.DocSteps.{wants_is}
+use Rattle.std.proofs.Common.{◌∙◌, ap, sym}
+use Rattle.justfile_parse.specs.Docs.{says_no_doc}
+use Rattle.justfile_parse.specs.Tree.{item_tree}
+use Rattle.justfile_parse.proofs.DocSteps.{lacks_is}
 use Rattle.justfile_parse.proofs.docs.wants_doc.Goals as goal
 
-pub returns-then-is_none : goal.returns-then-is_none
-returns-then-is_none c = wants_is c.args.recipe.now c.contains.result (ap not c.if-is_none.ensures) c.contains.ensures
+pub returns-in-Module : goal.returns-in-Module
+returns-in-Module c = c.lacks_doc.ensures ∙ lacks_is c.in-Module.attributes c.in-Module.doc ∙ ap (λ i. says_no_doc (item_tree i)) (sym c.in-Module.is)
+
+pub returns-in-Recipe : goal.returns-in-Recipe
+returns-in-Recipe c = c.lacks_doc-in-Recipe.ensures ∙ lacks_is c.in-Recipe.recipe.attributes c.in-Recipe.recipe.doc ∙ ap (λ i. says_no_doc (item_tree i)) (sym c.in-Recipe.is)
