@@ -50,7 +50,7 @@ IsSameFragment _ _ = ⊥
 -- the copy of a function has its fields
 pub record IsSameFunction (copy original : FunctionDefinition) : Type 0 where
   pub attributes : IsSameSet copy.attributes original.attributes
-  pub body : IsSameExpression copy.body original.body
+  pub body : IsSameExpression copy.body.value original.body.value
   pub name : copy.name ≡ original.name
   pub parameters : copy.parameters.items ≡ original.parameters.items
 
@@ -79,7 +79,7 @@ pub record IsSameRecipe (copy original : UnresolvedRecipe) : Type 0 where
 pub record IsSameAssigned (copy original : Set) : Type 0 where
   pub attributes : IsSameSet copy.attributes original.attributes
   pub name : copy.name ≡ original.name
-  pub value : IsSameSetting copy.value original.value
+  pub value : IsSameSetting copy.value.value original.value.value
 
 -- the copy of an item is of its case and has its fields
 abbrev pub IsSameItem : (copy original : Item) → Type 0

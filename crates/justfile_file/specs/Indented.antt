@@ -19,7 +19,7 @@ indentation_set _ = None
 
 -- those of a setting that is this one, and is there on this system
 abbrev pub set_indentation : Set → Option (StringLiteral × Indentation)
-set_indentation s = if are_enabled (attributes_of s.attributes) then indentation_set s.value else None
+set_indentation s = if are_enabled (attributes_of s.attributes) then indentation_set s.value.value else None
 
 -- those of an item that is such a setting
 abbrev pub item_indentation : Item → Option (StringLiteral × Indentation)
@@ -33,5 +33,5 @@ items_indentation (i ∷ items) = or_else (item_indentation i) (items_indentatio
 
 -- what a setting has beside its tree is that of its tree
 abbrev pub IsWholeItem : Item → Type 0
-IsWholeItem (items.Setting s) = IsWholeSetting s.value
+IsWholeItem (items.Setting s) = IsWholeSetting s.value.value
 IsWholeItem _ = Unit {0}

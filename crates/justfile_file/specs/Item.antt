@@ -56,7 +56,7 @@ function_parameter_of p = tok_of p.0.token
 
 -- the tree of a function
 abbrev pub function_of : FunctionDefinition → FunctionParts Tok Tok
-function_of f = record { name = tok_of f.name.token; parameters = map function_parameter_of f.parameters.items; body = expr_of f.body }
+function_of f = record { name = tok_of f.name.token; parameters = map function_parameter_of f.parameters.items; body = expr_of f.body.value }
 
 -- a literal as a tree has the path of a file
 abbrev pub quoted_of : StringLiteral → Quoted Tok
@@ -72,7 +72,7 @@ module_of doc name optional relative = record { doc = option_map string_bytes do
 
 -- the tree of a setting
 abbrev pub setting_of : Set → SettingParts Tok Tok
-setting_of s = record { keyword = keyword_of s.value; name = tok_of s.name.token; value = value_of s.value }
+setting_of s = record { keyword = keyword_of s.value.value; name = tok_of s.name.token; value = value_of s.value.value }
 
 -- the dependencies of a recipe before `&&`, or all of them
 abbrev pub priors_of : UnresolvedRecipe → List UnresolvedDependency
@@ -196,12 +196,12 @@ abbrev pub item_cooked : Item → List (List ℕ)
 item_cooked (items.Alias a) = set_cooked a.attributes
 item_cooked (items.Assignment a) = set_cooked a.attributes ++ expr_cooked a.value
 item_cooked (items.Comment text) = []
-item_cooked (items.Function f) = set_cooked f.attributes ++ expr_cooked f.body
+item_cooked (items.Function f) = set_cooked f.attributes ++ expr_cooked f.body.value
 item_cooked (items.Import attributes _ relative) = set_cooked attributes ++ literal_cooked relative
 item_cooked (items.Module attributes _ _ _ relative) = set_cooked attributes ++ optional literal_cooked relative
 item_cooked items.Newline = []
 item_cooked (items.Recipe r) = set_cooked r.attributes ++ header_cooked r ++ flat_map line_cooked r.body.items
-item_cooked (items.Setting s) = set_cooked s.attributes ++ setting_cooked s.value
+item_cooked (items.Setting s) = set_cooked s.attributes ++ setting_cooked s.value.value
 item_cooked (items.Unexport attributes name) = set_cooked attributes
 
 -- the number of a parameter

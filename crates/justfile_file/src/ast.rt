@@ -155,11 +155,7 @@ fn write_end<S: Sink>(items: &[Item<'_>], sink: &mut S) -> Result<(), S::Fault>
 }
 
 /// The walk over a file.
-fn write_ast<S: Sink>(
-    ast: &Ast<'_>,
-    indentation: Indentation,
-    sink: &mut S,
-) -> Result<(), S::Fault>
+fn write_ast<S: Sink>(ast: &Ast<'_>, indentation: Indentation, sink: &mut S) -> Result<(), S::Fault>
     ensures ok { OnOk result (S.took sink.old (text (normal (ast_shape ast.now)) (indentation_text indentation)) sink.new) }
     ensures err { OnErr result (S.failed sink.old (text (normal (ast_shape ast.now)) (indentation_text indentation)) sink.new) }
 {

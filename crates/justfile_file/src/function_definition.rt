@@ -7,6 +7,7 @@ ghost use Rattle.justfile_base.specs.contracts.name.NamePartialEq.TheImpl as nam
 ghost use Rattle.justfile_base.specs.contracts.name.NamePartialEq.TheImpl.Laws.{laws-law as name_per};
 ghost use Rattle.justfile_base.specs.Token.{lexeme_of};
 ghost use Rattle.justfile_model.specs.Printing.{fixed_text};
+ghost use Rattle.justfile_tree.specs.Copies.{IsSameExpression};
 ghost use Rattle.justfile_tree.specs.contracts.order.ExpressionPartialEq.TheImpl as expressions;
 ghost use Rattle.justfile_tree.specs.contracts.order.ExpressionPartialEq.TheImpl.Laws.{laws-law as expression_per};
 ghost use Rattle.justfile_file.specs.Copies.{IsSameFunction};
@@ -25,7 +26,7 @@ pub struct FunctionDefinition<'src> {
     /// The attributes before it.
     pub attributes: AttributeSet<'src>,
     /// What a call of it stands for.
-    pub body: Expression<'src>,
+    pub body: Box<Expression<'src>>,
     /// What the function is called.
     pub name: Name<'src>,
     /// What it takes as arguments, in order, each with the number that no other binding of the
@@ -42,11 +43,22 @@ impl<'src> FunctionDefinition<'src> {
         let parameters = self.parameters.as_slice().to_vec(alloc)?;
         Ok(FunctionDefinition {
             attributes,
-            body: self.body.clone(alloc)?,
+            body: copy_boxed(&self.body, alloc)?,
             name: self.name,
             parameters,
         })
     }
+}
+
+/// A copy of an expression, in a box of its own.
+fn copy_boxed<'src>(
+    expression: &Expression<'src>,
+    alloc: Global,
+) -> Result<Box<Expression<'src>>, AllocError>
+    ensures { IfOk result (λ copy. IsSameExpression copy.value expression.now) }
+{
+    let copy = expression.clone(alloc)?;
+    Ok(Box::new(alloc, copy)?)
 }
 
 /// The key of a function is its name.
@@ -72,15 +84,15 @@ fn have_same_parameters<'src>(
 
 /// Two functions are equal if all their fields are.
 impl<'src> PartialEq for FunctionDefinition<'src> {
-    ghost eq = { λ a b. sets.eq-value.it a.attributes b.attributes && (expressions.eq-value.it a.body b.body
+    ghost eq = { λ a b. sets.eq-value.it a.attributes b.attributes && (expressions.eq-value.it a.body.value b.body.value
         && (names.eq-value.it a.name b.name && pointwise same_parameter a.parameters.items b.parameters.items)) };
 
-    ghost laws = { and_per (on_per (λ f. f.attributes) set_per) (and_per (on_per (λ f. f.body) expression_per)
+    ghost laws = { and_per (on_per (λ f. f.attributes) set_per) (and_per (on_per (λ f. f.body.value) expression_per)
         (and_per (on_per (λ f. f.name) name_per) (on_per (λ f. f.parameters.items) (lists_per parameter_per)))) };
 
     fn eq(&self, other: &Self) -> bool {
         are_equal(&self.attributes, &other.attributes)
-            && self.body == other.body
+            && *self.body == *other.body
             && self.name == other.name
             && have_same_parameters(&self.parameters, &other.parameters)
     }

@@ -1,5 +1,6 @@
 ghost use Rattle.std.specs.Prelude.{◌≡◌, OnOk, OnErr, IfOk};
 ghost use Rattle.std.specs.Option.{option_map};
+ghost use Rattle.justfile_setting.specs.Copies.{IsSameSetting};
 ghost use Rattle.justfile_file.specs.Copies.{IsSameAssigned};
 ghost use Rattle.justfile_file.specs.Indented.{indentation_set, set_indentation};
 ghost use Rattle.justfile_file.specs.ItemText.{later_value_text, setting_text_of};
@@ -19,7 +20,7 @@ pub struct Set<'src> {
     /// The name of the setting.
     pub name: Name<'src>,
     /// The setting with its value.
-    pub value: Setting<'src>,
+    pub value: Box<Setting<'src>>,
 }
 
 impl<'src> Set<'src> {
@@ -31,7 +32,7 @@ impl<'src> Set<'src> {
         Ok(Set {
             attributes,
             name: self.name,
-            value: self.value.clone(alloc)?,
+            value: copy_boxed(&self.value, alloc)?,
         })
     }
 
@@ -45,6 +46,17 @@ impl<'src> Set<'src> {
             None
         }
     }
+}
+
+/// A copy of a setting, in a box of its own.
+fn copy_boxed<'src>(
+    setting: &Setting<'src>,
+    alloc: Global,
+) -> Result<Box<Setting<'src>>, AllocError>
+    ensures { IfOk result (λ copy. IsSameSetting copy.value setting.now) }
+{
+    let copy = setting.clone(alloc)?;
+    Ok(Box::new(alloc, copy)?)
 }
 
 /// The indentation that a setting says.

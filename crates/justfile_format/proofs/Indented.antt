@@ -90,7 +90,7 @@ module _ (IsToken : Token → Type 0) where
     said_item (items.Module attributes doc name optional relative) given = tt
     said_item items.Newline given = tt
     said_item (items.Recipe r) given = tt
-    said_item (items.Setting s) given = said_if (are_enabled (attributes_of s.attributes)) s.value given.value
+    said_item (items.Setting s) given = said_if (are_enabled (attributes_of s.attributes)) s.value.value given.value
     said_item (items.Unexport attributes name) given = tt
 
     said_first : (o found : Option (StringLiteral × Indentation)) → IfSome o IsSaid → IfSome found IsSaid → IfSome (or_else o found) IsSaid

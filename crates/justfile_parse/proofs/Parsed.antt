@@ -216,7 +216,7 @@ module _ (expander : Expansions) (P Q : Token → Type 0) (weaker : (t : Token) 
       record {
         among = weaker f.name.token h.among;
         parameters = parts.given_numbered expander P Q weaker given_expression f.parameters.items h.parameters;
-        body = given_expression f.body h.body;
+        body = given_expression f.body.value h.body;
         attributes = given_set expander P Q weaker given_expression f.attributes h.attributes;
       }
   given_weaker file_depth import_offsets (Import set optional relative) h =
@@ -248,7 +248,7 @@ module _ (expander : Expansions) (P Q : Token → Type 0) (weaker : (t : Token) 
   given_weaker file_depth import_offsets (Setting s) h =
       record {
         among = weaker s.name.token h.among;
-        value = parts.given_setting expander P Q weaker given_expression s.value h.value;
+        value = parts.given_setting expander P Q weaker given_expression s.value.value h.value;
         attributes = given_set expander P Q weaker given_expression s.attributes h.attributes;
       }
   given_weaker file_depth import_offsets (Unexport set name) h =
@@ -382,7 +382,7 @@ module _ (expander : Expansions) (P : Token → Type 0) where
       joined_cook expander (entries_literals (entries_of a.attributes)) _ (set_cooked a.attributes) _ (set_cooks expander P expression_cooks a.attributes h.attributes) (expression_cooks a.value h.value)
   item_cooks file_depth import_offsets (Comment text) h = tt
   item_cooks file_depth import_offsets (Function f) h =
-      joined_cook expander (entries_literals (entries_of f.attributes)) _ (set_cooked f.attributes) _ (set_cooks expander P expression_cooks f.attributes h.attributes) (expression_cooks f.body h.body)
+      joined_cook expander (entries_literals (entries_of f.attributes)) _ (set_cooked f.attributes) _ (set_cooks expander P expression_cooks f.attributes h.attributes) (expression_cooks f.body.value h.body)
   item_cooks file_depth import_offsets (Import set optional relative) h =
       joined_cook expander (entries_literals (entries_of set)) _ (set_cooked set) _ (set_cooks expander P expression_cooks set h.attributes_are)
       (parts.relative_cooks expander P expression_cooks relative h.relative_is)
@@ -400,7 +400,7 @@ module _ (expander : Expansions) (P : Token → Type 0) where
       (joined_cook expander header body (header_cooked r) texts (header_cooks r h) (lines_cook r.body.items h.body)))
   item_cooks file_depth import_offsets (Setting s) h =
       joined_cook expander (entries_literals (entries_of s.attributes)) _ (set_cooked s.attributes) _ (set_cooks expander P expression_cooks s.attributes h.attributes)
-      (parts.setting_cooks expander P expression_cooks s.value h.value)
+      (parts.setting_cooks expander P expression_cooks s.value.value h.value)
   item_cooks file_depth import_offsets (Unexport set name) h =
       parts.bare_cook expander (entries_literals (entries_of set)) (set_cooked set) (set_cooks expander P expression_cooks set h.attributes_are)
 

@@ -174,13 +174,13 @@ module _ (conditions : Conditions) (IsToken : Token → Type 0) (file_depth : �
       }
 
   function_seen : (n : Counters) (f : FunctionDefinition) {ws : List (WrittenAttribute Tok Tok)} {t : Tok} {ts : List Tok} {e : Expr Tok Tok} → AreMeant conditions IsToken file_depth import_offsets (leaf_entries_of f.attributes) ws
-      → IsName (name_tree f.name) t → AlikeNames seen n.bindings (map numbered_tree f.parameters.items) ts → Alike seen (leaf_tree_of f.body) e
+      → IsName (name_tree f.name) t → AlikeNames seen n.bindings (map numbered_tree f.parameters.items) ts → Alike seen (leaf_tree_of f.body.value) e
       → SeenItem n (items.Function f) (tree.Construct ws (tree.Function (record { name = t; parameters = ts; body = e })))
   function_seen n f {ws} {t} {ts} {e} means h hs v =
       let m = means f.attributes refl in
       let x = headers.name_seen conditions IsToken file_depth import_offsets f.name t h in
       let y = parts.names_seen conditions IsToken file_depth import_offsets n f.parameters.items hs in
-      let z = seeing.seen_expression conditions IsToken file_depth import_offsets f.body v in
+      let z = seeing.seen_expression conditions IsToken file_depth import_offsets f.body.value v in
       record {
         same =
             meant_item conditions.expander (tree.Function (record { name = t; parameters = ts; body = e })) ws (sets.entries_of f.attributes) m.0
@@ -223,16 +223,16 @@ module _ (conditions : Conditions) (IsToken : Token → Type 0) (file_depth : �
       }
 
   set_seen : (n : Counters) (s : Set) {ws : List (WrittenAttribute Tok Tok)} {t : Tok} {v : SettingValue Tok Tok} → AreMeant conditions IsToken file_depth import_offsets (leaf_entries_of s.attributes) ws
-      → IsName (name_tree s.name) t → AlikeValue seen (leaf_value_of s.value) v
-      → SeenItem n (items.Setting s) (tree.Construct ws (tree.Setting (record { keyword = keyword_of s.value; name = t; value = v })))
+      → IsName (name_tree s.name) t → AlikeValue seen (leaf_value_of s.value.value) v
+      → SeenItem n (items.Setting s) (tree.Construct ws (tree.Setting (record { keyword = keyword_of s.value.value; name = t; value = v })))
   set_seen n s {ws} {t} {v} means h k =
       let m = means s.attributes refl in
       let x = headers.name_seen conditions IsToken file_depth import_offsets s.name t h in
-      let y = parts.setting_seen conditions IsToken file_depth import_offsets s.value k in
+      let y = parts.setting_seen conditions IsToken file_depth import_offsets s.value.value k in
       record {
         same =
-            meant_item conditions.expander (tree.Setting (record { keyword = keyword_of s.value; name = t; value = v })) ws (sets.entries_of s.attributes) m.0
-            ∙ (λ i. Some (tree.Construct (sets.entries_of s.attributes) (tree.Setting (record { keyword = keyword_of s.value; name = x.0 i; value = y.same i }))));
+            meant_item conditions.expander (tree.Setting (record { keyword = keyword_of s.value.value; name = t; value = v })) ws (sets.entries_of s.attributes) m.0
+            ∙ (λ i. Some (tree.Construct (sets.entries_of s.attributes) (tree.Setting (record { keyword = keyword_of s.value.value; name = x.0 i; value = y.same i }))));
         given = λ whole. record { among = x.1; value = y.given whole; attributes = m.1 };
         numbers = λ more k. k;
         recipe_numbers = λ more k. k;

@@ -229,7 +229,7 @@ pub record IsGivenBinding (expander : Expansions) (IsToken : Token → Type 0) (
 pub record IsGivenFunction (expander : Expansions) (IsToken : Token → Type 0) (function : FunctionDefinition) : Type 0 where
   pub among : IsToken function.name.token
   pub parameters : All (IsGivenNumbered expander IsToken) function.parameters.items
-  pub body : IsGivenExpression expander IsToken function.body
+  pub body : IsGivenExpression expander IsToken function.body.value
   pub attributes : AreGivenAttributes expander IsToken function.attributes
 
 pub record IsGivenImport (expander : Expansions) (IsToken : Token → Type 0) (attributes : AttributeSet) (relative : literals.StringLiteral) : Type 0 where
@@ -243,7 +243,7 @@ pub record IsGivenModule (expander : Expansions) (IsToken : Token → Type 0) (a
 
 pub record IsGivenSet (expander : Expansions) (IsToken : Token → Type 0) (set : Set) : Type 0 where
   pub among : IsToken set.name.token
-  pub value : IsGivenSetting expander IsToken set.value
+  pub value : IsGivenSetting expander IsToken set.value.value
   pub attributes : AreGivenAttributes expander IsToken set.attributes
 
 pub record IsGivenUnexport (expander : Expansions) (IsToken : Token → Type 0) (attributes : AttributeSet) (name : Name) : Type 0 where

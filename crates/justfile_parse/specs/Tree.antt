@@ -48,7 +48,7 @@ numbered_tree x = Named x.0.token (Some x.1)
 
 abbrev pub function_tree : FunctionDefinition → OrderedItem Leaf Token ℕ
 function_tree f =
-    tree.Construct (leaf_entries_of f.attributes) (tree.Function (record { name = name_tree f.name; parameters = map numbered_tree f.parameters.items; body = leaf_tree_of f.body }))
+    tree.Construct (leaf_entries_of f.attributes) (tree.Function (record { name = name_tree f.name; parameters = map numbered_tree f.parameters.items; body = leaf_tree_of f.body.value }))
 
 -- a literal that stands by itself
 abbrev pub quoted_tree : literals.StringLiteral → Quoted Leaf
@@ -62,7 +62,7 @@ module_tree attributes doc name optional relative =
     tree.Construct (leaf_entries_of attributes) (tree.Module (record { doc = doc; optional = optional; name = name_tree name; path = option_map quoted_tree relative }))
 
 abbrev pub set_tree : Set → OrderedItem Leaf Token ℕ
-set_tree s = tree.Construct (leaf_entries_of s.attributes) (tree.Setting (record { keyword = keyword_of s.value; name = name_tree s.name; value = leaf_value_of s.value }))
+set_tree s = tree.Construct (leaf_entries_of s.attributes) (tree.Setting (record { keyword = keyword_of s.value.value; name = name_tree s.name; value = leaf_value_of s.value.value }))
 
 abbrev pub unexport_tree : AttributeSet → Name → OrderedItem Leaf Token ℕ
 unexport_tree attributes name = tree.Construct (leaf_entries_of attributes) (tree.Unexport (name_tree name))

@@ -47,7 +47,7 @@ IsWholeItem (Import attributes optional relative) = Unit {0}
 IsWholeItem (Module attributes doc name optional relative) = Unit {0}
 IsWholeItem Newline = Unit {0}
 IsWholeItem (Recipe r) = IsWholeRecipe r
-IsWholeItem (Setting s) = IsWholeSetting s.value
+IsWholeItem (Setting s) = IsWholeSetting s.value.value
 IsWholeItem (Unexport attributes name) = Unit {0}
 
 -- all of them are

@@ -39,7 +39,7 @@ pub(crate) fn parse_function<'src, X: Expander>(
     let body = parser.parse_expression()?;
     Ok(Item::Function(FunctionDefinition {
         attributes,
-        body: Box::into_inner(body),
+        body,
         name: Name::from_identifier(*name.token),
         parameters,
     }))

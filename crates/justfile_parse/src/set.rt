@@ -33,6 +33,6 @@ pub(crate) fn parse_set<'src, X: Expander>(
     Ok(Item::Setting(Set {
         attributes,
         name: Name::from_identifier(*name.token),
-        value,
+        value: Box::new(parser.alloc, value)?,
     }))
 }
