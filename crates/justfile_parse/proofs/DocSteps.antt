@@ -22,7 +22,7 @@ use Rattle.justfile_file.specs.declared.item.Item.TheVariants as items
 use Rattle.justfile_model.specs.AttributeKinds.{same_attribute}
 use Rattle.justfile_model.specs.ContentKeys.{kind_of_attribute}
 use Rattle.justfile_base.specs.declared.token.Token.{Token}
-use Rattle.justfile_model.specs.Docs.{Nothing, documented, item_with_doc, redocumented, wants_doc}
+use Rattle.justfile_model.specs.Docs.{LineEnd, Nothing, doc_in, documented, item_with_doc, redocumented, wants_doc}
 use Rattle.justfile_model.specs.Files.{says_doc}
 use Rattle.justfile_model.specs.Tree as tree
 use Rattle.justfile_model.specs.Tree.{Content, Entry}
@@ -32,106 +32,83 @@ use Rattle.justfile_parse.specs.Tree.{item_tree}
 use Rattle.justfile_parse.specs.Whole.{AreWhole, IsWholeItem}
 use Rattle.justfile_tree.specs.LeafTree.{Leaf}
 
--- ---- the last of the items
-
-abbrev before : List Item → List Item
-before xs = take (length xs - 1) xs
+-- ---- an item among others
 
 some_is : {X : Type 0} (x y : X) → ◌≡◌ {A = Option X} (Some x) (Some y) → x ≡ y
 some_is x y e = cc
 
-module _ (xs : List Item) (x : Item) (last : Some x ≡ slice_get xs (length xs - 1)) where
-  within : length xs - 1 < length xs
-  within = slice_get_within xs (length xs - 1) x (sym last)
+-- the items up to one, from the last on, are that one and those before it
+last_first : (xs : List Item) (n : ℕ) (x : Item) → n < length xs → x ≡ get_or xs n x → reverse (map item_tree (take (n + 1) xs)) ≡ item_tree x ∷ reverse (map item_tree (take n xs))
+last_first xs n x h e =
+    ap (λ (l : List Item). reverse (map item_tree l)) (take_more xs n x h ∙ ap (λ (y : Item). take n xs ++ y ∷ []) (sym e))
+    ∙ ap (λ (l : List LeafItem). reverse l) (map-append item_tree (take n xs) (x ∷ [])) ∙ reverse-append (map item_tree (take n xs)) (item_tree x ∷ [])
 
-  last_is : get_or xs (length xs - 1) x ≡ x
-  last_is = some_is (get_or xs (length xs - 1) x) x (sym (slice_get-get_or xs (length xs - 1) x within) ∙ sym last)
-
-  ends_with : xs ≡ before xs ++ x ∷ []
-  ends_with =
-      sym (take_all (length xs - 1 + 1) xs (omega (arith, within)))
-      ∙ take_more xs (length xs - 1) x within
-      ∙ ap (λ (y : Item). before xs ++ y ∷ []) last_is
-
-  last_first : reverse (map item_tree xs) ≡ item_tree x ∷ reverse (map item_tree (before xs))
-  last_first =
-      ap (λ (l : List Item). reverse (map item_tree l)) ends_with ∙ ap (λ (l : List LeafItem). reverse l) (map-append item_tree (before xs) (x ∷ []))
-      ∙ reverse-append (map item_tree (before xs)) (item_tree x ∷ [])
-
-  last_whole : AreWhole xs → IsWholeItem x
-  unfolding AreWhole
-  last_whole h = subst IsWholeItem last_is (All-get_or IsWholeItem xs (length xs - 1) x within h)
+item_whole : (xs : List Item) (n : ℕ) (x : Item) → n < length xs → x ≡ get_or xs n x → AreWhole xs → IsWholeItem x
+unfolding AreWhole
+item_whole xs n x h e whole = subst IsWholeItem (sym e) (All-get_or IsWholeItem xs n x h whole)
 
 pub front_whole : (n : ℕ) (xs : List Item) → AreWhole xs → AreWhole (take n xs)
 unfolding AreWhole
 front_whole n xs h = All-take IsWholeItem n xs h
 
--- ---- the doc that ends them
+-- the comment that an item is begins with its sign
+pub comment_begins : (xs : List Item) (n : ℕ) (x : Item) → n < length xs → x ≡ get_or xs n x → AreWhole xs → (text : List ℕ) → comment_of (item_tree x) ≡ Some text
+    → IsTrue (starts_with nat_eq text (codes "#"))
+comment_begins xs n x h e whole text is = go x (item_whole xs n x h e whole) is
+  where
+    go : (y : Item) → IsWholeItem y → comment_of (item_tree y) ≡ Some text → IsTrue (starts_with nat_eq text (codes "#"))
+    go (items.Comment other) w k = subst (λ (t : List ℕ). IsTrue (starts_with nat_eq t (codes "#"))) (some_is other.now text k) w
+    go (items.Alias a) w k = cc
+    go (items.Assignment a) w k = cc
+    go (items.Function f) w k = cc
+    go (items.Import attributes optional relative) w k = cc
+    go (items.Module attributes doc name optional relative) w k = cc
+    go items.Newline w k = cc
+    go (items.Recipe r) w k = cc
+    go (items.Setting set) w k = cc
+    go (items.Unexport attributes name) w k = cc
 
-no_line_end : (i : LeafItem) (others : List LeafItem) → is_newline i ≡ false → doc_first (i ∷ others) ≡ None
-no_line_end tree.Newline others h = cc
-no_line_end (tree.Comment text) others h = refl
-no_line_end (tree.Construct entries content) others h = refl
+-- ---- the doc that ends them
 
 line_end : (i : LeafItem) → is_newline i ≡ true → i ≡ tree.Newline
 line_end tree.Newline h = refl
 line_end (tree.Comment text) h = cc
 line_end (tree.Construct entries content) h = cc
 
-no_comment : (i : LeafItem) (others : List LeafItem) → comment_of i ≡ None → doc_first (tree.Newline ∷ i ∷ others) ≡ None
-no_comment tree.Newline others h = refl
-no_comment (tree.Comment text) others h = cc
-no_comment (tree.Construct entries content) others h = refl
+comment_is : (i : LeafItem) (text : List ℕ) → comment_of i ≡ Some text → i ≡ tree.Comment text
+comment_is tree.Newline text h = cc
+comment_is (tree.Comment other) text h = ap (λ (t : List ℕ). tree.Comment t) (some_is other text h)
+comment_is (tree.Construct entries content) text h = cc
 
 no_start : (i : LeafItem) (others : List LeafItem) (text : List ℕ) → is_newline i ≡ false → doc_first (tree.Newline ∷ tree.Comment text ∷ i ∷ others) ≡ None
 no_start tree.Newline others text h = cc
 no_start (tree.Comment other) others text h = refl
 no_start (tree.Construct entries content) others text h = refl
 
-comment_is : (i : LeafItem) (text : List ℕ) → comment_of i ≡ Some text → i ≡ tree.Comment text
-comment_is tree.Newline text h = cc
-comment_is (tree.Comment other) text h = ap (λ (t : List ℕ). tree.Comment t) (some_is other text h)
-comment_is (tree.Construct entries content) text h = cc
+-- the last item ends a line, and the one before it is a comment
+module _ (xs : List Item) (k m n : ℕ) (last : k + 1 ≡ length xs) (second : m + 1 ≡ k) (third : n + 1 ≡ m) (x y z : Item) (x_is : x ≡ get_or xs k x) (y_is : y ≡ get_or xs m y)
+    (z_is : z ≡ get_or xs n z) (text : List ℕ) (ends : is_newline (item_tree x) ≡ true) (comment : comment_of (item_tree y) ≡ Some text) where
+  abbrev others : List LeafItem
+  others = reverse (map item_tree (take n xs))
 
-module _ (xs : List Item) (x : Item) (last : Some x ≡ slice_get xs (length xs - 1)) where
-  pub not_ended : is_newline (item_tree x) ≡ false → doc_before (map item_tree xs) ≡ None
-  not_ended h = ap doc_first (last_first xs x last) ∙ no_line_end (item_tree x) (reverse (map item_tree (before xs))) h
+  doc_of_three : doc_before (map item_tree xs) ≡ doc_first (tree.Newline ∷ tree.Comment text ∷ item_tree z ∷ others)
+  doc_of_three =
+      ap (λ (l : List Item). doc_before (map item_tree l)) (sym (take_all (k + 1) xs (omega (arith, last))))
+      ∙ ap doc_first (last_first xs k x (omega (arith, last)) x_is)
+      ∙ ap (λ (j : ℕ). doc_first (item_tree x ∷ reverse (map item_tree (take j xs)))) (sym second)
+      ∙ ap (λ (l : List LeafItem). doc_first (item_tree x ∷ l)) (last_first xs m y (omega (arith, last, second)) y_is)
+      ∙ ap (λ (j : ℕ). doc_first (item_tree x ∷ item_tree y ∷ reverse (map item_tree (take j xs)))) (sym third)
+      ∙ ap (λ (l : List LeafItem). doc_first (item_tree x ∷ item_tree y ∷ l)) (last_first xs n z (omega (arith, last, second, third)) z_is)
+      ∙ ap (λ (i : LeafItem). doc_first (i ∷ item_tree y ∷ item_tree z ∷ others)) (line_end (item_tree x) ends)
+      ∙ ap (λ (i : LeafItem). doc_first (tree.Newline ∷ i ∷ item_tree z ∷ others)) (comment_is (item_tree y) text comment)
 
-  pub ended : is_newline (item_tree x) ≡ true → doc_before (map item_tree xs) ≡ doc_first (tree.Newline ∷ reverse (map item_tree (before xs)))
-  ended h =
-      ap doc_first (last_first xs x last)
-      ∙ ap (λ (i : LeafItem). doc_first (i ∷ reverse (map item_tree (before xs)))) (line_end (item_tree x) h)
+  -- a line ends before the comment
+  pub after_line : is_newline (item_tree z) ≡ true → doc_before (map item_tree xs) ≡ doc_in LineEnd text
+  after_line h = doc_of_three ∙ ap (λ (i : LeafItem). doc_first (tree.Newline ∷ tree.Comment text ∷ i ∷ others)) (line_end (item_tree z) h)
 
-  pub not_started : (text : List ℕ) → is_newline (item_tree x) ≡ false → doc_first (tree.Newline ∷ tree.Comment text ∷ reverse (map item_tree xs)) ≡ None
-  not_started text h =
-      ap (λ (l : List LeafItem). doc_first (tree.Newline ∷ tree.Comment text ∷ l)) (last_first xs x last)
-      ∙ no_start (item_tree x) (reverse (map item_tree (before xs))) text h
-
-  pub not_commented : comment_of (item_tree x) ≡ None → doc_first (tree.Newline ∷ reverse (map item_tree xs)) ≡ None
-  not_commented h =
-      ap (λ (l : List LeafItem). doc_first (tree.Newline ∷ l)) (last_first xs x last)
-      ∙ no_comment (item_tree x) (reverse (map item_tree (before xs))) h
-
-  pub commented : (text : List ℕ) → comment_of (item_tree x) ≡ Some text
-      → doc_first (tree.Newline ∷ reverse (map item_tree xs)) ≡ doc_first (tree.Newline ∷ tree.Comment text ∷ reverse (map item_tree (before xs)))
-  commented text h =
-      ap (λ (l : List LeafItem). doc_first (tree.Newline ∷ l)) (last_first xs x last)
-      ∙ ap (λ (i : LeafItem). doc_first (tree.Newline ∷ i ∷ reverse (map item_tree (before xs)))) (comment_is (item_tree x) text h)
-
-  pub comment_begins : AreWhole xs → (text : List ℕ) → comment_of (item_tree x) ≡ Some text → IsTrue (starts_with nat_eq text (codes "#"))
-  comment_begins h text e = go x (last_whole xs x last h) e
-    where
-      go : (y : Item) → IsWholeItem y → comment_of (item_tree y) ≡ Some text → IsTrue (starts_with nat_eq text (codes "#"))
-      go (items.Comment other) w k = subst (λ (t : List ℕ). IsTrue (starts_with nat_eq t (codes "#"))) (some_is other.now text k) w
-      go (items.Alias a) w k = cc
-      go (items.Assignment a) w k = cc
-      go (items.Function f) w k = cc
-      go (items.Import attributes optional relative) w k = cc
-      go (items.Module attributes doc name optional relative) w k = cc
-      go items.Newline w k = cc
-      go (items.Recipe r) w k = cc
-      go (items.Setting set) w k = cc
-      go (items.Unexport attributes name) w k = cc
+  -- something else stands before it on its line
+  pub after_other : is_newline (item_tree z) ≡ false → doc_before (map item_tree xs) ≡ None
+  after_other h = doc_of_three ∙ no_start (item_tree z) others text h
 
 -- ---- an item that wants a doc
 

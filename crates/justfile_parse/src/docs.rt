@@ -130,33 +130,15 @@ fn find_doc<'src>(items: &[Item<'src>]) -> Option<&'src str>
     requires { AreWhole items.now }
     ensures { option_map (λ doc. doc.now) result ≡ doc_before (map item_tree items.now) }
 {
-    let last = items.last()?;
-    if is_newline(last) {
-        find_ended_doc(&items[..items.len() - 1])
-    } else {
-        None
+    let count = items.len();
+    if count < 2 || !is_newline(&items[count - 1]) {
+        return None;
     }
-}
-
-/// The doc that ends these items, where a line end follows them.
-fn find_ended_doc<'src>(items: &[Item<'src>]) -> Option<&'src str>
-    requires { AreWhole items.now }
-    ensures { option_map (λ doc. doc.now) result ≡ doc_first (tree.Newline ∷ reverse (map item_tree items.now)) }
-{
-    let comment = find_comment(items.last()?)?;
-    find_doc_after(&items[..items.len() - 1], comment)
-}
-
-/// The doc that a comment is which stands after these items, and before a line end.
-fn find_doc_after<'src>(before: &[Item<'src>], comment: &'src str) -> Option<&'src str>
-    requires { IsTrue (starts_with nat_eq comment.now (codes "#")) }
-    ensures { option_map (λ doc. doc.now) result
-        ≡ doc_first (tree.Newline ∷ tree.Comment comment.now ∷ reverse (map item_tree before.now)) }
-{
-    let Some(previous) = before.last() else {
+    let comment = find_comment(&items[count - 2])?;
+    if count == 2 {
         return find_first_doc(comment);
-    };
-    if is_newline(previous) {
+    }
+    if is_newline(&items[count - 3]) {
         find_text(comment)
     } else {
         None

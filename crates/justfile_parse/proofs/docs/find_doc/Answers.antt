@@ -1,9 +1,26 @@
-use Rattle.std.proofs.Common.{sym, ◌∙◌}
-use Rattle.justfile_parse.proofs.DocSteps.{front_whole, not_ended}
+use Rattle.std.proofs.Common.{◌∙◌, ◌-◌, length, sym, arith}
+use Rattle.justfile_parse.proofs.DocSteps.{after_line, after_other, comment_begins}
 use Rattle.justfile_parse.proofs.docs.find_doc.Goals as goal
 
-pub find_ended_doc-requires : goal.find_ended_doc-requires
-find_ended_doc-requires c = front_whole _ c.args.items.now c.requires
+pub find_first_doc-requires : goal.find_first_doc-requires
+find_first_doc-requires c =
+    comment_begins c.args.items.now (length c.args.items.now - 2) c.index-items-count-2.result (omega arith) c.index-items-count-2.is c.requires c.in_ok-comment.comment.now
+    (sym c.in_ok-comment.ensures)
+
+pub find_text-requires : goal.find_text-requires
+find_text-requires c =
+    comment_begins c.args.items.now (length c.args.items.now - 2) c.index-items-count-2.result (omega arith) c.index-items-count-2.is c.requires c.in_ok-comment.comment.now
+    (sym c.in_ok-comment.ensures)
+
+pub returns-then-is_newline : goal.returns-then-is_newline
+returns-then-is_newline c =
+    c.find_text.ensures
+    ∙ sym (after_line c.args.items.now (length c.args.items.now - 1) (length c.args.items.now - 2) (length c.args.items.now - 3) (omega arith) (omega arith) (omega arith)
+    c.index-items-count.result c.index-items-count-2.result c.index-items-count-3.result c.index-items-count.is c.index-items-count-2.is c.index-items-count-3.is
+    c.in_ok-comment.comment.now (sym c.is_newline.ensures ∙ c.if-not-is_newline.false) (sym c.in_ok-comment.ensures) (sym c.is_newline-2.ensures ∙ c.if-is_newline.true))
 
 pub returns-else-is_newline : goal.returns-else-is_newline
-returns-else-is_newline c = sym (not_ended c.args.items.now c.in_ok-last.last.now c.in_ok-last.ensures.value (sym c.is_newline.ensures ∙ c.if-is_newline.false))
+returns-else-is_newline c =
+    sym (after_other c.args.items.now (length c.args.items.now - 1) (length c.args.items.now - 2) (length c.args.items.now - 3) (omega arith) (omega arith) (omega arith)
+    c.index-items-count.result c.index-items-count-2.result c.index-items-count-3.result c.index-items-count.is c.index-items-count-2.is c.index-items-count-3.is
+    c.in_ok-comment.comment.now (sym c.is_newline.ensures ∙ c.if-not-is_newline.false) (sym c.in_ok-comment.ensures) (sym c.is_newline-2.ensures ∙ c.if-is_newline.false))
