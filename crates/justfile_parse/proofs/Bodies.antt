@@ -21,6 +21,7 @@ use Rattle.justfile_parse_expression.specs.declared.stop.Stop.TheVariants.{Refus
 use Rattle.justfile_model.proofs.Reading as laws
 use Rattle.justfile_model.proofs.ReadingSteps.{known}
 use Rattle.justfile_parse_expression.proofs.Rules.{bind_alike, choose_alike, closed_by, then_made}
+use Rattle.justfile_parse_header.proofs.Halts.{stopped}
 
 pub fragment_is : (s : State) → fragment s
     ≡ choose {X = Read (tree.Fragment Leaf Token)} (accept kinds.Text s)
@@ -91,9 +92,13 @@ line_shrinks q l rest none value = (known {X = BodyLine Leaf Token ℕ × State}
 -- ---- a body
 
 module _ (s : State) where
-  pub body_fails : (e : Refusal) → lines s ≡ Err e → body s ≡ Err e
+  body_fails : (e : Refusal) → lines s ≡ Err e → body s ≡ Err e
   unfolding files.body
   body_fails e h = rw h refl
+
+  -- its lines are refused
+  pub body_stops : (stop : Stop) (left : State) → StopsAt stop left ⊥ (lines s) → StopsAt stop left ⊥ (body s)
+  body_stops stop left h = stopped (lines s) (body s) body_fails stop left ⊥ ⊥ (λ k. k) h
 
   some_is : (ls : List (BodyLine Leaf Token ℕ)) (rest : State) → (ls ≡ [] → ⊥) → files.some_lines leaves ls rest ≡ Ok (ls, rest)
   some_is [] rest h = absurd (h refl)

@@ -7,6 +7,7 @@ pub mod Formats
 pub mod GivenAttributes
 pub mod GivenParts
 pub mod Hashes
+pub mod ItemHalts
 pub mod Lines
 pub mod Loop
 pub mod Moved

@@ -34,7 +34,7 @@ pub(crate) fn parse_body_after_header<'src, X: Expander>(
 }
 
 /// A body from its first line on, without the empty lines at its end. One line is not empty.
-#[tactic(auto, using(crate::proofs::Bodies::body_fails, crate::proofs::Bodies::body_some, crate::proofs::Bodies::body_none))]
+#[tactic(auto, using(crate::proofs::Bodies::body_some, crate::proofs::Bodies::body_none))]
 fn parse_body<'src, X: Expander>(
     parser: &mut ExpressionParser<'_, 'src, X>,
 ) -> Result<Vec<Line<'src>>, Stop<'src>>

@@ -135,7 +135,6 @@ fn accept_word<X: Expander>(parser: &mut ExpressionParser<'_, '_, X>) -> Option<
 }
 
 /// A construct after its attributes and this word.
-#[tactic(auto, using(crate::proofs::Words::uncounted))]
 fn parse_after_word<'src, X: Expander>(
     word: Word,
     parser: &mut ExpressionParser<'_, 'src, X>,

@@ -6,6 +6,7 @@ ghost use Rattle.justfile_base.specs.Token.{lexeme_of};
 ghost use Rattle.justfile_model.specs.SignificantTokens.{identifiers};
 ghost use Rattle.justfile_model.specs.Tree as tree;
 ghost use Rattle.justfile_parse_header.specs.Counting.{ReadsCounted, counters_of};
+ghost use Rattle.justfile_model.specs.Reader.{has_body};
 ghost use Rattle.justfile_model.specs.Reading.{prepend};
 ghost use Rattle.justfile_model.specs.PartReader.{after_numbered};
 ghost use Rattle.justfile_parse.specs.ItemTable as reader;
@@ -76,8 +77,7 @@ fn parse_line<'src, X: Expander>(
         return Ok(());
     }
     let item = parse_item(parser, numerator)?;
-    let has_body = item.has_body();
-    push_item(items, item)?;
+    let has_body = push_parsed(items, item)?;
     parse_item_end(parser, has_body, items)?;
     Ok(())
 }
@@ -166,6 +166,41 @@ fn make_comment<'src>(comment: Token<'src>) -> Item<'src>
     ensures whole { IsWholeItem result }
 {
     Item::Comment(comment.lexeme().trim_end())
+}
+
+/// Adds an item. Whether it has a body.
+fn push_parsed<'src>(items: &mut Vec<Item<'src>>, item: Item<'src>) -> Result<bool, Stop<'src>>
+    ensures trees { UnlessMemory result
+        (λ done. map item_tree items.new.items ≡ map item_tree items.old.items ++ item_tree item.entry ∷ []) }
+    ensures pushed { OnOk result (items.new.items ≡ items.old.items ++ item.entry ∷ []) }
+    ensures body { IfOk result (λ answer. answer ≡ has_body (item_tree item.entry)) }
+{
+    if is_bodied(&item) {
+        return push_known(items, item, true);
+    }
+    push_known(items, item, false)
+}
+
+/// Adds an item of which it is known whether it has a body, and returns that.
+fn push_known<'src>(
+    items: &mut Vec<Item<'src>>,
+    item: Item<'src>,
+    has_body: bool,
+) -> Result<bool, Stop<'src>>
+    ensures trees { UnlessMemory result
+        (λ done. map item_tree items.new.items ≡ map item_tree items.old.items ++ item_tree item.entry ∷ []) }
+    ensures pushed { OnOk result (items.new.items ≡ items.old.items ++ item.entry ∷ []) }
+    ensures body { IfOk result (λ answer. answer ≡ has_body) }
+{
+    push_item(items, item)?;
+    Ok(has_body)
+}
+
+/// Whether the item is a recipe with a body.
+fn is_bodied(item: &Item<'_>) -> bool
+    ensures { result ≡ has_body (item_tree item.now) }
+{
+    item.has_body()
 }
 
 fn push_item<'src>(items: &mut Vec<Item<'src>>, item: Item<'src>) -> Result<(), Stop<'src>>

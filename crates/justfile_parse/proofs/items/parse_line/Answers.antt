@@ -12,7 +12,7 @@ use Rattle.justfile_parse.specs.Tree.{item_tree}
 use Rattle.justfile_tree.specs.LeafTree.{Leaf}
 use Rattle.justfile_parse_expression.specs.View.{state_of}
 use Rattle.justfile_parse_expression.specs.declared.parser.ExpressionParser.{ExpressionParser}
-use Rattle.justfile_parse.proofs.Lines.{end_stops, has_body_is, line_goes_on, line_halts}
+use Rattle.justfile_parse.proofs.Lines.{end_stops, line_goes_on, line_halts}
 use Rattle.justfile_parse.proofs.Wholes.{both_whole, pushed_whole}
 use Rattle.justfile_parse.proofs.items.parse_line.Goals as goal
 use Rattle.justfile_parse.specs.MethodResults.{IsMoved}
@@ -30,8 +30,8 @@ returns-in_err-item-clause-moved g c =
     let P : ExpressionParser _ → Type 0 = λ p. IsMoved c.args.numerator.now c.parse_item.new.numerator (names (state_of A p)) in
     subst P c.in_default.ensures.moves c.parse_item.ensures.moved
 
-pub returns-in_err-push_item-2-clause-moved : goal.returns-in_err-push_item-2-clause-moved
-returns-in_err-push_item-2-clause-moved g c =
+pub returns-in_err-has_body-clause-moved : goal.returns-in_err-has_body-clause-moved
+returns-in_err-has_body-clause-moved g c =
     let A = g.X.Expander.answer in
     let P : ExpressionParser _ → Type 0 = λ p. IsMoved c.args.numerator.now c.parse_item.new.numerator (names (state_of A p)) in
     subst P c.in_default.ensures.moves c.parse_item.ensures.moved
@@ -58,7 +58,7 @@ returns-in_err-parse_item_end-clause-reads g c =
     rw (p.1, p.2)
     (end_stops done (state_of A c.args.parser.now) (counters_of c.args.numerator.now) (item_tree c.in_ok-item.item) (counters_of c.parse_item.new.numerator) rest c.in_default.ensures.takes
     (subst P c.in_default.ensures.moves c.in_ok-item.ensures.reads) c.in_err-parse_item_end.field-0.0 (state_of A c.parse_item_end.new.parser) _
-    (rw (c.in_ok-push_item-2.ensures.trees, c.has_body-has_body.ensures ∙ has_body_is c.in_ok-item.item) at c.in_err-parse_item_end.ensures.reads))
+    (rw (c.in_ok-has_body.ensures.trees, c.in_ok-has_body.ensures.body) at c.in_err-parse_item_end.ensures.reads))
 
 pub returns-clause-reads : goal.returns-clause-reads
 returns-clause-reads g c =
@@ -66,11 +66,11 @@ returns-clause-reads g c =
     let done : List (OrderedItem Leaf Token ℕ) = map item_tree c.args.items.now.items in
     let rest = state_of A c.parse_item.new.parser in
     let P : ExpressionParser _ → Type 0 = λ p. on_line (counters_of c.args.numerator.now) (state_of A p) ≡ Ok ((item_tree c.in_ok-item.item, counters_of c.parse_item.new.numerator), rest) in
-    let found : ◌≡◌ {A = Read (List (OrderedItem Leaf Token ℕ))} (prepend (map item_tree c.push_item-2.new.items.items) (ended c.has_body-has_body.result rest)) (Ok (map item_tree c.parse_item_end.new.items.items, state_of A c.parse_item_end.new.parser)) = c.in_ok-parse_item_end.ensures.reads in
+    let found : ◌≡◌ {A = Read (List (OrderedItem Leaf Token ℕ))} (prepend (map item_tree c.push_parsed.new.items.items) (ended c.in_ok-has_body.has_body rest)) (Ok (map item_tree c.parse_item_end.new.items.items, state_of A c.parse_item_end.new.parser)) = c.in_ok-parse_item_end.ensures.reads in
     line_goes_on done (state_of A c.args.parser.now) (counters_of c.args.numerator.now) (item_tree c.in_ok-item.item) (counters_of c.parse_item.new.numerator) rest c.in_default.ensures.takes
     (subst P c.in_default.ensures.moves c.in_ok-item.ensures.reads) (map item_tree c.parse_item_end.new.items.items) (state_of A c.parse_item_end.new.parser)
-    (ap (λ (l : List (OrderedItem Leaf Token ℕ)). prepend l (ended (has_body (item_tree c.in_ok-item.item)) rest)) (sym c.in_ok-push_item-2.ensures.trees)
-    ∙ ap (λ (b : Bool). prepend (map item_tree c.push_item-2.new.items.items) (ended b rest)) (sym (c.has_body-has_body.ensures ∙ has_body_is c.in_ok-item.item))
+    (ap (λ (l : List (OrderedItem Leaf Token ℕ)). prepend l (ended (has_body (item_tree c.in_ok-item.item)) rest)) (sym c.in_ok-has_body.ensures.trees)
+    ∙ ap (λ (b : Bool). prepend (map item_tree c.push_parsed.new.items.items) (ended b rest)) (sym c.in_ok-has_body.ensures.body)
     ∙ found)
 
 pub returns-in_err-item-clause-reads : goal.returns-in_err-item-clause-reads
@@ -86,6 +86,6 @@ returns-in_err-item-clause-reads g c =
 
 pub returns-clause-whole : goal.returns-clause-whole
 returns-clause-whole g c =
-    both_whole c.args.items.now.items c.push_item-2.new.items.items c.parse_item_end.new.items.items
-    (pushed_whole c.args.items.now.items c.push_item-2.new.items.items c.in_ok-item.item c.in_ok-push_item-2.ensures.pushed c.in_ok-item.ensures.whole)
+    both_whole c.args.items.now.items c.push_parsed.new.items.items c.parse_item_end.new.items.items
+    (pushed_whole c.args.items.now.items c.push_parsed.new.items.items c.in_ok-item.item c.in_ok-has_body.ensures.pushed c.in_ok-item.ensures.whole)
     c.in_ok-parse_item_end.ensures.whole
