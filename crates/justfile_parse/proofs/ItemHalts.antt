@@ -21,7 +21,7 @@ module _ (ws : Entries) (n : Counters) (s : State) (name : TableEntry) (named : 
   -- ---- an assignment
 
   module _ (eager export : Bool) (operator : TableEntry) (rest : State) (e : Expr Leaf Token) (t : State) (assigned : expect kinds.ColonEquals named ≡ Ok (operator, rest))
-    (value : read (At levels.Expression false rest) ≡ Ok (e, t)) where
+      (value : read (At levels.Expression false rest) ≡ Ok (e, t)) where
     assignment_fails : (f : Refusal) → reader.allowed item_kinds.Assignment ws name t ≡ Err f → reader.assignment eager export ws n s ≡ Err f
     unfolding files.assignment
     assignment_fails f is = rw (taken, assigned, value, is) refl
