@@ -274,23 +274,30 @@ pub(crate) fn indented(ast: &Ast<'_>, answer: &mut Answer) {
 /// What items are called that are there on this system.
 pub(crate) fn enabled(items: &[Item<'_>], answer: &mut Answer) {
     for item in items {
-        push_enabled(answer, item);
+        push_enabled(item, answer);
     }
 }
 
-/// What an item is called that is there; an import by its path. An item that has no name and isn't
-/// there is `missing`.
-fn push_enabled(answer: &mut Answer, item: &Item<'_>) {
-    let is_there = item.is_enabled();
+/// What an item is called that is there. An item that has no name and isn't there is `missing`.
+fn push_enabled(item: &Item<'_>, answer: &mut Answer) {
+    if item.is_enabled() {
+        push_name(item, answer);
+    } else if matches!(item, Item::Comment(_) | Item::Newline) {
+        answer.push("missing");
+    }
+}
+
+/// What an item is called, if it has a name; an import by its path.
+fn push_name(item: &Item<'_>, answer: &mut Answer) {
     match item {
-        Item::Alias(alias) => answer.push_if(alias.name.lexeme(), is_there),
-        Item::Assignment(assignment) => answer.push_if(assignment.name.lexeme(), is_there),
-        Item::Comment(_) | Item::Newline => answer.push_if("missing", !is_there),
-        Item::Function(function) => answer.push_if(function.name.lexeme(), is_there),
-        Item::Import { relative, .. } => answer.push_if(relative.token.lexeme(), is_there),
-        Item::Module { name, .. } => answer.push_if(name.lexeme(), is_there),
-        Item::Recipe(recipe) => answer.push_if(recipe.name.lexeme(), is_there),
-        Item::Setting(set) => answer.push_if(set.name.lexeme(), is_there),
-        Item::Unexport { name, .. } => answer.push_if(name.lexeme(), is_there),
+        Item::Alias(alias) => answer.push(alias.name.lexeme()),
+        Item::Assignment(assignment) => answer.push(assignment.name.lexeme()),
+        Item::Comment(_) | Item::Newline => {}
+        Item::Function(function) => answer.push(function.name.lexeme()),
+        Item::Import { relative, .. } => answer.push(relative.token.lexeme()),
+        Item::Module { name, .. } => answer.push(name.lexeme()),
+        Item::Recipe(recipe) => answer.push(recipe.name.lexeme()),
+        Item::Setting(set) => answer.push(set.name.lexeme()),
+        Item::Unexport { name, .. } => answer.push(name.lexeme()),
     }
 }
