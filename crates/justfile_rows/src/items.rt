@@ -178,7 +178,7 @@ fn put_path(shown: &mut Text, path: &Option<StringLiteral<'_>>) {
 }
 
 /// What is seen of an item.
-fn put_item(shown: &mut Text, item: &Item<'_>) {
+fn put_item(item: &Item<'_>, shown: &mut Text) {
     match item {
         Item::Alias(alias) => put_alias(shown, alias),
         Item::Assignment(assignment) => put_assignment(shown, assignment),
@@ -214,16 +214,16 @@ fn put_item(shown: &mut Text, item: &Item<'_>) {
     }
 }
 
-fn push_item(answer: &mut Answer, item: &Item<'_>) {
+fn push_item(item: &Item<'_>, answer: &mut Answer) {
     let mut shown = Text::new(answer.alloc());
-    put_item(&mut shown, item);
+    put_item(item, &mut shown);
     answer.push_text(shown);
 }
 
 /// What is seen of the items of a file.
 fn push_items(items: &[Item<'_>], answer: &mut Answer) {
     for item in items {
-        push_item(answer, item);
+        push_item(item, answer);
     }
 }
 
