@@ -1,4 +1,5 @@
 mod ByteTable
+mod ExcerptLemmas
 mod FoundLemmas
 mod KeywordTable
 mod TokenStart

@@ -2,6 +2,7 @@ pub mod AttributeKind
 pub mod ByteClass
 pub mod CompileErrorKind
 pub mod Delimiter
+pub mod Excerpt
 pub mod Expander
 pub mod Indentation
 pub mod ItemKind

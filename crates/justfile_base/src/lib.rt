@@ -7,6 +7,8 @@ pub mod bytes;
 pub mod compile_error;
 pub mod compile_error_kind;
 pub mod delimiter;
+mod excerpt;
+pub mod excerpt_examples;
 pub mod expander;
 pub mod fault;
 pub mod format_string_part;

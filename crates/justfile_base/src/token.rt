@@ -3,7 +3,9 @@ ghost use Rattle.justfile_base.specs.Slice.{IsWithin, slice_of};
 
 use crate::compile_error::CompileError;
 use crate::compile_error_kind::CompileErrorKind;
+use crate::excerpt::write_excerpt;
 use crate::token_kind::TokenKind;
+use std::fmt;
 
 /// A part of a source text, with its kind and its place. Lines and columns count from 0, columns
 /// in bytes. The last newline of a text begins no line, so that what follows it is on the
@@ -41,5 +43,17 @@ impl<'src> Token<'src> {
         ensures token { result.token ≡ self.now }
     {
         CompileError::new(*self, kind)
+    }
+}
+
+/// The excerpt of the token: its place, and its line in the source with carets under the token.
+impl fmt::Display for Token<'_> {
+    ghost use Rattle.std.specs.Prelude.{Some};
+    ghost use Rattle.justfile_base.specs.Excerpt.{excerpt_text};
+
+    ghost output = { λ token. Some (excerpt_text token) };
+
+    fn fmt<W: fmt::Write>(&self, f: &mut fmt::Formatter<W>) -> fmt::Result {
+        write_excerpt(self, f)
     }
 }

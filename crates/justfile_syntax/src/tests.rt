@@ -2,6 +2,7 @@
 //! `justfile_rows`.
 
 mod attributes;
+mod excerpts;
 mod format_parts;
 mod headers;
 mod items;

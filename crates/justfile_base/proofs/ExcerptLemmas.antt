@@ -1,0 +1,111 @@
+-- What the loops over a line's characters have so far.
+use Rattle.std.proofs.Common.{◌≡◌, ℕ, zero, suc, ◌+◌, ◌<◌, ◌≤◌, ◌^◌, ◌/◌, ◌%◌, max, if◌then◌else◌, Bool, true, false, List, [], ◌∷◌, ◌++◌, Option, Some, None, unwrap_or, IsUtf8, IsOk, length, take, drop, get_or, refl, sym, ap, subst, ◌∙◌, arith, append_assoc, append-nil, length-append, add-zero, zero-add, suc-add}
+use Rattle.std.specs.Prelude.{chars, codes, filter, sum_by, encode_utf8, Result}
+use Rattle.std.specs.Borrow.{Bor}
+use Rattle.std.specs.Option.{option_map}
+use Rattle.std.specs.List.{repeat}
+use Rattle.std.specs.Fmt.{IsDefaultSpec, IsPlainFormatter, HasWritten, HasWrittenStyled, decimal}
+use Rattle.std.specs.Str.Iter.{char_indices_rest, char_indices_offset, char_indices_steps}
+use Rattle.std.specs.declared.fmt.Formatter.{Formatter}
+use Rattle.std.proofs.lemmas.Fmt.{decimal_digit, decimal_step_wide}
+use Rattle.std.proofs.lemmas.Iterator.{YieldsList}
+use Rattle.std.proofs.lemmas.Iterator.Splits.{YieldsList-from_shown_while}
+use Rattle.std.proofs.lemmas.List.{nil_from_length, take-append-drop, take_more}
+use Rattle.std.proofs.lemmas.List.Elements.{filter-append}
+use Rattle.std.proofs.lemmas.List.Sums.{sum_by-append}
+use Rattle.std.proofs.lemmas.Str.{IsUtf8-past_char, chars_past_char, chars-nil}
+use Rattle.justfile_base.specs.Excerpt.{bar, caret_line, indent, is_among, line_at, placed_from, source_line, number_text, shown_line, width_among, width_in, width_of}
+use Rattle.justfile_base.specs.declared.token.Token.{Token}
+
+-- the text behind an optional reference, or that of the other one where it is empty
+pub now-unwrap_or : (o : Option (Bor (List ℕ))) (other : Bor (List ℕ)) (text : Option (List ℕ))
+    → option_map (λ r. r.now) o ≡ text → other.now ≡ [] → (unwrap_or o other).now ≡ unwrap_or text []
+now-unwrap_or None other text same empty = empty ∙ ap (λ t. unwrap_or t []) same
+now-unwrap_or (Some r) other text same empty = ap (λ t. unwrap_or t []) same
+
+-- the characters of a line come with their places
+pub YieldsList-from_char_indices : {s : _} (line : List ℕ) → IsUtf8 line → char_indices_rest s ≡ line → char_indices_offset s ≡ 0
+    → YieldsList char_indices_steps (λ p. p) s (placed_from 0 (chars line))
+YieldsList-from_char_indices {s} line utf8 rest offset =
+    subst (YieldsList char_indices_steps (λ p. p) s) (λ i. placed_from (offset i) (chars (rest i)))
+    (YieldsList-from_shown_while char_indices_steps (λ p. p) (λ t. placed_from (char_indices_offset t) (chars (char_indices_rest t))) (λ t. IsUtf8 (char_indices_rest t))
+    (λ t u h step. ap (λ bs. length (placed_from (char_indices_offset t) (chars bs))) (nil_from_length _ step.0) ∙ ap (λ cs. length (placed_from (char_indices_offset t) cs)) chars-nil)
+    (λ t p u h step. (
+      IsUtf8-past_char _ _ _ h step.1,
+      ap (placed_from (char_indices_offset t)) (chars_past_char _ _ _ h step.1)
+          ∙ (λ i. (sym step.0 i, p.1) ∷ placed_from (sym step.2 i) (chars (char_indices_rest u))),
+    ))
+    s (subst IsUtf8 (sym rest) utf8))
+
+pub repeat-add : {A : Type 0} (m n : ℕ) (xs : List A) → repeat (m + n) xs ≡ repeat m xs ++ repeat n xs
+repeat-add zero n xs = ap (λ k. repeat k xs) (zero-add n)
+repeat-add (suc m) n xs = ap (λ k. repeat k xs) (suc-add m n) ∙ ap (λ ys. xs ++ ys) (repeat-add m n xs) ∙ sym (append_assoc xs (repeat m xs) (repeat n xs))
+
+pub width_among-append : (start count : ℕ) (xs ys : List (ℕ × ℕ)) → width_among start count (xs ++ ys) ≡ width_among start count xs + width_among start count ys
+width_among-append start count xs ys =
+    ap (sum_by (λ p. width_of p.1)) (filter-append (λ p. is_among start count p.0) xs ys)
+    ∙ sum_by-append (λ p. width_of p.1) (filter (λ p. is_among start count p.0) xs) (filter (λ p. is_among start count p.0) ys)
+
+-- one character counts where its place is among those of interest
+pub width_among-in : (start count : ℕ) (p : ℕ × ℕ) → is_among start count p.0 ≡ true → width_among start count (p ∷ []) ≡ width_of p.1
+width_among-in start count p inside = ap (λ (b : Bool). sum_by (λ (q : ℕ × ℕ). width_of q.1) (if b then p ∷ [] else [])) inside ∙ zero-add (width_of p.1)
+
+pub width_among-out : (start count : ℕ) (p : ℕ × ℕ) → is_among start count p.0 ≡ false → width_among start count (p ∷ []) ≡ 0
+width_among-out start count p outside = ap (λ (b : Bool). sum_by (λ (q : ℕ × ℕ). width_of q.1) (if b then p ∷ [] else [])) outside
+
+-- with one more character
+pub width_among-push_in : (start count : ℕ) (xs : List (ℕ × ℕ)) (p : ℕ × ℕ) → is_among start count p.0 ≡ true
+    → width_among start count (xs ++ p ∷ []) ≡ width_among start count xs + width_of p.1
+width_among-push_in start count xs p inside =
+    width_among-append start count xs (p ∷ []) ∙ ap (λ n. width_among start count xs + n) (width_among-in start count p inside)
+
+pub width_among-push_out : (start count : ℕ) (xs : List (ℕ × ℕ)) (p : ℕ × ℕ) → is_among start count p.0 ≡ false
+    → width_among start count (xs ++ p ∷ []) ≡ width_among start count xs
+width_among-push_out start count xs p outside =
+    width_among-append start count xs (p ∷ []) ∙ ap (λ n. width_among start count xs + n) (width_among-out start count p outside) ∙ add-zero _
+
+-- the first characters take no more columns than all
+pub width_among-front : (start count : ℕ) (all xs : List (ℕ × ℕ)) (p : ℕ × ℕ) → xs ≡ take (length xs) all → (length xs < length all) × (p ≡ get_or all (length xs) p)
+    → width_among start count (xs ++ p ∷ []) ≤ width_among start count all
+width_among-front start count all xs p front turn =
+    let n = length xs in
+    let pushed : take (n + 1) all ≡ xs ++ p ∷ [] =
+    take_more all n p turn.0 ∙ (λ i. sym front i ++ sym turn.1 i ∷ []) in
+    let whole : width_among start count all ≡ width_among start count (take (n + 1) all) + width_among start count (drop (n + 1) all) =
+    ap (width_among start count) (sym (take-append-drop (n + 1) all)) ∙ width_among-append start count (take (n + 1) all) (drop (n + 1) all) in
+    let same = ap (width_among start count) pushed in
+    omega (arith, whole, same)
+
+-- at least one caret
+pub repeat-max : {A : Type 0} (n : ℕ) (xs : List A) → 0 < n → repeat (max 1 n) xs ≡ repeat n xs
+repeat-max n xs some = let same : max 1 n ≡ n = omega arith in ap (λ k. repeat k xs) same
+
+pub repeat-max_none : {A : Type 0} (n : ℕ) (xs : List A) → ¬ (0 < n) → repeat (max 1 n) xs ≡ xs
+repeat-max_none n xs none = let one : max 1 n ≡ 1 = omega arith in ap (λ k. repeat k xs) one ∙ append-nil xs
+
+-- a number of two digits or more has one digit more than its tenth
+pub length-decimal_step : (n : ℕ) → 10 ≤ n → n < 10 ^ 64 → length (decimal n) ≡ length (decimal (n / 10)) + 1
+length-decimal_step n more fits = ap length (decimal_step_wide n more fits) ∙ length-append (decimal (n / 10)) ((48 + n % 10) ∷ [])
+
+-- the line of the carets, as it is written: where the token takes columns, and where it takes none
+pub caret_line-wide : (token : Token) (line : List ℕ) (count : ℕ) → line ≡ line_at token.src.now token.line → count ≡ max token.length 1 → 0 < width_in line token.column count
+    → indent token ++ bar ++ codes " " ++ repeat (width_in line 0 token.column) (codes " ") ++ repeat (width_in line token.column count) (codes "^") ≡ caret_line token
+caret_line-wide token line count same long some =
+    let front : List ℕ → List ℕ = λ l. indent token ++ bar ++ codes " " ++ repeat (width_in l 0 token.column) (codes " ") in
+    ap (λ carets. front line ++ carets) (sym (repeat-max (width_in line token.column count) (codes "^") some))
+    ∙ (λ i. front (same i) ++ repeat (max 1 (width_in (same i) token.column (long i))) (codes "^"))
+
+pub caret_line-narrow : (token : Token) (line : List ℕ) (count : ℕ) → line ≡ line_at token.src.now token.line → count ≡ max token.length 1 → ¬ (0 < width_in line token.column count)
+    → indent token ++ bar ++ codes " " ++ repeat (width_in line 0 token.column) (codes " ") ++ codes "^" ≡ caret_line token
+caret_line-narrow token line count same long none =
+    let front : List ℕ → List ℕ = λ l. indent token ++ bar ++ codes " " ++ repeat (width_in l 0 token.column) (codes " ") in
+    ap (λ carets. front line ++ carets) (sym (repeat-max_none (width_in line token.column count) (codes "^") none))
+    ∙ (λ i. front (same i) ++ repeat (max 1 (width_in (same i) token.column (long i))) (codes "^"))
+
+-- what is written whatever the options of the formatter are is written by a plain one
+module _ {W : Type 0} (took : W → List ℕ → W → Type 0) where
+  pub has_written_from_styled : (f g : Formatter W) (text : List ℕ) → IsPlainFormatter f → HasWrittenStyled took f text g → HasWritten took f text g
+  has_written_from_styled f g text plain written = record {
+    wrote = written.wrote;
+    plain = record { bare = subst IsDefaultSpec (sym written.spec) plain.bare; flush = written.flush };
+  }
