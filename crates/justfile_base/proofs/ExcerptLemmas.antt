@@ -14,8 +14,7 @@ use Rattle.std.proofs.lemmas.List.{nil_from_length, take-append-drop, take_more}
 use Rattle.std.proofs.lemmas.List.Elements.{filter-append}
 use Rattle.std.proofs.lemmas.List.Sums.{sum_by-append}
 use Rattle.std.proofs.lemmas.Str.{IsUtf8-past_char, chars_past_char, chars-nil}
-use Rattle.justfile_base.specs.Excerpt.{bar, caret_line, indent, is_among, line_at, placed_from, source_line, number_text, shown_line, width_among, width_in, width_of}
-use Rattle.justfile_base.specs.declared.token.Token.{Token}
+use Rattle.justfile_base.specs.Excerpt.{is_among, placed_from, width_among, width_of}
 
 -- the text behind an optional reference, or that of the other one where it is empty
 pub now-unwrap_or : (o : Option (Bor (List ℕ))) (other : Bor (List ℕ)) (text : Option (List ℕ))
@@ -50,19 +49,11 @@ width_among-append start count xs ys =
 pub width_among-in : (start count : ℕ) (p : ℕ × ℕ) → is_among start count p.0 ≡ true → width_among start count (p ∷ []) ≡ width_of p.1
 width_among-in start count p inside = ap (λ (b : Bool). sum_by (λ (q : ℕ × ℕ). width_of q.1) (if b then p ∷ [] else [])) inside ∙ zero-add (width_of p.1)
 
-pub width_among-out : (start count : ℕ) (p : ℕ × ℕ) → is_among start count p.0 ≡ false → width_among start count (p ∷ []) ≡ 0
-width_among-out start count p outside = ap (λ (b : Bool). sum_by (λ (q : ℕ × ℕ). width_of q.1) (if b then p ∷ [] else [])) outside
-
 -- with one more character
 pub width_among-push_in : (start count : ℕ) (xs : List (ℕ × ℕ)) (p : ℕ × ℕ) → is_among start count p.0 ≡ true
     → width_among start count (xs ++ p ∷ []) ≡ width_among start count xs + width_of p.1
 width_among-push_in start count xs p inside =
     width_among-append start count xs (p ∷ []) ∙ ap (λ n. width_among start count xs + n) (width_among-in start count p inside)
-
-pub width_among-push_out : (start count : ℕ) (xs : List (ℕ × ℕ)) (p : ℕ × ℕ) → is_among start count p.0 ≡ false
-    → width_among start count (xs ++ p ∷ []) ≡ width_among start count xs
-width_among-push_out start count xs p outside =
-    width_among-append start count xs (p ∷ []) ∙ ap (λ n. width_among start count xs + n) (width_among-out start count p outside) ∙ add-zero _
 
 -- the first characters take no more columns than all
 pub width_among-front : (start count : ℕ) (all xs : List (ℕ × ℕ)) (p : ℕ × ℕ) → xs ≡ take (length xs) all → (length xs < length all) × (p ≡ get_or all (length xs) p)
@@ -86,21 +77,6 @@ repeat-max_none n xs none = let one : max 1 n ≡ 1 = omega arith in ap (λ k. r
 -- a number of two digits or more has one digit more than its tenth
 pub length-decimal_step : (n : ℕ) → 10 ≤ n → n < 10 ^ 64 → length (decimal n) ≡ length (decimal (n / 10)) + 1
 length-decimal_step n more fits = ap length (decimal_step_wide n more fits) ∙ length-append (decimal (n / 10)) ((48 + n % 10) ∷ [])
-
--- the line of the carets, as it is written: where the token takes columns, and where it takes none
-pub caret_line-wide : (token : Token) (line : List ℕ) (count : ℕ) → line ≡ line_at token.src.now token.line → count ≡ max token.length 1 → 0 < width_in line token.column count
-    → indent token ++ bar ++ codes " " ++ repeat (width_in line 0 token.column) (codes " ") ++ repeat (width_in line token.column count) (codes "^") ≡ caret_line token
-caret_line-wide token line count same long some =
-    let front : List ℕ → List ℕ = λ l. indent token ++ bar ++ codes " " ++ repeat (width_in l 0 token.column) (codes " ") in
-    ap (λ carets. front line ++ carets) (sym (repeat-max (width_in line token.column count) (codes "^") some))
-    ∙ (λ i. front (same i) ++ repeat (max 1 (width_in (same i) token.column (long i))) (codes "^"))
-
-pub caret_line-narrow : (token : Token) (line : List ℕ) (count : ℕ) → line ≡ line_at token.src.now token.line → count ≡ max token.length 1 → ¬ (0 < width_in line token.column count)
-    → indent token ++ bar ++ codes " " ++ repeat (width_in line 0 token.column) (codes " ") ++ codes "^" ≡ caret_line token
-caret_line-narrow token line count same long none =
-    let front : List ℕ → List ℕ = λ l. indent token ++ bar ++ codes " " ++ repeat (width_in l 0 token.column) (codes " ") in
-    ap (λ carets. front line ++ carets) (sym (repeat-max_none (width_in line token.column count) (codes "^") none))
-    ∙ (λ i. front (same i) ++ repeat (max 1 (width_in (same i) token.column (long i))) (codes "^"))
 
 -- what is written whatever the options of the formatter are is written by a plain one
 module _ {W : Type 0} (took : W → List ℕ → W → Type 0) where

@@ -1,5 +1,5 @@
 //! How the line of a token is shown, with carets under the token.
-ghost use Rattle.std.specs.Prelude.{◌≡◌, ◌+◌, ◌<◌, ◌↔◌, IsTrue, Some, length};
+ghost use Rattle.std.specs.Prelude.{◌≡◌, ◌+◌, ◌<◌, ◌↔◌, IsTrue, Some, codes, length, max};
 ghost use Rattle.std.specs.Fmt.{DisplaysOnOk, decimal};
 ghost use Rattle.std.specs.List.{repeat};
 ghost use Rattle.justfile_base.specs.Excerpt.{bar_line, caret_line, excerpt_text, indent, is_among, line_at, place_line, shown_line, source_line, width_in, width_of};
@@ -131,20 +131,32 @@ fn write_source<W: fmt::Write>(token: &Token<'_>, f: &mut fmt::Formatter<W>) -> 
     write_line(line_at(token.src, token.line), f)
 }
 
-/// Writes the carets under the token.
-fn write_carets<W: fmt::Write>(token: &Token<'_>, f: &mut fmt::Formatter<W>) -> fmt::Result
-    ensures { DisplaysOnOk W.write_str_gives f.old result (Some (caret_line token.now)) f.new }
+/// Writes a caret for each column of the characters that begin among these bytes of the line, and
+/// one at least.
+fn write_carets<W: fmt::Write>(
+    line: &str,
+    start: usize,
+    count: usize,
+    f: &mut fmt::Formatter<W>,
+) -> fmt::Result
+    ensures { DisplaysOnOk W.write_str_gives f.old result (Some (repeat (max 1 (width_in line.now start count)) (codes "^"))) f.new }
 {
-    let line = line_at(token.src, token.line);
-    let length = token.length.max(1);
-    write_bar(token, f)?;
-    f.write_str(" ")?;
-    write_columns(line, 0, token.column, " ", f)?;
-    if has_width(line, token.column, length) {
-        write_columns(line, token.column, length, "^", f)
+    if has_width(line, start, count) {
+        write_columns(line, start, count, "^", f)
     } else {
         f.write_str("^")
     }
+}
+
+/// Writes the carets under the token.
+fn write_caret_line<W: fmt::Write>(token: &Token<'_>, f: &mut fmt::Formatter<W>) -> fmt::Result
+    ensures { DisplaysOnOk W.write_str_gives f.old result (Some (caret_line token.now)) f.new }
+{
+    let line = line_at(token.src, token.line);
+    write_bar(token, f)?;
+    f.write_str(" ")?;
+    write_columns(line, 0, token.column, " ", f)?;
+    write_carets(line, token.column, token.length.max(1), f)
 }
 
 /// Writes the place of a token, and its line with carets under the token.
@@ -160,5 +172,5 @@ pub(crate) fn write_excerpt<W: fmt::Write>(
     f.write_str("\n")?;
     write_source(token, f)?;
     f.write_str("\n")?;
-    write_carets(token, f)
+    write_caret_line(token, f)
 }

@@ -1,6 +1,5 @@
-use Rattle.std.proofs.Common.{◌^◌, arith, ap, lit<}
+use Rattle.std.proofs.Common.{length, arith, ap, lit<}
 use Rattle.std.proofs.lemmas.Fmt.{decimal_digit, length-decimal-le_wide}
-use Rattle.std.proofs.Common.{length}
 use Rattle.justfile_base.proofs.ExcerptLemmas.{length-decimal_step}
 use Rattle.justfile_base.proofs.excerpt.digit_count.Goals as goal
 

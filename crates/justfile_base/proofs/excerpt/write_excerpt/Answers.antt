@@ -10,4 +10,4 @@ returns g c = λ plain ok.
     let after_bar = has_written_append _ _ _ _ _ _ bar (c.in_ok-write_str-2.ensures.writes bar.plain refl) in
     let source = has_written_append _ _ _ _ _ _ after_bar (c.in_ok-write_source.ensures after_bar.plain refl) in
     let after_source = has_written_append _ _ _ _ _ _ source (c.in_ok-write_str-3.ensures.writes source.plain refl) in
-    has_written_append _ _ _ _ _ _ after_source (c.write_carets.ensures after_source.plain ok)
+    has_written_append _ _ _ _ _ _ after_source (c.write_caret_line.ensures after_source.plain ok)
