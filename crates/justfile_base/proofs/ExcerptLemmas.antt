@@ -1,13 +1,13 @@
 -- What the loops over a line's characters have so far.
-use Rattle.std.proofs.Common.{◌≡◌, ℕ, zero, suc, ◌+◌, ◌<◌, ◌≤◌, ◌^◌, ◌/◌, ◌%◌, max, if◌then◌else◌, Bool, true, false, List, [], ◌∷◌, ◌++◌, Option, Some, None, unwrap_or, IsUtf8, IsOk, length, take, drop, get_or, refl, sym, ap, subst, ◌∙◌, arith, append_assoc, append-nil, length-append, add-zero, zero-add, suc-add}
-use Rattle.std.specs.Prelude.{chars, codes, filter, sum_by, encode_utf8, Result}
+use Rattle.std.proofs.Common.{◌≡◌, ℕ, zero, suc, ◌+◌, ◌<◌, ◌≤◌, ◌^◌, ◌/◌, ◌%◌, max, if◌then◌else◌, Bool, true, List, [], ◌∷◌, ◌++◌, Option, Some, None, unwrap_or, IsUtf8, length, take, drop, get_or, sym, ap, subst, ◌∙◌, arith, append_assoc, append-nil, length-append, zero-add, suc-add}
+use Rattle.std.specs.Prelude.{chars, filter, sum_by}
 use Rattle.std.specs.Borrow.{Bor}
 use Rattle.std.specs.Option.{option_map}
 use Rattle.std.specs.List.{repeat}
 use Rattle.std.specs.Fmt.{IsDefaultSpec, IsPlainFormatter, HasWritten, HasWrittenStyled, decimal}
 use Rattle.std.specs.Str.Iter.{char_indices_rest, char_indices_offset, char_indices_steps}
 use Rattle.std.specs.declared.fmt.Formatter.{Formatter}
-use Rattle.std.proofs.lemmas.Fmt.{decimal_digit, decimal_step_wide}
+use Rattle.std.proofs.lemmas.Fmt.{decimal_step_wide}
 use Rattle.std.proofs.lemmas.Iterator.{YieldsList}
 use Rattle.std.proofs.lemmas.Iterator.Splits.{YieldsList-from_shown_while}
 use Rattle.std.proofs.lemmas.List.{nil_from_length, take-append-drop, take_more}
