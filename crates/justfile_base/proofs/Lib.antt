@@ -2,6 +2,7 @@ mod ByteTable
 mod ExcerptLemmas
 mod FoundLemmas
 mod KeywordTable
+mod ShownLemmas
 mod TokenStart
 pub mod AttributeKindLaws
 pub mod IndentationLemmas

@@ -2,12 +2,15 @@ use crate::attribute_kind::AttributeKind;
 use crate::delimiter::Delimiter;
 use crate::item_kind::ItemKind;
 use crate::keyword::Keyword;
+use crate::list_feature::ListFeature;
 use crate::name::Name;
+use crate::namepath::Namepath;
 use crate::string_literal::StringLiteral;
 use crate::switch::Switch;
 use crate::token::Token;
 use crate::token_kind::TokenKind;
 use crate::version::Version;
+use std::ops::RangeInclusive;
 
 /// Why a text is refused.
 #[derive(Debug, Drop, PartialEq)]
@@ -61,6 +64,28 @@ pub enum CompileErrorKind<'src> {
     AttributePositionalFollowsKeyword,
     /// A command between backticks that begins with `#!`.
     BacktickShebang,
+    /// A recipe needs itself, at once or along others.
+    CircularRecipeDependency {
+        recipe: &'src str,
+        /// The recipes from this one to itself, each of which needs the next.
+        circle: Vec<&'src str>,
+    },
+    /// A variable is defined by itself, at once or along others.
+    CircularVariableDependency {
+        variable: &'src str,
+        /// The variables from this one to itself, each of which is defined by the next.
+        circle: Vec<&'src str>,
+    },
+    /// A dependency has too few or too many arguments.
+    DependencyArgumentCountMismatch {
+        dependency: Namepath<'src>,
+        /// How many it has.
+        found: usize,
+        /// How many its recipe takes at least.
+        min: usize,
+        /// How many its recipe takes at most; the greatest number where there is no bound.
+        max: usize,
+    },
     /// Two `arg` attributes of a recipe speak of the same argument.
     DuplicateArgAttribute {
         arg: String,
@@ -79,6 +104,15 @@ pub enum CompileErrorKind<'src> {
         attribute: &'src str,
         key: &'src str,
     },
+    /// A recipe has the attribute `default`, and an earlier one has it, too.
+    DuplicateDefault {
+        recipe: &'src str,
+    },
+    /// Two parameters of a function are called the same.
+    DuplicateFunctionParameter {
+        function: &'src str,
+        parameter: &'src str,
+    },
     /// A construct is put into the same group twice.
     DuplicateGroupAttribute {
         /// The line of the first one's name, from 0.
@@ -89,6 +123,25 @@ pub enum CompileErrorKind<'src> {
     DuplicateOption {
         recipe: &'src str,
         option: Switch,
+    },
+    /// Two parameters of a recipe are called the same.
+    DuplicateParameter {
+        recipe: &'src str,
+        parameter: &'src str,
+    },
+    /// A setting is set twice.
+    DuplicateSet {
+        setting: &'src str,
+        /// The line of the first one's name, from 0.
+        first: usize,
+    },
+    /// A variable is unexported twice.
+    DuplicateUnexport {
+        variable: &'src str,
+    },
+    /// A variable is defined twice.
+    DuplicateVariable {
+        variable: &'src str,
     },
     /// A text ends after a backslash.
     EscapeEndOfFile,
@@ -101,6 +154,12 @@ pub enum CompileErrorKind<'src> {
         expected: Vec<Keyword>,
         found: Token<'src>,
     },
+    /// A variable is exported and unexported.
+    ExportUnexported {
+        variable: &'src str,
+    },
+    /// A line of a body begins with more blanks than it may.
+    ExtraLeadingWhitespace,
     /// Attributes stand before a comment or an empty line.
     ExtraneousAttributes {
         /// How many they are.
@@ -121,6 +180,23 @@ pub enum CompileErrorKind<'src> {
     /// A parameter is a flag and has a default.
     FlagWithDefault {
         parameter: String,
+    },
+    /// A function is called with too few or too many arguments.
+    FunctionArgumentCountMismatch {
+        /// How many there are.
+        arguments: usize,
+        /// How many the function takes; to the greatest number where there is no bound.
+        expected: RangeInclusive<usize>,
+        function: &'src str,
+    },
+    /// The sigils `?` and `-` stand before the same line.
+    GuardAndInfallibleSigil,
+    /// Two settings exclude each other.
+    IncompatibleSettings {
+        first: Keyword,
+        /// The line of the first one's name, from 0.
+        first_line: usize,
+        second: Keyword,
     },
     /// A line of a body does not begin as the lines before it.
     InconsistentLeadingWhitespace {
@@ -150,12 +226,21 @@ pub enum CompileErrorKind<'src> {
         source: &'static str,
         version: String,
     },
+    /// A recipe without `script` has an attribute that is for scripts.
+    InvalidShellRecipeAttribute {
+        attribute: AttributeKind,
+        recipe: &'src str,
+    },
     /// A text is the name of no signal that is known.
     InvalidSignal {
         signal: String,
     },
+    /// What only a justfile with lists may use.
+    ListFeature(ListFeature),
     /// Two arguments of a dependency are starred.
     MappedDependencyMultipleStarredArguments,
+    /// A dependency is starred in a justfile without lists.
+    MappedDependencyWithoutListsSetting,
     /// A dependency is starred and none of its arguments is.
     MappedDependencyWithoutStarredArgument,
     /// The justfile asks for a later version of the program than the running one.
@@ -196,6 +281,18 @@ pub enum CompileErrorKind<'src> {
     },
     /// Too many expressions are open.
     ParsingRecursionDepthExceeded,
+    /// An item has the name of an earlier one.
+    Redefinition {
+        /// The line of the earlier one's name, from 0.
+        first: usize,
+        first_type: ItemKind,
+        name: &'src str,
+        second_type: ItemKind,
+    },
+    /// A parameter without a default stands after one that has a default.
+    RequiredParameterFollowsDefaultParameter {
+        parameter: &'src str,
+    },
     /// A recipe has attributes that exclude each other.
     ScriptAndShellAttribute {
         recipe: &'src str,
@@ -217,6 +314,14 @@ pub enum CompileErrorKind<'src> {
     /// An `arg` attribute speaks of an argument that the recipe doesn't take.
     UndefinedArgAttribute {
         argument: String,
+    },
+    /// A function is called that is not defined.
+    UndefinedFunction {
+        function: &'src str,
+    },
+    /// A variable is used that is not defined.
+    UndefinedVariable {
+        variable: &'src str,
     },
     /// Another character than these follows the first one of a token.
     UnexpectedCharacter {
@@ -255,6 +360,11 @@ pub enum CompileErrorKind<'src> {
     },
     /// The text ends within an escape.
     UnicodeEscapeUnterminated,
+    /// An alias is that of no recipe.
+    UnknownAliasTarget {
+        alias: &'src str,
+        target: Namepath<'src>,
+    },
     /// A name is that of no attribute.
     UnknownAttribute {
         attribute: &'src str,
@@ -263,6 +373,11 @@ pub enum CompileErrorKind<'src> {
     UnknownAttributeKey {
         attribute: &'src str,
         key: &'src str,
+    },
+    /// A dependency is the name of no recipe.
+    UnknownDependency {
+        recipe: &'src str,
+        unknown: Namepath<'src>,
     },
     /// A name is that of no setting.
     UnknownSetting {

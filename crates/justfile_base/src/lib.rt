@@ -1,11 +1,13 @@
 //! The types that all layers of the syntax of justfiles speak of.
 #![tactic(auto)]
 
+pub mod alternative;
 pub mod attribute_kind;
 pub mod byte_class;
 pub mod bytes;
 pub mod compile_error;
 pub mod compile_error_kind;
+pub mod count;
 pub mod delimiter;
 mod excerpt;
 pub mod excerpt_examples;
@@ -18,12 +20,16 @@ pub mod item_kind;
 pub mod keyed;
 pub mod keyword;
 pub mod laws;
+pub mod list;
+pub mod list_feature;
+mod messages;
 pub mod modulepath;
 pub mod name;
 pub mod namepath;
 pub mod number;
 pub mod numerator;
 mod path;
+mod shown;
 pub mod signal;
 pub mod source;
 pub mod string_kind;
@@ -38,6 +44,7 @@ pub use crate::attribute_kind::AttributeKind;
 pub use crate::byte_class::ByteClass;
 pub use crate::compile_error::CompileError;
 pub use crate::compile_error_kind::CompileErrorKind;
+pub use crate::count::Count;
 pub use crate::delimiter::Delimiter;
 pub use crate::expander::{ExpandFault, Expander};
 pub use crate::fault::{CompileResult, Fault};
@@ -46,6 +53,8 @@ pub use crate::indentation::Indentation;
 pub use crate::item_kind::ItemKind;
 pub use crate::keyed::Keyed;
 pub use crate::keyword::Keyword;
+pub use crate::list::List;
+pub use crate::list_feature::ListFeature;
 pub use crate::modulepath::Modulepath;
 pub use crate::name::Name;
 pub use crate::namepath::Namepath;
