@@ -2,6 +2,7 @@ mod ByteTable
 mod ExcerptLemmas
 mod FoundLemmas
 mod KeywordTable
+mod ListLemmas
 mod ShownLemmas
 mod TokenStart
 pub mod AttributeKindLaws

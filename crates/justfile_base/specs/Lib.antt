@@ -23,6 +23,7 @@ pub mod Slice
 pub mod StringKind
 pub mod StringLiteral
 pub mod Switch
+pub mod Text
 pub mod Token
 pub mod TokenKind
 pub mod Version

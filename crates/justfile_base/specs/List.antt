@@ -1,21 +1,22 @@
 -- Alternatives, as messages name them.
-use Rattle.std.specs.Prelude.{ℕ, Bool, List, [], ◌∷◌, ◌++◌, codes, map, if◌then◌else◌}
+use Rattle.std.specs.Prelude.{ℕ, Bool, true, false, List, [], ◌∷◌, ◌++◌, codes, map, if◌then◌else◌}
 use Rattle.justfile_base.specs.declared.list.List as lists
 
 abbrev pub after_comma : List ℕ → List ℕ
 after_comma text = codes ", " ++ text
 
--- the alternatives after the first, where they are several: each after a comma, the last after `or`, too
-abbrev pub several_text : List (List ℕ) → List ℕ
-several_text [] = []
-several_text (last ∷ []) = codes ", or " ++ last
-several_text (next ∷ other ∷ rest) = after_comma next ++ several_text (other ∷ rest)
+-- what stands before the last alternative: it is the second one, or it follows others
+abbrev pub last_separator : Bool → List ℕ
+last_separator is_second = if is_second then codes " or " else codes ", or "
 
--- the alternatives after the first
+-- the alternatives after the first, of which the next is the second one or a later one
+abbrev pub following_text : Bool → List (List ℕ) → List ℕ
+following_text is_second [] = []
+following_text is_second (last ∷ []) = last_separator is_second ++ last
+following_text is_second (next ∷ another ∷ rest) = after_comma next ++ following_text false (another ∷ rest)
+
 abbrev pub other_text : List (List ℕ) → List ℕ
-other_text [] = []
-other_text (last ∷ []) = codes " or " ++ last
-other_text (next ∷ other ∷ rest) = several_text (next ∷ other ∷ rest)
+other_text = following_text true
 
 -- `a`, `a or b`, `a, b, or c`, and nothing of none
 abbrev pub or_text : List (List ℕ) → List ℕ

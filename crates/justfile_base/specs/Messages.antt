@@ -1,9 +1,10 @@
 -- The messages of refusals.
-use Rattle.std.specs.Prelude.{ℕ, Bool, true, false, List, [], ◌∷◌, ◌++◌, ◌^◌, ◌-◌, codes, encode_utf8, length, map, nat_lt, string_bytes, if◌then◌else◌, ◌==◌}
+use Rattle.std.specs.Prelude.{ℕ, Bool, true, false, List, [], ◌∷◌, ◌^◌, ◌-◌, codes, encode_utf8, length, map, nat_lt, string_bytes, if◌then◌else◌, ◌==◌}
 use Rattle.std.specs.Borrow.{Bor}
 use Rattle.std.specs.List.{flat_map}
 use Rattle.std.specs.Fmt.{decimal}
 use Rattle.std.specs.Range.{range_inclusive_start, range_inclusive_end}
+use Rattle.justfile_base.specs.Text.{◌&◌}
 use Rattle.justfile_base.specs.AttributeKind.{attribute_name}
 use Rattle.justfile_base.specs.Count.{noun_text, numbered_text}
 use Rattle.justfile_base.specs.Delimiter.{open_text, close_text}
@@ -35,32 +36,32 @@ arguments_text count = numbered_text (codes "argument") count
 -- how many arguments are taken, where so many were given
 abbrev pub taken_text : ℕ → ℕ → ℕ → List ℕ
 taken_text found min max = if min == max then arguments_text min
-    else (if nat_lt found min then codes "at least " ++ arguments_text min else codes "at most " ++ arguments_text max)
+    else (if nat_lt found min then codes "at least " & arguments_text min else codes "at most " & arguments_text max)
 
 -- any number from the first to the second; the greatest number is no bound
 abbrev pub range_text : ℕ → ℕ → List ℕ
 range_text least most = if least == most then decimal least
-    else (if most == 2 ^ 64 - 1 then decimal least ++ codes " or more" else decimal least ++ codes " to " ++ decimal most)
+    else (if most == 2 ^ 64 - 1 then decimal least & codes " or more" else decimal least & codes " to " & decimal most)
 
 abbrev pub arrow_name : Bor (List ℕ) → List ℕ
-arrow_name name = codes " -> " ++ name.now
+arrow_name name = codes " -> " & name.now
 
 -- the names with an arrow between each two
 abbrev pub circle_text : List (Bor (List ℕ)) → List ℕ
 circle_text [] = []
-circle_text (first ∷ rest) = first.now ++ flat_map arrow_name rest
+circle_text (first ∷ rest) = first.now & flat_map arrow_name rest
 
 -- a recipe that needs itself: at once, or along others
 abbrev pub recipe_circle_text : List ℕ → List (Bor (List ℕ)) → List ℕ
 recipe_circle_text recipe circle = if length circle == 2
-    then codes "recipe `" ++ recipe ++ codes "` depends on itself"
-    else codes "recipe `" ++ recipe ++ codes "` has circular dependency `" ++ circle_text circle ++ codes "`"
+    then codes "recipe `" & recipe & codes "` depends on itself"
+    else codes "recipe `" & recipe & codes "` has circular dependency `" & circle_text circle & codes "`"
 
 -- a variable that is defined by itself: at once, or along others
 abbrev pub variable_circle_text : List ℕ → List (Bor (List ℕ)) → List ℕ
 variable_circle_text variable circle = if length circle == 2
-    then codes "variable `" ++ variable ++ codes "` is defined in terms of itself"
-    else codes "variable `" ++ variable ++ codes "` depends on its own value: `" ++ circle_text circle ++ codes "`"
+    then codes "variable `" & variable & codes "` is defined in terms of itself"
+    else codes "variable `" & variable & codes "` depends on its own value: `" & circle_text circle & codes "`"
 
 abbrev pub is_identifier : TokenKind → Bool
 is_identifier Identifier = true
@@ -68,7 +69,7 @@ is_identifier _ = false
 
 -- a token that stands where a keyword should: what it is, and an identifier by its text
 abbrev pub found_text : Token → List ℕ
-found_text token = if is_identifier token.kind then codes "identifier `" ++ lexeme_of token ++ codes "`" else codes "`" ++ kind_text token.kind ++ codes "`"
+found_text token = if is_identifier token.kind then codes "identifier `" & lexeme_of token & codes "`" else codes "`" & kind_text token.kind & codes "`"
 
 abbrev pub expected_keywords : List Keyword → List ℕ
 expected_keywords expected = or_text (map (λ keyword. ticked_text (keyword_text keyword)) expected)
@@ -79,102 +80,106 @@ expected_characters expected = or_text (map (λ character. ticked_text (encode_u
 abbrev pub expected_tokens : List TokenKind → List ℕ
 expected_tokens expected = or_text (map kind_text expected)
 
+-- a kind of items, with its article
+abbrev pub indefinite_text : ItemKind → List ℕ
+indefinite_text kind = item_kind_article kind & codes " " & item_kind_text kind
+
 -- an item of a name that an earlier one has
 abbrev pub redefinition_text : ItemKind → List ℕ → ℕ → ItemKind → ℕ → List ℕ
 redefinition_text first_type name first second_type line =
     if item_kinds.eq-value.it first_type second_type
-    then item_kind_text first_type ++ codes " `" ++ name ++ codes "` first defined on line " ++ line_text first
-    ++ codes " is redefined on line " ++ line_text line
-    else item_kind_text first_type ++ codes " `" ++ name ++ codes "` defined on line " ++ line_text first
-    ++ codes " is redefined as " ++ item_kind_article second_type ++ codes " " ++ item_kind_text second_type ++ codes " on line " ++ line_text line
+    then item_kind_text first_type & codes " `" & name & codes "` first defined on line " & line_text first
+    & codes " is redefined on line " & line_text line
+    else item_kind_text first_type & codes " `" & name & codes "` defined on line " & line_text first
+    & codes " is redefined as " & indefinite_text second_type & codes " on line " & line_text line
 
 -- the message of a kind of refusal at a token of this line
 abbrev pub kind_message : ℕ → CompileErrorKind → List ℕ
-kind_message _ (kinds.ArgAttributeMinExceedsMax min max) = codes "argument attribute `min` `" ++ decimal min ++ codes "` exceeds `max` `" ++ decimal max ++ codes "`"
-kind_message _ (kinds.ArgAttributeRequiresMultipleOrVariadic key) = codes "argument attribute `" ++ name_text key ++ codes "` only valid with `multiple` or a variadic parameter"
-kind_message _ (kinds.ArgAttributeRequiresOption key) = codes "argument attribute `" ++ name_text key ++ codes "` only valid with `long` or `short`"
-kind_message _ (kinds.ArgumentCountParse key value) = codes "invalid `" ++ name_text key ++ codes "` value `" ++ string_bytes value ++ codes "`: number too large to fit in target type"
-kind_message _ (kinds.ArgumentCountValue key value) = codes "invalid `" ++ name_text key ++ codes "` value `" ++ string_bytes value ++ codes "`"
-kind_message _ (kinds.AttributeArgumentCountMismatch attribute found min max) = codes "attribute `" ++ name_text attribute ++ codes "` got " ++ arguments_text found ++ codes " but takes " ++ taken_text found min max
-kind_message _ (kinds.AttributeArgumentExpression attribute) = codes "attribute `" ++ name_text attribute ++ codes "` arguments must be string literals"
-kind_message _ (kinds.AttributeKeyMissingValue key) = codes "attribute key `" ++ name_text key ++ codes "` requires value"
-kind_message _ (kinds.AttributeKeyTakesNoValue key) = codes "attribute key `" ++ name_text key ++ codes "` takes no value"
+kind_message _ (kinds.ArgAttributeMinExceedsMax min max) = codes "argument attribute `min` `" & decimal min & codes "` exceeds `max` `" & decimal max & codes "`"
+kind_message _ (kinds.ArgAttributeRequiresMultipleOrVariadic key) = codes "argument attribute `" & name_text key & codes "` only valid with `multiple` or a variadic parameter"
+kind_message _ (kinds.ArgAttributeRequiresOption key) = codes "argument attribute `" & name_text key & codes "` only valid with `long` or `short`"
+kind_message _ (kinds.ArgumentCountParse key value) = codes "invalid `" & name_text key & codes "` value `" & string_bytes value & codes "`: number too large to fit in target type"
+kind_message _ (kinds.ArgumentCountValue key value) = codes "invalid `" & name_text key & codes "` value `" & string_bytes value & codes "`"
+kind_message _ (kinds.AttributeArgumentCountMismatch attribute found min max) = codes "attribute `" & name_text attribute & codes "` got " & arguments_text found & codes " but takes " & taken_text found min max
+kind_message _ (kinds.AttributeArgumentExpression attribute) = codes "attribute `" & name_text attribute & codes "` arguments must be string literals"
+kind_message _ (kinds.AttributeKeyMissingValue key) = codes "attribute key `" & name_text key & codes "` requires value"
+kind_message _ (kinds.AttributeKeyTakesNoValue key) = codes "attribute key `" & name_text key & codes "` takes no value"
 kind_message _ kinds.AttributePositionalFollowsKeyword = codes "positional attribute arguments cannot follow keyword attribute arguments"
 kind_message _ kinds.BacktickShebang = codes "backticks may not start with `#!`"
 kind_message _ (kinds.CircularRecipeDependency recipe circle) = recipe_circle_text recipe.now circle.items
 kind_message _ (kinds.CircularVariableDependency variable circle) = variable_circle_text variable.now circle.items
-kind_message _ (kinds.DependencyArgumentCountMismatch dependency found min max) = codes "dependency `" ++ namepath_text dependency ++ codes "` got " ++ arguments_text found ++ codes " but takes " ++ taken_text found min max
-kind_message line (kinds.DuplicateArgAttribute arg first) = codes "attribute for argument `" ++ string_bytes arg ++ codes "` first used on line " ++ line_text first ++ codes " is duplicated on line " ++ line_text line
-kind_message line (kinds.DuplicateAttribute attribute first) = codes "attribute `" ++ name_text attribute ++ codes "` first used on line " ++ line_text first ++ codes " is duplicated on line " ++ line_text line
-kind_message _ (kinds.DuplicateAttributeKey attribute key) = codes "duplicate key `" ++ key.now ++ codes "` for `" ++ attribute.now ++ codes "` attribute"
-kind_message _ (kinds.DuplicateDefault recipe) = codes "recipe `" ++ recipe.now ++ codes "` has duplicate `[default]` attribute, which may only appear once per module"
-kind_message _ (kinds.DuplicateFunctionParameter function parameter) = codes "function `" ++ function.now ++ codes "` has duplicate parameter `" ++ parameter.now ++ codes "`"
-kind_message line (kinds.DuplicateGroupAttribute first group) = codes "`[group(" ++ literal_text group ++ codes ")]` attribute first used on line " ++ line_text first ++ codes " is duplicated on line " ++ line_text line
-kind_message _ (kinds.DuplicateOption recipe option) = codes "recipe `" ++ recipe.now ++ codes "` defines option `" ++ switch_text option ++ codes "` multiple times"
-kind_message _ (kinds.DuplicateParameter recipe parameter) = codes "recipe `" ++ recipe.now ++ codes "` has duplicate parameter `" ++ parameter.now ++ codes "`"
-kind_message line (kinds.DuplicateSet setting first) = codes "setting `" ++ setting.now ++ codes "` first set on line " ++ line_text first ++ codes " is redefined on line " ++ line_text line
-kind_message _ (kinds.DuplicateUnexport variable) = codes "variable `" ++ variable.now ++ codes "` is unexported multiple times"
-kind_message _ (kinds.DuplicateVariable variable) = codes "variable `" ++ variable.now ++ codes "` has multiple definitions"
+kind_message _ (kinds.DependencyArgumentCountMismatch dependency found min max) = codes "dependency `" & namepath_text dependency & codes "` got " & arguments_text found & codes " but takes " & taken_text found min max
+kind_message line (kinds.DuplicateArgAttribute arg first) = codes "attribute for argument `" & string_bytes arg & codes "` first used on line " & line_text first & codes " is duplicated on line " & line_text line
+kind_message line (kinds.DuplicateAttribute attribute first) = codes "attribute `" & name_text attribute & codes "` first used on line " & line_text first & codes " is duplicated on line " & line_text line
+kind_message _ (kinds.DuplicateAttributeKey attribute key) = codes "duplicate key `" & key.now & codes "` for `" & attribute.now & codes "` attribute"
+kind_message _ (kinds.DuplicateDefault recipe) = codes "recipe `" & recipe.now & codes "` has duplicate `[default]` attribute, which may only appear once per module"
+kind_message _ (kinds.DuplicateFunctionParameter function parameter) = codes "function `" & function.now & codes "` has duplicate parameter `" & parameter.now & codes "`"
+kind_message line (kinds.DuplicateGroupAttribute first group) = codes "`[group(" & literal_text group & codes ")]` attribute first used on line " & line_text first & codes " is duplicated on line " & line_text line
+kind_message _ (kinds.DuplicateOption recipe option) = codes "recipe `" & recipe.now & codes "` defines option `" & switch_text option & codes "` multiple times"
+kind_message _ (kinds.DuplicateParameter recipe parameter) = codes "recipe `" & recipe.now & codes "` has duplicate parameter `" & parameter.now & codes "`"
+kind_message line (kinds.DuplicateSet setting first) = codes "setting `" & setting.now & codes "` first set on line " & line_text first & codes " is redefined on line " & line_text line
+kind_message _ (kinds.DuplicateUnexport variable) = codes "variable `" & variable.now & codes "` is unexported multiple times"
+kind_message _ (kinds.DuplicateVariable variable) = codes "variable `" & variable.now & codes "` has multiple definitions"
 kind_message _ kinds.EscapeEndOfFile = codes "expected escape sequence but found end-of-file"
-kind_message _ (kinds.ExitMessageAndNoExitMessageAttribute recipe) = codes "recipe `" ++ recipe.now ++ codes "` has both `[exit-message]` and `[no-exit-message]` attributes"
-kind_message _ (kinds.ExpectedKeyword expected found) = codes "expected keyword " ++ expected_keywords expected.items ++ codes " but found " ++ found_text found
-kind_message _ (kinds.ExportUnexported variable) = codes "variable " ++ variable.now ++ codes " is both exported and unexported"
+kind_message _ (kinds.ExitMessageAndNoExitMessageAttribute recipe) = codes "recipe `" & recipe.now & codes "` has both `[exit-message]` and `[no-exit-message]` attributes"
+kind_message _ (kinds.ExpectedKeyword expected found) = codes "expected keyword " & expected_keywords expected.items & codes " but found " & found_text found
+kind_message _ (kinds.ExportUnexported variable) = codes "variable " & variable.now & codes " is both exported and unexported"
 kind_message _ kinds.ExtraLeadingWhitespace = codes "recipe line has extra leading whitespace"
-kind_message _ (kinds.ExtraneousAttributes count) = codes "extraneous " ++ noun_text (codes "attribute") count
-kind_message _ (kinds.FlagAndPatternArgAttribute parameter) = codes "argument `" ++ string_bytes parameter ++ codes "` may not have both `flag` and `pattern` attributes"
-kind_message _ (kinds.FlagAndValueArgAttribute parameter) = codes "argument `" ++ string_bytes parameter ++ codes "` may not have both `flag` and `value` attributes"
-kind_message _ (kinds.FlagAttributeTakesNoValue parameter) = codes "`flag` attribute for argument `" ++ string_bytes parameter ++ codes "` takes no value"
-kind_message _ (kinds.FlagWithDefault parameter) = codes "flag parameter `" ++ string_bytes parameter ++ codes "` may not have a default"
-kind_message _ (kinds.FunctionArgumentCountMismatch arguments expected function) = codes "function `" ++ function.now ++ codes "` called with " ++ arguments_text arguments ++ codes " but takes " ++ range_text (range_inclusive_start expected) (range_inclusive_end expected)
+kind_message _ (kinds.ExtraneousAttributes count) = codes "extraneous " & noun_text (codes "attribute") count
+kind_message _ (kinds.FlagAndPatternArgAttribute parameter) = codes "argument `" & string_bytes parameter & codes "` may not have both `flag` and `pattern` attributes"
+kind_message _ (kinds.FlagAndValueArgAttribute parameter) = codes "argument `" & string_bytes parameter & codes "` may not have both `flag` and `value` attributes"
+kind_message _ (kinds.FlagAttributeTakesNoValue parameter) = codes "`flag` attribute for argument `" & string_bytes parameter & codes "` takes no value"
+kind_message _ (kinds.FlagWithDefault parameter) = codes "flag parameter `" & string_bytes parameter & codes "` may not have a default"
+kind_message _ (kinds.FunctionArgumentCountMismatch arguments expected function) = codes "function `" & function.now & codes "` called with " & arguments_text arguments & codes " but takes " & range_text (range_inclusive_start expected) (range_inclusive_end expected)
 kind_message _ kinds.GuardAndInfallibleSigil = codes "the guard `?` and infallible `-` sigils may not be used together"
-kind_message _ (kinds.IncompatibleSettings first first_line second) = codes "`" ++ keyword_text first ++ codes "` set on line " ++ line_text first_line ++ codes " is incompatible with `" ++ keyword_text second ++ codes "`"
-kind_message _ (kinds.InconsistentLeadingWhitespace expected found) = codes "recipe line has inconsistent leading whitespace, started with `" ++ blanks_text expected.now ++ codes "` but found line with `" ++ blanks_text found.now ++ codes "`"
-kind_message _ (kinds.Internal message) = codes "internal error, this may indicate a bug in just: " ++ message.now ++ codes "\nconsider filing an issue: https://github.com/casey/just/issues/new"
-kind_message _ (kinds.InvalidAttribute item_kind item_name attribute) = item_kind_text item_kind ++ codes " `" ++ item_name.now ++ codes "` has invalid attribute `" ++ attribute_name attribute ++ codes "`"
-kind_message _ (kinds.InvalidEscapeSequence character) = codes "`\\" ++ escaped_text character ++ codes "` is not a valid escape sequence"
+kind_message _ (kinds.IncompatibleSettings first first_line second) = codes "`" & keyword_text first & codes "` set on line " & line_text first_line & codes " is incompatible with `" & keyword_text second & codes "`"
+kind_message _ (kinds.InconsistentLeadingWhitespace expected found) = codes "recipe line has inconsistent leading whitespace, started with `" & blanks_text expected.now & codes "` but found line with `" & blanks_text found.now & codes "`"
+kind_message _ (kinds.Internal message) = codes "internal error, this may indicate a bug in just: " & message.now & codes "\nconsider filing an issue: https://github.com/casey/just/issues/new"
+kind_message _ (kinds.InvalidAttribute item_kind item_name attribute) = item_kind_text item_kind & codes " `" & item_name.now & codes "` has invalid attribute `" & attribute_name attribute & codes "`"
+kind_message _ (kinds.InvalidEscapeSequence character) = codes "`\\" & escaped_text character & codes "` is not a valid escape sequence"
 kind_message _ (kinds.InvalidIndentation message) = message.now
-kind_message _ (kinds.InvalidMinimumVersion source version) = codes "`minimum-version` setting has invalid version `" ++ string_bytes version ++ codes "`: " ++ source.now
-kind_message _ (kinds.InvalidShellRecipeAttribute attribute recipe) = codes "shell recipe `" ++ recipe.now ++ codes "` has script recipe attribute `" ++ attribute_name attribute ++ codes "`"
-kind_message _ (kinds.InvalidSignal signal) = codes "invalid signal `" ++ string_bytes signal ++ codes "`: expected `SIGHUP`, `SIGINT`, or `SIGQUIT`"
+kind_message _ (kinds.InvalidMinimumVersion source version) = codes "`minimum-version` setting has invalid version `" & string_bytes version & codes "`: " & source.now
+kind_message _ (kinds.InvalidShellRecipeAttribute attribute recipe) = codes "shell recipe `" & recipe.now & codes "` has script recipe attribute `" & attribute_name attribute & codes "`"
+kind_message _ (kinds.InvalidSignal signal) = codes "invalid signal `" & string_bytes signal & codes "`: expected `SIGHUP`, `SIGINT`, or `SIGQUIT`"
 kind_message _ (kinds.ListFeature feature) = feature_text feature
 kind_message _ kinds.MappedDependencyMultipleStarredArguments = codes "mapped dependencies may not have multiple starred arguments"
 kind_message _ kinds.MappedDependencyWithoutListsSetting = codes "mapped dependencies require `set lists`"
 kind_message _ kinds.MappedDependencyWithoutStarredArgument = codes "mapped dependencies must have starred argument"
-kind_message _ (kinds.MinimumVersion current minimum) = codes "justfile requires just " ++ version_text minimum ++ codes " or later, but using " ++ version_text current
-kind_message _ (kinds.MismatchedClosingDelimiter close open_line opener) = codes "mismatched closing delimiter `" ++ close_text close ++ codes "`, did you mean to close the `" ++ open_text opener ++ codes "` on line " ++ line_text open_line ++ codes "?"
-kind_message _ (kinds.MixedLeadingWhitespace whitespace) = codes "found a mix of tabs and spaces in leading whitespace: `" ++ blanks_text whitespace.now ++ codes "`\nleading whitespace may consist of tabs or spaces, but not both"
-kind_message _ (kinds.NoCdAndWorkingDirectoryAttribute recipe) = codes "recipe `" ++ recipe.now ++ codes "` has both `[no-cd]` and `[working-directory]` attributes"
-kind_message _ (kinds.OptionNameContainsEqualSign parameter) = codes "option name for parameter `" ++ string_bytes parameter ++ codes "` contains equal sign"
-kind_message _ (kinds.OptionNameEmpty parameter) = codes "option name for parameter `" ++ string_bytes parameter ++ codes "` is empty"
-kind_message _ (kinds.OptionNameStartsWithDash parameter) = codes "option name for parameter `" ++ string_bytes parameter ++ codes "` starts with dash"
-kind_message _ (kinds.ParameterFollowsVariadicParameter parameter) = codes "parameter `" ++ parameter.now ++ codes "` follows variadic parameter"
+kind_message _ (kinds.MinimumVersion current minimum) = codes "justfile requires just " & version_text minimum & codes " or later, but using " & version_text current
+kind_message _ (kinds.MismatchedClosingDelimiter close open_line opener) = codes "mismatched closing delimiter `" & close_text close & codes "`, did you mean to close the `" & open_text opener & codes "` on line " & line_text open_line & codes "?"
+kind_message _ (kinds.MixedLeadingWhitespace whitespace) = codes "found a mix of tabs and spaces in leading whitespace: `" & blanks_text whitespace.now & codes "`\nleading whitespace may consist of tabs or spaces, but not both"
+kind_message _ (kinds.NoCdAndWorkingDirectoryAttribute recipe) = codes "recipe `" & recipe.now & codes "` has both `[no-cd]` and `[working-directory]` attributes"
+kind_message _ (kinds.OptionNameContainsEqualSign parameter) = codes "option name for parameter `" & string_bytes parameter & codes "` contains equal sign"
+kind_message _ (kinds.OptionNameEmpty parameter) = codes "option name for parameter `" & string_bytes parameter & codes "` is empty"
+kind_message _ (kinds.OptionNameStartsWithDash parameter) = codes "option name for parameter `" & string_bytes parameter & codes "` starts with dash"
+kind_message _ (kinds.ParameterFollowsVariadicParameter parameter) = codes "parameter `" & parameter.now & codes "` follows variadic parameter"
 kind_message _ kinds.ParsingRecursionDepthExceeded = codes "parsing recursion depth exceeded"
 kind_message line (kinds.Redefinition first first_type name second_type) = redefinition_text first_type name.now first second_type line
-kind_message _ (kinds.RequiredParameterFollowsDefaultParameter parameter) = codes "non-default parameter `" ++ parameter.now ++ codes "` follows default parameter"
-kind_message _ (kinds.ScriptAndShellAttribute recipe) = codes "recipe `" ++ recipe.now ++ codes "` has both `[script]` and `[shell]` attributes"
-kind_message _ (kinds.SettingExpression setting) = codes "`" ++ keyword_text setting ++ codes "` setting must be a plain string literal"
-kind_message _ (kinds.ShellExpansion err) = codes "shell expansion failed: " ++ string_bytes err
-kind_message _ (kinds.ShortOptionWithMultipleCharacters parameter) = codes "short option name for parameter `" ++ string_bytes parameter ++ codes "` contains multiple characters"
+kind_message _ (kinds.RequiredParameterFollowsDefaultParameter parameter) = codes "non-default parameter `" & parameter.now & codes "` follows default parameter"
+kind_message _ (kinds.ScriptAndShellAttribute recipe) = codes "recipe `" & recipe.now & codes "` has both `[script]` and `[shell]` attributes"
+kind_message _ (kinds.SettingExpression setting) = codes "`" & keyword_text setting & codes "` setting must be a plain string literal"
+kind_message _ (kinds.ShellExpansion err) = codes "shell expansion failed: " & string_bytes err
+kind_message _ (kinds.ShortOptionWithMultipleCharacters parameter) = codes "short option name for parameter `" & string_bytes parameter & codes "` contains multiple characters"
 kind_message _ kinds.StarredArgumentOutsideMappedDependency = codes "starred arguments may not be used outside mapped dependencies"
-kind_message _ (kinds.UndefinedArgAttribute argument) = codes "argument attribute for undefined argument `" ++ string_bytes argument ++ codes "`"
-kind_message _ (kinds.UndefinedFunction function) = codes "call to undefined function `" ++ function.now ++ codes "`"
-kind_message _ (kinds.UndefinedVariable variable) = codes "variable `" ++ variable.now ++ codes "` not defined"
-kind_message _ (kinds.UnexpectedCharacter expected) = codes "expected character " ++ expected_characters expected.items
-kind_message _ (kinds.UnexpectedClosingDelimiter close) = codes "unexpected closing delimiter `" ++ close_text close ++ codes "`"
-kind_message _ (kinds.UnexpectedEndOfToken expected) = codes "expected character " ++ expected_characters expected.items ++ codes " but found end-of-file"
-kind_message _ (kinds.UnexpectedToken expected found) = codes "expected " ++ expected_tokens expected.items ++ codes ", but found " ++ kind_text found
-kind_message _ (kinds.UnicodeEscapeCharacter character) = codes "expected hex digit [0-9A-Fa-f] but found `" ++ encode_utf8 character ++ codes "`"
-kind_message _ (kinds.UnicodeEscapeDelimiter character) = codes "expected unicode escape sequence delimiter `{` but found `" ++ encode_utf8 character ++ codes "`"
+kind_message _ (kinds.UndefinedArgAttribute argument) = codes "argument attribute for undefined argument `" & string_bytes argument & codes "`"
+kind_message _ (kinds.UndefinedFunction function) = codes "call to undefined function `" & function.now & codes "`"
+kind_message _ (kinds.UndefinedVariable variable) = codes "variable `" & variable.now & codes "` not defined"
+kind_message _ (kinds.UnexpectedCharacter expected) = codes "expected character " & expected_characters expected.items
+kind_message _ (kinds.UnexpectedClosingDelimiter close) = codes "unexpected closing delimiter `" & close_text close & codes "`"
+kind_message _ (kinds.UnexpectedEndOfToken expected) = codes "expected character " & expected_characters expected.items & codes " but found end-of-file"
+kind_message _ (kinds.UnexpectedToken expected found) = codes "expected " & expected_tokens expected.items & codes ", but found " & kind_text found
+kind_message _ (kinds.UnicodeEscapeCharacter character) = codes "expected hex digit [0-9A-Fa-f] but found `" & encode_utf8 character & codes "`"
+kind_message _ (kinds.UnicodeEscapeDelimiter character) = codes "expected unicode escape sequence delimiter `{` but found `" & encode_utf8 character & codes "`"
 kind_message _ kinds.UnicodeEscapeEmpty = codes "unicode escape sequences must not be empty"
-kind_message _ (kinds.UnicodeEscapeLength hex) = codes "unicode escape sequence starting with `\\u{" ++ string_bytes hex ++ codes "` longer than six hex digits"
-kind_message _ (kinds.UnicodeEscapeRange hex) = codes "unicode escape sequence value `" ++ string_bytes hex ++ codes "` greater than maximum valid code point `10FFFF`"
+kind_message _ (kinds.UnicodeEscapeLength hex) = codes "unicode escape sequence starting with `\\u{" & string_bytes hex & codes "` longer than six hex digits"
+kind_message _ (kinds.UnicodeEscapeRange hex) = codes "unicode escape sequence value `" & string_bytes hex & codes "` greater than maximum valid code point `10FFFF`"
 kind_message _ kinds.UnicodeEscapeUnterminated = codes "unterminated unicode escape sequence"
-kind_message _ (kinds.UnknownAliasTarget alias target) = codes "alias `" ++ alias.now ++ codes "` has an unknown target `" ++ namepath_text target ++ codes "`"
-kind_message _ (kinds.UnknownAttribute attribute) = codes "unknown attribute `" ++ attribute.now ++ codes "`"
-kind_message _ (kinds.UnknownAttributeKey attribute key) = codes "unknown key `" ++ key.now ++ codes "` for `" ++ attribute.now ++ codes "` attribute"
-kind_message _ (kinds.UnknownDependency recipe unknown) = codes "recipe `" ++ recipe.now ++ codes "` has unknown dependency `" ++ namepath_text unknown ++ codes "`"
-kind_message _ (kinds.UnknownSetting setting) = codes "unknown setting `" ++ setting.now ++ codes "`"
-kind_message _ (kinds.UnknownStartOfToken start) = codes "unknown start of token " ++ start_text start
+kind_message _ (kinds.UnknownAliasTarget alias target) = codes "alias `" & alias.now & codes "` has an unknown target `" & namepath_text target & codes "`"
+kind_message _ (kinds.UnknownAttribute attribute) = codes "unknown attribute `" & attribute.now & codes "`"
+kind_message _ (kinds.UnknownAttributeKey attribute key) = codes "unknown key `" & key.now & codes "` for `" & attribute.now & codes "` attribute"
+kind_message _ (kinds.UnknownDependency recipe unknown) = codes "recipe `" & recipe.now & codes "` has unknown dependency `" & namepath_text unknown & codes "`"
+kind_message _ (kinds.UnknownSetting setting) = codes "unknown setting `" & setting.now & codes "`"
+kind_message _ (kinds.UnknownStartOfToken start) = codes "unknown start of token " & start_text start
 kind_message _ kinds.UnpairedCarriageReturn = codes "unpaired carriage return"
 kind_message _ kinds.UnterminatedBacktick = codes "unterminated backtick"
 kind_message _ kinds.UnterminatedInterpolation = codes "unterminated interpolation"

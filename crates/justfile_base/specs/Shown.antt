@@ -1,9 +1,10 @@
 -- How messages show lines, blanks and characters.
-use Rattle.std.specs.Prelude.{ℕ, ◌+◌, ◌-◌, true, false, List, [], ◌∷◌, ◌++◌, ◌||◌, codes, encode_utf8, length, replicate, if◌then◌else◌, ◌==◌}
+use Rattle.std.specs.Prelude.{ℕ, ◌+◌, ◌-◌, true, false, List, [], ◌∷◌, ◌||◌, codes, encode_utf8, length, replicate, if◌then◌else◌, ◌==◌}
 use Rattle.std.specs.List.{flat_map}
 use Rattle.std.specs.Fmt.{decimal, digits}
 use Rattle.std.specs.Str.{chars}
 use Rattle.std.specs.Char.{is_ascii_graphic}
+use Rattle.justfile_base.specs.Text.{◌&◌}
 
 -- a line, which counts from 0, is shown from 1
 abbrev pub line_text : ℕ → List ℕ
@@ -18,7 +19,7 @@ blanks_text text = flat_map blank_text (chars text)
 
 -- the number of a character in hexadecimal, in lower case
 abbrev pub code_text : ℕ → List ℕ
-code_text character = codes "\\u{" ++ digits 16 false character ++ codes "}"
+code_text character = codes "\\u{" & digits 16 false character & codes "}"
 
 -- how a character is shown after a backslash that it may not follow
 abbrev pub escaped_text : ℕ → List ℕ
@@ -30,9 +31,9 @@ escaped_text character = if character == 96 then codes "\\`"
 
 -- four hexadecimal digits of a number, or more, in upper case
 abbrev pub four_digits : ℕ → List ℕ
-four_digits number = replicate (4 - length (digits 16 true number)) 48 ++ digits 16 true number
+four_digits number = replicate (4 - length (digits 16 true number)) 48 & digits 16 true number
 
 -- a character in quotes, and its number if it is not graphic
 abbrev pub start_text : ℕ → List ℕ
-start_text character = codes "'" ++ encode_utf8 character ++ codes "'"
-    ++ (if is_ascii_graphic character then [] else codes " (U+" ++ four_digits character ++ codes ")")
+start_text character = codes "'" & encode_utf8 character & codes "'"
+    & (if is_ascii_graphic character then [] else codes " (U+" & four_digits character & codes ")")

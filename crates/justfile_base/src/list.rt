@@ -1,7 +1,7 @@
 ghost use Rattle.std.specs.Prelude.{◌≡◌, Some, map};
 ghost use Rattle.std.specs.List.{flat_map};
 ghost use Rattle.std.specs.Fmt.{DisplaysOnOk};
-ghost use Rattle.justfile_base.specs.List.{after_comma, item_text, list_text, or_text, other_text, ticked_text};
+ghost use Rattle.justfile_base.specs.List.{after_comma, item_text, last_separator, list_text, or_text, other_text, ticked_text};
 
 use crate::alternative::Alternative;
 use std::fmt;
@@ -67,6 +67,13 @@ fn write_after_commas<T: Alternative, W: fmt::Write>(
     Ok(())
 }
 
+/// What stands before the last alternative but the first: it is the second one, or it follows others.
+fn last_separator(is_second: bool) -> &'static str
+    ensures { result.now ≡ last_separator is_second }
+{
+    if is_second { " or " } else { ", or " }
+}
+
 /// Writes the alternatives after the first.
 fn write_others<T: Alternative, W: fmt::Write>(
     items: &[T],
@@ -79,7 +86,7 @@ fn write_others<T: Alternative, W: fmt::Write>(
         return Ok(());
     };
     write_after_commas(others, ticked, f)?;
-    f.write_str(if others.is_empty() { " or " } else { ", or " })?;
+    f.write_str(last_separator(others.is_empty()))?;
     write_item(last, ticked, f)
 }
 

@@ -2,7 +2,7 @@
 ghost use Rattle.std.specs.Prelude.{◌≡◌, ◌++◌, Some, codes};
 ghost use Rattle.std.specs.List.{flat_map};
 ghost use Rattle.std.specs.Fmt.{DisplaysOnOk};
-ghost use Rattle.justfile_base.specs.Messages.{arguments_text, arrow_name, circle_text, found_text, is_identifier, kind_message, range_text, recipe_circle_text, redefinition_text, taken_text, variable_circle_text};
+ghost use Rattle.justfile_base.specs.Messages.{arguments_text, arrow_name, circle_text, found_text, indefinite_text, is_identifier, kind_message, range_text, recipe_circle_text, redefinition_text, taken_text, variable_circle_text};
 
 use crate::compile_error::CompileError;
 use crate::compile_error_kind::CompileErrorKind;
@@ -157,6 +157,19 @@ impl fmt::Display for Found<'_> {
     }
 }
 
+/// A kind of items, with its indefinite article.
+#[derive(Clone, Copy)]
+struct Indefinite(ItemKind);
+
+impl fmt::Display for Indefinite {
+    ghost output = { λ indefinite. Some (indefinite_text indefinite.0) };
+
+    fn fmt<W: fmt::Write>(&self, f: &mut fmt::Formatter<W>) -> fmt::Result {
+        let kind = self.0;
+        write!(f, "{} {kind}", kind.article())
+    }
+}
+
 /// Writes that an item has the name of an earlier one.
 fn write_redefinition<W: fmt::Write>(
     first_type: ItemKind,
@@ -175,10 +188,10 @@ fn write_redefinition<W: fmt::Write>(
             "{first_type} `{name}` first defined on line {first} is redefined on line {line}"
         )
     } else {
-        let article = second_type.article();
+        let second_type = Indefinite(second_type);
         write!(
             f,
-            "{first_type} `{name}` defined on line {first} is redefined as {article} {second_type} on line {line}"
+            "{first_type} `{name}` defined on line {first} is redefined as {second_type} on line {line}"
         )
     }
 }

@@ -1,7 +1,7 @@
 //! How messages show lines, blanks and characters.
 ghost use Rattle.std.specs.Prelude.{Some};
 ghost use Rattle.std.specs.Fmt.{DisplaysOnOk};
-ghost use Rattle.justfile_base.specs.Shown.{blank_text, four_digits};
+ghost use Rattle.justfile_base.specs.Shown.{blank_text, blanks_text, four_digits};
 
 use std::fmt;
 
@@ -38,16 +38,21 @@ fn write_blank<W: fmt::Write>(character: char, f: &mut fmt::Formatter<W>) -> fmt
     }
 }
 
-impl fmt::Display for Blanks<'_> {
-    ghost use Rattle.justfile_base.specs.Shown.{blanks_text};
+/// Writes the characters of such a text.
+fn write_blanks<W: fmt::Write>(text: &str, f: &mut fmt::Formatter<W>) -> fmt::Result
+    ensures { DisplaysOnOk W.write_str_gives f.old result (Some (blanks_text text.now)) f.new }
+{
+    for character in text.chars() {
+        write_blank(character, f)?;
+    }
+    Ok(())
+}
 
+impl fmt::Display for Blanks<'_> {
     ghost output = { λ blanks. Some (blanks_text blanks.0.now) };
 
     fn fmt<W: fmt::Write>(&self, f: &mut fmt::Formatter<W>) -> fmt::Result {
-        for character in self.0.chars() {
-            write_blank(character, f)?;
-        }
-        Ok(())
+        write_blanks(self.0, f)
     }
 }
 

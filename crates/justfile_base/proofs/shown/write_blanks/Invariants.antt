@@ -1,7 +1,7 @@
 use Rattle.std.specs.Fmt.{HasWritten, IsPlainFormatter}
 use Rattle.std.specs.List.{flat_map}
 use Rattle.justfile_base.specs.Shown.{blank_text}
-use Rattle.justfile_base.proofs.shown.BlanksDisplay.fmt.Given as goal
+use Rattle.justfile_base.proofs.shown.write_blanks.Given as goal
 
 abbrev pub invariant-loop-character : goal.invariant-loop-character
 invariant-loop-character g l =
