@@ -93,6 +93,10 @@ redefinition_text first_type name first second_type line =
     else item_kind_text first_type & codes " `" & name & codes "` defined on line " & line_text first
     & codes " is redefined as " & indefinite_text second_type & codes " on line " & line_text line
 
+-- what stands on the first line is there again on the second
+abbrev pub duplicate_text : ℕ → ℕ → List ℕ
+duplicate_text first line = codes " first used on line " & line_text first & codes " is duplicated on line " & line_text line
+
 -- the message of a kind of refusal at a token of this line
 abbrev pub kind_message : ℕ → CompileErrorKind → List ℕ
 kind_message _ (kinds.ArgAttributeMinExceedsMax min max) = codes "argument attribute `min` `" & decimal min & codes "` exceeds `max` `" & decimal max & codes "`"
@@ -109,12 +113,12 @@ kind_message _ kinds.BacktickShebang = codes "backticks may not start with `#!`"
 kind_message _ (kinds.CircularRecipeDependency recipe circle) = recipe_circle_text recipe.now circle.items
 kind_message _ (kinds.CircularVariableDependency variable circle) = variable_circle_text variable.now circle.items
 kind_message _ (kinds.DependencyArgumentCountMismatch dependency found min max) = codes "dependency `" & namepath_text dependency & codes "` got " & arguments_text found & codes " but takes " & taken_text found min max
-kind_message line (kinds.DuplicateArgAttribute arg first) = codes "attribute for argument `" & string_bytes arg & codes "` first used on line " & line_text first & codes " is duplicated on line " & line_text line
-kind_message line (kinds.DuplicateAttribute attribute first) = codes "attribute `" & name_text attribute & codes "` first used on line " & line_text first & codes " is duplicated on line " & line_text line
+kind_message line (kinds.DuplicateArgAttribute arg first) = codes "attribute for argument `" & string_bytes arg & codes "`" & duplicate_text first line
+kind_message line (kinds.DuplicateAttribute attribute first) = codes "attribute `" & name_text attribute & codes "`" & duplicate_text first line
 kind_message _ (kinds.DuplicateAttributeKey attribute key) = codes "duplicate key `" & key.now & codes "` for `" & attribute.now & codes "` attribute"
 kind_message _ (kinds.DuplicateDefault recipe) = codes "recipe `" & recipe.now & codes "` has duplicate `[default]` attribute, which may only appear once per module"
 kind_message _ (kinds.DuplicateFunctionParameter function parameter) = codes "function `" & function.now & codes "` has duplicate parameter `" & parameter.now & codes "`"
-kind_message line (kinds.DuplicateGroupAttribute first group) = codes "`[group(" & literal_text group & codes ")]` attribute first used on line " & line_text first & codes " is duplicated on line " & line_text line
+kind_message line (kinds.DuplicateGroupAttribute first group) = codes "`[group(" & literal_text group & codes ")]` attribute" & duplicate_text first line
 kind_message _ (kinds.DuplicateOption recipe option) = codes "recipe `" & recipe.now & codes "` defines option `" & switch_text option & codes "` multiple times"
 kind_message _ (kinds.DuplicateParameter recipe parameter) = codes "recipe `" & recipe.now & codes "` has duplicate parameter `" & parameter.now & codes "`"
 kind_message line (kinds.DuplicateSet setting first) = codes "setting `" & setting.now & codes "` first set on line " & line_text first & codes " is redefined on line " & line_text line

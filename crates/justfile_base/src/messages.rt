@@ -1,17 +1,31 @@
 //! What errors say.
-ghost use Rattle.std.specs.Prelude.{◌≡◌, ◌++◌, Some, codes};
+ghost use Rattle.std.specs.Prelude.{◌≡◌, Some, codes, string_bytes};
 ghost use Rattle.std.specs.List.{flat_map};
-ghost use Rattle.std.specs.Fmt.{DisplaysOnOk};
-ghost use Rattle.justfile_base.specs.Messages.{arguments_text, arrow_name, circle_text, found_text, indefinite_text, is_identifier, kind_message, range_text, recipe_circle_text, redefinition_text, taken_text, variable_circle_text};
+ghost use Rattle.std.specs.Fmt.{DisplaysOnOk, ◌++?◌};
+ghost use Rattle.std.specs.Range.{range_inclusive_end, range_inclusive_start};
+ghost use Rattle.justfile_base.specs.AttributeKind.{attribute_name};
+ghost use Rattle.justfile_base.specs.Count.{noun_text};
+ghost use Rattle.justfile_base.specs.Delimiter.{close_text, open_text};
+ghost use Rattle.justfile_base.specs.ItemKind.{item_kind_text};
+ghost use Rattle.justfile_base.specs.Keyword.{keyword_text};
+ghost use Rattle.justfile_base.specs.Messages.{arguments_text, arrow_name, circle_text, duplicate_text, expected_characters, expected_keywords, expected_tokens, found_text, indefinite_text, is_identifier, kind_message, range_text, recipe_circle_text, redefinition_text, taken_text, variable_circle_text};
+ghost use Rattle.justfile_base.specs.Shown.{blanks_text, line_text};
+ghost use Rattle.justfile_base.specs.Text.{◌&◌};
+ghost use Rattle.justfile_base.specs.TokenKind.{kind_text};
+ghost use Rattle.justfile_base.specs.Version.{version_text};
 
+use crate::attribute_kind::AttributeKind;
 use crate::compile_error::CompileError;
 use crate::compile_error_kind::CompileErrorKind;
 use crate::count::Count;
+use crate::delimiter::Delimiter;
 use crate::item_kind::ItemKind;
+use crate::keyword::Keyword;
 use crate::list::List;
 use crate::shown::{Blanks, Escaped, LineNumber, Start};
 use crate::token::Token;
 use crate::token_kind::TokenKind;
+use crate::version::Version;
 use std::fmt;
 use std::ops::RangeInclusive;
 
@@ -54,8 +68,6 @@ impl fmt::Display for Taken {
 struct ArgumentRange<'a>(&'a RangeInclusive<usize>);
 
 impl fmt::Display for ArgumentRange<'_> {
-    ghost use Rattle.std.specs.Range.{range_inclusive_start, range_inclusive_end};
-
     ghost output = { λ range. Some (range_text (range_inclusive_start range.0.now) (range_inclusive_end range.0.now)) };
 
     fn fmt<W: fmt::Write>(&self, f: &mut fmt::Formatter<W>) -> fmt::Result {
@@ -196,6 +208,249 @@ fn write_redefinition<W: fmt::Write>(
     }
 }
 
+/// Writes a value between two texts.
+fn write_around<A: fmt::Display, W: fmt::Write>(
+    before: &str,
+    value: &A,
+    after: &str,
+    f: &mut fmt::Formatter<W>,
+) -> fmt::Result
+    ensures { DisplaysOnOk W.write_str_gives f.old result (Some before.now ++? A.output value.now ++? Some after.now) f.new }
+{
+    write!(f, "{before}{value}{after}")
+}
+
+/// Writes two values, with texts before, between and after them.
+fn write_both<A: fmt::Display, B: fmt::Display, W: fmt::Write>(
+    before: &str,
+    first: &A,
+    between: &str,
+    second: &B,
+    after: &str,
+    f: &mut fmt::Formatter<W>,
+) -> fmt::Result
+    ensures { DisplaysOnOk W.write_str_gives f.old result (Some before.now ++? A.output first.now ++? Some between.now ++? B.output second.now ++? Some after.now) f.new }
+{
+    write!(f, "{before}{first}{between}{second}{after}")
+}
+
+/// Writes that a count of arguments is not one of those that are taken.
+fn write_count_mismatch<A: fmt::Display, W: fmt::Write>(
+    before: &str,
+    taker: &A,
+    found: usize,
+    min: usize,
+    max: usize,
+    f: &mut fmt::Formatter<W>,
+) -> fmt::Result
+    ensures { DisplaysOnOk W.write_str_gives f.old result (Some before.now ++? A.output taker.now ++? Some (codes "` got " & arguments_text found & codes " but takes " & taken_text found min max)) f.new }
+{
+    let taken = Taken { found, min, max };
+    let found = Arguments(found);
+    write!(f, "{before}{taker}` got {found} but takes {taken}")
+}
+
+/// Writes that what stands on one line is there again on another.
+fn write_duplicate<A: fmt::Display, W: fmt::Write>(
+    before: &str,
+    value: &A,
+    after: &str,
+    first: usize,
+    line: usize,
+    f: &mut fmt::Formatter<W>,
+) -> fmt::Result
+    ensures { DisplaysOnOk W.write_str_gives f.old result (Some before.now ++? A.output value.now ++? Some after.now ++? Some (duplicate_text first line)) f.new }
+{
+    let (first, line) = (LineNumber(first), LineNumber(line));
+    write!(
+        f,
+        "{before}{value}{after} first used on line {first} is duplicated on line {line}"
+    )
+}
+
+/// Writes that a setting is set on two lines.
+fn write_duplicate_set<W: fmt::Write>(
+    setting: &str,
+    first: usize,
+    line: usize,
+    f: &mut fmt::Formatter<W>,
+) -> fmt::Result
+    ensures { DisplaysOnOk W.write_str_gives f.old result (Some (codes "setting `" & setting.now & codes "` first set on line " & line_text first & codes " is redefined on line " & line_text line)) f.new }
+{
+    let (first, line) = (LineNumber(first), LineNumber(line));
+    write!(
+        f,
+        "setting `{setting}` first set on line {first} is redefined on line {line}"
+    )
+}
+
+/// Writes which keywords should stand where a token stands.
+fn write_expected_keyword<W: fmt::Write>(
+    expected: &[Keyword],
+    found: &Token<'_>,
+    f: &mut fmt::Formatter<W>,
+) -> fmt::Result
+    ensures { DisplaysOnOk W.write_str_gives f.old result (Some (codes "expected keyword " & expected_keywords expected.now & codes " but found " & found_text found.now)) f.new }
+{
+    let (expected, found) = (List::or_ticked(expected), Found(found));
+    write!(f, "expected keyword {expected} but found {found}")
+}
+
+/// Writes how many attributes no construct takes.
+fn write_extraneous<W: fmt::Write>(count: usize, f: &mut fmt::Formatter<W>) -> fmt::Result
+    ensures { DisplaysOnOk W.write_str_gives f.old result (Some (codes "extraneous " & noun_text (codes "attribute") count)) f.new }
+{
+    write!(f, "extraneous {}", Count::unnumbered("attribute", count))
+}
+
+/// Writes that a function is called with another number of arguments than it takes.
+fn write_function_mismatch<W: fmt::Write>(
+    function: &str,
+    arguments: usize,
+    expected: &RangeInclusive<usize>,
+    f: &mut fmt::Formatter<W>,
+) -> fmt::Result
+    ensures { DisplaysOnOk W.write_str_gives f.old result (Some (codes "function `" & function.now & codes "` called with " & arguments_text arguments & codes " but takes " & range_text (range_inclusive_start expected.now) (range_inclusive_end expected.now))) f.new }
+{
+    let (arguments, expected) = (Arguments(arguments), ArgumentRange(expected));
+    write!(
+        f,
+        "function `{function}` called with {arguments} but takes {expected}"
+    )
+}
+
+/// Writes that two settings exclude each other.
+fn write_incompatible<W: fmt::Write>(
+    first: Keyword,
+    first_line: usize,
+    second: Keyword,
+    f: &mut fmt::Formatter<W>,
+) -> fmt::Result
+    ensures { DisplaysOnOk W.write_str_gives f.old result (Some (codes "`" & keyword_text first & codes "` set on line " & line_text first_line & codes " is incompatible with `" & keyword_text second & codes "`")) f.new }
+{
+    let first_line = LineNumber(first_line);
+    write!(
+        f,
+        "`{first}` set on line {first_line} is incompatible with `{second}`"
+    )
+}
+
+/// Writes that a line begins with other blanks than the line before it.
+fn write_inconsistent<W: fmt::Write>(
+    expected: &str,
+    found: &str,
+    f: &mut fmt::Formatter<W>,
+) -> fmt::Result
+    ensures { DisplaysOnOk W.write_str_gives f.old result (Some (codes "recipe line has inconsistent leading whitespace, started with `" & blanks_text expected.now & codes "` but found line with `" & blanks_text found.now & codes "`")) f.new }
+{
+    let (expected, found) = (Blanks(expected), Blanks(found));
+    write!(
+        f,
+        "recipe line has inconsistent leading whitespace, started with `{expected}` but found line with `{found}`"
+    )
+}
+
+/// Writes that an item doesn't take an attribute.
+fn write_invalid_attribute<W: fmt::Write>(
+    item_kind: ItemKind,
+    item_name: &str,
+    attribute: AttributeKind,
+    f: &mut fmt::Formatter<W>,
+) -> fmt::Result
+    ensures { DisplaysOnOk W.write_str_gives f.old result (Some (item_kind_text item_kind & codes " `" & item_name.now & codes "` has invalid attribute `" & attribute_name attribute & codes "`")) f.new }
+{
+    let attribute = attribute.name();
+    write!(
+        f,
+        "{item_kind} `{item_name}` has invalid attribute `{attribute}`"
+    )
+}
+
+/// Writes that a text is no version, and why.
+fn write_invalid_version<W: fmt::Write>(
+    version: &String,
+    source: &str,
+    f: &mut fmt::Formatter<W>,
+) -> fmt::Result
+    ensures { DisplaysOnOk W.write_str_gives f.old result (Some (codes "`minimum-version` setting has invalid version `" & string_bytes version.now & codes "`: " & source.now)) f.new }
+{
+    write!(
+        f,
+        "`minimum-version` setting has invalid version `{version}`: {source}"
+    )
+}
+
+/// Writes that another version is running than the one that is wanted, or a later one.
+fn write_minimum_version<W: fmt::Write>(
+    minimum: &Version,
+    current: &Version,
+    f: &mut fmt::Formatter<W>,
+) -> fmt::Result
+    ensures { DisplaysOnOk W.write_str_gives f.old result (Some (codes "justfile requires just " & version_text minimum.now & codes " or later, but using " & version_text current.now)) f.new }
+{
+    write!(
+        f,
+        "justfile requires just {minimum} or later, but using {current}"
+    )
+}
+
+/// Writes that a delimiter closes another one.
+fn write_mismatched<W: fmt::Write>(
+    close: Delimiter,
+    opener: Delimiter,
+    open_line: usize,
+    f: &mut fmt::Formatter<W>,
+) -> fmt::Result
+    ensures { DisplaysOnOk W.write_str_gives f.old result (Some (codes "mismatched closing delimiter `" & close_text close & codes "`, did you mean to close the `" & open_text opener & codes "` on line " & line_text open_line & codes "?")) f.new }
+{
+    let (close, open, line) = (close.close(), opener.open(), LineNumber(open_line));
+    write!(
+        f,
+        "mismatched closing delimiter `{close}`, did you mean to close the `{open}` on line {line}?"
+    )
+}
+
+/// Writes that a body begins with blanks of both kinds.
+fn write_mixed<W: fmt::Write>(whitespace: &str, f: &mut fmt::Formatter<W>) -> fmt::Result
+    ensures { DisplaysOnOk W.write_str_gives f.old result (Some (codes "found a mix of tabs and spaces in leading whitespace: `" & blanks_text whitespace.now & codes "`\nleading whitespace may consist of tabs or spaces, but not both")) f.new }
+{
+    let whitespace = Blanks(whitespace);
+    write!(
+        f,
+        "found a mix of tabs and spaces in leading whitespace: `{whitespace}`\nleading whitespace may consist of tabs or spaces, but not both"
+    )
+}
+
+/// Writes which characters should follow.
+fn write_expected_character<W: fmt::Write>(
+    expected: &[char],
+    f: &mut fmt::Formatter<W>,
+) -> fmt::Result
+    ensures { DisplaysOnOk W.write_str_gives f.old result (Some (codes "expected character " & expected_characters expected.now)) f.new }
+{
+    write!(f, "expected character {}", List::or_ticked(expected))
+}
+
+/// Writes which characters should stand where a text ends.
+fn write_expected_end<W: fmt::Write>(expected: &[char], f: &mut fmt::Formatter<W>) -> fmt::Result
+    ensures { DisplaysOnOk W.write_str_gives f.old result (Some (codes "expected character " & expected_characters expected.now & codes " but found end-of-file")) f.new }
+{
+    let expected = List::or_ticked(expected);
+    write!(f, "expected character {expected} but found end-of-file")
+}
+
+/// Writes which tokens could go on, and which one stands there.
+fn write_unexpected_token<W: fmt::Write>(
+    expected: &[TokenKind],
+    found: TokenKind,
+    f: &mut fmt::Formatter<W>,
+) -> fmt::Result
+    ensures { DisplaysOnOk W.write_str_gives f.old result (Some (codes "expected " & expected_tokens expected.now & codes ", but found " & kind_text found)) f.new }
+{
+    let expected = List::or(expected);
+    write!(f, "expected {expected}, but found {found}")
+}
+
 /// Writes what a kind of refusal says at a token of this line.
 fn write_kind<W: fmt::Write>(
     kind: &CompileErrorKind<'_>,
@@ -205,52 +460,65 @@ fn write_kind<W: fmt::Write>(
     ensures { DisplaysOnOk W.write_str_gives f.old result (Some (kind_message line kind.now)) f.new }
 {
     match kind {
-        CompileErrorKind::ArgAttributeMinExceedsMax { min, max } => write!(
+        CompileErrorKind::ArgAttributeMinExceedsMax { min, max } => write_both(
+            "argument attribute `min` `",
+            min,
+            "` exceeds `max` `",
+            max,
+            "`",
             f,
-            "argument attribute `min` `{min}` exceeds `max` `{max}`"
         ),
-        CompileErrorKind::ArgAttributeRequiresMultipleOrVariadic { key } => write!(
+        CompileErrorKind::ArgAttributeRequiresMultipleOrVariadic { key } => write_around(
+            "argument attribute `",
+            key,
+            "` only valid with `multiple` or a variadic parameter",
             f,
-            "argument attribute `{key}` only valid with `multiple` or a variadic parameter"
         ),
-        CompileErrorKind::ArgAttributeRequiresOption { key } => write!(
+        CompileErrorKind::ArgAttributeRequiresOption { key } => write_around(
+            "argument attribute `",
+            key,
+            "` only valid with `long` or `short`",
             f,
-            "argument attribute `{key}` only valid with `long` or `short`"
         ),
-        CompileErrorKind::ArgumentCountParse { key, value } => write!(
+        CompileErrorKind::ArgumentCountParse { key, value } => write_both(
+            "invalid `",
+            key,
+            "` value `",
+            value,
+            "`: number too large to fit in target type",
             f,
-            "invalid `{key}` value `{value}`: number too large to fit in target type"
         ),
-        CompileErrorKind::ArgumentCountValue { key, value } => write!(
+        CompileErrorKind::ArgumentCountValue { key, value } => write_both(
+            "invalid `",
+            key,
+            "` value `",
+            value,
+            "`",
             f,
-            "invalid `{key}` value `{value}`"
         ),
         CompileErrorKind::AttributeArgumentCountMismatch {
             attribute,
             found,
             min,
             max,
-        } => write!(
+        } => write_count_mismatch("attribute `", attribute, *found, *min, *max, f),
+        CompileErrorKind::AttributeArgumentExpression { attribute } => write_around(
+            "attribute `",
+            attribute,
+            "` arguments must be string literals",
             f,
-            "attribute `{attribute}` got {} but takes {}",
-            Arguments(*found),
-            Taken {
-                found: *found,
-                min: *min,
-                max: *max
-            }
         ),
-        CompileErrorKind::AttributeArgumentExpression { attribute } => write!(
+        CompileErrorKind::AttributeKeyMissingValue { key } => write_around(
+            "attribute key `",
+            key,
+            "` requires value",
             f,
-            "attribute `{attribute}` arguments must be string literals"
         ),
-        CompileErrorKind::AttributeKeyMissingValue { key } => write!(
+        CompileErrorKind::AttributeKeyTakesNoValue { key } => write_around(
+            "attribute key `",
+            key,
+            "` takes no value",
             f,
-            "attribute key `{key}` requires value"
-        ),
-        CompileErrorKind::AttributeKeyTakesNoValue { key } => write!(
-            f,
-            "attribute key `{key}` takes no value"
         ),
         CompileErrorKind::AttributePositionalFollowsKeyword => f.write_str(
             "positional attribute arguments cannot follow keyword attribute arguments",
@@ -267,122 +535,138 @@ fn write_kind<W: fmt::Write>(
             found,
             min,
             max,
-        } => write!(
+        } => write_count_mismatch("dependency `", dependency, *found, *min, *max, f),
+        CompileErrorKind::DuplicateArgAttribute { arg, first } => write_duplicate(
+            "attribute for argument `",
+            arg,
+            "`",
+            *first,
+            line,
             f,
-            "dependency `{dependency}` got {} but takes {}",
-            Arguments(*found),
-            Taken {
-                found: *found,
-                min: *min,
-                max: *max
-            }
         ),
-        CompileErrorKind::DuplicateArgAttribute { arg, first } => write!(
+        CompileErrorKind::DuplicateAttribute { attribute, first } => write_duplicate(
+            "attribute `",
+            attribute,
+            "`",
+            *first,
+            line,
             f,
-            "attribute for argument `{arg}` first used on line {} is duplicated on line {}",
-            LineNumber(*first),
-            LineNumber(line)
         ),
-        CompileErrorKind::DuplicateAttribute { attribute, first } => write!(
+        CompileErrorKind::DuplicateAttributeKey { attribute, key } => write_both(
+            "duplicate key `",
+            key,
+            "` for `",
+            attribute,
+            "` attribute",
             f,
-            "attribute `{attribute}` first used on line {} is duplicated on line {}",
-            LineNumber(*first),
-            LineNumber(line)
         ),
-        CompileErrorKind::DuplicateAttributeKey { attribute, key } => write!(
+        CompileErrorKind::DuplicateDefault { recipe } => write_around(
+            "recipe `",
+            recipe,
+            "` has duplicate `[default]` attribute, which may only appear once per module",
             f,
-            "duplicate key `{key}` for `{attribute}` attribute"
-        ),
-        CompileErrorKind::DuplicateDefault { recipe } => write!(
-            f,
-            "recipe `{recipe}` has duplicate `[default]` attribute, which may only appear once per module"
         ),
         CompileErrorKind::DuplicateFunctionParameter {
             function,
             parameter,
-        } => write!(
+        } => write_both(
+            "function `",
+            function,
+            "` has duplicate parameter `",
+            parameter,
+            "`",
             f,
-            "function `{function}` has duplicate parameter `{parameter}`"
         ),
-        CompileErrorKind::DuplicateGroupAttribute { first, group } => write!(
+        CompileErrorKind::DuplicateGroupAttribute { first, group } => write_duplicate(
+            "`[group(",
+            group,
+            ")]` attribute",
+            *first,
+            line,
             f,
-            "`[group({group})]` attribute first used on line {} is duplicated on line {}",
-            LineNumber(*first),
-            LineNumber(line)
         ),
-        CompileErrorKind::DuplicateOption { recipe, option } => write!(
+        CompileErrorKind::DuplicateOption { recipe, option } => write_both(
+            "recipe `",
+            recipe,
+            "` defines option `",
+            option,
+            "` multiple times",
             f,
-            "recipe `{recipe}` defines option `{option}` multiple times"
         ),
-        CompileErrorKind::DuplicateParameter { recipe, parameter } => write!(
+        CompileErrorKind::DuplicateParameter { recipe, parameter } => write_both(
+            "recipe `",
+            recipe,
+            "` has duplicate parameter `",
+            parameter,
+            "`",
             f,
-            "recipe `{recipe}` has duplicate parameter `{parameter}`"
         ),
-        CompileErrorKind::DuplicateSet { setting, first } => write!(
-            f,
-            "setting `{setting}` first set on line {} is redefined on line {}",
-            LineNumber(*first),
-            LineNumber(line)
+        CompileErrorKind::DuplicateSet { setting, first } => write_duplicate_set(
+            setting, *first, line, f,
         ),
-        CompileErrorKind::DuplicateUnexport { variable } => write!(
+        CompileErrorKind::DuplicateUnexport { variable } => write_around(
+            "variable `",
+            variable,
+            "` is unexported multiple times",
             f,
-            "variable `{variable}` is unexported multiple times"
         ),
-        CompileErrorKind::DuplicateVariable { variable } => write!(
+        CompileErrorKind::DuplicateVariable { variable } => write_around(
+            "variable `",
+            variable,
+            "` has multiple definitions",
             f,
-            "variable `{variable}` has multiple definitions"
         ),
         CompileErrorKind::EscapeEndOfFile => f.write_str(
             "expected escape sequence but found end-of-file",
         ),
-        CompileErrorKind::ExitMessageAndNoExitMessageAttribute { recipe } => write!(
+        CompileErrorKind::ExitMessageAndNoExitMessageAttribute { recipe } => write_around(
+            "recipe `",
+            recipe,
+            "` has both `[exit-message]` and `[no-exit-message]` attributes",
             f,
-            "recipe `{recipe}` has both `[exit-message]` and `[no-exit-message]` attributes"
         ),
-        CompileErrorKind::ExpectedKeyword { expected, found } => write!(
-            f,
-            "expected keyword {} but found {}",
-            List::or_ticked(expected),
-            Found(found)
+        CompileErrorKind::ExpectedKeyword { expected, found } => write_expected_keyword(
+            expected, found, f,
         ),
-        CompileErrorKind::ExportUnexported { variable } => write!(
+        CompileErrorKind::ExportUnexported { variable } => write_around(
+            "variable ",
+            variable,
+            " is both exported and unexported",
             f,
-            "variable {variable} is both exported and unexported"
         ),
         CompileErrorKind::ExtraLeadingWhitespace => f.write_str(
             "recipe line has extra leading whitespace",
         ),
-        CompileErrorKind::ExtraneousAttributes { count } => write!(
+        CompileErrorKind::ExtraneousAttributes { count } => write_extraneous(*count, f),
+        CompileErrorKind::FlagAndPatternArgAttribute { parameter } => write_around(
+            "argument `",
+            parameter,
+            "` may not have both `flag` and `pattern` attributes",
             f,
-            "extraneous {}",
-            Count::unnumbered("attribute", *count)
         ),
-        CompileErrorKind::FlagAndPatternArgAttribute { parameter } => write!(
+        CompileErrorKind::FlagAndValueArgAttribute { parameter } => write_around(
+            "argument `",
+            parameter,
+            "` may not have both `flag` and `value` attributes",
             f,
-            "argument `{parameter}` may not have both `flag` and `pattern` attributes"
         ),
-        CompileErrorKind::FlagAndValueArgAttribute { parameter } => write!(
+        CompileErrorKind::FlagAttributeTakesNoValue { parameter } => write_around(
+            "`flag` attribute for argument `",
+            parameter,
+            "` takes no value",
             f,
-            "argument `{parameter}` may not have both `flag` and `value` attributes"
         ),
-        CompileErrorKind::FlagAttributeTakesNoValue { parameter } => write!(
+        CompileErrorKind::FlagWithDefault { parameter } => write_around(
+            "flag parameter `",
+            parameter,
+            "` may not have a default",
             f,
-            "`flag` attribute for argument `{parameter}` takes no value"
-        ),
-        CompileErrorKind::FlagWithDefault { parameter } => write!(
-            f,
-            "flag parameter `{parameter}` may not have a default"
         ),
         CompileErrorKind::FunctionArgumentCountMismatch {
             arguments,
             expected,
             function,
-        } => write!(
-            f,
-            "function `{function}` called with {} but takes {}",
-            Arguments(*arguments),
-            ArgumentRange(expected)
-        ),
+        } => write_function_mismatch(function, *arguments, expected, f),
         CompileErrorKind::GuardAndInfallibleSigil => f.write_str(
             "the guard `?` and infallible `-` sigils may not be used together",
         ),
@@ -390,48 +674,44 @@ fn write_kind<W: fmt::Write>(
             first,
             first_line,
             second,
-        } => write!(
-            f,
-            "`{first}` set on line {} is incompatible with `{second}`",
-            LineNumber(*first_line)
+        } => write_incompatible(*first, *first_line, *second, f),
+        CompileErrorKind::InconsistentLeadingWhitespace { expected, found } => write_inconsistent(
+            expected, found, f,
         ),
-        CompileErrorKind::InconsistentLeadingWhitespace { expected, found } => write!(
+        CompileErrorKind::Internal { message } => write_around(
+            "internal error, this may indicate a bug in just: ",
+            message,
+            "\nconsider filing an issue: https://github.com/casey/just/issues/new",
             f,
-            "recipe line has inconsistent leading whitespace, started with `{}` but found line with `{}`",
-            Blanks(expected),
-            Blanks(found)
-        ),
-        CompileErrorKind::Internal { message } => write!(
-            f,
-            "internal error, this may indicate a bug in just: {message}\nconsider filing an issue: https://github.com/casey/just/issues/new"
         ),
         CompileErrorKind::InvalidAttribute {
             item_kind,
             item_name,
             attribute,
-        } => write!(
+        } => write_invalid_attribute(*item_kind, item_name, *attribute, f),
+        CompileErrorKind::InvalidEscapeSequence { character } => write_around(
+            "`\\",
+            &Escaped(*character),
+            "` is not a valid escape sequence",
             f,
-            "{item_kind} `{item_name}` has invalid attribute `{}`",
-            attribute.name()
-        ),
-        CompileErrorKind::InvalidEscapeSequence { character } => write!(
-            f,
-            "`\\{}` is not a valid escape sequence",
-            Escaped(*character)
         ),
         CompileErrorKind::InvalidIndentation { message } => f.write_str(message),
-        CompileErrorKind::InvalidMinimumVersion { source, version } => write!(
-            f,
-            "`minimum-version` setting has invalid version `{version}`: {source}"
+        CompileErrorKind::InvalidMinimumVersion { source, version } => write_invalid_version(
+            version, source, f,
         ),
-        CompileErrorKind::InvalidShellRecipeAttribute { attribute, recipe } => write!(
+        CompileErrorKind::InvalidShellRecipeAttribute { attribute, recipe } => write_both(
+            "shell recipe `",
+            recipe,
+            "` has script recipe attribute `",
+            &attribute.name(),
+            "`",
             f,
-            "shell recipe `{recipe}` has script recipe attribute `{}`",
-            attribute.name()
         ),
-        CompileErrorKind::InvalidSignal { signal } => write!(
+        CompileErrorKind::InvalidSignal { signal } => write_around(
+            "invalid signal `",
+            signal,
+            "`: expected `SIGHUP`, `SIGINT`, or `SIGQUIT`",
             f,
-            "invalid signal `{signal}`: expected `SIGHUP`, `SIGINT`, or `SIGQUIT`"
         ),
         CompileErrorKind::ListFeature(feature) => write!(f, "{feature}"),
         CompileErrorKind::MappedDependencyMultipleStarredArguments => f.write_str(
@@ -443,45 +723,44 @@ fn write_kind<W: fmt::Write>(
         CompileErrorKind::MappedDependencyWithoutStarredArgument => f.write_str(
             "mapped dependencies must have starred argument",
         ),
-        CompileErrorKind::MinimumVersion { current, minimum } => write!(
-            f,
-            "justfile requires just {minimum} or later, but using {current}"
+        CompileErrorKind::MinimumVersion { current, minimum } => write_minimum_version(
+            minimum, current, f,
         ),
         CompileErrorKind::MismatchedClosingDelimiter {
             close,
             open_line,
             opener,
-        } => write!(
+        } => write_mismatched(*close, *opener, *open_line, f),
+        CompileErrorKind::MixedLeadingWhitespace { whitespace } => write_mixed(whitespace, f),
+        CompileErrorKind::NoCdAndWorkingDirectoryAttribute { recipe } => write_around(
+            "recipe `",
+            recipe,
+            "` has both `[no-cd]` and `[working-directory]` attributes",
             f,
-            "mismatched closing delimiter `{}`, did you mean to close the `{}` on line {}?",
-            close.close(),
-            opener.open(),
-            LineNumber(*open_line)
         ),
-        CompileErrorKind::MixedLeadingWhitespace { whitespace } => write!(
+        CompileErrorKind::OptionNameContainsEqualSign { parameter } => write_around(
+            "option name for parameter `",
+            parameter,
+            "` contains equal sign",
             f,
-            "found a mix of tabs and spaces in leading whitespace: `{}`\nleading whitespace may consist of tabs or spaces, but not both",
-            Blanks(whitespace)
         ),
-        CompileErrorKind::NoCdAndWorkingDirectoryAttribute { recipe } => write!(
+        CompileErrorKind::OptionNameEmpty { parameter } => write_around(
+            "option name for parameter `",
+            parameter,
+            "` is empty",
             f,
-            "recipe `{recipe}` has both `[no-cd]` and `[working-directory]` attributes"
         ),
-        CompileErrorKind::OptionNameContainsEqualSign { parameter } => write!(
+        CompileErrorKind::OptionNameStartsWithDash { parameter } => write_around(
+            "option name for parameter `",
+            parameter,
+            "` starts with dash",
             f,
-            "option name for parameter `{parameter}` contains equal sign"
         ),
-        CompileErrorKind::OptionNameEmpty { parameter } => write!(
+        CompileErrorKind::ParameterFollowsVariadicParameter { parameter } => write_around(
+            "parameter `",
+            parameter,
+            "` follows variadic parameter",
             f,
-            "option name for parameter `{parameter}` is empty"
-        ),
-        CompileErrorKind::OptionNameStartsWithDash { parameter } => write!(
-            f,
-            "option name for parameter `{parameter}` starts with dash"
-        ),
-        CompileErrorKind::ParameterFollowsVariadicParameter { parameter } => write!(
-            f,
-            "parameter `{parameter}` follows variadic parameter"
         ),
         CompileErrorKind::ParsingRecursionDepthExceeded => f.write_str(
             "parsing recursion depth exceeded",
@@ -492,97 +771,129 @@ fn write_kind<W: fmt::Write>(
             name,
             second_type,
         } => write_redefinition(*first_type, name, *first, *second_type, line, f),
-        CompileErrorKind::RequiredParameterFollowsDefaultParameter { parameter } => write!(
+        CompileErrorKind::RequiredParameterFollowsDefaultParameter { parameter } => write_around(
+            "non-default parameter `",
+            parameter,
+            "` follows default parameter",
             f,
-            "non-default parameter `{parameter}` follows default parameter"
         ),
-        CompileErrorKind::ScriptAndShellAttribute { recipe } => write!(
+        CompileErrorKind::ScriptAndShellAttribute { recipe } => write_around(
+            "recipe `",
+            recipe,
+            "` has both `[script]` and `[shell]` attributes",
             f,
-            "recipe `{recipe}` has both `[script]` and `[shell]` attributes"
         ),
-        CompileErrorKind::SettingExpression { setting } => write!(
+        CompileErrorKind::SettingExpression { setting } => write_around(
+            "`",
+            setting,
+            "` setting must be a plain string literal",
             f,
-            "`{setting}` setting must be a plain string literal"
         ),
         CompileErrorKind::ShellExpansion { err } => write!(f, "shell expansion failed: {err}"),
-        CompileErrorKind::ShortOptionWithMultipleCharacters { parameter } => write!(
+        CompileErrorKind::ShortOptionWithMultipleCharacters { parameter } => write_around(
+            "short option name for parameter `",
+            parameter,
+            "` contains multiple characters",
             f,
-            "short option name for parameter `{parameter}` contains multiple characters"
         ),
         CompileErrorKind::StarredArgumentOutsideMappedDependency => f.write_str(
             "starred arguments may not be used outside mapped dependencies",
         ),
-        CompileErrorKind::UndefinedArgAttribute { argument } => write!(
+        CompileErrorKind::UndefinedArgAttribute { argument } => write_around(
+            "argument attribute for undefined argument `",
+            argument,
+            "`",
             f,
-            "argument attribute for undefined argument `{argument}`"
         ),
-        CompileErrorKind::UndefinedFunction { function } => write!(
+        CompileErrorKind::UndefinedFunction { function } => write_around(
+            "call to undefined function `",
+            function,
+            "`",
             f,
-            "call to undefined function `{function}`"
         ),
-        CompileErrorKind::UndefinedVariable { variable } => write!(
+        CompileErrorKind::UndefinedVariable { variable } => write_around(
+            "variable `",
+            variable,
+            "` not defined",
             f,
-            "variable `{variable}` not defined"
         ),
-        CompileErrorKind::UnexpectedCharacter { expected } => write!(
+        CompileErrorKind::UnexpectedCharacter { expected } => write_expected_character(expected, f),
+        CompileErrorKind::UnexpectedClosingDelimiter { close } => write_around(
+            "unexpected closing delimiter `",
+            &close.close(),
+            "`",
             f,
-            "expected character {}",
-            List::or_ticked(expected)
         ),
-        CompileErrorKind::UnexpectedClosingDelimiter { close } => write!(
-            f,
-            "unexpected closing delimiter `{}`",
-            close.close()
+        CompileErrorKind::UnexpectedEndOfToken { expected } => write_expected_end(expected, f),
+        CompileErrorKind::UnexpectedToken { expected, found } => write_unexpected_token(
+            expected, *found, f,
         ),
-        CompileErrorKind::UnexpectedEndOfToken { expected } => write!(
+        CompileErrorKind::UnicodeEscapeCharacter { character } => write_around(
+            "expected hex digit [0-9A-Fa-f] but found `",
+            character,
+            "`",
             f,
-            "expected character {} but found end-of-file",
-            List::or_ticked(expected)
         ),
-        CompileErrorKind::UnexpectedToken { expected, found } => write!(
+        CompileErrorKind::UnicodeEscapeDelimiter { character } => write_around(
+            "expected unicode escape sequence delimiter `{` but found `",
+            character,
+            "`",
             f,
-            "expected {}, but found {found}",
-            List::or(expected)
-        ),
-        CompileErrorKind::UnicodeEscapeCharacter { character } => write!(
-            f,
-            "expected hex digit [0-9A-Fa-f] but found `{character}`"
-        ),
-        CompileErrorKind::UnicodeEscapeDelimiter { character } => write!(
-            f,
-            "expected unicode escape sequence delimiter `{{` but found `{character}`"
         ),
         CompileErrorKind::UnicodeEscapeEmpty => f.write_str(
             "unicode escape sequences must not be empty",
         ),
-        CompileErrorKind::UnicodeEscapeLength { hex } => write!(
+        CompileErrorKind::UnicodeEscapeLength { hex } => write_around(
+            "unicode escape sequence starting with `\\u{",
+            hex,
+            "` longer than six hex digits",
             f,
-            "unicode escape sequence starting with `\\u{{{hex}` longer than six hex digits"
         ),
-        CompileErrorKind::UnicodeEscapeRange { hex } => write!(
+        CompileErrorKind::UnicodeEscapeRange { hex } => write_around(
+            "unicode escape sequence value `",
+            hex,
+            "` greater than maximum valid code point `10FFFF`",
             f,
-            "unicode escape sequence value `{hex}` greater than maximum valid code point `10FFFF`"
         ),
         CompileErrorKind::UnicodeEscapeUnterminated => f.write_str(
             "unterminated unicode escape sequence",
         ),
-        CompileErrorKind::UnknownAliasTarget { alias, target } => write!(
+        CompileErrorKind::UnknownAliasTarget { alias, target } => write_both(
+            "alias `",
+            alias,
+            "` has an unknown target `",
+            target,
+            "`",
             f,
-            "alias `{alias}` has an unknown target `{target}`"
         ),
-        CompileErrorKind::UnknownAttribute { attribute } => write!(
+        CompileErrorKind::UnknownAttribute { attribute } => write_around(
+            "unknown attribute `",
+            attribute,
+            "`",
             f,
-            "unknown attribute `{attribute}`"
         ),
-        CompileErrorKind::UnknownAttributeKey { attribute, key } => write!(
+        CompileErrorKind::UnknownAttributeKey { attribute, key } => write_both(
+            "unknown key `",
+            key,
+            "` for `",
+            attribute,
+            "` attribute",
             f,
-            "unknown key `{key}` for `{attribute}` attribute"
         ),
-        CompileErrorKind::UnknownDependency { recipe, unknown } => write!(
+        CompileErrorKind::UnknownDependency { recipe, unknown } => write_both(
+            "recipe `",
+            recipe,
+            "` has unknown dependency `",
+            unknown,
+            "`",
             f,
-            "recipe `{recipe}` has unknown dependency `{unknown}`"
         ),
-        CompileErrorKind::UnknownSetting { setting } => write!(f, "unknown setting `{setting}`"),
+        CompileErrorKind::UnknownSetting { setting } => write_around(
+            "unknown setting `",
+            setting,
+            "`",
+            f,
+        ),
         CompileErrorKind::UnknownStartOfToken { start } => write!(
             f,
             "unknown start of token {}",

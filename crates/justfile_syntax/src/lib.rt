@@ -42,6 +42,10 @@ pub mod conditional_operator {
     pub use justfile_model::ConditionalOperator;
 }
 
+pub mod count {
+    pub use justfile_base::Count;
+}
+
 pub mod delimiter {
     pub use justfile_base::Delimiter;
 }
@@ -115,8 +119,12 @@ pub mod line {
     pub use justfile_file::Line;
 }
 
+pub mod list {
+    pub use justfile_base::List;
+}
+
 pub mod list_feature {
-    pub use justfile_model::ListFeature;
+    pub use justfile_base::ListFeature;
 }
 
 pub mod list_operator {

@@ -6,6 +6,7 @@ mod excerpts;
 mod format_parts;
 mod headers;
 mod items;
+mod messages;
 mod names;
 mod order;
 mod small;
