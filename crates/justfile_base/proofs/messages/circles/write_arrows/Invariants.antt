@@ -2,7 +2,7 @@ use Rattle.std.proofs.Common.{take}
 use Rattle.std.specs.Fmt.{HasWritten, IsPlainFormatter}
 use Rattle.std.specs.List.{flat_map}
 use Rattle.justfile_base.specs.Messages.{arrow_name}
-use Rattle.justfile_base.proofs.messages.write_arrows.Given as goal
+use Rattle.justfile_base.proofs.messages.circles.write_arrows.Given as goal
 
 abbrev pub invariant-loop-name : goal.invariant-loop-name
 invariant-loop-name g l =
