@@ -412,7 +412,7 @@ module _ (conditions : Conditions) (table : List TableEntry) (file_depth : ℕ) 
     unread_stop : (s : State) (stop : Stop) (fault : Fault) → StopsAt stop s (reader.file (counters_of old) begin ≡ Err (NoNumber (counters_of new))) (reader.file (counters_of old) begin) → IsFaultOf table (front s.left) stop fault
         → IsUnread conditions tokens (IsInTable table) old new fault
     unread_stop s (stops.Refused r) (faults.Compile e) h is = refused_of r s e (file_lost (counters_of old) (refusal_at r s) h) is.0 is.1
-    unread_stop s (stops.Refused r) faults.Memory h is = absurd is
+    unread_stop s (stops.Refused r) faults.Memory h is = tt
     unread_stop s (stops.Refused r) faults.Numbers h is = absurd is
     unread_stop s (stops.Literal box) (faults.Compile e) h is = literal_of box.value e (file_lost (counters_of old) (literal_refusal box.value.error) h) is
     unread_stop s (stops.Literal box) faults.Memory h is = absurd is

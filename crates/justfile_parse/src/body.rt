@@ -30,6 +30,7 @@ pub(crate) fn parse_body_after_header<'src, X: Expander>(
         parser.skip(3);
         return parse_body(parser);
     }
+    parser.wanted.add(TokenKind::Indent);
     Ok(Vec::new(parser.alloc))
 }
 

@@ -11,26 +11,27 @@ ghost use Rattle.justfile_parse_expression.specs.Formats.{IsTable};
 ghost use Rattle.justfile_parse.specs.Filled.{IsInTable};
 ghost use Rattle.justfile_parse.specs.ItemTable as reader;
 ghost use Rattle.justfile_parse.specs.ItemTable.{after_mark};
-ghost use Rattle.justfile_parse.specs.MethodResults.{IsErrorAt, IsFaultOf, IsMoved, IsNextPlace, IsRead, IsUnread};
+ghost use Rattle.justfile_parse.specs.MethodResults.{IsFaultAt, IsFaultOf, IsMoved, IsNextPlace, IsRead, IsUnread};
 ghost use Rattle.justfile_parse.specs.Halting.{IsFaultOfHalt};
 ghost use Rattle.justfile_parse.specs.Whole.{AreWhole};
 ghost use Rattle.justfile_parse_expression.specs.Significant.{significant_of};
 ghost use Rattle.justfile_parse.specs.Tree.{item_tree};
 ghost use Rattle.justfile_parse_expression.specs.View.{state_of};
+ghost use Rattle.justfile_parse_expression.specs.declared.stop.Refusal.TheVariants.{Unexpected};
 ghost use Rattle.justfile_parse_header.specs.Counting.{ReadsCounted, counters_of};
 
 use crate::docs::take_docs;
 use crate::items::parse_items;
 use crate::unstable::with_unstable;
 use justfile_base::{
-    CompileError, CompileErrorKind, CompileResult, Expander, Fault, Modulepath, Namepath,
-    Numerator, Source, Token, TokenKind, Version,
+    CompileErrorKind, CompileResult, Expander, Fault, Modulepath, Namepath, Numerator, Source, Token,
+    TokenKind, Version,
 };
 use justfile_file::{Ast, Item};
 use justfile_lex::Lexer;
 use justfile_parse_attribute::Halt;
 use justfile_parse_expression::significant::{TableEntry, significant};
-use justfile_parse_expression::{ExpressionParser, Refusal, Stop};
+use justfile_parse_expression::{ExpressionParser, Refusal, Stop, Wanted};
 use justfile_tree::ListFeature;
 use std::alloc::Global;
 
@@ -153,7 +154,13 @@ fn parse_table<'run, 'src, X: Expander>(
     );
     match parse_file(&mut parser, numerator) {
         Ok(items) => Ok((take_docs(alloc, items)?, parser.list_features)),
-        Err(halt) => Err(make_fault(alloc, tokens, parser.peek_front(), halt)),
+        Err(halt) => Err(make_fault(
+            alloc,
+            tokens,
+            parser.peek_front(),
+            &parser.wanted,
+            halt,
+        )),
     }
 }
 
@@ -180,55 +187,72 @@ fn accept_byte_order_mark<X: Expander>(parser: &mut ExpressionParser<'_, '_, X>)
     let _mark = parser.accept(TokenKind::ByteOrderMark);
 }
 
-/// The fault for which reading halted, where this token is next.
+/// The fault for which reading halted, where this token is next and others are wanted.
 fn make_fault<'src>(
     alloc: Global,
     tokens: &[TableEntry<'_, 'src>],
     next: Option<TableEntry<'_, 'src>>,
+    wanted: &Wanted,
     halt: Halt<'src>,
 ) -> Fault<'src>
     requires { 0 < length tokens.now }
     ensures { IsFaultOfHalt tokens.now next.entry halt.entry result }
 {
     match halt {
-        Halt::Stopped(stop) => make_stop_fault(alloc, tokens, next, stop),
+        Halt::Stopped(stop) => make_stop_fault(alloc, tokens, next, wanted, stop),
         Halt::Broken(error) => Fault::Compile(Box::into_inner(error)),
     }
 }
 
-/// The fault for which reading stopped, where this token is next.
+/// The fault for which reading stopped, where this token is next and others are wanted.
 fn make_stop_fault<'src>(
     alloc: Global,
     tokens: &[TableEntry<'_, 'src>],
     next: Option<TableEntry<'_, 'src>>,
+    wanted: &Wanted,
     stop: Stop<'src>,
 ) -> Fault<'src>
     requires { 0 < length tokens.now }
     ensures { IsFaultOf tokens.now next.entry stop.entry result }
 {
     match stop {
-        Stop::Refused(refusal) => Fault::Compile(make_error(
-            alloc,
-            find_place(tokens, next),
-            refusal,
-        )),
+        Stop::Refused(refusal) => {
+            make_refusal(alloc, find_place(tokens, next), wanted, refusal)
+        }
         Stop::Literal(refused) => Fault::Compile(Box::into_inner(refused).error),
         Stop::Memory => Fault::Memory,
         Stop::Numbers => Fault::Numbers,
     }
 }
 
-/// The error of a refusal at a token.
-fn make_error<'src>(alloc: Global, token: Token<'src>, refusal: Refusal) -> CompileError<'src>
-    ensures { IsErrorAt refusal token.entry result }
+/// The fault of a refusal at a token, where others are wanted.
+fn make_refusal<'src>(
+    alloc: Global,
+    token: Token<'src>,
+    wanted: &Wanted,
+    refusal: Refusal,
+) -> Fault<'src>
+    ensures { IsFaultAt refusal token.entry result }
 {
-    token.error(match refusal {
-        Refusal::Unexpected => CompileErrorKind::UnexpectedToken {
-            expected: Vec::new(alloc),
+    match refusal {
+        Refusal::Unexpected => make_unexpected(alloc, token, wanted),
+        Refusal::TooDeep => {
+            Fault::Compile(token.error(CompileErrorKind::ParsingRecursionDepthExceeded))
+        }
+    }
+}
+
+/// The fault of a token that is not expected, where others are.
+fn make_unexpected<'src>(alloc: Global, token: Token<'src>, wanted: &Wanted) -> Fault<'src>
+    ensures { IsFaultAt Unexpected token.entry result }
+{
+    match wanted.kinds(alloc) {
+        Ok(expected) => Fault::Compile(token.error(CompileErrorKind::UnexpectedToken {
+            expected,
             found: token.kind,
-        },
-        Refusal::TooDeep => CompileErrorKind::ParsingRecursionDepthExceeded,
-    })
+        })),
+        Err(_) => Fault::Memory,
+    }
 }
 
 /// Where a refusal stands: at the next token, or at the last where none is left.

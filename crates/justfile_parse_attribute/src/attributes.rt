@@ -10,6 +10,7 @@ ghost use Rattle.justfile_parse_attribute.specs.Attributes.{arguments_of, entry_
 ghost use Rattle.justfile_parse_attribute.specs.Halting.{ReadsRuled};
 ghost use Rattle.justfile_parse_attribute.specs.KeyedBounds.{AreKeyedPairs, KeepsKeyed};
 ghost use Rattle.justfile_parse_expression.specs.MethodResults.{Reads};
+ghost use Rattle.justfile_parse_expression.specs.TableReader as table;
 ghost use Rattle.justfile_parse_attribute.specs.AttributeTable as reader;
 ghost use Rattle.justfile_tree.specs.LeafTree.{leaf_tree_of};
 ghost use Rattle.justfile_parse_expression.specs.View.{left, state_of};
@@ -138,8 +139,32 @@ fn parse_attributes_end<'run, 'src, X: Expander>(
     ensures progress { OnOk result (left parser.new < left parser.old) }
 {
     match parser.accept(TokenKind::Comment) {
-        Some(_comment) => parser.expect(TokenKind::Eol),
-        None => parser.expect(TokenKind::Eol),
+        Some(_comment) => expect_line_end(parser),
+        None => expect_line_end(parser),
+    }
+}
+
+/// The end of a line of attributes, which is not that of the file.
+fn expect_line_end<'run, 'src, X: Expander>(
+    parser: &mut ExpressionParser<'run, 'src, X>,
+) -> Result<TableEntry<'run, 'src>, Stop<'src>>
+    ensures reads { Reads (λ entry. entry) result (state_of X.answer parser.new) (table.expect kinds.Eol (state_of X.answer parser.old)) }
+    ensures progress { OnOk result (left parser.new < left parser.old) }
+{
+    want_line_end(parser);
+    parser.expect(TokenKind::Eol)
+}
+
+/// A line of attributes may end as other lines do. Where the file ends with it, a construct is missing.
+fn want_line_end<X: Expander>(parser: &ExpressionParser<'_, '_, X>) {
+    parser.wanted.add(TokenKind::Eof);
+    if parser.detect_if(TokenKind::Eof).is_some() {
+        parser.wanted.add_all(&[
+            TokenKind::At,
+            TokenKind::BracketL,
+            TokenKind::Comment,
+            TokenKind::Identifier,
+        ]);
     }
 }
 

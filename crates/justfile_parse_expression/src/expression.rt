@@ -97,6 +97,7 @@ impl<'run, 'src, X: Expander> ExpressionParser<'run, 'src, X> {
         ensures progress { OnOk result (left self.new ≤ left self.old) }
     {
         let Some(_operator) = self.peek_operator() else {
+            self.wanted.add_operators_to(level);
             self.leave(level);
             return Ok(lhs);
         };
@@ -126,6 +127,7 @@ impl<'run, 'src, X: Expander> ExpressionParser<'run, 'src, X> {
         ensures progress { OnOk result (left self.new ≤ left self.old) }
     {
         let Some((operator, entry)) = self.accept_operator(level) else {
+            self.wanted.add_operators(level);
             self.leave(level);
             return Ok(lhs);
         };
@@ -231,7 +233,7 @@ impl<'run, 'src, X: Expander> ExpressionParser<'run, 'src, X> {
         ensures reads { Reads (λ e. leaf_tree_of e.value) result (state_of X.answer self.new) (reader.value (state_of X.answer self.old)) }
         ensures progress { OnOk result (left self.new < left self.old) }
     {
-        if let Some(bang) = self.accept(TokenKind::Bang) {
+        if let Some(bang) = self.take(TokenKind::Bang) {
             self.note(ListFeature::NegationOperator, *bang.token)?;
             let operand = self.parse_value()?;
             return self.box_expression(Expression::Not { operand });
@@ -350,7 +352,7 @@ impl<'run, 'src, X: Expander> ExpressionParser<'run, 'src, X> {
         ensures reads { Reads (λ e. leaf_tree_of e.value) result (state_of X.answer self.new) (reader.name (state_of X.answer self.old)) }
         ensures progress { OnOk result (left self.new < left self.old) }
     {
-        let Some(entry) = self.accept(TokenKind::Identifier) else {
+        let Some(entry) = self.take(TokenKind::Identifier) else {
             return self.parse_group();
         };
         let name = Name::from_identifier(*entry.token);
@@ -369,7 +371,7 @@ impl<'run, 'src, X: Expander> ExpressionParser<'run, 'src, X> {
         ensures reads { Reads (λ e. leaf_tree_of e.value) result (state_of X.answer self.new) (reader.group (state_of X.answer self.old)) }
         ensures progress { OnOk result (left self.new < left self.old) }
     {
-        let Some(_opening) = self.accept(TokenKind::ParenL) else {
+        let Some(_opening) = self.take(TokenKind::ParenL) else {
             return self.parse_list();
         };
         let contents = self.parse_enclosed(TokenKind::ParenR)?;
@@ -383,7 +385,8 @@ impl<'run, 'src, X: Expander> ExpressionParser<'run, 'src, X> {
         ensures reads { Reads (λ e. leaf_tree_of e.value) result (state_of X.answer self.new) (reader.list (state_of X.answer self.old)) }
         ensures progress { OnOk result (left self.new < left self.old) }
     {
-        let Some(opener) = self.accept(TokenKind::BracketL) else {
+        let Some(opener) = self.take(TokenKind::BracketL) else {
+            self.wanted.add_value();
             return Err(Stop::Refused(Refusal::Unexpected));
         };
         self.note(ListFeature::ListLiteral, *opener.token)?;
@@ -505,6 +508,7 @@ impl<'run, 'src, X: Expander> ExpressionParser<'run, 'src, X> {
         let operator = find_operator(entry.token.kind)?;
         if is_at(level, operator) {
             self.next += 1;
+            self.wanted.clear();
             Some((operator, entry))
         } else {
             None
@@ -529,6 +533,7 @@ impl<'run, 'src, X: Expander> ExpressionParser<'run, 'src, X> {
         }
         match self.peek() {
             Some(entry) if is_word(entry, Keyword::Else.lexeme()) => {
+                self.wanted.add_operators_to(Level::Expression);
                 Err(Stop::Refused(Refusal::Unexpected))
             }
             _ => Ok(()),

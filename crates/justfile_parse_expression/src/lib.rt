@@ -8,6 +8,8 @@ mod operator;
 mod parser;
 pub mod significant;
 mod stop;
+mod wanted;
 
 pub use crate::parser::{ExpressionParser, is_word};
 pub use crate::stop::{LiteralRefusal, Refusal, Stop};
+pub use crate::wanted::Wanted;

@@ -30,7 +30,7 @@ impl<'run, 'src, X: Expander> ExpressionParser<'run, 'src, X> {
             (reader.literal (state_of X.answer self.old)) }
         ensures moves { IfOk result (λ found. Moves found self.old self.new) }
     {
-        if let Some(entry) = self.accept(TokenKind::StringToken) {
+        if let Some(entry) = self.take(TokenKind::StringToken) {
             return Ok(Some(self.cook_string(entry, false)?));
         }
         if let Some(entry) = self.accept_marked(Keyword::X, TokenKind::StringToken) {
@@ -39,7 +39,7 @@ impl<'run, 'src, X: Expander> ExpressionParser<'run, 'src, X> {
         if let Some(entry) = self.accept_marked(Keyword::F, TokenKind::StringToken) {
             return Ok(Some(self.cook_single(entry)?));
         }
-        match self.accept(TokenKind::Backtick) {
+        match self.take(TokenKind::Backtick) {
             Some(entry) => Ok(Some(self.cook_backtick(entry)?)),
             None => Ok(None),
         }

@@ -16,6 +16,7 @@ ghost use Rattle.justfile_parse_expression.specs.Significant.{significant_of};
 
 use crate::significant::TableEntry;
 use crate::stop::{Refusal, Stop};
+use crate::wanted::Wanted;
 use justfile_base::{Expander, Keyword, Token, TokenKind, Version};
 use justfile_tree::ListFeature;
 use std::alloc::Global;
@@ -24,7 +25,8 @@ use std::alloc::Global;
 ///
 /// A method's name says what it does with the tokens that come next: `peek_` looks at them and takes none,
 /// `accept_` takes what it names if that is there, `expect_` refuses what is anything else, and `parse_`
-/// reads a construct, or says why there is none.
+/// reads a construct, or says why there is none. Where they look for a kind of token and do not find it,
+/// the kind is wanted. `detect_` is as `peek_`, and `take_` as `accept_`, but nothing is wanted then.
 #[derive(Drop)]
 pub struct ExpressionParser<'run, 'src, X> {
     pub alloc: Global,
@@ -42,6 +44,8 @@ pub struct ExpressionParser<'run, 'src, X> {
     /// The index of the next token.
     pub(crate) next: usize,
     pub tokens: &'run [TableEntry<'run, 'src>],
+    /// Which kinds are wanted in place of the next token.
+    pub wanted: Wanted,
     ghost within: { next ≤ length tokens.now },
     ghost shallow: { depth ≤ depth_limit },
     ghost nonempty: { 0 < length tokens.now },
@@ -80,6 +84,7 @@ impl<'run, 'src, X: Expander> ExpressionParser<'run, 'src, X> {
             list_features: Vec::new(alloc),
             next: 0,
             tokens,
+            wanted: Wanted::new(),
         }
     }
 
@@ -113,9 +118,10 @@ impl<'run, 'src, X: Expander> ExpressionParser<'run, 'src, X> {
         self.peek()
     }
 
-    /// The next token if it is of this kind; it is not taken yet.
+    /// The next token if it is of this kind; it is not taken yet. The kind is not wanted here, or is
+    /// among others that are, all at once.
     #[tactic(auto, unfolding(crate::specs::TableReader::leaves, justfile_model::specs::Reading::accept, justfile_model::specs::Reading::same_kind))]
-    pub fn peek_if(&self, kind: TokenKind) -> Option<TableEntry<'run, 'src>>
+    pub fn detect_if(&self, kind: TokenKind) -> Option<TableEntry<'run, 'src>>
         ensures within { OnSome result (self.now.next < length self.now.tokens.now) }
         ensures takes { Takes result (state_from X.answer self.now (self.now.next + 1)) (reader.accept kind (state_of X.answer self.now)) }
         ensures entry { IfSome result (λ entry. IsOf kind entry) }
@@ -126,16 +132,43 @@ impl<'run, 'src, X: Expander> ExpressionParser<'run, 'src, X> {
         }
     }
 
-    /// Takes the next token if it is of this kind.
+    /// The next token if it is of this kind; it is not taken yet.
+    pub fn peek_if(&self, kind: TokenKind) -> Option<TableEntry<'run, 'src>>
+        ensures within { OnSome result (self.now.next < length self.now.tokens.now) }
+        ensures takes { Takes result (state_from X.answer self.now (self.now.next + 1)) (reader.accept kind (state_of X.answer self.now)) }
+        ensures entry { IfSome result (λ entry. IsOf kind entry) }
+    {
+        let entry = self.detect_if(kind);
+        if entry.is_none() {
+            self.wanted.add(kind);
+        }
+        entry
+    }
+
+    /// Takes the next token if it is of this kind, which is among others that are wanted all at once.
     #[tactic(auto, unfolding(crate::specs::View::state_of, crate::specs::View::left))]
+    pub(crate) fn take(&mut self, kind: TokenKind) -> Option<TableEntry<'run, 'src>>
+        ensures takes { Takes result (state_of X.answer self.new) (reader.accept kind (state_of X.answer self.old)) }
+        ensures moves { Moves result self.old self.new }
+        ensures entry { IfSome result (λ entry. IsOf kind entry) }
+    {
+        let entry = self.detect_if(kind)?;
+        self.next += 1;
+        self.wanted.clear();
+        Some(entry)
+    }
+
+    /// Takes the next token if it is of this kind.
     pub fn accept(&mut self, kind: TokenKind) -> Option<TableEntry<'run, 'src>>
         ensures takes { Takes result (state_of X.answer self.new) (reader.accept kind (state_of X.answer self.old)) }
         ensures moves { Moves result self.old self.new }
         ensures entry { IfSome result (λ entry. IsOf kind entry) }
     {
-        let entry = self.peek_if(kind)?;
-        self.next += 1;
-        Some(entry)
+        let entry = self.take(kind);
+        if entry.is_none() {
+            self.wanted.add(kind);
+        }
+        entry
     }
 
     /// Takes the next token if it is this keyword.
@@ -149,6 +182,7 @@ impl<'run, 'src, X: Expander> ExpressionParser<'run, 'src, X> {
         let entry = self.peek()?;
         if is_word(entry, keyword.lexeme()) {
             self.next += 1;
+            self.wanted.clear();
             Some(entry)
         } else {
             None
@@ -186,6 +220,7 @@ impl<'run, 'src, X: Expander> ExpressionParser<'run, 'src, X> {
         let entry = self.tokens[self.next + 1];
         if is_marked(first, mark.lexeme(), entry, kind) {
             self.next += 2;
+            self.wanted.clear();
             Some(entry)
         } else {
             None
@@ -218,8 +253,28 @@ impl<'run, 'src, X: Expander> ExpressionParser<'run, 'src, X> {
         }
     }
 
-    /// Whether the next tokens are of these kinds; none is taken yet.
+    /// Whether the next tokens are of these kinds; none is taken yet. Where they are not, the first kind
+    /// is wanted.
     pub fn peek_kinds(&self, kinds: &[TokenKind]) -> bool
+        ensures is { result ≡ reader.next_are kinds.now (state_of X.answer self.now) }
+        ensures within { IsTrue result → length kinds.now ≤ left self.now }
+    {
+        let are_next = self.detect_kinds(kinds);
+        if !are_next {
+            self.want_first(kinds);
+        }
+        are_next
+    }
+
+    /// The first of these kinds is wanted.
+    fn want_first(&self, kinds: &[TokenKind]) {
+        if let Some(kind) = kinds.first() {
+            self.wanted.add(*kind);
+        }
+    }
+
+    /// Whether the next tokens are of these kinds; none is taken yet, and none is wanted.
+    pub fn detect_kinds(&self, kinds: &[TokenKind]) -> bool
         ensures is { result ≡ reader.next_are kinds.now (state_of X.answer self.now) }
         ensures within { IsTrue result → length kinds.now ≤ left self.now }
     {
@@ -241,6 +296,7 @@ impl<'run, 'src, X: Expander> ExpressionParser<'run, 'src, X> {
         ensures progress { left self.new ≤ left self.old }
     {
         self.next += count;
+        self.wanted.clear();
     }
 }
 

@@ -149,7 +149,7 @@ fn expect_no_name<'src, X: Expander>(
 ) -> Result<(), Halt<'src>>
     ensures { ReadsRuled (λ _. tt) result (state_of X.answer parser.now) (reader.nothing_after (state_of X.answer parser.now)) }
 {
-    match parser.peek_if(TokenKind::Identifier) {
+    match parser.detect_if(TokenKind::Identifier) {
         None => Ok(()),
         Some(name) => Err(make_halt(parser.alloc, after_variadic(*name.token))),
     }

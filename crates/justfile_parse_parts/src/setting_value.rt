@@ -145,7 +145,8 @@ fn parse_interpreter<'src, X: Expander>(
     ensures progress { OnOk result (left parser.new < left parser.old) }
 {
     parser.expect(TokenKind::BracketL)?;
-    if parser.peek_kinds(&[TokenKind::BracketR]) {
+    if parser.detect_kinds(&[TokenKind::BracketR]) {
+        parser.wanted.add_expression();
         return Err(Stop::Refused(Refusal::Unexpected));
     }
     parse_command(parser)

@@ -10,12 +10,12 @@ use crate::items::{
 };
 use crate::printing::{copies, prints, prints_item};
 use crate::recipes::push_of_recipe;
-use crate::refusal::push_fault;
+use crate::refusal::{push_expected, push_fault};
 use crate::settings::settings;
 use crate::values::push_of_value;
 use crate::word::Word;
 use justfile_syntax::ast::Ast;
-use justfile_syntax::fault::CompileResult;
+use justfile_syntax::fault::{CompileResult, Fault};
 use justfile_syntax::indentation::Indentation;
 use justfile_syntax::numerator::{Number, Numerator};
 use justfile_syntax::parser::Parser;
@@ -61,7 +61,7 @@ pub(crate) fn parse<'src>(
 /// What a row's word asks of a file.
 fn push_file(ast: &mut Ast<'_>, answer: &mut Answer, word: Word, fields: &[String]) {
     match word {
-        Word::Refused => answer.push("taken"),
+        Word::Expected | Word::Refused => answer.push("taken"),
         Word::Attributes => attributes(&ast.items, answer),
         Word::Docs => docs(&ast.items, answer),
         Word::Enabled => enabled(&ast.items, answer),
@@ -136,13 +136,21 @@ fn push_parsed(answer: &mut Answer, word: Word, fields: &[String]) {
     let mut found = Answer::new(answer.alloc());
     match parse_from(answer.alloc(), &mut numerator, &expansion, text) {
         Ok(mut ast) => push_file_and_copy(&mut ast, &mut found, word, fields),
-        Err(fault) => push_fault(&mut found, text, &fault),
+        Err(fault) => push_why(&mut found, word, text, &fault),
     }
     if word == Word::Numbers {
         push_number(answer, numerator.next_binding());
         push_number(answer, numerator.next_recipe());
     }
     answer.push_all(&found);
+}
+
+/// Why there is no file, as a row's word asks for it.
+fn push_why(answer: &mut Answer, word: Word, text: &str, fault: &Fault<'_>) {
+    match word {
+        Word::Expected => push_expected(answer, text, fault),
+        _ => push_fault(answer, text, fault),
+    }
 }
 
 /// A number, or `none`.

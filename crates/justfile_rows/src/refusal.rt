@@ -3,6 +3,7 @@
 use justfile_syntax::compile_error::CompileError;
 use justfile_syntax::compile_error_kind::CompileErrorKind;
 use justfile_syntax::fault::Fault;
+use justfile_syntax::token_kind::TokenKind;
 use row_notation::Answer;
 use std::alloc::{AllocError, Global};
 
@@ -120,5 +121,28 @@ pub(crate) fn push_fault(answer: &mut Answer, text: &str, fault: &Fault<'_>) {
         Fault::Compile(error) => push_refusal(answer, text, error),
         Fault::Memory => answer.push("memory"),
         Fault::Numbers => answer.push("numbers"),
+    }
+}
+
+/// The kinds of tokens that were expected, and after `but` the kind that was found; or another fault.
+pub(crate) fn push_expected(answer: &mut Answer, text: &str, fault: &Fault<'_>) {
+    match fault {
+        Fault::Compile(error) => match &error.kind {
+            CompileErrorKind::UnexpectedToken { expected, found } => {
+                push_kinds(answer, expected.as_slice());
+                answer.push("but");
+                push_kinds(answer, &[*found]);
+            }
+            _ => push_refusal(answer, text, error),
+        },
+        fault => push_fault(answer, text, fault),
+    }
+}
+
+/// The names of kinds of tokens.
+fn push_kinds(answer: &mut Answer, kinds: &[TokenKind]) {
+    for kind in kinds {
+        let alloc = answer.alloc();
+        answer.push_made(format!(in alloc; "{kind:?}"));
     }
 }

@@ -3,7 +3,7 @@ use Rattle.justfile_base.specs.declared.token_kind.TokenKind.TheVariants as kind
 use Rattle.justfile_model.specs.Reading.{same_kind}
 use Rattle.justfile_parse_expression.specs.View.{left, run_of, state_of}
 use Rattle.justfile_parse_expression.proofs.NextKinds.{are_all, are_ended, are_go_on, are_other, are_within, left_are}
-use Rattle.justfile_parse_expression.proofs.parser.ExpressionParser.peek_kinds.Goals as goal
+use Rattle.justfile_parse_expression.proofs.parser.ExpressionParser.detect_kinds.Goals as goal
 
 pub returns-in_default-clause-is : goal.returns-in_default-clause-is
 unfolding same_kind state_of
