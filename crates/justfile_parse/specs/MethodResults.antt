@@ -52,21 +52,20 @@ abbrev pub IsKindAt : Refusal → CompileErrorKind → Token → Type 0
 IsKindAt Unexpected kind token = IsUnexpected kind token
 IsKindAt TooDeep kind token = kind ≡ error_kinds.ParsingRecursionDepthExceeded
 
--- The fault is that of the refusal, at this token. The list of what is expected may find no memory.
-abbrev pub IsFaultAt : Refusal → Token → Fault → Type 0
-IsFaultAt refusal token (faults.Compile e) = IsKindAt refusal e.kind e.token × (e.token ≡ token)
-IsFaultAt Unexpected token faults.Memory = Unit {0}
-IsFaultAt refusal token fault = ⊥
+-- the error is that of the refusal, at this token
+abbrev pub IsErrorAt : Refusal → Token → CompileError → Type 0
+IsErrorAt refusal token error = IsKindAt refusal error.kind error.token × (error.token ≡ token)
 
 -- the token is the next one, or the last of the table where none is left
 abbrev pub IsNextPlace : List TableEntry → (next : Option TableEntry) → Token → Type 0
 IsNextPlace table (Some entry) token = token ≡ entry.token.now
 IsNextPlace table None token = IsInTable table token × IsAt (map significant_of table) None token
 
--- The fault says why reading stopped: at the next token, or for a literal. The list of what is expected may find no memory.
+-- The fault says why reading stopped: at the next token, or for a literal. The list of what is expected in place of a token may find
+-- no memory.
 abbrev pub IsFaultOf : List TableEntry → (next : Option TableEntry) → Stop → Fault → Type 0
 IsFaultOf table next (stops.Refused refusal) (faults.Compile e) = IsKindAt refusal e.kind e.token × IsNextPlace table next e.token
-IsFaultOf table next (stops.Refused Unexpected) faults.Memory = Unit {0}
+IsFaultOf table next (stops.Refused refusal) faults.Memory = refusal ≡ Unexpected
 IsFaultOf table next (stops.Literal refused) (faults.Compile e) = e ≡ refused.value.error
 IsFaultOf table next stops.Memory faults.Memory = Unit {0}
 IsFaultOf table next stops.Numbers faults.Numbers = Unit {0}

@@ -1,5 +1,5 @@
 //! Files from tokens, and from texts: the public calls, and how a file is begun.
-ghost use Rattle.std.specs.Prelude.{◌≡◌, ◌<◌, ◌≤◌, All, List, length, map, Contains, IfOk, IfErr, string_bytes};
+ghost use Rattle.std.specs.Prelude.{◌≡◌, ◌<◌, ◌≤◌, All, List, length, map, Contains, IfOk, IfErr, OnErr, string_bytes};
 ghost use Rattle.justfile_base.specs.Modulepath.{module_names, names_of};
 ghost use Rattle.justfile_base.specs.Numerator.{constants_of};
 ghost use Rattle.justfile_model.specs.Lexed.{Lexed};
@@ -11,7 +11,7 @@ ghost use Rattle.justfile_parse_expression.specs.Formats.{IsTable};
 ghost use Rattle.justfile_parse.specs.Filled.{IsInTable};
 ghost use Rattle.justfile_parse.specs.ItemTable as reader;
 ghost use Rattle.justfile_parse.specs.ItemTable.{after_mark};
-ghost use Rattle.justfile_parse.specs.MethodResults.{IsFaultAt, IsFaultOf, IsMoved, IsNextPlace, IsRead, IsUnread};
+ghost use Rattle.justfile_parse.specs.MethodResults.{IsErrorAt, IsFaultOf, IsMoved, IsNextPlace, IsRead, IsUnread};
 ghost use Rattle.justfile_parse.specs.Halting.{IsFaultOfHalt};
 ghost use Rattle.justfile_parse.specs.Whole.{AreWhole};
 ghost use Rattle.justfile_parse_expression.specs.Significant.{significant_of};
@@ -24,8 +24,8 @@ use crate::docs::take_docs;
 use crate::items::parse_items;
 use crate::unstable::with_unstable;
 use justfile_base::{
-    CompileErrorKind, CompileResult, Expander, Fault, Modulepath, Namepath, Numerator, Source, Token,
-    TokenKind, Version,
+    CompileError, CompileErrorKind, CompileResult, Expander, Fault, Modulepath, Namepath,
+    Numerator, Source, Token, TokenKind, Version,
 };
 use justfile_file::{Ast, Item};
 use justfile_lex::Lexer;
@@ -33,7 +33,7 @@ use justfile_parse_attribute::Halt;
 use justfile_parse_expression::significant::{TableEntry, significant};
 use justfile_parse_expression::{ExpressionParser, Refusal, Stop, Wanted};
 use justfile_tree::ListFeature;
-use std::alloc::Global;
+use std::alloc::{AllocError, Global};
 
 /// Reads files.
 pub struct Parser;
@@ -154,13 +154,7 @@ fn parse_table<'run, 'src, X: Expander>(
     );
     match parse_file(&mut parser, numerator) {
         Ok(items) => Ok((take_docs(alloc, items)?, parser.list_features)),
-        Err(halt) => Err(make_fault(
-            alloc,
-            tokens,
-            parser.peek_front(),
-            &parser.wanted,
-            halt,
-        )),
+        Err(halt) => Err(make_fault(alloc, tokens, parser.peek_front(), &parser.wanted, halt)),
     }
 }
 
@@ -217,7 +211,10 @@ fn make_stop_fault<'src>(
 {
     match stop {
         Stop::Refused(refusal) => {
-            make_refusal(alloc, find_place(tokens, next), wanted, refusal)
+            match make_error(alloc, find_place(tokens, next), wanted, refusal) {
+                Ok(error) => Fault::Compile(error),
+                Err(_) => Fault::Memory,
+            }
         }
         Stop::Literal(refused) => Fault::Compile(Box::into_inner(refused).error),
         Stop::Memory => Fault::Memory,
@@ -225,34 +222,24 @@ fn make_stop_fault<'src>(
     }
 }
 
-/// The fault of a refusal at a token, where others are wanted.
-fn make_refusal<'src>(
+/// The error of a refusal at a token, where others are wanted. Only their list takes memory.
+fn make_error<'src>(
     alloc: Global,
     token: Token<'src>,
     wanted: &Wanted,
     refusal: Refusal,
-) -> Fault<'src>
-    ensures { IsFaultAt refusal token.entry result }
+) -> Result<CompileError<'src>, AllocError>
+    ensures error { IfOk result (IsErrorAt refusal token.entry) }
+    ensures memory { OnErr result (refusal ≡ Unexpected) }
 {
-    match refusal {
-        Refusal::Unexpected => make_unexpected(alloc, token, wanted),
-        Refusal::TooDeep => {
-            Fault::Compile(token.error(CompileErrorKind::ParsingRecursionDepthExceeded))
-        }
-    }
-}
-
-/// The fault of a token that is not expected, where others are.
-fn make_unexpected<'src>(alloc: Global, token: Token<'src>, wanted: &Wanted) -> Fault<'src>
-    ensures { IsFaultAt Unexpected token.entry result }
-{
-    match wanted.kinds(alloc) {
-        Ok(expected) => Fault::Compile(token.error(CompileErrorKind::UnexpectedToken {
-            expected,
+    let kind = match refusal {
+        Refusal::Unexpected => CompileErrorKind::UnexpectedToken {
+            expected: wanted.kinds(alloc)?,
             found: token.kind,
-        })),
-        Err(_) => Fault::Memory,
-    }
+        },
+        Refusal::TooDeep => CompileErrorKind::ParsingRecursionDepthExceeded,
+    };
+    Ok(token.error(kind))
 }
 
 /// Where a refusal stands: at the next token, or at the last where none is left.

@@ -25,8 +25,9 @@ use std::alloc::Global;
 ///
 /// A method's name says what it does with the tokens that come next: `peek_` looks at them and takes none,
 /// `accept_` takes what it names if that is there, `expect_` refuses what is anything else, and `parse_`
-/// reads a construct, or says why there is none. Where they look for a kind of token and do not find it,
-/// the kind is wanted. `detect_` is as `peek_`, and `take_` as `accept_`, but nothing is wanted then.
+/// reads a construct, or says why there is none. A kind of token that they look for and do not find is
+/// wanted from then on. `detect_` looks as `peek_` does, and `take` takes as `accept` does, but what they
+/// do not find is not wanted.
 #[derive(Drop)]
 pub struct ExpressionParser<'run, 'src, X> {
     pub alloc: Global,
@@ -118,8 +119,7 @@ impl<'run, 'src, X: Expander> ExpressionParser<'run, 'src, X> {
         self.peek()
     }
 
-    /// The next token if it is of this kind; it is not taken yet. The kind is not wanted here, or is
-    /// among others that are, all at once.
+    /// The next token if it is of this kind; it is not taken yet. The kind is not wanted for that.
     #[tactic(auto, unfolding(crate::specs::TableReader::leaves, justfile_model::specs::Reading::accept, justfile_model::specs::Reading::same_kind))]
     pub fn detect_if(&self, kind: TokenKind) -> Option<TableEntry<'run, 'src>>
         ensures within { OnSome result (self.now.next < length self.now.tokens.now) }
@@ -145,7 +145,8 @@ impl<'run, 'src, X: Expander> ExpressionParser<'run, 'src, X> {
         entry
     }
 
-    /// Takes the next token if it is of this kind, which is among others that are wanted all at once.
+    /// Takes the next token if it is of this kind. The kind is not wanted for that: it is one of those
+    /// that a value begins with, which are wanted all at once.
     #[tactic(auto, unfolding(crate::specs::View::state_of, crate::specs::View::left))]
     pub(crate) fn take(&mut self, kind: TokenKind) -> Option<TableEntry<'run, 'src>>
         ensures takes { Takes result (state_of X.answer self.new) (reader.accept kind (state_of X.answer self.old)) }

@@ -66,7 +66,7 @@ fn kind_of_setting(alloc: Global, kind: &CompileErrorKind<'_>) -> Result<String,
 }
 
 /// The name of a kind with what it holds: a name, a literal or a token with its offset, a version as it
-/// is written, and of an unexpected token not what was expected.
+/// is written, and of an unexpected token not what is expected.
 pub(crate) fn kind_of(alloc: Global, kind: &CompileErrorKind<'_>) -> Result<String, AllocError> {
     match kind {
         CompileErrorKind::AttributeArgumentCountMismatch {
@@ -124,7 +124,7 @@ pub(crate) fn push_fault(answer: &mut Answer, text: &str, fault: &Fault<'_>) {
     }
 }
 
-/// The kinds of tokens that were expected, and after `but` the kind that was found; or another fault.
+/// The kinds of tokens that are expected, and after `but` the kind of the refused one; or another fault.
 pub(crate) fn push_expected(answer: &mut Answer, text: &str, fault: &Fault<'_>) {
     match fault {
         Fault::Compile(error) => match &error.kind {
