@@ -138,11 +138,11 @@ impl<'run, 'src, X: Expander> ExpressionParser<'run, 'src, X> {
         ensures takes { Takes result (state_from X.answer self.now (self.now.next + 1)) (reader.accept kind (state_of X.answer self.now)) }
         ensures entry { IfSome result (λ entry. IsOf kind entry) }
     {
-        let entry = self.detect_if(kind);
-        if entry.is_none() {
+        let Some(entry) = self.detect_if(kind) else {
             self.wanted.add(kind);
-        }
-        entry
+            return None;
+        };
+        Some(entry)
     }
 
     /// Takes the next token if it is of this kind. The kind is not wanted for that: it is one of those
@@ -165,11 +165,11 @@ impl<'run, 'src, X: Expander> ExpressionParser<'run, 'src, X> {
         ensures moves { Moves result self.old self.new }
         ensures entry { IfSome result (λ entry. IsOf kind entry) }
     {
-        let entry = self.take(kind);
-        if entry.is_none() {
+        let Some(entry) = self.take(kind) else {
             self.wanted.add(kind);
-        }
-        entry
+            return None;
+        };
+        Some(entry)
     }
 
     /// Takes the next token if it is this keyword.
@@ -260,11 +260,11 @@ impl<'run, 'src, X: Expander> ExpressionParser<'run, 'src, X> {
         ensures is { result ≡ reader.next_are kinds.now (state_of X.answer self.now) }
         ensures within { IsTrue result → length kinds.now ≤ left self.now }
     {
-        let are_next = self.detect_kinds(kinds);
-        if !are_next {
-            self.want_first(kinds);
+        if self.detect_kinds(kinds) {
+            return true;
         }
-        are_next
+        self.want_first(kinds);
+        false
     }
 
     /// The first of these kinds is wanted.
