@@ -4,13 +4,13 @@ use Rattle.std.specs.Global.{Box}
 use Rattle.std.specs.Result.{is_ok}
 use Rattle.std.proofs.lemmas.Bool.{ltb-false}
 use Rattle.std.specs.List.{remove}
-use Rattle.justfile_base.specs.declared.attribute_kind.AttributeKind.{AttributeKind}
-use Rattle.justfile_base.specs.declared.attribute_kind.AttributeKind.TheVariants as kinds
+use Rattle.justfile_word.specs.declared.attribute_kind.AttributeKind.{AttributeKind}
+use Rattle.justfile_word.specs.declared.attribute_kind.AttributeKind.TheVariants as kinds
 use Rattle.justfile_base.specs.declared.string_literal.StringLiteral.{StringLiteral}
 use Rattle.justfile_base.specs.declared.token.Token.{Token}
 use Rattle.justfile_model.specs.AttributeKinds.{least_count, most_count}
 use Rattle.justfile_model.specs.AttributeRules.{has_more}
-use Rattle.justfile_base.specs.declared.signal.Signal.{Signal}
+use Rattle.justfile_word.specs.declared.signal.Signal.{Signal}
 use Rattle.justfile_model.specs.Meaning.{KeyArgument, Placed, first_of, signal_set, texts_of}
 use Rattle.justfile_model.specs.NewAttribute.{◌>>=◌, Made, check_keys, from_expressions, make_all, new_continue, new_of_expressions, placed_literal}
 use Rattle.justfile_model.specs.Tree as tree

@@ -9,7 +9,7 @@ use Rattle.std.specs.Ordering.{nat_cmp, ordering_then, is_ne, on}
 use Rattle.std.specs.Cmp.Lexicographic.{slice_cmp}
 use Rattle.std.specs.declared.cmp.Ordering.{Ordering}
 use Rattle.std.specs.declared.cmp.Ordering.TheVariants.{Less, Equal, Greater}
-use Rattle.justfile_base.specs.contracts.attribute_kind.AttributeKind as attribute_kinds
+use Rattle.justfile_word.specs.contracts.attribute_kind.AttributeKind as attribute_kinds
 use Rattle.justfile_model.specs.KeyLaws.{then_end}
 use Rattle.justfile_model.specs.Tok.{tok_of}
 use Rattle.justfile_tree.specs.Expression.{expr_of, literal_tok}

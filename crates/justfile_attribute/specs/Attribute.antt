@@ -2,8 +2,8 @@
 use Rattle.std.specs.Prelude.{ℕ, List, [], ◌∷◌, map, Option, Some, None}
 use Rattle.std.specs.Global.{Box}
 use Rattle.std.specs.Option.{option_map}
-use Rattle.justfile_base.specs.declared.attribute_kind.AttributeKind.{AttributeKind}
-use Rattle.justfile_base.specs.declared.attribute_kind.AttributeKind.TheVariants as kinds
+use Rattle.justfile_word.specs.declared.attribute_kind.AttributeKind.{AttributeKind}
+use Rattle.justfile_word.specs.declared.attribute_kind.AttributeKind.TheVariants as kinds
 use Rattle.justfile_base.specs.declared.name.Name.{Name}
 use Rattle.justfile_base.specs.declared.string_literal.StringLiteral.{StringLiteral}
 use Rattle.justfile_base.specs.declared.token.Token.{Token}

@@ -75,7 +75,7 @@ pub enum Attribute<'src> {
 
 impl<'src> Attribute<'src> {
     ghost use Rattle.std.specs.Prelude.{◌≡◌};
-    ghost use Rattle.justfile_base.specs.AttributeKind.{attribute_name};
+    ghost use Rattle.justfile_word.specs.AttributeKind.{attribute_name};
     ghost use Rattle.justfile_model.specs.AttributeKinds.{is_repeatable};
     ghost use Rattle.justfile_model.specs.ContentKeys.{kind_of_attribute};
     ghost use Rattle.justfile_attribute.specs.Attribute.{attribute_of};

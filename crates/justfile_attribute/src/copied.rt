@@ -3,7 +3,7 @@ ghost use Rattle.std.specs.Prelude.{◌≡◌, IfOk};
 ghost use Rattle.std.specs.List.{AllZip};
 ghost use Rattle.justfile_base.specs.StringLiteral.{IsSameLiteral};
 ghost use Rattle.justfile_tree.specs.Copies.{IsSameExpression};
-ghost use Rattle.justfile_base.specs.declared.attribute_kind.AttributeKind.TheVariants as kinds;
+ghost use Rattle.justfile_word.specs.declared.attribute_kind.AttributeKind.TheVariants as kinds;
 ghost use Rattle.justfile_attribute.specs.Order.{case_kind};
 ghost use Rattle.justfile_attribute.specs.Copies.{IsSameAttribute, IsSameBoxed, IsSameInterpreter, IsSameIfPresent, IsSameProperty, IsSameText, unboxed};
 ghost use Rattle.justfile_attribute.specs.declared.attribute.Attribute.TheVariants as attributes;

@@ -1,6 +1,6 @@
 ghost use Rattle.std.specs.Prelude.{◌≡◌, ◌≤◌, IfOk, IsTrue, [], ◌∷◌, false, true, length};
 ghost use Rattle.std.specs.Option.{option_map};
-ghost use Rattle.justfile_base.specs.declared.attribute_kind.AttributeKind.TheVariants as kinds;
+ghost use Rattle.justfile_word.specs.declared.attribute_kind.AttributeKind.TheVariants as kinds;
 ghost use Rattle.justfile_base.specs.declared.token.Token.{Token};
 ghost use Rattle.justfile_model.specs.AttributeKinds.{takes_expressions};
 ghost use Rattle.justfile_model.specs.Meaning.{first_of, texts_of};

@@ -5,11 +5,11 @@ use Rattle.std.specs.Global.{Box}
 use Rattle.std.specs.List.{filter, list_any}
 use Rattle.std.proofs.lemmas.List.{append-nil, append_assoc}
 use denote.Enum.Bare.{sameb}
-use Rattle.justfile_base.specs.Signal.{signals}
-use Rattle.justfile_base.specs.contracts.signal.Signal as signal_type
-use Rattle.justfile_base.specs.contracts.signal.SignalOrd.TheImpl as signal_order
-use Rattle.justfile_base.specs.declared.signal.Signal.{Signal}
-use Rattle.justfile_base.specs.declared.signal.Signal.TheVariants.{Hangup, Interrupt, Quit}
+use Rattle.justfile_word.specs.Signal.{signals}
+use Rattle.justfile_word.specs.contracts.signal.Signal as signal_type
+use Rattle.justfile_word.specs.contracts.signal.SignalOrd.TheImpl as signal_order
+use Rattle.justfile_word.specs.declared.signal.Signal.{Signal}
+use Rattle.justfile_word.specs.declared.signal.Signal.TheVariants.{Hangup, Interrupt, Quit}
 use Rattle.justfile_base.specs.declared.fault.Fault.{Fault}
 use Rattle.justfile_base.specs.declared.string_literal.StringLiteral.{StringLiteral}
 use Rattle.justfile_base.specs.declared.token.Token.{Token}

@@ -1,11 +1,11 @@
 -- What the code makes is what the definitions make, and it refuses what they refuse.
 use Rattle.std.specs.Prelude.{◌≡◌, ℕ, Bool, not, nat_lt, List, map, codes, Option, Some, None, Result, Ok, Err, if◌then◌else◌}
 use Rattle.std.specs.Global.{Box}
-use Rattle.justfile_base.specs.Signal.{signal_named}
+use Rattle.justfile_word.specs.Signal.{signal_named}
 use Rattle.justfile_base.specs.declared.fault.Fault.{Fault}
 use Rattle.justfile_base.specs.declared.fault.Fault.TheVariants as faults
 use Rattle.justfile_base.specs.declared.name.Name.{Name}
-use Rattle.justfile_base.specs.declared.signal.Signal.{Signal}
+use Rattle.justfile_word.specs.declared.signal.Signal.{Signal}
 use Rattle.justfile_base.specs.declared.string_literal.StringLiteral.{StringLiteral}
 use Rattle.justfile_base.specs.declared.token.Token.{Token}
 use Rattle.justfile_model.specs.Meaning.{Placed, count_of, is_count, signal_set, text_of}

@@ -3,10 +3,10 @@ use Rattle.std.proofs.Common.{◌≡◌, ◌∙◌, List, [], ◌∷◌, Bool, t
 use Rattle.std.specs.List.{find}
 use Rattle.std.specs.Option.{option_map}
 use Rattle.justfile_base.specs.Token.{lexeme_of}
-use Rattle.justfile_base.specs.declared.attribute_kind.AttributeKind.{AttributeKind}
+use Rattle.justfile_word.specs.declared.attribute_kind.AttributeKind.{AttributeKind}
 use Rattle.justfile_base.specs.declared.compile_error.CompileError.{CompileError}
 use Rattle.justfile_base.specs.declared.compile_error_kind.CompileErrorKind.TheVariants.{InvalidAttribute}
-use Rattle.justfile_base.specs.declared.item_kind.ItemKind.{ItemKind}
+use Rattle.justfile_word.specs.declared.item_kind.ItemKind.{ItemKind}
 use Rattle.justfile_base.specs.declared.token.Token.{Token}
 use Rattle.justfile_model.specs.AttributeKinds.{is_allowed}
 use Rattle.justfile_model.specs.AttributeRules.{first_invalid}

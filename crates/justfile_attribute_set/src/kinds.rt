@@ -2,7 +2,7 @@
 ghost use Rattle.std.specs.Prelude.{◌≡◌, ◌||◌, find, not};
 ghost use Rattle.std.specs.List.{list_any};
 ghost use Rattle.std.specs.Option.{option_copied};
-ghost use Rattle.justfile_base.specs.AttributeKind.{is_enabler_kind};
+ghost use Rattle.justfile_word.specs.AttributeKind.{is_enabler_kind};
 ghost use Rattle.justfile_model.specs.AttributeKinds.{is_allowed};
 ghost use Rattle.justfile_attribute_set.specs.Attributes as wanted;
 

@@ -4,31 +4,31 @@ use Rattle.std.specs.Borrow.{Bor}
 use Rattle.std.specs.List.{flat_map}
 use Rattle.std.specs.Fmt.{decimal}
 use Rattle.std.specs.Range.{range_inclusive_start, range_inclusive_end}
-use Rattle.justfile_base.specs.Text.{◌&◌}
-use Rattle.justfile_base.specs.AttributeKind.{attribute_name}
-use Rattle.justfile_base.specs.Count.{noun_text, numbered_text}
+use Rattle.justfile_word.specs.Text.{◌&◌}
+use Rattle.justfile_word.specs.AttributeKind.{attribute_name}
+use Rattle.justfile_word.specs.Count.{noun_text, numbered_text}
 use Rattle.justfile_base.specs.Delimiter.{open_text, close_text}
-use Rattle.justfile_base.specs.ItemKind.{item_kind_article, item_kind_text}
-use Rattle.justfile_base.specs.Keyword.{keyword_text}
-use Rattle.justfile_base.specs.List.{or_text, ticked_text}
-use Rattle.justfile_base.specs.ListFeature.{feature_text}
+use Rattle.justfile_word.specs.ItemKind.{item_kind_article, item_kind_text}
+use Rattle.justfile_word.specs.Keyword.{keyword_text}
+use Rattle.justfile_word.specs.List.{or_text, ticked_text}
+use Rattle.justfile_word.specs.ListFeature.{feature_text}
 use Rattle.justfile_base.specs.Name.{name_text}
 use Rattle.justfile_base.specs.Namepath.{namepath_text}
-use Rattle.justfile_base.specs.Shown.{blanks_text, escaped_text, line_text, start_text}
+use Rattle.justfile_word.specs.Shown.{blanks_text, escaped_text, line_text, start_text}
 use Rattle.justfile_base.specs.StringLiteral.{literal_text}
-use Rattle.justfile_base.specs.Switch.{switch_text}
+use Rattle.justfile_word.specs.Switch.{switch_text}
 use Rattle.justfile_base.specs.Token.{lexeme_of}
-use Rattle.justfile_base.specs.TokenKind.{kind_text}
-use Rattle.justfile_base.specs.Version.{version_text}
-use Rattle.justfile_base.specs.contracts.item_kind.ItemKindPartialEq.TheImpl as item_kinds
+use Rattle.justfile_word.specs.TokenKind.{kind_text}
+use Rattle.justfile_word.specs.Version.{version_text}
+use Rattle.justfile_word.specs.contracts.item_kind.ItemKindPartialEq.TheImpl as item_kinds
 use Rattle.justfile_base.specs.declared.compile_error.CompileError.{CompileError}
 use Rattle.justfile_base.specs.declared.compile_error_kind.CompileErrorKind.{CompileErrorKind}
 use Rattle.justfile_base.specs.declared.compile_error_kind.CompileErrorKind.TheVariants as kinds
-use Rattle.justfile_base.specs.declared.item_kind.ItemKind.{ItemKind}
-use Rattle.justfile_base.specs.declared.keyword.Keyword.{Keyword}
+use Rattle.justfile_word.specs.declared.item_kind.ItemKind.{ItemKind}
+use Rattle.justfile_word.specs.declared.keyword.Keyword.{Keyword}
 use Rattle.justfile_base.specs.declared.token.Token.{Token}
-use Rattle.justfile_base.specs.declared.token_kind.TokenKind.{TokenKind}
-use Rattle.justfile_base.specs.declared.token_kind.TokenKind.TheVariants.{Identifier}
+use Rattle.justfile_word.specs.declared.token_kind.TokenKind.{TokenKind}
+use Rattle.justfile_word.specs.declared.token_kind.TokenKind.TheVariants.{Identifier}
 
 abbrev pub arguments_text : ℕ → List ℕ
 arguments_text count = numbered_text (codes "argument") count

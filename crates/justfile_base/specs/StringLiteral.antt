@@ -1,8 +1,8 @@
 -- Literals.
 use Rattle.std.specs.Prelude.{◌≡◌, ℕ, Bool, true, false, List, [], ◌++◌, codes, string_bytes, Option, Some, None, if◌then◌else◌}
 use Rattle.justfile_base.specs.Token.{lexeme_of}
-use Rattle.justfile_base.specs.declared.format_string_part.FormatStringPart.{FormatStringPart}
-use Rattle.justfile_base.specs.declared.format_string_part.FormatStringPart.TheVariants.{Continue, End, Single, Start}
+use Rattle.justfile_word.specs.declared.format_string_part.FormatStringPart.{FormatStringPart}
+use Rattle.justfile_word.specs.declared.format_string_part.FormatStringPart.TheVariants.{Continue, End, Single, Start}
 use Rattle.justfile_base.specs.declared.string_literal.StringLiteral.{StringLiteral}
 
 -- a format string begins with this part

@@ -1,15 +1,15 @@
-use crate::attribute_kind::AttributeKind;
 use crate::delimiter::Delimiter;
-use crate::item_kind::ItemKind;
-use crate::keyword::Keyword;
-use crate::list_feature::ListFeature;
 use crate::name::Name;
 use crate::namepath::Namepath;
 use crate::string_literal::StringLiteral;
-use crate::switch::Switch;
 use crate::token::Token;
-use crate::token_kind::TokenKind;
-use crate::version::Version;
+use justfile_word::attribute_kind::AttributeKind;
+use justfile_word::item_kind::ItemKind;
+use justfile_word::keyword::Keyword;
+use justfile_word::list_feature::ListFeature;
+use justfile_word::switch::Switch;
+use justfile_word::token_kind::TokenKind;
+use justfile_word::version::Version;
 use std::ops::RangeInclusive;
 
 /// Why a text is refused.

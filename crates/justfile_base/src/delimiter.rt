@@ -1,8 +1,8 @@
 ghost use Rattle.std.specs.Prelude.{◌≡◌};
 ghost use Rattle.justfile_base.specs.Delimiter.{open_text, close_text};
 
-use crate::interpolation::{INTERPOLATION_END, INTERPOLATION_START};
 use crate::string_kind::StringKind;
+use justfile_word::interpolation::{INTERPOLATION_END, INTERPOLATION_START};
 
 /// What may be open while a text is lexed.
 #[derive(Clone, Copy, Debug, PartialEq, Eq)]

@@ -3,7 +3,7 @@ ghost use Rattle.std.specs.Prelude.{◌≡◌, codes, encode_utf8_all};
 ghost use Rattle.justfile_base.specs.Excerpt.{excerpt_text};
 
 use crate::token::Token;
-use crate::token_kind::TokenKind;
+use justfile_word::token_kind::TokenKind;
 
 /// The end of a text without a line.
 pub fn end_of_empty() -> Token<'static>

@@ -1,71 +1,55 @@
 //! The types that all layers of the syntax of justfiles speak of.
 #![tactic(auto)]
 
-pub mod alternative;
-pub mod attribute_kind;
-pub mod byte_class;
-pub mod bytes;
 pub mod compile_error;
 pub mod compile_error_kind;
-pub mod count;
 pub mod delimiter;
 mod excerpt;
 pub mod excerpt_examples;
 pub mod expander;
 pub mod fault;
-pub mod format_string_part;
-pub mod indentation;
-pub mod interpolation;
-pub mod item_kind;
 pub mod keyed;
-pub mod keyword;
-pub mod laws;
-pub mod list;
-pub mod list_feature;
 mod messages;
 pub mod modulepath;
 pub mod name;
 pub mod namepath;
-pub mod number;
-pub mod numerator;
 mod path;
-mod shown;
-pub mod signal;
 pub mod source;
 pub mod string_kind;
 pub mod string_literal;
-pub mod switch;
 pub mod token;
-pub mod token_kind;
-pub mod unstable_feature;
-pub mod version;
 
-pub use crate::attribute_kind::AttributeKind;
-pub use crate::byte_class::ByteClass;
 pub use crate::compile_error::CompileError;
 pub use crate::compile_error_kind::CompileErrorKind;
-pub use crate::count::Count;
 pub use crate::delimiter::Delimiter;
 pub use crate::expander::{ExpandFault, Expander};
 pub use crate::fault::{CompileResult, Fault};
-pub use crate::format_string_part::FormatStringPart;
-pub use crate::indentation::Indentation;
-pub use crate::item_kind::ItemKind;
 pub use crate::keyed::Keyed;
-pub use crate::keyword::Keyword;
-pub use crate::list::List;
-pub use crate::list_feature::ListFeature;
 pub use crate::modulepath::Modulepath;
 pub use crate::name::Name;
 pub use crate::namepath::Namepath;
-pub use crate::number::Number;
-pub use crate::numerator::Numerator;
-pub use crate::signal::Signal;
 pub use crate::source::Source;
 pub use crate::string_kind::{StringDelimiter, StringKind};
 pub use crate::string_literal::StringLiteral;
-pub use crate::switch::Switch;
 pub use crate::token::Token;
-pub use crate::token_kind::TokenKind;
-pub use crate::unstable_feature::UnstableFeature;
-pub use crate::version::Version;
+pub use justfile_word::attribute_kind::AttributeKind;
+pub use justfile_word::byte_class::ByteClass;
+pub use justfile_word::count::Count;
+pub use justfile_word::format_string_part::FormatStringPart;
+pub use justfile_word::indentation::Indentation;
+pub use justfile_word::item_kind::ItemKind;
+pub use justfile_word::keyword::Keyword;
+pub use justfile_word::list::List;
+pub use justfile_word::list_feature::ListFeature;
+pub use justfile_word::number::Number;
+pub use justfile_word::numerator::Numerator;
+pub use justfile_word::signal::Signal;
+pub use justfile_word::switch::Switch;
+pub use justfile_word::token_kind::TokenKind;
+pub use justfile_word::unstable_feature::UnstableFeature;
+pub use justfile_word::version::Version;
+pub use justfile_word::{
+    alternative, attribute_kind, byte_class, bytes, count, format_string_part, indentation,
+    interpolation, item_kind, keyword, laws, list, list_feature, number, numerator, signal, switch,
+    token_kind, unstable_feature, version,
+};

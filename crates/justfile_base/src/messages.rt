@@ -17,7 +17,7 @@ use crate::messages::parts::{
     write_invalid_attribute, write_invalid_version, write_minimum_version, write_mismatched,
     write_mixed, write_redefinition, write_unexpected_token,
 };
-use crate::shown::{Escaped, Start};
+use justfile_word::shown::{Escaped, Start};
 use std::fmt;
 
 /// Writes what a kind of refusal says at a token of this line.

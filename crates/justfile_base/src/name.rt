@@ -1,8 +1,8 @@
 ghost use Rattle.std.specs.Prelude.{◌≡◌};
-ghost use Rattle.justfile_base.specs.declared.token_kind.TokenKind.TheVariants.{Identifier};
+ghost use Rattle.justfile_word.specs.declared.token_kind.TokenKind.TheVariants.{Identifier};
 
 use crate::token::Token;
-use crate::token_kind::TokenKind;
+use justfile_word::token_kind::TokenKind;
 use std::fmt;
 use std::ops::Deref;
 

@@ -4,11 +4,11 @@ ghost use Rattle.justfile_base.specs.CompileErrorKind.{internal_message};
 ghost use Rattle.justfile_base.specs.StringKind.{delimiter_at, delimiter_len, delimiter_text, escapes, is_quote, kind_at_start, kind_of, no_literal_message, token_kind_of, unterminated_kind_of};
 ghost use Rattle.justfile_base.specs.Token.{lexeme_of};
 
-use crate::bytes::byte_at;
 use crate::compile_error::CompileError;
 use crate::compile_error_kind::CompileErrorKind;
 use crate::token::Token;
-use crate::token_kind::TokenKind;
+use justfile_word::bytes::byte_at;
+use justfile_word::token_kind::TokenKind;
 
 /// The quote that delimits a literal.
 #[derive(Clone, Copy, Debug, PartialEq, Eq, PartialOrd, Ord)]

@@ -1,8 +1,8 @@
 ghost use Rattle.std.specs.Prelude.{◌≡◌, IfOk, Some};
 
-use crate::format_string_part::FormatStringPart;
 use crate::string_kind::StringKind;
 use crate::token::Token;
+use justfile_word::format_string_part::FormatStringPart;
 use std::alloc::{AllocError, Global};
 use std::fmt;
 

@@ -4,7 +4,7 @@ ghost use Rattle.justfile_base.specs.Slice.{IsWithin, slice_of};
 use crate::compile_error::CompileError;
 use crate::compile_error_kind::CompileErrorKind;
 use crate::excerpt::write_excerpt;
-use crate::token_kind::TokenKind;
+use justfile_word::token_kind::TokenKind;
 use std::fmt;
 
 /// A part of a source text, with its kind and its place. Lines and columns count from 0, columns

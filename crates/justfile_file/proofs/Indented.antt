@@ -5,11 +5,11 @@ use Rattle.std.specs.Prelude.{All, IfSome, string_bytes}
 use Rattle.std.specs.List.{list_any}
 use Rattle.std.specs.Option.{option_map}
 use Rattle.std.proofs.lemmas.List.Elements.{All-head, All-tail, All-weaker}
-use Rattle.justfile_base.specs.AttributeKind.{is_enabler_kind}
-use Rattle.justfile_base.specs.Indentation.{indentation_text}
-use Rattle.justfile_base.specs.declared.attribute_kind.AttributeKind.{AttributeKind}
-use Rattle.justfile_base.specs.declared.attribute_kind.AttributeKind.TheVariants as kinds
-use Rattle.justfile_base.specs.declared.indentation.Indentation.{Indentation}
+use Rattle.justfile_word.specs.AttributeKind.{is_enabler_kind}
+use Rattle.justfile_word.specs.Indentation.{indentation_text}
+use Rattle.justfile_word.specs.declared.attribute_kind.AttributeKind.{AttributeKind}
+use Rattle.justfile_word.specs.declared.attribute_kind.AttributeKind.TheVariants as kinds
+use Rattle.justfile_word.specs.declared.indentation.Indentation.{Indentation}
 use Rattle.justfile_base.specs.declared.string_literal.StringLiteral.{StringLiteral}
 use Rattle.justfile_model.specs.ContentKeys.{has_attribute, kind_of_attribute}
 use Rattle.justfile_model.specs.Enabled.{indentation_literal, indentation_of, is_enabled}

@@ -8,7 +8,7 @@ use Rattle.justfile_base.specs.StringLiteral.{format_mark}
 use Rattle.justfile_base.specs.Token.{lexeme_of}
 use Rattle.justfile_base.specs.declared.name.Name.{Name}
 use Rattle.justfile_base.specs.declared.namepath.Namepath.{Namepath}
-use Rattle.justfile_base.specs.declared.number.Number.{Number}
+use Rattle.justfile_word.specs.declared.number.Number.{Number}
 use Rattle.justfile_base.specs.declared.string_literal.StringLiteral.{StringLiteral}
 use Rattle.justfile_model.specs.Printing.{fixed_text, if_some, if_true, file_path_text, mark_text, setting_value_text}
 use Rattle.justfile_model.specs.Tok.{Tok}

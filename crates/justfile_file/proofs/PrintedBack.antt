@@ -1,6 +1,6 @@
 -- Printing promises what the round trip proves.
 use Rattle.std.proofs.Common.{◌≡◌, ℕ, List, sym, ap, ◌∙◌, subst}
-use Rattle.justfile_base.specs.Indentation.{IsIndentation}
+use Rattle.justfile_word.specs.Indentation.{IsIndentation}
 use Rattle.justfile_model.specs.Tree.{Shape, shape_of}
 use Rattle.justfile_model.specs.NormalShape.{normal}
 use Rattle.justfile_model.specs.Printing.{printable}

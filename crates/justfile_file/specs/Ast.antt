@@ -5,7 +5,7 @@ use Rattle.justfile_base.specs.declared.token.Token.{Token}
 use Rattle.justfile_model.specs.Features.{Noted}
 use Rattle.justfile_model.specs.Tok.{Tok, tok_of}
 use Rattle.justfile_model.specs.Tree.{Tree, Shape, shape_of}
-use Rattle.justfile_model.specs.declared.list_feature.ListFeature.{ListFeature}
+use Rattle.justfile_word.specs.declared.list_feature.ListFeature.{ListFeature}
 use Rattle.justfile_file.specs.declared.ast.Ast.{Ast}
 use Rattle.justfile_file.specs.Item.{item_of, item_cooked, item_numbers, item_recipe_numbers}
 

@@ -1,6 +1,6 @@
 -- The indentation that a file sets for itself.
 use Rattle.std.specs.Prelude.{List, [], ◌∷◌, Option, None, Some, if◌then◌else◌}
-use Rattle.justfile_base.specs.declared.indentation.Indentation.{Indentation}
+use Rattle.justfile_word.specs.declared.indentation.Indentation.{Indentation}
 use Rattle.justfile_base.specs.declared.string_literal.StringLiteral.{StringLiteral}
 use Rattle.justfile_model.specs.RecipeRules.{or_else}
 use Rattle.justfile_attribute_set.specs.AttributeSet.{attributes_of}

@@ -6,7 +6,7 @@ use Rattle.std.specs.Option.{option_map}
 use Rattle.justfile_base.specs.Namepath.{names_in}
 use Rattle.justfile_base.specs.declared.name.Name.{Name}
 use Rattle.justfile_base.specs.declared.namepath.Namepath.{Namepath}
-use Rattle.justfile_base.specs.declared.number.Number.{Number}
+use Rattle.justfile_word.specs.declared.number.Number.{Number}
 use Rattle.justfile_base.specs.declared.string_literal.StringLiteral.{StringLiteral}
 use Rattle.justfile_model.specs.Tok.{Tok, tok_of}
 use Rattle.justfile_model.specs.Tree as tree

@@ -5,8 +5,8 @@ ghost use Rattle.justfile_attribute_set.specs.contracts.attribute_set.PairSetAtt
 ghost use Rattle.justfile_attribute_set.specs.contracts.attribute_set.PairSetAttributeNamePartialEq.TheImpl.Laws.{laws-law as set_per};
 ghost use Rattle.justfile_base.specs.contracts.name.NamePartialEq.TheImpl as names;
 ghost use Rattle.justfile_base.specs.contracts.name.NamePartialEq.TheImpl.Laws.{laws-law as name_per};
-ghost use Rattle.justfile_base.specs.contracts.number.NumberPartialEq.TheImpl as numbers;
-ghost use Rattle.justfile_base.specs.contracts.number.NumberPartialEq.TheImpl.Laws.{laws-law as number_per};
+ghost use Rattle.justfile_word.specs.contracts.number.NumberPartialEq.TheImpl as numbers;
+ghost use Rattle.justfile_word.specs.contracts.number.NumberPartialEq.TheImpl.Laws.{laws-law as number_per};
 
 use crate::attributes::are_equal;
 use justfile_attribute_set::AttributeSet;

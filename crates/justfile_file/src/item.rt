@@ -1,6 +1,6 @@
 ghost use Rattle.std.specs.Prelude.{◌≡◌, OnOk, OnErr, IfOk, string_bytes};
 ghost use Rattle.std.specs.Option.{option_copied, option_map};
-ghost use Rattle.justfile_base.specs.Indentation.{indentation_text};
+ghost use Rattle.justfile_word.specs.Indentation.{indentation_text};
 ghost use Rattle.justfile_model.specs.Printing.{if_some, item_text, printable_item};
 ghost use Rattle.justfile_file.specs.Attributes.{attributes_text};
 ghost use Rattle.justfile_file.specs.Copies.{IsSameItem};

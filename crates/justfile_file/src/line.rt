@@ -1,7 +1,7 @@
 ghost use Rattle.std.specs.Prelude.{◌≡◌, ◌↔◌, OnOk, OnErr, IfOk, IsTrue};
 ghost use Rattle.std.specs.List.{Contains};
 ghost use Rattle.std.specs.Option.{option_copied};
-ghost use Rattle.justfile_base.specs.Indentation.{indentation_text};
+ghost use Rattle.justfile_word.specs.Indentation.{indentation_text};
 ghost use Rattle.justfile_model.specs.Printing.{ends_in_return, line_text, printable_fragments};
 ghost use Rattle.justfile_file.specs.Copies.{IsSameLine};
 ghost use Rattle.justfile_file.specs.Item.{fragment_shapes, fragments_text, line_shape};

@@ -1,6 +1,6 @@
 ghost use Rattle.std.specs.Prelude.{◌≡◌, ◌++◌, OnOk, OnErr, IfOk, codes};
 ghost use Rattle.std.specs.List.{list_all};
-ghost use Rattle.justfile_base.specs.Indentation.{indentation_text};
+ghost use Rattle.justfile_word.specs.Indentation.{indentation_text};
 ghost use Rattle.justfile_model.specs.Printing.{fixed_text, header_text, if_true, line_text, body_text, printable_fragments, printable_body};
 ghost use Rattle.justfile_file.specs.Copies.{IsSameRecipe};
 ghost use Rattle.justfile_file.specs.Item.{fragment_shapes, header_shape, line_shape, line_shapes, priors_of, subsequents_of};

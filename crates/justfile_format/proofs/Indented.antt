@@ -4,11 +4,11 @@ use Rattle.std.specs.Prelude.{All, IfSome, string_bytes}
 use Rattle.std.specs.Option.{option_map}
 use Rattle.std.proofs.lemmas.List.Elements.{All-head, All-tail}
 use Rattle.std.proofs.lemmas.Option.{none-some, same_Some}
-use Rattle.justfile_base.specs.Indentation.{indentation_text}
+use Rattle.justfile_word.specs.Indentation.{indentation_text}
 use Rattle.justfile_base.specs.StringLiteral.{begins_format_string}
 use Rattle.justfile_base.specs.Token.{lexeme_of}
-use Rattle.justfile_base.specs.declared.indentation.Indentation.{Indentation}
-use Rattle.justfile_base.specs.declared.numerator.Numerator.{Numerator}
+use Rattle.justfile_word.specs.declared.indentation.Indentation.{Indentation}
+use Rattle.justfile_word.specs.declared.numerator.Numerator.{Numerator}
 use Rattle.justfile_base.specs.declared.string_literal.StringLiteral.{StringLiteral}
 use Rattle.justfile_base.specs.declared.token.Token.{Token}
 use Rattle.justfile_model.specs.Literals.{LiteralFault, cooked_text, expanded_text, string_of, string_text}

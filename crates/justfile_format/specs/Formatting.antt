@@ -2,8 +2,8 @@
 use Rattle.std.specs.Prelude.{◌≡◌, ◌≢◌, ℕ, true, false, List, Option, Some, None, Ok, IfSome, codes}
 use Rattle.std.specs.Str.{IsUtf8}
 use Rattle.std.specs.Io.KnownBytes.{Appends}
-use Rattle.justfile_base.specs.Indentation.{indentation_text}
-use Rattle.justfile_base.specs.declared.indentation.Indentation.{Indentation}
+use Rattle.justfile_word.specs.Indentation.{indentation_text}
+use Rattle.justfile_word.specs.declared.indentation.Indentation.{Indentation}
 use Rattle.justfile_base.specs.declared.string_literal.StringLiteral.{StringLiteral}
 use Rattle.justfile_model.specs.Conditions.{Conditions}
 use Rattle.justfile_model.specs.Enabled.{indentation_of}

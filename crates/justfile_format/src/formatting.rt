@@ -2,7 +2,7 @@ ghost use Rattle.std.specs.Prelude.{◌≡◌, Err, IfErr, IfOk, false, string_b
 ghost use Rattle.justfile_format.specs.declared.failure.Failure.TheVariants as failures;
 ghost use Rattle.justfile_format.specs.Failure.{IsOfText};
 ghost use Rattle.justfile_format.specs.Formatting.{IsFileOf, IsFormatted, IsIndented, IsIndentedBy, IsPrinted, IsRefusedText, IsUnprintable};
-ghost use Rattle.justfile_base.specs.Indentation.{indentation_text};
+ghost use Rattle.justfile_word.specs.Indentation.{indentation_text};
 ghost use Rattle.justfile_file.specs.Ast.{ast_shape, tree_of};
 ghost use Rattle.justfile_model.specs.Enabled.{indentation_of};
 ghost use Rattle.justfile_model.specs.Printing.{printable};

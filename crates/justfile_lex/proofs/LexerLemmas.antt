@@ -2,9 +2,9 @@
 use Rattle.std.proofs.Common.{◌≡◌, ◌≢◌, ◌-◌, ◌*◌, ◌<◌, ⊎_elim, ℕ, ◌+◌, ◌≤◌, List, [], ◌∷◌, ◌++◌, length, drop, refl, sym, ap, subst, ◌∙◌, arith, rules}
 use Rattle.std.specs.Prelude.{map, reverse, Option, Some, Err, option_map, IfSome}
 use Rattle.std.proofs.lemmas.List.{map-append, reverse-append, length-take-le}
-use Rattle.justfile_base.specs.declared.token_kind.TokenKind.{TokenKind}
+use Rattle.justfile_word.specs.declared.token_kind.TokenKind.{TokenKind}
 use Rattle.justfile_base.specs.declared.token.Token.{Token}
-use Rattle.justfile_base.specs.declared.token_kind.TokenKind.TheVariants.{Eof, Dedent, Indent, InterpolationEnd, InterpolationStart}
+use Rattle.justfile_word.specs.declared.token_kind.TokenKind.TheVariants.{Eof, Dedent, Indent, InterpolationEnd, InterpolationStart}
 use Rattle.justfile_model.proofs.NextLaws.{Moves}
 use Rattle.justfile_lex.specs.declared.lexer.Lexer.{Lexer}
 use Rattle.justfile_base.specs.Slice.{slice_of}

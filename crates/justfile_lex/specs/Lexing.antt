@@ -1,7 +1,7 @@
 -- The state of the lexer.
 use Rattle.std.specs.Prelude.{◌≡◌, ℕ, ◌+◌, List, ◌∷◌, map, reverse, All, IfSome}
 use Rattle.std.specs.Str.{IsCharBoundary}
-use Rattle.justfile_base.specs.declared.token_kind.TokenKind.{TokenKind}
+use Rattle.justfile_word.specs.declared.token_kind.TokenKind.{TokenKind}
 use Rattle.justfile_lex.specs.declared.lexer.Lexer.{Lexer}
 use Rattle.justfile_base.specs.Slice.{slice_of}
 use Rattle.justfile_model.specs.Places.{IsPlace}

@@ -1,6 +1,6 @@
 -- What the scanners answer, as the definitions say it.
 use Rattle.std.specs.Prelude.{ℕ, [], ◌∷◌, Result, Ok, Err}
-use Rattle.justfile_base.specs.declared.token_kind.TokenKind.{TokenKind}
+use Rattle.justfile_word.specs.declared.token_kind.TokenKind.{TokenKind}
 use Rattle.justfile_lex.specs.declared.refusal.Refusal.{Refusal as CodeRefusal}
 use Rattle.justfile_lex.specs.declared.lexical_fault.LexicalFault.{LexicalFault as CodeFault}
 use Rattle.justfile_lex.specs.declared.lexical_fault.LexicalFault.TheVariants as faults

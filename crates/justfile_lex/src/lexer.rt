@@ -2,7 +2,7 @@ ghost use Rattle.std.specs.Prelude.{◌≡◌, ◌+◌, ◌≤◌, ◌||◌, ◌
 ghost use Rattle.std.specs.Str.{IsCharBoundary, IsUtf8};
 ghost use Rattle.std.specs.Char.{is_ascii_alphabetic, is_ascii_digit};
 ghost use Rattle.justfile_base.specs.Slice.{IsWithin};
-ghost use Rattle.justfile_base.specs.declared.token_kind.TokenKind.TheVariants.{Unspecified};
+ghost use Rattle.justfile_word.specs.declared.token_kind.TokenKind.TheVariants.{Unspecified};
 ghost use Rattle.justfile_model.specs.Next.{next};
 ghost use Rattle.justfile_model.specs.Tok.{tok_of};
 ghost use Rattle.justfile_model.specs.Lexed.{Lexed, StandsAt, end_of};

@@ -1,6 +1,6 @@
 ghost use Rattle.std.specs.Prelude.{◌≡◌, ◌+◌, ◌<◌, ◌≤◌, length, slice_index};
 ghost use Rattle.std.specs.Str.{IsCharBoundary};
-ghost use Rattle.justfile_base.specs.ByteClass.{class_of};
+ghost use Rattle.justfile_word.specs.ByteClass.{class_of};
 ghost use Rattle.justfile_model.specs.Next.{doubled_token, fixed_token, opening, line_end_token, unknown, escaped_line_end, multibyte_token, other_token, token_by_class, token_outside_text, body_token, interpolated, token_within_line};
 ghost use Rattle.justfile_lex.specs.Modes.{mode_of};
 ghost use Rattle.justfile_lex.specs.Scanned.{scan_answer};

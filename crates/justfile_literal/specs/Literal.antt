@@ -7,7 +7,7 @@ use Rattle.justfile_base.specs.declared.compile_error_kind.CompileErrorKind.{Com
 use Rattle.justfile_base.specs.declared.compile_error_kind.CompileErrorKind.TheVariants as kinds
 use Rattle.justfile_base.specs.declared.fault.Fault.{Fault}
 use Rattle.justfile_base.specs.declared.fault.Fault.TheVariants.{Compile, Memory, Numbers}
-use Rattle.justfile_base.specs.declared.format_string_part.FormatStringPart.{FormatStringPart}
+use Rattle.justfile_word.specs.declared.format_string_part.FormatStringPart.{FormatStringPart}
 use Rattle.justfile_base.specs.declared.string_kind.StringKind.{StringKind}
 use Rattle.justfile_base.specs.declared.string_literal.StringLiteral.{StringLiteral}
 use Rattle.justfile_base.specs.declared.token.Token.{Token}

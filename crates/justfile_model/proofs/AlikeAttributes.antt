@@ -2,12 +2,12 @@
 -- have the same keys of content, and are in the same order.
 use Rattle.std.proofs.Common.{◌≡◌, ℕ, Bool, true, false, List, codes, Option, refl, subst}
 use denote.Enum.Declared.{tag_of}
-use Rattle.justfile_base.specs.contracts.attribute_kind.AttributeKind as attribute_kinds
-use Rattle.justfile_base.specs.declared.attribute_kind.AttributeKind.{AttributeKind}
-use Rattle.justfile_base.specs.declared.attribute_kind.AttributeKind.TheVariants as attributes
-use Rattle.justfile_base.specs.declared.signal.Signal.{Signal}
-use Rattle.justfile_base.specs.declared.token_kind.TokenKind.{TokenKind}
-use Rattle.justfile_base.specs.declared.token_kind.TokenKind.TheVariants as kinds
+use Rattle.justfile_word.specs.contracts.attribute_kind.AttributeKind as attribute_kinds
+use Rattle.justfile_word.specs.declared.attribute_kind.AttributeKind.{AttributeKind}
+use Rattle.justfile_word.specs.declared.attribute_kind.AttributeKind.TheVariants as attributes
+use Rattle.justfile_word.specs.declared.signal.Signal.{Signal}
+use Rattle.justfile_word.specs.declared.token_kind.TokenKind.{TokenKind}
+use Rattle.justfile_word.specs.declared.token_kind.TokenKind.TheVariants as kinds
 use Rattle.justfile_model.specs.ConditionalOperator.{operator_sign}
 use Rattle.justfile_model.specs.ContentKeys.{attribute_key, attribute_keys, bound_number_key, bound_word_key, entry_cmp, expr_key, exprs_keys, is_optional, kind_of_attribute, literal_key, option_name_key, own_name_key, parts_keys, property_key, quoted_key, rules_keys, single_keys, texts_keys, word_key}
 use Rattle.justfile_model.specs.ContentLeaf.{ContentLeaf, content_cmp, count, literal, operator, text, token, unseen}

@@ -5,9 +5,9 @@ use Rattle.std.specs.List.{AllByRecursion, flat_map}
 use Rattle.std.proofs.lemmas.Grind.{flat_map-append}
 use Rattle.std.proofs.lemmas.List.{map-append}
 use Rattle.std.proofs.lemmas.List.Elements.{All-from_recursion}
-use Rattle.justfile_base.specs.AttributeKind.{kind_named, takes_keys}
-use Rattle.justfile_base.specs.declared.attribute_kind.AttributeKind.{AttributeKind}
-use Rattle.justfile_base.specs.declared.token_kind.TokenKind.TheVariants as kinds
+use Rattle.justfile_word.specs.AttributeKind.{kind_named, takes_keys}
+use Rattle.justfile_word.specs.declared.attribute_kind.AttributeKind.{AttributeKind}
+use Rattle.justfile_word.specs.declared.token_kind.TokenKind.TheVariants as kinds
 use Rattle.justfile_model.specs.AttributeKinds.{name_takes_keys, named_takes_keys}
 use Rattle.justfile_model.specs.AttributeLines as g
 use Rattle.justfile_model.specs.AttributeLines.{IsKey, ArgumentOf, Arguments, AttributeOf, AttributesEnd, AttributeLines, Bracketed}

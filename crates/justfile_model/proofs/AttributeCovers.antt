@@ -2,7 +2,7 @@
 use Rattle.std.proofs.Common.{◌≡◌, ℕ, Bool, true, false, cond, List, [], ◌∷◌, ◌++◌, map, Contains, Option, Some, None, is_some, refl, sym, ap, subst, ◌∙◌, append_assoc, append-nil, arith}
 use Rattle.std.specs.List.{flat_map}
 use Rattle.std.proofs.lemmas.Grind.{flat_map-append}
-use Rattle.justfile_base.specs.declared.token_kind.TokenKind.TheVariants as kinds
+use Rattle.justfile_word.specs.declared.token_kind.TokenKind.TheVariants as kinds
 use Rattle.justfile_model.specs.AttributeLines as lines
 use Rattle.justfile_model.specs.AttributeRules.{attribute_broken, duplicate_broken, duplicates_broken, of_some, order_broken, repeats_broken}
 use Rattle.justfile_model.specs.Expressions as g

@@ -1,10 +1,10 @@
 -- Examples of what attributes mean, which rules they break, and how they are printed, computed from the definitions.
 use Rattle.std.proofs.Common.{◌≡◌, ℕ, false, List, [], ◌∷◌, Option, Some, None, codes, refl}
-use Rattle.justfile_base.specs.AttributeKind.{kind_named}
+use Rattle.justfile_word.specs.AttributeKind.{kind_named}
 use Rattle.justfile_model.specs.Literals.{Expansions}
 use Rattle.justfile_model.specs.Meaning.{entries_of}
 use Rattle.justfile_model.specs.Printing.{entries_text, fixed_text}
-use Rattle.justfile_base.specs.Signal.{signal_named}
+use Rattle.justfile_word.specs.Signal.{signal_named}
 use Rattle.justfile_model.specs.AttributeKinds.{same_attribute}
 use Rattle.justfile_model.specs.Sight.{Sight, sees_lexemes}
 use Rattle.justfile_model.specs.Tree as tree

@@ -1,8 +1,8 @@
 -- The reader of attribute lines, one rule at a time: what it reads leaves fewer tokens, in the same run and at the same depth.
 use Rattle.std.proofs.Common.{◌≡◌, ◌<◌, Bool, true, false, ◌&&◌, List, [], ◌∷◌, ◌++◌, length, map, Option, Some, None, Ok, Err, refl, ◌∙◌}
-use Rattle.justfile_base.specs.AttributeKind.{kind_named, takes_keys}
-use Rattle.justfile_base.specs.declared.attribute_kind.AttributeKind.{AttributeKind}
-use Rattle.justfile_base.specs.declared.token_kind.TokenKind.TheVariants as kinds
+use Rattle.justfile_word.specs.AttributeKind.{kind_named, takes_keys}
+use Rattle.justfile_word.specs.declared.attribute_kind.AttributeKind.{AttributeKind}
+use Rattle.justfile_word.specs.declared.token_kind.TokenKind.TheVariants as kinds
 use Rattle.justfile_model.specs.declared.level.Level.TheVariants.{Expression}
 use Rattle.justfile_model.specs.AttributeReader as r
 use Rattle.justfile_model.specs.AttributeReader.{read_made, breaks}

@@ -1,8 +1,8 @@
 -- A derivation of lines of attributes carried over to tokens that differ in their places alone, to other leaves and to another limit.
 use Rattle.std.proofs.Common.{◌≡◌, ℕ, Bool, false, List, [], ◌∷◌, ◌++◌, map, Option, Some, None, refl, subst}
 use Rattle.std.specs.Str.{trim_end}
-use Rattle.justfile_base.specs.declared.token_kind.TokenKind.{TokenKind}
-use Rattle.justfile_base.specs.declared.token_kind.TokenKind.TheVariants as kinds
+use Rattle.justfile_word.specs.declared.token_kind.TokenKind.{TokenKind}
+use Rattle.justfile_word.specs.declared.token_kind.TokenKind.TheVariants as kinds
 use Rattle.justfile_model.specs.AttributeKinds.{name_takes_keys}
 use Rattle.justfile_model.specs.AttributeLines as g
 use Rattle.justfile_model.specs.AttributeLines.{IsKey, ArgumentOf, Arguments, AttributeOf, AttributesEnd, AttributeLines, Bracketed}

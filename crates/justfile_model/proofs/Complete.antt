@@ -1,11 +1,11 @@
 -- What derives where the limit is waived at some tokens is read, or refused: a literal that has no text, or as too deep at one of these
 -- tokens.
 use Rattle.std.proofs.Common.{◌≡◌, ℕ, ◌+◌, Bool, true, false, ◌||◌, List, [], ◌∷◌, ◌++◌, Option, None, Some, Ok, Err, refl, sym, subst, ap, ◌∙◌, append_assoc, append-nil, arith}
-use Rattle.justfile_base.specs.Keyword.{keyword_named, keyword_text}
-use Rattle.justfile_base.specs.declared.item_kind.ItemKind.TheVariants as item_kinds
-use Rattle.justfile_base.specs.declared.keyword.Keyword.{Keyword}
-use Rattle.justfile_base.specs.declared.token_kind.TokenKind.TheVariants as kinds
-use Rattle.justfile_base.proofs.KeywordLaws.{spelled}
+use Rattle.justfile_word.specs.Keyword.{keyword_named, keyword_text}
+use Rattle.justfile_word.specs.declared.item_kind.ItemKind.TheVariants as item_kinds
+use Rattle.justfile_word.specs.declared.keyword.Keyword.{Keyword}
+use Rattle.justfile_word.specs.declared.token_kind.TokenKind.TheVariants as kinds
+use Rattle.justfile_word.proofs.KeywordLaws.{spelled}
 use Rattle.justfile_model.specs.AttributeLines as lines_of
 use Rattle.justfile_model.specs.AttributeLines.{AttributeLines}
 use Rattle.justfile_model.specs.AttributeRules.{allowed_broken, arg_rules, attributes_broken, of_some}

@@ -1,7 +1,7 @@
 -- Counters grow by what is read.
 use Rattle.std.proofs.Common.{◌≡◌, ℕ, ◌+◌, Bool, true, false, cond, List, [], ◌∷◌, ◌++◌, length, Option, Some, None, Ok, Err, IfOk, codes, refl, sym, ap, ◌∙◌, arith}
-use Rattle.justfile_base.specs.declared.item_kind.ItemKind.TheVariants as item_kinds
-use Rattle.justfile_base.specs.declared.token_kind.TokenKind.TheVariants as kinds
+use Rattle.justfile_word.specs.declared.item_kind.ItemKind.TheVariants as item_kinds
+use Rattle.justfile_word.specs.declared.token_kind.TokenKind.TheVariants as kinds
 use Rattle.justfile_model.specs.Files.{bindings, item_bindings, item_recipes, recipes}
 use Rattle.justfile_model.specs.AttributeReader.{AttributeLeaves}
 use Rattle.justfile_model.specs.declared.parameter_kind.ParameterKind.{ParameterKind}

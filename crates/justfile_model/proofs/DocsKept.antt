@@ -2,7 +2,7 @@
 -- are taken over other leaves as they are.
 use Rattle.std.proofs.Common.{◌≡◌, ◌∙◌, ℕ, ◌+◌, Bool, true, false, cond, not, ◌&&◌, ◌||◌, List, [], ◌∷◌, ◌++◌, map, Option, Some, None, is_some, refl, sym, ap, arith}
 use Rattle.std.specs.Option.{option_map}
-use Rattle.justfile_base.specs.declared.attribute_kind.AttributeKind.TheVariants.{Doc}
+use Rattle.justfile_word.specs.declared.attribute_kind.AttributeKind.TheVariants.{Doc}
 use Rattle.justfile_model.specs.AttributeKinds.{same_attribute}
 use Rattle.justfile_model.specs.Docs.{Before, LineEnd, Other, comment_taken, doc_in, doc_or_comment, documented, item_with_doc, redocumented, taken, wants_doc}
 use Rattle.justfile_model.specs.Files.{bindings, content_bindings, content_literals, content_recipes, items_literals, recipes, says_doc}

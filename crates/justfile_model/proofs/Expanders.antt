@@ -2,9 +2,9 @@
 use Rattle.std.proofs.Common.{◌≡◌, ℕ, true, false, List, [], ◌∷◌, map, Option, Some, None, Result, Ok, Err, is_some, refl, sym, subst, ap, ◌∙◌, ⊎_elim}
 use Rattle.std.specs.List.{AllByRecursion}
 use Rattle.justfile_base.specs.StringKind.{kind_of}
-use Rattle.justfile_base.specs.declared.format_string_part.FormatStringPart.TheVariants as parts
-use Rattle.justfile_base.specs.declared.token_kind.TokenKind.{TokenKind}
-use Rattle.justfile_base.specs.declared.token_kind.TokenKind.TheVariants as kinds
+use Rattle.justfile_word.specs.declared.format_string_part.FormatStringPart.TheVariants as parts
+use Rattle.justfile_word.specs.declared.token_kind.TokenKind.{TokenKind}
+use Rattle.justfile_word.specs.declared.token_kind.TokenKind.TheVariants as kinds
 use Rattle.justfile_model.specs.Conditions.{Conditions, with_expander}
 use Rattle.justfile_model.specs.ContentLeaf.{TokenContent}
 use Rattle.justfile_model.specs.Features.{Noted}

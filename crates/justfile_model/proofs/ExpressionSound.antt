@@ -1,12 +1,12 @@
 -- What is read derives, with the features that are noted on the way, and its literals have texts.
 use Rattle.std.proofs.Common.{◌≡◌, ℕ, ◌+◌, ◌<◌, Bool, true, false, cond, nat_lt, List, [], ◌∷◌, ◌++◌, Option, Result, Ok, Err, IfOk, refl, sym, subst, ap, ◌∙◌, codes, arith}
 use Rattle.std.proofs.lemmas.Bool.Decides.{nat_tests}
-use Rattle.justfile_base.specs.declared.token_kind.TokenKind.{TokenKind}
-use Rattle.justfile_base.specs.declared.token_kind.TokenKind.TheVariants as kinds
+use Rattle.justfile_word.specs.declared.token_kind.TokenKind.{TokenKind}
+use Rattle.justfile_word.specs.declared.token_kind.TokenKind.TheVariants as kinds
 use Rattle.justfile_model.specs.declared.conditional_operator.ConditionalOperator.{ConditionalOperator}
 use Rattle.justfile_model.specs.declared.level.Level.{Level}
 use Rattle.justfile_model.specs.declared.level.Level.TheVariants as levels
-use Rattle.justfile_model.specs.declared.list_feature.ListFeature.TheVariants as features
+use Rattle.justfile_word.specs.declared.list_feature.ListFeature.TheVariants as features
 use Rattle.justfile_model.specs.declared.operator.Operator.TheVariants as operators
 use Rattle.justfile_model.specs.Conditions.{Conditions}
 use Rattle.justfile_model.specs.Tok.{Tok}

@@ -3,16 +3,16 @@ use Rattle.std.proofs.Common.{zero, suc, ◌≡◌, ◌≢◌, ℕ, Bool, true, 
 use Rattle.std.specs.Prelude.{◌&&◌, not, is_some, nat_eq}
 use Rattle.std.specs.List.{starts_with}
 use Rattle.std.specs.Str.{bytes_eq}
-use Rattle.justfile_base.specs.declared.byte_class.ByteClass.{ByteClass}
-use Rattle.justfile_base.specs.declared.byte_class.ByteClass.TheVariants as classes
+use Rattle.justfile_word.specs.declared.byte_class.ByteClass.{ByteClass}
+use Rattle.justfile_word.specs.declared.byte_class.ByteClass.TheVariants as classes
 use Rattle.justfile_base.specs.declared.delimiter.Delimiter.{Delimiter}
 use Rattle.justfile_base.specs.declared.delimiter.Delimiter.TheVariants.{Brace, Bracket, FormatString, Paren}
 use Rattle.justfile_base.specs.declared.string_kind.StringDelimiter.{StringDelimiter}
 use Rattle.justfile_base.specs.declared.string_kind.StringDelimiter.TheVariants as delimiters
 use Rattle.justfile_base.specs.declared.string_kind.StringKind.{StringKind}
-use Rattle.justfile_base.specs.declared.token_kind.TokenKind.{TokenKind}
-use Rattle.justfile_base.specs.declared.token_kind.TokenKind.TheVariants.{BraceR, BracketR, Dedent, FormatStringContinue, FormatStringEnd, InterpolationEnd, InterpolationStart, ParenR}
-use Rattle.justfile_base.specs.ByteClass.{class_of}
+use Rattle.justfile_word.specs.declared.token_kind.TokenKind.{TokenKind}
+use Rattle.justfile_word.specs.declared.token_kind.TokenKind.TheVariants.{BraceR, BracketR, Dedent, FormatStringContinue, FormatStringEnd, InterpolationEnd, InterpolationStart, ParenR}
+use Rattle.justfile_word.specs.ByteClass.{class_of}
 use Rattle.justfile_base.specs.StringKind.{kind_of, token_kind_of}
 use Rattle.justfile_model.specs.declared.open_delimiter.OpenDelimiter.{OpenDelimiter}
 use Rattle.justfile_model.specs.declared.raw_text.RawText.TheVariants as raw_texts

@@ -3,16 +3,16 @@
 use Rattle.std.proofs.Common.{◌≡◌, ℕ, false, true, List, [], ◌∷◌, ◌++◌, map, None, Some, Option, Result, Ok, Err, codes, refl}
 use Rattle.std.specs.Char.{encode_utf8}
 use Rattle.std.specs.Str.{chars, trim_end, trim_start}
-use Rattle.justfile_base.specs.AttributeKind.{kind_named}
-use Rattle.justfile_base.specs.Keyword.{keyword_named}
-use Rattle.justfile_base.specs.declared.attribute_kind.AttributeKind.TheVariants as attributes_of
-use Rattle.justfile_base.specs.declared.item_kind.ItemKind.TheVariants as items
-use Rattle.justfile_base.specs.declared.keyword.Keyword.{Keyword}
-use Rattle.justfile_base.specs.declared.keyword.Keyword.TheVariants as words
-use Rattle.justfile_base.specs.declared.token_kind.TokenKind.{TokenKind}
-use Rattle.justfile_base.specs.declared.token_kind.TokenKind.TheVariants as kinds
-use Rattle.justfile_base.specs.declared.unstable_feature.UnstableFeature.{UnstableFeature}
-use Rattle.justfile_base.specs.declared.unstable_feature.UnstableFeature.TheVariants.{ListsSetting, UserDefinedFunctions}
+use Rattle.justfile_word.specs.AttributeKind.{kind_named}
+use Rattle.justfile_word.specs.Keyword.{keyword_named}
+use Rattle.justfile_word.specs.declared.attribute_kind.AttributeKind.TheVariants as attributes_of
+use Rattle.justfile_word.specs.declared.item_kind.ItemKind.TheVariants as items
+use Rattle.justfile_word.specs.declared.keyword.Keyword.{Keyword}
+use Rattle.justfile_word.specs.declared.keyword.Keyword.TheVariants as words
+use Rattle.justfile_word.specs.declared.token_kind.TokenKind.{TokenKind}
+use Rattle.justfile_word.specs.declared.token_kind.TokenKind.TheVariants as kinds
+use Rattle.justfile_word.specs.declared.unstable_feature.UnstableFeature.{UnstableFeature}
+use Rattle.justfile_word.specs.declared.unstable_feature.UnstableFeature.TheVariants.{ListsSetting, UserDefinedFunctions}
 use Rattle.justfile_model.specs.AttributeKinds.{same_attribute}
 use Rattle.justfile_model.specs.AttributeReader.{argument, arguments, arguments_end, arguments_from, attribute, attribute_lines, attribute_lines_from, attributes_end, bracket_end, bracketed, kind_at, made, placed, positional}
 use Rattle.justfile_model.specs.Conditions.{Conditions}

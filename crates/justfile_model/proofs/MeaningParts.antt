@@ -4,9 +4,9 @@ use Rattle.std.proofs.Common.{◌≡◌, ℕ, Bool, true, false, cond, List, [],
 use Rattle.std.proofs.lemmas.Slice.Eq.{bytes_eq-Decides}
 use Rattle.std.specs.List.{AllByRecursion}
 use Rattle.std.specs.Str.{bytes_eq}
-use Rattle.justfile_base.specs.AttributeKind.{kind_named}
-use Rattle.justfile_base.specs.declared.attribute_kind.AttributeKind.{AttributeKind}
-use Rattle.justfile_base.specs.declared.attribute_kind.AttributeKind.TheVariants as kinds
+use Rattle.justfile_word.specs.AttributeKind.{kind_named}
+use Rattle.justfile_word.specs.declared.attribute_kind.AttributeKind.{AttributeKind}
+use Rattle.justfile_word.specs.declared.attribute_kind.AttributeKind.TheVariants as kinds
 use Rattle.justfile_model.specs.AttributeKinds.{takes_expressions}
 use Rattle.justfile_model.specs.Meaning.{all_of, of_given, quoted, Placed, KeyArgument, by_position, by_key, count_of, signal_set, text_of, at_key, property_of, value_of, bare_of, option_at, bound_of, rules_of, single_of, texts_of, env_of, signal_of, of_expressions, of_literals, by_takes, attribute_of, entry_of}
 use Rattle.justfile_model.specs.Sight.{Sight}

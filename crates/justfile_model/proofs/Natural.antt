@@ -2,11 +2,11 @@
 -- the one has no number left, the other goes on: then the counter is exceeded in all that the other reads.
 use Rattle.std.proofs.Common.{◌≡◌, ℕ, zero, suc, ◌+◌, ◌<◌, ◌≤◌, Bool, true, false, ◌||◌, codes, cond, List, [], ◌∷◌, ◌++◌, length, drop, Some, Ok, Err, IfOk, refl, sym, subst, ap, ◌∙◌, arith, IsOk}
 use Rattle.std.specs.Str.{trim_end}
-use Rattle.justfile_base.specs.declared.item_kind.ItemKind.{ItemKind}
-use Rattle.justfile_base.specs.declared.keyword.Keyword.{Keyword}
-use Rattle.justfile_base.specs.declared.item_kind.ItemKind.TheVariants as item_kinds
-use Rattle.justfile_base.specs.declared.token_kind.TokenKind.{TokenKind}
-use Rattle.justfile_base.specs.declared.token_kind.TokenKind.TheVariants as kinds
+use Rattle.justfile_word.specs.declared.item_kind.ItemKind.{ItemKind}
+use Rattle.justfile_word.specs.declared.keyword.Keyword.{Keyword}
+use Rattle.justfile_word.specs.declared.item_kind.ItemKind.TheVariants as item_kinds
+use Rattle.justfile_word.specs.declared.token_kind.TokenKind.{TokenKind}
+use Rattle.justfile_word.specs.declared.token_kind.TokenKind.TheVariants as kinds
 use Rattle.justfile_model.specs.AttributeReader.{AttributeLeaves}
 use Rattle.justfile_model.specs.HeaderReader.{ReadHeader, draw_binding, expression, header, with_bindings}
 use Rattle.justfile_model.specs.PartReader.{accept_before, after_numbered, is_assigned, is_imported, is_module, is_set, line_is, names, setting_value}

@@ -1,9 +1,9 @@
 -- The reader of attribute lines is natural in its tokens, leaves and sights: readers whose tokens are related, and which see the same of what they
 -- keep of them, read related attributes, or refuse for the same reason.
 use Rattle.std.proofs.Common.{◌≡◌, Bool, true, false, ◌&&◌, not, List, [], ◌∷◌, ◌++◌, codes, length, map, Option, Some, None, Ok, is_some, refl, sym, ap, subst, ◌∙◌}
-use Rattle.justfile_base.specs.AttributeKind.{kind_named, takes_keys}
-use Rattle.justfile_base.specs.declared.attribute_kind.AttributeKind.{AttributeKind}
-use Rattle.justfile_base.specs.declared.token_kind.TokenKind.TheVariants as kinds
+use Rattle.justfile_word.specs.AttributeKind.{kind_named, takes_keys}
+use Rattle.justfile_word.specs.declared.attribute_kind.AttributeKind.{AttributeKind}
+use Rattle.justfile_word.specs.declared.token_kind.TokenKind.TheVariants as kinds
 use Rattle.justfile_model.specs.AttributeReader as r
 use Rattle.justfile_model.specs.AttributeReader.{read_made}
 use Rattle.justfile_model.specs.Meaning.{at_key, by_key, by_position}

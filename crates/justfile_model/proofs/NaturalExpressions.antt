@@ -1,10 +1,10 @@
 -- The reader of expressions is natural in its tokens and leaves: readers whose tokens are related read related trees.
 use Rattle.std.proofs.Common.{◌≡◌, ℕ, ◌+◌, ◌*◌, Bool, true, false, List, Option, Some, None, refl, subst, ap, codes}
-use Rattle.justfile_base.specs.declared.token_kind.TokenKind.{TokenKind}
-use Rattle.justfile_base.specs.declared.token_kind.TokenKind.TheVariants as kinds
+use Rattle.justfile_word.specs.declared.token_kind.TokenKind.{TokenKind}
+use Rattle.justfile_word.specs.declared.token_kind.TokenKind.TheVariants as kinds
 use Rattle.justfile_model.specs.declared.level.Level.{Level}
 use Rattle.justfile_model.specs.declared.level.Level.TheVariants as levels
-use Rattle.justfile_model.specs.declared.list_feature.ListFeature.TheVariants as features
+use Rattle.justfile_word.specs.declared.list_feature.ListFeature.TheVariants as features
 use Rattle.justfile_model.specs.ExpressionReader as r
 use Rattle.justfile_model.specs.ExpressionReader.{Met, Out, Place, accept_operator, assert_rule, backtick, binary_rule, braced_rule, condition_rule, conditional_rule, conjunct_rule, element_rule, format_rest_rule, format_rule, format_string_rule, found, group_rule, is_within, list_rule, literal, name_rule, note_uncompared, opened, otherwise_rule, part, parts_rule, read, rule, sequence_rule, whole_format_string, size, stop_expression, literal_string, value_rule}
 use Rattle.justfile_model.specs.Expressions.{ends_open}

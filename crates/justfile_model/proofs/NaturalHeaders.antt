@@ -1,7 +1,7 @@
 -- The reader of headers is natural in its tokens and leaves: readers whose tokens are related, and to which attributes say alike things, read related
 -- headers, and draw the same numbers. Where the one has no number left, the other goes on: then the counter is exceeded in what the other reads.
 use Rattle.std.proofs.Common.{◌≡◌, ℕ, zero, suc, ◌+◌, ◌<◌, ◌≤◌, Bool, true, false, ◌||◌, cond, List, [], ◌∷◌, ◌++◌, length, map, Option, Some, None, Ok, Err, IfOk, IsOk, refl, sym, ap, subst, ◌∙◌, arith}
-use Rattle.justfile_base.specs.declared.token_kind.TokenKind.TheVariants as kinds
+use Rattle.justfile_word.specs.declared.token_kind.TokenKind.TheVariants as kinds
 use Rattle.justfile_model.specs.declared.parameter_kind.ParameterKind.{ParameterKind}
 use Rattle.justfile_model.specs.declared.parameter_kind.ParameterKind.TheVariants.{Plus, Singular, Star}
 use Rattle.justfile_model.specs.HeaderReader as r

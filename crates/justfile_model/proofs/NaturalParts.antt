@@ -1,13 +1,13 @@
 -- The readers of what items are made of are natural in their tokens and leaves: readers whose tokens are related read related paths, names and
 -- values, and draw the same numbers. Where the one has no number left, the other goes on.
 use Rattle.std.proofs.Common.{◌≡◌, ℕ, zero, suc, ◌+◌, ◌<◌, ◌≤◌, Bool, true, false, ◌||◌, cond, List, [], ◌∷◌, ◌++◌, length, Option, Some, None, Ok, Err, IfOk, IsOk, codes, refl, sym, ap, subst, ◌∙◌, arith}
-use Rattle.justfile_base.specs.Indentation.{indentation_refusal}
-use Rattle.justfile_base.specs.Keyword.{keyword_named}
+use Rattle.justfile_word.specs.Indentation.{indentation_refusal}
+use Rattle.justfile_word.specs.Keyword.{keyword_named}
 use Rattle.justfile_base.specs.StringKind.{kind_of}
-use Rattle.justfile_base.specs.declared.keyword.Keyword.{Keyword}
-use Rattle.justfile_base.specs.declared.keyword.Keyword.TheVariants as words
-use Rattle.justfile_base.specs.declared.token_kind.TokenKind.{TokenKind}
-use Rattle.justfile_base.specs.declared.token_kind.TokenKind.TheVariants as kinds
+use Rattle.justfile_word.specs.declared.keyword.Keyword.{Keyword}
+use Rattle.justfile_word.specs.declared.keyword.Keyword.TheVariants as words
+use Rattle.justfile_word.specs.declared.token_kind.TokenKind.{TokenKind}
+use Rattle.justfile_word.specs.declared.token_kind.TokenKind.TheVariants as kinds
 use Rattle.justfile_model.specs.AttributeRules.{of_some}
 use Rattle.justfile_model.specs.Conditions.{Conditions, VersionNumbers}
 use Rattle.justfile_model.specs.ExpressionReader as expressions

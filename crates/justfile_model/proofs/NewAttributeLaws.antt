@@ -4,9 +4,9 @@ use Rattle.std.specs.List.{All, Contains, filter, find, flat_map}
 use Rattle.std.proofs.lemmas.Bool.{lt-ltb}
 use Rattle.std.proofs.lemmas.List.{append-nil, append_assoc}
 use Rattle.std.proofs.lemmas.List.Elements.{All-head, All-tail}
-use Rattle.justfile_base.specs.declared.attribute_kind.AttributeKind.{AttributeKind}
-use Rattle.justfile_base.specs.declared.attribute_kind.AttributeKind.TheVariants as kinds
-use Rattle.justfile_base.specs.Signal.{signal_named}
+use Rattle.justfile_word.specs.declared.attribute_kind.AttributeKind.{AttributeKind}
+use Rattle.justfile_word.specs.declared.attribute_kind.AttributeKind.TheVariants as kinds
+use Rattle.justfile_word.specs.Signal.{signal_named}
 use Rattle.justfile_model.specs.AttributeKinds.{least_count, most_count, takes_expressions}
 use Rattle.justfile_model.specs.AttributeRules.{arg_broken, arguments_broken, count_broken, duplicate_broken, duplicate_rule, excludes, expression_broken, expressions_broken, has_more, is_known, kind_broken, least, missing_broken, of_some, signal_broken, signals_broken, unknown_broken}
 use Rattle.justfile_model.specs.Meaning as means

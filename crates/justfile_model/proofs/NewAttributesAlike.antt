@@ -3,11 +3,11 @@ use Rattle.std.proofs.Common.{◌≡◌, ℕ, Bool, true, false, ◌&&◌, ◌||
 use Rattle.std.specs.List.{list_any}
 use Rattle.std.specs.Prelude.{◌==◌, slice_index}
 use Rattle.std.specs.Str.{bytes_eq, chars}
-use Rattle.justfile_base.specs.Signal.{signal_named}
-use Rattle.justfile_base.specs.declared.attribute_kind.AttributeKind.{AttributeKind}
-use Rattle.justfile_base.specs.declared.attribute_kind.AttributeKind.TheVariants as attributes
-use Rattle.justfile_base.specs.declared.signal.Signal.{Signal}
-use Rattle.justfile_base.specs.declared.item_kind.ItemKind.{ItemKind}
+use Rattle.justfile_word.specs.Signal.{signal_named}
+use Rattle.justfile_word.specs.declared.attribute_kind.AttributeKind.{AttributeKind}
+use Rattle.justfile_word.specs.declared.attribute_kind.AttributeKind.TheVariants as attributes
+use Rattle.justfile_word.specs.declared.signal.Signal.{Signal}
+use Rattle.justfile_word.specs.declared.item_kind.ItemKind.{ItemKind}
 use Rattle.justfile_model.specs.AttributeKinds.{is_allowed, is_repeatable, known_keys, least_count, most_count, same_attribute, takes_expressions}
 use Rattle.justfile_model.specs.AttributeRules.{allowed_broken, arg_rules, duplicate_rule, excludes, first_invalid, has_more, label_of, rules_in, same_label, same_text}
 use Rattle.justfile_model.specs.ContentKeys.{kind_of_attribute}

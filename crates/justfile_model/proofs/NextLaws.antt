@@ -9,17 +9,17 @@ use Rattle.std.proofs.lemmas.Bool.Decides.{nat_tests}
 use Rattle.std.proofs.lemmas.List.{length-take}
 use Rattle.std.proofs.lemmas.Slice.Eq.{bytes_eq-Decides}
 use Rattle.std.proofs.lemmas.Str.{IsCharBoundary-start, IsCharBoundary-from_rest, IsUtf8-drop}
-use Rattle.justfile_base.specs.declared.byte_class.ByteClass.{ByteClass}
-use Rattle.justfile_base.specs.declared.byte_class.ByteClass.TheVariants as classes
+use Rattle.justfile_word.specs.declared.byte_class.ByteClass.{ByteClass}
+use Rattle.justfile_word.specs.declared.byte_class.ByteClass.TheVariants as classes
 use Rattle.justfile_base.specs.declared.delimiter.Delimiter.{Delimiter}
 use Rattle.justfile_base.specs.declared.delimiter.Delimiter.TheVariants.{Brace, Bracket, Paren}
 use Rattle.justfile_base.specs.declared.string_kind.StringDelimiter.{StringDelimiter}
 use Rattle.justfile_base.specs.declared.string_kind.StringDelimiter.TheVariants as delimiters
 use Rattle.justfile_base.specs.declared.string_kind.StringKind.{StringKind}
 use Rattle.justfile_model.specs.declared.raw_text.RawText.TheVariants as raw_texts
-use Rattle.justfile_base.specs.declared.token_kind.TokenKind.{TokenKind}
-use Rattle.justfile_base.specs.declared.token_kind.TokenKind.TheVariants.{BraceR, BracketR, Dedent, Eof, Eol, FormatStringContinue, FormatStringEnd, ParenR, Whitespace}
-use Rattle.justfile_base.specs.ByteClass.{class_of}
+use Rattle.justfile_word.specs.declared.token_kind.TokenKind.{TokenKind}
+use Rattle.justfile_word.specs.declared.token_kind.TokenKind.TheVariants.{BraceR, BracketR, Dedent, Eof, Eol, FormatStringContinue, FormatStringEnd, ParenR, Whitespace}
+use Rattle.justfile_word.specs.ByteClass.{class_of}
 use Rattle.justfile_model.specs.Bytes.{is_blank, is_name_byte, blank_len, is_line_end, is_interpolation_start, is_interpolation_end, is_mixed, closes_levels, first_char}
 use Rattle.justfile_base.specs.StringKind.{delimiter_len, kind_of, token_kind_of}
 use Rattle.justfile_model.specs.LiteralText.{raw_len, is_delimiter}

@@ -1,7 +1,7 @@
 -- What is read of a file breaks no rule, and all of it has a meaning.
 use Rattle.std.proofs.Common.{◌≡◌, Bool, List, [], ◌∷◌, length, Ok, IfOk, refl}
 use Rattle.std.specs.Str.{trim_end}
-use Rattle.justfile_base.specs.declared.token_kind.TokenKind.TheVariants as kinds
+use Rattle.justfile_word.specs.declared.token_kind.TokenKind.TheVariants as kinds
 use Rattle.justfile_model.specs.Conditions.{Conditions}
 use Rattle.justfile_model.specs.Expressions.{Tokens}
 use Rattle.justfile_model.specs.Features.{Noted}

@@ -1,8 +1,8 @@
 -- Where a part of an item derives, with the limit waived at some tokens, it is read, or refused: a literal that has no text, as too deep at one of
 -- these tokens, or by a rule that it breaks.
 use Rattle.std.proofs.Common.{◌≡◌, ℕ, Bool, true, false, ◌||◌, List, [], ◌∷◌, ◌++◌, ◌+◌, Option, Some, None, Ok, Err, codes, refl, sym, ap, ◌∙◌, append-nil, arith}
-use Rattle.justfile_base.specs.declared.keyword.Keyword.{Keyword}
-use Rattle.justfile_base.specs.declared.token_kind.TokenKind.TheVariants as kinds
+use Rattle.justfile_word.specs.declared.keyword.Keyword.{Keyword}
+use Rattle.justfile_word.specs.declared.token_kind.TokenKind.TheVariants as kinds
 use Rattle.justfile_model.specs.Conditions.{Conditions}
 use Rattle.justfile_model.specs.Expressions.{Tokens, IsKind, IsWord, NotNext, Waived}
 use Rattle.justfile_model.specs.Features.{Noted}

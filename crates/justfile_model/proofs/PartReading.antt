@@ -1,8 +1,8 @@
 -- The readers of what items are made of, one rule at a time: what is read leaves fewer tokens, in the same run and at the same depth.
 use Rattle.std.proofs.Common.{◌≡◌, ℕ, ◌<◌, Bool, true, false, cond, List, [], ◌∷◌, length, Option, Some, None, Ok, Err, codes, refl, sym, ap, ◌∙◌}
-use Rattle.justfile_base.specs.Keyword.{keyword_named}
-use Rattle.justfile_base.specs.declared.keyword.Keyword.{Keyword}
-use Rattle.justfile_base.specs.declared.token_kind.TokenKind.TheVariants as kinds
+use Rattle.justfile_word.specs.Keyword.{keyword_named}
+use Rattle.justfile_word.specs.declared.keyword.Keyword.{Keyword}
+use Rattle.justfile_word.specs.declared.token_kind.TokenKind.TheVariants as kinds
 use Rattle.justfile_model.specs.ExpressionReader as expressions
 use Rattle.justfile_model.specs.HeaderReader.{draw_binding, expression, obeying}
 use Rattle.justfile_model.specs.Literals.{string_of}

@@ -1,10 +1,10 @@
 -- What is read of the parts of items derives, its literals have texts, and the value of a setting breaks no rule.
 use Rattle.std.proofs.Common.{◌≡◌, ℕ, Bool, true, false, ◌||◌, ◌+◌, ◌⊎◌, inl, inr, List, [], ◌∷◌, ◌++◌, length, Option, Some, None, Ok, Err, IfOk, codes, refl, sym, subst, ap, ◌∙◌}
-use Rattle.justfile_base.specs.Keyword.{keyword_named, keyword_text}
-use Rattle.justfile_base.specs.declared.keyword.Keyword.{Keyword}
-use Rattle.justfile_base.specs.declared.token_kind.TokenKind.{TokenKind}
-use Rattle.justfile_base.specs.declared.token_kind.TokenKind.TheVariants as kinds
-use Rattle.justfile_base.proofs.KeywordLaws.{spells}
+use Rattle.justfile_word.specs.Keyword.{keyword_named, keyword_text}
+use Rattle.justfile_word.specs.declared.keyword.Keyword.{Keyword}
+use Rattle.justfile_word.specs.declared.token_kind.TokenKind.{TokenKind}
+use Rattle.justfile_word.specs.declared.token_kind.TokenKind.TheVariants as kinds
+use Rattle.justfile_word.proofs.KeywordLaws.{spells}
 use Rattle.justfile_model.specs.Conditions.{Conditions}
 use Rattle.justfile_model.specs.ExpressionReader as expressions
 use Rattle.justfile_model.specs.ExpressionReader.{cooked}

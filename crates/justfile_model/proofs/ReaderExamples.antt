@@ -1,10 +1,10 @@
 -- Examples of what is read of constructs with attributes, and of what is refused, computed from the definitions.
 use Rattle.std.proofs.Common.{◌≡◌, ℕ, false, true, List, [], ◌∷◌, None, Some, Ok, Err, codes, refl}
-use Rattle.justfile_base.specs.AttributeKind.{kind_named}
-use Rattle.justfile_base.specs.declared.attribute_kind.AttributeKind.TheVariants as attributes_of
-use Rattle.justfile_base.specs.declared.item_kind.ItemKind.TheVariants as items
-use Rattle.justfile_base.specs.declared.token_kind.TokenKind.{TokenKind}
-use Rattle.justfile_base.specs.declared.token_kind.TokenKind.TheVariants as kinds
+use Rattle.justfile_word.specs.AttributeKind.{kind_named}
+use Rattle.justfile_word.specs.declared.attribute_kind.AttributeKind.TheVariants as attributes_of
+use Rattle.justfile_word.specs.declared.item_kind.ItemKind.TheVariants as items
+use Rattle.justfile_word.specs.declared.token_kind.TokenKind.{TokenKind}
+use Rattle.justfile_word.specs.declared.token_kind.TokenKind.TheVariants as kinds
 use Rattle.justfile_model.specs.declared.parameter_kind.ParameterKind.TheVariants as parameter_kinds
 use Rattle.justfile_model.specs.AttributeKinds.{same_attribute}
 use Rattle.justfile_model.specs.AttributeReader.{argument, arguments, arguments_end, arguments_from, attribute, attribute_lines, attribute_lines_from, attributes_end, bracket_end, bracketed, kind_at, made, placed, positional}

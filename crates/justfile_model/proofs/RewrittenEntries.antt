@@ -9,8 +9,8 @@ use Rattle.std.specs.Cmp.Derive.{bare_equiv}
 use Rattle.std.specs.List.{AllByRecursion, find, flat_map, list_any}
 use Rattle.std.specs.Str.{bytes_eq}
 use denote.Enum.Bare.{same_true}
-use Rattle.justfile_base.specs.contracts.attribute_kind.AttributeKind as kind_type
-use Rattle.justfile_base.specs.declared.attribute_kind.AttributeKind.{AttributeKind}
+use Rattle.justfile_word.specs.contracts.attribute_kind.AttributeKind as kind_type
+use Rattle.justfile_word.specs.declared.attribute_kind.AttributeKind.{AttributeKind}
 use Rattle.justfile_model.specs.AttributeKinds.{same_attribute, is_repeatable}
 use Rattle.justfile_model.specs.AttributeRules.{of_some, attribute_broken, label_of, same_text, same_label, excludes, duplicate_rule, duplicate_broken, duplicates_broken, attributes_broken}
 use Rattle.justfile_model.specs.Conditions.{VersionNumbers}

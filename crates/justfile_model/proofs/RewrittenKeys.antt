@@ -5,15 +5,15 @@ use Rattle.std.proofs.lemmas.List.{map-append}
 use Rattle.std.specs.List.{AllByRecursion, filter, find, list_any}
 use Rattle.std.specs.Option.{option_map}
 use Rattle.std.specs.Str.{bytes_eq}
-use Rattle.justfile_base.specs.declared.attribute_kind.AttributeKind.{AttributeKind}
+use Rattle.justfile_word.specs.declared.attribute_kind.AttributeKind.{AttributeKind}
 use Rattle.justfile_model.specs.AttributeKinds.{known_keys}
 use Rattle.justfile_model.specs.AttributeRules.{of_some, least, order_broken, repeats_broken, is_known, unknown_broken}
 use Rattle.justfile_model.specs.Distinct.{Distinct}
 use Rattle.justfile_model.specs.Literals.{Expansions}
 use Rattle.justfile_model.specs.Meaning.{Placed, KeyArgument, by_position, by_key, is_key, at_key}
 use Rattle.justfile_model.specs.Printing.{fixed_text, quoted_argument, signal_argument, keyed_if, bare_if, option_argument, number_literal, rules_arguments, cache_arguments, attribute_arguments}
-use Rattle.justfile_base.specs.Signal.{signal_name}
-use Rattle.justfile_base.specs.declared.signal.Signal.{Signal}
+use Rattle.justfile_word.specs.Signal.{signal_name}
+use Rattle.justfile_word.specs.declared.signal.Signal.{Signal}
 use Rattle.justfile_model.specs.Rules.{DuplicateAttributeKey, UnknownAttributeKey, broken_if}
 use Rattle.justfile_model.specs.Sight.{Sight, sees_lexemes}
 use Rattle.justfile_model.specs.Tree as tree

@@ -5,15 +5,15 @@ use Rattle.std.proofs.lemmas.Bool.{or_parts}
 use Rattle.std.proofs.lemmas.List.{length-map}
 use Rattle.std.specs.List.{filter, flat_map, list_any}
 use Rattle.std.specs.Str.{bytes_eq}
-use Rattle.justfile_base.specs.AttributeKind.{attribute_name, kind_named}
-use Rattle.justfile_base.specs.Signal.{signal_name, signal_named}
-use Rattle.justfile_base.specs.contracts.signal.Signal as signal_type
-use Rattle.justfile_base.specs.declared.attribute_kind.AttributeKind.{AttributeKind}
-use Rattle.justfile_base.specs.declared.attribute_kind.AttributeKind.TheVariants as kinds
-use Rattle.justfile_base.specs.declared.signal.Signal.{Signal}
-use Rattle.justfile_base.specs.declared.signal.Signal.TheVariants.{Hangup, Interrupt, Quit}
-use Rattle.justfile_base.proofs.AttributeKindLaws as kind_laws
-use Rattle.justfile_base.proofs.SignalLaws as signal_laws
+use Rattle.justfile_word.specs.AttributeKind.{attribute_name, kind_named}
+use Rattle.justfile_word.specs.Signal.{signal_name, signal_named}
+use Rattle.justfile_word.specs.contracts.signal.Signal as signal_type
+use Rattle.justfile_word.specs.declared.attribute_kind.AttributeKind.{AttributeKind}
+use Rattle.justfile_word.specs.declared.attribute_kind.AttributeKind.TheVariants as kinds
+use Rattle.justfile_word.specs.declared.signal.Signal.{Signal}
+use Rattle.justfile_word.specs.declared.signal.Signal.TheVariants.{Hangup, Interrupt, Quit}
+use Rattle.justfile_word.proofs.AttributeKindLaws as kind_laws
+use Rattle.justfile_word.proofs.SignalLaws as signal_laws
 use Rattle.justfile_model.specs.AttributeKinds.{known_keys, least_count, most_count}
 use Rattle.justfile_model.specs.AttributeRules.{has_more, of_some, least, count_broken, expressions_broken, repeats_broken, unknown_broken, signals_broken, arg_broken, kind_broken, arguments_broken, order_broken, known_broken, named_broken, attribute_broken}
 use Rattle.justfile_model.specs.ContentKeys.{kind_of_attribute}

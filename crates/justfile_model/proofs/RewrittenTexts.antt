@@ -11,9 +11,9 @@ use Rattle.std.specs.List.{list_all}
 use Rattle.std.specs.Option.{is_some}
 use Rattle.std.specs.Str.{chars}
 use Rattle.std.specs.Str.Parse.{AllDigits, digits_value}
-use Rattle.justfile_base.specs.Signal.{signal_name}
-use Rattle.justfile_base.specs.declared.signal.Signal.{Signal}
-use Rattle.justfile_base.specs.declared.signal.Signal.TheVariants.{Hangup, Interrupt, Quit}
+use Rattle.justfile_word.specs.Signal.{signal_name}
+use Rattle.justfile_word.specs.declared.signal.Signal.{Signal}
+use Rattle.justfile_word.specs.declared.signal.Signal.TheVariants.{Hangup, Interrupt, Quit}
 use Rattle.justfile_model.specs.FirstPiece.{cook_within}
 use Rattle.justfile_model.specs.Literals.{string_text, between}
 use Rattle.justfile_model.specs.Unindent.{unindented}

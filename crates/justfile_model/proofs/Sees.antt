@@ -3,11 +3,11 @@ use Rattle.std.proofs.Common.{◌≡◌, ◌∙◌, ℕ, Bool, true, false, cond
 use Rattle.std.specs.List.{find}
 use Rattle.std.specs.Option.{option_map}
 use Rattle.std.specs.Str.{bytes_eq}
-use Rattle.justfile_base.specs.AttributeKind.{kind_named}
-use Rattle.justfile_base.specs.Signal.{signal_named}
-use Rattle.justfile_base.specs.declared.attribute_kind.AttributeKind.{AttributeKind}
-use Rattle.justfile_base.specs.declared.attribute_kind.AttributeKind.TheVariants as kinds
-use Rattle.justfile_base.specs.declared.signal.Signal.{Signal}
+use Rattle.justfile_word.specs.AttributeKind.{kind_named}
+use Rattle.justfile_word.specs.Signal.{signal_named}
+use Rattle.justfile_word.specs.declared.attribute_kind.AttributeKind.{AttributeKind}
+use Rattle.justfile_word.specs.declared.attribute_kind.AttributeKind.TheVariants as kinds
+use Rattle.justfile_word.specs.declared.signal.Signal.{Signal}
 use Rattle.justfile_model.specs.AttributeKinds.{takes_expressions}
 use Rattle.justfile_model.specs.Literals.{Literal, over_literal, string_of}
 use Rattle.justfile_model.specs.Meaning.{◌>>=◌, all_of, of_given, first_of, quoted, Placed, KeyArgument, by_position, by_key, count_of, quoted_text, text_of, is_key, at_key, property_of, value_of, bare_of, option_at, bound_of, rules_of, single_of, texts_of, env_of, signal_of, of_expressions, of_literals, by_takes, attribute_of, entry_of}

@@ -5,11 +5,11 @@ use Rattle.std.specs.List.{filter, find, flat_map, list_any}
 use Rattle.std.specs.Option.{option_map}
 use Rattle.std.specs.Ordering.{is_gt}
 use Rattle.std.specs.Str.{bytes_eq, chars}
-use Rattle.justfile_base.specs.AttributeKind.{kind_named}
-use Rattle.justfile_base.specs.Signal.{signal_named}
-use Rattle.justfile_base.specs.declared.attribute_kind.AttributeKind.{AttributeKind}
-use Rattle.justfile_base.specs.declared.attribute_kind.AttributeKind.TheVariants as kinds
-use Rattle.justfile_base.specs.declared.item_kind.ItemKind.{ItemKind}
+use Rattle.justfile_word.specs.AttributeKind.{kind_named}
+use Rattle.justfile_word.specs.Signal.{signal_named}
+use Rattle.justfile_word.specs.declared.attribute_kind.AttributeKind.{AttributeKind}
+use Rattle.justfile_word.specs.declared.attribute_kind.AttributeKind.TheVariants as kinds
+use Rattle.justfile_word.specs.declared.item_kind.ItemKind.{ItemKind}
 use Rattle.justfile_model.specs.AttributeKinds.{same_attribute, known_keys, takes_expressions, least_count, most_count, is_repeatable, is_allowed}
 use Rattle.justfile_model.specs.AttributeRules.{has_more, is_literal, of_some, lesser, least, count_broken, expression_broken, expressions_broken, order_broken, repeats_broken, is_known, unknown_broken, missing_broken, literal_broken, signal_broken, signals_broken, has, key_broken, option_broken, option_key_broken, count_text_broken, bound_broken, wants_option, value_broken, flag_broken, multiple_broken, number_of, exceeds_broken, arg_broken, kind_broken, arguments_broken, known_broken, named_broken, attribute_broken, label_of, same_text, same_label, excludes, duplicate_rule, duplicate_broken, duplicates_broken, attributes_broken, first_invalid, allowed_broken}
 use Rattle.justfile_model.specs.ContentKeys.{kind_of_attribute}

@@ -1,11 +1,11 @@
 -- What is read of a file derives, with the features that are noted on the way, and its literals have texts.
 use Rattle.std.proofs.Common.{◌≡◌, ℕ, Bool, true, false, ◌||◌, cond, List, [], ◌∷◌, ◌++◌, length, drop, Option, Some, None, Ok, Err, IfOk, codes, refl, sym, subst, ap, ◌∙◌, append_assoc, append-nil}
 use Rattle.std.specs.Str.{trim_end}
-use Rattle.justfile_base.specs.declared.token_kind.TokenKind.TheVariants as kinds
-use Rattle.justfile_base.specs.Keyword.{keyword_text}
-use Rattle.justfile_base.specs.declared.item_kind.ItemKind.{ItemKind}
-use Rattle.justfile_base.specs.declared.item_kind.ItemKind.TheVariants as item_kinds
-use Rattle.justfile_base.specs.declared.keyword.Keyword.{Keyword}
+use Rattle.justfile_word.specs.declared.token_kind.TokenKind.TheVariants as kinds
+use Rattle.justfile_word.specs.Keyword.{keyword_text}
+use Rattle.justfile_word.specs.declared.item_kind.ItemKind.{ItemKind}
+use Rattle.justfile_word.specs.declared.item_kind.ItemKind.TheVariants as item_kinds
+use Rattle.justfile_word.specs.declared.keyword.Keyword.{Keyword}
 use Rattle.justfile_model.specs.AttributeLines as attributes_of
 use Rattle.justfile_model.specs.AttributeRules.{allowed_broken}
 use Rattle.justfile_model.specs.Conditions.{Conditions}

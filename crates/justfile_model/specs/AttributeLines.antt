@@ -1,7 +1,7 @@
 -- The grammar of attributes, as `Grammar` has that of items: which significant tokens are which written attributes.
 use Rattle.std.specs.Prelude.{◌≡◌, ℕ, Bool, true, false, List, [], ◌∷◌, ◌++◌, Option, Some, None, codes}
 use Rattle.std.specs.Str.{trim_end}
-use Rattle.justfile_base.specs.declared.token_kind.TokenKind.TheVariants as kinds
+use Rattle.justfile_word.specs.declared.token_kind.TokenKind.TheVariants as kinds
 use Rattle.justfile_model.specs.AttributeKinds.{name_takes_keys}
 use Rattle.justfile_model.specs.Expressions.{Tokens, IsKind, NotNext, IsMarked, Expression}
 use Rattle.justfile_model.specs.Features.{Noted}

@@ -4,11 +4,11 @@ use Rattle.std.specs.List.{filter, find, filter_map, flat_map, list_any}
 use Rattle.std.specs.Option.{is_some}
 use Rattle.std.specs.Ordering.{is_gt}
 use Rattle.std.specs.Str.{bytes_eq, chars}
-use Rattle.justfile_base.specs.AttributeKind.{kind_named}
-use Rattle.justfile_base.specs.Signal.{signal_named}
-use Rattle.justfile_base.specs.declared.attribute_kind.AttributeKind.{AttributeKind}
-use Rattle.justfile_base.specs.declared.attribute_kind.AttributeKind.TheVariants as kinds
-use Rattle.justfile_base.specs.declared.item_kind.ItemKind.{ItemKind}
+use Rattle.justfile_word.specs.AttributeKind.{kind_named}
+use Rattle.justfile_word.specs.Signal.{signal_named}
+use Rattle.justfile_word.specs.declared.attribute_kind.AttributeKind.{AttributeKind}
+use Rattle.justfile_word.specs.declared.attribute_kind.AttributeKind.TheVariants as kinds
+use Rattle.justfile_word.specs.declared.item_kind.ItemKind.{ItemKind}
 use Rattle.justfile_model.specs.AttributeKinds.{same_attribute, known_keys, takes_expressions, least_count, most_count, is_repeatable, is_allowed}
 use Rattle.justfile_model.specs.ContentKeys.{kind_of_attribute}
 use Rattle.justfile_model.specs.ContentLeaf.{text_cmp}

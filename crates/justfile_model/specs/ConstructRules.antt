@@ -1,7 +1,7 @@
 -- Which rules a construct with its attributes breaks, each at its token.
 use Rattle.std.specs.Prelude.{List, [], ◌++◌}
-use Rattle.justfile_base.specs.declared.item_kind.ItemKind.{ItemKind}
-use Rattle.justfile_base.specs.declared.item_kind.ItemKind.TheVariants as items
+use Rattle.justfile_word.specs.declared.item_kind.ItemKind.{ItemKind}
+use Rattle.justfile_word.specs.declared.item_kind.ItemKind.TheVariants as items
 use Rattle.justfile_model.specs.AttributeRules.{allowed_broken, attributes_broken, of_some}
 use Rattle.justfile_model.specs.Conditions.{VersionNumbers}
 use Rattle.justfile_model.specs.Meaning.{entries_of}

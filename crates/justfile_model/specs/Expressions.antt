@@ -3,11 +3,11 @@
 -- are open around it, and `Open` says at which depth, before which token, an expression may be entered. The features are those that
 -- need the setting for lists, in the order in which they are met.
 use Rattle.std.specs.Prelude.{◌≡◌, ◌≢◌, ℕ, ◌+◌, ◌<◌, Bool, true, false, List, [], ◌∷◌, ◌++◌, Option, Some, None, codes}
-use Rattle.justfile_base.specs.declared.token_kind.TokenKind.{TokenKind}
-use Rattle.justfile_base.specs.declared.token_kind.TokenKind.TheVariants as kinds
+use Rattle.justfile_word.specs.declared.token_kind.TokenKind.{TokenKind}
+use Rattle.justfile_word.specs.declared.token_kind.TokenKind.TheVariants as kinds
 use Rattle.justfile_model.specs.declared.conditional_operator.ConditionalOperator.{ConditionalOperator}
 use Rattle.justfile_model.specs.declared.conditional_operator.ConditionalOperator.TheVariants.{Equality, Inequality, RegexMatch, RegexMismatch}
-use Rattle.justfile_model.specs.declared.list_feature.ListFeature.TheVariants as features
+use Rattle.justfile_word.specs.declared.list_feature.ListFeature.TheVariants as features
 use Rattle.justfile_model.specs.Tok.{Tok}
 use Rattle.justfile_model.specs.SignificantTokens.{SignificantToken}
 use Rattle.justfile_model.specs.Tree as tree

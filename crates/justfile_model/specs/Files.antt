@@ -2,7 +2,7 @@
 use Rattle.std.specs.Prelude.{◌≡◌, ℕ, Bool, ◌+◌, ◌-◌, ◌^◌, ◌≤◌, List, [], ◌∷◌, ◌++◌, map, length, Option, Some, None}
 use Rattle.std.specs.List.{flat_map}
 use Rattle.std.specs.Option.{option_map}
-use Rattle.justfile_base.specs.declared.attribute_kind.AttributeKind.TheVariants.{Doc}
+use Rattle.justfile_word.specs.declared.attribute_kind.AttributeKind.TheVariants.{Doc}
 use Rattle.justfile_model.specs.SignificantTokens.{SignificantToken}
 use Rattle.justfile_model.specs.Tree.{Expr, Or, And, Comparison, Concatenation, ListConcatenation, Join, Root, If, IfElse, Not, StringLiteral, FormatLiteral, FormatString, Backtick, Assert, AssertMessage, Variable, Call, Group, ListOf, Exprs, none, more, Parts, Last, Continue, Fragment, Text, Interpolation, BodyLine, Line, Quoted, Argument, Positional, Bare, Keyed, WrittenAttribute, OptionName, NoOption, OwnName, Named, ArgumentRules, Attribute, Plain, Single, Texts, Env, Signals, Cache, Arg, Entry, Parameter, Dependency, Header, SettingValue, Truth, Value, Interpreter, Content, Alias, Assignment, Function, Import, Module, Recipe, Setting, Unexport, Item, Newline, Comment, Construct, WrittenItem, OrderedItem, WrittenTree, WrittenShape, Tree, Shape, starless, lexeme, nothing, itself, line_of}
 use Rattle.justfile_model.specs.Tok.{Tok}

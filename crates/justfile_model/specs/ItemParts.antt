@@ -1,6 +1,6 @@
 -- The grammar of what items are made of, beside headers: paths of files, parameters of functions, values of settings.
 use Rattle.std.specs.Prelude.{ℕ, true, false, List, [], ◌∷◌, Option, codes}
-use Rattle.justfile_base.specs.declared.token_kind.TokenKind.TheVariants as kinds
+use Rattle.justfile_word.specs.declared.token_kind.TokenKind.TheVariants as kinds
 use Rattle.justfile_model.specs.Expressions.{Tokens, IsKind, IsWord, NotNext, Expression, Sequence}
 use Rattle.justfile_model.specs.Features.{Noted}
 use Rattle.justfile_model.specs.Settings.{ExpressionForm, InterpreterForm, PlainForm, SettingForm, TruthForm}

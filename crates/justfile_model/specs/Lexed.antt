@@ -1,7 +1,7 @@
 -- The tokens of a text.
 use Rattle.std.specs.Prelude.{◌≡◌, ◌≢◌, ℕ, ◌+◌, List, [], ◌∷◌, ◌++◌, ◌⊎◌, length, drop, reverse, Ok, Err}
 use Rattle.std.specs.List.{All}
-use Rattle.justfile_base.specs.declared.token_kind.TokenKind.TheVariants.{Eof, Unspecified}
+use Rattle.justfile_word.specs.declared.token_kind.TokenKind.TheVariants.{Eof, Unspecified}
 use Rattle.justfile_base.specs.Slice.{slice_of}
 use Rattle.justfile_model.specs.Tok.{Tok}
 use Rattle.justfile_model.specs.Modes.{mode}

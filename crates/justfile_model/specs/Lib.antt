@@ -31,7 +31,6 @@ pub mod Key
 pub mod KeyLaws
 pub mod Lexed
 pub mod LexicalFault
-pub mod ListFeature
 pub mod LiteralParts
 pub mod LiteralText
 pub mod Literals

@@ -4,12 +4,12 @@ use Rattle.std.specs.List.{find, filter, list_all, list_any}
 use Rattle.std.specs.Str.{bytes_eq}
 use Rattle.std.specs.Str.Parse.{digits_value}
 use denote.Enum.Bare.{sameb}
-use Rattle.justfile_base.specs.AttributeKind.{kind_named}
-use Rattle.justfile_base.specs.Signal.{signals, signal_named}
-use Rattle.justfile_base.specs.contracts.signal.Signal as signal_type
-use Rattle.justfile_base.specs.declared.attribute_kind.AttributeKind.{AttributeKind}
-use Rattle.justfile_base.specs.declared.attribute_kind.AttributeKind.TheVariants as kinds
-use Rattle.justfile_base.specs.declared.signal.Signal.{Signal}
+use Rattle.justfile_word.specs.AttributeKind.{kind_named}
+use Rattle.justfile_word.specs.Signal.{signals, signal_named}
+use Rattle.justfile_word.specs.contracts.signal.Signal as signal_type
+use Rattle.justfile_word.specs.declared.attribute_kind.AttributeKind.{AttributeKind}
+use Rattle.justfile_word.specs.declared.attribute_kind.AttributeKind.TheVariants as kinds
+use Rattle.justfile_word.specs.declared.signal.Signal.{Signal}
 use Rattle.justfile_model.specs.AttributeKinds.{takes_expressions}
 use Rattle.justfile_model.specs.ContentKeys.{entry_cmp}
 use Rattle.justfile_model.specs.Literals.{string_of}

@@ -2,9 +2,9 @@
 -- grammar is a law.
 use Rattle.std.specs.Prelude.{ℕ, ◌+◌, Bool, true, false, ◌||◌, List, [], ◌∷◌, ◌++◌, length, drop, map, None, Ok, Err, codes, if◌then◌else◌}
 use Rattle.std.specs.Str.{trim_end}
-use Rattle.justfile_base.specs.declared.item_kind.ItemKind.{ItemKind}
-use Rattle.justfile_base.specs.declared.item_kind.ItemKind.TheVariants as item_kinds
-use Rattle.justfile_base.specs.declared.token_kind.TokenKind.TheVariants as kinds
+use Rattle.justfile_word.specs.declared.item_kind.ItemKind.{ItemKind}
+use Rattle.justfile_word.specs.declared.item_kind.ItemKind.TheVariants as item_kinds
+use Rattle.justfile_word.specs.declared.token_kind.TokenKind.TheVariants as kinds
 use Rattle.justfile_model.specs.AttributeReader as attribute_reader
 use Rattle.justfile_model.specs.AttributeReader.{AttributeLeaves}
 use Rattle.justfile_model.specs.AttributeRules.{allowed_broken, arg_rules}

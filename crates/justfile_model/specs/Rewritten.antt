@@ -1,7 +1,7 @@
 -- A shape as it is written where it is printed: each attribute by its kind's name, with the arguments that it is printed with, and docs as
 -- comments.
 use Rattle.std.specs.Prelude.{ℕ, List, [], ◌∷◌, ◌++◌, map, Option, Some, None}
-use Rattle.justfile_base.specs.AttributeKind.{attribute_name}
+use Rattle.justfile_word.specs.AttributeKind.{attribute_name}
 use Rattle.justfile_model.specs.ContentKeys.{kind_of_attribute}
 use Rattle.justfile_model.specs.Docs.{redocumented}
 use Rattle.justfile_model.specs.Printing.{attribute_arguments, doc_comment, fixed_text, shown_doc}

@@ -1,9 +1,9 @@
 -- Which rules the value of a setting breaks, each at its token.
 use Rattle.std.specs.Prelude.{ℕ, Bool, true, false, List, [], ◌∷◌, Option, Some, None, if◌then◌else◌}
-use Rattle.justfile_base.specs.Indentation.{indentation_refusal}
+use Rattle.justfile_word.specs.Indentation.{indentation_refusal}
 use Rattle.justfile_base.specs.StringKind.{kind_of}
-use Rattle.justfile_base.specs.declared.keyword.Keyword.{Keyword}
-use Rattle.justfile_base.specs.declared.keyword.Keyword.TheVariants as words
+use Rattle.justfile_word.specs.declared.keyword.Keyword.{Keyword}
+use Rattle.justfile_word.specs.declared.keyword.Keyword.TheVariants as words
 use Rattle.justfile_model.specs.AttributeRules.{of_some}
 use Rattle.justfile_model.specs.Conditions.{VersionNumbers}
 use Rattle.justfile_model.specs.Meaning.{quoted_text}

@@ -1,6 +1,6 @@
 -- Tokens without their path and their source.
 use Rattle.std.specs.Prelude.{ℕ, List}
-use Rattle.justfile_base.specs.declared.token_kind.TokenKind.{TokenKind}
+use Rattle.justfile_word.specs.declared.token_kind.TokenKind.{TokenKind}
 use Rattle.justfile_base.specs.declared.token.Token.{Token}
 use Rattle.justfile_base.specs.Slice.{slice_of}
 

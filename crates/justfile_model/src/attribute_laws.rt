@@ -1,6 +1,6 @@
 //! Laws of attributes, each the contract of a function that does nothing.
 ghost use Rattle.std.specs.Prelude.{◌≡◌, List, [], Contains, Some, Ok, Err};
-ghost use Rattle.justfile_base.specs.declared.attribute_kind.AttributeKind.{AttributeKind};
+ghost use Rattle.justfile_word.specs.declared.attribute_kind.AttributeKind.{AttributeKind};
 ghost use Rattle.justfile_model.specs.ArgumentTexts.{HasTexts};
 ghost use Rattle.justfile_model.specs.AttributeRules.{arguments_broken};
 ghost use Rattle.justfile_model.specs.ContentKeys.{entry_cmp};

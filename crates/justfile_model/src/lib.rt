@@ -8,7 +8,9 @@ pub mod grammar_laws;
 pub mod laws;
 mod level;
 pub mod lexing_laws;
-mod list_feature;
+
+pub use justfile_word::list_feature;
+
 mod open_delimiter;
 mod operator;
 mod parameter_kind;
@@ -17,8 +19,8 @@ mod raw_text;
 
 pub use crate::conditional_operator::ConditionalOperator;
 pub use crate::level::Level;
-pub use crate::list_feature::ListFeature;
 pub use crate::open_delimiter::OpenDelimiter;
 pub use crate::operator::Operator;
 pub use crate::parameter_kind::ParameterKind;
 pub use crate::raw_text::RawText;
+pub use justfile_word::ListFeature;

@@ -10,16 +10,16 @@ use Rattle.justfile_attribute_set.specs.AttributeSet.{IsInvalidBy, SaysInvalid}
 use Rattle.justfile_attribute_set.specs.Attributes.{has_kind, kind_of}
 use Rattle.justfile_attribute_set.specs.Keys.{firsts}
 use Rattle.justfile_attribute_set.specs.Pairs.{Pair, leaf_entry_of, pair_cmp}
-use Rattle.justfile_base.specs.declared.attribute_kind.AttributeKind.{AttributeKind}
+use Rattle.justfile_word.specs.declared.attribute_kind.AttributeKind.{AttributeKind}
 use Rattle.justfile_base.specs.declared.compile_error.CompileError.{CompileError}
 use Rattle.justfile_base.specs.declared.compile_error_kind.CompileErrorKind.TheVariants as errors
 use Rattle.justfile_base.specs.declared.compile_error_kind.CompileErrorKind.{CompileErrorKind}
 use Rattle.justfile_base.specs.declared.fault.Fault.TheVariants as faults
 use Rattle.justfile_base.specs.declared.fault.Fault.{Fault}
-use Rattle.justfile_base.specs.declared.item_kind.ItemKind.{ItemKind}
+use Rattle.justfile_word.specs.declared.item_kind.ItemKind.{ItemKind}
 use Rattle.justfile_base.specs.declared.name.Name.{Name}
 use Rattle.justfile_base.specs.declared.token.Token.{Token}
-use Rattle.justfile_base.specs.declared.token_kind.TokenKind.TheVariants as kinds
+use Rattle.justfile_word.specs.declared.token_kind.TokenKind.TheVariants as kinds
 use Rattle.justfile_model.specs.AttributeKinds.{same_attribute}
 use Rattle.justfile_model.specs.AttributeRules.{first_invalid, of_some}
 use Rattle.justfile_model.specs.ContentKeys.{has_attribute, kind_of_attribute}

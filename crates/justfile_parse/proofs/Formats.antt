@@ -1,10 +1,10 @@
 -- Each format string ends with the delimiter of its start.
 use Rattle.std.proofs.Common.{rules, ◌≡◌, ℕ, true, IsTrue, List, [], ◌∷◌, ◌++◌, map, sym, subst}
 use Rattle.justfile_base.specs.StringKind.{delimiter_len, kind_of}
-use Rattle.justfile_base.specs.declared.format_string_part.FormatStringPart.TheVariants as string_parts
+use Rattle.justfile_word.specs.declared.format_string_part.FormatStringPart.TheVariants as string_parts
 use Rattle.justfile_base.specs.declared.string_kind.StringKind.{StringKind}
 use Rattle.justfile_base.specs.declared.token.Token.{Token}
-use Rattle.justfile_base.specs.declared.token_kind.TokenKind.TheVariants as kinds
+use Rattle.justfile_word.specs.declared.token_kind.TokenKind.TheVariants as kinds
 use Rattle.justfile_round_trip.proofs.FormatParts.{AreInFormat, InFormat, continue_inside, end_inside, expression_inside, lexed_inside}
 use Rattle.justfile_literal.specs.Literal.{is_part}
 use Rattle.justfile_model.specs.Expressions as grammar

@@ -1,8 +1,8 @@
 -- An item is refused where a part of it is, after those that are read.
 use Rattle.std.proofs.Common.{◌≡◌, Bool, false, Option, Ok, Err, refl}
-use Rattle.justfile_base.specs.declared.item_kind.ItemKind.TheVariants as item_kinds
+use Rattle.justfile_word.specs.declared.item_kind.ItemKind.TheVariants as item_kinds
 use Rattle.justfile_base.specs.declared.token.Token.{Token}
-use Rattle.justfile_base.specs.declared.token_kind.TokenKind.TheVariants as kinds
+use Rattle.justfile_word.specs.declared.token_kind.TokenKind.TheVariants as kinds
 use Rattle.justfile_model.specs.Reader as files
 use Rattle.justfile_model.specs.Reading.{Counters}
 use Rattle.justfile_model.specs.Tree.{Expr, Quoted}

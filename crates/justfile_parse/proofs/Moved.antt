@@ -1,7 +1,7 @@
 -- How far the numerator moves, one step after another.
 use Rattle.std.proofs.Common.{◌≡◌, ℕ, ◌+◌, ◌≤◌, Bool, true, false, cond, Ok, Err, refl, sym, ap, subst, ◌∙◌, arith}
-use Rattle.justfile_base.specs.declared.numerator.Numerator.{Numerator}
-use Rattle.justfile_base.specs.declared.token_kind.TokenKind.TheVariants as kinds
+use Rattle.justfile_word.specs.declared.numerator.Numerator.{Numerator}
+use Rattle.justfile_word.specs.declared.token_kind.TokenKind.TheVariants as kinds
 use Rattle.justfile_model.specs.Reader as files
 use Rattle.justfile_model.specs.Reader.{with_recipes}
 use Rattle.justfile_model.specs.Reading.{Counters, NoNumber}

@@ -1,7 +1,7 @@
 -- The counters move up by no more than the identifiers that are read.
 use Rattle.std.proofs.Common.{◌≡◌, ℕ, suc, ◌+◌, ◌≤◌, Bool, true, false, List, [], ◌∷◌, length, Some, None, Ok, Err, IfOk, refl, sym, ap, subst, arith}
 use Rattle.justfile_base.specs.declared.token.Token.{Token}
-use Rattle.justfile_base.specs.declared.token_kind.TokenKind.TheVariants as kinds
+use Rattle.justfile_word.specs.declared.token_kind.TokenKind.TheVariants as kinds
 use Rattle.justfile_model.specs.Conditions.{Conditions}
 use Rattle.justfile_model.specs.Expressions.{Tokens, Under}
 use Rattle.justfile_model.specs.Features.{ConstructFeatures}

@@ -4,23 +4,23 @@ use Rattle.std.specs.Prelude.{◌&&◌, not, nat_eq}
 use Rattle.std.specs.List.{starts_with}
 use Rattle.std.specs.Str.{bytes_eq}
 use Rattle.justfile_base.specs.StringKind.{delimiter_len, kind_of, token_kind_of}
-use Rattle.justfile_base.specs.declared.token_kind.TokenKind.TheVariants.{FormatStringStart}
+use Rattle.justfile_word.specs.declared.token_kind.TokenKind.TheVariants.{FormatStringStart}
 use Rattle.justfile_model.specs.Bytes.{is_interpolation_start, is_interpolation_end, is_mixed, closes_levels, first_char}
 use Rattle.justfile_base.specs.CompileErrorKind.{internal_message}
-use Rattle.justfile_base.specs.declared.byte_class.ByteClass.{ByteClass}
-use Rattle.justfile_base.specs.declared.byte_class.ByteClass.TheVariants as classes
+use Rattle.justfile_word.specs.declared.byte_class.ByteClass.{ByteClass}
+use Rattle.justfile_word.specs.declared.byte_class.ByteClass.TheVariants as classes
 use Rattle.justfile_base.specs.declared.compile_error.CompileError.{CompileError}
 use Rattle.justfile_base.specs.declared.compile_error_kind.CompileErrorKind.{CompileErrorKind}
 use Rattle.justfile_base.specs.declared.compile_error_kind.CompileErrorKind.TheVariants.{Internal}
 use Rattle.justfile_base.specs.declared.delimiter.Delimiter.{Delimiter}
-use Rattle.justfile_base.specs.declared.keyword.Keyword.{Keyword}
+use Rattle.justfile_word.specs.declared.keyword.Keyword.{Keyword}
 use Rattle.justfile_base.specs.declared.string_kind.StringDelimiter.{StringDelimiter}
 use Rattle.justfile_base.specs.declared.string_kind.StringDelimiter.TheVariants as delimiters
 use Rattle.justfile_base.specs.declared.string_kind.StringKind.{StringKind}
 use Rattle.justfile_base.specs.declared.token.Token.{Token}
-use Rattle.justfile_base.specs.declared.token_kind.TokenKind.{TokenKind}
+use Rattle.justfile_word.specs.declared.token_kind.TokenKind.{TokenKind}
 use Rattle.justfile_literal.specs.Literal.{IsKindOf}
-use Rattle.justfile_base.specs.ByteClass.{class_of}
+use Rattle.justfile_word.specs.ByteClass.{class_of}
 use Rattle.justfile_model.specs.Lexed.{IsFault, IsSpan}
 use Rattle.justfile_model.specs.Literals as literals
 use Rattle.justfile_model.specs.Reading as reader

@@ -1,7 +1,7 @@
 -- Recipes, as the parser reads them.
 use Rattle.std.proofs.Common.{◌≡◌, ◌∙◌, ℕ, Bool, List, map-id, Ok, Err, sym, ap, subst}
-use Rattle.justfile_base.specs.Numerator.{number_of}
-use Rattle.justfile_base.specs.declared.number.Number.{Number}
+use Rattle.justfile_word.specs.Numerator.{number_of}
+use Rattle.justfile_word.specs.declared.number.Number.{Number}
 use Rattle.justfile_base.specs.declared.token.Token.{Token}
 use Rattle.justfile_model.specs.AttributeRules.{arg_rules}
 use Rattle.justfile_model.specs.HeaderReader.{obeying}

@@ -9,11 +9,11 @@ use Rattle.justfile_attribute.specs.declared.interpreter.Interpreter.{Interprete
 use Rattle.justfile_attribute_set.specs.AttributeSet.{AttributeSet, leaf_entries_of, pairs_of}
 use Rattle.justfile_attribute_set.specs.AttributeSet as sets
 use Rattle.justfile_attribute_set.specs.Pairs.{Pair, entry_of, leaf_entry_of}
-use Rattle.justfile_base.specs.AttributeKind.{kind_named}
+use Rattle.justfile_word.specs.AttributeKind.{kind_named}
 use Rattle.justfile_base.specs.StringKind.{kind_of}
 use Rattle.justfile_base.specs.Token.{lexeme_of}
-use Rattle.justfile_base.specs.declared.attribute_kind.AttributeKind.{AttributeKind}
-use Rattle.justfile_base.specs.declared.attribute_kind.AttributeKind.TheVariants as kinds
+use Rattle.justfile_word.specs.declared.attribute_kind.AttributeKind.{AttributeKind}
+use Rattle.justfile_word.specs.declared.attribute_kind.AttributeKind.TheVariants as kinds
 use Rattle.justfile_base.specs.declared.name.Name.{Name}
 use Rattle.justfile_base.specs.declared.string_literal.StringLiteral as strings
 use Rattle.justfile_base.specs.declared.token.Token.{Token}
@@ -22,8 +22,8 @@ use Rattle.justfile_model.specs.Literals as literals
 use Rattle.justfile_model.specs.Literals.{Expansions, Literal, cooked_text, token_of}
 use Rattle.justfile_model.specs.ContentKeys.{entry_cmp}
 use Rattle.justfile_model.specs.ContentLeaf.{LiteralContent, TokenContent}
-use Rattle.justfile_base.specs.declared.format_string_part.FormatStringPart.{FormatStringPart}
-use Rattle.justfile_base.specs.declared.format_string_part.FormatStringPart.TheVariants as parts
+use Rattle.justfile_word.specs.declared.format_string_part.FormatStringPart.{FormatStringPart}
+use Rattle.justfile_word.specs.declared.format_string_part.FormatStringPart.TheVariants as parts
 use Rattle.justfile_model.specs.Meaning as meaning
 use Rattle.justfile_model.specs.Meaning.{by_key, by_position}
 use Rattle.justfile_model.specs.Order.{in_order}

@@ -7,7 +7,7 @@ use Rattle.justfile_attribute.proofs.Ordered.{kind_seen}
 use Rattle.justfile_attribute_set.specs.AttributeSet as sets
 use Rattle.justfile_attribute_set.specs.AttributeSet.{AttributeSet, leaf_entries_of, pairs_of}
 use Rattle.justfile_attribute_set.specs.Pairs.{Pair, entry_of, leaf_entry_of}
-use Rattle.justfile_base.specs.declared.attribute_kind.AttributeKind.TheVariants.{Doc}
+use Rattle.justfile_word.specs.declared.attribute_kind.AttributeKind.TheVariants.{Doc}
 use Rattle.justfile_base.specs.declared.token.Token.{Token}
 use Rattle.justfile_file.specs.Item.{item_numbers, item_of, item_recipe_numbers}
 use Rattle.justfile_file.specs.declared.item.Item.{Item}

@@ -29,7 +29,7 @@ use Rattle.justfile_model.specs.Sight.{sees_tokens}
 use Rattle.justfile_model.specs.Tok.{Tok, tok_of}
 use Rattle.justfile_model.specs.Tree as tree
 use Rattle.justfile_model.specs.Tree.{BodyLine, Content, Entry, Expr, Header, Item as AnyItem, Quoted, SettingValue, WrittenAttribute, WrittenItem, assignment_of, bare_module, bare_recipe, starless, starless_header}
-use Rattle.justfile_model.specs.declared.list_feature.ListFeature.{ListFeature}
+use Rattle.justfile_word.specs.declared.list_feature.ListFeature.{ListFeature}
 use Rattle.justfile_model.proofs.Counters.{count, parameters_recipes}
 use Rattle.justfile_model.proofs.Related as a
 use Rattle.justfile_model.proofs.Related.{Alike, AlikeHeader, AlikeItem, AlikeLine, AlikeNames, AlikeOption, AlikeQuoted, AlikeValue, Each}

@@ -4,9 +4,9 @@ use Rattle.std.specs.Global.{Box}
 use Rattle.std.specs.Option.{option_map}
 use Rattle.std.proofs.lemmas.List.Elements.{All-cons, All-nil}
 use Rattle.justfile_attribute.specs.declared.interpreter.Interpreter.{Interpreter}
-use Rattle.justfile_base.specs.Numerator.{number_of}
+use Rattle.justfile_word.specs.Numerator.{number_of}
 use Rattle.justfile_base.specs.declared.name.Name.{Name}
-use Rattle.justfile_base.specs.declared.number.Number.{Number}
+use Rattle.justfile_word.specs.declared.number.Number.{Number}
 use Rattle.justfile_base.specs.declared.string_literal.StringLiteral as strings
 use Rattle.justfile_base.specs.declared.token.Token.{Token}
 use Rattle.justfile_file.specs.Item.{function_parameter_number, function_parameter_of, quoted_of}

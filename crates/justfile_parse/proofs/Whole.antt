@@ -4,11 +4,11 @@ use Rattle.std.specs.Prelude.{◌-◌, ◌^◌}
 use Rattle.std.proofs.lemmas.Bool.Decides.{nat_tests}
 use Rattle.std.proofs.lemmas.List.{length-map}
 use Rattle.std.proofs.lemmas.List.Elements.{All-head, All-tail}
-use Rattle.justfile_base.specs.Numerator.{bindings_of, recipes_of}
+use Rattle.justfile_word.specs.Numerator.{bindings_of, recipes_of}
 use Rattle.justfile_base.specs.declared.compile_error.CompileError.{CompileError}
 use Rattle.justfile_base.specs.declared.fault.Fault.{Fault}
 use Rattle.justfile_base.specs.declared.fault.Fault.TheVariants as faults
-use Rattle.justfile_base.specs.declared.numerator.Numerator.{Numerator}
+use Rattle.justfile_word.specs.declared.numerator.Numerator.{Numerator}
 use Rattle.justfile_base.specs.declared.token.Token.{Token}
 use Rattle.justfile_file.specs.Item.{function_parameter_of, item_of}
 use Rattle.justfile_file.specs.declared.item.Item.{Item}
@@ -28,7 +28,7 @@ use Rattle.justfile_model.specs.ReadAttribute.{ReadAttribute}
 use Rattle.justfile_model.specs.Tree.{Entry, OrderedItem, WrittenTree}
 use Rattle.justfile_model.specs.TreeReader as model
 use Rattle.justfile_model.specs.TreeReader.{start_state, token_attributes, token_leaves}
-use Rattle.justfile_model.specs.declared.list_feature.ListFeature.{ListFeature}
+use Rattle.justfile_word.specs.declared.list_feature.ListFeature.{ListFeature}
 use Rattle.justfile_model.proofs.Counters.{counted, counted_bindings, counted_recipes, items_count}
 use Rattle.justfile_model.proofs.DocsKept.{bindings_count, documented_counts, recipes_count}
 use Rattle.justfile_model.proofs.Natural as natural

@@ -5,21 +5,21 @@ use Rattle.justfile_attribute.specs.declared.attribute.Attribute.TheVariants as 
 use Rattle.justfile_attribute.specs.declared.interpreter.Interpreter.{Interpreter}
 use Rattle.justfile_attribute_set.specs.AttributeSet.{AttributeSet, attributes_of, pairs_of}
 use Rattle.justfile_attribute_set.specs.Attributes.{has_kind}
-use Rattle.justfile_base.specs.declared.attribute_kind.AttributeKind.TheVariants as kinds
+use Rattle.justfile_word.specs.declared.attribute_kind.AttributeKind.TheVariants as kinds
 use Rattle.justfile_base.specs.declared.name.Name.{Name}
-use Rattle.justfile_base.specs.declared.format_string_part.FormatStringPart.{FormatStringPart}
-use Rattle.justfile_base.specs.declared.format_string_part.FormatStringPart.TheVariants as parts
+use Rattle.justfile_word.specs.declared.format_string_part.FormatStringPart.{FormatStringPart}
+use Rattle.justfile_word.specs.declared.format_string_part.FormatStringPart.TheVariants as parts
 use Rattle.justfile_base.specs.declared.string_kind.StringKind.{StringKind}
 use Rattle.std.specs.Global.{Box}
 use Rattle.std.specs.List.{flat_map, slice_get}
-use Rattle.justfile_base.specs.Indentation.{indentation_text}
+use Rattle.justfile_word.specs.Indentation.{indentation_text}
 use Rattle.justfile_base.specs.Namepath.{names_in}
-use Rattle.justfile_base.specs.Numerator.{bindings_of, recipes_of}
+use Rattle.justfile_word.specs.Numerator.{bindings_of, recipes_of}
 use Rattle.justfile_base.specs.StringKind.{kind_of}
 use Rattle.justfile_base.specs.Token.{lexeme_of}
 use Rattle.justfile_base.specs.declared.namepath.Namepath.{Namepath}
-use Rattle.justfile_base.specs.declared.number.Number.{Number}
-use Rattle.justfile_base.specs.declared.numerator.Numerator.{Numerator}
+use Rattle.justfile_word.specs.declared.number.Number.{Number}
+use Rattle.justfile_word.specs.declared.numerator.Numerator.{Numerator}
 use Rattle.justfile_base.specs.declared.string_literal.StringLiteral as literals
 use Rattle.justfile_base.specs.declared.token.Token.{Token}
 use Rattle.justfile_literal.specs.Literal.{IsPartOf}
@@ -40,7 +40,7 @@ use Rattle.justfile_header.specs.declared.unresolved_dependency.DependencyArgume
 use Rattle.justfile_header.specs.declared.unresolved_dependency.UnresolvedDependency.{UnresolvedDependency}
 use Rattle.justfile_model.specs.Files.{NumbersFrom, bindings, recipes}
 use Rattle.justfile_model.specs.Literals.{Expansions, Command, cooked_text, string_of}
-use Rattle.justfile_model.specs.declared.list_feature.ListFeature.{ListFeature}
+use Rattle.justfile_word.specs.declared.list_feature.ListFeature.{ListFeature}
 use Rattle.justfile_tree.specs.declared.expression.Expression.{Expression, And', Assert', Backtick, Call', Comparison', Concatenation', Conditional', FormatString', Group', Join', List', ListConcatenation', Not', Or', StringLiteral, Variable, Held-Expression-Assert-1 as OptionalExpression, None', Some', Row_of-Expression as ExpressionRow, end_of-Expression as row_end, more_of-Expression as row_more, Row_of-Expression-FormatString-1-2 as FormatRow, end_of-Expression-FormatString-1-2 as format_row_end, more_of-Expression-FormatString-1-2 as format_row_more}
 use Rattle.justfile_parse.specs.Whole.{is_hidden}
 use Rattle.justfile_parse_expression.specs.declared.significant.TableEntry.{TableEntry}

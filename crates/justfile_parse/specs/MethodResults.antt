@@ -1,12 +1,12 @@
 -- What a method of the parser returns, of items, is what the definitions read.
 use Rattle.std.specs.Prelude.{◌≡◌, ℕ, ◌≤◌, ◌+◌, List, Option, Some, None, Result, Ok, Err, map}
-use Rattle.justfile_base.specs.Numerator.{bindings_of, constants_of, recipes_of}
+use Rattle.justfile_word.specs.Numerator.{bindings_of, constants_of, recipes_of}
 use Rattle.justfile_base.specs.declared.compile_error.CompileError.{CompileError}
 use Rattle.justfile_base.specs.declared.compile_error_kind.CompileErrorKind.{CompileErrorKind}
 use Rattle.justfile_base.specs.declared.compile_error_kind.CompileErrorKind.TheVariants as error_kinds
 use Rattle.justfile_base.specs.declared.fault.Fault.{Fault}
 use Rattle.justfile_base.specs.declared.fault.Fault.TheVariants as faults
-use Rattle.justfile_base.specs.declared.numerator.Numerator.{Numerator}
+use Rattle.justfile_word.specs.declared.numerator.Numerator.{Numerator}
 use Rattle.justfile_base.specs.declared.token.Token.{Token}
 use Rattle.justfile_file.specs.Ast.{noted_of}
 use Rattle.justfile_file.specs.Item.{item_of}
@@ -19,7 +19,7 @@ use Rattle.justfile_model.specs.SignificantTokens.{SignificantToken}
 use Rattle.justfile_model.specs.Tok.{Tok}
 use Rattle.justfile_model.specs.Tree.{OrderedItem, WrittenTree}
 use Rattle.justfile_model.specs.TreeReader as tree
-use Rattle.justfile_model.specs.declared.list_feature.ListFeature.{ListFeature}
+use Rattle.justfile_word.specs.declared.list_feature.ListFeature.{ListFeature}
 use Rattle.justfile_parse.specs.Errors.{IsAt, IsErrorOf, IsUnexpected}
 use Rattle.justfile_parse.specs.Filled.{AreNotedIn, IsGivenItems, IsInTable}
 use Rattle.justfile_parse_expression.specs.Significant.{significant_of}

@@ -3,10 +3,10 @@ use Rattle.std.specs.Prelude.{◌≡◌, ℕ, ◌⊎◌, ◌+◌, List, map, All
 use Rattle.std.specs.Str.{IsUtf8}
 use Rattle.justfile_base.specs.CompileErrorKind.{internal_message}
 use Rattle.justfile_base.specs.declared.compile_error.CompileError.{CompileError}
-use Rattle.justfile_base.specs.Numerator.{bindings_of, recipes_of}
+use Rattle.justfile_word.specs.Numerator.{bindings_of, recipes_of}
 use Rattle.justfile_base.specs.declared.fault.Fault.{Fault}
 use Rattle.justfile_base.specs.declared.fault.Fault.TheVariants as faults
-use Rattle.justfile_base.specs.declared.numerator.Numerator.{Numerator}
+use Rattle.justfile_word.specs.declared.numerator.Numerator.{Numerator}
 use Rattle.justfile_base.specs.declared.token.Token.{Token}
 use Rattle.justfile_round_trip.specs.RoundTrip.{TextDerives}
 use Rattle.justfile_file.specs.Ast.{tree_of, features_of, cooked_texts, binding_numbers, recipe_numbers}
@@ -21,7 +21,7 @@ use Rattle.justfile_model.specs.SignificantTokens.{significant_tokens}
 use Rattle.justfile_model.specs.Tok.{Tok, tok_of}
 use Rattle.justfile_model.specs.Tree.{Tree, lexeme}
 use Rattle.justfile_model.specs.UnstableFeatures.{unstable_features}
-use Rattle.justfile_model.specs.declared.list_feature.ListFeature.{ListFeature}
+use Rattle.justfile_word.specs.declared.list_feature.ListFeature.{ListFeature}
 use Rattle.justfile_parse.specs.Errors.{IsRefused}
 use Rattle.justfile_parse.specs.Filled.{IsGivenItem}
 use Rattle.justfile_parse.specs.WantsNumber.{WantsNumber}

@@ -4,7 +4,7 @@ use Rattle.std.specs.Option.{option_map}
 use Rattle.justfile_attribute_set.specs.AttributeSet.{leaf_entries_of}
 use Rattle.justfile_base.specs.declared.name.Name.{Name}
 use Rattle.justfile_base.specs.declared.namepath.Namepath.{Namepath}
-use Rattle.justfile_base.specs.declared.number.Number.{Number}
+use Rattle.justfile_word.specs.declared.number.Number.{Number}
 use Rattle.justfile_base.specs.declared.string_literal.StringLiteral as literals
 use Rattle.justfile_attribute_set.specs.AttributeSet.{AttributeSet}
 use Rattle.justfile_file.specs.declared.alias.Alias.{Alias}

@@ -4,7 +4,7 @@ use Rattle.std.specs.List.{starts_with}
 use Rattle.justfile_attribute_set.specs.AttributeSet.{AttributeSet, attributes_of}
 use Rattle.justfile_attribute_set.specs.Attributes.{has_kind}
 use Rattle.justfile_base.specs.Token.{lexeme_of}
-use Rattle.justfile_base.specs.declared.attribute_kind.AttributeKind.TheVariants as kinds
+use Rattle.justfile_word.specs.declared.attribute_kind.AttributeKind.TheVariants as kinds
 use Rattle.justfile_base.specs.declared.token.Token.{Token}
 use Rattle.justfile_file.specs.declared.binding.Binding.{Binding}
 use Rattle.justfile_file.specs.declared.item.Item.{Item}

@@ -1,6 +1,6 @@
 -- The word that a construct begins with, and what is read after it.
 use Rattle.std.specs.Prelude.{true, false, [], ◌∷◌, Option, Some, None, codes}
-use Rattle.justfile_base.specs.declared.token_kind.TokenKind.TheVariants as kinds
+use Rattle.justfile_word.specs.declared.token_kind.TokenKind.TheVariants as kinds
 use Rattle.justfile_model.specs.Reading.{Counters}
 use Rattle.justfile_parse.specs.ItemTable.{ReadItem, alias, any_module, assignment, import, setting, unexport, wordless}
 use Rattle.justfile_parse.specs.declared.content.Word.{Word}

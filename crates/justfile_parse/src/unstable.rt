@@ -2,8 +2,8 @@
 ghost use Rattle.std.specs.Prelude.{◌≡◌, IfOk, OnOk};
 ghost use Rattle.std.specs.List.{list_any};
 ghost use Rattle.justfile_attribute_set.specs.AttributeSet.{entries_of};
-ghost use Rattle.justfile_base.specs.declared.attribute_kind.AttributeKind.TheVariants as kinds;
-ghost use Rattle.justfile_base.specs.declared.unstable_feature.UnstableFeature.TheVariants as features;
+ghost use Rattle.justfile_word.specs.declared.attribute_kind.AttributeKind.TheVariants as kinds;
+ghost use Rattle.justfile_word.specs.declared.unstable_feature.UnstableFeature.TheVariants as features;
 ghost use Rattle.justfile_model.specs.ContentKeys.{has_attribute};
 ghost use Rattle.justfile_model.specs.UnstableFeatures.{is_lists};
 ghost use Rattle.justfile_parse.specs.Unstable.{unstable_of, uses_feature, with_used};

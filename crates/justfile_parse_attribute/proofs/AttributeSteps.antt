@@ -3,14 +3,14 @@ use Rattle.std.proofs.Common.{◌≡◌, ◌∙◌, ℕ, ◌<◌, Bool, true, fa
 use Rattle.std.proofs.lemmas.List.{map-append}
 use Rattle.justfile_attribute.specs.declared.attribute.Attribute.{Attribute}
 use Rattle.justfile_attribute_rules.specs.Made.{IsRefusedBy}
-use Rattle.justfile_base.specs.AttributeKind.{kind_named, takes_keys}
-use Rattle.justfile_base.specs.declared.attribute_kind.AttributeKind.{AttributeKind}
+use Rattle.justfile_word.specs.AttributeKind.{kind_named, takes_keys}
+use Rattle.justfile_word.specs.declared.attribute_kind.AttributeKind.{AttributeKind}
 use Rattle.justfile_base.specs.declared.compile_error.CompileError.{CompileError}
 use Rattle.justfile_base.specs.declared.name.Name.{Name}
 use Rattle.justfile_base.specs.declared.fault.Fault.{Fault}
 use Rattle.justfile_base.specs.declared.fault.Fault.TheVariants as faults
 use Rattle.justfile_base.specs.declared.token.Token.{Token}
-use Rattle.justfile_base.specs.declared.token_kind.TokenKind.TheVariants as kinds
+use Rattle.justfile_word.specs.declared.token_kind.TokenKind.TheVariants as kinds
 use Rattle.justfile_model.specs.AttributeReader as attributes
 use Rattle.justfile_model.specs.Expressions.{front}
 use Rattle.justfile_model.specs.Meaning.{by_key, by_position}

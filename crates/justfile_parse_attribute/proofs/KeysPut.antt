@@ -16,7 +16,7 @@ use denote.Ref.{Bor}
 use Rattle.justfile_attribute_rules.specs.Keys.{AreKeyed, KeyMap, key_argument, key_arguments}
 use Rattle.justfile_attribute_rules.specs.Made.{placed_leaf, placed_leaves}
 use Rattle.justfile_base.specs.Token.{lexeme_of}
-use Rattle.justfile_base.specs.declared.attribute_kind.AttributeKind.{AttributeKind}
+use Rattle.justfile_word.specs.declared.attribute_kind.AttributeKind.{AttributeKind}
 use Rattle.justfile_base.specs.declared.token.Token.{Token}
 use Rattle.justfile_model.specs.Meaning.{KeyArgument, Placed, by_key, by_position}
 use Rattle.justfile_model.specs.NewAttribute.{new_attribute}

@@ -5,7 +5,7 @@ use Rattle.justfile_base.specs.declared.fault.Fault.{Fault}
 use Rattle.justfile_base.specs.declared.fault.Fault.TheVariants as faults
 use Rattle.justfile_attribute_rules.specs.RuleErrors.{IsErrorOfRule}
 use Rattle.justfile_base.specs.Token.{lexeme_of}
-use Rattle.justfile_base.specs.declared.keyword.Keyword.{Keyword}
+use Rattle.justfile_word.specs.declared.keyword.Keyword.{Keyword}
 use Rattle.justfile_base.specs.declared.token.Token.{Token}
 use Rattle.justfile_model.specs.Reading as reading
 use Rattle.justfile_parse_expression.specs.MethodResults.{StopsAt}

@@ -11,7 +11,7 @@ use Rattle.justfile_model.specs.Tree.{Expr, itself}
 use Rattle.justfile_model.specs.TreeReader as model
 use Rattle.justfile_model.specs.TreeReader.{token_leaves}
 use Rattle.justfile_model.specs.declared.level.Level.TheVariants as levels
-use Rattle.justfile_model.specs.declared.list_feature.ListFeature.{ListFeature}
+use Rattle.justfile_word.specs.declared.list_feature.ListFeature.{ListFeature}
 use Rattle.justfile_model.proofs.Depth.{expression_freed}
 use Rattle.justfile_model.proofs.ExpressionSound.{expression_derives}
 use Rattle.justfile_model.proofs.NaturalExpressions.{expression_natural}

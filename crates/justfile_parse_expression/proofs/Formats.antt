@@ -2,14 +2,14 @@
 use Rattle.std.proofs.Common.{◌≡◌, ℕ, ◌<◌, Bool, true, false, cond, IsTrue, List, [], ◌∷◌, ◌++◌, length, Option, Some, None, Result, Ok, Err, map, take, drop, append_assoc, refl, sym, ap, ◌∙◌, subst}
 use Rattle.std.proofs.lemmas.List.{map-append, take-append-drop}
 use denote.Enum.Bare.{same_true}
-use Rattle.justfile_base.specs.contracts.token_kind.TokenKind.{the_type}
+use Rattle.justfile_word.specs.contracts.token_kind.TokenKind.{the_type}
 use Rattle.justfile_base.specs.StringKind.{kind_of}
 use Rattle.justfile_base.specs.Token.{lexeme_of}
-use Rattle.justfile_base.specs.declared.format_string_part.FormatStringPart.TheVariants as string_parts
+use Rattle.justfile_word.specs.declared.format_string_part.FormatStringPart.TheVariants as string_parts
 use Rattle.justfile_base.specs.declared.string_kind.StringKind.{StringKind}
-use Rattle.justfile_base.specs.declared.token_kind.TokenKind.{TokenKind}
+use Rattle.justfile_word.specs.declared.token_kind.TokenKind.{TokenKind}
 use Rattle.justfile_base.specs.declared.token.Token.{Token}
-use Rattle.justfile_base.specs.declared.token_kind.TokenKind.TheVariants as kinds
+use Rattle.justfile_word.specs.declared.token_kind.TokenKind.TheVariants as kinds
 use Rattle.justfile_literal.specs.Literal.{is_part}
 use Rattle.justfile_model.specs.Expressions as grammar
 use Rattle.justfile_model.specs.Literals.{LiteralFault, format_text}

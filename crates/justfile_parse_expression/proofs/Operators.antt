@@ -1,7 +1,7 @@
 -- The operators of an expression, as the parser goes over them.
 use Rattle.std.proofs.Common.{◌≡◌, Bool, true, false, List, [], ◌∷◌, Option, None, Ok, Err, IsTrue, if◌then◌else◌, codes, refl, ap, ◌∙◌}
 use Rattle.justfile_base.specs.declared.token.Token.{Token}
-use Rattle.justfile_base.specs.declared.token_kind.TokenKind.TheVariants as kinds
+use Rattle.justfile_word.specs.declared.token_kind.TokenKind.TheVariants as kinds
 use Rattle.justfile_model.specs.ExpressionReader as expressions
 use Rattle.justfile_model.specs.ExpressionReader.{Met, closed, met_at, opened, operator_by}
 use Rattle.justfile_model.specs.Operators.{is_binary}
@@ -11,7 +11,7 @@ use Rattle.justfile_model.specs.Tree as t
 use Rattle.justfile_model.specs.Tree.{Expr}
 use Rattle.justfile_model.specs.declared.level.Level.{Level}
 use Rattle.justfile_model.specs.declared.level.Level.TheVariants.{Expression, Disjunct, Compared, Conjunct, Value}
-use Rattle.justfile_model.specs.declared.list_feature.ListFeature.TheVariants as features
+use Rattle.justfile_word.specs.declared.list_feature.ListFeature.TheVariants as features
 use Rattle.justfile_model.specs.declared.operator.Operator.{Operator}
 use Rattle.justfile_parse_expression.specs.TableReader as r
 use Rattle.justfile_parse_expression.specs.TableReader.{At, Read, ReadExpr, Refusal, State, accept, accept_word, enter, front_operator, is_within, leaves, literal, operation, operations, read, value}

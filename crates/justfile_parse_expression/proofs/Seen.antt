@@ -1,6 +1,6 @@
 -- What is read of a table, side by side with what the definitions read of its tokens: each leaf is made of a token of the table.
 use Rattle.std.proofs.Common.{◌≡◌, ℕ, List, [], Some, None, Ok, refl, sym, ap, subst, ◌∙◌}
-use Rattle.justfile_base.specs.Numerator.{number_of}
+use Rattle.justfile_word.specs.Numerator.{number_of}
 use Rattle.justfile_base.specs.Token.{lexeme_of}
 use Rattle.justfile_base.specs.declared.token.Token.{Token}
 use Rattle.justfile_model.specs.Conditions.{Conditions}

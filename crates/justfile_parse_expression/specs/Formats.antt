@@ -3,9 +3,9 @@ use Rattle.std.specs.Prelude.{◌≡◌, ℕ, ◌<◌, false, IsTrue, List, ◌�
 use Rattle.std.specs.Coded.{Coded-set, coded_bool}
 use Rattle.std.specs.List.{list_all}
 use Rattle.justfile_base.specs.StringKind.{kind_of}
-use Rattle.justfile_base.specs.declared.format_string_part.FormatStringPart.TheVariants.{End}
+use Rattle.justfile_word.specs.declared.format_string_part.FormatStringPart.TheVariants.{End}
 use Rattle.justfile_base.specs.declared.string_kind.StringKind.{StringKind}
-use Rattle.justfile_base.specs.declared.token_kind.TokenKind.TheVariants.{FormatStringStart}
+use Rattle.justfile_word.specs.declared.token_kind.TokenKind.TheVariants.{FormatStringStart}
 use Rattle.justfile_literal.specs.Literal.{is_part}
 use Rattle.justfile_model.specs.Expressions as grammar
 use Rattle.justfile_model.specs.Expressions.{Free, IsKind, Tokens}

@@ -1,13 +1,13 @@
 -- Reading a table, with all that the parser's trees hold. That the definitions read the same trees of tokens is a law.
 use Rattle.std.specs.Prelude.{ℕ, ◌-◌, ◌^◌, Bool, true, false, List, [], ◌∷◌, Option, Some, None, Ok, Err, not, ◌==◌, if◌then◌else◌}
-use Rattle.justfile_base.specs.Numerator.{number_of}
+use Rattle.justfile_word.specs.Numerator.{number_of}
 use Rattle.justfile_base.specs.StringKind.{kind_of}
 use Rattle.justfile_base.specs.Token.{lexeme_of}
-use Rattle.justfile_base.specs.declared.format_string_part.FormatStringPart.{FormatStringPart}
-use Rattle.justfile_base.specs.declared.format_string_part.FormatStringPart.TheVariants as string_parts
+use Rattle.justfile_word.specs.declared.format_string_part.FormatStringPart.{FormatStringPart}
+use Rattle.justfile_word.specs.declared.format_string_part.FormatStringPart.TheVariants as string_parts
 use Rattle.justfile_base.specs.declared.string_kind.StringKind.{StringKind}
 use Rattle.justfile_base.specs.declared.token.Token.{Token}
-use Rattle.justfile_base.specs.declared.token_kind.TokenKind.{TokenKind}
+use Rattle.justfile_word.specs.declared.token_kind.TokenKind.{TokenKind}
 use Rattle.justfile_model.specs.Literals as literals
 use Rattle.justfile_model.specs.Conditions.{Conditions}
 use Rattle.justfile_model.specs.Literals.{format_text}

@@ -1,7 +1,7 @@
 -- What the definitions see of the parser: all that it holds.
 use Rattle.std.specs.Prelude.{◌≡◌, ℕ, ◌<◌, ◌-◌, List, Option, Some, None, drop, length, Result}
 use Rattle.justfile_base.specs.declared.token.Token.{Token}
-use Rattle.justfile_model.specs.declared.list_feature.ListFeature.{ListFeature}
+use Rattle.justfile_word.specs.declared.list_feature.ListFeature.{ListFeature}
 use Rattle.justfile_parse_expression.specs.Conditions.{conditions_of}
 use Rattle.justfile_parse_expression.specs.TableReader.{Run, State}
 use Rattle.justfile_parse_expression.specs.declared.parser.ExpressionParser.{ExpressionParser}

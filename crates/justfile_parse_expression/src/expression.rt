@@ -2,7 +2,7 @@
 ghost use Rattle.std.specs.Prelude.{◌≡◌, ◌<◌, ◌≤◌, IsTrue, false, OnOk, IfSome, IfNone, Some, None};
 ghost use Rattle.justfile_base.specs.StringKind.{kind_of};
 ghost use Rattle.justfile_base.specs.Token.{lexeme_of};
-ghost use Rattle.justfile_base.specs.declared.token_kind.TokenKind.TheVariants as kinds;
+ghost use Rattle.justfile_word.specs.declared.token_kind.TokenKind.TheVariants as kinds;
 ghost use Rattle.justfile_model.specs.Expressions.{ends_open};
 ghost use Rattle.justfile_model.specs.Tree as tree;
 ghost use Rattle.justfile_parse_expression.specs.Formats.{IsEndedAt, IsEndedFrom};

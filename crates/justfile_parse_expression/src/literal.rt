@@ -1,7 +1,7 @@
 ghost use Rattle.std.specs.Prelude.{◌≡◌, IsTrue, IfOk, option_map};
 ghost use Rattle.justfile_base.specs.StringKind.{kind_of};
 ghost use Rattle.justfile_base.specs.Token.{lexeme_of};
-ghost use Rattle.justfile_base.specs.declared.token_kind.TokenKind.TheVariants as kinds;
+ghost use Rattle.justfile_word.specs.declared.token_kind.TokenKind.TheVariants as kinds;
 ghost use Rattle.justfile_literal.specs.Literal.{is_part};
 ghost use Rattle.justfile_parse_expression.specs.Fault.{IsLiteralFault};
 ghost use Rattle.justfile_parse_expression.specs.Literal.{IsOf};

@@ -1,7 +1,7 @@
 -- How many numbers are drawn, one step after another.
 use Rattle.std.proofs.Common.{◌≡◌, ℕ, ◌+◌, ◌≤◌, Bool, true, false, cond, Some, Ok, Err, refl, sym, ap, subst, ◌∙◌, arith}
-use Rattle.justfile_base.specs.declared.numerator.Numerator.{Numerator}
-use Rattle.justfile_base.specs.declared.token_kind.TokenKind.{TokenKind}
+use Rattle.justfile_word.specs.declared.numerator.Numerator.{Numerator}
+use Rattle.justfile_word.specs.declared.token_kind.TokenKind.{TokenKind}
 use Rattle.justfile_model.specs.HeaderReader as headers
 use Rattle.justfile_model.specs.HeaderReader.{with_bindings}
 use Rattle.justfile_model.specs.Reading.{Counters, NoNumber}

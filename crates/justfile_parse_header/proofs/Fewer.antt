@@ -1,8 +1,8 @@
 -- What is read leaves no more identifiers than before.
 use Rattle.std.proofs.Common.{◌≡◌, ◌+◌, ◌≤◌, false, List, ◌∷◌, map, Some, None, Ok, Err, IfOk, refl, sym, ap, subst, ◌∙◌, arith}
 use Rattle.justfile_base.specs.declared.token.Token.{Token}
-use Rattle.justfile_base.specs.declared.token_kind.TokenKind.{TokenKind}
-use Rattle.justfile_base.specs.declared.token_kind.TokenKind.TheVariants as kinds
+use Rattle.justfile_word.specs.declared.token_kind.TokenKind.{TokenKind}
+use Rattle.justfile_word.specs.declared.token_kind.TokenKind.TheVariants as kinds
 use Rattle.justfile_model.specs.ExpressionReader as expressions
 use Rattle.justfile_model.specs.Reading.{◌>>=◌, choose, prepend, with}
 use Rattle.justfile_model.specs.SignificantTokens.{identifiers}
@@ -12,7 +12,7 @@ use Rattle.justfile_model.specs.Tree.{Expr, itself}
 use Rattle.justfile_model.specs.TreeReader as model
 use Rattle.justfile_model.specs.TreeReader.{token_leaves}
 use Rattle.justfile_model.specs.declared.level.Level.TheVariants as levels
-use Rattle.justfile_model.specs.declared.list_feature.ListFeature.{ListFeature}
+use Rattle.justfile_word.specs.declared.list_feature.ListFeature.{ListFeature}
 use Rattle.justfile_model.proofs.ExpressionProgress.{expression_counts, value_counts}
 use Rattle.justfile_model.proofs.ExpressionSound.{expression_derives, level_at, sound}
 use Rattle.justfile_model.proofs.HeaderProgress.{counts_one}

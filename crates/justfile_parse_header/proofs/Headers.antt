@@ -3,7 +3,7 @@ use Rattle.std.proofs.Common.{◌≡◌, ◌∙◌, ◌≤◌, ℕ, List, [], �
 use Rattle.std.proofs.lemmas.List.{drop-map, length-append, length-map, take-map}
 use Rattle.std.proofs.Math.Seq.{drop-append_seam, take-append_seam}
 use Rattle.std.specs.List.{flat_map}
-use Rattle.justfile_base.specs.declared.token_kind.TokenKind.TheVariants as kinds
+use Rattle.justfile_word.specs.declared.token_kind.TokenKind.TheVariants as kinds
 use Rattle.justfile_header.specs.declared.unresolved_dependency.UnresolvedDependency.{UnresolvedDependency}
 use Rattle.justfile_model.proofs.Prepended.{after_begin}
 use Rattle.justfile_model.specs.Features.{rules_features}

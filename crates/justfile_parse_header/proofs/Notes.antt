@@ -10,8 +10,8 @@ use Rattle.justfile_attribute_rules.specs.Made.{quoted_leaf}
 use Rattle.justfile_base.specs.declared.name.Name.{Name}
 use Rattle.justfile_base.specs.declared.string_literal.StringLiteral.{StringLiteral}
 use Rattle.justfile_base.specs.declared.token.Token.{Token}
-use Rattle.justfile_model.specs.declared.list_feature.ListFeature.{ListFeature}
-use Rattle.justfile_model.specs.declared.list_feature.ListFeature.TheVariants as features
+use Rattle.justfile_word.specs.declared.list_feature.ListFeature.{ListFeature}
+use Rattle.justfile_word.specs.declared.list_feature.ListFeature.TheVariants as features
 use Rattle.justfile_model.specs.Features.{Noted, bound_place, noted_at, rules_features}
 use Rattle.justfile_model.specs.Reading.{with}
 use Rattle.justfile_model.specs.Tree as tree

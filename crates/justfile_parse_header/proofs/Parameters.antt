@@ -3,10 +3,10 @@ use Rattle.std.proofs.Common.{◌≡◌, ◌∙◌, ℕ, Bool, true, false, List
 use Rattle.std.proofs.lemmas.List.{append-nil, map-append}
 use Rattle.std.specs.Global.{Box}
 use Rattle.std.specs.Option.{is_some}
-use Rattle.justfile_base.specs.Numerator.{number_of}
-use Rattle.justfile_base.specs.declared.numerator.Numerator.{Numerator}
+use Rattle.justfile_word.specs.Numerator.{number_of}
+use Rattle.justfile_word.specs.declared.numerator.Numerator.{Numerator}
 use Rattle.justfile_base.specs.declared.token.Token.{Token}
-use Rattle.justfile_base.specs.declared.token_kind.TokenKind.TheVariants as kinds
+use Rattle.justfile_word.specs.declared.token_kind.TokenKind.TheVariants as kinds
 use Rattle.justfile_header.specs.declared.parameter.Parameter.{Parameter}
 use Rattle.justfile_model.proofs.HeaderReading as laws
 use Rattle.justfile_model.specs.HeaderReader as headers

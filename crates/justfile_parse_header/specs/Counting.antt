@@ -1,7 +1,7 @@
 -- What a function returns that draws numbers.
 use Rattle.std.specs.Prelude.{◌≡◌, ℕ, ◌≤◌, ◌+◌, Result, Ok, Err, map}
-use Rattle.justfile_base.specs.Numerator.{bindings_of, constants_of, recipes_of}
-use Rattle.justfile_base.specs.declared.numerator.Numerator.{Numerator}
+use Rattle.justfile_word.specs.Numerator.{bindings_of, constants_of, recipes_of}
+use Rattle.justfile_word.specs.declared.numerator.Numerator.{Numerator}
 use Rattle.justfile_model.specs.Reading as reading
 use Rattle.justfile_model.specs.Reading.{Counters}
 use Rattle.justfile_model.specs.SignificantTokens.{identifiers}

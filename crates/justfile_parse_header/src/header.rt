@@ -1,7 +1,7 @@
 //! The header of a recipe, from its name to its end.
 ghost use Rattle.std.specs.Prelude.{◌≡◌, ◌<◌, ◌≤◌, IfOk, OnOk, length};
 ghost use Rattle.justfile_attribute_set.specs.AttributeSet.{attributes_of};
-ghost use Rattle.justfile_base.specs.declared.token_kind.TokenKind.TheVariants as kinds;
+ghost use Rattle.justfile_word.specs.declared.token_kind.TokenKind.TheVariants as kinds;
 ghost use Rattle.justfile_parse_expression.specs.View.{left, state_of};
 ghost use Rattle.justfile_parse_header.specs.Arguments.{AreKeyed};
 ghost use Rattle.justfile_parse_header.specs.Counting.{HasDrawn, ReadsCounted, counters_of, names, names_after_header};

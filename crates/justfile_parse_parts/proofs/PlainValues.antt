@@ -1,11 +1,11 @@
 -- Settings that take a plain literal: which values they take, and what of texts they refuse.
 use Rattle.std.proofs.Common.{◌≡◌, ◌∙◌, ℕ, Bool, true, false, cond, List, [], ◌∷◌, Option, Some, None, Ok, Err, not, codes, string_bytes, refl, sym, ap}
 use Rattle.std.specs.Prelude.{◌&&◌}
-use Rattle.justfile_base.specs.Indentation.{indentation_refusal}
+use Rattle.justfile_word.specs.Indentation.{indentation_refusal}
 use Rattle.justfile_base.specs.StringKind.{kind_of}
 use Rattle.justfile_base.specs.Token.{lexeme_of}
-use Rattle.justfile_base.specs.declared.keyword.Keyword.{Keyword}
-use Rattle.justfile_base.specs.declared.keyword.Keyword.TheVariants as words
+use Rattle.justfile_word.specs.declared.keyword.Keyword.{Keyword}
+use Rattle.justfile_word.specs.declared.keyword.Keyword.TheVariants as words
 use Rattle.justfile_base.specs.declared.string_literal.StringLiteral.{StringLiteral}
 use Rattle.justfile_base.specs.declared.token.Token.{Token}
 use Rattle.justfile_model.specs.AttributeRules.{of_some}

@@ -2,7 +2,7 @@
 ghost use Rattle.std.specs.Prelude.{◌≡◌, ◌&&◌, not, IfNone, IfOk, IfSome, None, Some, codes, string_bytes};
 ghost use Rattle.justfile_base.specs.Token.{lexeme_of};
 ghost use Rattle.justfile_base.specs.StringKind.{kind_of};
-ghost use Rattle.justfile_base.specs.declared.keyword.Keyword.TheVariants as words;
+ghost use Rattle.justfile_word.specs.declared.keyword.Keyword.TheVariants as words;
 ghost use Rattle.justfile_model.specs.Conditions.{VersionNumbers};
 ghost use Rattle.justfile_model.specs.Meaning.{quoted};
 ghost use Rattle.justfile_model.specs.Reading.{BreaksRule};

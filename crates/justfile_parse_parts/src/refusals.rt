@@ -1,6 +1,6 @@
 //! The refusals of names and words.
 ghost use Rattle.std.specs.Prelude.{[], ◌∷◌};
-ghost use Rattle.justfile_base.specs.declared.keyword.Keyword.TheVariants as words;
+ghost use Rattle.justfile_word.specs.declared.keyword.Keyword.TheVariants as words;
 ghost use Rattle.justfile_model.specs.Reading.{ExpectedKeyword, UnknownSetting};
 ghost use Rattle.justfile_parse_attribute.specs.Halting.{IsFaultOf};
 

@@ -1,6 +1,6 @@
 //! The values of settings.
 ghost use Rattle.std.specs.Prelude.{◌≡◌, ◌<◌, ◌≤◌, IfOk, OnOk, Some, None};
-ghost use Rattle.justfile_base.specs.declared.token_kind.TokenKind.TheVariants as kinds;
+ghost use Rattle.justfile_word.specs.declared.token_kind.TokenKind.TheVariants as kinds;
 ghost use Rattle.justfile_model.specs.Settings as forms;
 ghost use Rattle.justfile_model.specs.Tree as tree;
 ghost use Rattle.justfile_parse_attribute.specs.Halting.{ReadsRuled};

@@ -1,6 +1,6 @@
 //! The words that items begin with. They are names where nothing follows that goes with them.
 ghost use Rattle.std.specs.Prelude.{◌≡◌};
-ghost use Rattle.justfile_base.specs.Keyword.{keyword_text};
+ghost use Rattle.justfile_word.specs.Keyword.{keyword_text};
 ghost use Rattle.justfile_parse_expression.specs.MethodResults.{Takes};
 ghost use Rattle.justfile_parse_expression.specs.View.{Moves, state_of};
 ghost use Rattle.justfile_parse_parts.specs.PartTable as reader;

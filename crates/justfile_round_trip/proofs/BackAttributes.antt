@@ -1,6 +1,6 @@
 -- The tokens of good attributes derive them.
 use Rattle.std.proofs.Common.{◌≡◌, ℕ, Bool, true, false, List, [], ◌∷◌, ◌++◌, refl, sym, ◌∙◌, cond}
-use Rattle.justfile_base.specs.declared.token_kind.TokenKind.TheVariants as kinds
+use Rattle.justfile_word.specs.declared.token_kind.TokenKind.TheVariants as kinds
 use Rattle.justfile_model.specs.AttributeKinds.{name_takes_keys}
 use Rattle.justfile_model.specs.AttributeLines as g
 use Rattle.justfile_model.specs.AttributeLines.{IsKey, ArgumentOf, Arguments, AttributeOf, AttributeLines}

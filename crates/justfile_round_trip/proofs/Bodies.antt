@@ -1,8 +1,8 @@
 -- A printed body, at any indentation, and what follows it, is lexed back.
 use Rattle.std.proofs.Common.{◌≡◌, ℕ, Bool, true, false, cond, List, [], ◌∷◌, ◌++◌, length, drop, None, Some, refl, sym, ap, ◌∙◌, subst}
 use Rattle.std.specs.Prelude.{◌&&◌, ◌||◌, not}
-use Rattle.justfile_base.specs.declared.token_kind.TokenKind.TheVariants as kinds
-use Rattle.justfile_base.specs.ByteClass.{class_of}
+use Rattle.justfile_word.specs.declared.token_kind.TokenKind.TheVariants as kinds
+use Rattle.justfile_word.specs.ByteClass.{class_of}
 use Rattle.justfile_model.specs.Bytes.{blank, white, line_feed, blank_len, closes_levels}
 use Rattle.justfile_model.specs.Next.{begins_blank_line}
 use Rattle.justfile_model.specs.Tree.{Text, Interpolation, Line}

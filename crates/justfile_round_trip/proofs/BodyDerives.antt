@@ -1,6 +1,6 @@
 -- The printer's tokens of a good body are read as its lines again.
 use Rattle.std.proofs.Common.{ℕ, Bool, true, false, List, [], ◌∷◌, ◌++◌, refl}
-use Rattle.justfile_base.specs.declared.token_kind.TokenKind.TheVariants as kinds
+use Rattle.justfile_word.specs.declared.token_kind.TokenKind.TheVariants as kinds
 use Rattle.justfile_model.specs.Tree.{Text, Interpolation, Line}
 use Rattle.justfile_model.specs.Grammar as g
 use Rattle.justfile_round_trip.proofs.Reading.{Mark, mark}

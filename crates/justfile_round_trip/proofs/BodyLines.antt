@@ -6,12 +6,12 @@ use Rattle.std.specs.Str.{bytes_eq}
 use Rattle.std.proofs.lemmas.Bool.{and_parts}
 use Rattle.std.proofs.lemmas.Bool.Decides.{nat_tests}
 use Rattle.std.proofs.lemmas.Slice.Eq.{bytes_eq-Decides}
-use Rattle.justfile_base.specs.declared.byte_class.ByteClass.{ByteClass}
-use Rattle.justfile_base.specs.declared.byte_class.ByteClass.TheVariants as classes
-use Rattle.justfile_base.specs.declared.token_kind.TokenKind.TheVariants.{Colon, Dedent, Eol, Indent, InterpolationEnd, InterpolationStart, Text, Whitespace}
-use Rattle.justfile_base.specs.ByteClass.{class_of}
-use Rattle.justfile_base.specs.Indentation.{IsIndentation, is_space_or_tab}
-use Rattle.justfile_base.proofs.IndentationLemmas.{all_equal}
+use Rattle.justfile_word.specs.declared.byte_class.ByteClass.{ByteClass}
+use Rattle.justfile_word.specs.declared.byte_class.ByteClass.TheVariants as classes
+use Rattle.justfile_word.specs.declared.token_kind.TokenKind.TheVariants.{Colon, Dedent, Eol, Indent, InterpolationEnd, InterpolationStart, Text, Whitespace}
+use Rattle.justfile_word.specs.ByteClass.{class_of}
+use Rattle.justfile_word.specs.Indentation.{IsIndentation, is_space_or_tab}
+use Rattle.justfile_word.proofs.IndentationLemmas.{all_equal}
 use Rattle.justfile_model.specs.declared.open_delimiter.OpenDelimiter.{OpenDelimiter}
 use Rattle.justfile_model.specs.declared.raw_text.RawText.TheVariants as raw_texts
 use Rattle.justfile_model.specs.Bytes.{blank, white, line_feed, blank_len, is_mixed, closes_levels}

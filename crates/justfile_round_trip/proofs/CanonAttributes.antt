@@ -1,7 +1,7 @@
 -- The printed text of attributes before more, and its tokens before more.
 use Rattle.std.proofs.Common.{◌≡◌, ℕ, List, [], ◌∷◌, ◌++◌, refl, ap, ◌∙◌, append_assoc, codes}
 use Rattle.std.specs.List.{flat_map}
-use Rattle.justfile_base.specs.declared.token_kind.TokenKind.TheVariants as kinds
+use Rattle.justfile_word.specs.declared.token_kind.TokenKind.TheVariants as kinds
 use Rattle.justfile_model.specs.Tree as tree
 use Rattle.justfile_model.specs.Tree.{WrittenAttribute, Positional, Bare, Keyed, Entry}
 use Rattle.justfile_model.specs.Printing.{fixed_text, expr_text, argument_text, arguments_text, parenthesized_arguments, attribute_arguments, entry_text, entries_text}

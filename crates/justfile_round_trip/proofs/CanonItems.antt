@@ -1,7 +1,7 @@
 -- What the printer means by items: their printed text before more, and their tokens before more.
 use Rattle.std.proofs.Common.{◌≡◌, ℕ, List, [], ◌∷◌, ◌++◌, None, refl, ap, ◌∙◌, append_assoc, codes}
 use Rattle.justfile_base.specs.Path.{path_text}
-use Rattle.justfile_base.specs.declared.token_kind.TokenKind.TheVariants as kinds
+use Rattle.justfile_word.specs.declared.token_kind.TokenKind.TheVariants as kinds
 use Rattle.justfile_model.specs.Docs.{doc_of}
 use Rattle.justfile_model.specs.Tree.{AliasParts, AssignmentParts, FunctionParts, ImportParts, ModuleParts, SettingParts, Alias, Assignment, Function, Import, Module, Recipe, Setting, Unexport, Comment, Newline, Construct, Shape, bare_recipe}
 use Rattle.justfile_model.specs.Printing.{fixed_text, expr_text, body_text, doc_line, if_some, if_true, header_text, alias_text, assignment_text, function_text, import_text, module_text, setting_text, names_text, file_path_text, setting_value_text, entries_text, content_text, item_text, item_end, text}

@@ -1,6 +1,6 @@
 -- What items are made of, beside headers: their printed text before more, and their tokens before more.
 use Rattle.std.proofs.Common.{◌≡◌, ℕ, Bool, true, false, List, [], ◌∷◌, ◌++◌, Option, Some, None, refl, codes}
-use Rattle.justfile_base.specs.declared.token_kind.TokenKind.TheVariants as kinds
+use Rattle.justfile_word.specs.declared.token_kind.TokenKind.TheVariants as kinds
 use Rattle.justfile_model.specs.Printing.{fixed_text, if_some, if_true, expr_text, exprs_text, names_text, file_path_text, setting_value_text}
 use Rattle.justfile_model.specs.Tree.{Quoted, SettingValue, Truth, Value, Interpreter}
 use Rattle.justfile_model.specs.Tree as tree

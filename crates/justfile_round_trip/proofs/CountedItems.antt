@@ -6,8 +6,8 @@ use Rattle.justfile_model.specs.AttributeRules.{attributes_broken, of_some}
 use Rattle.justfile_model.specs.Conditions.{VersionNumbers}
 use Rattle.justfile_model.specs.ConstructRules.{construct_broken, form_broken}
 use Rattle.justfile_model.specs.Docs.{Before, documented, redocumented}
-use Rattle.justfile_model.specs.contracts.list_feature.ListFeature.{the_type}
-use Rattle.justfile_model.specs.declared.list_feature.ListFeature.{ListFeature}
+use Rattle.justfile_word.specs.contracts.list_feature.ListFeature.{the_type}
+use Rattle.justfile_word.specs.declared.list_feature.ListFeature.{ListFeature}
 use Rattle.justfile_model.specs.Features.{ConstructFeatures, Noted}
 use Rattle.justfile_model.specs.Files.{all_features, broken, construct_features, item_broken, ordered_item, says_doc, undocumented}
 use Rattle.justfile_model.specs.Files as files

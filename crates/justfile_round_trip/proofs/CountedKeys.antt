@@ -5,8 +5,8 @@ use Rattle.std.specs.List.{filter, find, list_any}
 use Rattle.std.specs.Str.{bytes_eq}
 use Rattle.std.proofs.lemmas.Bool.{or_parts}
 use Rattle.std.proofs.lemmas.Slice.Eq.{bytes_eq-Decides}
-use Rattle.justfile_base.specs.declared.attribute_kind.AttributeKind.{AttributeKind}
-use Rattle.justfile_base.specs.declared.attribute_kind.AttributeKind.TheVariants as kinds
+use Rattle.justfile_word.specs.declared.attribute_kind.AttributeKind.{AttributeKind}
+use Rattle.justfile_word.specs.declared.attribute_kind.AttributeKind.TheVariants as kinds
 use Rattle.justfile_model.specs.AttributeKinds.{known_keys}
 use Rattle.justfile_model.specs.AttributeRules.{of_some, least, repeats_broken, is_known, unknown_broken}
 use Rattle.justfile_model.specs.Literals.{Expansions}

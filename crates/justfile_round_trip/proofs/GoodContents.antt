@@ -1,9 +1,9 @@
 -- What is known of a construct on one line that is printed: each of its lexemes has its fact, and its values derive back.
 use Rattle.std.proofs.Common.{◌≡◌, ℕ, Bool, true, false, ◌&&◌, List, [], ◌∷◌, Option, Some, None, refl, codes}
 use Rattle.std.specs.Str.{IsUtf8}
-use Rattle.justfile_base.specs.Keyword.{keyword_text}
-use Rattle.justfile_base.specs.declared.keyword.Keyword.{Keyword}
-use Rattle.justfile_base.specs.declared.token_kind.TokenKind.TheVariants as kinds
+use Rattle.justfile_word.specs.Keyword.{keyword_text}
+use Rattle.justfile_word.specs.declared.keyword.Keyword.{Keyword}
+use Rattle.justfile_word.specs.declared.token_kind.TokenKind.TheVariants as kinds
 use Rattle.justfile_model.specs.Docs.{doc_of, redocumented}
 use Rattle.justfile_model.specs.Expressions.{Sequence, Under}
 use Rattle.justfile_model.specs.Settings.{ExpressionForm, InterpreterForm, PlainForm, SettingForm, TruthForm, setting_form}

@@ -5,17 +5,17 @@ use Rattle.std.specs.List.{prefix_len, count_by}
 use Rattle.std.proofs.lemmas.List.{append-nil}
 use Rattle.std.specs.Str.{bytes_eq}
 use Rattle.std.proofs.lemmas.Bool.Decides.{nat_tests}
-use Rattle.justfile_base.specs.declared.byte_class.ByteClass.{ByteClass}
-use Rattle.justfile_base.specs.declared.byte_class.ByteClass.TheVariants as classes
+use Rattle.justfile_word.specs.declared.byte_class.ByteClass.{ByteClass}
+use Rattle.justfile_word.specs.declared.byte_class.ByteClass.TheVariants as classes
 use Rattle.justfile_base.specs.declared.delimiter.Delimiter.TheVariants.{FormatString}
 use Rattle.justfile_model.specs.declared.open_delimiter.OpenDelimiter.{OpenDelimiter}
 use Rattle.justfile_base.specs.declared.string_kind.StringDelimiter.{StringDelimiter}
 use Rattle.justfile_base.specs.declared.string_kind.StringDelimiter.TheVariants as delimiters
 use Rattle.justfile_base.specs.declared.string_kind.StringKind.{StringKind}
 use Rattle.justfile_model.specs.declared.raw_text.RawText.TheVariants as raw_texts
-use Rattle.justfile_base.specs.declared.token_kind.TokenKind.{TokenKind}
-use Rattle.justfile_base.specs.declared.token_kind.TokenKind.TheVariants.{Eof, FormatStringContinue, FormatStringEnd, FormatStringStart, Identifier, Whitespace}
-use Rattle.justfile_base.specs.ByteClass.{class_of}
+use Rattle.justfile_word.specs.declared.token_kind.TokenKind.{TokenKind}
+use Rattle.justfile_word.specs.declared.token_kind.TokenKind.TheVariants.{Eof, FormatStringContinue, FormatStringEnd, FormatStringStart, Identifier, Whitespace}
+use Rattle.justfile_word.specs.ByteClass.{class_of}
 use Rattle.justfile_model.specs.Bytes.{blank, in_word, is_interpolation_end, is_interpolation_start}
 use Rattle.justfile_base.specs.StringKind.{delimiter_len, is_quote, kind_of, quote_of, token_kind_of}
 use Rattle.justfile_model.specs.LiteralText.{raw_len}

@@ -1,8 +1,8 @@
 -- The text of good attributes is lexed back.
 use Rattle.std.proofs.Common.{◌≡◌, ℕ, Bool, false, List, [], ◌∷◌, Option, None, refl}
 use Rattle.justfile_base.specs.declared.delimiter.Delimiter.TheVariants.{Bracket, Paren}
-use Rattle.justfile_base.specs.declared.token_kind.TokenKind.TheVariants.{BracketL}
-use Rattle.justfile_base.specs.ByteClass.{class_of}
+use Rattle.justfile_word.specs.declared.token_kind.TokenKind.TheVariants.{BracketL}
+use Rattle.justfile_word.specs.ByteClass.{class_of}
 use Rattle.justfile_model.specs.declared.open_delimiter.OpenDelimiter.{OpenDelimiter}
 use Rattle.justfile_model.specs.Bytes.{blank}
 use Rattle.justfile_model.specs.Modes.{opener}

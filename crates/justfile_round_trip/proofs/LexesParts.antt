@@ -1,7 +1,7 @@
 -- The text of a good construct on one line is lexed back.
 use Rattle.std.proofs.Common.{◌≡◌, ℕ, Bool, true, false, ◌&&◌, eqb, List, [], ◌∷◌, ◌++◌, Option, Some, None, refl, codes}
 use Rattle.justfile_base.specs.declared.delimiter.Delimiter.TheVariants.{Bracket, Paren}
-use Rattle.justfile_base.specs.ByteClass.{class_of}
+use Rattle.justfile_word.specs.ByteClass.{class_of}
 use Rattle.justfile_model.specs.Bytes.{in_word}
 use Rattle.justfile_model.specs.Modes.{opener}
 use Rattle.justfile_model.specs.Settings.{ExpressionForm, InterpreterForm, PlainForm, SettingForm, TruthForm}

@@ -10,14 +10,14 @@ use Rattle.std.proofs.lemmas.Bool.{and_parts}
 use Rattle.std.proofs.lemmas.Bool.Decides.{nat_tests}
 use Rattle.std.proofs.lemmas.Str.{IsUtf8-nil}
 use Rattle.std.proofs.lemmas.List.{append-nil}
-use Rattle.justfile_base.specs.ByteClass.{class_of}
-use Rattle.justfile_base.specs.AttributeKind.{attribute_name, kind_named, takes_keys}
-use Rattle.justfile_base.specs.declared.attribute_kind.AttributeKind.{AttributeKind}
-use Rattle.justfile_base.specs.declared.attribute_kind.AttributeKind.TheVariants as attributes
-use Rattle.justfile_base.specs.declared.byte_class.ByteClass.{ByteClass}
-use Rattle.justfile_base.specs.declared.byte_class.ByteClass.TheVariants as classes
-use Rattle.justfile_base.specs.declared.signal.Signal.{Signal}
-use Rattle.justfile_base.proofs.AttributeKindLaws.{named}
+use Rattle.justfile_word.specs.ByteClass.{class_of}
+use Rattle.justfile_word.specs.AttributeKind.{attribute_name, kind_named, takes_keys}
+use Rattle.justfile_word.specs.declared.attribute_kind.AttributeKind.{AttributeKind}
+use Rattle.justfile_word.specs.declared.attribute_kind.AttributeKind.TheVariants as attributes
+use Rattle.justfile_word.specs.declared.byte_class.ByteClass.{ByteClass}
+use Rattle.justfile_word.specs.declared.byte_class.ByteClass.TheVariants as classes
+use Rattle.justfile_word.specs.declared.signal.Signal.{Signal}
+use Rattle.justfile_word.proofs.AttributeKindLaws.{named}
 use Rattle.justfile_model.specs.AttributeKinds.{named_takes_keys, name_takes_keys, takes_expressions}
 use Rattle.justfile_model.specs.Bytes.{in_word}
 use Rattle.justfile_model.specs.ContentKeys.{kind_of_attribute, entry_cmp}

@@ -9,13 +9,13 @@ use Rattle.std.proofs.lemmas.Bool.Decides.{nat_tests}
 use Rattle.std.proofs.lemmas.Fmt.{decimal_is_IsNumeral}
 use Rattle.std.proofs.lemmas.Str.{IsUtf8-append, IsUtf8-from_ascii}
 use Rattle.std.proofs.lemmas.Str.Parse.{digit_from_value}
-use Rattle.justfile_base.specs.declared.signal.Signal.{Signal}
-use Rattle.justfile_base.specs.declared.signal.Signal.TheVariants.{Hangup, Interrupt, Quit}
+use Rattle.justfile_word.specs.declared.signal.Signal.{Signal}
+use Rattle.justfile_word.specs.declared.signal.Signal.TheVariants.{Hangup, Interrupt, Quit}
 use Rattle.justfile_base.specs.declared.string_kind.StringDelimiter.{StringDelimiter}
 use Rattle.justfile_base.specs.declared.string_kind.StringDelimiter.TheVariants as delimiters
 use Rattle.justfile_base.specs.declared.string_kind.StringKind.{StringKind}
-use Rattle.justfile_base.specs.declared.token_kind.TokenKind.TheVariants as kinds
-use Rattle.justfile_base.specs.Signal.{signal_name}
+use Rattle.justfile_word.specs.declared.token_kind.TokenKind.TheVariants as kinds
+use Rattle.justfile_word.specs.Signal.{signal_name}
 use Rattle.justfile_base.specs.StringKind.{escapes, is_quote, kind_of, quote_of, token_kind_of}
 use Rattle.justfile_model.specs.LiteralText.{pieces_len}
 use Rattle.justfile_model.specs.Printing.{fixed_text, number_literal}

@@ -4,15 +4,15 @@ use Rattle.std.specs.Prelude.{if◌then◌else◌}
 use Rattle.std.specs.Str.{IsUtf8}
 use Rattle.std.proofs.lemmas.List.{length-map}
 use denote.Enum.Bare.{sameb}
-use Rattle.justfile_base.specs.Indentation.{IsIndentation}
+use Rattle.justfile_word.specs.Indentation.{IsIndentation}
 use Rattle.justfile_model.specs.Tok.{Tok}
 use Rattle.justfile_model.specs.Lexed.{Lexed}
 use Rattle.justfile_model.specs.SignificantTokens.{SignificantToken, is_whitespace, significant_from, significant_tokens}
 use Rattle.justfile_model.specs.Tree as tree
 use Rattle.justfile_model.specs.Tree.{Content, Construct, Tree, Shape, over_content, over_parameter, lexeme, nothing, shape_of}
 use Rattle.justfile_model.specs.Grammar as g
-use Rattle.justfile_model.specs.contracts.list_feature.ListFeature.{the_type}
-use Rattle.justfile_model.specs.declared.list_feature.ListFeature.{ListFeature}
+use Rattle.justfile_word.specs.contracts.list_feature.ListFeature.{the_type}
+use Rattle.justfile_word.specs.declared.list_feature.ListFeature.{ListFeature}
 use Rattle.justfile_model.specs.Docs.{Nothing, documented}
 use Rattle.justfile_model.specs.Features.{ConstructFeatures, Noted, over_noted}
 use Rattle.justfile_model.specs.Conditions.{Conditions}

@@ -1,8 +1,8 @@
 -- What is known along the tokens of any text outside bodies, and what items are made of there, beside headers, is good.
 use Rattle.std.proofs.Common.{ℕ, Bool, false, List, ◌∷◌, None, ◌≡◌, refl}
 use Rattle.std.specs.Str.{trim_end}
-use Rattle.justfile_base.specs.declared.token_kind.TokenKind.{TokenKind}
-use Rattle.justfile_base.specs.declared.token_kind.TokenKind.TheVariants as kinds
+use Rattle.justfile_word.specs.declared.token_kind.TokenKind.{TokenKind}
+use Rattle.justfile_word.specs.declared.token_kind.TokenKind.TheVariants as kinds
 use Rattle.justfile_model.specs.Expressions.{Tokens, IsKind, Under, Expression, Sequence}
 use Rattle.justfile_model.specs.Headers as h
 use Rattle.justfile_model.specs.Headers.{PathOf, PathRest}

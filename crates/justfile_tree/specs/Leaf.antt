@@ -4,12 +4,12 @@ use Rattle.std.specs.Option.{option_cmp}
 use Rattle.std.specs.Ordering.{ordering_then, bool_cmp, nat_cmp}
 use Rattle.std.specs.Cmp.Lexicographic.{slice_cmp}
 use Rattle.std.specs.declared.cmp.Ordering.{Ordering}
-use Rattle.justfile_base.specs.declared.number.Number.{Number}
+use Rattle.justfile_word.specs.declared.number.Number.{Number}
 use Rattle.justfile_base.specs.declared.token.Token.{Token}
 use Rattle.justfile_base.specs.declared.string_literal.StringLiteral.{StringLiteral}
-use Rattle.justfile_base.specs.contracts.format_string_part.FormatStringPartOrd.TheImpl as places
+use Rattle.justfile_word.specs.contracts.format_string_part.FormatStringPartOrd.TheImpl as places
 use Rattle.justfile_base.specs.contracts.string_kind.StringDelimiterOrd.TheImpl as delimiters
-use Rattle.justfile_base.specs.contracts.token_kind.TokenKindOrd.TheImpl as kinds
+use Rattle.justfile_word.specs.contracts.token_kind.TokenKindOrd.TheImpl as kinds
 use Rattle.justfile_model.specs.declared.conditional_operator.ConditionalOperator.{ConditionalOperator}
 use Rattle.justfile_model.specs.Key.{Key, leaf}
 use Rattle.justfile_model.specs.contracts.conditional_operator.ConditionalOperatorOrd.TheImpl as operators

@@ -1,7 +1,7 @@
 -- All that the parser's trees hold of expressions, without the places of boxes.
 use Rattle.std.specs.Prelude.{ℕ, Bool, List, [], ◌∷◌, Option, None, string_bytes}
-use Rattle.justfile_base.specs.declared.format_string_part.FormatStringPart.{FormatStringPart}
-use Rattle.justfile_base.specs.declared.number.Number.{Number}
+use Rattle.justfile_word.specs.declared.format_string_part.FormatStringPart.{FormatStringPart}
+use Rattle.justfile_word.specs.declared.number.Number.{Number}
 use Rattle.justfile_base.specs.declared.string_kind.StringKind.{StringKind}
 use Rattle.justfile_base.specs.declared.string_literal.StringLiteral as literals
 use Rattle.justfile_base.specs.declared.token.Token.{Token}

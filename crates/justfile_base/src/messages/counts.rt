@@ -2,11 +2,11 @@
 ghost use Rattle.std.specs.Prelude.{Some, codes};
 ghost use Rattle.std.specs.Fmt.{DisplaysOnOk, ◌++?◌};
 ghost use Rattle.std.specs.Range.{range_inclusive_end, range_inclusive_start};
-ghost use Rattle.justfile_base.specs.Count.{noun_text};
+ghost use Rattle.justfile_word.specs.Count.{noun_text};
 ghost use Rattle.justfile_base.specs.Messages.{arguments_text, range_text, taken_text};
-ghost use Rattle.justfile_base.specs.Text.{◌&◌};
+ghost use Rattle.justfile_word.specs.Text.{◌&◌};
 
-use crate::count::Count;
+use justfile_word::count::Count;
 use std::fmt;
 use std::ops::RangeInclusive;
 

@@ -1,25 +1,25 @@
 //! Messages of more than a value or two.
 ghost use Rattle.std.specs.Prelude.{◌≡◌, Some, codes, string_bytes};
 ghost use Rattle.std.specs.Fmt.{DisplaysOnOk, ◌++?◌};
-ghost use Rattle.justfile_base.specs.AttributeKind.{attribute_name};
+ghost use Rattle.justfile_word.specs.AttributeKind.{attribute_name};
 ghost use Rattle.justfile_base.specs.Delimiter.{close_text, open_text};
-ghost use Rattle.justfile_base.specs.ItemKind.{item_kind_text};
-ghost use Rattle.justfile_base.specs.Keyword.{keyword_text};
+ghost use Rattle.justfile_word.specs.ItemKind.{item_kind_text};
+ghost use Rattle.justfile_word.specs.Keyword.{keyword_text};
 ghost use Rattle.justfile_base.specs.Messages.{duplicate_text, expected_characters, expected_keywords, expected_tokens, found_text, indefinite_text, is_identifier, redefinition_text};
-ghost use Rattle.justfile_base.specs.Shown.{blanks_text, line_text};
-ghost use Rattle.justfile_base.specs.Text.{◌&◌};
-ghost use Rattle.justfile_base.specs.TokenKind.{kind_text};
-ghost use Rattle.justfile_base.specs.Version.{version_text};
+ghost use Rattle.justfile_word.specs.Shown.{blanks_text, line_text};
+ghost use Rattle.justfile_word.specs.Text.{◌&◌};
+ghost use Rattle.justfile_word.specs.TokenKind.{kind_text};
+ghost use Rattle.justfile_word.specs.Version.{version_text};
 
-use crate::attribute_kind::AttributeKind;
 use crate::delimiter::Delimiter;
-use crate::item_kind::ItemKind;
-use crate::keyword::Keyword;
-use crate::list::List;
-use crate::shown::{Blanks, LineNumber};
 use crate::token::Token;
-use crate::token_kind::TokenKind;
-use crate::version::Version;
+use justfile_word::attribute_kind::AttributeKind;
+use justfile_word::item_kind::ItemKind;
+use justfile_word::keyword::Keyword;
+use justfile_word::list::List;
+use justfile_word::shown::{Blanks, LineNumber};
+use justfile_word::token_kind::TokenKind;
+use justfile_word::version::Version;
 use std::fmt;
 
 fn is_identifier(kind: TokenKind) -> bool

@@ -1,6 +1,6 @@
 use Rattle.std.proofs.Common.{◌≡◌, ℕ, List, ◌++◌, map, sym, ap, ◌∙◌, subst, refl}
 use Rattle.std.proofs.lemmas.Simd.{map-map}
-use Rattle.justfile_base.specs.Indentation.{indentation_text}
+use Rattle.justfile_word.specs.Indentation.{indentation_text}
 use Rattle.justfile_model.specs.NormalShape.{normal}
 use Rattle.justfile_model.specs.Printing.{text}
 use Rattle.justfile_model.specs.Tree.{item_shape_of}

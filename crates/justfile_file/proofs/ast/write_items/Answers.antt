@@ -1,5 +1,5 @@
 use Rattle.std.proofs.Common.{arith}
-use Rattle.justfile_base.specs.Indentation.{indentation_text}
+use Rattle.justfile_word.specs.Indentation.{indentation_text}
 use Rattle.justfile_file.specs.Item.{item_shape}
 use Rattle.justfile_file.proofs.Gaps.{took_next, failed_next, gap_next}
 use Rattle.justfile_file.proofs.Loops.{at_err}

@@ -1,5 +1,5 @@
 use Rattle.std.proofs.Common.{◌≡◌, map, take}
-use Rattle.justfile_base.specs.Indentation.{indentation_text}
+use Rattle.justfile_word.specs.Indentation.{indentation_text}
 use Rattle.justfile_file.specs.declared.gap.Gap.TheVariants.{Start}
 use Rattle.justfile_file.specs.Gap.{front_text, last_gap}
 use Rattle.justfile_file.specs.Item.{item_shape}

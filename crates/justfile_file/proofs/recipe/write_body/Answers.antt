@@ -1,5 +1,5 @@
 use Rattle.std.proofs.Common.{arith, ◌++◌, codes}
-use Rattle.justfile_base.specs.Indentation.{indentation_text}
+use Rattle.justfile_word.specs.Indentation.{indentation_text}
 use Rattle.justfile_model.specs.Printing.{fixed_text, line_text, body_text}
 use Rattle.justfile_file.specs.Item.{line_shape, line_shapes}
 use Rattle.justfile_file.proofs.Bodies.{body_parts}

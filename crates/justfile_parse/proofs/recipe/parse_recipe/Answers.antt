@@ -1,7 +1,7 @@
 use Rattle.std.proofs.Common.{◌+◌, ◌≡◌, ◌∙◌, map, rules, subst, sym}
 use Rattle.std.proofs.lemmas.Result.{err_from_is_err_and}
 use Rattle.justfile_attribute_set.specs.AttributeSet.{leaf_entries_of, pairs_of}
-use Rattle.justfile_base.specs.declared.numerator.Numerator.{Numerator}
+use Rattle.justfile_word.specs.declared.numerator.Numerator.{Numerator}
 use Rattle.justfile_model.specs.Reading as reading
 use Rattle.justfile_parse.specs.MethodResults.{IsMoved}
 use Rattle.justfile_parse.specs.Tree.{line_tree}

@@ -1,6 +1,6 @@
 use Rattle.std.proofs.Common.{◌≡◌, List, [], map, Ok, Err, subst, arith}
 use Rattle.std.proofs.lemmas.Result.{err_from_is_err_and}
-use Rattle.justfile_base.specs.declared.token_kind.TokenKind.TheVariants as kinds
+use Rattle.justfile_word.specs.declared.token_kind.TokenKind.TheVariants as kinds
 use Rattle.justfile_header.specs.declared.parameter.Parameter.{Parameter}
 use Rattle.justfile_header.specs.declared.unresolved_dependency.UnresolvedDependency.{UnresolvedDependency}
 use Rattle.justfile_model.specs.HeaderReader.{obeying}

@@ -1,6 +1,6 @@
 use Rattle.std.proofs.Common.{◌≡◌, ◌∙◌, List, map, None, refl, ap, arith}
 use Rattle.std.proofs.lemmas.Result.{err_from_is_err_and}
-use Rattle.justfile_base.specs.declared.token_kind.TokenKind.TheVariants as kinds
+use Rattle.justfile_word.specs.declared.token_kind.TokenKind.TheVariants as kinds
 use Rattle.justfile_header.specs.declared.parameter.Parameter.{Parameter}
 use Rattle.justfile_model.specs.HeaderReader.{obeying}
 use Rattle.justfile_model.specs.Reading.{NoNumber}

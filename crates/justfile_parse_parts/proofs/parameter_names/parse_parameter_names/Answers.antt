@@ -1,7 +1,7 @@
 use Rattle.std.proofs.Common.{◌≡◌, ◌∙◌, Bool, true, false, List, arith, ap, subst, sym, Ok}
 use Rattle.std.proofs.lemmas.Result.{err_from_is_err_and}
 use Rattle.justfile_base.specs.declared.name.Name.{Name}
-use Rattle.justfile_base.specs.declared.number.Number.{Number}
+use Rattle.justfile_word.specs.declared.number.Number.{Number}
 use Rattle.justfile_model.specs.Reading.{NoNumber}
 use Rattle.justfile_parse_expression.specs.View.{state_of}
 use Rattle.justfile_parse_header.specs.Counting.{counters_of}

@@ -1,5 +1,5 @@
 use Rattle.std.proofs.Common.{sym, subst}
-use Rattle.justfile_base.specs.declared.keyword.Keyword.{Keyword}
+use Rattle.justfile_word.specs.declared.keyword.Keyword.{Keyword}
 use Rattle.justfile_model.specs.Versions.{version_numbers}
 use Rattle.justfile_parse_attribute.specs.Halting.{ReadsRuled}
 use Rattle.justfile_parse_parts.specs.PartTable.{literal_made}

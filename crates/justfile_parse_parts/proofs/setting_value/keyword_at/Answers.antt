@@ -1,6 +1,6 @@
 use Rattle.std.proofs.Common.{◌∙◌, List, ℕ, Option, None, sym, ap, subst}
-use Rattle.justfile_base.specs.Keyword.{keyword_named}
-use Rattle.justfile_base.specs.declared.keyword.Keyword.{Keyword}
+use Rattle.justfile_word.specs.Keyword.{keyword_named}
+use Rattle.justfile_word.specs.declared.keyword.Keyword.{Keyword}
 use Rattle.justfile_model.specs.Reading.{UnknownSetting}
 use Rattle.justfile_parse_attribute.specs.Halting.{HaltsAt}
 use Rattle.justfile_parse_expression.specs.TableReader.{Read, State}

@@ -1,5 +1,5 @@
 use Rattle.std.proofs.Common.{rules, ◌≡◌, ◌∙◌, sym, true, false}
-use Rattle.justfile_base.specs.Keyword.{keyword_text}
+use Rattle.justfile_word.specs.Keyword.{keyword_text}
 use Rattle.justfile_parse_expression.specs.View.{state_of}
 use Rattle.justfile_parse_parts.proofs.Followed.{no_word, not_followed, taken}
 use Rattle.justfile_parse_parts.proofs.words.accept_before.Goals as goal

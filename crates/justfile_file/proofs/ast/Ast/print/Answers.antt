@@ -1,6 +1,6 @@
 use Rattle.std.proofs.Common.{◌++◌, ◌∙◌, ap}
-use Rattle.justfile_base.specs.Indentation.{indentation_text}
-use Rattle.justfile_base.proofs.IndentationLemmas.{indentation_text_is}
+use Rattle.justfile_word.specs.Indentation.{indentation_text}
+use Rattle.justfile_word.proofs.IndentationLemmas.{indentation_text_is}
 use Rattle.justfile_round_trip.specs.RoundTrip.{printed}
 use Rattle.justfile_file.specs.Ast.{ast_shape}
 use Rattle.justfile_file.proofs.PrintedBack.{prints_back}

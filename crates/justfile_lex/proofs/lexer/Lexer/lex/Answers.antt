@@ -1,7 +1,7 @@
 use Rattle.std.proofs.Common.{◌≢◌, sym, ap, subst, ◌∙◌, rules, drop, drop-drop}
 use Rattle.std.specs.Str.{IsUtf8}
 use Rattle.std.proofs.lemmas.Str.{IsCharBoundary-from_rest}
-use Rattle.justfile_base.specs.declared.token_kind.TokenKind.TheVariants.{Eof}
+use Rattle.justfile_word.specs.declared.token_kind.TokenKind.TheVariants.{Eof}
 use Rattle.justfile_model.specs.Tok.{tok_of}
 use Rattle.justfile_model.specs.LexicalFault.{UnterminatedInterpolation, lexical_fault_of}
 use Rattle.justfile_model.specs.Next.{next}

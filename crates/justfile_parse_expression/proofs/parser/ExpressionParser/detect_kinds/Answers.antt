@@ -1,5 +1,5 @@
 use Rattle.std.proofs.Common.{sym, ◌∙◌, arith}
-use Rattle.justfile_base.specs.declared.token_kind.TokenKind.TheVariants as kinds
+use Rattle.justfile_word.specs.declared.token_kind.TokenKind.TheVariants as kinds
 use Rattle.justfile_model.specs.Reading.{same_kind}
 use Rattle.justfile_parse_expression.specs.View.{left, run_of, state_of}
 use Rattle.justfile_parse_expression.proofs.NextKinds.{are_all, are_ended, are_go_on, are_other, are_within, left_are}
