@@ -1,3 +1,2 @@
-mod ExcerptLemmas
 mod TokenStart
 pub mod PathLemmas

@@ -1,17 +1,14 @@
 -- The messages of refusals.
-use Rattle.std.specs.Prelude.{ℕ, Bool, true, false, List, [], ◌∷◌, ◌^◌, ◌-◌, codes, encode_utf8, length, map, nat_lt, string_bytes, if◌then◌else◌, ◌==◌}
-use Rattle.std.specs.Borrow.{Bor}
-use Rattle.std.specs.List.{flat_map}
-use Rattle.std.specs.Fmt.{decimal}
+use Rattle.std.specs.Prelude.{ℕ, Bool, true, false, List, codes, decimal, encode_utf8, string_bytes, if◌then◌else◌}
 use Rattle.std.specs.Range.{range_inclusive_start, range_inclusive_end}
 use Rattle.justfile_word.specs.Text.{◌&◌}
 use Rattle.justfile_word.specs.AttributeKind.{attribute_name}
-use Rattle.justfile_word.specs.Count.{noun_text, numbered_text}
+use Rattle.justfile_word.specs.Count.{noun_text}
 use Rattle.justfile_base.specs.Delimiter.{open_text, close_text}
-use Rattle.justfile_word.specs.ItemKind.{item_kind_article, item_kind_text}
+use Rattle.justfile_word.specs.ItemKind.{item_kind_text}
 use Rattle.justfile_word.specs.Keyword.{keyword_text}
-use Rattle.justfile_word.specs.List.{or_text, ticked_text}
 use Rattle.justfile_word.specs.ListFeature.{feature_text}
+use Rattle.justfile_message.specs.Parts.{arguments_text, duplicate_text, expected_characters, expected_keywords, expected_tokens, range_text, recipe_circle_text, redefinition_text, taken_text, variable_circle_text}
 use Rattle.justfile_base.specs.Name.{name_text}
 use Rattle.justfile_base.specs.Namepath.{namepath_text}
 use Rattle.justfile_word.specs.Shown.{blanks_text, escaped_text, line_text, start_text}
@@ -20,48 +17,12 @@ use Rattle.justfile_word.specs.Switch.{switch_text}
 use Rattle.justfile_base.specs.Token.{lexeme_of}
 use Rattle.justfile_word.specs.TokenKind.{kind_text}
 use Rattle.justfile_word.specs.Version.{version_text}
-use Rattle.justfile_word.specs.contracts.item_kind.ItemKindPartialEq.TheImpl as item_kinds
 use Rattle.justfile_base.specs.declared.compile_error.CompileError.{CompileError}
 use Rattle.justfile_base.specs.declared.compile_error_kind.CompileErrorKind.{CompileErrorKind}
 use Rattle.justfile_base.specs.declared.compile_error_kind.CompileErrorKind.TheVariants as kinds
-use Rattle.justfile_word.specs.declared.item_kind.ItemKind.{ItemKind}
-use Rattle.justfile_word.specs.declared.keyword.Keyword.{Keyword}
 use Rattle.justfile_base.specs.declared.token.Token.{Token}
 use Rattle.justfile_word.specs.declared.token_kind.TokenKind.{TokenKind}
 use Rattle.justfile_word.specs.declared.token_kind.TokenKind.TheVariants.{Identifier}
-
-abbrev pub arguments_text : ℕ → List ℕ
-arguments_text count = numbered_text (codes "argument") count
-
--- how many arguments are taken, where so many were given
-abbrev pub taken_text : ℕ → ℕ → ℕ → List ℕ
-taken_text found min max = if min == max then arguments_text min
-    else (if nat_lt found min then codes "at least " & arguments_text min else codes "at most " & arguments_text max)
-
--- any number from the first to the second; the greatest number is no bound
-abbrev pub range_text : ℕ → ℕ → List ℕ
-range_text least most = if least == most then decimal least
-    else (if most == 2 ^ 64 - 1 then decimal least & codes " or more" else decimal least & codes " to " & decimal most)
-
-abbrev pub arrow_name : Bor (List ℕ) → List ℕ
-arrow_name name = codes " -> " & name.now
-
--- the names with an arrow between each two
-abbrev pub circle_text : List (Bor (List ℕ)) → List ℕ
-circle_text [] = []
-circle_text (first ∷ rest) = first.now & flat_map arrow_name rest
-
--- a recipe that needs itself: at once, or along others
-abbrev pub recipe_circle_text : List ℕ → List (Bor (List ℕ)) → List ℕ
-recipe_circle_text recipe circle = if length circle == 2
-    then codes "recipe `" & recipe & codes "` depends on itself"
-    else codes "recipe `" & recipe & codes "` has circular dependency `" & circle_text circle & codes "`"
-
--- a variable that is defined by itself: at once, or along others
-abbrev pub variable_circle_text : List ℕ → List (Bor (List ℕ)) → List ℕ
-variable_circle_text variable circle = if length circle == 2
-    then codes "variable `" & variable & codes "` is defined in terms of itself"
-    else codes "variable `" & variable & codes "` depends on its own value: `" & circle_text circle & codes "`"
 
 abbrev pub is_identifier : TokenKind → Bool
 is_identifier Identifier = true
@@ -70,32 +31,6 @@ is_identifier _ = false
 -- a token that stands where a keyword should: what it is, and an identifier by its text
 abbrev pub found_text : Token → List ℕ
 found_text token = if is_identifier token.kind then codes "identifier `" & lexeme_of token & codes "`" else codes "`" & kind_text token.kind & codes "`"
-
-abbrev pub expected_keywords : List Keyword → List ℕ
-expected_keywords expected = or_text (map (λ keyword. ticked_text (keyword_text keyword)) expected)
-
-abbrev pub expected_characters : List ℕ → List ℕ
-expected_characters expected = or_text (map (λ character. ticked_text (encode_utf8 character)) expected)
-
-abbrev pub expected_tokens : List TokenKind → List ℕ
-expected_tokens expected = or_text (map kind_text expected)
-
--- a kind of items, with its article
-abbrev pub indefinite_text : ItemKind → List ℕ
-indefinite_text kind = item_kind_article kind & codes " " & item_kind_text kind
-
--- an item of a name that an earlier one has
-abbrev pub redefinition_text : ItemKind → List ℕ → ℕ → ItemKind → ℕ → List ℕ
-redefinition_text first_type name first second_type line =
-    if item_kinds.eq-value.it first_type second_type
-    then item_kind_text first_type & codes " `" & name & codes "` first defined on line " & line_text first
-    & codes " is redefined on line " & line_text line
-    else item_kind_text first_type & codes " `" & name & codes "` defined on line " & line_text first
-    & codes " is redefined as " & indefinite_text second_type & codes " on line " & line_text line
-
--- what stands on the first line is there again on the second
-abbrev pub duplicate_text : ℕ → ℕ → List ℕ
-duplicate_text first line = codes " first used on line " & line_text first & codes " is duplicated on line " & line_text line
 
 -- the message of a kind of refusal at a token of this line
 abbrev pub kind_message : ℕ → CompileErrorKind → List ℕ

@@ -3,19 +3,18 @@ ghost use Rattle.std.specs.Prelude.{Some};
 ghost use Rattle.std.specs.Fmt.{DisplaysOnOk};
 ghost use Rattle.justfile_base.specs.Messages.{kind_message};
 
-mod circles;
-mod counts;
-mod parts;
+mod tokens;
 
 use crate::compile_error::CompileError;
 use crate::compile_error_kind::CompileErrorKind;
-use crate::messages::circles::{write_recipe_circle, write_variable_circle};
-use crate::messages::counts::{write_count_mismatch, write_extraneous, write_function_mismatch};
-use crate::messages::parts::{
+use crate::messages::tokens::{write_expected_keyword, write_mismatched};
+use justfile_message::circles::{write_recipe_circle, write_variable_circle};
+use justfile_message::counts::{write_count_mismatch, write_extraneous, write_function_mismatch};
+use justfile_message::parts::{
     write_around, write_both, write_duplicate, write_duplicate_set, write_expected_character,
-    write_expected_end, write_expected_keyword, write_incompatible, write_inconsistent,
-    write_invalid_attribute, write_invalid_version, write_minimum_version, write_mismatched,
-    write_mixed, write_redefinition, write_unexpected_token,
+    write_expected_end, write_incompatible, write_inconsistent, write_invalid_attribute,
+    write_invalid_version, write_minimum_version, write_mixed, write_redefinition,
+    write_unexpected_token,
 };
 use justfile_word::shown::{Escaped, Start};
 use std::fmt;

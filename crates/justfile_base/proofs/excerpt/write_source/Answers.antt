@@ -1,7 +1,8 @@
 use Rattle.std.proofs.Common.{◌++◌, codes, refl, sym, ap, ◌∙◌, append_assoc}
 use Rattle.std.specs.Char.{encode_utf8}
 use Rattle.std.proofs.Output.{has_written_append, has_written_of_eq}
-use Rattle.justfile_base.specs.Excerpt.{bar, line_at, number_text, shown_line}
+use Rattle.justfile_base.specs.Excerpt.{bar, number_text}
+use Rattle.justfile_message.specs.Columns.{line_at, shown_line}
 use Rattle.justfile_base.proofs.excerpt.write_source.Goals as goal
 
 pub returns : goal.returns

@@ -1,0 +1,87 @@
+-- What the loops over a line's characters have so far.
+use Rattle.std.proofs.Common.{◌≡◌, ℕ, zero, suc, ◌+◌, ◌<◌, ◌≤◌, ◌^◌, ◌/◌, ◌%◌, max, if◌then◌else◌, Bool, true, List, [], ◌∷◌, ◌++◌, Option, Some, None, unwrap_or, IsUtf8, length, take, drop, get_or, sym, ap, subst, ◌∙◌, arith, append_assoc, append-nil, length-append, zero-add, suc-add}
+use Rattle.std.specs.Prelude.{chars, filter, sum_by}
+use Rattle.std.specs.Borrow.{Bor}
+use Rattle.std.specs.Option.{option_map}
+use Rattle.std.specs.List.{repeat}
+use Rattle.std.specs.Fmt.{IsDefaultSpec, IsPlainFormatter, HasWritten, HasWrittenStyled, decimal}
+use Rattle.std.specs.Str.Iter.{char_indices_rest, char_indices_offset, char_indices_steps}
+use Rattle.std.specs.declared.fmt.Formatter.{Formatter}
+use Rattle.std.proofs.lemmas.Fmt.{decimal_step_wide}
+use Rattle.std.proofs.lemmas.Iterator.{YieldsList}
+use Rattle.std.proofs.lemmas.Iterator.Splits.{YieldsList-from_shown_while}
+use Rattle.std.proofs.lemmas.List.{nil_from_length, take-append-drop, take_more}
+use Rattle.std.proofs.lemmas.List.Elements.{filter-append}
+use Rattle.std.proofs.lemmas.List.Sums.{sum_by-append}
+use Rattle.std.proofs.lemmas.Str.{IsUtf8-past_char, chars_past_char, chars-nil}
+use Rattle.justfile_message.specs.Columns.{is_among, placed_from, width_among, width_of}
+
+-- the text behind an optional reference, or that of the other one where it is empty
+pub now-unwrap_or : (o : Option (Bor (List ℕ))) (other : Bor (List ℕ)) (text : Option (List ℕ))
+    → option_map (λ r. r.now) o ≡ text → other.now ≡ [] → (unwrap_or o other).now ≡ unwrap_or text []
+now-unwrap_or None other text same empty = empty ∙ ap (λ t. unwrap_or t []) same
+now-unwrap_or (Some r) other text same empty = ap (λ t. unwrap_or t []) same
+
+-- the characters of a line come with their places
+pub YieldsList-from_char_indices : {s : _} (line : List ℕ) → IsUtf8 line → char_indices_rest s ≡ line → char_indices_offset s ≡ 0
+    → YieldsList char_indices_steps (λ p. p) s (placed_from 0 (chars line))
+YieldsList-from_char_indices {s} line utf8 rest offset =
+    subst (YieldsList char_indices_steps (λ p. p) s) (λ i. placed_from (offset i) (chars (rest i)))
+    (YieldsList-from_shown_while char_indices_steps (λ p. p) (λ t. placed_from (char_indices_offset t) (chars (char_indices_rest t))) (λ t. IsUtf8 (char_indices_rest t))
+    (λ t u h step. ap (λ bs. length (placed_from (char_indices_offset t) (chars bs))) (nil_from_length _ step.0) ∙ ap (λ cs. length (placed_from (char_indices_offset t) cs)) chars-nil)
+    (λ t p u h step. (
+      IsUtf8-past_char _ _ _ h step.1,
+      ap (placed_from (char_indices_offset t)) (chars_past_char _ _ _ h step.1)
+          ∙ (λ i. (sym step.0 i, p.1) ∷ placed_from (sym step.2 i) (chars (char_indices_rest u))),
+    ))
+    s (subst IsUtf8 (sym rest) utf8))
+
+pub repeat-add : {A : Type 0} (m n : ℕ) (xs : List A) → repeat (m + n) xs ≡ repeat m xs ++ repeat n xs
+repeat-add zero n xs = ap (λ k. repeat k xs) (zero-add n)
+repeat-add (suc m) n xs = ap (λ k. repeat k xs) (suc-add m n) ∙ ap (λ ys. xs ++ ys) (repeat-add m n xs) ∙ sym (append_assoc xs (repeat m xs) (repeat n xs))
+
+pub width_among-append : (start count : ℕ) (xs ys : List (ℕ × ℕ)) → width_among start count (xs ++ ys) ≡ width_among start count xs + width_among start count ys
+width_among-append start count xs ys =
+    ap (sum_by (λ p. width_of p.1)) (filter-append (λ p. is_among start count p.0) xs ys)
+    ∙ sum_by-append (λ p. width_of p.1) (filter (λ p. is_among start count p.0) xs) (filter (λ p. is_among start count p.0) ys)
+
+-- one character counts where its place is among those of interest
+pub width_among-in : (start count : ℕ) (p : ℕ × ℕ) → is_among start count p.0 ≡ true → width_among start count (p ∷ []) ≡ width_of p.1
+width_among-in start count p inside = ap (λ (b : Bool). sum_by (λ (q : ℕ × ℕ). width_of q.1) (if b then p ∷ [] else [])) inside ∙ zero-add (width_of p.1)
+
+-- with one more character
+pub width_among-push_in : (start count : ℕ) (xs : List (ℕ × ℕ)) (p : ℕ × ℕ) → is_among start count p.0 ≡ true
+    → width_among start count (xs ++ p ∷ []) ≡ width_among start count xs + width_of p.1
+width_among-push_in start count xs p inside =
+    width_among-append start count xs (p ∷ []) ∙ ap (λ n. width_among start count xs + n) (width_among-in start count p inside)
+
+-- the first characters take no more columns than all
+pub width_among-front : (start count : ℕ) (all xs : List (ℕ × ℕ)) (p : ℕ × ℕ) → xs ≡ take (length xs) all → (length xs < length all) × (p ≡ get_or all (length xs) p)
+    → width_among start count (xs ++ p ∷ []) ≤ width_among start count all
+width_among-front start count all xs p front turn =
+    let n = length xs in
+    let pushed : take (n + 1) all ≡ xs ++ p ∷ [] =
+    take_more all n p turn.0 ∙ (λ i. sym front i ++ sym turn.1 i ∷ []) in
+    let whole : width_among start count all ≡ width_among start count (take (n + 1) all) + width_among start count (drop (n + 1) all) =
+    ap (width_among start count) (sym (take-append-drop (n + 1) all)) ∙ width_among-append start count (take (n + 1) all) (drop (n + 1) all) in
+    let same = ap (width_among start count) pushed in
+    omega (arith, whole, same)
+
+-- at least one caret
+pub repeat-max : {A : Type 0} (n : ℕ) (xs : List A) → 0 < n → repeat (max 1 n) xs ≡ repeat n xs
+repeat-max n xs some = let same : max 1 n ≡ n = omega arith in ap (λ k. repeat k xs) same
+
+pub repeat-max_none : {A : Type 0} (n : ℕ) (xs : List A) → ¬ (0 < n) → repeat (max 1 n) xs ≡ xs
+repeat-max_none n xs none = let one : max 1 n ≡ 1 = omega arith in ap (λ k. repeat k xs) one ∙ append-nil xs
+
+-- a number of two digits or more has one digit more than its tenth
+pub length-decimal_step : (n : ℕ) → 10 ≤ n → n < 10 ^ 64 → length (decimal n) ≡ length (decimal (n / 10)) + 1
+length-decimal_step n more fits = ap length (decimal_step_wide n more fits) ∙ length-append (decimal (n / 10)) ((48 + n % 10) ∷ [])
+
+-- what is written whatever the options of the formatter are is written by a plain one
+module _ {W : Type 0} (took : W → List ℕ → W → Type 0) where
+  pub has_written_from_styled : (f g : Formatter W) (text : List ℕ) → IsPlainFormatter f → HasWrittenStyled took f text g → HasWritten took f text g
+  has_written_from_styled f g text plain written = record {
+    wrote = written.wrote;
+    plain = record { bare = subst IsDefaultSpec (sym written.spec) plain.bare; flush = written.flush };
+  }
