@@ -1,10 +1,12 @@
 -- What the program makes of a justfile.
-use Rattle.std.specs.Prelude.{◌≡◌, ◌≢◌, ℕ, true, false, List, Option, Some, None, Ok, IfSome, codes}
+use Rattle.std.specs.Prelude.{◌≡◌, ◌≢◌, ◌⊎◌, ℕ, true, false, List, Option, Some, None, Ok, IfSome, codes}
 use Rattle.std.specs.Str.{IsUtf8}
 use Rattle.std.specs.Io.KnownBytes.{Appends}
 use Rattle.justfile_word.specs.Indentation.{indentation_text}
 use Rattle.justfile_word.specs.declared.indentation.Indentation.{Indentation}
+use Rattle.justfile_base.specs.declared.compile_error.CompileError.{CompileError}
 use Rattle.justfile_base.specs.declared.string_literal.StringLiteral.{StringLiteral}
+use Rattle.justfile_model.specs.Answers.{IsFrom, IsLexicalError}
 use Rattle.justfile_model.specs.Conditions.{Conditions}
 use Rattle.justfile_model.specs.Enabled.{indentation_of}
 use Rattle.justfile_model.specs.Features.{Noted}
@@ -18,6 +20,8 @@ use Rattle.justfile_file.specs.Indented.{items_indentation}
 use Rattle.justfile_file.specs.declared.ast.Ast.{Ast}
 use Rattle.justfile_round_trip.specs.RoundTrip.{TextDerives, printed}
 use Rattle.justfile_parse_expression.specs.Conditions.{depth_limit}
+use Rattle.justfile_parse.specs.Parsing.{IsTextRefused}
+use Rattle.justfile_format.specs.Failure.{error_text}
 
 -- the expander that leaves each text as it is
 abbrev pub unchanged : Expansions
@@ -46,6 +50,14 @@ pub record IsFormatted (source canonical : List ℕ) : Type 0 where
 pub record IsRefusedText (source : List ℕ) : Type 0 where
   pub utf8 : IsUtf8 source
   pub derives_none : (tree : Tree) (features : List (Noted Tok)) → TextDerives conditions source tree features → ⊥
+
+-- the text is no justfile, and these lines tell for which error: a fault of lexing, or that of the refusal of its tokens, at a part of it
+pub record IsRefusal (source lines : List ℕ) : Type 0 where
+  pub refused : IsRefusedText source
+  pub error : CompileError
+  pub from : IsFrom (codes "justfile") source error.token
+  pub cause : IsLexicalError (codes "justfile") source error ⊎ IsTextRefused conditions source error
+  pub is : lines ≡ error_text error
 
 -- the text is a justfile, and a line of a body ends in a carriage return
 pub record IsUnprintable (source : List ℕ) : Type 0 where

@@ -1,11 +1,11 @@
 ghost use Rattle.std.specs.Prelude.{◌≡◌};
-ghost use Rattle.justfile_format.specs.Failure.{status_of};
+ghost use Rattle.justfile_format.specs.Failure.{failure_text, status_of};
 
 use std::alloc::{AllocError, AllocFailed};
 use std::io::Write;
 
 /// Why nothing was formatted.
-#[derive(Clone, Copy, Debug, PartialEq, Eq)]
+#[derive(Debug, Drop)]
 pub enum Failure {
     /// The arguments are not those that the program takes.
     Usage,
@@ -13,8 +13,8 @@ pub enum Failure {
     Reading,
     /// What was read is not UTF-8.
     NotUtf8,
-    /// The text is no justfile.
-    Refused,
+    /// The text is no justfile, as these lines tell.
+    Refused(String),
     /// The printed text would not parse back.
     NotPrintable,
     /// Standard output could not be written.
@@ -47,22 +47,24 @@ impl<T: Drop> From<AllocFailed<T>> for Failure {
 
 impl Failure {
     /// The exit status: 2 for a text that can't be formatted, else 3.
-    pub fn status(self) -> u8
-        ensures { result ≡ status_of self }
+    pub fn status(&self) -> u8
+        ensures { result ≡ status_of self.now }
     {
         match self {
-            Failure::Refused | Failure::NotPrintable => 2,
+            Failure::Refused(_) | Failure::NotPrintable => 2,
             _ => 3,
         }
     }
 
-    /// The line for standard error.
-    fn message(self) -> &'static str {
+    /// The lines for standard error.
+    fn message(&self) -> &str
+        ensures { result.now ≡ failure_text self.now }
+    {
         match self {
             Failure::Usage => "usage: justfmt [--check]\n",
             Failure::Reading => "error: reading failed\n",
             Failure::NotUtf8 => "error: input is not UTF-8\n",
-            Failure::Refused => "error: refused\n",
+            Failure::Refused(lines) => lines.as_str(),
             Failure::NotPrintable => "error: a body line ends in a carriage return\n",
             Failure::Writing => "error: writing failed\n",
             Failure::Memory => "error: out of memory\n",
@@ -71,9 +73,9 @@ impl Failure {
     }
 }
 
-/// Writes the failure's line, and answers its status. A line that can't be written is let go.
-pub fn report<E: Write>(failure: Failure, errors: &mut E) -> u8
-    ensures { result ≡ status_of failure }
+/// Writes the failure's lines, and answers its status. What can't be written is let go.
+pub fn report<E: Write>(failure: &Failure, errors: &mut E) -> u8
+    ensures { result ≡ status_of failure.now }
 {
     let _ = errors.write_all(failure.message().as_bytes());
     failure.status()

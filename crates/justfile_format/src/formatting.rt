@@ -1,7 +1,7 @@
 ghost use Rattle.std.specs.Prelude.{◌≡◌, Err, IfErr, IfOk, false, string_bytes};
 ghost use Rattle.justfile_format.specs.declared.failure.Failure.TheVariants as failures;
-ghost use Rattle.justfile_format.specs.Failure.{IsOfText};
-ghost use Rattle.justfile_format.specs.Formatting.{IsFileOf, IsFormatted, IsIndented, IsIndentedBy, IsPrinted, IsRefusedText, IsUnprintable};
+ghost use Rattle.justfile_format.specs.Failure.{IfRefused, IsOfText, IsRefusalFor};
+ghost use Rattle.justfile_format.specs.Formatting.{IsFileOf, IsFormatted, IsIndented, IsIndentedBy, IsPrinted, IsRefusal, IsUnprintable};
 ghost use Rattle.justfile_word.specs.Indentation.{indentation_text};
 ghost use Rattle.justfile_file.specs.Ast.{ast_shape, tree_of};
 ghost use Rattle.justfile_model.specs.Enabled.{indentation_of};
@@ -10,6 +10,7 @@ ghost use Rattle.justfile_model.specs.Printing.{printable};
 use crate::failure::Failure;
 use crate::unchanged::Unchanged;
 use justfile_syntax::ast::Ast;
+use justfile_syntax::compile_error::CompileError;
 use justfile_syntax::fault::Fault;
 use justfile_syntax::indentation::Indentation;
 use justfile_syntax::numerator::Numerator;
@@ -26,11 +27,21 @@ const CURRENT: Version = Version {
     patch: 0,
 };
 
+/// The failure that tells of an error: what it says, and the line on which it stands.
+fn refusal(alloc: Global, error: &CompileError<'_>) -> Failure
+    ensures { IsRefusalFor error.now result }
+{
+    match format!(in alloc; "error: {error}\n{}\n", error.token) {
+        Ok(lines) => Failure::Refused(lines),
+        Err(_) => Failure::Memory,
+    }
+}
+
 /// Parses a text as the root file `justfile`.
 #[tactic(auto, using(crate::proofs::Indented::file_of))]
 fn parse(alloc: Global, source: &str) -> Result<Ast<'_>, Failure>
     ensures ok { IfOk result (IsFileOf source.now) }
-    ensures refused { result ≡ Err failures.Refused → IsRefusedText source.now }
+    ensures refused { IfErr result (IfRefused (IsRefusal source.now)) }
     ensures printable { result ≡ Err failures.NotPrintable → ⊥ }
     ensures err { IfErr result IsOfText }
 {
@@ -51,7 +62,7 @@ fn parse(alloc: Global, source: &str) -> Result<Ast<'_>, Failure>
         CURRENT,
     ) {
         Ok(ast) => Ok(ast),
-        Err(Fault::Compile(_)) => Err(Failure::Refused),
+        Err(Fault::Compile(error)) => Err(refusal(alloc, &error)),
         Err(Fault::Memory) => Err(Failure::Memory),
         Err(Fault::Numbers) => Err(Failure::Numbers),
     }
@@ -73,7 +84,7 @@ fn indentation_for(ast: &Ast<'_>) -> Indentation
 fn print(alloc: Global, ast: &mut Ast<'_>) -> Result<String, Failure>
     requires { IsIndented ast.old }
     ensures ok { IfOk result (λ text. IsPrinted ast.old (string_bytes text)) }
-    ensures refused { result ≡ Err failures.Refused → ⊥ }
+    ensures refused { IfErr result (IfRefused (λ _. ⊥)) }
     ensures unprintable { result ≡ Err failures.NotPrintable → printable (ast_shape ast.old) ≡ false }
     ensures err { IfErr result IsOfText }
 {
@@ -89,7 +100,7 @@ fn print(alloc: Global, ast: &mut Ast<'_>) -> Result<String, Failure>
 /// the time.
 pub fn format_text(alloc: Global, source: &str) -> Result<String, Failure>
     ensures ok { IfOk result (λ text. IsFormatted source.now (string_bytes text)) }
-    ensures refused { result ≡ Err failures.Refused → IsRefusedText source.now }
+    ensures refused { IfErr result (IfRefused (IsRefusal source.now)) }
     ensures unprintable { result ≡ Err failures.NotPrintable → IsUnprintable source.now }
     ensures err { IfErr result IsOfText }
 {

@@ -3,8 +3,8 @@ ghost use Rattle.std.specs.Io.KnownBytes.{Appends, IsAtEnd};
 ghost use Rattle.std.specs.Str.{IsUtf8};
 ghost use Rattle.justfile_format.specs.declared.failure.Failure.TheVariants as failures;
 ghost use Rattle.justfile_format.specs.Arguments.{AsksCheck, AsksFormat};
-ghost use Rattle.justfile_format.specs.Failure.{IsOfReading};
-ghost use Rattle.justfile_format.specs.Formatting.{IsFormatted, IsRefusedText, IsUnprintable, Formats, Differs, HasNone};
+ghost use Rattle.justfile_format.specs.Failure.{IfRefused, IsOfReading};
+ghost use Rattle.justfile_format.specs.Formatting.{IsFormatted, IsRefusal, IsUnprintable, Formats, Differs, HasNone};
 
 use crate::failure::{Failure, report};
 use crate::formatting::format_text;
@@ -85,12 +85,12 @@ fn write_all<W: Write>(text: &str, writer: &mut W) -> Result<(), Failure>
 fn format<R: Read, W: Write>(alloc: Global, reader: &mut R, writer: &mut W) -> Result<(), Failure>
     ensures ok { OnOk result (IfSome (R.remaining reader.old)
         (λ source. Formats source (W.contents writer.old) (W.contents writer.new))) }
-    ensures refused { result ≡ Err failures.Refused → IfSome (R.remaining reader.old) IsRefusedText }
+    ensures refused { IfErr result (IfRefused (λ lines. IfSome (R.remaining reader.old) (λ source. IsRefusal source lines))) }
     ensures unprintable { result ≡ Err failures.NotPrintable → IfSome (R.remaining reader.old) IsUnprintable }
     ensures not_utf8 { result ≡ Err failures.NotUtf8 → IfSome (R.remaining reader.old) (λ source. ¬ IsUtf8 source) }
     ensures unread_writes_nothing { ¬ IsAtEnd (R.remaining reader.new) → writer.new ≡ writer.old }
     ensures not_utf8_writes_nothing { IfSome (R.remaining reader.old) (λ source. ¬ IsUtf8 source → writer.new ≡ writer.old) }
-    ensures writes_nothing { result ≡ Err failures.Refused → writer.new ≡ writer.old }
+    ensures writes_nothing { IfErr result (IfRefused (λ _. writer.new ≡ writer.old)) }
     ensures prints_nothing { result ≡ Err failures.NotPrintable → writer.new ≡ writer.old }
     ensures err { IfErr result (λ e. e ≢ failures.Usage) }
 {
@@ -104,7 +104,7 @@ fn format<R: Read, W: Write>(alloc: Global, reader: &mut R, writer: &mut W) -> R
 fn check<R: Read>(alloc: Global, reader: &mut R) -> Result<bool, Failure>
     ensures same { result ≡ Ok true → IfSome (R.remaining reader.old) (λ source. IsFormatted source source) }
     ensures differs { result ≡ Ok false → IfSome (R.remaining reader.old) Differs }
-    ensures refused { result ≡ Err failures.Refused → IfSome (R.remaining reader.old) IsRefusedText }
+    ensures refused { IfErr result (IfRefused (λ lines. IfSome (R.remaining reader.old) (λ source. IsRefusal source lines))) }
     ensures unprintable { result ≡ Err failures.NotPrintable → IfSome (R.remaining reader.old) IsUnprintable }
     ensures not_utf8 { result ≡ Err failures.NotUtf8 → IfSome (R.remaining reader.old) (λ source. ¬ IsUtf8 source) }
     ensures err { IfErr result (λ e. (e ≢ failures.Usage) × (e ≢ failures.Writing)) }
@@ -145,13 +145,13 @@ pub fn run<R: Read, W: Write, E: Write>(
     match Task::of(arguments) {
         Ok(Task::Format) => match format(alloc, reader, writer) {
             Ok(()) => 0,
-            Err(failure) => report(failure, errors),
+            Err(failure) => report(&failure, errors),
         },
         Ok(Task::Check) => match check(alloc, reader) {
             Ok(true) => 0,
             Ok(false) => 1,
-            Err(failure) => report(failure, errors),
+            Err(failure) => report(&failure, errors),
         },
-        Err(failure) => report(failure, errors),
+        Err(failure) => report(&failure, errors),
     }
 }

@@ -10,7 +10,7 @@ use crate::items::{
 };
 use crate::printing::{copies, prints, prints_item};
 use crate::recipes::push_of_recipe;
-use crate::refusal::{push_expected, push_fault};
+use crate::refusal::{push_expected, push_fault, push_message};
 use crate::settings::settings;
 use crate::values::push_of_value;
 use crate::word::Word;
@@ -61,7 +61,7 @@ pub(crate) fn parse<'src>(
 /// What a row's word asks of a file.
 fn push_file(ast: &mut Ast<'_>, answer: &mut Answer, word: Word, fields: &[String]) {
     match word {
-        Word::Expected | Word::Refused => answer.push("taken"),
+        Word::Expected | Word::Message | Word::Refused => answer.push("taken"),
         Word::Attributes => attributes(&ast.items, answer),
         Word::Docs => docs(&ast.items, answer),
         Word::Enabled => enabled(&ast.items, answer),
@@ -149,6 +149,7 @@ fn push_parsed(answer: &mut Answer, word: Word, fields: &[String]) {
 fn push_why(answer: &mut Answer, word: Word, text: &str, fault: &Fault<'_>) {
     match word {
         Word::Expected => push_expected(answer, text, fault),
+        Word::Message => push_message(answer, text, fault),
         _ => push_fault(answer, text, fault),
     }
 }

@@ -139,6 +139,14 @@ pub(crate) fn push_expected(answer: &mut Answer, text: &str, fault: &Fault<'_>) 
     }
 }
 
+/// What a refusal says; or another fault.
+pub(crate) fn push_message(answer: &mut Answer, text: &str, fault: &Fault<'_>) {
+    match fault {
+        Fault::Compile(error) => answer.push_made(format!(in answer.alloc(); "{error}")),
+        fault => push_fault(answer, text, fault),
+    }
+}
+
 /// The names of kinds of tokens.
 fn push_kinds(answer: &mut Answer, kinds: &[TokenKind]) {
     for kind in kinds {

@@ -38,7 +38,7 @@ fn main(rt: HostRuntime) -> ExitCode {
             &mut writer,
             &mut errors,
         ),
-        Err(_) => failure::report(Failure::Memory, &mut errors),
+        Err(_) => failure::report(&Failure::Memory, &mut errors),
     };
     ExitCode::from(status)
 }
