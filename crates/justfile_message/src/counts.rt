@@ -72,7 +72,9 @@ pub fn write_count_mismatch<A: fmt::Display, W: fmt::Write>(
     max: usize,
     f: &mut fmt::Formatter<W>,
 ) -> fmt::Result
-    ensures { DisplaysOnOk W.write_str_gives f.old result (Some before.now ++? A.output taker.now ++? Some (codes "` got " & arguments_text found & codes " but takes " & taken_text found min max)) f.new }
+    ensures { DisplaysOnOk W.write_str_gives f.old result
+        (Some before.now ++? A.output taker.now ++? Some (codes "` got " & arguments_text found & codes " but takes "
+        & taken_text found min max)) f.new }
 {
     let taken = Taken { found, min, max };
     let found = Arguments(found);
@@ -93,7 +95,10 @@ pub fn write_function_mismatch<W: fmt::Write>(
     expected: &RangeInclusive<usize>,
     f: &mut fmt::Formatter<W>,
 ) -> fmt::Result
-    ensures { DisplaysOnOk W.write_str_gives f.old result (Some (codes "function `" & function.now & codes "` called with " & arguments_text arguments & codes " but takes " & range_text (range_inclusive_start expected.now) (range_inclusive_end expected.now))) f.new }
+    ensures { DisplaysOnOk W.write_str_gives f.old result
+        (Some (codes "function `" & function.now & codes "` called with " & arguments_text arguments
+        & codes " but takes "
+        & range_text (range_inclusive_start expected.now) (range_inclusive_end expected.now))) f.new }
 {
     let (arguments, expected) = (Arguments(arguments), ArgumentRange(expected));
     write!(

@@ -79,7 +79,9 @@ pub fn write_both<A: fmt::Display, B: fmt::Display, W: fmt::Write>(
     after: &str,
     f: &mut fmt::Formatter<W>,
 ) -> fmt::Result
-    ensures { DisplaysOnOk W.write_str_gives f.old result (Some before.now ++? A.output first.now ++? Some between.now ++? B.output second.now ++? Some after.now) f.new }
+    ensures { DisplaysOnOk W.write_str_gives f.old result
+        (Some before.now ++? A.output first.now ++? Some between.now ++? B.output second.now
+        ++? Some after.now) f.new }
 {
     write!(f, "{before}{first}{between}{second}{after}")
 }
@@ -93,7 +95,8 @@ pub fn write_duplicate<A: fmt::Display, W: fmt::Write>(
     line: usize,
     f: &mut fmt::Formatter<W>,
 ) -> fmt::Result
-    ensures { DisplaysOnOk W.write_str_gives f.old result (Some before.now ++? A.output value.now ++? Some after.now ++? Some (duplicate_text first line)) f.new }
+    ensures { DisplaysOnOk W.write_str_gives f.old result
+        (Some before.now ++? A.output value.now ++? Some after.now ++? Some (duplicate_text first line)) f.new }
 {
     let (first, line) = (LineNumber(first), LineNumber(line));
     write!(
@@ -109,7 +112,9 @@ pub fn write_duplicate_set<W: fmt::Write>(
     line: usize,
     f: &mut fmt::Formatter<W>,
 ) -> fmt::Result
-    ensures { DisplaysOnOk W.write_str_gives f.old result (Some (codes "setting `" & setting.now & codes "` first set on line " & line_text first & codes " is redefined on line " & line_text line)) f.new }
+    ensures { DisplaysOnOk W.write_str_gives f.old result
+        (Some (codes "setting `" & setting.now & codes "` first set on line " & line_text first
+        & codes " is redefined on line " & line_text line)) f.new }
 {
     let (first, line) = (LineNumber(first), LineNumber(line));
     write!(
@@ -125,7 +130,9 @@ pub fn write_incompatible<W: fmt::Write>(
     second: Keyword,
     f: &mut fmt::Formatter<W>,
 ) -> fmt::Result
-    ensures { DisplaysOnOk W.write_str_gives f.old result (Some (codes "`" & keyword_text first & codes "` set on line " & line_text first_line & codes " is incompatible with `" & keyword_text second & codes "`")) f.new }
+    ensures { DisplaysOnOk W.write_str_gives f.old result
+        (Some (codes "`" & keyword_text first & codes "` set on line " & line_text first_line
+        & codes " is incompatible with `" & keyword_text second & codes "`")) f.new }
 {
     let first_line = LineNumber(first_line);
     write!(
@@ -140,7 +147,9 @@ pub fn write_inconsistent<W: fmt::Write>(
     found: &str,
     f: &mut fmt::Formatter<W>,
 ) -> fmt::Result
-    ensures { DisplaysOnOk W.write_str_gives f.old result (Some (codes "recipe line has inconsistent leading whitespace, started with `" & blanks_text expected.now & codes "` but found line with `" & blanks_text found.now & codes "`")) f.new }
+    ensures { DisplaysOnOk W.write_str_gives f.old result
+        (Some (codes "recipe line has inconsistent leading whitespace, started with `" & blanks_text expected.now
+        & codes "` but found line with `" & blanks_text found.now & codes "`")) f.new }
 {
     let (expected, found) = (Blanks(expected), Blanks(found));
     write!(
@@ -156,7 +165,9 @@ pub fn write_invalid_attribute<W: fmt::Write>(
     attribute: AttributeKind,
     f: &mut fmt::Formatter<W>,
 ) -> fmt::Result
-    ensures { DisplaysOnOk W.write_str_gives f.old result (Some (item_kind_text item_kind & codes " `" & item_name.now & codes "` has invalid attribute `" & attribute_name attribute & codes "`")) f.new }
+    ensures { DisplaysOnOk W.write_str_gives f.old result
+        (Some (item_kind_text item_kind & codes " `" & item_name.now & codes "` has invalid attribute `"
+        & attribute_name attribute & codes "`")) f.new }
 {
     let attribute = attribute.name();
     write!(
@@ -171,7 +182,9 @@ pub fn write_invalid_version<W: fmt::Write>(
     source: &str,
     f: &mut fmt::Formatter<W>,
 ) -> fmt::Result
-    ensures { DisplaysOnOk W.write_str_gives f.old result (Some (codes "`minimum-version` setting has invalid version `" & string_bytes version.now & codes "`: " & source.now)) f.new }
+    ensures { DisplaysOnOk W.write_str_gives f.old result
+        (Some (codes "`minimum-version` setting has invalid version `" & string_bytes version.now & codes "`: "
+        & source.now)) f.new }
 {
     write!(
         f,
@@ -185,7 +198,9 @@ pub fn write_minimum_version<W: fmt::Write>(
     current: &Version,
     f: &mut fmt::Formatter<W>,
 ) -> fmt::Result
-    ensures { DisplaysOnOk W.write_str_gives f.old result (Some (codes "justfile requires just " & version_text minimum.now & codes " or later, but using " & version_text current.now)) f.new }
+    ensures { DisplaysOnOk W.write_str_gives f.old result
+        (Some (codes "justfile requires just " & version_text minimum.now & codes " or later, but using "
+        & version_text current.now)) f.new }
 {
     write!(
         f,
@@ -195,7 +210,9 @@ pub fn write_minimum_version<W: fmt::Write>(
 
 /// Writes that a body begins with blanks of both kinds.
 pub fn write_mixed<W: fmt::Write>(whitespace: &str, f: &mut fmt::Formatter<W>) -> fmt::Result
-    ensures { DisplaysOnOk W.write_str_gives f.old result (Some (codes "found a mix of tabs and spaces in leading whitespace: `" & blanks_text whitespace.now & codes "`\nleading whitespace may consist of tabs or spaces, but not both")) f.new }
+    ensures { DisplaysOnOk W.write_str_gives f.old result
+        (Some (codes "found a mix of tabs and spaces in leading whitespace: `" & blanks_text whitespace.now
+        & codes "`\nleading whitespace may consist of tabs or spaces, but not both")) f.new }
 {
     let whitespace = Blanks(whitespace);
     write!(
@@ -219,7 +236,9 @@ pub fn write_expected_end<W: fmt::Write>(
     expected: &[char],
     f: &mut fmt::Formatter<W>,
 ) -> fmt::Result
-    ensures { DisplaysOnOk W.write_str_gives f.old result (Some (codes "expected character " & expected_characters expected.now & codes " but found end-of-file")) f.new }
+    ensures { DisplaysOnOk W.write_str_gives f.old result
+        (Some (codes "expected character " & expected_characters expected.now
+        & codes " but found end-of-file")) f.new }
 {
     let expected = List::or_ticked(expected);
     write!(f, "expected character {expected} but found end-of-file")
@@ -231,7 +250,8 @@ pub fn write_unexpected_token<W: fmt::Write>(
     found: TokenKind,
     f: &mut fmt::Formatter<W>,
 ) -> fmt::Result
-    ensures { DisplaysOnOk W.write_str_gives f.old result (Some (codes "expected " & expected_tokens expected.now & codes ", but found " & kind_text found)) f.new }
+    ensures { DisplaysOnOk W.write_str_gives f.old result
+        (Some (codes "expected " & expected_tokens expected.now & codes ", but found " & kind_text found)) f.new }
 {
     let expected = List::or(expected);
     write!(f, "expected {expected}, but found {found}")

@@ -43,7 +43,9 @@ pub(crate) fn write_expected_keyword<W: fmt::Write>(
     found: &Token<'_>,
     f: &mut fmt::Formatter<W>,
 ) -> fmt::Result
-    ensures { DisplaysOnOk W.write_str_gives f.old result (Some (codes "expected keyword " & expected_keywords expected.now & codes " but found " & found_text found.now)) f.new }
+    ensures { DisplaysOnOk W.write_str_gives f.old result
+        (Some (codes "expected keyword " & expected_keywords expected.now & codes " but found "
+        & found_text found.now)) f.new }
 {
     let (expected, found) = (List::or_ticked(expected), Found(found));
     write!(f, "expected keyword {expected} but found {found}")
@@ -56,7 +58,9 @@ pub(crate) fn write_mismatched<W: fmt::Write>(
     open_line: usize,
     f: &mut fmt::Formatter<W>,
 ) -> fmt::Result
-    ensures { DisplaysOnOk W.write_str_gives f.old result (Some (codes "mismatched closing delimiter `" & close_text close & codes "`, did you mean to close the `" & open_text opener & codes "` on line " & line_text open_line & codes "?")) f.new }
+    ensures { DisplaysOnOk W.write_str_gives f.old result
+        (Some (codes "mismatched closing delimiter `" & close_text close & codes "`, did you mean to close the `"
+        & open_text opener & codes "` on line " & line_text open_line & codes "?")) f.new }
 {
     let (close, open, line) = (close.close(), opener.open(), LineNumber(open_line));
     write!(
