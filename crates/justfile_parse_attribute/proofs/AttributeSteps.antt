@@ -54,6 +54,14 @@ broken_first (Err (reading.UnknownSetting name)) next e h = h
 broken_first (Err (reading.ExpectedKeyword expected t)) next e h = h
 broken_first (Err (reading.NoNumber counters)) next e h = absurd h
 
+-- reading halts where its first part halts
+halts_first : {X Y : Type 0} (halt : Halt) (s : State) (found : Read X) (next : X × State → Read Y) → HaltsAt halt s ⊥ found → HaltsAt halt s ⊥ (found >>= next)
+halts_first (Broken error) s found next h = broken_first found next error.value h
+halts_first (Stopped (stops.Refused refusal)) s found next h = rw h refl
+halts_first (Stopped (stops.Literal refused)) s found next h = rw h refl
+halts_first (Stopped stops.Memory) s found next h = tt
+halts_first (Stopped stops.Numbers) s found next h = absurd h
+
 -- reading halts for the fault of a rule
 pub halts_for : (Y : Type 0) (rule : Rule Token) (token : Token) (fault : Fault) (halt : Halt) (s : State)
     → HaltsFor halt fault → IsRefusedBy (new.refuse {X = Unit {0}} rule token) fault
@@ -200,3 +208,14 @@ module _ (pairs : List (Attribute × Name)) (name : Name) (kind : AttributeKind)
       let Q : Entries → Read Entries = λ es. Ok (es, s) in
       let so_far : r.one_made before name.token kind all s ≡ Q (before ++ entry_of_pair (a, name) ∷ []) = rw (h.is_made, checks pairs (a, name) h.added) refl in
       so_far ∙ ap Q (sym (map-append entry_of_pair pairs ((a, name) ∷ []))) ∙ sym (ap P h.added)
+
+-- an attribute is not read where its kind is not, or its arguments are not
+pub kind_halts : (before : Entries) (s : State) (name : TableEntry) (named : State) (halt : Halt) → expect kinds.Identifier s ≡ Ok (name, named)
+    → HaltsAt halt named ⊥ (r.kind_at name named) → HaltsAt halt named ⊥ (r.one_attribute before s)
+kind_halts before s name named halt found h = rw (one_attribute_is before s, found) (halts_first halt named (r.kind_at name named) _ h)
+
+pub arguments_halt : (before : Entries) (s : State) (name : TableEntry) (named : State) (kind : AttributeKind) (keys : Bool) (rest : State) (halt : Halt)
+    → expect kinds.Identifier s ≡ Ok (name, named) → r.kind_at name named ≡ Ok (kind, named) → keys ≡ takes_keys kind
+    → HaltsAt halt rest ⊥ (r.arguments name keys named) → HaltsAt halt rest ⊥ (r.one_attribute before s)
+arguments_halt before s name named kind keys rest halt found kinded same h =
+    rw (one_attribute_is before s, found, kinded, sym same) (halts_first halt rest (r.arguments name keys named) _ h)
