@@ -17,6 +17,7 @@ use Rattle.justfile_parse_header.specs.HeaderTable.{LeafDependency, StarredArgum
 use Rattle.justfile_parse_header.specs.Tree.{argument_tree, dependency_tree, path_tree, read_argument}
 use Rattle.justfile_parse_header.specs.declared.dependency.ReadArgument.{ReadArgument}
 use Rattle.justfile_parse_header.proofs.Halts.{halted}
+use Rattle.justfile_tree.specs.LeafTree.{Leaf}
 use Rattle.justfile_parse_header.proofs.Stars.{kept_are, star_is}
 
 -- ---- dependencies: `done` stand where reading began with `old`, and `q` is what is left
@@ -139,3 +140,12 @@ unfolding headers.parenthesized
 parenthesized_read star s opener inside d after arguments rest opened named read checked kept =
     let starred = star_is star arguments d.arguments.items rest rest (kept ∙ kept_are arguments) checked in
     rw (opened, named, read, checked) (λ i. Ok (record { star = sym starred i; path = path_tree d.recipe; arguments = sym kept i }, rest))
+
+-- its stars are not where they may be
+pub stars_halt : (star : Option TableEntry) (s : State) (opener : TableEntry) (inside : State) (names : List Leaf) (after : State)
+    (arguments : List ReadArgument) (rest : State) (halt : Halt)
+    → expect kinds.ParenL s ≡ Ok (opener, inside) → path inside ≡ Ok (names, after) → dependency_arguments ([], after) ≡ Ok (map read_argument arguments, rest)
+    → HaltsAt halt rest ⊥ (obeying (misplaced_star star (map read_argument arguments)) rest) → HaltsAt halt rest ⊥ (parenthesized star s)
+unfolding headers.parenthesized
+stars_halt star s opener inside names after arguments rest halt opened named read h =
+    halted (obeying (misplaced_star star (map read_argument arguments)) rest) (parenthesized star s) (λ e k. rw (opened, named, read, k) refl) halt rest ⊥ ⊥ (λ k. k) h

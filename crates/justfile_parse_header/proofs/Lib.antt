@@ -13,3 +13,4 @@ pub mod Spoken
 pub mod Stars
 pub mod Texts
 pub mod Undefined
+pub mod Variadics

@@ -1,0 +1,8 @@
+use Rattle.justfile_parse_expression.specs.View.{state_of}
+use Rattle.justfile_parse_header.proofs.Variadics.{name_follows}
+use Rattle.justfile_parse_header.proofs.parameter.expect_no_name.Goals as goal
+
+pub returns-in-Some : goal.returns-in-Some
+returns-in-Some g c =
+    name_follows (state_of g.X.Expander.answer c.args.parser.now) c.in-Some.name _ c.make_halt.result c.after_variadic.result
+    c.in-Some.ensures.takes c.make_halt.ensures c.after_variadic.ensures
