@@ -12,6 +12,9 @@ use Rattle.justfile_parse_expression.specs.declared.significant.TableEntry.{Tabl
 use Rattle.justfile_parse_expression.proofs.Rules.{bind_alike, then_made}
 use Rattle.justfile_parse_parts.specs.PartTable.{expansion_mark, file_path}
 use Rattle.justfile_tree.specs.LeafTree.{Leaf}
+use Rattle.justfile_parse_attribute.specs.Halting.{HaltsAt}
+use Rattle.justfile_parse_attribute.specs.declared.halt.Halt.{Halt}
+use Rattle.justfile_parse_header.proofs.Halts.{first_halts}
 
 abbrev Path : Type 0
 Path = TableEntry × Quoted Leaf
@@ -33,3 +36,7 @@ unfolding parts.file_path string_leaf expressions.cooked
 path_is s =
     bind_alike (expansion_mark s) _ _ (λ mark. bind_alike (expect kinds.StringToken mark.1) _ _ (λ literal.
     by_leaf mark.0 literal (cooked_text (leaves.conditions literal.1.run).expander (string_of mark.0 (leaves.see literal.0).tok.lexeme))))
+
+-- its mark is not read
+pub mark_halts : (s rest : State) (halt : Halt) → HaltsAt halt rest ⊥ (expansion_mark s) → HaltsAt halt rest ⊥ (file_path s)
+mark_halts s rest halt h = rw (path_is s) (first_halts (expansion_mark s) _ halt rest ⊥ h)

@@ -26,6 +26,10 @@ use Rattle.justfile_parse_parts.specs.PartTable as reader
 use Rattle.justfile_parse_parts.specs.PartTable.{LeafValue}
 use Rattle.justfile_tree.specs.LeafSight.{sees_leaves}
 use Rattle.justfile_tree.specs.LeafTree.{Leaf}
+use Rattle.justfile_base.specs.declared.fault.Fault.{Fault}
+use Rattle.justfile_parse_attribute.specs.Halting.{HaltsAt, HaltsFor, IsFaultOf}
+use Rattle.justfile_parse_attribute.specs.declared.halt.Halt.{Halt}
+use Rattle.justfile_parse_parts.proofs.Refused.{halts}
 
 -- ---- keywords
 
@@ -127,3 +131,9 @@ module _ (first : State) where
 pub interpreter_is : (s : State) → reader.interpreter s ≡ (expect kinds.BracketL s >>= λ opener. cond (next_are (kinds.BracketR ∷ []) opener.1) (first_refused opener.1) (reader.command_from opener.1))
 unfolding parts.interpreter
 interpreter_is s = bind_alike (expect kinds.BracketL s) _ _ (λ opener. bracketed opener.1)
+
+-- a keyword names no setting
+pub no_setting_halts : (name : TableEntry) (s : State) (operator : TableEntry) (from : State) (halt : Halt) (fault : Fault)
+    → expect kinds.ColonEquals s ≡ Ok (operator, from) → HaltsFor halt fault → IsFaultOf (UnknownSetting name.token.now) fault
+    → HaltsAt halt from ⊥ (reader.after_operator (reader.no_setting name) s)
+no_setting_halts name s operator from halt fault found h k = rw found (halts (LeafValue × State) (UnknownSetting name.token.now) fault halt from h k)
