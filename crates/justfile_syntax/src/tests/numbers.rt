@@ -5,7 +5,7 @@ use crate::interpreter::Interpreter;
 use crate::item::Item;
 use crate::numerator::Number;
 use crate::setting::Setting;
-use crate::tests::support::{parsed, same};
+use crate::tests::support::{holds, parsed, same};
 use std::alloc::Global;
 use std::collections::HashMap;
 use std::process::Abort;
@@ -18,7 +18,8 @@ fn numbers<'src>(
 ) -> HashMap<&'src str, Number> {
     let mut numbers = HashMap::new(alloc);
     if let Some((name, number)) = named {
-        numbers.insert(name, Number(number)).expect(rt, "no memory");
+        let inserted: Result<_, _> = numbers.insert(name, Number(number));
+        holds(rt, name, inserted.is_ok());
     }
     numbers
 }
