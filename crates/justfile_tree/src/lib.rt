@@ -4,6 +4,7 @@
 mod children;
 mod content;
 pub mod expression;
+pub mod laws;
 mod leaf_order;
 mod list_operator;
 mod order;
