@@ -1,4 +1,4 @@
--- What `==` and the order of a type are, where both are derived.
+-- What `==` and the order of a type are; the orders of names and of their paths.
 use Rattle.std.specs.Prelude.{◌≡◌, Bool}
 use Rattle.std.specs.Cmp.{IsTotalOrder}
 use Rattle.std.specs.Cmp.Lexicographic.{slice_cmp}

@@ -8,7 +8,10 @@ ghost use Rattle.justfile_base.specs.contracts.string_literal.StringLiteralParti
 ghost use Rattle.justfile_base.specs.contracts.token.TokenOrd.TheImpl as token_order;
 ghost use Rattle.justfile_base.specs.contracts.token.TokenPartialEq.TheImpl as token_equality;
 ghost use Rattle.justfile_tree.specs.Leaf.{literal_cmp, token_cmp};
+ghost use Rattle.justfile_tree.specs.Order.{expression_cmp};
 ghost use Rattle.justfile_tree.specs.Orders.{IsOrder, name_cmp, namepath_cmp};
+ghost use Rattle.justfile_tree.specs.contracts.order.ExpressionOrd.TheImpl as expression_order;
+ghost use Rattle.justfile_tree.specs.contracts.order.ExpressionPartialEq.TheImpl as expression_equality;
 
 /// Tokens are compared by all their fields in the order in which they are declared, so by their
 /// places too. The order is total, and it agrees with `==`.
@@ -30,4 +33,10 @@ pub fn namepaths_ordered()
 /// places too.
 pub fn literals_ordered()
     ensures { IsOrder literal_equality.eq-value.it literal_order.cmp-value.it literal_cmp }
+{}
+
+/// Expressions are compared by their cases as these are declared, and within a case by its fields
+/// in the order in which they are declared, so by the places of their tokens too.
+pub fn expressions_ordered()
+    ensures { IsOrder expression_equality.eq-value.it expression_order.cmp-value.it expression_cmp }
 {}
