@@ -92,11 +92,14 @@ pub mod keyword {
 }
 
 pub mod laws {
-    pub use justfile_base::laws::{attribute_names, indentation_texts, one_spelling, signal_names};
+    pub use justfile_base::laws::{
+        attribute_names, indentation_texts, one_spelling, signal_names, versions_ordered,
+    };
     pub use justfile_literal::laws::{
         answer_for_all as literal_for_all, cooked_is_utf8, indentation_is_longest, lines_joined,
         longest_front, one_answer as one_literal, unindented_already,
     };
+    pub use justfile_model::attribute_laws::{attributes_made, content_order};
     pub use justfile_model::grammar_laws::{
         counts, expanders, normal_twice, numbers_rise, printing, reads, shapes,
     };
@@ -109,6 +112,9 @@ pub mod laws {
         open_is_unclosed, reads_up_to_first_end,
     };
     pub use justfile_round_trip::{modes_agree, reads_back};
+    pub use justfile_tree::laws::{
+        expressions_ordered, literals_ordered, namepaths_ordered, names_ordered, tokens_ordered,
+    };
 }
 
 pub mod lexer {

@@ -8,6 +8,7 @@ mod headers;
 mod items;
 mod messages;
 mod names;
+mod numbers;
 mod order;
 mod small;
 mod support;

@@ -9,6 +9,8 @@ pub mod LeafSight
 pub mod LeafTree
 pub mod ListOperator
 pub mod Order
+pub mod Orders
+pub mod Resolved
 pub mod SeenKeys
 pub mod SinkLaws
 pub mod Text
