@@ -4,9 +4,18 @@ use Rattle.justfile_model.specs.Reading as reading
 use Rattle.justfile_parse_attribute.specs.Attributes.{entry_of_pair}
 use Rattle.justfile_parse_expression.specs.View.{state_of}
 use Rattle.justfile_parse_header.specs.Counting.{counters_of, names}
-use Rattle.justfile_parse.proofs.ItemHalts.{function_halts}
+use Rattle.justfile_parse.proofs.ItemHalts.{function_attributes_halt, function_halts}
 use Rattle.justfile_parse.proofs.Moved.{function_moved}
 use Rattle.justfile_parse.proofs.function.parse_function.Goals as goal
+
+pub returns-in_err-attributes-clause-reads : goal.returns-in_err-attributes-clause-reads
+returns-in_err-attributes-clause-reads g c =
+    let A = g.X.Expander.answer in
+    let named = state_of A c.expect.new.self in
+    let p = err_from_is_err_and c.from_residual-in_err-attributes.result c.from_residual-in_err-attributes.ensures.1 in
+    rw (p.1, p.2)
+    (function_attributes_halt (map entry_of_pair c.args.attributes.items) (counters_of c.args.numerator.now) (state_of A c.args.parser.now) c.in_ok-name.name named c.in_ok-name.ensures.reads
+    c.in_err-attributes.field-0.0 named _ (c.in_err-attributes.ensures.reads named))
 
 pub returns-in_err-parameters-clause-reads : goal.returns-in_err-parameters-clause-reads
 returns-in_err-parameters-clause-reads g c =
