@@ -12,3 +12,4 @@ mod order;
 mod small;
 mod support;
 mod texts;
+mod writing;
