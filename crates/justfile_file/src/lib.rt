@@ -17,6 +17,8 @@ mod path;
 pub mod recipe;
 pub mod set;
 pub mod sigil;
+pub mod write_fault;
+mod writer;
 
 pub use crate::alias::Alias;
 pub use crate::assignment::Assignment;
@@ -29,5 +31,6 @@ pub use crate::line::Line;
 pub use crate::recipe::UnresolvedRecipe;
 pub use crate::set::Set;
 pub use crate::sigil::Sigil;
+pub use crate::write_fault::WriteFault;
 pub use justfile_header::{DependencyArgument, Parameter, ParameterKind, UnresolvedDependency};
 pub use justfile_setting::Setting;

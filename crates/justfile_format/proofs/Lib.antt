@@ -1,1 +1,2 @@
 pub mod Indented
+pub mod Written

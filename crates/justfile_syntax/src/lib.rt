@@ -227,5 +227,9 @@ pub mod version {
     pub use justfile_base::Version;
 }
 
+pub mod write_fault {
+    pub use justfile_file::WriteFault;
+}
+
 #[cfg(test)]
 mod tests;

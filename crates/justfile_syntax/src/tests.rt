@@ -13,3 +13,4 @@ mod order;
 mod small;
 mod support;
 mod texts;
+mod writing;
