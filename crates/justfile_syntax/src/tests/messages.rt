@@ -133,15 +133,9 @@ fn counts_of_arguments(rt: HostRuntime) {
         ),
     ];
     let names = names(&rt, rt.alloc(), "a");
+    let name = *names.first().expect(&rt, "no name");
     for (counts, of_dependency, of_function) in ROWS {
-        compare_counts(
-            &rt,
-            rt.alloc(),
-            names[0],
-            *counts,
-            of_dependency,
-            of_function,
-        );
+        compare_counts(&rt, rt.alloc(), name, *counts, of_dependency, of_function);
     }
 }
 
@@ -184,7 +178,7 @@ fn circles(rt: HostRuntime) {
 fn definitions_that_are_repeated(rt: HostRuntime) {
     let alloc = rt.alloc();
     let tokens = lexed(&rt, alloc, "\n\na");
-    let token = &tokens[2];
+    let token = tokens.get(2).expect(&rt, "no token");
     let kind = CompileErrorKind::Redefinition {
         first: 0,
         first_type: ItemKind::Recipe,
@@ -288,8 +282,10 @@ fn parameters_and_recipes(rt: HostRuntime) {
 fn names_that_are_unknown(rt: HostRuntime) {
     let alloc = rt.alloc();
     let names = names(&rt, alloc, "a b");
-    let path = Namepath::from_name(alloc, names[0]).expect(&rt, "no memory");
-    let path = path.join(alloc, names[1]).expect(&rt, "no memory");
+    let first = *names.first().expect(&rt, "no name");
+    let second = *names.get(1).expect(&rt, "no second name");
+    let path = Namepath::from_name(alloc, first).expect(&rt, "no memory");
+    let path = path.join(alloc, second).expect(&rt, "no memory");
     let copy = path.clone(alloc).expect(&rt, "no memory");
     let kind = CompileErrorKind::UnknownDependency {
         recipe: "c",
@@ -298,7 +294,7 @@ fn names_that_are_unknown(rt: HostRuntime) {
     says(
         &rt,
         alloc,
-        &names[0],
+        &first,
         kind,
         "recipe `c` has unknown dependency `a::b`",
     );
@@ -309,25 +305,19 @@ fn names_that_are_unknown(rt: HostRuntime) {
     says(
         &rt,
         alloc,
-        &names[0],
+        &first,
         kind,
         "alias `c` has an unknown target `a::b`",
     );
     let kind = CompileErrorKind::UndefinedVariable { variable: "a" };
-    says(&rt, alloc, &names[0], kind, "variable `a` not defined");
+    says(&rt, alloc, &first, kind, "variable `a` not defined");
     let kind = CompileErrorKind::UndefinedFunction { function: "a" };
-    says(
-        &rt,
-        alloc,
-        &names[0],
-        kind,
-        "call to undefined function `a`",
-    );
+    says(&rt, alloc, &first, kind, "call to undefined function `a`");
     let kind = CompileErrorKind::ExportUnexported { variable: "a" };
     says(
         &rt,
         alloc,
-        &names[0],
+        &first,
         kind,
         "variable a is both exported and unexported",
     );
