@@ -1,6 +1,8 @@
 mod ArgumentTree
 pub mod Cached
 pub mod Counted
+mod Equalities
+mod LeafTexts
 pub mod Ordered
 pub mod Printed
 pub mod Shown

@@ -4,5 +4,6 @@ pub mod Cached
 pub mod New
 pub mod Order
 pub mod Print
+pub mod Equal
 pub mod Interpreter
 pub mod Interpreters

@@ -6,6 +6,7 @@ mod cache_values;
 mod copied;
 mod interpreter;
 mod interpreters;
+pub mod laws;
 mod new;
 mod order;
 mod part;

@@ -5,6 +5,7 @@ mod attribute_set;
 mod copied;
 mod keys;
 mod kinds;
+pub mod laws;
 mod pair_set;
 mod pairs;
 

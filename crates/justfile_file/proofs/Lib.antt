@@ -6,6 +6,7 @@ pub mod HeaderTexts
 pub mod Indented
 pub mod ItemTexts
 pub mod Loops
+pub mod Numbered
 pub mod Printable
 pub mod PrintedBack
 pub mod SettingTexts

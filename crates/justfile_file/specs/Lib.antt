@@ -15,3 +15,5 @@ pub mod PrintsBack
 pub mod Recipe
 pub mod SettingParts
 pub mod Sigil
+pub mod Written
+pub mod WrittenLaws

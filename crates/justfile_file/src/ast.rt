@@ -1,4 +1,5 @@
 ghost use Rattle.std.specs.Prelude.{◌≡◌, All, OnOk, OnErr, IfOk, IfSome, map, string_bytes};
+ghost use Rattle.std.specs.Io.KnownBytes.{Appends};
 ghost use Rattle.std.specs.List.{AllZip, list_all};
 ghost use Rattle.std.specs.Option.{option_map};
 ghost use Rattle.justfile_word.specs.Indentation.{indentation_text};
@@ -12,14 +13,18 @@ ghost use Rattle.justfile_file.specs.Gap.{front_text, end_text};
 ghost use Rattle.justfile_file.specs.Indented.{IsWholeItem, items_indentation};
 ghost use Rattle.justfile_file.specs.Item.{item_shape};
 ghost use Rattle.justfile_file.specs.PrintsBack.{PrintsBack};
+ghost use Rattle.justfile_file.specs.Written.{AppendsPart};
 ghost use Rattle.justfile_file.specs.declared.gap.Gap.TheVariants.{Start};
 
 use crate::gap::Gap;
 use crate::item::{Item, write_step};
+use crate::write_fault::WriteFault;
+use crate::writer::WriterSink;
 use justfile_base::{Indentation, Modulepath, Token, UnstableFeature};
 use justfile_tree::{ListFeature, Sink};
 use std::alloc::{AllocError, Global};
 use std::collections::BTreeSet;
+use std::io::Write;
 
 /// A file that was parsed.
 #[derive(Drop)]
@@ -87,6 +92,22 @@ impl<'src> Ast<'src> {
         let mut printed = String::new(alloc);
         write_ast(self, indentation, &mut printed)?;
         Ok(printed)
+    }
+
+    /// Writes the canonical text of the file, piece by piece as it is made. At a fault the writer
+    /// was given a beginning of the text, and nothing after that. It is not flushed.
+    pub fn print_to<W: Write>(
+        &self,
+        indentation: Indentation,
+        writer: &mut W,
+    ) -> Result<(), WriteFault>
+        ensures ok { OnOk result (Appends (W.contents writer.old) (W.contents writer.new)
+            (text (normal (ast_shape self.now)) (indentation_text indentation))) }
+        ensures err { OnErr result (AppendsPart (W.contents writer.old) (W.contents writer.new)
+            (text (normal (ast_shape self.now)) (indentation_text indentation))) }
+    {
+        let mut sink = WriterSink { writer };
+        write_ast(self, indentation, &mut sink)
     }
 }
 

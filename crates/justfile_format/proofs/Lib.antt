@@ -1,2 +1,3 @@
 pub mod Indented
 pub mod Refused
+pub mod Written

@@ -1,6 +1,7 @@
 ghost use Rattle.std.specs.Prelude.{◌≡◌};
 ghost use Rattle.justfile_format.specs.Failure.{failure_text, status_of};
 
+use justfile_syntax::write_fault::WriteFault;
 use std::alloc::{AllocError, AllocFailed};
 use std::io::Write;
 
@@ -42,6 +43,16 @@ impl<T: Drop> From<AllocFailed<T>> for Failure {
 
     fn from(_: AllocFailed<T>) -> Self {
         Failure::Memory
+    }
+}
+
+impl From<WriteFault> for Failure {
+    ghost use Rattle.justfile_format.specs.declared.failure.Failure.TheVariants.{Writing};
+
+    ghost from_gives = { λ _ e. e ≡ Writing };
+
+    fn from(_: WriteFault) -> Self {
+        Failure::Writing
     }
 }
 

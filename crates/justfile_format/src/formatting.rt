@@ -1,7 +1,7 @@
-ghost use Rattle.std.specs.Prelude.{◌≡◌, Err, IfErr, IfOk, false, string_bytes};
+ghost use Rattle.std.specs.Prelude.{◌≡◌, Err, IfErr, IfOk, OnOk, false, string_bytes, true};
 ghost use Rattle.justfile_format.specs.declared.failure.Failure.TheVariants as failures;
-ghost use Rattle.justfile_format.specs.Failure.{IfRefused, IsOfText, IsRefusalFor};
-ghost use Rattle.justfile_format.specs.Formatting.{IsFileOf, IsFormatted, IsIndented, IsIndentedBy, IsPrinted, IsRefusal, IsUnprintable};
+ghost use Rattle.justfile_format.specs.Failure.{IfRefused, IsOfText, IsOfTextOrWriting, IsRefusalFor};
+ghost use Rattle.justfile_format.specs.Formatting.{Formats, IsFileOf, IsFormatted, IsIndented, IsIndentedBy, IsPrinted, IsRefusal, IsUnprintable, Prints};
 ghost use Rattle.justfile_word.specs.Indentation.{indentation_text};
 ghost use Rattle.justfile_file.specs.Ast.{ast_shape, tree_of};
 ghost use Rattle.justfile_model.specs.Enabled.{indentation_of};
@@ -18,6 +18,7 @@ use justfile_syntax::parser::Parser;
 use justfile_syntax::source::Source;
 use justfile_syntax::version::Version;
 use std::alloc::Global;
+use std::io::Write;
 use std::mem;
 
 /// The version of the language.
@@ -80,6 +81,19 @@ fn indentation_for(ast: &Ast<'_>) -> Indentation
     }
 }
 
+/// The indentation of the lines of bodies, if the file can be printed.
+fn printing_indentation(ast: &Ast<'_>) -> Result<Indentation, Failure>
+    requires { IsIndented ast.now }
+    ensures printable { OnOk result (printable (ast_shape ast.now) ≡ true) }
+    ensures indented { IfOk result (λ indentation. IsIndentedBy (indentation_of (tree_of ast.now)) (indentation_text indentation)) }
+    ensures unprintable { IfErr result (λ e. (e ≡ failures.NotPrintable) × (printable (ast_shape ast.now) ≡ false)) }
+{
+    if !ast.printable() {
+        return Err(Failure::NotPrintable);
+    }
+    Ok(indentation_for(ast))
+}
+
 /// The canonical text of a file, which stays as it is.
 fn print(alloc: Global, ast: &mut Ast<'_>) -> Result<String, Failure>
     requires { IsIndented ast.old }
@@ -88,11 +102,22 @@ fn print(alloc: Global, ast: &mut Ast<'_>) -> Result<String, Failure>
     ensures unprintable { result ≡ Err failures.NotPrintable → printable (ast_shape ast.old) ≡ false }
     ensures err { IfErr result IsOfText }
 {
-    if !ast.printable() {
-        return Err(Failure::NotPrintable);
-    }
-    let indentation = indentation_for(ast);
+    let indentation = printing_indentation(ast)?;
     Ok(ast.print(alloc, indentation)?)
+}
+
+/// Writes the canonical text of a file, which stays as it is.
+fn print_to<W: Write>(ast: &mut Ast<'_>, writer: &mut W) -> Result<(), Failure>
+    requires { IsIndented ast.old }
+    ensures ok { OnOk result (Prints ast.old (W.contents writer.old) (W.contents writer.new)) }
+    ensures refused { IfErr result (IfRefused (λ _. ⊥)) }
+    ensures unprintable { result ≡ Err failures.NotPrintable → printable (ast_shape ast.old) ≡ false }
+    ensures prints_nothing { result ≡ Err failures.NotPrintable → writer.new ≡ writer.old }
+    ensures err { IfErr result IsOfTextOrWriting }
+{
+    let indentation = printing_indentation(ast)?;
+    ast.print_to(indentation, writer)?;
+    Ok(())
 }
 
 /// Formats a justfile, and answers its canonical text. The tree is left as it is, since the program
@@ -108,4 +133,20 @@ pub fn format_text(alloc: Global, source: &str) -> Result<String, Failure>
     let text = print(alloc, &mut ast)?;
     mem::forget(ast);
     Ok(text)
+}
+
+/// Formats a justfile, and writes its canonical text as it is printed, without flushing it. The
+/// tree is left as it is, as by `format_text`.
+pub fn format_to<W: Write>(alloc: Global, source: &str, writer: &mut W) -> Result<(), Failure>
+    ensures ok { OnOk result (Formats source.now (W.contents writer.old) (W.contents writer.new)) }
+    ensures refused { IfErr result (IfRefused (IsRefusal source.now)) }
+    ensures unprintable { result ≡ Err failures.NotPrintable → IsUnprintable source.now }
+    ensures writes_nothing { IfErr result (IfRefused (λ _. writer.new ≡ writer.old)) }
+    ensures prints_nothing { result ≡ Err failures.NotPrintable → writer.new ≡ writer.old }
+    ensures err { IfErr result IsOfTextOrWriting }
+{
+    let mut ast = parse(alloc, source)?;
+    print_to(&mut ast, writer)?;
+    mem::forget(ast);
+    Ok(())
 }

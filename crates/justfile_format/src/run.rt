@@ -1,5 +1,5 @@
 ghost use Rattle.std.specs.Prelude.{◌≡◌, ◌≢◌, ◌≤◌, true, false, Ok, Err, IfOk, IfErr, IfSome, OnOk};
-ghost use Rattle.std.specs.Io.KnownBytes.{Appends, IsAtEnd};
+ghost use Rattle.std.specs.Io.KnownBytes.{IsAtEnd, Keeps};
 ghost use Rattle.std.specs.Str.{IsUtf8};
 ghost use Rattle.justfile_format.specs.declared.failure.Failure.TheVariants as failures;
 ghost use Rattle.justfile_format.specs.Arguments.{AsksCheck, AsksFormat};
@@ -7,7 +7,7 @@ ghost use Rattle.justfile_format.specs.Failure.{IfRefused, IsOfReading};
 ghost use Rattle.justfile_format.specs.Formatting.{IsFormatted, IsRefusal, IsUnprintable, Formats, Differs, HasNone};
 
 use crate::failure::{Failure, report};
-use crate::formatting::format_text;
+use crate::formatting::{format_text, format_to};
 use std::alloc::Global;
 use std::io::{ErrorKind, Read, Write};
 use std::str;
@@ -70,18 +70,19 @@ fn decode(bytes: &[u8]) -> Result<&str, Failure>
     }
 }
 
-/// Writes the text and flushes it.
-fn write_all<W: Write>(text: &str, writer: &mut W) -> Result<(), Failure>
-    ensures ok { OnOk result (Appends (W.contents writer.old) (W.contents writer.new) text.now) }
+/// Flushes what was written.
+fn flush<W: Write>(writer: &mut W) -> Result<(), Failure>
+    ensures ok { OnOk result (Keeps (W.contents writer.old) (W.contents writer.new)) }
     ensures err { IfErr result (λ e. e ≡ failures.Writing) }
 {
-    if writer.write_all(text.as_bytes()).is_err() || writer.flush().is_err() {
-        return Err(Failure::Writing);
+    match writer.flush() {
+        Ok(()) => Ok(()),
+        Err(_) => Err(Failure::Writing),
     }
-    Ok(())
 }
 
-/// Writes the canonical text of what the reader gives.
+/// Writes the canonical text of what the reader gives, and flushes it.
+#[tactic(auto, using(crate::proofs::Written::flushed))]
 fn format<R: Read, W: Write>(alloc: Global, reader: &mut R, writer: &mut W) -> Result<(), Failure>
     ensures ok { OnOk result (IfSome (R.remaining reader.old)
         (λ source. Formats source (W.contents writer.old) (W.contents writer.new))) }
@@ -96,8 +97,8 @@ fn format<R: Read, W: Write>(alloc: Global, reader: &mut R, writer: &mut W) -> R
 {
     let bytes = read_all(alloc, reader)?;
     let source = decode(&bytes)?;
-    let canonical = format_text(alloc, source)?;
-    write_all(canonical.as_str(), writer)
+    format_to(alloc, source, writer)?;
+    flush(writer)
 }
 
 /// Whether what the reader gives is its own canonical text.

@@ -3,6 +3,7 @@ use Rattle.std.proofs.Common.{◌≡◌, ◌∙◌, ℕ, All, Bool, true, false,
 use Rattle.std.proofs.lemmas.List.{length-map}
 use Rattle.std.proofs.lemmas.Map.Views.{All-map-IsPermutation}
 use Rattle.justfile_attribute.proofs.Ordered.{kind_seen}
+use Rattle.justfile_attribute.specs.New.{IsWholeAttribute}
 use Rattle.justfile_attribute.specs.declared.attribute.Attribute.{Attribute}
 use Rattle.justfile_attribute_rules.specs.Made.{IsRefusedBy}
 use Rattle.justfile_attribute_rules.specs.RuleErrors.{SaysRule}
@@ -37,7 +38,7 @@ use Rattle.justfile_parse.specs.ItemTable.{in_content_order}
 use Rattle.justfile_parse_attribute.specs.AttributeTable.{Entries}
 use Rattle.justfile_parse_attribute.specs.Attributes.{entry_of_pair}
 use Rattle.justfile_parse_attribute.specs.Halting.{HaltsAt, HaltsFor}
-use Rattle.justfile_parse_attribute.specs.KeyedBounds.{AreKeyed, AreKeyedPairs, IsKeyed}
+use Rattle.justfile_parse_attribute.specs.WholeAttributes.{AreWholeAttributes, AreWholePairs}
 use Rattle.justfile_parse_attribute.specs.declared.halt.Halt.TheVariants as halts
 use Rattle.justfile_parse_attribute.specs.declared.halt.Halt.{Halt}
 use Rattle.justfile_parse_expression.specs.TableReader as tokens
@@ -124,12 +125,12 @@ has_seen kind (p ∷ ps) =
     ap (λ (b : Bool). same_attribute (kind_of p.0) kind || b) (has_seen kind ps)
     ∙ ap (λ (k : AttributeKind). same_attribute k kind || has_attribute kind (map leaf_entry_of ps)) (kind_seen p.0)
 
--- each bound of a set stands with its key, as it does in the pairs that were read
-pub set_keyed : (pairs ordered : List Pair) → ordered ≡ in_order pair_cmp pairs → AreKeyedPairs pairs → AreKeyed (firsts ordered)
-unfolding AreKeyed
-set_keyed pairs ordered e h =
-    subst (λ (ps : List Pair). All IsKeyed (firsts ps)) (sym e)
-    (All-map-IsPermutation (λ (p : Pair). p.0) IsKeyed pairs (in_order pair_cmp pairs) (in_order_permutation pair_cmp pairs) h)
+-- what the tree doesn't show of the pairs that were read, it doesn't show of the set
+pub set_whole : (pairs ordered : List Pair) → ordered ≡ in_order pair_cmp pairs → AreWholePairs pairs → AreWholeAttributes (firsts ordered)
+unfolding AreWholeAttributes
+set_whole pairs ordered e h =
+    subst (λ (ps : List Pair). All IsWholeAttribute (firsts ps)) (sym e)
+    (All-map-IsPermutation (λ (p : Pair). p.0) IsWholeAttribute pairs (in_order pair_cmp pairs) (in_order_permutation pair_cmp pairs) h)
 
 module _ (recipe : Token) where
   -- reading halts for the first rule that is broken

@@ -16,7 +16,8 @@ use Rattle.justfile_file.specs.declared.fragment.Fragment.{Fragment}
 use Rattle.justfile_file.specs.declared.fragment.Fragment.TheVariants as fragments
 use Rattle.justfile_file.specs.declared.line.Line.{Line}
 use Rattle.justfile_model.specs.Conditions.{Conditions}
-use Rattle.justfile_attribute_set.specs.AttributeSet.{AttributeSet, leaf_entries_of, entries_of as set_entries}
+use Rattle.justfile_attribute_set.specs.AttributeSet.{AttributeSet, leaf_entries_of, pairs_of, entries_of as set_entries}
+use Rattle.justfile_attribute_set.specs.Pairs.{Pair}
 use Rattle.justfile_model.specs.Meaning.{entries_of}
 use Rattle.justfile_model.specs.Sight.{sees_tokens}
 use Rattle.justfile_model.specs.Literals as literals
@@ -30,7 +31,7 @@ use Rattle.justfile_model.proofs.Related.{Alike, AlikeAll, AlikeFragment, AlikeL
 use Rattle.justfile_tree.specs.Expression as model
 use Rattle.justfile_tree.specs.Expression.{expr_of, exprs_of_row, literal_tok, part_tok}
 use Rattle.justfile_tree.specs.declared.expression.Expression.{Expression, And', Assert', Backtick, Call', Comparison', Concatenation', Conditional', FormatString', Group', Join', List', ListConcatenation', Not', Or', StringLiteral, Variable, None', Some', Row_of-Expression as ExpressionRow, end_of-Expression as row_end, more_of-Expression as row_more, Row_of-Expression-FormatString-1-2 as FormatRow, end_of-Expression-FormatString-1-2 as format_row_end, more_of-Expression-FormatString-1-2 as format_row_more}
-use Rattle.justfile_parse.specs.Filled.{AreGivenAttributes, IsGivenFragment, IsGivenLine, AreGivenExpressions, AreGivenParts, IsGivenCommand, IsGivenExpression, IsGivenLiteral, IsGivenPart, first_part, later_part}
+use Rattle.justfile_parse.specs.Filled.{IsGivenAttribute, IsGivenFragment, IsGivenLine, AreGivenExpressions, AreGivenParts, IsGivenCommand, IsGivenExpression, IsGivenLiteral, IsGivenPart, first_part, later_part}
 use Rattle.justfile_parse_expression.specs.TableReader.{leaves, literal_leaf}
 use Rattle.justfile_parse.specs.Tree.{fragment_tree, line_tree}
 use Rattle.justfile_tree.specs.LeafTree.{Leaf, LiteralText, Named, Literal, Command, Text, format_row_tree, literal_of, parts_row_tree, leaf_tree_of, trees_of_row}
@@ -44,10 +45,14 @@ module _ (conditions : Conditions) (IsToken : Token → Type 0) (file_depth : �
   abbrev IsLiteralLeaf : literals.Literal (List ℕ) → Leaf → Tok → Type 0
   IsLiteralLeaf = table.IsLiteralLeaf conditions IsToken file_depth import_offsets
 
+  -- an attribute with the token of its name, by its parts
+  abbrev pub IsGivenPair : Pair → Type 0
+  IsGivenPair p = IsToken p.1.token × IsGivenAttribute conditions.expander IsToken p.0
+
   -- a set whose entries are these holds what the written attributes mean, and its parts are given
   abbrev pub AreMeant : List (Entry Leaf Token) → List (WrittenAttribute Tok Tok) → Type 0
   AreMeant entries ws = (set : AttributeSet) → leaf_entries_of set ≡ entries
-      → (entries_of (sees_tokens conditions.expander) ws ≡ Some (set_entries set)) × AreGivenAttributes conditions.expander IsToken set
+      → (entries_of (sees_tokens conditions.expander) ws ≡ Some (set_entries set)) × All IsGivenPair (pairs_of set)
 
   abbrev pub seen : Relates
   seen = table.seen conditions IsToken file_depth import_offsets AreMeant

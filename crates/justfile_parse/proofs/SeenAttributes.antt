@@ -46,7 +46,7 @@ use Rattle.justfile_tree.specs.Content.{token_content}
 use Rattle.justfile_tree.specs.LeafSight.{leaf_cooked, leaf_literal, leaf_token, sees_leaves}
 use Rattle.justfile_tree.specs.LeafTree.{Leaf, leaf_tree_of}
 use Rattle.justfile_tree.specs.declared.expression.Expression.{Expression}
-use Rattle.justfile_parse.specs.Filled.{AreGivenAttributes, IfThere, IsGivenAttribute, IsGivenBoxed, IsGivenCount, IsGivenLiteral, IsGivenOption, IsGivenProperty}
+use Rattle.justfile_parse.specs.Filled.{IfThere, IsGivenAttribute, IsGivenBoxed, IsGivenCount, IsGivenLiteral, IsGivenOption, IsGivenProperty}
 use Rattle.justfile_parse_expression.specs.TableReader as reader
 use Rattle.justfile_parse.specs.ItemTable.{kept}
 use Rattle.justfile_parse_expression.specs.TableReader.{leaves}
@@ -220,15 +220,18 @@ module _ (conditions : Conditions) (IsToken : Token → Type 0) (file_depth : �
   seen_attribute attributes.Windows (plain kind) = record { same = refl; given = tt }
   seen_attribute (attributes.WorkingDirectory value) (single kind h) = let x = value_seen value _ h in record { same = ap (tree.Single kinds.WorkingDirectory) x.0; given = x.1 }
 
-  pair_seen : (p : Pair) (e : Entry Tok Tok) → AlikeEntry seen (leaf_entry_of p) e → (e ≡ entry_of p) × (IsToken p.1.token × IsGivenAttribute conditions.expander IsToken p.0)
+  abbrev IsGivenPair : Pair → Type 0
+  IsGivenPair = seeing.IsGivenPair conditions IsToken file_depth import_offsets
+
+  pair_seen : (p : Pair) (e : Entry Tok Tok) → AlikeEntry seen (leaf_entry_of p) e → (e ≡ entry_of p) × IsGivenPair p
   pair_seen p e h =
       let x = seen_attribute p.0 h.attribute in
       ((λ i. record { name = sym h.name.is i; attribute = x.same i }), (h.name.among, x.given))
 
   -- the attributes of a set
   set_seen : (set : AttributeSet) {es : List (Entry Tok Tok)} → Each (AlikeEntry seen) (leaf_entries_of set) es
-      → (es ≡ sets.entries_of set) × AreGivenAttributes conditions.expander IsToken set
-  set_seen set h = seeing.all_seen conditions IsToken file_depth import_offsets leaf_entry_of entry_of (λ (p : Pair). IsToken p.1.token × IsGivenAttribute conditions.expander IsToken p.0) pair_seen (pairs_of set) h
+      → (es ≡ sets.entries_of set) × All IsGivenPair (pairs_of set)
+  set_seen set h = seeing.all_seen conditions IsToken file_depth import_offsets leaf_entry_of entry_of IsGivenPair pair_seen (pairs_of set) h
 
   -- ---- what is seen of leaves
 

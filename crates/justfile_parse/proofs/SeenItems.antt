@@ -3,7 +3,7 @@ use Rattle.std.proofs.Common.{◌≡◌, ℕ, Bool, List, [], ◌∷◌, ◌++�
 use Rattle.std.specs.Prelude.{String}
 use Rattle.std.specs.Global.{Global}
 use Rattle.std.specs.Option.{option_map}
-use Rattle.std.proofs.lemmas.List.Elements.{All-cons, All-nil}
+use Rattle.std.proofs.lemmas.List.Elements.{All-cons, All-head, All-nil, All-tail}
 use Rattle.justfile_base.specs.Namepath.{names_in}
 use Rattle.justfile_base.specs.declared.name.Name.{Name}
 use Rattle.justfile_base.specs.declared.namepath.Namepath.{Namepath}
@@ -37,13 +37,17 @@ use Rattle.justfile_setting.specs.LeafSetting.{leaf_value_of}
 use Rattle.justfile_setting.specs.Setting.{keyword_of}
 use Rattle.justfile_tree.specs.LeafTree.{Assigned, AssignmentName, Headed, Leaf, Named, RecipeName, leaf_tree_of}
 use Rattle.justfile_tree.specs.declared.expression.Expression.{Expression}
+use Rattle.justfile_attribute.specs.New.{IsWholeAttribute}
 use Rattle.justfile_attribute_set.specs.AttributeSet as sets
-use Rattle.justfile_attribute_set.specs.AttributeSet.{AttributeSet, leaf_entries_of}
-use Rattle.justfile_parse.specs.Filled.{IsGivenItem, IsGivenLine}
+use Rattle.justfile_attribute_set.specs.AttributeSet.{AttributeSet, leaf_entries_of, pairs_of}
+use Rattle.justfile_attribute_set.specs.Keys.{firsts}
+use Rattle.justfile_attribute_set.specs.Pairs.{Pair}
+use Rattle.justfile_parse.specs.Filled.{AreGivenAttributes, IsGivenAttribute, IsGivenItem, IsGivenLine}
 use Rattle.justfile_parse_expression.specs.TableReader.{assigned_leaf, headed_leaf}
 use Rattle.justfile_parse.specs.Tree.{assignment_name, item_tree, line_tree, numbered_tree, quoted_tree, recipe_header, recipe_name}
 use Rattle.justfile_parse_header.specs.Tree.{name_tree, path_tree}
-use Rattle.justfile_parse.specs.Whole.{IsWholeItem}
+use Rattle.justfile_parse.specs.Whole.{HasWholeAttributes, IsWholeItem}
+use Rattle.justfile_parse_attribute.specs.WholeAttributes.{AreWholeAttributes}
 use Rattle.justfile_parse_expression.proofs.Seen as table
 use Rattle.justfile_parse.proofs.Seen as seeing
 use Rattle.justfile_parse.proofs.SeenHeaders as headers
@@ -69,6 +73,22 @@ module _ (conditions : Conditions) (IsToken : Token → Type 0) (file_depth : �
 
   abbrev IsLeaf : (Token → Leaf) → Leaf → Tok → Type 0
   IsLeaf = table.IsLeaf conditions IsToken file_depth import_offsets
+
+  abbrev IsGivenPair : Pair → Type 0
+  IsGivenPair = seeing.IsGivenPair conditions IsToken file_depth import_offsets
+
+  -- the attributes of a set are given, with what the tree doesn't show of them
+  pairs_given : (ps : List Pair) → All IsGivenPair ps → All IsWholeAttribute (firsts ps) → All (λ (p : Pair). IsToken p.1.token × IsGivenAttribute conditions.expander IsToken p.0 × IsWholeAttribute p.0) ps
+  pairs_given [] given whole = All-nil (λ (p : Pair). IsToken p.1.token × IsGivenAttribute conditions.expander IsToken p.0 × IsWholeAttribute p.0)
+  pairs_given (p ∷ ps) given whole =
+      let here = All-head IsGivenPair p ps given in
+      All-cons (λ (p : Pair). IsToken p.1.token × IsGivenAttribute conditions.expander IsToken p.0 × IsWholeAttribute p.0) p ps
+      (here.0, here.1, All-head IsWholeAttribute p.0 (firsts ps) whole)
+      (pairs_given ps (All-tail IsGivenPair p ps given) (All-tail IsWholeAttribute p.0 (firsts ps) whole))
+
+  whole_given : (set : AttributeSet) → All IsGivenPair (pairs_of set) → HasWholeAttributes set → AreGivenAttributes conditions.expander IsToken set
+  unfolding AreWholeAttributes
+  whole_given set given whole = pairs_given (pairs_of set) given whole
 
   -- ---- items
 
@@ -104,8 +124,8 @@ module _ (conditions : Conditions) (IsToken : Token → Type 0) (file_depth : �
           among = subst IsToken token h.among;
           file_depth_is = ap (λ (x : AssignmentName). x.file_depth) same;
           prelude = ap (λ (x : AssignmentName). x.prelude) same;
-          private = whole;
-          attributes = m.1;
+          private = whole.private;
+          attributes = whole_given b.attributes m.1 whole.attributes;
           value = x.given;
         };
         numbers = λ more h. (number, h);
@@ -147,7 +167,7 @@ module _ (conditions : Conditions) (IsToken : Token → Type 0) (file_depth : �
           import_offsets_are = ap (λ (x : RecipeName). x.import_offsets) same;
           private = whole.private;
           shebang = shebang_given r whole.shebang;
-          attributes = m.1;
+          attributes = whole_given r.attributes m.1 whole.attributes;
         };
         numbers = ps.numbers;
         recipe_numbers = λ more q. (number, q);
@@ -168,7 +188,7 @@ module _ (conditions : Conditions) (IsToken : Token → Type 0) (file_depth : �
         same =
             meant_item conditions.expander (tree.Alias (record { name = t; target = ts })) ws (sets.entries_of b.attributes) m.0
             ∙ (λ i. Some (tree.Construct (sets.entries_of b.attributes) (tree.Alias (record { name = x.0 i; target = y.0 i }))));
-        given = λ whole. record { among = x.1; target = y.1; attributes = m.1 };
+        given = λ whole. record { among = x.1; target = y.1; attributes = whole_given b.attributes m.1 whole };
         numbers = λ more k. k;
         recipe_numbers = λ more k. k;
       }
@@ -185,7 +205,7 @@ module _ (conditions : Conditions) (IsToken : Token → Type 0) (file_depth : �
         same =
             meant_item conditions.expander (tree.Function (record { name = t; parameters = ts; body = e })) ws (sets.entries_of f.attributes) m.0
             ∙ (λ i. Some (tree.Construct (sets.entries_of f.attributes) (tree.Function (record { name = x.0 i; parameters = y.same i; body = z.same i }))));
-        given = λ whole. record { among = x.1; parameters = y.given; body = z.given; attributes = m.1 };
+        given = λ whole. record { among = x.1; parameters = y.given; body = z.given; attributes = whole_given f.attributes m.1 whole };
         numbers = y.numbers;
         recipe_numbers = λ more k. subst (λ (c : ℕ). NumbersFrom c more) (parameters_recipes n (map numbered_tree f.parameters.items)) k;
       }
@@ -200,7 +220,7 @@ module _ (conditions : Conditions) (IsToken : Token → Type 0) (file_depth : �
         same =
             meant_item conditions.expander (tree.Import (record { optional = optional; path = q })) ws (sets.entries_of set) m.0
             ∙ (λ i. Some (tree.Construct (sets.entries_of set) (tree.Import (record { optional = optional; path = x.0 i }))));
-        given = λ whole. record { relative_is = x.1; attributes_are = m.1 };
+        given = λ whole. record { relative_is = x.1; attributes_are = whole_given set m.1 whole };
         numbers = λ more k. k;
         recipe_numbers = λ more k. k;
       }
@@ -217,7 +237,7 @@ module _ (conditions : Conditions) (IsToken : Token → Type 0) (file_depth : �
         same =
             meant_item conditions.expander (tree.Module (bare_module optional t o)) ws (sets.entries_of set) m.0
             ∙ (λ i. Some (tree.Construct (sets.entries_of set) (tree.Module (bare_module optional (x.0 i) (y.0 i)))));
-        given = λ whole. record { among = x.1; relative_is = y.1; attributes_are = m.1 };
+        given = λ whole. record { among = x.1; relative_is = y.1; attributes_are = whole_given set m.1 whole };
         numbers = λ more k. k;
         recipe_numbers = λ more k. k;
       }
@@ -233,7 +253,7 @@ module _ (conditions : Conditions) (IsToken : Token → Type 0) (file_depth : �
         same =
             meant_item conditions.expander (tree.Setting (record { keyword = keyword_of s.value.value; name = t; value = v })) ws (sets.entries_of s.attributes) m.0
             ∙ (λ i. Some (tree.Construct (sets.entries_of s.attributes) (tree.Setting (record { keyword = keyword_of s.value.value; name = x.0 i; value = y.same i }))));
-        given = λ whole. record { among = x.1; value = y.given whole; attributes = m.1 };
+        given = λ whole. record { among = x.1; value = y.given whole.value; attributes = whole_given s.attributes m.1 whole.attributes };
         numbers = λ more k. k;
         recipe_numbers = λ more k. k;
       }
@@ -247,7 +267,7 @@ module _ (conditions : Conditions) (IsToken : Token → Type 0) (file_depth : �
         same =
             meant_item conditions.expander (tree.Unexport t) ws (sets.entries_of set) m.0
             ∙ (λ i. Some (tree.Construct (sets.entries_of set) (tree.Unexport (x.0 i))));
-        given = λ whole. record { among = x.1; attributes_are = m.1 };
+        given = λ whole. record { among = x.1; attributes_are = whole_given set m.1 whole };
         numbers = λ more k. k;
         recipe_numbers = λ more k. k;
       }

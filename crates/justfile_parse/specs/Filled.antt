@@ -1,5 +1,6 @@
 -- What the parser gives the parts of a tree beside their tokens.
 use Rattle.std.specs.Prelude.{◌≡◌, ◌≤◌, ◌↔◌, ◌⊎◌, ℕ, ◌+◌, length, map, Bool, false, List, Option, Some, None, Ok, IsSomeAnd, IsTrue, string_bytes, Contains, All}
+use Rattle.justfile_attribute.specs.New.{IsWholeAttribute}
 use Rattle.justfile_attribute.specs.declared.attribute.Attribute.{Attribute}
 use Rattle.justfile_attribute.specs.declared.attribute.Attribute.TheVariants as attributes
 use Rattle.justfile_attribute.specs.declared.interpreter.Interpreter.{Interpreter}
@@ -168,9 +169,9 @@ module _ (expander : Expansions) (IsToken : Token → Type 0) where
   IsGivenAttribute (attributes.WorkingDirectory value) = IsGivenBoxed value
   IsGivenAttribute _ = Unit {0}
 
-  -- the attributes of a construct, each with the token of its name
+  -- the attributes of a construct, each with the token of its name, and with what the tree doesn't show of it
   abbrev pub AreGivenAttributes : AttributeSet → Type 0
-  AreGivenAttributes set = All (λ (p : Attribute × Name). IsToken p.1.token × IsGivenAttribute p.0) (pairs_of set)
+  AreGivenAttributes set = All (λ (p : Attribute × Name). IsToken p.1.token × IsGivenAttribute p.0 × IsWholeAttribute p.0) (pairs_of set)
 
   -- a name of a path
   abbrev pub IsGivenName : Name → Type 0

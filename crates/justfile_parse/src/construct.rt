@@ -7,7 +7,7 @@ ghost use Rattle.justfile_model.specs.RecipeRules.{exclusions_broken};
 ghost use Rattle.justfile_parse.specs.Exclusions.{IsExclusion};
 ghost use Rattle.justfile_parse.specs.Halting.{IsExtraneousFault};
 ghost use Rattle.justfile_parse.specs.ItemTable as reader;
-ghost use Rattle.justfile_parse.specs.Whole.{is_hidden, is_private};
+ghost use Rattle.justfile_parse.specs.Whole.{AreWholePairs, HasWholeAttributes, is_hidden, is_private};
 ghost use Rattle.justfile_parse_attribute.specs.Attributes.{entry_of_pair};
 ghost use Rattle.justfile_parse_attribute.specs.Halting.{ReadsRuled};
 ghost use Rattle.justfile_parse_expression.specs.TableReader.{State};
@@ -21,16 +21,18 @@ use justfile_parse_expression::significant::TableEntry;
 use std::alloc::Global;
 
 /// The attributes of an item of this kind, whose name or path is at this token, if it may have them.
-#[tactic(auto, using(crate::proofs::Constructs::is_allowed, crate::proofs::Constructs::is_disallowed))]
+#[tactic(auto, using(crate::proofs::Constructs::is_allowed, crate::proofs::Constructs::is_disallowed, crate::proofs::Constructs::set_whole))]
 pub(crate) fn allowed<'src>(
     alloc: Global,
     item: ItemKind,
     attributes: Vec<(Attribute<'src>, Name<'src>)>,
     name: TableEntry<'_, 'src>,
 ) -> Result<AttributeSet<'src>, Halt<'src>>
-    requires { IsConstruct item }
+    requires construct { IsConstruct item }
+    requires whole { AreWholePairs attributes.items }
     ensures reads { (s : State) → ReadsRuled (λ _. tt) result s (reader.allowed item (map entry_of_pair attributes.entry.items) name.entry s) }
     ensures entries { IfOk result (λ set. leaf_entries_of set ≡ reader.in_content_order (map entry_of_pair attributes.entry.items)) }
+    ensures whole { IfOk result HasWholeAttributes }
 {
     let set = AttributeSet::from_read(attributes)?;
     match set.ensure_valid_attributes(item, *name.token) {

@@ -4,7 +4,7 @@ ghost use Rattle.justfile_model.specs.SignificantTokens.{identifiers};
 ghost use Rattle.justfile_parse.specs.ItemTable as reader;
 ghost use Rattle.justfile_parse.specs.MethodResults.{IsMoved};
 ghost use Rattle.justfile_parse.specs.Tree.{item_tree};
-ghost use Rattle.justfile_parse.specs.Whole.{AreKeyedPairs, IsWholeItem};
+ghost use Rattle.justfile_parse.specs.Whole.{AreWholePairs, IsWholeItem};
 ghost use Rattle.justfile_parse.specs.Words.{word_taken, worded};
 ghost use Rattle.justfile_parse_attribute.specs.Attributes.{entry_of_pair};
 ghost use Rattle.justfile_parse_attribute.specs.Halting.{ReadsRuled};
@@ -65,7 +65,7 @@ fn parse_item_attributes<'src, X: Expander>(
 ) -> Result<Vec<(Attribute<'src>, Name<'src>)>, Halt<'src>>
     ensures reads { ReadsRuled (λ pairs. map entry_of_pair pairs.items) result (state_of X.answer parser.new)
         (reader.item_attributes (state_of X.answer parser.old)) }
-    ensures keyed { IfOk result (λ pairs. AreKeyedPairs pairs.items) }
+    ensures whole { IfOk result (λ pairs. AreWholePairs pairs.items) }
     ensures progress { OnOk result (left parser.new ≤ left parser.old) }
 {
     let Some(opener) = parser.peek_if(TokenKind::BracketL) else {
@@ -92,7 +92,7 @@ fn parse_content<'src, X: Expander>(
     attributes: Vec<(Attribute<'src>, Name<'src>)>,
     numerator: &mut Numerator,
 ) -> Result<Item<'src>, Halt<'src>>
-    requires { AreKeyedPairs attributes.items }
+    requires { AreWholePairs attributes.items }
     ensures reads { ReadsCounted item_tree result numerator.new (state_of X.answer parser.new)
         (reader.content (map entry_of_pair attributes.entry.items) (counters_of numerator.old) (state_of X.answer parser.old)) }
     ensures whole { IfOk result IsWholeItem }
@@ -141,6 +141,7 @@ fn parse_after_word<'src, X: Expander>(
     attributes: Vec<(Attribute<'src>, Name<'src>)>,
     numerator: &mut Numerator,
 ) -> Result<Item<'src>, Halt<'src>>
+    requires { AreWholePairs attributes.items }
     ensures reads { ReadsCounted item_tree result numerator.new (state_of X.answer parser.new)
         (worded word (map entry_of_pair attributes.entry.items) (counters_of numerator.old) (state_of X.answer parser.old)) }
     ensures whole { IfOk result IsWholeItem }
@@ -165,7 +166,7 @@ fn parse_wordless<'src, X: Expander>(
     attributes: Vec<(Attribute<'src>, Name<'src>)>,
     numerator: &mut Numerator,
 ) -> Result<Item<'src>, Halt<'src>>
-    requires { AreKeyedPairs attributes.items }
+    requires { AreWholePairs attributes.items }
     ensures reads { ReadsCounted item_tree result numerator.new (state_of X.answer parser.new)
         (reader.wordless (map entry_of_pair attributes.entry.items) (counters_of numerator.old) (state_of X.answer parser.old)) }
     ensures whole { IfOk result IsWholeItem }

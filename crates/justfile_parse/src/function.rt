@@ -4,7 +4,7 @@ ghost use Rattle.justfile_model.specs.SignificantTokens.{identifiers};
 ghost use Rattle.justfile_parse.specs.ItemTable as reader;
 ghost use Rattle.justfile_parse.specs.MethodResults.{IsMoved};
 ghost use Rattle.justfile_parse.specs.Tree.{item_tree};
-ghost use Rattle.justfile_parse.specs.Whole.{IsWholeItem};
+ghost use Rattle.justfile_parse.specs.Whole.{AreWholePairs, IsWholeItem};
 ghost use Rattle.justfile_parse_attribute.specs.Attributes.{entry_of_pair};
 ghost use Rattle.justfile_parse_expression.specs.Significant.{significant_of};
 ghost use Rattle.justfile_parse_expression.specs.View.{left, state_of};
@@ -25,6 +25,7 @@ pub(crate) fn parse_function<'src, X: Expander>(
     attributes: Vec<(Attribute<'src>, Name<'src>)>,
     numerator: &mut Numerator,
 ) -> Result<Item<'src>, Halt<'src>>
+    requires { AreWholePairs attributes.items }
     ensures reads { ReadsCounted item_tree result numerator.new (state_of X.answer parser.new)
         (reader.function (map entry_of_pair attributes.entry.items) (counters_of numerator.old) (state_of X.answer parser.old)) }
     ensures whole { IfOk result IsWholeItem }

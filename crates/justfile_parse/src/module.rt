@@ -3,7 +3,7 @@ ghost use Rattle.std.specs.Prelude.{◌<◌, IfOk, OnOk, map};
 ghost use Rattle.justfile_parse.specs.ItemTable as reader;
 ghost use Rattle.justfile_parse.specs.MethodResults.{ReadsUncounted};
 ghost use Rattle.justfile_parse.specs.Tree.{item_tree};
-ghost use Rattle.justfile_parse.specs.Whole.{IsWholeItem};
+ghost use Rattle.justfile_parse.specs.Whole.{AreWholePairs, IsWholeItem};
 ghost use Rattle.justfile_parse_attribute.specs.Attributes.{entry_of_pair};
 ghost use Rattle.justfile_parse_expression.specs.View.{left, state_of};
 
@@ -22,6 +22,7 @@ pub(crate) fn parse_module<'src, X: Expander>(
     parser: &mut ExpressionParser<'_, 'src, X>,
     attributes: Vec<(Attribute<'src>, Name<'src>)>,
 ) -> Result<Item<'src>, Halt<'src>>
+    requires { AreWholePairs attributes.items }
     ensures reads { ReadsUncounted item_tree result (state_of X.answer parser.new)
         (λ n. reader.any_module (map entry_of_pair attributes.entry.items) n (state_of X.answer parser.old)) }
     ensures whole { IfOk result IsWholeItem }
@@ -38,6 +39,7 @@ fn parse_named_module<'src, X: Expander>(
     optional: bool,
     attributes: Vec<(Attribute<'src>, Name<'src>)>,
 ) -> Result<Item<'src>, Halt<'src>>
+    requires { AreWholePairs attributes.items }
     ensures reads { ReadsUncounted item_tree result (state_of X.answer parser.new)
         (λ n. reader.named_module optional (map entry_of_pair attributes.entry.items) n (state_of X.answer parser.old)) }
     ensures whole { IfOk result IsWholeItem }

@@ -6,7 +6,7 @@ ghost use Rattle.justfile_model.specs.SignificantTokens.{identifiers};
 ghost use Rattle.justfile_parse.specs.ItemTable as reader;
 ghost use Rattle.justfile_parse.specs.MethodResults.{IsMoved};
 ghost use Rattle.justfile_parse.specs.Tree.{line_tree, recipe_tree};
-ghost use Rattle.justfile_parse.specs.Whole.{AreKeyedPairs, IsWholeRecipe};
+ghost use Rattle.justfile_parse.specs.Whole.{AreWholePairs, IsWholeRecipe};
 ghost use Rattle.justfile_parse_attribute.specs.Attributes.{entry_of_pair};
 ghost use Rattle.justfile_parse_expression.specs.Significant.{significant_of};
 ghost use Rattle.justfile_parse_expression.specs.TableReader.{State};
@@ -30,7 +30,7 @@ pub(crate) fn parse_any_recipe<'src, X: Expander>(
     attributes: Vec<(Attribute<'src>, Name<'src>)>,
     numerator: &mut Numerator,
 ) -> Result<UnresolvedRecipe<'src>, Halt<'src>>
-    requires { AreKeyedPairs attributes.items }
+    requires { AreWholePairs attributes.items }
     ensures reads { ReadsCounted recipe_tree result numerator.new (state_of X.answer parser.new)
         (reader.any_recipe (map entry_of_pair attributes.entry.items) (counters_of numerator.old) (state_of X.answer parser.old)) }
     ensures whole { IfOk result IsWholeRecipe }
@@ -45,14 +45,14 @@ pub(crate) fn parse_any_recipe<'src, X: Expander>(
 
 /// A recipe from its name to its end: its header, and the body if it has one. The recipe is numbered
 /// after its body.
-#[tactic(auto, using(crate::proofs::Moved::unmoved))]
+#[tactic(auto, using(crate::proofs::Moved::unmoved, crate::proofs::Constructs::set_whole))]
 fn parse_recipe<'src, X: Expander>(
     parser: &mut ExpressionParser<'_, 'src, X>,
     attributes: Vec<(Attribute<'src>, Name<'src>)>,
     quiet: bool,
     numerator: &mut Numerator,
 ) -> Result<UnresolvedRecipe<'src>, Halt<'src>>
-    requires { AreKeyedPairs attributes.items }
+    requires { AreWholePairs attributes.items }
     ensures reads { ReadsCounted recipe_tree result numerator.new (state_of X.answer parser.new)
         (reader.recipe quiet (map entry_of_pair attributes.entry.items) (counters_of numerator.old) (state_of X.answer parser.old)) }
     ensures whole { IfOk result IsWholeRecipe }

@@ -3,4 +3,4 @@ pub mod AttributeLoops
 pub mod AttributeSteps
 pub mod KeysPut
 pub mod RepeatedAttributes
-pub mod StillKeyed
+pub mod StillWhole

@@ -1,9 +1,8 @@
 -- Bounds of attributes that stand with their keys.
-use Rattle.std.specs.Prelude.{All, IsTrue, List, map}
+use Rattle.std.specs.Prelude.{All, IsTrue, List}
 use Rattle.std.specs.Option.{is_some}
 use Rattle.justfile_attribute.specs.declared.attribute.Attribute.{Attribute}
 use Rattle.justfile_attribute.specs.declared.attribute.Attribute.TheVariants as variants
-use Rattle.justfile_base.specs.declared.name.Name.{Name}
 
 -- a bound stands with its key
 abbrev pub IsKeyed : Attribute → Type 0
@@ -14,11 +13,3 @@ IsKeyed _ = Unit {0}
 -- each bound of the attributes stands with its key
 unfoldable pub AreKeyed : List Attribute → Type 0
 AreKeyed attributes = All IsKeyed attributes
-
--- each bound of the attributes that are read stands with its key
-abbrev pub AreKeyedPairs : List (Attribute × Name) → Type 0
-AreKeyedPairs pairs = AreKeyed (map (λ p. p.0) pairs)
-
--- where the old ones do, so do the new ones
-unfoldable pub KeepsKeyed : (old new : List (Attribute × Name)) → Type 0
-KeepsKeyed old new = AreKeyedPairs old → AreKeyedPairs new

@@ -4,3 +4,4 @@ pub mod AttributeTable
 pub mod Attributes
 pub mod Halting
 pub mod KeyedBounds
+pub mod WholeAttributes

@@ -8,7 +8,7 @@ ghost use Rattle.justfile_model.specs.Rules.{AttributePositionalFollowsKeyword, 
 ghost use Rattle.justfile_model.specs.Tree as tree;
 ghost use Rattle.justfile_parse_attribute.specs.Attributes.{arguments_of, entry_of_pair};
 ghost use Rattle.justfile_parse_attribute.specs.Halting.{ReadsRuled};
-ghost use Rattle.justfile_parse_attribute.specs.KeyedBounds.{AreKeyedPairs, KeepsKeyed};
+ghost use Rattle.justfile_parse_attribute.specs.WholeAttributes.{AreWholePairs, KeepsWholePairs};
 ghost use Rattle.justfile_parse_expression.specs.MethodResults.{Reads};
 ghost use Rattle.justfile_parse_expression.specs.TableReader as table;
 ghost use Rattle.justfile_parse_attribute.specs.AttributeTable as reader;
@@ -27,13 +27,13 @@ use justfile_parse_expression::{ExpressionParser, Refusal, Stop};
 use justfile_tree::Expression;
 
 /// The lines of attributes before a construct, each attribute with its name.
-#[tactic(auto, using(crate::proofs::AttributeLoops::lines_end, crate::proofs::AttributeLoops::lines_go_on, crate::proofs::StillKeyed::then_keyed))]
+#[tactic(auto, using(crate::proofs::AttributeLoops::lines_end, crate::proofs::AttributeLoops::lines_go_on, crate::proofs::StillWhole::then_whole))]
 pub fn parse_attributes<'src, X: Expander>(
     parser: &mut ExpressionParser<'_, 'src, X>,
 ) -> Result<Vec<(Attribute<'src>, Name<'src>)>, Halt<'src>>
     ensures reads { ReadsRuled (λ pairs. map entry_of_pair pairs.items) result (state_of X.answer parser.new)
         (reader.attribute_lines (state_of X.answer parser.old)) }
-    ensures keyed { IfOk result (λ pairs. AreKeyedPairs pairs.items) }
+    ensures whole { IfOk result (λ pairs. AreWholePairs pairs.items) }
     ensures progress { OnOk result (left parser.new ≤ left parser.old) }
 {
     let mut attributes = Vec::new(parser.alloc);
@@ -46,14 +46,14 @@ pub fn parse_attributes<'src, X: Expander>(
 
 /// A line of attributes, if a bracket opens, after those before it. Whether the lines are at
 /// their end.
-#[tactic(auto, using(crate::proofs::AttributeSteps::broken_first, crate::proofs::StillKeyed::same_keyed), unfolding(crate::specs::AttributeTable::line_step))]
+#[tactic(auto, using(crate::proofs::AttributeSteps::broken_first, crate::proofs::StillWhole::same_whole), unfolding(crate::specs::AttributeTable::line_step))]
 fn parse_next_line<'src, X: Expander>(
     parser: &mut ExpressionParser<'_, 'src, X>,
     attributes: &mut Vec<(Attribute<'src>, Name<'src>)>,
 ) -> Result<bool, Halt<'src>>
     ensures reads { ReadsRuled (λ is_last. (map entry_of_pair attributes.new.items, is_last)) result (state_of X.answer parser.new)
         (reader.line_step (map entry_of_pair attributes.old.items) (state_of X.answer parser.old)) }
-    ensures keyed { OnOk result (KeepsKeyed attributes.old.items attributes.new.items) }
+    ensures whole { OnOk result (KeepsWholePairs attributes.old.items attributes.new.items) }
     ensures progress { OnOk result (left parser.new ≤ left parser.old) }
     ensures shrinks { IfOk result (λ is_last. is_last ≡ false → left parser.new < left parser.old) }
 {
@@ -72,7 +72,7 @@ fn parse_attribute_line<'src, X: Expander>(
 ) -> Result<(), Halt<'src>>
     ensures reads { ReadsRuled (λ _. map entry_of_pair attributes.new.items) result (state_of X.answer parser.new)
         (reader.attribute_line (map entry_of_pair attributes.old.items) (state_of X.answer parser.old)) }
-    ensures keyed { OnOk result (KeepsKeyed attributes.old.items attributes.new.items) }
+    ensures whole { OnOk result (KeepsWholePairs attributes.old.items attributes.new.items) }
     ensures progress { OnOk result (left parser.new < left parser.old) }
 {
     parse_bracketed(parser, attributes)?;
@@ -81,14 +81,14 @@ fn parse_attribute_line<'src, X: Expander>(
 }
 
 /// The attributes of a bracket and its end, after those before it.
-#[tactic(auto, using(crate::proofs::AttributeLoops::bracket_ends, crate::proofs::AttributeLoops::bracket_goes_on, crate::proofs::StillKeyed::same_keyed, crate::proofs::StillKeyed::both_keyed))]
+#[tactic(auto, using(crate::proofs::AttributeLoops::bracket_ends, crate::proofs::AttributeLoops::bracket_goes_on, crate::proofs::StillWhole::same_whole, crate::proofs::StillWhole::both_whole))]
 fn parse_bracketed<'src, X: Expander>(
     parser: &mut ExpressionParser<'_, 'src, X>,
     attributes: &mut Vec<(Attribute<'src>, Name<'src>)>,
 ) -> Result<(), Halt<'src>>
     ensures reads { ReadsRuled (λ _. map entry_of_pair attributes.new.items) result (state_of X.answer parser.new)
         (reader.bracketed (map entry_of_pair attributes.old.items, state_of X.answer parser.old)) }
-    ensures keyed { OnOk result (KeepsKeyed attributes.old.items attributes.new.items) }
+    ensures whole { OnOk result (KeepsWholePairs attributes.old.items attributes.new.items) }
     ensures progress { OnOk result (left parser.new < left parser.old) }
 {
     'bracket: loop {
@@ -106,7 +106,7 @@ fn parse_next_attribute<'src, X: Expander>(
 ) -> Result<bool, Halt<'src>>
     ensures reads { ReadsRuled (λ is_last. (map entry_of_pair attributes.new.items, is_last)) result (state_of X.answer parser.new)
         (reader.bracket_step (map entry_of_pair attributes.old.items) (state_of X.answer parser.old)) }
-    ensures keyed { OnOk result (KeepsKeyed attributes.old.items attributes.new.items) }
+    ensures whole { OnOk result (KeepsWholePairs attributes.old.items attributes.new.items) }
     ensures progress { OnOk result (left parser.new < left parser.old) }
 {
     parse_attribute(parser, attributes)?;
@@ -176,7 +176,7 @@ fn parse_attribute<'src, X: Expander>(
 ) -> Result<(), Halt<'src>>
     ensures reads { ReadsRuled (λ _. map entry_of_pair attributes.new.items) result (state_of X.answer parser.new)
         (reader.one_attribute (map entry_of_pair attributes.old.items) (state_of X.answer parser.old)) }
-    ensures keyed { OnOk result (KeepsKeyed attributes.old.items attributes.new.items) }
+    ensures whole { OnOk result (KeepsWholePairs attributes.old.items attributes.new.items) }
     ensures progress { OnOk result (left parser.new < left parser.old) }
 {
     let name = parser.expect(TokenKind::Identifier)?;
@@ -216,7 +216,7 @@ fn push_attribute<'src, X: Expander>(
 ) -> Result<(), Halt<'src>>
     ensures reads { ReadsRuled (λ _. map entry_of_pair attributes.new.items) result (state_of X.answer parser.now)
         (reader.one_made (map entry_of_pair attributes.old.items) name.entry.token kind (arguments_of arguments.entry) (state_of X.answer parser.now)) }
-    ensures keyed { OnOk result (KeepsKeyed attributes.old.items attributes.new.items) }
+    ensures whole { OnOk result (KeepsWholePairs attributes.old.items attributes.new.items) }
 {
     match push_made(parser.alloc, attributes, name, kind, arguments) {
         Ok(()) => {}

@@ -2,6 +2,7 @@
 ghost use Rattle.std.specs.Prelude.{◌≡◌, ◌∷◌, ◌++◌, [], IfErr, IfOk, IsTrue, OnOk, map, string_bytes};
 ghost use Rattle.std.specs.Option.{option_map};
 ghost use Rattle.justfile_attribute.specs.Attribute.{leaf_attribute_of};
+ghost use Rattle.justfile_attribute.specs.New.{IsWholeAttribute};
 ghost use Rattle.justfile_attribute_rules.specs.Made.{IsRefusedBy, Makes, quoted_leaf};
 ghost use Rattle.justfile_model.specs.AttributeRules.{duplicate_rule, excludes, label_of, same_label};
 ghost use Rattle.justfile_model.specs.Meaning.{by_key, by_position};
@@ -12,7 +13,7 @@ ghost use Rattle.justfile_parse_attribute.specs.ArgumentKeys.{HasKeys, IsPut, ar
 ghost use Rattle.justfile_base.specs.declared.fault.Fault.TheVariants.{Memory};
 ghost use Rattle.justfile_parse_attribute.specs.AddedAttributes.{Adds, ChecksLast};
 ghost use Rattle.justfile_parse_attribute.specs.Attributes.{arguments_of, entry_of_pair};
-ghost use Rattle.justfile_parse_attribute.specs.KeyedBounds.{IsKeyed, KeepsKeyed};
+ghost use Rattle.justfile_parse_attribute.specs.WholeAttributes.{KeepsWholePairs};
 ghost use Rattle.justfile_tree.specs.LeafSight.{sees_leaves};
 
 use crate::arguments::Arguments;
@@ -38,7 +39,7 @@ pub(crate) fn push_made<'src>(
 ) -> CompileResult<'src>
     ensures added { Adds result (new.new_attribute sees_leaves name.entry.token kind (by_position (arguments_of arguments.entry)) (by_key (arguments_of arguments.entry)))
         name.entry attributes.old.items attributes.new.items }
-    ensures keyed { OnOk result (KeepsKeyed attributes.old.items attributes.new.items) }
+    ensures whole { OnOk result (KeepsWholePairs attributes.old.items attributes.new.items) }
 {
     match new_attribute(alloc, name, kind, arguments) {
         Ok(attribute) => push_pair(attributes, attribute, name),
@@ -68,7 +69,7 @@ fn push_pair<'src>(
 /// # Errors
 ///
 /// `Compile` if a rule is broken; `Memory` if memory runs out.
-#[tactic(auto, using(crate::proofs::KeysPut::made_same, crate::proofs::StillKeyed::made_keyed))]
+#[tactic(auto, using(crate::proofs::KeysPut::made_same))]
 fn new_attribute<'src>(
     alloc: Global,
     name: Name<'src>,
@@ -77,7 +78,7 @@ fn new_attribute<'src>(
 ) -> CompileResult<'src, Attribute<'src>>
     ensures made { Makes leaf_attribute_of result (new.new_attribute sees_leaves name.entry.token kind
         (by_position (arguments_of arguments.entry)) (by_key (arguments_of arguments.entry))) }
-    ensures keyed { IfOk result IsKeyed }
+    ensures whole { IfOk result IsWholeAttribute }
 {
     let Arguments { positional, keyed } = arguments;
     let keys = keys_by_text(alloc, keyed)?;

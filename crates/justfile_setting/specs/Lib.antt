@@ -2,5 +2,6 @@ pub mod Copies
 pub mod Form
 pub mod LeafSetting
 pub mod Print
+pub mod Resolved
 pub mod Setting
 pub mod Value

@@ -4,6 +4,7 @@
 mod copied;
 mod form;
 mod print;
+mod resolve;
 pub mod setting;
 mod value;
 

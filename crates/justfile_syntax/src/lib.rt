@@ -15,11 +15,12 @@ pub mod ast {
 
 pub mod attribute {
     pub use justfile_attribute::{Attribute, attribute_content_cmp};
+    pub use justfile_attribute_rules::KeywordArguments;
     pub use justfile_base::AttributeKind;
 }
 
 pub mod attribute_set {
-    pub use justfile_attribute_set::AttributeSet;
+    pub use justfile_attribute_set::{AttributeSet, IntoKeys, Keys};
 }
 
 pub mod binding {
@@ -92,11 +93,17 @@ pub mod keyword {
 }
 
 pub mod laws {
-    pub use justfile_base::laws::{attribute_names, indentation_texts, one_spelling, signal_names};
+    pub use justfile_attribute::laws::{attributes_equal, new_attributes};
+    pub use justfile_attribute_set::laws::sets_in_order;
+    pub use justfile_base::laws::{
+        attribute_names, indentation_texts, one_spelling, signal_names, versions_ordered,
+    };
+    pub use justfile_file::laws::same_numbers;
     pub use justfile_literal::laws::{
         answer_for_all as literal_for_all, cooked_is_utf8, indentation_is_longest, lines_joined,
         longest_front, one_answer as one_literal, unindented_already,
     };
+    pub use justfile_model::attribute_laws::{attributes_made, content_order};
     pub use justfile_model::grammar_laws::{
         counts, expanders, normal_twice, numbers_rise, printing, reads, shapes,
     };
@@ -109,6 +116,10 @@ pub mod laws {
         open_is_unclosed, reads_up_to_first_end,
     };
     pub use justfile_round_trip::{modes_agree, reads_back};
+    pub use justfile_tree::laws::{
+        cases_ordered, expressions_ordered, literals_ordered, modulepaths_ordered,
+        namepaths_ordered, names_ordered, numbers_ordered, string_kinds_ordered, tokens_ordered,
+    };
 }
 
 pub mod lexer {
@@ -219,6 +230,10 @@ pub mod unstable_feature {
 
 pub mod version {
     pub use justfile_base::Version;
+}
+
+pub mod write_fault {
+    pub use justfile_file::WriteFault;
 }
 
 #[cfg(test)]

@@ -7,6 +7,7 @@ mod ExpressionRows
 mod Joined
 mod Loops
 mod Nodes
+mod Resolved
 mod Rows
 pub mod Trees
 mod Walk

@@ -1,3 +1,4 @@
+pub mod Cases
 pub mod Children
 pub mod Content
 pub mod ContentLaws
@@ -9,6 +10,8 @@ pub mod LeafSight
 pub mod LeafTree
 pub mod ListOperator
 pub mod Order
+pub mod Orders
+pub mod Resolved
 pub mod SeenKeys
 pub mod SinkLaws
 pub mod Text

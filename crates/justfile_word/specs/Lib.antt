@@ -14,3 +14,4 @@ pub mod Switch
 pub mod Text
 pub mod TokenKind
 pub mod Version
+pub mod VersionOrder

@@ -1,13 +1,19 @@
 //! Laws of the definitions, each the contract of a function that does nothing.
 ghost use Rattle.std.specs.Prelude.{◌≡◌, ◌↔◌, ℕ, List, None, Some};
+ghost use Rattle.std.specs.Cmp.{IsTotalOrder};
+ghost use Rattle.std.specs.Ordering.{eq_by_cmp};
 ghost use Rattle.justfile_word.specs.AttributeKind.{attribute_name, kind_named};
 ghost use Rattle.justfile_word.specs.Indentation.{IsIndentation, indentation_refusal, indentation_text};
 ghost use Rattle.justfile_word.specs.Keyword.{keyword_text};
 ghost use Rattle.justfile_word.specs.Signal.{signal_name, signal_named};
+ghost use Rattle.justfile_word.specs.VersionOrder.{version_cmp};
+ghost use Rattle.justfile_word.specs.contracts.version.VersionOrd.TheImpl as version_order;
+ghost use Rattle.justfile_word.specs.contracts.version.VersionPartialEq.TheImpl as version_equality;
 ghost use Rattle.justfile_word.specs.declared.attribute_kind.AttributeKind.{AttributeKind};
 ghost use Rattle.justfile_word.specs.declared.indentation.Indentation.{Indentation};
 ghost use Rattle.justfile_word.specs.declared.keyword.Keyword.{Keyword};
 ghost use Rattle.justfile_word.specs.declared.signal.Signal.{Signal};
+ghost use Rattle.justfile_word.specs.declared.version.Version.{Version};
 
 /// The texts of indentations are those of one or more equal blanks.
 pub fn indentation_texts()
@@ -29,4 +35,12 @@ pub fn attribute_names()
 /// A text names a signal exactly if it is the name of that signal.
 pub fn signal_names()
     ensures { (text : List ℕ) (s : Signal) → (signal_named text ≡ Some s) ↔ (text ≡ signal_name s) }
+{}
+
+/// Versions are compared by their first numbers, then by the second, then by the third. The order
+/// is total, and it agrees with `==`.
+pub fn versions_ordered()
+    ensures order { (v w : Version) → version_order.cmp-value.it v w ≡ version_cmp v w }
+    ensures total { IsTotalOrder version_cmp }
+    ensures ties { (v w : Version) → version_equality.eq-value.it v w ≡ eq_by_cmp version_cmp v w }
 {}

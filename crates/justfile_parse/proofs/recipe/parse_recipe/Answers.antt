@@ -1,22 +1,24 @@
 use Rattle.std.proofs.Common.{◌+◌, ◌≡◌, ◌∙◌, map, rules, subst, sym}
 use Rattle.std.proofs.lemmas.Result.{err_from_is_err_and}
-use Rattle.justfile_attribute_set.specs.AttributeSet.{leaf_entries_of, pairs_of}
+use Rattle.justfile_attribute_set.specs.AttributeSet.{attributes_of, leaf_entries_of, pairs_of}
 use Rattle.justfile_word.specs.declared.numerator.Numerator.{Numerator}
 use Rattle.justfile_model.specs.Reading as reading
 use Rattle.justfile_parse.specs.MethodResults.{IsMoved}
 use Rattle.justfile_parse.specs.Tree.{line_tree}
 use Rattle.justfile_parse_attribute.specs.Attributes.{entry_of_pair}
+use Rattle.justfile_parse_attribute.proofs.StillWhole.{all_keyed}
 use Rattle.justfile_parse_expression.specs.View.{state_of}
 use Rattle.justfile_parse_expression.proofs.Rest.{file_depth_is, import_offsets_are}
 use Rattle.justfile_parse_header.specs.Counting.{counters_of, names}
 use Rattle.justfile_parse_header.specs.Tree.{header_tree}
-use Rattle.justfile_parse.proofs.Constructs.{set_keyed}
+use Rattle.justfile_parse.proofs.Constructs.{set_whole}
 use Rattle.justfile_parse.proofs.Moved.{drawn_moved, recipe_moved}
 use Rattle.justfile_parse.proofs.Recipes.{body_stops, exclusion_halts, header_halts, number_stops, recipe_named, recipe_read}
 use Rattle.justfile_parse.proofs.recipe.parse_recipe.Goals as goal
 
 pub parse_header-requires : goal.parse_header-requires
-parse_header-requires g c = set_keyed c.args.attributes.items (pairs_of c.in_ok-attributes.attributes) c.in_ok-attributes.ensures.pairs c.requires
+parse_header-requires g c =
+    all_keyed (attributes_of c.in_ok-attributes.attributes) (set_whole c.args.attributes.items (pairs_of c.in_ok-attributes.attributes) c.in_ok-attributes.ensures.pairs c.requires)
 
 pub returns-in_err-header-clause-reads : goal.returns-in_err-header-clause-reads
 returns-in_err-header-clause-reads g c =

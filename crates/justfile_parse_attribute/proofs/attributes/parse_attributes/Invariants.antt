@@ -1,7 +1,7 @@
 use Rattle.std.proofs.Common.{◌≡◌, ◌≤◌, map}
 use Rattle.justfile_parse_attribute.specs.AttributeTable.{attribute_lines, attribute_lines_from}
 use Rattle.justfile_parse_attribute.specs.Attributes.{entry_of_pair}
-use Rattle.justfile_parse_attribute.specs.KeyedBounds.{AreKeyedPairs}
+use Rattle.justfile_parse_attribute.specs.WholeAttributes.{AreWholePairs}
 use Rattle.justfile_parse_expression.specs.View.{left, state_of}
 use Rattle.justfile_parse_attribute.proofs.attributes.parse_attributes.Given as goal
 
@@ -9,7 +9,7 @@ abbrev pub invariant-lines : goal.invariant-lines
 invariant-lines g l = record {
   ahead : left l.parser ≤ left l.fn.parser;
   value : attribute_lines_from (map entry_of_pair l.attributes.items, state_of g.X.Expander.answer l.parser) ≡ attribute_lines (state_of g.X.Expander.answer l.fn.parser);
-  keyed : AreKeyedPairs l.attributes.items;
+  whole : AreWholePairs l.attributes.items;
 }
 
 abbrev pub decreases-lines : goal.decreases-lines

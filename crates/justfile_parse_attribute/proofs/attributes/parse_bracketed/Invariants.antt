@@ -1,7 +1,7 @@
 use Rattle.std.proofs.Common.{◌≡◌, ◌≤◌, map}
 use Rattle.justfile_parse_attribute.specs.AttributeTable.{bracketed}
 use Rattle.justfile_parse_attribute.specs.Attributes.{entry_of_pair}
-use Rattle.justfile_parse_attribute.specs.KeyedBounds.{KeepsKeyed}
+use Rattle.justfile_parse_attribute.specs.WholeAttributes.{KeepsWholePairs}
 use Rattle.justfile_parse_expression.specs.View.{left, state_of}
 use Rattle.justfile_parse_attribute.proofs.attributes.parse_bracketed.Given as goal
 
@@ -9,7 +9,7 @@ abbrev pub invariant-bracket : goal.invariant-bracket
 invariant-bracket g l = record {
   ahead : left l.parser ≤ left l.fn.parser;
   value : bracketed (map entry_of_pair l.attributes.items, state_of g.X.Expander.answer l.parser) ≡ bracketed (map entry_of_pair l.fn.attributes.items, state_of g.X.Expander.answer l.fn.parser);
-  keyed : KeepsKeyed l.fn.attributes.items l.attributes.items;
+  whole : KeepsWholePairs l.fn.attributes.items l.attributes.items;
 }
 
 abbrev pub decreases-bracket : goal.decreases-bracket

@@ -10,7 +10,7 @@ returns-in-Err g c =
     let s = state_of g.X.Expander.answer c.args.parser.now in
     record {
       reads = not_made c.args.attributes.now.items c.args.name c.args.kind (arguments_of c.args.arguments) s c.in-Err.fault c.make_halt.result c.make_halt.ensures c.in-Err.ensures.added;
-      keyed = tt;
+      whole = tt;
     }
 
 pub returns-in-Ok-check_last : goal.returns-in-Ok-check_last
@@ -19,7 +19,7 @@ returns-in-Ok-check_last g c =
     record {
       reads = made_last c.args.attributes.now.items c.args.name c.args.kind (arguments_of c.args.arguments) s c.push_made.new.attributes.items c.in-Ok.ensures.added
           (subst (ChecksLast (Ok tt)) c.as_slice.ensures.value c.in-Ok-check_last.ensures);
-      keyed = c.in-Ok.ensures.keyed;
+      whole = c.in-Ok.ensures.whole;
     }
 
 pub returns-in-Err-check_last : goal.returns-in-Err-check_last
@@ -30,5 +30,5 @@ returns-in-Err-check_last g c =
       reads = made_refused c.args.attributes.now.items c.args.name c.args.kind (arguments_of c.args.arguments) s c.push_made.new.attributes.items fault
           c.make_halt-in-Err-check_last.result c.in-Ok.ensures.added c.make_halt-in-Err-check_last.ensures
           (subst (ChecksLast (Err fault)) c.as_slice.ensures.value c.in-Err-check_last.ensures);
-      keyed = tt;
+      whole = tt;
     }

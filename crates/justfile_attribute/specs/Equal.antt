@@ -1,0 +1,67 @@
+-- When two attributes are equal.
+use Rattle.std.specs.Prelude.{Bool, ◌&&◌}
+use Rattle.std.specs.Cmp.Lexicographic.{pointwise}
+use Rattle.std.specs.Global.{Box}
+use Rattle.std.specs.Option.{option_eq}
+use Rattle.std.specs.Bool.{nat_eq}
+use Rattle.std.specs.String.{string_eq}
+use Rattle.justfile_base.specs.contracts.name.NamePartialEq.TheImpl as names
+use Rattle.justfile_base.specs.contracts.string_literal.StringLiteralPartialEq.TheImpl as literals
+use Rattle.justfile_base.specs.contracts.token.TokenPartialEq.TheImpl as tokens
+use Rattle.justfile_base.specs.declared.name.Name.{Name}
+use Rattle.justfile_base.specs.declared.string_literal.StringLiteral.{StringLiteral}
+use Rattle.justfile_base.specs.declared.token.Token.{Token}
+use Rattle.justfile_word.specs.contracts.signal.SignalPartialEq.TheImpl as signals
+use Rattle.justfile_word.specs.declared.signal.Signal.{Signal}
+use Rattle.justfile_model.specs.AttributeKinds.{same_attribute}
+use Rattle.justfile_tree.specs.contracts.order.ExpressionPartialEq.TheImpl as expressions
+use Rattle.justfile_tree.specs.declared.expression.Expression.{Expression}
+use Rattle.justfile_attribute.specs.Order.{case_kind}
+use Rattle.justfile_attribute.specs.declared.attribute.Attribute.{Attribute}
+use Rattle.justfile_attribute.specs.declared.attribute.Attribute.TheVariants as attributes
+use Rattle.justfile_attribute.specs.declared.interpreter.Interpreter.{Interpreter}
+
+abbrev pub token_eq : Token → Token → Bool
+token_eq = tokens.eq-value.it
+
+abbrev pub name_eq : Name → Name → Bool
+name_eq = names.eq-value.it
+
+abbrev pub literal_eq : StringLiteral → StringLiteral → Bool
+literal_eq = literals.eq-value.it
+
+abbrev pub signal_eq : Signal → Signal → Bool
+signal_eq = signals.eq-value.it
+
+-- an expression, wherever its box lies
+abbrev pub boxed_eq : Box Expression → Box Expression → Bool
+boxed_eq x y = expressions.eq-value.it x.value y.value
+
+-- a key and its value
+abbrev pub property_eq : Name × Box Expression → Name × Box Expression → Bool
+property_eq p q = name_eq p.0 q.0 && boxed_eq p.1 q.1
+
+abbrev pub interpreter_eq : Interpreter StringLiteral → Interpreter StringLiteral → Bool
+interpreter_eq i j = literal_eq i.command j.command && pointwise literal_eq i.arguments.items j.arguments.items
+
+-- they are of one case, and all their fields are equal, places included
+abbrev pub attribute_eq : Attribute → Attribute → Bool
+attribute_eq (attributes.Arg flag help property long long_key max max_key min min_key multiple name pattern short short_key value)
+    (attributes.Arg flag' help' property' long' long_key' max' max_key' min' min_key' multiple' name' pattern' short' short_key' value') =
+    option_eq token_eq flag flag' && (option_eq string_eq help help' && (option_eq property_eq property property' && (option_eq literal_eq long long'
+    && (option_eq name_eq long_key long_key' && (option_eq nat_eq max max' && (option_eq name_eq max_key max_key' && (option_eq nat_eq min min'
+    && (option_eq name_eq min_key min_key' && (option_eq token_eq multiple multiple' && (literal_eq name name' && (option_eq property_eq pattern pattern'
+    && (option_eq literal_eq short short' && (option_eq name_eq short_key short_key' && option_eq boxed_eq value value')))))))))))))
+attribute_eq (attributes.Cache extra inputs outputs) (attributes.Cache extra' inputs' outputs') =
+    option_eq boxed_eq extra extra' && (option_eq boxed_eq inputs inputs' && option_eq boxed_eq outputs outputs')
+attribute_eq (attributes.Confirm x) (attributes.Confirm y) = option_eq boxed_eq x y
+attribute_eq (attributes.Continue x) (attributes.Continue y) = pointwise signal_eq x.keys y.keys
+attribute_eq (attributes.Doc x) (attributes.Doc y) = option_eq boxed_eq x y
+attribute_eq (attributes.Env name value) (attributes.Env name' value') = boxed_eq name name' && boxed_eq value value'
+attribute_eq (attributes.Extension x) (attributes.Extension y) = literal_eq x y
+attribute_eq (attributes.Group x) (attributes.Group y) = literal_eq x y
+attribute_eq (attributes.Metadata x) (attributes.Metadata y) = pointwise literal_eq x.items y.items
+attribute_eq (attributes.Script x) (attributes.Script y) = option_eq interpreter_eq x y
+attribute_eq (attributes.Timestamp x) (attributes.Timestamp y) = option_eq boxed_eq x y
+attribute_eq (attributes.WorkingDirectory x) (attributes.WorkingDirectory y) = boxed_eq x y
+attribute_eq a b = same_attribute (case_kind a) (case_kind b)

@@ -1,0 +1,52 @@
+-- What the tree doesn't show of attributes, one after another.
+use Rattle.std.proofs.Common.{◌≡◌, ◌∙◌, All, List, [], ◌∷◌, ◌++◌, map, OnOk, Result, Ok, Err, subst, sym, ap}
+use Rattle.std.proofs.lemmas.List.{map-append}
+use Rattle.std.proofs.lemmas.List.Elements.{All-nil, All-push, All-weaker}
+use Rattle.justfile_attribute.specs.New.{IsWholeAttribute}
+use Rattle.justfile_attribute.specs.declared.attribute.Attribute.{Attribute}
+use Rattle.justfile_attribute.specs.declared.attribute.Attribute.TheVariants as variants
+use Rattle.justfile_base.specs.declared.fault.Fault.{Fault}
+use Rattle.justfile_base.specs.declared.name.Name.{Name}
+use Rattle.justfile_parse_attribute.specs.KeyedBounds.{AreKeyed, IsKeyed}
+use Rattle.justfile_parse_attribute.specs.WholeAttributes.{AreWholeAttributes, AreWholePairs, KeepsWholePairs}
+
+abbrev attribute_of : Attribute × Name → Attribute
+attribute_of p = p.0
+
+-- a bound stands with its key in each of them
+whole_keyed : (a : Attribute) → IsWholeAttribute a → IsKeyed a
+whole_keyed (variants.Arg flag help help_property long long_key max max_key min min_key multiple name pattern short short_key value) h =
+    (λ some. h.max_keyed ∙ some, λ some. h.min_keyed ∙ some)
+whole_keyed a h = tt
+
+pub all_keyed : (attributes : List Attribute) → AreWholeAttributes attributes → AreKeyed attributes
+unfolding AreKeyed AreWholeAttributes
+all_keyed attributes h = All-weaker IsWholeAttribute IsKeyed whole_keyed attributes h
+
+pub none_whole : AreWholePairs []
+unfolding AreWholeAttributes
+none_whole = All-nil IsWholeAttribute
+
+pub pushed_whole : (old new : List (Attribute × Name)) (a : Attribute) (name : Name) → new ≡ old ++ (a, name) ∷ [] → IsWholeAttribute a → KeepsWholePairs old new
+unfolding AreWholeAttributes KeepsWholePairs
+pushed_whole old new a name e h whole =
+    let all : map attribute_of new ≡ map attribute_of old ++ a ∷ [] = ap (map attribute_of) e ∙ map-append attribute_of old ((a, name) ∷ []) in
+    subst (All IsWholeAttribute) (sym all) (All-push IsWholeAttribute (map attribute_of old) a whole h)
+
+-- where it was added
+pub added_whole : (result : Result (Unit {0}) Fault) (old new : List (Attribute × Name)) (a : Attribute) (name : Name) → OnOk result (new ≡ old ++ (a, name) ∷ []) → IsWholeAttribute a
+    → OnOk result (KeepsWholePairs old new)
+added_whole (Ok done) old new a name e h = pushed_whole old new a name e h
+added_whole (Err fault) old new a name e h = tt
+
+pub same_whole : (pairs : List (Attribute × Name)) → KeepsWholePairs pairs pairs
+unfolding KeepsWholePairs
+same_whole pairs h = h
+
+pub both_whole : (first between last : List (Attribute × Name)) → KeepsWholePairs first between → KeepsWholePairs between last → KeepsWholePairs first last
+unfolding KeepsWholePairs
+both_whole first between last h k whole = k (h whole)
+
+pub then_whole : (old new : List (Attribute × Name)) → AreWholePairs old → KeepsWholePairs old new → AreWholePairs new
+unfolding KeepsWholePairs
+then_whole old new h k = k h

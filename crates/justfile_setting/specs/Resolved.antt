@@ -1,0 +1,56 @@
+-- Settings after the variables in their expressions were given their numbers.
+use Rattle.std.specs.Prelude.{◌≡◌, ℕ, List, Option}
+use Rattle.std.specs.Global.{Box}
+use Rattle.std.specs.List.{AllZip}
+use Rattle.justfile_word.specs.declared.number.Number.{Number}
+use Rattle.justfile_attribute.specs.declared.interpreter.Interpreter.{Interpreter}
+use Rattle.justfile_tree.specs.Resolved.{IsResolved}
+use Rattle.justfile_tree.specs.declared.expression.Expression.{Expression}
+use Rattle.justfile_setting.specs.declared.setting.Setting.{Setting}
+use Rattle.justfile_setting.specs.declared.setting.Setting.TheVariants as settings
+
+module _ (numbers : (name : List ℕ) → Option Number) where
+  -- an expression in a box
+  abbrev pub IsResolvedBoxed : (resolved original : Box Expression) → Type 0
+  IsResolvedBoxed resolved original = IsResolved numbers resolved.value original.value
+
+  -- a command, with as many arguments as it had
+  pub record IsResolvedCommand (resolved original : Interpreter Expression) : Type 0 where
+    pub command : IsResolved numbers resolved.command original.command
+    pub arguments : AllZip (IsResolved numbers) resolved.arguments.items original.arguments.items
+
+  abbrev pub IsResolvedBoxedCommand : (resolved original : Box (Interpreter Expression)) → Type 0
+  IsResolvedBoxedCommand resolved original = IsResolvedCommand resolved.value original.value
+
+  -- the setting is of its case; its expressions have their numbers, and what holds no expression is as it was
+  abbrev pub IsResolvedSetting : (resolved original : Setting) → Type 0
+  IsResolvedSetting (settings.AllowDuplicateRecipes resolved) (settings.AllowDuplicateRecipes original) = resolved ≡ original
+  IsResolvedSetting (settings.AllowDuplicateVariables resolved) (settings.AllowDuplicateVariables original) = resolved ≡ original
+  IsResolvedSetting (settings.DefaultList resolved) (settings.DefaultList original) = resolved ≡ original
+  IsResolvedSetting (settings.DefaultScript resolved) (settings.DefaultScript original) = resolved ≡ original
+  IsResolvedSetting (settings.DotenvCommand resolved) (settings.DotenvCommand original) = IsResolvedBoxed resolved original
+  IsResolvedSetting (settings.DotenvFilename resolved) (settings.DotenvFilename original) = IsResolvedBoxed resolved original
+  IsResolvedSetting (settings.DotenvLoad resolved) (settings.DotenvLoad original) = resolved ≡ original
+  IsResolvedSetting (settings.DotenvOverride resolved) (settings.DotenvOverride original) = resolved ≡ original
+  IsResolvedSetting (settings.DotenvPath resolved) (settings.DotenvPath original) = IsResolvedBoxed resolved original
+  IsResolvedSetting (settings.DotenvRequired resolved) (settings.DotenvRequired original) = resolved ≡ original
+  IsResolvedSetting (settings.Export resolved) (settings.Export original) = resolved ≡ original
+  IsResolvedSetting (settings.Fallback resolved) (settings.Fallback original) = resolved ≡ original
+  IsResolvedSetting (settings.Guards resolved) (settings.Guards original) = resolved ≡ original
+  IsResolvedSetting (settings.IgnoreComments resolved) (settings.IgnoreComments original) = resolved ≡ original
+  IsResolvedSetting (settings.Indentation resolved indentation) (settings.Indentation original indentation') = (resolved ≡ original) × (indentation ≡ indentation')
+  IsResolvedSetting (settings.Lazy resolved) (settings.Lazy original) = resolved ≡ original
+  IsResolvedSetting (settings.Lists resolved) (settings.Lists original) = resolved ≡ original
+  IsResolvedSetting (settings.MinimumVersion resolved) (settings.MinimumVersion original) = resolved ≡ original
+  IsResolvedSetting (settings.NoCd resolved) (settings.NoCd original) = resolved ≡ original
+  IsResolvedSetting (settings.NoExitMessage resolved) (settings.NoExitMessage original) = resolved ≡ original
+  IsResolvedSetting (settings.PositionalArguments resolved) (settings.PositionalArguments original) = resolved ≡ original
+  IsResolvedSetting (settings.Quiet resolved) (settings.Quiet original) = resolved ≡ original
+  IsResolvedSetting (settings.ScriptInterpreter resolved) (settings.ScriptInterpreter original) = IsResolvedBoxedCommand resolved original
+  IsResolvedSetting (settings.Shell resolved) (settings.Shell original) = IsResolvedBoxedCommand resolved original
+  IsResolvedSetting (settings.Tempdir resolved) (settings.Tempdir original) = IsResolvedBoxed resolved original
+  IsResolvedSetting (settings.Unstable resolved) (settings.Unstable original) = resolved ≡ original
+  IsResolvedSetting (settings.WindowsPowerShell resolved) (settings.WindowsPowerShell original) = resolved ≡ original
+  IsResolvedSetting (settings.WindowsShell resolved) (settings.WindowsShell original) = IsResolvedBoxedCommand resolved original
+  IsResolvedSetting (settings.WorkingDirectory resolved) (settings.WorkingDirectory original) = IsResolvedBoxed resolved original
+  IsResolvedSetting _ _ = ⊥

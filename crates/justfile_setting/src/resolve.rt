@@ -1,0 +1,65 @@
+//! The numbers of the variables that settings hold.
+ghost use Rattle.justfile_setting.specs.Resolved.{IsResolvedCommand, IsResolvedSetting};
+ghost use Rattle.justfile_tree.specs.Resolved.{number_of};
+
+use crate::setting::Setting;
+use justfile_attribute::Interpreter;
+use justfile_base::Number;
+use justfile_tree::{Expression, resolve_expressions};
+use std::collections::HashMap;
+
+impl<'src> Setting<'src> {
+    /// Gives each variable in the setting's expressions the number that the context has at its
+    /// name, or else the one that the bindings have, or else none. Nothing else changes.
+    pub fn resolve_variables(
+        &mut self,
+        context: Option<&HashMap<&'src str, Number>>,
+        bindings: &HashMap<&'src str, Number>,
+    )
+        ensures { IsResolvedSetting (number_of context.entry bindings.now) self.new self.old }
+    {
+        match self {
+            Setting::AllowDuplicateRecipes(_) => {}
+            Setting::AllowDuplicateVariables(_) => {}
+            Setting::DefaultList(_) => {}
+            Setting::DefaultScript(_) => {}
+            Setting::DotenvCommand(value) => value.resolve_variables(context, bindings),
+            Setting::DotenvFilename(value) => value.resolve_variables(context, bindings),
+            Setting::DotenvLoad(_) => {}
+            Setting::DotenvOverride(_) => {}
+            Setting::DotenvPath(value) => value.resolve_variables(context, bindings),
+            Setting::DotenvRequired(_) => {}
+            Setting::Export(_) => {}
+            Setting::Fallback(_) => {}
+            Setting::Guards(_) => {}
+            Setting::IgnoreComments(_) => {}
+            Setting::Indentation(_, _) => {}
+            Setting::Lazy(_) => {}
+            Setting::Lists(_) => {}
+            Setting::MinimumVersion(_) => {}
+            Setting::NoCd(_) => {}
+            Setting::NoExitMessage(_) => {}
+            Setting::PositionalArguments(_) => {}
+            Setting::Quiet(_) => {}
+            Setting::ScriptInterpreter(value) => resolve_command(value, context, bindings),
+            Setting::Shell(value) => resolve_command(value, context, bindings),
+            Setting::Tempdir(value) => value.resolve_variables(context, bindings),
+            Setting::Unstable(_) => {}
+            Setting::WindowsPowerShell(_) => {}
+            Setting::WindowsShell(value) => resolve_command(value, context, bindings),
+            Setting::WorkingDirectory(value) => value.resolve_variables(context, bindings),
+        }
+    }
+}
+
+/// Gives the variables of an interpreter's command and arguments their numbers.
+fn resolve_command<'src>(
+    interpreter: &mut Interpreter<Expression<'src>>,
+    context: Option<&HashMap<&'src str, Number>>,
+    bindings: &HashMap<&'src str, Number>,
+)
+    ensures { IsResolvedCommand (number_of context.entry bindings.now) interpreter.new interpreter.old }
+{
+    interpreter.command.resolve_variables(context, bindings);
+    resolve_expressions(&mut interpreter.arguments, context, bindings);
+}

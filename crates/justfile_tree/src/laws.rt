@@ -1,0 +1,94 @@
+//! Laws of orders, each the contract of a function that does nothing.
+ghost use Rattle.std.specs.Ordering.{nat_cmp};
+ghost use Rattle.justfile_base.specs.contracts.modulepath.ModulepathOrd.TheImpl as modulepath_order;
+ghost use Rattle.justfile_base.specs.contracts.modulepath.ModulepathPartialEq.TheImpl as modulepath_equality;
+ghost use Rattle.justfile_base.specs.contracts.name.NameOrd.TheImpl as name_order;
+ghost use Rattle.justfile_base.specs.contracts.name.NamePartialEq.TheImpl as name_equality;
+ghost use Rattle.justfile_base.specs.contracts.namepath.NamepathOrd.TheImpl as namepath_order;
+ghost use Rattle.justfile_base.specs.contracts.namepath.NamepathPartialEq.TheImpl as namepath_equality;
+ghost use Rattle.justfile_base.specs.contracts.string_literal.StringLiteralOrd.TheImpl as literal_order;
+ghost use Rattle.justfile_base.specs.contracts.string_literal.StringLiteralPartialEq.TheImpl as literal_equality;
+ghost use Rattle.justfile_base.specs.contracts.token.TokenOrd.TheImpl as token_order;
+ghost use Rattle.justfile_base.specs.contracts.token.TokenPartialEq.TheImpl as token_equality;
+ghost use Rattle.justfile_base.specs.contracts.string_kind.StringDelimiterOrd.TheImpl as delimiter_order;
+ghost use Rattle.justfile_base.specs.contracts.string_kind.StringDelimiterPartialEq.TheImpl as delimiter_equality;
+ghost use Rattle.justfile_base.specs.contracts.string_kind.StringKindOrd.TheImpl as string_kind_order;
+ghost use Rattle.justfile_base.specs.contracts.string_kind.StringKindPartialEq.TheImpl as string_kind_equality;
+ghost use Rattle.justfile_model.specs.ContentLeaf.{string_kind_cmp};
+ghost use Rattle.justfile_model.specs.contracts.conditional_operator.ConditionalOperatorOrd.TheImpl as operator_order;
+ghost use Rattle.justfile_model.specs.contracts.conditional_operator.ConditionalOperatorPartialEq.TheImpl as operator_equality;
+ghost use Rattle.justfile_tree.specs.Cases.{IsOrderOf, attributes_in_order, delimiters_in_order, features_in_order, kinds_in_order, operators_in_order, parts_in_order, signals_in_order};
+ghost use Rattle.justfile_tree.specs.Leaf.{literal_cmp, token_cmp};
+ghost use Rattle.justfile_tree.specs.Order.{expression_cmp};
+ghost use Rattle.justfile_tree.specs.Orders.{IsOrder, modulepath_cmp, name_cmp, namepath_cmp};
+ghost use Rattle.justfile_tree.specs.contracts.order.ExpressionOrd.TheImpl as expression_order;
+ghost use Rattle.justfile_tree.specs.contracts.order.ExpressionPartialEq.TheImpl as expression_equality;
+ghost use Rattle.justfile_word.specs.contracts.attribute_kind.AttributeKindOrd.TheImpl as attribute_order;
+ghost use Rattle.justfile_word.specs.contracts.attribute_kind.AttributeKindPartialEq.TheImpl as attribute_equality;
+ghost use Rattle.justfile_word.specs.contracts.format_string_part.FormatStringPartOrd.TheImpl as part_order;
+ghost use Rattle.justfile_word.specs.contracts.format_string_part.FormatStringPartPartialEq.TheImpl as part_equality;
+ghost use Rattle.justfile_word.specs.contracts.number.NumberOrd.TheImpl as number_order;
+ghost use Rattle.justfile_word.specs.contracts.number.NumberPartialEq.TheImpl as number_equality;
+ghost use Rattle.justfile_word.specs.contracts.signal.SignalOrd.TheImpl as signal_order;
+ghost use Rattle.justfile_word.specs.contracts.signal.SignalPartialEq.TheImpl as signal_equality;
+ghost use Rattle.justfile_word.specs.contracts.token_kind.TokenKindOrd.TheImpl as kind_order;
+ghost use Rattle.justfile_word.specs.contracts.token_kind.TokenKindPartialEq.TheImpl as kind_equality;
+ghost use Rattle.justfile_word.specs.contracts.unstable_feature.UnstableFeatureOrd.TheImpl as feature_order;
+ghost use Rattle.justfile_word.specs.contracts.unstable_feature.UnstableFeaturePartialEq.TheImpl as feature_equality;
+
+/// What has cases alone is compared by its cases as they are declared: kinds of tokens, delimiters
+/// and parts of literals, operators, kinds of attributes, signals, and unstable features. The orders
+/// are total, and they agree with `==`.
+pub fn cases_ordered()
+    ensures kinds { IsOrderOf kind_equality.eq-value.it kind_order.cmp-value.it kinds_in_order }
+    ensures delimiters { IsOrderOf delimiter_equality.eq-value.it delimiter_order.cmp-value.it delimiters_in_order }
+    ensures parts { IsOrderOf part_equality.eq-value.it part_order.cmp-value.it parts_in_order }
+    ensures operators { IsOrderOf operator_equality.eq-value.it operator_order.cmp-value.it operators_in_order }
+    ensures attributes { IsOrderOf attribute_equality.eq-value.it attribute_order.cmp-value.it attributes_in_order }
+    ensures signals { IsOrderOf signal_equality.eq-value.it signal_order.cmp-value.it signals_in_order }
+    ensures features { IsOrderOf feature_equality.eq-value.it feature_order.cmp-value.it features_in_order }
+{}
+
+/// The numbers of bindings and recipes are compared as numbers.
+pub fn numbers_ordered()
+    ensures { IsOrder number_equality.eq-value.it number_order.cmp-value.it (λ m n. nat_cmp m.0 n.0) }
+{}
+
+/// Kinds of literals are compared by their delimiters, and then by whether these are tripled: one
+/// that is not comes first.
+pub fn string_kinds_ordered()
+    ensures { IsOrder string_kind_equality.eq-value.it string_kind_order.cmp-value.it string_kind_cmp }
+{}
+
+/// Tokens are compared by all their fields in the order in which they are declared, so by their
+/// places too. The order is total, and it agrees with `==`.
+pub fn tokens_ordered()
+    ensures { IsOrder token_equality.eq-value.it token_order.cmp-value.it token_cmp }
+{}
+
+/// Names are compared as their tokens.
+pub fn names_ordered()
+    ensures { IsOrder name_equality.eq-value.it name_order.cmp-value.it name_cmp }
+{}
+
+/// Paths of names are compared by their names, from the outermost on.
+pub fn namepaths_ordered()
+    ensures { IsOrder namepath_equality.eq-value.it namepath_order.cmp-value.it namepath_cmp }
+{}
+
+/// Paths of modules are compared by the texts of their names, from the outermost on.
+pub fn modulepaths_ordered()
+    ensures { IsOrder modulepath_equality.eq-value.it modulepath_order.cmp-value.it modulepath_cmp }
+{}
+
+/// Literals are compared by all their fields in the order in which they are declared, so by their
+/// places too.
+pub fn literals_ordered()
+    ensures { IsOrder literal_equality.eq-value.it literal_order.cmp-value.it literal_cmp }
+{}
+
+/// Expressions are compared by their cases as these are declared, and within a case by its fields
+/// in the order in which they are declared, so by the places of their tokens too.
+pub fn expressions_ordered()
+    ensures { IsOrder expression_equality.eq-value.it expression_order.cmp-value.it expression_cmp }
+{}
