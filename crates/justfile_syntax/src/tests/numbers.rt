@@ -49,17 +49,28 @@ fn compare_sum(
     }
 }
 
+/// Sees which numbers the variables of `b + c` get by these maps, of which the last is empty.
+fn compare_by_maps<'src>(
+    sum: &mut Expression<'src>,
+    rt: &impl Abort,
+    context: &HashMap<&'src str, Number>,
+    bindings: &HashMap<&'src str, Number>,
+    nothing: &HashMap<&'src str, Number>,
+) {
+    sum.resolve_variables(Some(context), bindings);
+    compare_sum(sum, rt, "both", Some(Number(7)), None);
+    sum.resolve_variables(Some(nothing), bindings);
+    compare_sum(sum, rt, "bindings", Some(Number(1)), None);
+    sum.resolve_variables(None, nothing);
+    compare_sum(sum, rt, "neither", None, None);
+}
+
 /// Sees which numbers the variables of `b + c` get.
 fn compare_resolved(sum: &mut Expression<'_>, rt: &impl Abort, alloc: Global) {
     let context = numbers(rt, alloc, Some(("b", 7)));
     let bindings = numbers(rt, alloc, Some(("b", 1)));
     let nothing = numbers(rt, alloc, None);
-    sum.resolve_variables(Some(&context), &bindings);
-    compare_sum(sum, rt, "both", Some(Number(7)), None);
-    sum.resolve_variables(Some(&nothing), &bindings);
-    compare_sum(sum, rt, "bindings", Some(Number(1)), None);
-    sum.resolve_variables(None, &nothing);
-    compare_sum(sum, rt, "neither", None, None);
+    compare_by_maps(sum, rt, &context, &bindings, &nothing);
 }
 
 #[test]
@@ -97,14 +108,24 @@ fn compare_setting(setting: &Setting<'_>, rt: &impl Abort, of: &str, wanted: Opt
     }
 }
 
+/// Sees which numbers the variables of a setting get by these maps, of which the last is empty.
+fn compare_setting_by_maps<'src>(
+    setting: &mut Setting<'src>,
+    rt: &impl Abort,
+    context: &HashMap<&'src str, Number>,
+    nothing: &HashMap<&'src str, Number>,
+) {
+    setting.resolve_variables(Some(context), nothing);
+    compare_setting(setting, rt, "context", Some(Number(7)));
+    setting.resolve_variables(None, nothing);
+    compare_setting(setting, rt, "neither", None);
+}
+
 /// Sees which numbers the variables of a setting get.
 fn compare_resolved_setting(setting: &mut Setting<'_>, rt: &impl Abort, alloc: Global) {
     let context = numbers(rt, alloc, Some(("b", 7)));
     let nothing = numbers(rt, alloc, None);
-    setting.resolve_variables(Some(&context), &nothing);
-    compare_setting(setting, rt, "context", Some(Number(7)));
-    setting.resolve_variables(None, &nothing);
-    compare_setting(setting, rt, "neither", None);
+    compare_setting_by_maps(setting, rt, &context, &nothing);
 }
 
 /// Files with a setting that holds `b`, and `b + c`.
