@@ -423,6 +423,7 @@ impl<'run, 'src, X: Expander> ExpressionParser<'run, 'src, X> {
     /// An element of a sequence, and whether the sequence is closed after it.
     #[cycle(expression)]
     #[tactic(auto, unfolding(justfile_model::specs::ExpressionReader::element_rule))]
+    #[inline(always)]
     pub fn parse_element(
         &mut self,
         closing: TokenKind,
@@ -498,6 +499,7 @@ impl<'run, 'src, X: Expander> ExpressionParser<'run, 'src, X> {
 
     /// Takes the next token if it is an operator of the level.
     #[tactic(auto, unfolding(justfile_model::specs::ExpressionReader::accept_operator, crate::specs::TableReader::leaves, crate::specs::View::state_of, crate::specs::View::left))]
+    #[inline(always)]
     fn accept_operator(&mut self, level: Level) -> Option<(Operator, TableEntry<'run, 'src>)>
         ensures some { IfSome result
             (λ found. reader.accept_operator level (state_of X.answer self.old) ≡ Some (found.0, found.1, state_of X.answer self.new)) }
