@@ -52,9 +52,5 @@ IsOfText _ = ⊥
 
 -- what keeps a canonical text from being written
 abbrev pub IsOfTextOrWriting : Failure → Type 0
-IsOfTextOrWriting (Refused lines) = Unit {0}
-IsOfTextOrWriting NotPrintable = Unit {0}
 IsOfTextOrWriting Writing = Unit {0}
-IsOfTextOrWriting Memory = Unit {0}
-IsOfTextOrWriting Numbers = Unit {0}
-IsOfTextOrWriting _ = ⊥
+IsOfTextOrWriting failure = IsOfText failure

@@ -1,3 +1,4 @@
+mod CasesListed
 pub mod Compared
 mod Conditionals
 pub mod ContentTies

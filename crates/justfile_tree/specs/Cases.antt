@@ -1,6 +1,7 @@
 -- The orders of what has cases alone: each list has the cases in the order in which they are declared.
-use Rattle.std.specs.Prelude.{◌≡◌, Bool, List, ◌∷◌, []}
+use Rattle.std.specs.Prelude.{◌≡◌, Bool, List, ◌∷◌, [], true}
 use Rattle.std.specs.Cmp.{IsTotalOrder}
+use Rattle.std.specs.List.{list_any}
 use Rattle.std.specs.Ordering.{eq_by_cmp}
 use Rattle.std.specs.declared.cmp.Ordering.{Ordering}
 use Rattle.std.specs.declared.cmp.Ordering.TheVariants as orderings
@@ -24,11 +25,12 @@ abbrev pub IsRising : {K : Type 0} → (K → K → Ordering) → List K → Typ
 IsRising cmp (x ∷ y ∷ rest) = (cmp x y ≡ orderings.Less) × IsRising cmp (y ∷ rest)
 IsRising cmp _ = Unit {0}
 
--- the order is total, two values are equal exactly where neither comes before the other, and the cases rise
+-- the order is total, two values are equal exactly where neither comes before the other, and the cases rise and are all there are
 pub record IsOrderOf {K : Type 0} (eq : K → K → Bool) (cmp : K → K → Ordering) (cases : List K) : Type 0 where
   pub total : IsTotalOrder cmp
   pub ties : (x y : K) → eq x y ≡ eq_by_cmp cmp x y
   pub rising : IsRising cmp cases
+  pub whole : (x : K) → list_any (eq x) cases ≡ true
 
 abbrev pub delimiters_in_order : List StringDelimiter
 delimiters_in_order = delimiters.Backtick ∷ delimiters.QuoteDouble ∷ delimiters.QuoteSingle ∷ []
