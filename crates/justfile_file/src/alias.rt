@@ -31,12 +31,15 @@ impl<'src> Alias<'src, Namepath<'src>> {
     pub fn clone(&self, alloc: Global) -> Result<Self, AllocError>
         ensures { IfOk result (λ copy. IsSameAlias copy self.now) }
     {
-        let attributes = self.attributes.clone(alloc)?;
-        Ok(Alias {
-            attributes,
-            name: self.name,
-            target: self.target.clone(alloc)?,
-        })
+        let target = self.target.clone(alloc)?;
+        match self.attributes.clone(alloc) {
+            Ok(attributes) => Ok(Alias {
+                attributes,
+                name: self.name,
+                target,
+            }),
+            Err(fault) => Err(fault),
+        }
     }
 }
 

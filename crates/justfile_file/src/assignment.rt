@@ -16,17 +16,21 @@ impl<'src> Binding<'src, Expression<'src>> {
     pub fn clone(&self, alloc: Global) -> Result<Self, AllocError>
         ensures { IfOk result (λ copy. IsSameAssignment copy self.now) }
     {
-        Ok(Binding {
-            attributes: self.attributes.clone(alloc)?,
-            eager: self.eager,
-            export: self.export,
-            file_depth: self.file_depth,
-            name: self.name,
-            number: self.number,
-            prelude: self.prelude,
-            private: self.private,
-            value: self.value.clone(alloc)?,
-        })
+        let attributes = self.attributes.clone(alloc)?;
+        match self.value.clone(alloc) {
+            Ok(value) => Ok(Binding {
+                attributes,
+                eager: self.eager,
+                export: self.export,
+                file_depth: self.file_depth,
+                name: self.name,
+                number: self.number,
+                prelude: self.prelude,
+                private: self.private,
+                value,
+            }),
+            Err(fault) => Err(fault),
+        }
     }
 }
 

@@ -16,6 +16,7 @@ ghost use Rattle.justfile_file.specs.PrintsBack.{PrintsBack};
 ghost use Rattle.justfile_file.specs.Written.{AppendsPart};
 ghost use Rattle.justfile_file.specs.declared.gap.Gap.TheVariants.{Start};
 
+use crate::copied::put_made;
 use crate::gap::Gap;
 use crate::item::{Item, write_step};
 use crate::write_fault::WriteFault;
@@ -74,13 +75,16 @@ impl<'src> Ast<'src> {
         let module_path = self.module_path.clone(alloc)?;
         let unstable_features = self.unstable_features.clone()?;
         let working_directory = self.working_directory.as_str().to_string(alloc)?;
-        Ok(Ast {
-            items: copy_items(&self.items, alloc)?,
-            list_features,
-            module_path,
-            unstable_features,
-            working_directory,
-        })
+        match copy_items(&self.items, alloc) {
+            Ok(items) => Ok(Ast {
+                items,
+                list_features,
+                module_path,
+                unstable_features,
+                working_directory,
+            }),
+            Err(fault) => Err(fault),
+        }
     }
 
     /// The canonical text of the file, with this indentation of the lines of bodies.
@@ -143,7 +147,7 @@ fn copy_items<'src>(items: &[Item<'src>], alloc: Global) -> Result<Vec<Item<'src
 {
     let mut copies = Vec::new(alloc);
     for item in items {
-        copies.push(item.clone(alloc)?)?;
+        put_made(&mut copies, item.clone(alloc))?;
     }
     Ok(copies)
 }

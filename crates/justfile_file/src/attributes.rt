@@ -10,7 +10,7 @@ use justfile_tree::{Sink, put_piece};
 pub(crate) fn are_equal<'src>(attributes: &AttributeSet<'src>, others: &AttributeSet<'src>) -> bool
     ensures { result ≡ sets.eq-value.it attributes.now others.now }
 {
-    attributes == others
+    *attributes == *others
 }
 
 /// Puts an attribute in brackets, on a line of its own.
@@ -31,7 +31,7 @@ pub(crate) fn write_attributes<S: Sink>(
     ensures ok { OnOk result (S.took sink.old (attributes_text attributes.now) sink.new) }
     ensures err { OnErr result (S.failed sink.old (attributes_text attributes.now) sink.new) }
 {
-    for attribute in attributes.iter() {
+    for attribute in attributes {
         write_attribute_line(attribute, sink)?;
     }
     Ok(())

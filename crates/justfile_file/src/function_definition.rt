@@ -15,6 +15,7 @@ ghost use Rattle.justfile_file.specs.FunctionParameter.{parameter_per, same_para
 ghost use Rattle.justfile_file.specs.ItemText.{function_text_of, later_names_text, parameter_names_text};
 
 use crate::attributes::are_equal;
+use crate::copied::boxed_made;
 use justfile_attribute_set::AttributeSet;
 use justfile_base::{Keyed, Name, Number};
 use justfile_tree::{Expression, Sink, put_piece, write_expression};
@@ -39,14 +40,17 @@ impl<'src> FunctionDefinition<'src> {
     pub fn clone(&self, alloc: Global) -> Result<Self, AllocError>
         ensures { IfOk result (λ copy. IsSameFunction copy self.now) }
     {
-        let attributes = self.attributes.clone(alloc)?;
+        let body = copy_boxed(&self.body, alloc)?;
         let parameters = self.parameters.as_slice().to_vec(alloc)?;
-        Ok(FunctionDefinition {
-            attributes,
-            body: copy_boxed(&self.body, alloc)?,
-            name: self.name,
-            parameters,
-        })
+        match self.attributes.clone(alloc) {
+            Ok(attributes) => Ok(FunctionDefinition {
+                attributes,
+                body,
+                name: self.name,
+                parameters,
+            }),
+            Err(fault) => Err(fault),
+        }
     }
 }
 
@@ -57,8 +61,7 @@ fn copy_boxed<'src>(
 ) -> Result<Box<Expression<'src>>, AllocError>
     ensures { IfOk result (λ copy. IsSameExpression copy.value expression.now) }
 {
-    let copy = expression.clone(alloc)?;
-    Ok(Box::new(alloc, copy)?)
+    boxed_made(alloc, expression.clone(alloc))
 }
 
 /// The key of a function is its name.

@@ -1,5 +1,5 @@
 ghost use Rattle.std.specs.Prelude.{◌≡◌, OnOk, OnErr, IfOk, string_bytes};
-ghost use Rattle.std.specs.Option.{option_copied, option_map};
+ghost use Rattle.std.specs.Option.{option_map};
 ghost use Rattle.justfile_word.specs.Indentation.{indentation_text};
 ghost use Rattle.justfile_model.specs.Printing.{if_some, item_text, printable_item};
 ghost use Rattle.justfile_file.specs.Attributes.{attributes_text};
@@ -67,10 +67,19 @@ impl<'src> Item<'src> {
         ensures { IfOk result (λ copy. IsSameItem copy self.now) }
     {
         match self {
-            Item::Alias(alias) => Ok(Item::Alias(alias.clone(alloc)?)),
-            Item::Assignment(assignment) => Ok(Item::Assignment(assignment.clone(alloc)?)),
+            Item::Alias(alias) => match alias.clone(alloc) {
+                Ok(alias) => Ok(Item::Alias(alias)),
+                Err(fault) => Err(fault),
+            },
+            Item::Assignment(assignment) => match assignment.clone(alloc) {
+                Ok(assignment) => Ok(Item::Assignment(assignment)),
+                Err(fault) => Err(fault),
+            },
             Item::Comment(text) => Ok(Item::Comment(text)),
-            Item::Function(function) => Ok(Item::Function(function.clone(alloc)?)),
+            Item::Function(function) => match function.clone(alloc) {
+                Ok(function) => Ok(Item::Function(function)),
+                Err(fault) => Err(fault),
+            },
             Item::Import {
                 attributes,
                 optional,
@@ -84,8 +93,14 @@ impl<'src> Item<'src> {
                 relative,
             } => copy_module(attributes, alloc, doc, name, *optional, relative),
             Item::Newline => Ok(Item::Newline),
-            Item::Recipe(recipe) => Ok(Item::Recipe(recipe.clone(alloc)?)),
-            Item::Setting(set) => Ok(Item::Setting(set.clone(alloc)?)),
+            Item::Recipe(recipe) => match recipe.clone(alloc) {
+                Ok(recipe) => Ok(Item::Recipe(recipe)),
+                Err(fault) => Err(fault),
+            },
+            Item::Setting(set) => match set.clone(alloc) {
+                Ok(set) => Ok(Item::Setting(set)),
+                Err(fault) => Err(fault),
+            },
             Item::Unexport { attributes, name } => copy_unexport(attributes, alloc, name),
         }
     }
@@ -108,30 +123,20 @@ impl<'src> Item<'src> {
         }
     }
 
-    /// The attributes of an item that may have some.
-    fn attributes(&self) -> Option<&AttributeSet<'src>>
-        ensures { option_copied result ≡ item_attributes self.now }
-    {
-        match self {
-            Item::Alias(alias) => Some(&alias.attributes),
-            Item::Assignment(assignment) => Some(&assignment.attributes),
-            Item::Comment(_) | Item::Newline => None,
-            Item::Function(function) => Some(&function.attributes),
-            Item::Import { attributes, .. }
-            | Item::Module { attributes, .. }
-            | Item::Unexport { attributes, .. } => Some(attributes),
-            Item::Recipe(recipe) => Some(&recipe.attributes),
-            Item::Setting(set) => Some(&set.attributes),
-        }
-    }
-
     /// Whether the item is there on this system, as its attributes say.
     pub fn is_enabled(&self) -> bool
         ensures { result ≡ is_item_enabled self.now }
     {
-        match self.attributes() {
-            None => true,
-            Some(attributes) => attributes.is_enabled(),
+        match self {
+            Item::Alias(alias) => alias.attributes.is_enabled(),
+            Item::Assignment(assignment) => assignment.attributes.is_enabled(),
+            Item::Comment(_) | Item::Newline => true,
+            Item::Function(function) => function.attributes.is_enabled(),
+            Item::Import { attributes, .. }
+            | Item::Module { attributes, .. }
+            | Item::Unexport { attributes, .. } => attributes.is_enabled(),
+            Item::Recipe(recipe) => recipe.attributes.is_enabled(),
+            Item::Setting(set) => set.attributes.is_enabled(),
         }
     }
 
@@ -227,15 +232,18 @@ fn copy_module<'src>(
 ) -> Result<Item<'src>, AllocError>
     ensures { IfOk result (λ copy. IsSameItem copy (items.Module attributes.now doc.now name.now optional relative.now)) }
 {
-    let attributes = attributes.clone(alloc)?;
     let doc = copy_doc(alloc, doc)?;
-    Ok(Item::Module {
-        attributes,
-        doc,
-        name: *name,
-        optional,
-        relative: copy_path(alloc, relative)?,
-    })
+    let relative = copy_path(alloc, relative)?;
+    match attributes.clone(alloc) {
+        Ok(attributes) => Ok(Item::Module {
+            attributes,
+            doc,
+            name: *name,
+            optional,
+            relative,
+        }),
+        Err(fault) => Err(fault),
+    }
 }
 
 /// A copy of a variable that is not exported.
@@ -246,10 +254,13 @@ fn copy_unexport<'src>(
 ) -> Result<Item<'src>, AllocError>
     ensures { IfOk result (λ copy. IsSameItem copy (items.Unexport attributes.now name.now)) }
 {
-    Ok(Item::Unexport {
-        attributes: attributes.clone(alloc)?,
-        name: *name,
-    })
+    match attributes.clone(alloc) {
+        Ok(attributes) => Ok(Item::Unexport {
+            attributes,
+            name: *name,
+        }),
+        Err(fault) => Err(fault),
+    }
 }
 
 /// Puts the doc of an item that has one, on a line of its own, where no attribute says it.
@@ -280,9 +291,16 @@ fn write_item_attributes<S: Sink>(item: &Item<'_>, sink: &mut S) -> Result<(), S
     ensures ok { OnOk result (S.took sink.old (if_some attributes_text (item_attributes item.now)) sink.new) }
     ensures err { OnErr result (S.failed sink.old (if_some attributes_text (item_attributes item.now)) sink.new) }
 {
-    match item.attributes() {
-        None => Ok(()),
-        Some(attributes) => write_attributes(attributes, sink),
+    match item {
+        Item::Alias(alias) => write_attributes(&alias.attributes, sink),
+        Item::Assignment(assignment) => write_attributes(&assignment.attributes, sink),
+        Item::Comment(_) | Item::Newline => Ok(()),
+        Item::Function(function) => write_attributes(&function.attributes, sink),
+        Item::Import { attributes, .. }
+        | Item::Module { attributes, .. }
+        | Item::Unexport { attributes, .. } => write_attributes(attributes, sink),
+        Item::Recipe(recipe) => write_attributes(&recipe.attributes, sink),
+        Item::Setting(set) => write_attributes(&set.attributes, sink),
     }
 }
 

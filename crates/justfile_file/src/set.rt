@@ -5,6 +5,7 @@ ghost use Rattle.justfile_file.specs.Copies.{IsSameAssigned};
 ghost use Rattle.justfile_file.specs.Indented.{indentation_set, set_indentation};
 ghost use Rattle.justfile_file.specs.ItemText.{later_value_text, setting_text_of};
 
+use crate::copied::boxed_made;
 use justfile_attribute_set::AttributeSet;
 use justfile_base::{Indentation, Keyed, Name};
 use justfile_setting::{Setting, write_setting};
@@ -28,12 +29,15 @@ impl<'src> Set<'src> {
     pub fn clone(&self, alloc: Global) -> Result<Self, AllocError>
         ensures { IfOk result (λ copy. IsSameAssigned copy self.now) }
     {
-        let attributes = self.attributes.clone(alloc)?;
-        Ok(Set {
-            attributes,
-            name: self.name,
-            value: copy_boxed(&self.value, alloc)?,
-        })
+        let value = copy_boxed(&self.value, alloc)?;
+        match self.attributes.clone(alloc) {
+            Ok(attributes) => Ok(Set {
+                attributes,
+                name: self.name,
+                value,
+            }),
+            Err(fault) => Err(fault),
+        }
     }
 
     /// The indentation that is set, if this is that setting and is there on this system.
@@ -55,8 +59,7 @@ fn copy_boxed<'src>(
 ) -> Result<Box<Setting<'src>>, AllocError>
     ensures { IfOk result (λ copy. IsSameSetting copy.value setting.now) }
 {
-    let copy = setting.clone(alloc)?;
-    Ok(Box::new(alloc, copy)?)
+    boxed_made(alloc, setting.clone(alloc))
 }
 
 /// The indentation that a setting says.

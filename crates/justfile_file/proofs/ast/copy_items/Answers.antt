@@ -1,9 +1,11 @@
-use Rattle.std.proofs.Common.{arith}
+use Rattle.std.proofs.Common.{arith, subst}
+use Rattle.std.specs.Prelude.{IfOk}
 use Rattle.justfile_model.proofs.CopiedLists.{one_more}
 use Rattle.justfile_file.specs.Copies.{IsSameItem}
 use Rattle.justfile_file.proofs.ast.copy_items.Goals as goal
 
 pub loop-item-preserved : goal.loop-item-preserved
 loop-item-preserved c =
-    one_more IsSameItem c.loop-item.copies.items c.args.items.now c.push.new.self.items c.loop-item.item-index c.in_ok-clone.field-0 c.item-item.result
-    (omega arith) c.item-item.is c.loop-item.invariant c.in_ok-clone.ensures c.in_ok-push.ensures.items
+    let made = c.in_ok-put_made.ensures in
+    one_more IsSameItem c.loop-item.copies.items c.args.items.now c.put_made.new.items.items c.loop-item.item-index made.0 c.item-item.result
+    (omega arith) c.item-item.is c.loop-item.invariant (subst (λ r. IfOk r (λ copy. IsSameItem copy c.item-item.result)) made.1 c.clone.ensures) made.2

@@ -1,13 +1,12 @@
 use Rattle.std.proofs.Common.{[], ◌++◌, ap, ◌∙◌}
 use Rattle.std.specs.List.{flat_map}
-use Rattle.justfile_attribute_set.specs.Keys.{keys_left}
 use Rattle.justfile_file.specs.Attributes.{attribute_line}
 use Rattle.justfile_file.proofs.AttributeLines.{lines_parts, one_more}
 use Rattle.justfile_file.proofs.attributes.write_attributes.Goals as goal
 
 pub loop-attribute-init : goal.loop-attribute-init
 loop-attribute-init g c =
-    ([], g.met.S.Sink.took_nothing _, ap (flat_map attribute_line) (ap keys_left c.into_iter-attribute-iterator.ensures.into_iter_gives ∙ c.iter-attribute-items.ensures) ∙ lines_parts c.args.attributes.now)
+    ([], g.met.S.Sink.took_nothing _, ap (flat_map attribute_line) c.into_iter-attribute-iterator.ensures.into_iter_gives ∙ lines_parts c.args.attributes.now)
 
 pub loop-attribute-preserved : goal.loop-attribute-preserved
 loop-attribute-preserved g c =
