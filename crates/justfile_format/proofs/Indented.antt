@@ -23,7 +23,7 @@ use Rattle.justfile_file.specs.Indented.{indentation_set, item_indentation, item
 use Rattle.justfile_file.specs.declared.ast.Ast.{Ast}
 use Rattle.justfile_file.specs.declared.item.Item.{Item}
 use Rattle.justfile_file.specs.declared.item.Item.TheVariants as items
-use Rattle.justfile_parse.specs.Filled.{IsGivenItem, IsGivenLiteral, IsGivenSetting}
+use Rattle.justfile_parse_item.specs.Filled.{IsGivenItem, IsGivenLiteral, IsGivenSetting}
 use Rattle.justfile_parse.specs.Parsing.{IsParsedText}
 use Rattle.justfile_format.specs.Formatting.{IsFileOf, IsIndentedBy, IsSaid, conditions, unchanged}
 

@@ -28,8 +28,8 @@ use Rattle.justfile_model.specs.Tree as tree
 use Rattle.justfile_model.specs.Tree.{Content, Entry}
 use Rattle.justfile_parse.specs.Docs.{LeafItem, comment_of, doc_before, doc_first, is_newline, with_doc, with_item}
 use Rattle.justfile_parse.proofs.TakenDocs.{from_first, with_items}
-use Rattle.justfile_parse.specs.Tree.{item_tree}
-use Rattle.justfile_parse.specs.Whole.{AreWhole, IsWholeItem}
+use Rattle.justfile_parse_item.specs.Tree.{item_tree}
+use Rattle.justfile_parse_item.specs.Whole.{AreWhole, IsWholeItem}
 use Rattle.justfile_tree.specs.LeafTree.{Leaf}
 
 -- ---- an item among others

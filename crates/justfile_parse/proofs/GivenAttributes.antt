@@ -25,7 +25,7 @@ use Rattle.justfile_model.specs.Files.{attribute_literals, entries_literals, exp
 use Rattle.justfile_model.specs.Literals.{AreCookedTexts, Expanded, Expansions, Literal, Plain, cooked_text, over_literal, string_of}
 use Rattle.justfile_model.specs.Tok.{Tok, tok_of}
 use Rattle.justfile_model.specs.Tree.{Expr, Quoted, lexeme}
-use Rattle.justfile_parse.specs.Filled.{AreGivenAttributes, IfThere, IsGivenAttribute, IsGivenBoxed, IsGivenCount, IsGivenExpression, IsGivenInterpreter, IsGivenLiteral, IsGivenOption, IsGivenProperty}
+use Rattle.justfile_parse_item.specs.Filled.{AreGivenAttributes, IfThere, IsGivenAttribute, IsGivenBoxed, IsGivenCount, IsGivenExpression, IsGivenInterpreter, IsGivenLiteral, IsGivenOption, IsGivenProperty}
 use Rattle.justfile_tree.specs.Expression.{expr_cooked, expr_of, literal_tok}
 use Rattle.justfile_tree.specs.declared.expression.Expression.{Expression}
 

@@ -20,7 +20,7 @@ use Rattle.justfile_setting.specs.declared.setting.Setting.{Setting}
 use Rattle.justfile_setting.specs.declared.setting.Setting.TheVariants as settings
 use Rattle.justfile_tree.specs.Expression.{expr_cooked, expr_of, exprs_of}
 use Rattle.justfile_tree.specs.declared.expression.Expression.{Expression}
-use Rattle.justfile_parse.specs.Filled.{IsGivenCommandLine, IsGivenExpression, IsGivenLiteral, IsGivenName, IsGivenNumbered, IsGivenPath, IsGivenSetting}
+use Rattle.justfile_parse_item.specs.Filled.{IsGivenCommandLine, IsGivenExpression, IsGivenLiteral, IsGivenName, IsGivenNumbered, IsGivenPath, IsGivenSetting}
 use Rattle.justfile_parse.proofs.GivenAttributes.{joined_cook, lexemes, literal_cooks}
 use Rattle.justfile_parse.proofs.GivenAttributes as attributes
 

@@ -59,7 +59,7 @@ use Rattle.justfile_model.proofs.LexedLaws.{one_list, never_both}
 use Rattle.justfile_model.proofs.Agreement.{complete, due, refused}
 use Rattle.justfile_model.proofs.Soundness.{sound}
 use Rattle.justfile_model.proofs.Ordered.{ordered_bindings, ordered_recipes}
-use Rattle.justfile_parse.specs.Filled.{AreGivenExpressions, AreGivenParts, IfThere, IsGivenArgument, IsGivenBoxed, IsGivenDependency, IsGivenName, IsGivenParameter, IsGivenRecipe, IsGivenFragment, IsGivenOptional, IsGivenItem, IsGivenExpression, IsGivenLine, IsGivenPart, IsInTable, first_part, later_part}
+use Rattle.justfile_parse_item.specs.Filled.{AreGivenExpressions, AreGivenParts, IfThere, IsGivenArgument, IsGivenBoxed, IsGivenDependency, IsGivenName, IsGivenParameter, IsGivenRecipe, IsGivenFragment, IsGivenOptional, IsGivenItem, IsGivenExpression, IsGivenLine, IsGivenPart, IsInTable, first_part, later_part}
 use Rattle.justfile_literal.specs.Literal.{IsPartOf, is_framed, is_quoted}
 use Rattle.justfile_parse.specs.Errors.{IsErrorOf}
 use Rattle.justfile_parse_expression.specs.Literal.{is_delimited, is_sound}

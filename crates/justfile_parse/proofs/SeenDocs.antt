@@ -25,12 +25,12 @@ use Rattle.justfile_model.proofs.Binds.{some_back}
 use Rattle.justfile_model.proofs.Counters.{count, count_content}
 use Rattle.justfile_model.proofs.Related as a
 use Rattle.justfile_model.proofs.Related.{AlikeItem, AlikeItems}
-use Rattle.justfile_parse.specs.Filled.{IsGivenItem}
-use Rattle.justfile_parse.specs.Tree.{item_tree}
-use Rattle.justfile_parse.specs.Whole.{IsWholeItem}
+use Rattle.justfile_parse_item.specs.Filled.{IsGivenItem}
+use Rattle.justfile_parse_item.specs.Tree.{item_tree}
+use Rattle.justfile_parse_item.specs.Whole.{IsWholeItem}
 use Rattle.justfile_parse_expression.proofs.Seen.{Relates}
 use Rattle.justfile_tree.specs.LeafTree.{Leaf}
-use Rattle.justfile_parse.proofs.Seen as seeing
+use Rattle.justfile_parse_item.proofs.Seen as seeing
 use Rattle.justfile_parse.proofs.SeenItems.{SeenItem, item_seen, undoc}
 
 -- an attribute says the doc, whatever is seen of leaves

@@ -23,13 +23,13 @@ use Rattle.justfile_model.specs.Tree.{starless_argument, starless_dependency}
 use Rattle.justfile_model.proofs.Counters.{after_parameters}
 use Rattle.justfile_model.proofs.Related as a
 use Rattle.justfile_model.proofs.Related.{AlikeDependency, AlikeDependencyArgument, AlikeOption, AlikeParameter, AlikeParameters, Each, absent, present}
-use Rattle.justfile_parse.specs.Filled.{IsGivenArgument, IsGivenDependency, IsGivenName, IsGivenParameter}
+use Rattle.justfile_parse_item.specs.Filled.{IsGivenArgument, IsGivenDependency, IsGivenName, IsGivenParameter}
 use Rattle.justfile_parse_expression.proofs.Seen as table
 use Rattle.justfile_parse_expression.proofs.Seen.{Relates}
 use Rattle.justfile_parse_header.specs.Tree.{argument_tree, dependency_tree, name_tree, parameter_name, parameter_tree}
 use Rattle.justfile_tree.specs.LeafTree.{Leaf, Named}
-use Rattle.justfile_parse.proofs.Seen as seeing
-use Rattle.justfile_parse.proofs.SeenAttributes as attributes
+use Rattle.justfile_parse_item.proofs.Seen as seeing
+use Rattle.justfile_parse_item.proofs.SeenAttributes as attributes
 
 module _ (conditions : Conditions) (IsToken : Token → Type 0) (file_depth : ℕ) (import_offsets : List ℕ) where
   abbrev seen : Relates

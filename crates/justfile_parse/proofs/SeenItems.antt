@@ -42,19 +42,19 @@ use Rattle.justfile_attribute_set.specs.AttributeSet as sets
 use Rattle.justfile_attribute_set.specs.AttributeSet.{AttributeSet, leaf_entries_of, pairs_of}
 use Rattle.justfile_attribute_set.specs.Keys.{firsts}
 use Rattle.justfile_attribute_set.specs.Pairs.{Pair}
-use Rattle.justfile_parse.specs.Filled.{AreGivenAttributes, IsGivenAttribute, IsGivenItem, IsGivenLine}
+use Rattle.justfile_parse_item.specs.Filled.{AreGivenAttributes, IsGivenAttribute, IsGivenItem, IsGivenLine}
 use Rattle.justfile_parse_expression.specs.TableReader.{assigned_leaf, headed_leaf}
-use Rattle.justfile_parse.specs.Tree.{assignment_name, item_tree, line_tree, numbered_tree, quoted_tree, recipe_header, recipe_name}
+use Rattle.justfile_parse_item.specs.Tree.{assignment_name, item_tree, line_tree, numbered_tree, quoted_tree, recipe_header, recipe_name}
 use Rattle.justfile_parse_header.specs.Tree.{name_tree, path_tree}
-use Rattle.justfile_parse.specs.Whole.{HasWholeAttributes, IsWholeItem}
+use Rattle.justfile_parse_item.specs.Whole.{HasWholeAttributes, IsWholeItem}
 use Rattle.justfile_parse_attribute.specs.WholeAttributes.{AreWholeAttributes}
 use Rattle.justfile_parse_expression.proofs.Seen as table
-use Rattle.justfile_parse.proofs.Seen as seeing
+use Rattle.justfile_parse_item.proofs.Seen as seeing
 use Rattle.justfile_parse.proofs.SeenHeaders as headers
 use Rattle.justfile_parse.proofs.SeenParts as parts
 use Rattle.justfile_parse_expression.proofs.Seen.{Relates, in_run}
-use Rattle.justfile_parse.proofs.Seen.{AreMeant}
-use Rattle.justfile_parse.proofs.Shebangs.{shebang_given}
+use Rattle.justfile_parse_item.proofs.Seen.{AreMeant}
+use Rattle.justfile_parse_item.proofs.Shebangs.{shebang_given}
 
 -- an item without its doc
 abbrev pub undoc : {A B C S D : Type 0} → AnyItem A B C S D → AnyItem A B C S D

@@ -27,12 +27,12 @@ use Rattle.justfile_setting.specs.declared.setting.Setting.TheVariants as settin
 use Rattle.justfile_tree.specs.Expression.{expr_of, exprs_of, literal_tok}
 use Rattle.justfile_tree.specs.LeafTree.{Leaf, Literal, Named, leaf_tree_of, literal_of, trees_of}
 use Rattle.justfile_tree.specs.declared.expression.Expression.{Expression}
-use Rattle.justfile_parse.specs.Filled.{IsGivenBoxed, IsGivenCommandLine, IsGivenExpression, IsGivenLiteral, IsGivenNumbered, IsGivenPath, IsGivenSetting}
-use Rattle.justfile_parse.specs.Tree.{numbered_tree, quoted_tree}
+use Rattle.justfile_parse_item.specs.Filled.{IsGivenBoxed, IsGivenCommandLine, IsGivenExpression, IsGivenLiteral, IsGivenNumbered, IsGivenPath, IsGivenSetting}
+use Rattle.justfile_parse_item.specs.Tree.{numbered_tree, quoted_tree}
 use Rattle.justfile_parse_expression.proofs.Seen as table
 use Rattle.justfile_parse_expression.proofs.Seen.{Relates}
-use Rattle.justfile_parse.proofs.Seen as seeing
-use Rattle.justfile_parse.proofs.SeenAttributes as attributes
+use Rattle.justfile_parse_item.proofs.Seen as seeing
+use Rattle.justfile_parse_item.proofs.SeenAttributes as attributes
 
 module _ (conditions : Conditions) (IsToken : Token → Type 0) (file_depth : ℕ) (import_offsets : List ℕ) where
   abbrev seen : Relates

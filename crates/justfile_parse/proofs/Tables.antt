@@ -6,7 +6,7 @@ use Rattle.std.proofs.lemmas.List.Elements.{Contains-get_or}
 use Rattle.justfile_parse_expression.specs.declared.significant.TableEntry.{TableEntry}
 use Rattle.justfile_model.specs.SignificantTokens.{SignificantToken}
 use Rattle.justfile_model.specs.Tok.{tok_of}
-use Rattle.justfile_parse.specs.Filled.{IsInTable}
+use Rattle.justfile_parse_item.specs.Filled.{IsInTable}
 use Rattle.justfile_parse_expression.specs.Significant.{significant_of}
 
 pub in_table : (table : List TableEntry) (n : ℕ) (d : TableEntry) → n < length table → IsInTable table (get_or table n d).token.now

@@ -41,18 +41,18 @@ use Rattle.justfile_parse.specs.Errors.{IsAt, IsErrorOf}
 use Rattle.justfile_parse_attribute.specs.Halting.{IsAfterVariadic, IsExpectedKeyword, IsExtraneous, IsUnknownSetting}
 use Rattle.justfile_parse_attribute.specs.Halting.{HaltsAt, IsBrokenBy}
 use Rattle.justfile_parse.specs.Halting.{IsFaultOfHalt}
-use Rattle.justfile_parse.specs.Whole.{AreWhole}
+use Rattle.justfile_parse_item.specs.Whole.{AreWhole}
 use Rattle.justfile_parse_attribute.specs.declared.halt.Halt.{Halt}
 use Rattle.justfile_parse_attribute.specs.declared.halt.Halt.TheVariants as halts
-use Rattle.justfile_parse.specs.Filled.{IsInTable}
+use Rattle.justfile_parse_item.specs.Filled.{IsInTable}
 use Rattle.justfile_parse_expression.specs.TableReader as table_reader
-use Rattle.justfile_parse.specs.ItemTable as reader
-use Rattle.justfile_parse.specs.ItemTable.{ReadItems, kept}
+use Rattle.justfile_parse_item.specs.ItemTable as reader
+use Rattle.justfile_parse_item.specs.ItemTable.{ReadItems, kept}
 use Rattle.justfile_parse_expression.specs.TableReader.{Run, State, leaves}
 use Rattle.justfile_parse.specs.MethodResults.{IsFaultOf, IsKindAt, IsNextPlace, IsRead, IsUnread}
 use Rattle.justfile_parse_expression.specs.MethodResults.{StopsAt, literal_refusal, refusal_at}
 use Rattle.justfile_parse_expression.specs.Significant.{significant_of}
-use Rattle.justfile_parse.specs.Tree.{item_tree, numbered_tree}
+use Rattle.justfile_parse_item.specs.Tree.{item_tree, numbered_tree}
 use Rattle.justfile_tree.specs.LeafTree.{Leaf}
 use Rattle.justfile_parse.specs.WantsNumber as wants
 use Rattle.justfile_parse.specs.WantsNumber.{AreLines, BeginsAssignment, BeginsHeader, LacksNumber, WantsNumber, a_line, at_name, at_once, binding, name_number, no_line, parameter_number, quiet, recipe_number}
@@ -65,8 +65,8 @@ use Rattle.justfile_parse_expression.specs.declared.stop.Stop.TheVariants as sto
 use Rattle.justfile_parse_expression.proofs.Cooked.{kind_is_due}
 use Rattle.justfile_parse.proofs.Tables.{in_table}
 use Rattle.justfile_parse_expression.proofs.Seen.{IsEntry, Relates}
-use Rattle.justfile_parse.proofs.Seen.{respects, seen}
-use Rattle.justfile_parse.proofs.SeenAttributes.{IsKept, attributed}
+use Rattle.justfile_parse_item.proofs.Seen.{respects, seen}
+use Rattle.justfile_parse_item.proofs.SeenAttributes.{IsKept, attributed}
 use Rattle.justfile_parse.proofs.SeenDocs.{items_seen}
 use Rattle.justfile_parse.proofs.SeenItems.{noted_seen}
 use Rattle.justfile_parse.proofs.SeenRules.{same_broken}

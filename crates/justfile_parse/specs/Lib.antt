@@ -1,13 +1,7 @@
 pub mod Docs
 pub mod Errors
-pub mod Exclusions
-pub mod Filled
 pub mod Halting
-pub mod ItemTable
 pub mod MethodResults
 pub mod Parsing
-pub mod Tree
 pub mod Unstable
 pub mod WantsNumber
-pub mod Whole
-pub mod Words

@@ -1,6 +1,6 @@
--- What a method of the parser returns, of items, is what the definitions read.
-use Rattle.std.specs.Prelude.{◌≡◌, ℕ, ◌≤◌, ◌+◌, List, Option, Some, None, Result, Ok, Err, map}
-use Rattle.justfile_word.specs.Numerator.{bindings_of, constants_of, recipes_of}
+-- What reading a table of tokens returns is what the definitions read.
+use Rattle.std.specs.Prelude.{◌≡◌, ℕ, List, Option, Some, None, Ok, Err, map}
+use Rattle.justfile_word.specs.Numerator.{bindings_of, recipes_of}
 use Rattle.justfile_base.specs.declared.compile_error.CompileError.{CompileError}
 use Rattle.justfile_base.specs.declared.compile_error_kind.CompileErrorKind.{CompileErrorKind}
 use Rattle.justfile_base.specs.declared.compile_error_kind.CompileErrorKind.TheVariants as error_kinds
@@ -17,35 +17,18 @@ use Rattle.justfile_model.specs.Files.{NumbersSuffice, ordered}
 use Rattle.justfile_model.specs.Sight.{sees_tokens}
 use Rattle.justfile_model.specs.SignificantTokens.{SignificantToken}
 use Rattle.justfile_model.specs.Tok.{Tok}
-use Rattle.justfile_model.specs.Tree.{OrderedItem, WrittenTree}
+use Rattle.justfile_model.specs.Tree.{WrittenTree}
 use Rattle.justfile_model.specs.TreeReader as tree
 use Rattle.justfile_word.specs.declared.list_feature.ListFeature.{ListFeature}
 use Rattle.justfile_parse.specs.Errors.{IsAt, IsErrorOf, IsUnexpected}
-use Rattle.justfile_parse.specs.Filled.{AreNotedIn, IsGivenItems, IsInTable}
+use Rattle.justfile_parse_item.specs.Filled.{AreNotedIn, IsGivenItems, IsInTable}
 use Rattle.justfile_parse_expression.specs.Significant.{significant_of}
-use Rattle.justfile_model.specs.Reading.{Counters}
-use Rattle.justfile_parse.specs.ItemTable.{ReadItem}
 use Rattle.justfile_parse.specs.WantsNumber.{WantsNumber}
-use Rattle.justfile_parse_attribute.specs.Halting.{ReadsRuled}
-use Rattle.justfile_parse_attribute.specs.declared.halt.Halt.{Halt}
-use Rattle.justfile_parse_expression.specs.TableReader.{State}
 use Rattle.justfile_parse_expression.specs.declared.significant.TableEntry.{TableEntry}
 use Rattle.justfile_parse_expression.specs.declared.stop.Refusal.{Refusal}
 use Rattle.justfile_parse_expression.specs.declared.stop.Refusal.TheVariants.{Unexpected, TooDeep}
 use Rattle.justfile_parse_expression.specs.declared.stop.Stop.{Stop}
 use Rattle.justfile_parse_expression.specs.declared.stop.Stop.TheVariants as stops
-use Rattle.justfile_tree.specs.LeafTree.{Leaf}
-
--- bindings and recipes were numbered, together at most so many, and nothing else
-pub record IsMoved (old new : Numerator) (most : ℕ) : Type 0 where
-  pub least : bindings_of old ≤ bindings_of new
-  pub recipes_least : recipes_of old ≤ recipes_of new
-  pub most_is : bindings_of new + recipes_of new ≤ bindings_of old + recipes_of old + most
-  pub constants : constants_of new ≡ constants_of old
-
--- what was returned, of a construct that takes no number, is what is read from whatever counters, or says why not
-unfoldable pub ReadsUncounted : {X : Type 0} → (X → OrderedItem Leaf Token ℕ) → Result X Halt → State → (Counters → ReadItem) → Type 0
-ReadsUncounted view result s read = (n : Counters) → ReadsRuled (λ x. (view x, n)) result s (read n)
 
 -- the kind says why the token is refused
 abbrev pub IsKindAt : Refusal → CompileErrorKind → Token → Type 0

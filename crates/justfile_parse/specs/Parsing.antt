@@ -23,7 +23,7 @@ use Rattle.justfile_model.specs.Tree.{Tree, lexeme}
 use Rattle.justfile_model.specs.UnstableFeatures.{unstable_features}
 use Rattle.justfile_word.specs.declared.list_feature.ListFeature.{ListFeature}
 use Rattle.justfile_parse.specs.Errors.{IsRefused}
-use Rattle.justfile_parse.specs.Filled.{IsGivenItem}
+use Rattle.justfile_parse_item.specs.Filled.{IsGivenItem}
 use Rattle.justfile_parse.specs.WantsNumber.{WantsNumber}
 
 -- the tokens, all of one source, are those of its text

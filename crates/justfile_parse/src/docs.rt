@@ -10,8 +10,8 @@ ghost use Rattle.justfile_model.specs.Docs as before;
 ghost use Rattle.justfile_model.specs.Files.{says_doc};
 ghost use Rattle.justfile_model.specs.Tree as tree;
 ghost use Rattle.justfile_parse.specs.Docs.{comment_of, doc_before, doc_first, is_newline, says_no_doc, with_doc, with_item};
-ghost use Rattle.justfile_parse.specs.Tree.{item_tree};
-ghost use Rattle.justfile_parse.specs.Whole.{AreWhole, IsWholeItem};
+ghost use Rattle.justfile_parse_item.specs.Tree.{item_tree};
+ghost use Rattle.justfile_parse_item.specs.Whole.{AreWhole, IsWholeItem};
 
 use justfile_attribute_set::AttributeSet;
 use justfile_base::AttributeKind;

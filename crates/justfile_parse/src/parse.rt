@@ -8,20 +8,20 @@ ghost use Rattle.justfile_model.specs.Tok.{Tok, tok_of};
 ghost use Rattle.justfile_parse.specs.Parsing.{HasNoTree, IsOneLex, IsParsed, IsParsedText, IsUnparsed};
 ghost use Rattle.justfile_parse_expression.specs.Conditions.{conditions_of};
 ghost use Rattle.justfile_parse_expression.specs.Formats.{IsTable};
-ghost use Rattle.justfile_parse.specs.Filled.{IsInTable};
-ghost use Rattle.justfile_parse.specs.ItemTable as reader;
-ghost use Rattle.justfile_parse.specs.ItemTable.{after_mark};
-ghost use Rattle.justfile_parse.specs.MethodResults.{IsErrorAt, IsFaultOf, IsMoved, IsNextPlace, IsRead, IsUnread};
+ghost use Rattle.justfile_parse_item.specs.Filled.{IsInTable};
+ghost use Rattle.justfile_parse_item.specs.ItemTable as reader;
+ghost use Rattle.justfile_parse_item.specs.ItemTable.{after_mark};
+ghost use Rattle.justfile_parse.specs.MethodResults.{IsErrorAt, IsFaultOf, IsNextPlace, IsRead, IsUnread};
+ghost use Rattle.justfile_parse_item.specs.MethodResults.{IsMoved};
 ghost use Rattle.justfile_parse.specs.Halting.{IsFaultOfHalt};
-ghost use Rattle.justfile_parse.specs.Whole.{AreWhole};
+ghost use Rattle.justfile_parse_item.specs.Whole.{AreWhole};
 ghost use Rattle.justfile_parse_expression.specs.Significant.{significant_of};
-ghost use Rattle.justfile_parse.specs.Tree.{item_tree};
+ghost use Rattle.justfile_parse_item.specs.Tree.{item_tree};
 ghost use Rattle.justfile_parse_expression.specs.View.{state_of};
 ghost use Rattle.justfile_parse_expression.specs.declared.stop.Refusal.TheVariants.{Unexpected};
 ghost use Rattle.justfile_parse_header.specs.Counting.{ReadsCounted, counters_of};
 
 use crate::docs::take_docs;
-use crate::items::parse_items;
 use crate::unstable::with_unstable;
 use justfile_base::{
     CompileError, CompileErrorKind, CompileResult, Expander, Fault, Modulepath, Namepath,
@@ -32,6 +32,7 @@ use justfile_lex::Lexer;
 use justfile_parse_attribute::Halt;
 use justfile_parse_expression::significant::{TableEntry, significant};
 use justfile_parse_expression::{ExpressionParser, Refusal, Stop, Wanted};
+use justfile_parse_item::parse_items;
 use justfile_tree::ListFeature;
 use std::alloc::{AllocError, Global};
 
@@ -159,7 +160,7 @@ fn parse_table<'run, 'src, X: Expander>(
 }
 
 /// The items of a file, which may begin with a byte order mark, where no expression is open.
-#[tactic(auto, using(crate::proofs::Loop::file_is))]
+#[tactic(auto, using(justfile_parse_item::proofs::Loop::file_is))]
 fn parse_file<'src, X: Expander>(
     parser: &mut ExpressionParser<'_, 'src, X>,
     numerator: &mut Numerator,

@@ -1,4 +1,4 @@
-use Rattle.justfile_parse.proofs.Wholes.{pushed_whole, then_whole}
+use Rattle.justfile_parse_item.proofs.Wholes.{pushed_whole, then_whole}
 use Rattle.justfile_parse.proofs.docs.push_item.Goals as goal
 
 pub returns-clause-whole : goal.returns-clause-whole

@@ -1,7 +1,7 @@
 use Rattle.std.proofs.Common.{ℕ, ◌∙◌, List, ap, arith}
 use Rattle.justfile_model.specs.Docs.{item_with_doc}
 use Rattle.justfile_model.specs.Files.{says_doc}
-use Rattle.justfile_parse.specs.Tree.{item_tree}
+use Rattle.justfile_parse_item.specs.Tree.{item_tree}
 use Rattle.justfile_parse.proofs.DocSteps.{cut_whole, doc_added}
 use Rattle.justfile_parse.proofs.docs.push_with_doc.Goals as goal
 

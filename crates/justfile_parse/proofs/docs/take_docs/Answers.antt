@@ -1,7 +1,7 @@
 use Rattle.std.proofs.Common.{arith, refl, subst, sym}
-use Rattle.justfile_parse.specs.Whole.{AreWhole}
+use Rattle.justfile_parse_item.specs.Whole.{AreWhole}
 use Rattle.justfile_parse.proofs.DocSteps.{all_taken, next_added, next_whole}
-use Rattle.justfile_parse.proofs.Wholes.{none_whole}
+use Rattle.justfile_parse_item.proofs.Wholes.{none_whole}
 use Rattle.justfile_parse.proofs.docs.take_docs.Goals as goal
 
 pub loop-item-init : goal.loop-item-init

@@ -1,7 +1,7 @@
 use Rattle.std.proofs.Common.{◌≡◌, [], map}
 use Rattle.std.specs.Vec.Iter.{into_iter_items}
-use Rattle.justfile_parse.specs.Tree.{item_tree}
-use Rattle.justfile_parse.specs.Whole.{AreWhole}
+use Rattle.justfile_parse_item.specs.Tree.{item_tree}
+use Rattle.justfile_parse_item.specs.Whole.{AreWhole}
 use Rattle.justfile_parse.proofs.TakenDocs.{with_items}
 use Rattle.justfile_parse.proofs.docs.take_docs.Given as goal
 

@@ -1,6 +1,6 @@
 use Rattle.std.proofs.Common.{◌∙◌, ap, sym}
 use Rattle.justfile_parse.specs.Docs.{says_no_doc}
-use Rattle.justfile_parse.specs.Tree.{item_tree}
+use Rattle.justfile_parse_item.specs.Tree.{item_tree}
 use Rattle.justfile_parse.proofs.DocSteps.{lacks_is}
 use Rattle.justfile_parse.proofs.docs.wants_doc.Goals as goal
 

@@ -1,11 +1,11 @@
 use Rattle.std.proofs.Common.{◌≡◌, subst, map, Ok, Err, Option}
 use Rattle.justfile_model.specs.Reading.{NoNumber}
 use Rattle.justfile_parse_expression.specs.Conditions.{conditions_of}
-use Rattle.justfile_parse.specs.ItemTable as reader
+use Rattle.justfile_parse_item.specs.ItemTable as reader
 use Rattle.justfile_parse_expression.specs.TableReader.{Run, State}
 use Rattle.justfile_parse_attribute.specs.Halting.{HaltsAt}
 use Rattle.justfile_parse.specs.Halting.{IsFaultOfHalt}
-use Rattle.justfile_parse.specs.Tree.{item_tree}
+use Rattle.justfile_parse_item.specs.Tree.{item_tree}
 use Rattle.justfile_parse_expression.specs.View.{state_of}
 use Rattle.justfile_parse_expression.specs.declared.significant.TableEntry.{TableEntry}
 use Rattle.justfile_parse_expression.proofs.Rest.{noted_is}

@@ -7,7 +7,7 @@ use Rattle.justfile_model.specs.SignificantTokens.{identifiers, significant_toke
 use Rattle.justfile_model.specs.Tok.{Tok, tok_of}
 use Rattle.justfile_model.proofs.LexedLaws.{one_list}
 use Rattle.justfile_parse_expression.specs.Conditions.{conditions_of}
-use Rattle.justfile_parse.specs.MethodResults.{IsMoved}
+use Rattle.justfile_parse_item.specs.MethodResults.{IsMoved}
 use Rattle.justfile_parse.proofs.Parsed.{lexical, no_tree, text_parsed}
 use Rattle.justfile_parse.proofs.parse.Parser.parse_source.Goals as goal
 

@@ -1,6 +1,0 @@
-use Rattle.std.proofs.Common.{◌∙◌}
-use Rattle.justfile_parse.proofs.Lines.{has_body_is}
-use Rattle.justfile_parse.proofs.items.is_bodied.Goals as goal
-
-pub returns : goal.returns
-returns c = c.has_body.ensures ∙ has_body_is c.args.item.now

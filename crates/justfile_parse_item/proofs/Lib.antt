@@ -1,0 +1,17 @@
+pub mod Anywhere
+pub mod Bodies
+pub mod Constructs
+pub mod Hashes
+pub mod ItemHalts
+pub mod Lines
+pub mod Loop
+pub mod Moved
+pub mod Moves
+pub mod Readings
+pub mod Recipes
+pub mod Seen
+pub mod SeenAttributes
+pub mod Shebangs
+pub mod Trims
+pub mod Wholes
+pub mod Words

@@ -1,0 +1,127 @@
+-- The reader of lines, as the parser goes over it.
+use Rattle.std.proofs.Common.{◌≡◌, ℕ, Bool, true, false, List, [], ◌∷◌, ◌++◌, map, Some, None, Ok, Err, refl, ap, sym, ◌∙◌}
+use Rattle.std.proofs.lemmas.List.{append-nil, append_assoc}
+use Rattle.justfile_base.specs.declared.token.Token.{Token}
+use Rattle.justfile_word.specs.declared.token_kind.TokenKind.TheVariants as kinds
+use Rattle.justfile_file.specs.Item.{item_of, body_line_of}
+use Rattle.justfile_file.specs.declared.item.Item as file
+use Rattle.justfile_file.specs.declared.item.Item.TheVariants as items
+use Rattle.justfile_file.specs.declared.line.Line as body
+use Rattle.justfile_model.specs.Tree as tree
+use Rattle.justfile_model.specs.Tree.{OrderedItem}
+use Rattle.justfile_model.specs.Reader as files
+use Rattle.justfile_model.specs.Reader.{comment_item, has_body, some_line}
+use Rattle.justfile_model.specs.PartReader as parts
+use Rattle.justfile_model.specs.PartReader.{after_numbered}
+use Rattle.justfile_model.specs.Reading.{◌>>=◌, Counters, prepend}
+use Rattle.justfile_parse_expression.specs.TableReader.{Read, Refusal, State, accept, expect, leaves}
+use Rattle.justfile_parse_item.specs.ItemTable.{ReadItems, item_rest, ended, kept, line, line_end, on_line}
+use Rattle.justfile_parse_attribute.specs.Halting.{HaltsAt}
+use Rattle.justfile_parse_expression.specs.MethodResults.{StopsAt, literal_refusal, refusal_at}
+use Rattle.justfile_parse_item.specs.Tree.{item_tree, line_tree}
+use Rattle.justfile_tree.specs.LeafTree.{Leaf}
+use Rattle.justfile_parse_attribute.specs.declared.halt.Halt.{Halt}
+use Rattle.justfile_parse_expression.specs.declared.significant.TableEntry.{TableEntry}
+use Rattle.justfile_parse_expression.specs.declared.stop.Stop.{Stop}
+use Rattle.justfile_parse_expression.specs.declared.stop.Stop.TheVariants.{Refused, Literal, Memory, Numbers}
+use Rattle.justfile_parse_header.proofs.Halts.{halted}
+
+abbrev Items : Type 0
+Items = List (OrderedItem Leaf Token ℕ)
+
+module _ (done : Items) (s : State) where
+  pub line_end_closes : (end : TableEntry × State) → accept kinds.Eof s ≡ Some end → prepend done (line_end s) ≡ Ok (done, s)
+  unfolding prepend files.line_end
+  line_end_closes end h = rw h (ap (λ (l : Items). Ok (l, s)) (append-nil done))
+
+  pub line_end_newline : (t : TableEntry) (rest : State) → accept kinds.Eof s ≡ None → expect kinds.Eol s ≡ Ok (t, rest) → prepend done (line_end s) ≡ Ok (done ++ tree.Newline ∷ [], rest)
+  unfolding prepend files.line_end
+  line_end_newline t rest h1 h2 = rw (h1, h2) refl
+
+  pub line_end_fails : (e : Refusal) → accept kinds.Eof s ≡ None → expect kinds.Eol s ≡ Err e → prepend done (line_end s) ≡ Err e
+  unfolding prepend files.line_end
+  line_end_fails e h1 h2 = rw (h1, h2) refl
+
+  -- where no end of a line stands, the item's end stops
+  pub line_end_stops : (stop : Stop) (left : State) → accept kinds.Eof s ≡ None → StopsAt stop left ⊥ (expect kinds.Eol s) → StopsAt stop left ⊥ (prepend done (line_end s))
+  line_end_stops (Refused r) left none h = line_end_fails (refusal_at r left) none h
+  line_end_stops (Literal refused) left none h = line_end_fails (literal_refusal refused.value.error) none h
+  line_end_stops Memory left none h = tt
+  line_end_stops Numbers left none h = absurd h
+
+  pub after_bare : accept kinds.Comment s ≡ None → prepend done (item_rest s) ≡ prepend done (line_end s)
+  unfolding files.item_rest
+  after_bare h = rw h refl
+
+  then_end : (i : OrderedItem Leaf Token ℕ) (found : Read Items) → prepend done (found >>= λ end. Ok (i ∷ end.0, end.1)) ≡ prepend (done ++ i ∷ []) found
+  unfolding prepend
+  then_end i (Ok x) = ap (λ (l : Items). Ok (l, x.1)) (sym (append_assoc done (i ∷ []) x.0))
+  then_end i (Err e) = refl
+
+  pub after_comment : (c : TableEntry) (rest : State) → accept kinds.Comment s ≡ Some (c, rest) → prepend done (item_rest s) ≡ prepend (done ++ comment_item leaves kept c ∷ []) (line_end rest)
+  unfolding files.item_rest
+  after_comment c rest h = rw h (then_end (comment_item leaves kept c) (line_end rest))
+
+  pub ended_body : (b : Bool) (new : Items) → b ≡ true → new ≡ done ++ tree.Newline ∷ [] → prepend done (ended b s) ≡ Ok (new, s)
+  unfolding prepend files.ended
+  ended_body b new h is = rw h (ap (λ (l : Items). Ok (l, s)) (sym is))
+
+  pub ended_after : (b : Bool) → b ≡ false → prepend done (ended b s) ≡ prepend done (item_rest s)
+  unfolding files.ended
+  ended_after b h = rw h refl
+
+  module _ (n : Counters) where
+    pub line_blank : (t : TableEntry) (rest : State) → accept kinds.Eol s ≡ Some (t, rest) → after_numbered done (line n s) ≡ Ok ((done ++ tree.Newline ∷ [], n), rest)
+    unfolding after_numbered files.line
+    line_blank t rest h = rw h refl
+
+    pub line_fails : (e : Refusal) → accept kinds.Eol s ≡ None → on_line n s ≡ Err e → after_numbered done (line n s) ≡ Err e
+    unfolding after_numbered files.line
+    line_fails e h1 h2 = rw (h1, h2) refl
+
+    -- an item is refused, or its number is wanting
+    pub line_halts : (halt : Halt) (left : State) (wanting : Refusal) → accept kinds.Eol s ≡ None → HaltsAt halt left (on_line n s ≡ Err wanting) (on_line n s) → HaltsAt halt left (after_numbered done (line n s) ≡ Err wanting) (after_numbered done (line n s))
+    line_halts halt left wanting none h = halted (on_line n s) (after_numbered done (line n s)) (λ e. line_fails e none) halt left _ _ (line_fails wanting none) h
+
+    -- after an item
+    module _ (i : OrderedItem Leaf Token ℕ) (m : Counters) (rest : State) (none : accept kinds.Eol s ≡ None) (item : on_line n s ≡ Ok ((i, m), rest)) where
+      abbrev numbered : Items × State → ReadItems
+      numbered x = Ok ((x.0, m), x.1)
+
+      then_ended : (found : Read Items) → after_numbered done (found >>= λ b. Ok ((i ∷ b.0, m), b.1)) ≡ (prepend (done ++ i ∷ []) found >>= numbered)
+      unfolding prepend after_numbered
+      then_ended (Ok x) = ap (λ (l : Items). Ok ((l, m), x.1)) (sym (append_assoc done (i ∷ []) x.0))
+      then_ended (Err e) = refl
+
+      line_is : after_numbered done (line n s) ≡ (prepend (done ++ i ∷ []) (ended (has_body i) rest) >>= numbered)
+      unfolding files.line
+      line_is = rw (none, item) (then_ended (ended (has_body i) rest))
+
+      pub line_goes_on : (new : Items) (last : State) → prepend (done ++ i ∷ []) (ended (has_body i) rest) ≡ Ok (new, last) → after_numbered done (line n s) ≡ Ok ((new, m), last)
+      line_goes_on new last h = line_is ∙ ap (λ (f : Read Items). f >>= numbered) h
+
+      pub end_fails : (e : Refusal) → prepend (done ++ i ∷ []) (ended (has_body i) rest) ≡ Err e → after_numbered done (line n s) ≡ Err e
+      end_fails e h = line_is ∙ ap (λ (f : Read Items). f >>= numbered) h
+
+      pub end_stops : (stop : Stop) (left : State) (IsShort : Type 0) → StopsAt stop left ⊥ (prepend (done ++ i ∷ []) (ended (has_body i) rest)) → StopsAt stop left IsShort (after_numbered done (line n s))
+      end_stops (Refused r) left IsShort h = end_fails (refusal_at r left) h
+      end_stops (Literal refused) left IsShort h = end_fails (literal_refusal refused.value.error) h
+      end_stops Memory left IsShort h = tt
+      end_stops Numbers left IsShort h = absurd h
+
+-- whether an item has a body
+pub has_body_is : (i : file.Item) → has_body (item_of i) ≡ has_body (item_tree i)
+has_body_is (items.Alias a) = refl
+has_body_is (items.Assignment a) = refl
+has_body_is (items.Comment text) = refl
+has_body_is (items.Function f) = refl
+has_body_is (items.Import attributes optional relative) = refl
+has_body_is (items.Module attributes doc name optional relative) = refl
+has_body_is items.Newline = refl
+has_body_is (items.Setting s) = refl
+has_body_is (items.Unexport attributes name) = refl
+has_body_is (items.Recipe r) = by_lines r.body.items
+  where
+    by_lines : (ls : List body.Line) → some_line (map body_line_of ls) ≡ some_line (map line_tree ls)
+    by_lines [] = refl
+    by_lines (l ∷ ls) = refl

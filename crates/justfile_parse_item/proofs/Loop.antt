@@ -1,0 +1,142 @@
+-- The loop over the lines of a file.
+use Rattle.std.proofs.Common.{◌≡◌, ℕ, ◌+◌, ◌<◌, ◌≤◌, List, [], ◌∷◌, ◌++◌, length, map, Some, None, Ok, Err, refl, sym, ap, ◌∙◌, arith}
+use Rattle.justfile_word.specs.Numerator.{bindings_of, constants_of, recipes_of}
+use Rattle.justfile_word.specs.declared.numerator.Numerator.{Numerator}
+use Rattle.justfile_base.specs.declared.token.Token.{Token}
+use Rattle.justfile_word.specs.declared.token_kind.TokenKind.TheVariants as kinds
+use Rattle.justfile_file.specs.declared.item.Item as file
+use Rattle.justfile_model.specs.Tree.{OrderedItem}
+use Rattle.justfile_model.specs.Reader as files
+use Rattle.justfile_model.specs.PartReader.{after_numbered}
+use Rattle.justfile_model.specs.Reading.{◌>>=◌, Counters}
+use Rattle.justfile_parse_item.specs.ItemTable as reader
+use Rattle.justfile_parse_item.specs.ItemTable.{ReadItems, after_mark, items, kept, line, read_nothing}
+use Rattle.justfile_parse_expression.specs.TableReader.{Read, Refusal, State, accept, leaves}
+use Rattle.justfile_parse_attribute.specs.Halting.{HaltsAt}
+use Rattle.justfile_parse_item.specs.MethodResults.{IsMoved}
+use Rattle.justfile_parse_expression.specs.MethodResults.{StopsAt, literal_refusal, refusal_at}
+use Rattle.justfile_parse_item.specs.Tree.{item_tree}
+use Rattle.justfile_parse_item.specs.Whole.{AreWhole, KeepsWhole}
+use Rattle.justfile_tree.specs.LeafTree.{Leaf}
+use Rattle.justfile_parse_attribute.specs.declared.halt.Halt.{Halt}
+use Rattle.justfile_parse_expression.specs.declared.significant.TableEntry.{TableEntry}
+use Rattle.justfile_parse_expression.specs.declared.stop.Stop.{Stop}
+use Rattle.justfile_parse_expression.specs.declared.stop.Stop.TheVariants.{Refused, Literal, Memory, Numbers}
+use Rattle.justfile_model.proofs.Reading as laws
+use Rattle.justfile_model.proofs.ReadingSteps.{known}
+use Rattle.justfile_parse_header.proofs.Halts.{halted}
+use Rattle.justfile_parse_item.proofs.Moves.{line_moves}
+use Rattle.justfile_parse_item.proofs.Wholes.{none_whole, then_whole}
+use Rattle.justfile_parse_header.specs.Counting.{counters_of, names}
+
+abbrev Items : Type 0
+Items = List (OrderedItem Leaf Token ℕ)
+
+-- what is read after items
+taken : (done all : Items) (m : Counters) (rest : State) (found : ReadItems) → after_numbered done found ≡ Ok ((all, m), rest) → (more : Items) × (found ≡ Ok ((more, m), rest)) × (done ++ more ≡ all)
+unfolding after_numbered
+taken done all m rest (Ok x) h =
+    let pair : ◌≡◌ {A = (Items × Counters) × State} ((done ++ x.0.0, x.0.1), x.1) ((all, m), rest) = inside _ _ h in (
+      x.0.0,
+      ap (λ (p : Counters × State). Ok ((x.0.0, p.0), p.1)) (ap (λ (p : (Items × Counters) × State). (p.0.1, p.1)) pair),
+      ap (λ (p : (Items × Counters) × State). p.0.0) pair,
+    )
+  where
+    inside : (a b : (Items × Counters) × State) → ◌≡◌ {A = ReadItems} (Ok a) (Ok b) → a ≡ b
+    inside a b h = cc
+taken done all m rest (Err e) h = cc
+
+refused_first : (done : Items) (e : Refusal) (found : ReadItems) → after_numbered done found ≡ Err e → found ≡ Err e
+unfolding after_numbered
+refused_first done e (Ok x) h = cc
+refused_first done e (Err f) h = ap (λ (g : Refusal). Err g) (inside f e h)
+  where
+    inside : (a b : Refusal) → ◌≡◌ {A = ReadItems} (Err a) (Err b) → a ≡ b
+    inside a b h = cc
+
+-- from one place to another these items were read
+pub record IsReadTo (s q : State) (first next : Numerator) (done : List file.Item) : Type 0 where
+  pub read : after_numbered (map item_tree done) (items (counters_of next) q) ≡ items (counters_of first) s
+  pub depth : q.depth ≡ 0
+  pub least : bindings_of first ≤ bindings_of next
+  pub recipes_least : recipes_of first ≤ recipes_of next
+  pub most : bindings_of next + recipes_of next + names q ≤ bindings_of first + recipes_of first + names s
+  pub constants : constants_of next ≡ constants_of first
+  pub whole : AreWhole done
+
+pub begins : (s : State) (first : Numerator) → s.depth ≡ 0 → IsReadTo s s first first []
+begins s first none = record { depth = none; read = laws.numbered_begin (items (counters_of first) s); least = omega arith; recipes_least = omega arith; most = omega arith; constants = refl; whole = none_whole }
+
+module _ (s q : State) (first next : Numerator) (done : List file.Item) (so_far : IsReadTo s q first next done) where
+  pub all_whole : AreWhole done
+  all_whole = so_far.whole
+
+  pub moved : IsMoved first next (names s)
+  moved = record { least = so_far.least; recipes_least = so_far.recipes_least; most_is = omega (arith, so_far.most); constants = so_far.constants }
+
+  module _ (none : accept kinds.Eof q ≡ None) where
+    pub goes_on : (then : Numerator) (new : List file.Item) (rest : State) → after_numbered (map item_tree done) (line (counters_of next) q) ≡ Ok ((map item_tree new, counters_of then), rest) → KeepsWhole done new → IsReadTo s rest first then new
+    goes_on then new rest value keeps =
+        let t = taken (map item_tree done) (map item_tree new) (counters_of then) rest (line (counters_of next) q) value in
+        let moves = line_moves (counters_of next) q so_far.depth t.0 (counters_of then) rest t.1 in
+        let past = known {X = (Items × Counters) × State} ((t.0, counters_of then), rest) (λ x. length x.1.left < length q.left × (x.1.depth ≡ q.depth) × (x.1.run ≡ q.run)) t.1 (laws.line_goes leaves kept (counters_of next) q) in
+        record {
+          depth = past.1 ∙ so_far.depth;
+          read =
+              ap (λ (l : Items). after_numbered l (items (counters_of then) rest)) (sym t.2)
+              ∙ sym (laws.items_go_on leaves kept (map item_tree done) (counters_of next) q t.0 (counters_of then) rest none t.1)
+              ∙ so_far.read;
+          least = omega (arith, so_far.least, moves.least);
+          recipes_least = omega (arith, so_far.recipes_least, moves.recipes_least);
+          most = omega (arith, so_far.most, moves.most);
+          constants = moves.constants ∙ so_far.constants;
+          whole = then_whole done new so_far.whole keeps;
+        }
+
+    fails : (e : Refusal) → after_numbered (map item_tree done) (line (counters_of next) q) ≡ Err e → items (counters_of first) s ≡ Err e
+    fails e h = sym so_far.read ∙ laws.items_fail leaves kept (map item_tree done) (counters_of next) q e none (refused_first (map item_tree done) e (line (counters_of next) q) h)
+
+    -- a line is refused, or wants a number
+    pub halts : (halt : Halt) (left : State) (wanting : Refusal)
+        → HaltsAt halt left (after_numbered (map item_tree done) (line (counters_of next) q) ≡ Err wanting) (after_numbered (map item_tree done) (line (counters_of next) q))
+        → HaltsAt halt left (items (counters_of first) s ≡ Err wanting) (items (counters_of first) s)
+    halts halt left wanting h = halted (after_numbered (map item_tree done) (line (counters_of next) q)) (items (counters_of first) s) fails halt left _ _ (fails wanting) h
+
+    -- where a line moved the numerator, so is the file's
+    pub moved_on : (then : Numerator) → IsMoved next then (names q) → IsMoved first then (names s)
+    moved_on then h =
+        record {
+          least = omega (arith, so_far.least, h.least);
+          recipes_least = omega (arith, so_far.recipes_least, h.recipes_least);
+          most_is = omega (arith, so_far.most, h.most_is);
+          constants = h.constants ∙ so_far.constants;
+        }
+
+  module _ (end : TableEntry) (rest : State) (is : accept kinds.Eof q ≡ Some (end, rest)) where
+    abbrev item_rest_end : Unit {0} × State → ReadItems
+    item_rest_end x = Ok (([], counters_of next), x.1)
+
+    end_by : (entries : List TableEntry) → files.end_of_tokens leaves kept (counters_of next) rest entries ≡ (reader.nothing_by rest entries >>= item_rest_end)
+    end_by [] = refl
+    end_by (t ∷ ts) = refl
+
+    at_end_is : items (counters_of first) s ≡ after_numbered (map item_tree done) (read_nothing rest >>= item_rest_end)
+    unfolding files.at_end read_nothing
+    at_end_is = sym so_far.read ∙ laws.items_at_end leaves kept (map item_tree done) (counters_of next) q end rest is ∙ ap (after_numbered (map item_tree done)) (end_by rest.left)
+
+    pub ends : read_nothing rest ≡ Ok (tt, rest) → items (counters_of first) s ≡ Ok ((map item_tree done, counters_of next), rest)
+    ends h = at_end_is ∙ ap (λ (f : Read (Unit {0})). after_numbered (map item_tree done) (f >>= item_rest_end)) h ∙ laws.numbered_nothing (map item_tree done) (counters_of next) rest
+
+    past : (e : Refusal) → read_nothing rest ≡ Err e → items (counters_of first) s ≡ Err e
+    past e h = at_end_is ∙ ap (λ (f : Read (Unit {0})). after_numbered (map item_tree done) (f >>= item_rest_end)) h ∙ laws.numbered_refused (map item_tree done) e
+
+    pub goes_past : (stop : Stop) (IsShort : Type 0) → StopsAt stop rest ⊥ (read_nothing rest) → StopsAt stop rest IsShort (items (counters_of first) s)
+    goes_past (Refused r) IsShort h = past (refusal_at r rest) h
+    goes_past (Literal refused) IsShort h = past (literal_refusal refused.value.error) h
+    goes_past Memory IsShort h = tt
+    goes_past Numbers IsShort h = absurd h
+
+-- a file is its items after a byte order mark
+pub file_is : (n : Counters) (s : State) → reader.file n s ≡ items n (after_mark s)
+unfolding files.file
+file_is n s = refl

@@ -1,0 +1,106 @@
+-- Recipes, as the parser reads them.
+use Rattle.std.proofs.Common.{◌≡◌, ◌∙◌, ℕ, Bool, List, map-id, Ok, Err, sym, ap, subst}
+use Rattle.justfile_word.specs.Numerator.{number_of}
+use Rattle.justfile_word.specs.declared.number.Number.{Number}
+use Rattle.justfile_base.specs.declared.token.Token.{Token}
+use Rattle.justfile_model.specs.AttributeRules.{arg_rules}
+use Rattle.justfile_model.specs.HeaderReader.{obeying}
+use Rattle.justfile_model.specs.Reader as files
+use Rattle.justfile_model.specs.Reading.{◌>>=◌, Counters}
+use Rattle.justfile_model.specs.RecipeRules.{exclusions_broken}
+use Rattle.justfile_model.specs.Tree as tree
+use Rattle.justfile_model.specs.Tree.{BodyLine, OrderedItem, bare_recipe}
+use Rattle.justfile_parse_item.specs.ItemTable as reader
+use Rattle.justfile_parse_item.specs.ItemTable.{ReadItem, draw_recipe, in_content_order, optional_body}
+use Rattle.justfile_parse_attribute.specs.AttributeTable.{Entries}
+use Rattle.justfile_parse_attribute.specs.Halting.{HaltsAt}
+use Rattle.justfile_parse_attribute.specs.declared.halt.Halt.{Halt}
+use Rattle.justfile_parse_expression.specs.MethodResults.{StopsAt}
+use Rattle.justfile_parse_expression.specs.TableReader.{Read, Refusal, State, leaves}
+use Rattle.justfile_parse_expression.specs.declared.stop.Stop.{Stop}
+use Rattle.justfile_parse_header.specs.HeaderTable.{ReadHeader, header}
+use Rattle.justfile_parse_header.proofs.Halts.{first_halts, first_stops, halted, stopped}
+use Rattle.justfile_tree.specs.LeafSight.{sees_leaves}
+use Rattle.justfile_tree.specs.LeafTree.{Headed, Leaf, RecipeName}
+
+abbrev Body : Type 0
+Body = List (BodyLine Leaf Token ℕ)
+
+module _ (quiet : Bool) (ws : Entries) (n : Counters) (s : State) (entries : Entries) (is : entries ≡ in_content_order ws) where
+  -- a recipe with what is kept of its name
+  abbrev recipe_item : Entries → ReadHeader → Leaf → Body → OrderedItem Leaf Token ℕ
+  recipe_item kept h name lines =
+      tree.Construct kept (tree.Recipe (bare_recipe (record { quiet = quiet; name = name; parameters = h.parameters; priors = h.priors; subsequents = h.subsequents }) lines))
+
+  -- a recipe that got its number
+  abbrev numbered_by : Entries → ReadHeader → Body → (ℕ × Counters) × State → ReadItem
+  numbered_by kept h lines x = Ok ((recipe_item kept h (leaves.recipe x.1.run h.name x.0.0 lines) lines, x.0.1), x.1)
+
+  -- what is read after the body
+  abbrev checked_by : (all kept : Entries) → ReadHeader × Counters → Body → State → ReadItem
+  checked_by all kept h lines t = obeying (exclusions_broken sees_leaves h.0.name.token.now all) t >>= λ checked. draw_recipe h.1 checked.1 >>= numbered_by kept h.0 lines
+
+  -- what is read after the header
+  abbrev bodied_by : (all kept : Entries) → (ReadHeader × Counters) × State → ReadItem
+  bodied_by all kept h = optional_body h.1 >>= λ b. checked_by all kept h.0 b.0 b.1
+
+  recipe_is : reader.recipe quiet ws n s ≡ (header (arg_rules entries) n s >>= bodied_by entries entries)
+  unfolding files.recipe leaves
+  recipe_is =
+      ap (λ (all : Entries). header (arg_rules (in_content_order all)) n s >>= bodied_by (in_content_order all) (in_content_order ws)) (map-id ws)
+      ∙ ap (λ (all : Entries). header (arg_rules all) n s >>= bodied_by all all) (sym is)
+
+  -- the header is refused, or a number is wanting in it
+  pub header_halts : (halt : Halt) (left : State) (wanting : Refusal) → HaltsAt halt left (header (arg_rules entries) n s ≡ Err wanting) (header (arg_rules entries) n s)
+      → HaltsAt halt left (reader.recipe quiet ws n s ≡ Err wanting) (reader.recipe quiet ws n s)
+  header_halts halt left wanting h = halted (header (arg_rules entries) n s) (reader.recipe quiet ws n s) fails halt left _ _ (fails wanting) h
+    where
+      fails : (e : Refusal) → header (arg_rules entries) n s ≡ Err e → reader.recipe quiet ws n s ≡ Err e
+      fails e is = recipe_is ∙ ap (λ (o : Read (ReadHeader × Counters)). o >>= bodied_by entries entries) is
+
+  module _ (h : ReadHeader) (m : Counters) (t : State) (read : header (arg_rules entries) n s ≡ Ok ((h, m), t)) where
+    after_header : reader.recipe quiet ws n s ≡ (optional_body t >>= λ b. checked_by entries entries (h, m) b.0 b.1)
+    after_header = recipe_is ∙ ap (λ (o : Read (ReadHeader × Counters)). o >>= bodied_by entries entries) read
+
+    -- the body is refused
+    pub body_stops : (stop : Stop) (left : State) (Wanting : Type 0) → StopsAt stop left ⊥ (optional_body t) → StopsAt stop left Wanting (reader.recipe quiet ws n s)
+    body_stops stop left Wanting k =
+        subst (λ (o : ReadItem). StopsAt stop left Wanting o) (sym after_header) (first_stops (optional_body t) (λ b. checked_by entries entries (h, m) b.0 b.1) stop left Wanting k)
+
+    module _ (lines : Body) (u : State) (body : optional_body t ≡ Ok (lines, u)) where
+      after_body : reader.recipe quiet ws n s ≡ checked_by entries entries (h, m) lines u
+      after_body = after_header ∙ ap (λ (o : Read Body). o >>= λ b. checked_by entries entries (h, m) b.0 b.1) body
+
+      -- attributes exclude each other
+      pub exclusion_halts : (halt : Halt) (left : State) (Wanting : Type 0) → HaltsAt halt left ⊥ (obeying (exclusions_broken sees_leaves h.name.token.now entries) u)
+          → HaltsAt halt left Wanting (reader.recipe quiet ws n s)
+      exclusion_halts halt left Wanting k =
+          subst (λ (o : ReadItem). HaltsAt halt left Wanting o) (sym after_body)
+          (first_halts (obeying (exclusions_broken sees_leaves h.name.token.now entries) u) (λ checked. draw_recipe m checked.1 >>= numbered_by entries h lines) halt left Wanting k)
+
+      module _ (obeyed : obeying (exclusions_broken sees_leaves h.name.token.now entries) u ≡ Ok (tt, u)) where
+        after_check : reader.recipe quiet ws n s ≡ (draw_recipe m u >>= numbered_by entries h lines)
+        after_check = after_body ∙ ap (λ (o : Read (Unit {0})). o >>= λ checked. draw_recipe m checked.1 >>= numbered_by entries h lines) obeyed
+
+        -- its number is wanting
+        pub number_stops : (stop : Stop) (left : State) (wanting : Refusal) → StopsAt stop left (draw_recipe m u ≡ Err wanting) (draw_recipe m u)
+            → StopsAt stop left (reader.recipe quiet ws n s ≡ Err wanting) (reader.recipe quiet ws n s)
+        number_stops stop left wanting k = stopped (draw_recipe m u) (reader.recipe quiet ws n s) fails stop left _ _ (fails wanting) k
+          where
+            fails : (e : Refusal) → draw_recipe m u ≡ Err e → reader.recipe quiet ws n s ≡ Err e
+            fails e is = after_check ∙ ap (λ (o : Read (ℕ × Counters)). o >>= numbered_by entries h lines) is
+
+        -- it is read
+        pub recipe_read : (number : ℕ) (k : Counters) → draw_recipe m u ≡ Ok ((number, k), u) → (name : RecipeName)
+            → name ≡ record { file_depth = u.run.file_depth; import_offsets = u.run.import_offsets; name = h.name.token.now; number = number_of number }
+            → reader.recipe quiet ws n s ≡ Ok ((recipe_item entries h (Headed name) lines, k), u)
+        unfolding leaves
+        recipe_read number k drawn name is =
+            after_check
+            ∙ ap (λ (o : Read (ℕ × Counters)). o >>= numbered_by entries h lines) drawn
+            ∙ ap (λ (x : RecipeName). Ok ((recipe_item entries h (Headed x) lines, k), u)) (sym is)
+
+-- what is kept of a recipe's name
+pub recipe_named : (depth depth' : ℕ) (offsets offsets' : List ℕ) (name name' : Token) (number : Number) → depth ≡ depth' → offsets ≡ offsets' → name ≡ name'
+    → ◌≡◌ {A = RecipeName} (record { file_depth = depth; import_offsets = offsets; name = name; number = number }) (record { file_depth = depth'; import_offsets = offsets'; name = name'; number = number_of number.0 })
+recipe_named depth depth' offsets offsets' name name' number a b c = λ i. record { file_depth = a i; import_offsets = b i; name = c i; number = number }

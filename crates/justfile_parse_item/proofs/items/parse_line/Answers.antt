@@ -1,0 +1,91 @@
+use Rattle.std.proofs.Common.{ℕ, ◌≡◌, ap, sym, ◌∙◌, subst, List, map, Ok, Err, Bool}
+use Rattle.std.proofs.lemmas.Result.{err_from_is_err_and}
+use Rattle.justfile_base.specs.declared.token.Token.{Token}
+use Rattle.justfile_model.specs.Tree.{OrderedItem}
+use Rattle.justfile_model.specs.Reader.{has_body}
+use Rattle.justfile_model.specs.Reading as reading
+use Rattle.justfile_model.specs.Reading.{prepend}
+use Rattle.justfile_parse_expression.specs.TableReader.{Read}
+use Rattle.justfile_parse_item.specs.ItemTable.{ended, on_line}
+use Rattle.justfile_parse_attribute.specs.Halting.{HaltsAt}
+use Rattle.justfile_parse_item.specs.Tree.{item_tree}
+use Rattle.justfile_tree.specs.LeafTree.{Leaf}
+use Rattle.justfile_parse_expression.specs.View.{state_of}
+use Rattle.justfile_parse_expression.specs.declared.parser.ExpressionParser.{ExpressionParser}
+use Rattle.justfile_parse_item.proofs.Lines.{end_stops, line_goes_on, line_halts}
+use Rattle.justfile_parse_item.proofs.Wholes.{both_whole, pushed_whole}
+use Rattle.justfile_parse_item.proofs.items.parse_line.Goals as goal
+use Rattle.justfile_parse_item.specs.MethodResults.{IsMoved}
+use Rattle.justfile_parse_header.specs.Counting.{counters_of, names}
+
+pub parse_item-requires : goal.parse_item-requires
+parse_item-requires g c =
+    let A = g.X.Expander.answer in
+    let P : ExpressionParser _ → Type 0 = λ p. (state_of A p).depth ≡ 0 in
+    subst P (sym c.in_default.ensures.moves) c.requires
+
+pub returns-in_err-item-clause-moved : goal.returns-in_err-item-clause-moved
+returns-in_err-item-clause-moved g c =
+    let A = g.X.Expander.answer in
+    let P : ExpressionParser _ → Type 0 = λ p. IsMoved c.args.numerator.now c.parse_item.new.numerator (names (state_of A p)) in
+    subst P c.in_default.ensures.moves c.parse_item.ensures.moved
+
+pub returns-in_err-has_body-clause-moved : goal.returns-in_err-has_body-clause-moved
+returns-in_err-has_body-clause-moved g c =
+    let A = g.X.Expander.answer in
+    let P : ExpressionParser _ → Type 0 = λ p. IsMoved c.args.numerator.now c.parse_item.new.numerator (names (state_of A p)) in
+    subst P c.in_default.ensures.moves c.parse_item.ensures.moved
+
+pub returns-in_err-parse_item_end-clause-moved : goal.returns-in_err-parse_item_end-clause-moved
+returns-in_err-parse_item_end-clause-moved g c =
+    let A = g.X.Expander.answer in
+    let P : ExpressionParser _ → Type 0 = λ p. IsMoved c.args.numerator.now c.parse_item.new.numerator (names (state_of A p)) in
+    subst P c.in_default.ensures.moves c.parse_item.ensures.moved
+
+pub returns-clause-moved : goal.returns-clause-moved
+returns-clause-moved g c =
+    let A = g.X.Expander.answer in
+    let P : ExpressionParser _ → Type 0 = λ p. IsMoved c.args.numerator.now c.parse_item.new.numerator (names (state_of A p)) in
+    subst P c.in_default.ensures.moves c.parse_item.ensures.moved
+
+pub returns-in_err-parse_item_end-clause-reads : goal.returns-in_err-parse_item_end-clause-reads
+returns-in_err-parse_item_end-clause-reads g c =
+    let A = g.X.Expander.answer in
+    let done : List (OrderedItem Leaf Token ℕ) = map item_tree c.args.items.now.items in
+    let rest = state_of A c.parse_item.new.parser in
+    let P : ExpressionParser _ → Type 0 = λ p. on_line (counters_of c.args.numerator.now) (state_of A p) ≡ Ok ((item_tree c.in_ok-item.item, counters_of c.parse_item.new.numerator), rest) in
+    let p = err_from_is_err_and c.from_residual-in_err-parse_item_end.result c.from_residual-in_err-parse_item_end.ensures.1 in
+    rw (p.1, p.2)
+    (end_stops done (state_of A c.args.parser.now) (counters_of c.args.numerator.now) (item_tree c.in_ok-item.item) (counters_of c.parse_item.new.numerator) rest c.in_default.ensures.takes
+    (subst P c.in_default.ensures.moves c.in_ok-item.ensures.reads) c.in_err-parse_item_end.field-0.0 (state_of A c.parse_item_end.new.parser) _
+    (rw (c.in_ok-has_body.ensures.trees, c.in_ok-has_body.ensures.body) at c.in_err-parse_item_end.ensures.reads))
+
+pub returns-clause-reads : goal.returns-clause-reads
+returns-clause-reads g c =
+    let A = g.X.Expander.answer in
+    let done : List (OrderedItem Leaf Token ℕ) = map item_tree c.args.items.now.items in
+    let rest = state_of A c.parse_item.new.parser in
+    let P : ExpressionParser _ → Type 0 = λ p. on_line (counters_of c.args.numerator.now) (state_of A p) ≡ Ok ((item_tree c.in_ok-item.item, counters_of c.parse_item.new.numerator), rest) in
+    let found : ◌≡◌ {A = Read (List (OrderedItem Leaf Token ℕ))} (prepend (map item_tree c.push_parsed.new.items.items) (ended c.in_ok-has_body.has_body rest)) (Ok (map item_tree c.parse_item_end.new.items.items, state_of A c.parse_item_end.new.parser)) = c.in_ok-parse_item_end.ensures.reads in
+    line_goes_on done (state_of A c.args.parser.now) (counters_of c.args.numerator.now) (item_tree c.in_ok-item.item) (counters_of c.parse_item.new.numerator) rest c.in_default.ensures.takes
+    (subst P c.in_default.ensures.moves c.in_ok-item.ensures.reads) (map item_tree c.parse_item_end.new.items.items) (state_of A c.parse_item_end.new.parser)
+    (ap (λ (l : List (OrderedItem Leaf Token ℕ)). prepend l (ended (has_body (item_tree c.in_ok-item.item)) rest)) (sym c.in_ok-has_body.ensures.trees)
+    ∙ ap (λ (b : Bool). prepend (map item_tree c.push_parsed.new.items.items) (ended b rest)) (sym c.in_ok-has_body.ensures.body)
+    ∙ found)
+
+pub returns-in_err-item-clause-reads : goal.returns-in_err-item-clause-reads
+returns-in_err-item-clause-reads g c =
+    let A = g.X.Expander.answer in
+    let done : List (OrderedItem Leaf Token ℕ) = map item_tree c.args.items.now.items in
+    let p = err_from_is_err_and c.from_residual-in_err-item.result c.from_residual-in_err-item.ensures.1 in
+    let wanting = reading.NoNumber (counters_of c.parse_item.new.numerator) in
+    let left = state_of A c.parse_item.new.parser in
+    let halt = c.in_err-item.field-0.0 in
+    let P : ExpressionParser _ → Type 0 = λ q. HaltsAt halt left (on_line (counters_of c.args.numerator.now) (state_of A q) ≡ Err wanting) (on_line (counters_of c.args.numerator.now) (state_of A q)) in
+    rw (p.1, p.2) (line_halts done (state_of A c.args.parser.now) (counters_of c.args.numerator.now) halt left wanting c.in_default.ensures.takes (subst P c.in_default.ensures.moves c.in_err-item.ensures.reads))
+
+pub returns-clause-whole : goal.returns-clause-whole
+returns-clause-whole g c =
+    both_whole c.args.items.now.items c.push_parsed.new.items.items c.parse_item_end.new.items.items
+    (pushed_whole c.args.items.now.items c.push_parsed.new.items.items c.in_ok-item.item c.in_ok-has_body.ensures.pushed c.in_ok-item.ensures.whole)
+    c.in_ok-parse_item_end.ensures.whole

@@ -1,0 +1,184 @@
+//! Constructs: their attributes, the words that they begin with, and what follows.
+ghost use Rattle.std.specs.Prelude.{◌≡◌, ◌<◌, ◌≤◌, IfOk, OnOk, map};
+ghost use Rattle.justfile_model.specs.SignificantTokens.{identifiers};
+ghost use Rattle.justfile_parse_item.specs.ItemTable as reader;
+ghost use Rattle.justfile_parse_item.specs.MethodResults.{IsMoved};
+ghost use Rattle.justfile_parse_item.specs.Tree.{item_tree};
+ghost use Rattle.justfile_parse_item.specs.Whole.{AreWholePairs, IsWholeItem};
+ghost use Rattle.justfile_parse_item.specs.Words.{word_taken, worded};
+ghost use Rattle.justfile_parse_attribute.specs.Attributes.{entry_of_pair};
+ghost use Rattle.justfile_parse_attribute.specs.Halting.{ReadsRuled};
+ghost use Rattle.justfile_parse_expression.specs.MethodResults.{Takes};
+ghost use Rattle.justfile_parse_expression.specs.Significant.{significant_of};
+ghost use Rattle.justfile_parse_expression.specs.View.{Moves, left, state_of};
+ghost use Rattle.justfile_parse_header.specs.Counting.{ReadsCounted, counters_of};
+
+use crate::alias::parse_alias;
+use crate::assignment::parse_assignment;
+use crate::construct::extraneous;
+use crate::function::parse_function;
+use crate::import::parse_import;
+use crate::module::parse_module;
+use crate::recipe::parse_any_recipe;
+use crate::set::parse_set;
+use crate::unexport::parse_unexport;
+use justfile_attribute::Attribute;
+use justfile_base::{Expander, Keyword, Name, Numerator, TokenKind};
+use justfile_file::Item;
+use justfile_parse_attribute::{Halt, make_halt, parse_attributes};
+use justfile_parse_expression::ExpressionParser;
+use justfile_parse_parts::{Following, accept_before, is_assigned};
+
+/// A word that a construct begins with.
+#[derive(Clone, Copy, Debug, PartialEq, Eq)]
+pub(crate) enum Word {
+    Alias,
+    Eager,
+    Export,
+    Import,
+    Mod,
+    Set,
+    Unexport,
+}
+
+/// A construct with its attributes, where no expression is open.
+#[tactic(auto, using(crate::proofs::Moved::unmoved), unfolding(justfile_model::specs::Reader::construct))]
+pub(crate) fn parse_construct<'src, X: Expander>(
+    parser: &mut ExpressionParser<'_, 'src, X>,
+    numerator: &mut Numerator,
+) -> Result<Item<'src>, Halt<'src>>
+    requires { (state_of X.answer parser.old).depth ≡ 0 }
+    ensures reads { ReadsCounted item_tree result numerator.new (state_of X.answer parser.new)
+        (reader.construct (counters_of numerator.old) (state_of X.answer parser.old)) }
+    ensures whole { IfOk result IsWholeItem }
+    ensures progress { OnOk result (left parser.new < left parser.old) }
+    ensures moved { IsMoved numerator.old numerator.new (identifiers (map significant_of (state_of X.answer parser.old).left)) }
+{
+    let attributes = parse_item_attributes(parser)?;
+    parse_content(parser, attributes, numerator)
+}
+
+/// The attributes before a construct, which follows them.
+#[tactic(auto, unfolding(justfile_model::specs::Reader::attributes))]
+fn parse_item_attributes<'src, X: Expander>(
+    parser: &mut ExpressionParser<'_, 'src, X>,
+) -> Result<Vec<(Attribute<'src>, Name<'src>)>, Halt<'src>>
+    ensures reads { ReadsRuled (λ pairs. map entry_of_pair pairs.items) result (state_of X.answer parser.new)
+        (reader.item_attributes (state_of X.answer parser.old)) }
+    ensures whole { IfOk result (λ pairs. AreWholePairs pairs.items) }
+    ensures progress { OnOk result (left parser.new ≤ left parser.old) }
+{
+    let Some(opener) = parser.peek_if(TokenKind::BracketL) else {
+        return Ok(Vec::new(parser.alloc));
+    };
+    let attributes = parse_attributes(parser)?;
+    if stands_alone(parser) {
+        return Err(make_halt(parser.alloc, extraneous(attributes.len(), *opener.token)));
+    }
+    Ok(attributes)
+}
+
+/// Whether a blank line or a comment comes next.
+fn stands_alone<X: Expander>(parser: &ExpressionParser<'_, '_, X>) -> bool
+    ensures { result ≡ reader.stands_alone (state_of X.answer parser.now) }
+{
+    parser.peek_kinds(&[TokenKind::Eol]) || parser.peek_kinds(&[TokenKind::Comment])
+}
+
+/// A construct after its attributes.
+#[tactic(auto, using(crate::proofs::Words::content_worded, crate::proofs::Words::content_wordless))]
+fn parse_content<'src, X: Expander>(
+    parser: &mut ExpressionParser<'_, 'src, X>,
+    attributes: Vec<(Attribute<'src>, Name<'src>)>,
+    numerator: &mut Numerator,
+) -> Result<Item<'src>, Halt<'src>>
+    requires { AreWholePairs attributes.items }
+    ensures reads { ReadsCounted item_tree result numerator.new (state_of X.answer parser.new)
+        (reader.content (map entry_of_pair attributes.entry.items) (counters_of numerator.old) (state_of X.answer parser.old)) }
+    ensures whole { IfOk result IsWholeItem }
+    ensures progress { OnOk result (left parser.new < left parser.old) }
+    ensures moved { IsMoved numerator.old numerator.new (identifiers (map significant_of (state_of X.answer parser.old).left)) }
+{
+    match accept_word(parser) {
+        Some(word) => parse_after_word(word, parser, attributes, numerator),
+        None => parse_wordless(parser, attributes, numerator),
+    }
+}
+
+/// Takes the word that the construct begins with, if it begins with one: such a word is a name
+/// where nothing follows that goes with it.
+#[tactic(auto, unfolding(crate::specs::Words::word_taken))]
+fn accept_word<X: Expander>(parser: &mut ExpressionParser<'_, '_, X>) -> Option<Word>
+    ensures takes { Takes result (state_of X.answer parser.new) (word_taken (state_of X.answer parser.old)) }
+    ensures moves { Moves result parser.old parser.new }
+{
+    if let Some(_alias) = accept_before(parser, Keyword::Alias, Following::Assignment) {
+        return Some(Word::Alias);
+    }
+    if let Some(_eager) = accept_before(parser, Keyword::Eager, Following::Assignment) {
+        return Some(Word::Eager);
+    }
+    if let Some(_export) = accept_before(parser, Keyword::Export, Following::Assignment) {
+        return Some(Word::Export);
+    }
+    if let Some(_unexport) = accept_before(parser, Keyword::Unexport, Following::Line) {
+        return Some(Word::Unexport);
+    }
+    if let Some(_import) = accept_before(parser, Keyword::Import, Following::Import) {
+        return Some(Word::Import);
+    }
+    if let Some(_mod) = accept_before(parser, Keyword::Mod, Following::Module) {
+        return Some(Word::Mod);
+    }
+    accept_before(parser, Keyword::Set, Following::Set)?;
+    Some(Word::Set)
+}
+
+/// A construct after its attributes and this word.
+fn parse_after_word<'src, X: Expander>(
+    word: Word,
+    parser: &mut ExpressionParser<'_, 'src, X>,
+    attributes: Vec<(Attribute<'src>, Name<'src>)>,
+    numerator: &mut Numerator,
+) -> Result<Item<'src>, Halt<'src>>
+    requires { AreWholePairs attributes.items }
+    ensures reads { ReadsCounted item_tree result numerator.new (state_of X.answer parser.new)
+        (worded word (map entry_of_pair attributes.entry.items) (counters_of numerator.old) (state_of X.answer parser.old)) }
+    ensures whole { IfOk result IsWholeItem }
+    ensures progress { OnOk result (left parser.new < left parser.old) }
+    ensures moved { IsMoved numerator.old numerator.new (identifiers (map significant_of (state_of X.answer parser.old).left)) }
+{
+    match word {
+        Word::Alias => parse_alias(parser, attributes),
+        Word::Eager => parse_assignment(parser, true, false, attributes, numerator),
+        Word::Export => parse_assignment(parser, false, true, attributes, numerator),
+        Word::Import => parse_import(parser, attributes),
+        Word::Mod => parse_module(parser, attributes),
+        Word::Set => parse_set(parser, attributes),
+        Word::Unexport => parse_unexport(parser, attributes),
+    }
+}
+
+/// A construct that begins with no word of its own, after its attributes.
+#[tactic(auto, unfolding(justfile_model::specs::Reader::wordless))]
+fn parse_wordless<'src, X: Expander>(
+    parser: &mut ExpressionParser<'_, 'src, X>,
+    attributes: Vec<(Attribute<'src>, Name<'src>)>,
+    numerator: &mut Numerator,
+) -> Result<Item<'src>, Halt<'src>>
+    requires { AreWholePairs attributes.items }
+    ensures reads { ReadsCounted item_tree result numerator.new (state_of X.answer parser.new)
+        (reader.wordless (map entry_of_pair attributes.entry.items) (counters_of numerator.old) (state_of X.answer parser.old)) }
+    ensures whole { IfOk result IsWholeItem }
+    ensures progress { OnOk result (left parser.new < left parser.old) }
+    ensures moved { IsMoved numerator.old numerator.new (identifiers (map significant_of (state_of X.answer parser.old).left)) }
+{
+    if parser.peek_kinds(&[TokenKind::Identifier, TokenKind::ParenL]) {
+        return parse_function(parser, attributes, numerator);
+    }
+    if is_assigned(parser) {
+        return parse_assignment(parser, false, false, attributes, numerator);
+    }
+    let recipe = parse_any_recipe(parser, attributes, numerator)?;
+    Ok(Item::Recipe(recipe))
+}

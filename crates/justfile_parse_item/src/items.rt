@@ -1,0 +1,218 @@
+//! The items of a file, and the numbers that they get.
+ghost use Rattle.std.specs.Prelude.{◌≡◌, ◌<◌, ◌≤◌, ◌∷◌, ◌++◌, [], IfOk, IsTrue, OnOk, codes, map, nat_eq};
+ghost use Rattle.std.specs.List.{starts_with};
+ghost use Rattle.std.specs.Str.{trim_end};
+ghost use Rattle.justfile_base.specs.Token.{lexeme_of};
+ghost use Rattle.justfile_model.specs.SignificantTokens.{identifiers};
+ghost use Rattle.justfile_model.specs.Tree as tree;
+ghost use Rattle.justfile_parse_header.specs.Counting.{ReadsCounted, counters_of};
+ghost use Rattle.justfile_model.specs.Reader.{has_body};
+ghost use Rattle.justfile_model.specs.Reading.{prepend};
+ghost use Rattle.justfile_model.specs.PartReader.{after_numbered};
+ghost use Rattle.justfile_parse_item.specs.ItemTable as reader;
+ghost use Rattle.justfile_parse_item.specs.MethodResults.{IsMoved};
+ghost use Rattle.justfile_parse_expression.specs.MethodResults.{Reads, UnlessMemory};
+ghost use Rattle.justfile_parse_item.specs.Whole.{AreWhole, IsWholeItem, KeepsWhole};
+ghost use Rattle.justfile_parse_expression.specs.Significant.{significant_of};
+ghost use Rattle.justfile_parse_item.specs.Tree.{item_tree};
+ghost use Rattle.justfile_parse_expression.specs.View.{left, state_of};
+
+use crate::content::parse_construct;
+use justfile_base::{Expander, Numerator, Token, TokenKind};
+use justfile_file::Item;
+use justfile_parse_attribute::Halt;
+use justfile_parse_expression::{ExpressionParser, Refusal, Stop};
+
+/// The items up to the end of the file, where no expression is open.
+///
+/// # Errors
+///
+/// A `Halt` if what is left of the table is no file, if more numbers of bindings or of recipes are wanted than there are, or if
+/// memory runs out.
+#[tactic(auto, using(crate::proofs::Loop::moved, crate::proofs::Loop::moved_on))]
+pub fn parse_items<'src, X: Expander>(
+    parser: &mut ExpressionParser<'_, 'src, X>,
+    numerator: &mut Numerator,
+) -> Result<Vec<Item<'src>>, Halt<'src>>
+    requires { (state_of X.answer parser.old).depth ≡ 0 }
+    ensures reads { ReadsCounted (λ items. map item_tree items.items) result numerator.new (state_of X.answer parser.new)
+        (reader.items (counters_of numerator.old) (state_of X.answer parser.old)) }
+    ensures whole { IfOk result (λ items. AreWhole items.items) }
+    ensures moved { IsMoved numerator.old numerator.new (identifiers (map significant_of (state_of X.answer parser.old).left)) }
+{
+    let mut items = Vec::new(parser.alloc);
+    'lines: loop {
+        if let Some(_end) = parser.accept(TokenKind::Eof) {
+            expect_nothing(parser)?;
+            return Ok(items);
+        }
+        parse_line(parser, &mut items, numerator)?;
+    }
+}
+
+/// Nothing may stand after the end of the file.
+#[tactic(auto, unfolding(crate::specs::ItemTable::read_nothing, justfile_model::specs::Reading::refused))]
+fn expect_nothing<'src, X: Expander>(
+    parser: &ExpressionParser<'_, 'src, X>,
+) -> Result<(), Stop<'src>>
+    ensures { Reads (λ nothing. nothing) result (state_of X.answer parser.now) (reader.read_nothing (state_of X.answer parser.now)) }
+{
+    match parser.peek_front() {
+        Some(_entry) => Err(Stop::Refused(Refusal::Unexpected)),
+        None => Ok(()),
+    }
+}
+
+/// The items of a line, where no expression is open.
+#[tactic(auto, using(crate::proofs::Lines::line_blank, crate::proofs::Moved::unmoved, crate::proofs::Wholes::newline_whole))]
+fn parse_line<'src, X: Expander>(
+    parser: &mut ExpressionParser<'_, 'src, X>,
+    items: &mut Vec<Item<'src>>,
+    numerator: &mut Numerator,
+) -> Result<(), Halt<'src>>
+    requires { (state_of X.answer parser.old).depth ≡ 0 }
+    ensures reads { ReadsCounted (λ _. map item_tree items.new.items) result numerator.new (state_of X.answer parser.new)
+        (after_numbered (map item_tree items.old.items) (reader.line (counters_of numerator.old) (state_of X.answer parser.old))) }
+    ensures whole { OnOk result (KeepsWhole items.old.items items.new.items) }
+    ensures progress { OnOk result (left parser.new < left parser.old) }
+    ensures moved { IsMoved numerator.old numerator.new (identifiers (map significant_of (state_of X.answer parser.old).left)) }
+{
+    if let Some(_newline) = parser.accept(TokenKind::Eol) {
+        push_item(items, Item::Newline)?;
+        return Ok(());
+    }
+    let item = parse_item(parser, numerator)?;
+    let has_body = push_parsed(items, item)?;
+    parse_item_end(parser, has_body, items)?;
+    Ok(())
+}
+
+/// What begins a line that is not blank, where no expression is open.
+#[tactic(auto, using(crate::proofs::Moved::unmoved), unfolding(justfile_model::specs::Reader::on_line, justfile_parse_expression::specs::TableReader::leaves))]
+fn parse_item<'src, X: Expander>(
+    parser: &mut ExpressionParser<'_, 'src, X>,
+    numerator: &mut Numerator,
+) -> Result<Item<'src>, Halt<'src>>
+    requires { (state_of X.answer parser.old).depth ≡ 0 }
+    ensures reads { ReadsCounted item_tree result numerator.new (state_of X.answer parser.new)
+        (reader.on_line (counters_of numerator.old) (state_of X.answer parser.old)) }
+    ensures whole { IfOk result IsWholeItem }
+    ensures progress { OnOk result (left parser.new < left parser.old) }
+    ensures moved { IsMoved numerator.old numerator.new (identifiers (map significant_of (state_of X.answer parser.old).left)) }
+{
+    if let Some(comment) = parser.accept(TokenKind::Comment) {
+        return Ok(make_comment(*comment.token));
+    }
+    parse_construct(parser, numerator)
+}
+
+/// What ends an item: after a body a line starts, and the line end before it is made.
+#[tactic(auto, using(crate::proofs::Lines::ended_body, crate::proofs::Lines::ended_after, crate::proofs::Wholes::newline_whole))]
+fn parse_item_end<'src, X: Expander>(
+    parser: &mut ExpressionParser<'_, 'src, X>,
+    has_body: bool,
+    items: &mut Vec<Item<'src>>,
+) -> Result<(), Stop<'src>>
+    ensures reads { Reads (λ _. map item_tree items.new.items) result (state_of X.answer parser.new)
+        (prepend (map item_tree items.old.items) (reader.ended has_body (state_of X.answer parser.old))) }
+    ensures whole { OnOk result (KeepsWhole items.old.items items.new.items) }
+    ensures progress { OnOk result (left parser.new ≤ left parser.old) }
+{
+    if has_body {
+        push_item(items, Item::Newline)?;
+        return Ok(());
+    }
+    parse_after_item(parser, items)
+}
+
+/// What stands after an item without a body: a comment that trails it, and the end of the line.
+#[tactic(auto, using(crate::proofs::Lines::after_comment, crate::proofs::Lines::after_bare))]
+fn parse_after_item<'src, X: Expander>(
+    parser: &mut ExpressionParser<'_, 'src, X>,
+    items: &mut Vec<Item<'src>>,
+) -> Result<(), Stop<'src>>
+    ensures reads { Reads (λ _. map item_tree items.new.items) result (state_of X.answer parser.new)
+        (prepend (map item_tree items.old.items) (reader.item_rest (state_of X.answer parser.old))) }
+    ensures whole { OnOk result (KeepsWhole items.old.items items.new.items) }
+    ensures progress { OnOk result (left parser.new ≤ left parser.old) }
+{
+    match parser.accept(TokenKind::Comment) {
+        Some(comment) => {
+            push_item(items, make_comment(*comment.token))?;
+            parse_line_end(parser, items)
+        }
+        None => parse_line_end(parser, items),
+    }
+}
+
+/// The end of a line, which is an item, or that of the file, which is left.
+#[tactic(auto, using(crate::proofs::Lines::line_end_closes, crate::proofs::Lines::line_end_newline, crate::proofs::Wholes::newline_whole, crate::proofs::Wholes::same_whole))]
+fn parse_line_end<'src, X: Expander>(
+    parser: &mut ExpressionParser<'_, 'src, X>,
+    items: &mut Vec<Item<'src>>,
+) -> Result<(), Stop<'src>>
+    ensures reads { Reads (λ _. map item_tree items.new.items) result (state_of X.answer parser.new)
+        (prepend (map item_tree items.old.items) (reader.line_end (state_of X.answer parser.old))) }
+    ensures whole { OnOk result (KeepsWhole items.old.items items.new.items) }
+    ensures progress { OnOk result (left parser.new ≤ left parser.old) }
+{
+    if let Some(_end) = parser.peek_if(TokenKind::Eof) {
+        return Ok(());
+    }
+    parser.expect(TokenKind::Eol)?;
+    push_item(items, Item::Newline)?;
+    Ok(())
+}
+
+/// A comment, without the white space at its end.
+fn make_comment<'src>(comment: Token<'src>) -> Item<'src>
+    requires { IsTrue (starts_with nat_eq (lexeme_of comment) (codes "#")) }
+    ensures tree { item_tree result ≡ tree.Comment (trim_end (lexeme_of comment.entry)) }
+    ensures whole { IsWholeItem result }
+{
+    Item::Comment(comment.lexeme().trim_end())
+}
+
+/// Adds an item. Whether it has a body.
+fn push_parsed<'src>(items: &mut Vec<Item<'src>>, item: Item<'src>) -> Result<bool, Stop<'src>>
+    ensures trees { UnlessMemory result
+        (λ done. map item_tree items.new.items ≡ map item_tree items.old.items ++ item_tree item.entry ∷ []) }
+    ensures pushed { OnOk result (items.new.items ≡ items.old.items ++ item.entry ∷ []) }
+    ensures body { IfOk result (λ answer. answer ≡ has_body (item_tree item.entry)) }
+{
+    if is_bodied(&item) {
+        return push_known(items, item, true);
+    }
+    push_known(items, item, false)
+}
+
+/// Adds an item of which it is known whether it has a body, and returns that.
+fn push_known<'src>(
+    items: &mut Vec<Item<'src>>,
+    item: Item<'src>,
+    has_body: bool,
+) -> Result<bool, Stop<'src>>
+    ensures trees { UnlessMemory result
+        (λ done. map item_tree items.new.items ≡ map item_tree items.old.items ++ item_tree item.entry ∷ []) }
+    ensures pushed { OnOk result (items.new.items ≡ items.old.items ++ item.entry ∷ []) }
+    ensures body { IfOk result (λ answer. answer ≡ has_body) }
+{
+    push_item(items, item)?;
+    Ok(has_body)
+}
+
+/// Whether the item is a recipe with a body.
+fn is_bodied(item: &Item<'_>) -> bool
+    ensures { result ≡ has_body (item_tree item.now) }
+{
+    item.has_body()
+}
+
+fn push_item<'src>(items: &mut Vec<Item<'src>>, item: Item<'src>) -> Result<(), Stop<'src>>
+    ensures trees { UnlessMemory result
+        (λ done. map item_tree items.new.items ≡ map item_tree items.old.items ++ item_tree item.entry ∷ []) }
+    ensures pushed { OnOk result (items.new.items ≡ items.old.items ++ item.entry ∷ []) }
+{
+    items.push(item)?;
+    Ok(())
+}

@@ -1,0 +1,17 @@
+//! From tokens to the items of a file, as they stand, without docs.
+#![tactic(auto)]
+
+mod alias;
+mod assignment;
+mod body;
+mod construct;
+mod content;
+mod function;
+mod import;
+mod items;
+mod module;
+mod recipe;
+mod set;
+mod unexport;
+
+pub use crate::items::parse_items;

@@ -1,0 +1,122 @@
+ghost use Rattle.std.specs.Prelude.{◌≡◌, ◌<◌, ◌||◌, IfOk, OnErr, OnOk, map};
+ghost use Rattle.justfile_attribute_set.specs.AttributeSet.{attributes_of};
+ghost use Rattle.justfile_attribute_set.specs.Attributes.{has_kind};
+ghost use Rattle.justfile_word.specs.declared.attribute_kind.AttributeKind.TheVariants as kinds;
+ghost use Rattle.justfile_model.specs.SignificantTokens.{identifiers};
+ghost use Rattle.justfile_parse_item.specs.ItemTable as reader;
+ghost use Rattle.justfile_parse_item.specs.MethodResults.{IsMoved};
+ghost use Rattle.justfile_parse_item.specs.Tree.{line_tree, recipe_tree};
+ghost use Rattle.justfile_parse_item.specs.Whole.{AreWholePairs, IsWholeRecipe};
+ghost use Rattle.justfile_parse_attribute.specs.Attributes.{entry_of_pair};
+ghost use Rattle.justfile_parse_expression.specs.Significant.{significant_of};
+ghost use Rattle.justfile_parse_expression.specs.TableReader.{State};
+ghost use Rattle.justfile_parse_expression.specs.View.{left, state_of};
+ghost use Rattle.justfile_parse_header.specs.Counting.{ReadsCounted, ReadsNumbered, counters_of};
+
+use crate::body::parse_body_after_header;
+use crate::construct::{check_exclusions, is_hidden};
+use justfile_attribute::Attribute;
+use justfile_attribute_set::AttributeSet;
+use justfile_base::{AttributeKind, Expander, Name, Number, Numerator, TokenKind};
+use justfile_file::{Line, UnresolvedRecipe};
+use justfile_parse_attribute::Halt;
+use justfile_parse_expression::{ExpressionParser, Stop};
+use justfile_parse_header::parse_header;
+
+/// A recipe after its attributes, with `@` before its name or not.
+#[tactic(auto, unfolding(justfile_model::specs::Reader::any_recipe))]
+pub(crate) fn parse_any_recipe<'src, X: Expander>(
+    parser: &mut ExpressionParser<'_, 'src, X>,
+    attributes: Vec<(Attribute<'src>, Name<'src>)>,
+    numerator: &mut Numerator,
+) -> Result<UnresolvedRecipe<'src>, Halt<'src>>
+    requires { AreWholePairs attributes.items }
+    ensures reads { ReadsCounted recipe_tree result numerator.new (state_of X.answer parser.new)
+        (reader.any_recipe (map entry_of_pair attributes.entry.items) (counters_of numerator.old) (state_of X.answer parser.old)) }
+    ensures whole { IfOk result IsWholeRecipe }
+    ensures progress { OnOk result (left parser.new < left parser.old) }
+    ensures moved { IsMoved numerator.old numerator.new (identifiers (map significant_of (state_of X.answer parser.old).left)) }
+{
+    match parser.accept(TokenKind::At) {
+        Some(_at) => parse_recipe(parser, attributes, true, numerator),
+        None => parse_recipe(parser, attributes, false, numerator),
+    }
+}
+
+/// A recipe from its name to its end: its header, and the body if it has one. The recipe is numbered
+/// after its body.
+#[tactic(auto, using(crate::proofs::Moved::unmoved, crate::proofs::Constructs::set_whole))]
+fn parse_recipe<'src, X: Expander>(
+    parser: &mut ExpressionParser<'_, 'src, X>,
+    attributes: Vec<(Attribute<'src>, Name<'src>)>,
+    quiet: bool,
+    numerator: &mut Numerator,
+) -> Result<UnresolvedRecipe<'src>, Halt<'src>>
+    requires { AreWholePairs attributes.items }
+    ensures reads { ReadsCounted recipe_tree result numerator.new (state_of X.answer parser.new)
+        (reader.recipe quiet (map entry_of_pair attributes.entry.items) (counters_of numerator.old) (state_of X.answer parser.old)) }
+    ensures whole { IfOk result IsWholeRecipe }
+    ensures progress { OnOk result (left parser.new < left parser.old) }
+    ensures moved { IsMoved numerator.old numerator.new (identifiers (map significant_of (state_of X.answer parser.old).left)) }
+{
+    let attributes = AttributeSet::from_read(attributes)?;
+    let header = parse_header(&attributes, parser, numerator)?;
+    let body = parse_body_after_header(parser)?;
+    check_exclusions(&attributes, parser.alloc, *header.name.token)?;
+    let import_offsets = parser.import_offsets.to_vec(parser.alloc)?;
+    let number = draw_recipe(numerator)?;
+    let private = is_hidden(*header.name.token, &attributes);
+    let shebang = is_script(&attributes, body.as_slice());
+    Ok(UnresolvedRecipe {
+        attributes,
+        body,
+        dependencies: header.dependencies,
+        doc: None,
+        file_depth: parser.file_depth,
+        import_offsets,
+        name: Name::from_identifier(*header.name.token),
+        number,
+        parameters: header.parameters,
+        priors: header.priors,
+        private,
+        quiet,
+        shebang,
+    })
+}
+
+/// The number of the next recipe.
+#[tactic(auto, unfolding(justfile_model::specs::Reader::draw_recipe, justfile_parse_expression::specs::TableReader::leaves))]
+fn draw_recipe<'src>(numerator: &mut Numerator) -> Result<Number, Stop<'src>>
+    ensures reads { (s : State) → ReadsNumbered (λ number. number.0) result numerator.new s
+        (reader.draw_recipe (counters_of numerator.old) s) }
+    ensures unmoved { OnErr result (numerator.new ≡ numerator.old) }
+{
+    match numerator.next_recipe() {
+        Some(number) => Ok(number),
+        None => Err(Stop::Numbers),
+    }
+}
+
+/// Whether a program of its own runs a recipe with these attributes and this body.
+fn is_script(attributes: &AttributeSet<'_>, body: &[Line<'_>]) -> bool
+    ensures { result ≡ has_kind kinds.Script (attributes_of attributes.now) || reader.has_shebang (map line_tree body.now) }
+{
+    attributes.contains(AttributeKind::Script) || has_shebang(body)
+}
+
+/// Whether the first line begins with a text that begins `#!`.
+fn has_shebang(lines: &[Line<'_>]) -> bool
+    ensures { result ≡ reader.has_shebang (map line_tree lines.now) }
+{
+    match lines {
+        [line, ..] => is_shebang(line),
+        [] => false,
+    }
+}
+
+/// Whether the line begins with a text that begins `#!`.
+fn is_shebang(line: &Line<'_>) -> bool
+    ensures { result ≡ reader.is_shebang (line_tree line.now) }
+{
+    line.is_shebang()
+}
