@@ -1,8 +1,9 @@
 //! Attributes of items, and kinds of attributes, signals and switches.
 
-use justfile_syntax::attribute::AttributeKind;
+use justfile_syntax::attribute::{Attribute, AttributeKind};
 use justfile_syntax::attribute_set::AttributeSet;
 use justfile_syntax::item::Item;
+use justfile_syntax::name::Name;
 use justfile_syntax::signal::Signal;
 use justfile_syntax::switch::Switch;
 use row_notation::{Answer, Text, field_at};
@@ -50,7 +51,7 @@ pub(crate) fn switch(answer: &mut Answer, fields: &[String]) {
 }
 
 /// Attributes, each in brackets and with a blank after it.
-pub(crate) fn put_attributes(shown: &mut Text, attributes: &AttributeSet<'_>) {
+pub(crate) fn put_attributes(attributes: &AttributeSet<'_>, shown: &mut Text) {
     for attribute in attributes.iter() {
         shown.put("[");
         shown.put_made(attribute.to_string(shown.alloc()));
@@ -58,39 +59,45 @@ pub(crate) fn put_attributes(shown: &mut Text, attributes: &AttributeSet<'_>) {
     }
 }
 
-/// The attributes of an item, if it is one that may have some.
-fn attributes_of<'ast, 'src>(item: &'ast Item<'src>) -> Option<&'ast AttributeSet<'src>> {
-    match item {
-        Item::Alias(alias) => Some(&alias.attributes),
-        Item::Assignment(assignment) => Some(&assignment.attributes),
-        Item::Comment(_) | Item::Newline => None,
-        Item::Function(function) => Some(&function.attributes),
-        Item::Import { attributes, .. } => Some(attributes),
-        Item::Module { attributes, .. } => Some(attributes),
-        Item::Recipe(recipe) => Some(&recipe.attributes),
-        Item::Setting(set) => Some(&set.attributes),
-        Item::Unexport { attributes, .. } => Some(attributes),
-    }
-}
-
 /// The attributes of the first item that has some, each with the offset of its name.
 pub(crate) fn attributes(items: &[Item<'_>], answer: &mut Answer) {
     for item in items {
-        match attributes_of(item) {
-            Some(set) if set.len() > 0 => return push_attributes(answer, set),
-            _ => {}
+        if push_attributes_of(item, answer) {
+            return;
         }
     }
 }
 
-fn push_attributes(answer: &mut Answer, attributes: &AttributeSet<'_>) {
-    for attribute in attributes.iter() {
-        let mut shown = Text::new(answer.alloc());
-        shown.put_made(attribute.to_string(answer.alloc()));
-        if let Some(name) = attributes.name(attribute) {
-            shown.put("@");
-            shown.put_number(name.token.offset);
-        }
-        answer.push_text(shown);
+/// The attributes of an item, and whether it has some.
+fn push_attributes_of(item: &Item<'_>, answer: &mut Answer) -> bool {
+    match item {
+        Item::Alias(alias) => push_attributes(&alias.attributes, answer),
+        Item::Assignment(assignment) => push_attributes(&assignment.attributes, answer),
+        Item::Comment(_) | Item::Newline => false,
+        Item::Function(function) => push_attributes(&function.attributes, answer),
+        Item::Import { attributes, .. } => push_attributes(attributes, answer),
+        Item::Module { attributes, .. } => push_attributes(attributes, answer),
+        Item::Recipe(recipe) => push_attributes(&recipe.attributes, answer),
+        Item::Setting(set) => push_attributes(&set.attributes, answer),
+        Item::Unexport { attributes, .. } => push_attributes(attributes, answer),
     }
+}
+
+/// Attributes, each with the offset of its name, and whether there are some.
+fn push_attributes(attributes: &AttributeSet<'_>, answer: &mut Answer) -> bool {
+    for attribute in attributes.iter() {
+        push_attribute(attribute, attributes.name(attribute), answer);
+    }
+    attributes.len() > 0
+}
+
+/// An attribute with the offset of its name.
+fn push_attribute(attribute: &Attribute<'_>, name: Option<Name<'_>>, answer: &mut Answer) {
+    let mut shown = Text::new(answer.alloc());
+    shown.put_made(attribute.to_string(answer.alloc()));
+    if let Some(name) = name {
+        shown.put("@");
+        shown.put_number(name.token.offset);
+    }
+    answer.push_text(shown);
 }

@@ -17,6 +17,7 @@ use crate::word::Word;
 use justfile_syntax::ast::Ast;
 use justfile_syntax::fault::{CompileResult, Fault};
 use justfile_syntax::indentation::Indentation;
+use justfile_syntax::item::Item;
 use justfile_syntax::numerator::{Number, Numerator};
 use justfile_syntax::parser::Parser;
 use justfile_syntax::source::Source;
@@ -62,23 +63,29 @@ pub(crate) fn parse<'src>(
 fn push_file(ast: &mut Ast<'_>, answer: &mut Answer, word: Word, fields: &[String]) {
     match word {
         Word::Expected | Word::Message | Word::Refused => answer.push("taken"),
-        Word::Attributes => attributes(&ast.items, answer),
-        Word::Docs => docs(&ast.items, answer),
-        Word::Enabled => enabled(&ast.items, answer),
         Word::Features => features(answer, &ast.list_features),
         Word::Indented => indented(ast, answer),
         Word::Items | Word::Numbers => file(ast, answer),
-        Word::Arguments
-        | Word::Defaults
-        | Word::Dependencies
-        | Word::Line
-        | Word::Parameters
-        | Word::Recipe
-        | Word::Sigils => push_of_recipe(&ast.items, answer, word, fields),
-        Word::Expands | Word::Literal | Word::Value => push_of_value(&ast.items, answer, word),
-        Word::Settings => settings(&ast.items, answer),
         Word::Unstable => unstable(answer, &ast.unstable_features),
-        _ => push_printed(ast, answer, word, indentation_for(word, fields)),
+        Word::Canonical
+        | Word::Copies
+        | Word::ExpandsTo
+        | Word::Prints
+        | Word::PrintsAt
+        | Word::PrintsItem => push_printed(ast, answer, word, indentation_for(word, fields)),
+        _ => push_of_items(&ast.items, answer, word, fields),
+    }
+}
+
+/// What a row's word asks of a file's items.
+fn push_of_items(items: &[Item<'_>], answer: &mut Answer, word: Word, fields: &[String]) {
+    match word {
+        Word::Attributes => attributes(items, answer),
+        Word::Docs => docs(items, answer),
+        Word::Enabled => enabled(items, answer),
+        Word::Expands | Word::Literal | Word::Value => push_of_value(items, answer, word),
+        Word::Settings => settings(items, answer),
+        _ => push_of_recipe(items, answer, word, fields),
     }
 }
 

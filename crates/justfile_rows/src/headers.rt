@@ -18,7 +18,7 @@ pub(crate) fn put_doc(shown: &mut Text, doc: &Option<String>) {
 }
 
 /// Parameters as they are written, each with its number.
-pub(crate) fn put_parameters(shown: &mut Text, parameters: &[Parameter<'_>]) {
+pub(crate) fn put_parameters(parameters: &[Parameter<'_>], shown: &mut Text) {
     for parameter in parameters {
         shown.put(" ");
         shown.put_made(parameter.to_string(shown.alloc()));
@@ -30,8 +30,8 @@ pub(crate) fn put_parameters(shown: &mut Text, parameters: &[Parameter<'_>]) {
 /// Dependencies as they are written, after a colon if there are some. The first that runs after the
 /// recipe has `&&` before it.
 pub(crate) fn put_dependencies(
-    shown: &mut Text,
     dependencies: &[UnresolvedDependency<'_>],
+    shown: &mut Text,
     priors: usize,
 ) {
     put_if(shown, " :", !dependencies.is_empty());
@@ -62,29 +62,29 @@ fn push_doc(answer: &mut Answer, doc: &Option<String>) {
 }
 
 /// Each parameter of a recipe: what it is written as, and what it is.
-pub(crate) fn push_parameters(answer: &mut Answer, parameters: &[Parameter<'_>]) {
+pub(crate) fn push_parameters(parameters: &[Parameter<'_>], answer: &mut Answer) {
     for parameter in parameters {
         answer.push_made(parameter.to_string(answer.alloc()));
-        push_parameter(answer, parameter);
+        push_parameter(parameter, answer);
     }
 }
 
-fn push_parameter(answer: &mut Answer, parameter: &Parameter<'_>) {
+fn push_parameter(parameter: &Parameter<'_>, answer: &mut Answer) {
     let mut shown = Text::new(answer.alloc());
     put_name(&mut shown, parameter.name);
     shown.put(" ");
     shown.put_number(parameter.number.0 as usize);
-    put_kind(&mut shown, parameter);
+    put_kind(parameter, &mut shown);
     put_if(&mut shown, " exported", parameter.export);
-    put_value(&mut shown, " default", &parameter.default);
-    put_argument_rules(&mut shown, parameter);
+    put_value(&parameter.default, &mut shown, " default");
+    put_argument_rules(parameter, &mut shown);
     put_if(&mut shown, " option", parameter.is_option());
     put_if(&mut shown, " required", parameter.is_required());
     answer.push_text(shown);
 }
 
 /// The kind of a parameter, its prefix, and whether it takes several arguments.
-fn put_kind(shown: &mut Text, parameter: &Parameter<'_>) {
+fn put_kind(parameter: &Parameter<'_>, shown: &mut Text) {
     shown.put_made(format!(in shown.alloc(); " {:?}", parameter.kind));
     if let Some(prefix) = parameter.kind.prefix() {
         put_marked(shown, " ", prefix);
@@ -93,11 +93,11 @@ fn put_kind(shown: &mut Text, parameter: &Parameter<'_>) {
 }
 
 /// A word and an expression in (), if there is one.
-fn put_value(shown: &mut Text, word: &str, value: &Option<Box<Expression<'_>>>) {
+fn put_value(value: &Option<Box<Expression<'_>>>, shown: &mut Text, word: &str) {
     if let Some(expression) = value {
         shown.put(word);
         shown.put(" (");
-        put_expression(shown, expression);
+        put_expression(expression, shown);
         shown.put(")");
     }
 }
@@ -110,7 +110,7 @@ fn put_bound(shown: &mut Text, word: &str, bound: Option<u64>) {
 }
 
 /// What the attribute of a parameter says of it, in the order of the names.
-fn put_argument_rules(shown: &mut Text, parameter: &Parameter<'_>) {
+fn put_argument_rules(parameter: &Parameter<'_>, shown: &mut Text) {
     put_if(shown, " flag", parameter.flag);
     put_if(shown, " help", parameter.help.is_some());
     if let Some(long) = &parameter.long {
@@ -122,14 +122,14 @@ fn put_argument_rules(shown: &mut Text, parameter: &Parameter<'_>) {
     if let Some(short) = parameter.short {
         shown.put_made(format!(in shown.alloc(); " short ‹{short}›"));
     }
-    put_value(shown, " value", &parameter.value);
+    put_value(&parameter.value, shown, " value");
 }
 
 /// What each parameter's default is made of, or `none`.
-pub(crate) fn push_defaults(answer: &mut Answer, parameters: &[Parameter<'_>]) {
+pub(crate) fn push_defaults(parameters: &[Parameter<'_>], answer: &mut Answer) {
     for parameter in parameters {
         match &parameter.default {
-            Some(expression) => push_parts(answer, expression),
+            Some(expression) => push_parts(expression, answer),
             None => answer.push("none"),
         }
     }
@@ -137,31 +137,31 @@ pub(crate) fn push_defaults(answer: &mut Answer, parameters: &[Parameter<'_>]) {
 
 /// How many dependencies run before a recipe, and each dependency: what it is written as, and what
 /// it is.
-pub(crate) fn push_dependencies(answer: &mut Answer, recipe: &UnresolvedRecipe<'_>) {
+pub(crate) fn push_dependencies(recipe: &UnresolvedRecipe<'_>, answer: &mut Answer) {
     answer.push_number(recipe.priors);
     for dependency in &recipe.dependencies {
         answer.push_made(dependency.to_string(answer.alloc()));
-        push_dependency(answer, dependency);
+        push_dependency(dependency, answer);
     }
 }
 
 /// Whether an argument of a dependency is starred, the names of its path, and its arguments.
-fn push_dependency(answer: &mut Answer, dependency: &UnresolvedDependency<'_>) {
+fn push_dependency(dependency: &UnresolvedDependency<'_>, answer: &mut Answer) {
     let mut shown = Text::new(answer.alloc());
     shown.put(if dependency.starred() {
         "starred"
     } else {
         "plain"
     });
-    put_path(&mut shown, dependency);
+    put_path(dependency, &mut shown);
     for argument in &dependency.arguments {
-        put_argument(&mut shown, argument);
+        put_argument(argument, &mut shown);
     }
     answer.push_text(shown);
 }
 
 /// The names of a dependency's path, each after a blank.
-fn put_path(shown: &mut Text, dependency: &UnresolvedDependency<'_>) {
+fn put_path(dependency: &UnresolvedDependency<'_>, shown: &mut Text) {
     for name in dependency.recipe.iter() {
         shown.put(" ");
         put_name(shown, *name);
@@ -169,21 +169,21 @@ fn put_path(shown: &mut Text, dependency: &UnresolvedDependency<'_>) {
 }
 
 /// An argument in (), as it is written. What is starred has a star there.
-fn put_argument(shown: &mut Text, argument: &DependencyArgument<'_>) {
+fn put_argument(argument: &DependencyArgument<'_>, shown: &mut Text) {
     shown.put(" (");
     shown.put_made(argument.to_string(shown.alloc()));
     shown.put(")");
 }
 
 /// What each argument of each dependency is made of.
-pub(crate) fn push_arguments(answer: &mut Answer, dependencies: &[UnresolvedDependency<'_>]) {
+pub(crate) fn push_arguments(dependencies: &[UnresolvedDependency<'_>], answer: &mut Answer) {
     for dependency in dependencies {
-        push_arguments_of(answer, dependency.arguments.as_slice());
+        push_arguments_of(dependency.arguments.as_slice(), answer);
     }
 }
 
-fn push_arguments_of(answer: &mut Answer, arguments: &[DependencyArgument<'_>]) {
+fn push_arguments_of(arguments: &[DependencyArgument<'_>], answer: &mut Answer) {
     for argument in arguments {
-        push_parts(answer, &argument.expression);
+        push_parts(&argument.expression, answer);
     }
 }

@@ -49,36 +49,36 @@ pub(crate) fn put_name(shown: &mut Text, name: Name<'_>) {
 }
 
 /// The text of an expression.
-pub(crate) fn put_expression(shown: &mut Text, expression: &Expression<'_>) {
+pub(crate) fn put_expression(expression: &Expression<'_>, shown: &mut Text) {
     shown.put_made(expression.to_string(shown.alloc()));
 }
 
 /// A fragment of a line: a text in ‹›, an expression in ().
-fn put_fragment(shown: &mut Text, fragment: &Fragment<'_>) {
+fn put_fragment(fragment: &Fragment<'_>, shown: &mut Text) {
     match fragment {
         Fragment::Text { token } => put_marked(shown, " ", token.lexeme()),
         Fragment::Interpolation { expression } => {
             shown.put(" (");
-            put_expression(shown, expression);
+            put_expression(expression, shown);
             shown.put(")");
         }
     }
 }
 
 /// A line of a body: a bar, the number of the line, and its fragments.
-fn put_line(shown: &mut Text, line: &Line<'_>) {
+fn put_line(line: &Line<'_>, shown: &mut Text) {
     shown.put(" | ");
     shown.put_number(line.number);
     for fragment in &line.fragments {
-        put_fragment(shown, fragment);
+        put_fragment(fragment, shown);
     }
 }
 
 /// A recipe: its doc, its attributes, whether it is quiet, its name, its number, its parameters, its
 /// dependencies, and each line of its body.
-fn put_recipe(shown: &mut Text, recipe: &UnresolvedRecipe<'_>) {
+fn put_recipe(recipe: &UnresolvedRecipe<'_>, shown: &mut Text) {
     put_doc(shown, &recipe.doc);
-    put_attributes(shown, &recipe.attributes);
+    put_attributes(&recipe.attributes, shown);
     shown.put(if recipe.quiet {
         "quiet recipe "
     } else {
@@ -87,39 +87,39 @@ fn put_recipe(shown: &mut Text, recipe: &UnresolvedRecipe<'_>) {
     put_name(shown, recipe.name);
     shown.put(" ");
     shown.put_number(recipe.number.0 as usize);
-    put_parameters(shown, recipe.parameters.as_slice());
-    put_dependencies(shown, recipe.dependencies.as_slice(), recipe.priors);
+    put_parameters(recipe.parameters.as_slice(), shown);
+    put_dependencies(recipe.dependencies.as_slice(), shown, recipe.priors);
     for line in &recipe.body {
-        put_line(shown, line);
+        put_line(line, shown);
     }
 }
 
 /// A literal: whether it is marked to be expanded, and what it stands for.
-pub(crate) fn put_literal(shown: &mut Text, literal: &StringLiteral<'_>) {
+pub(crate) fn put_literal(literal: &StringLiteral<'_>, shown: &mut Text) {
     let word = if literal.expand { "marked " } else { "text " };
     put_marked(shown, word, literal.cooked.as_str());
 }
 
 /// A value, after a word for its form.
-pub(crate) fn put_value(shown: &mut Text, value: &Expression<'_>) {
+pub(crate) fn put_value(value: &Expression<'_>, shown: &mut Text) {
     match value {
         Expression::Backtick { contents, .. } => put_marked(shown, "command ", contents.as_str()),
-        Expression::StringLiteral { string_literal } => put_literal(shown, string_literal),
+        Expression::StringLiteral { string_literal } => put_literal(string_literal, shown),
         Expression::Variable { name, .. } => {
             shown.put("name ");
             put_name(shown, *name);
         }
         value => {
             shown.put("expression ");
-            put_expression(shown, value);
+            put_expression(value, shown);
         }
     }
 }
 
 /// An assignment: its attributes, its marks, its name, its number, its depth, whether it is private,
 /// and its value.
-fn put_assignment(shown: &mut Text, assignment: &Assignment<'_>) {
-    put_attributes(shown, &assignment.attributes);
+fn put_assignment(assignment: &Assignment<'_>, shown: &mut Text) {
+    put_attributes(&assignment.attributes, shown);
     put_if(shown, "eager ", assignment.eager);
     put_if(shown, "export ", assignment.export);
     put_name(shown, assignment.name);
@@ -132,12 +132,12 @@ fn put_assignment(shown: &mut Text, assignment: &Assignment<'_>) {
     } else {
         " false "
     });
-    put_value(shown, &assignment.value);
+    put_value(&assignment.value, shown);
 }
 
 /// An alias: its attributes, its name, and the names of its target's path.
-fn put_alias(shown: &mut Text, alias: &Alias<'_, Namepath<'_>>) {
-    put_attributes(shown, &alias.attributes);
+fn put_alias(alias: &Alias<'_, Namepath<'_>>, shown: &mut Text) {
+    put_attributes(&alias.attributes, shown);
     shown.put("alias ");
     put_name(shown, alias.name);
     for name in alias.target.iter() {
@@ -147,8 +147,8 @@ fn put_alias(shown: &mut Text, alias: &Alias<'_, Namepath<'_>>) {
 }
 
 /// A function: its attributes, its name, its parameters, each with its number, and its value.
-fn put_function(shown: &mut Text, function: &FunctionDefinition<'_>) {
-    put_attributes(shown, &function.attributes);
+fn put_function(function: &FunctionDefinition<'_>, shown: &mut Text) {
+    put_attributes(&function.attributes, shown);
     shown.put("function ");
     put_name(shown, function.name);
     for (name, number) in &function.parameters {
@@ -158,39 +158,39 @@ fn put_function(shown: &mut Text, function: &FunctionDefinition<'_>) {
         shown.put_number(number.0 as usize);
     }
     shown.put(" ");
-    put_value(shown, &function.body);
+    put_value(&function.body, shown);
 }
 
 /// What begins an import or a module: its attributes, and its word with `?` if the file may be missing.
-fn put_word(shown: &mut Text, attributes: &AttributeSet<'_>, word: &str, optional: bool) {
-    put_attributes(shown, attributes);
+fn put_word(attributes: &AttributeSet<'_>, shown: &mut Text, word: &str, optional: bool) {
+    put_attributes(attributes, shown);
     shown.put(word);
     put_if(shown, "?", optional);
     shown.put(" ");
 }
 
 /// The path of a module after a blank, if it has one.
-fn put_path(shown: &mut Text, path: &Option<StringLiteral<'_>>) {
+fn put_path(path: &Option<StringLiteral<'_>>, shown: &mut Text) {
     if let Some(literal) = path {
         shown.put(" ");
-        put_literal(shown, literal);
+        put_literal(literal, shown);
     }
 }
 
 /// What is seen of an item.
 fn put_item(item: &Item<'_>, shown: &mut Text) {
     match item {
-        Item::Alias(alias) => put_alias(shown, alias),
-        Item::Assignment(assignment) => put_assignment(shown, assignment),
+        Item::Alias(alias) => put_alias(alias, shown),
+        Item::Assignment(assignment) => put_assignment(assignment, shown),
         Item::Comment(text) => put_marked(shown, "comment ", text),
-        Item::Function(function) => put_function(shown, function),
+        Item::Function(function) => put_function(function, shown),
         Item::Import {
             attributes,
             optional,
             relative,
         } => {
-            put_word(shown, attributes, "import", *optional);
-            put_literal(shown, relative);
+            put_word(attributes, shown, "import", *optional);
+            put_literal(relative, shown);
         }
         Item::Module {
             attributes,
@@ -200,15 +200,15 @@ fn put_item(item: &Item<'_>, shown: &mut Text) {
             relative,
         } => {
             put_doc(shown, doc);
-            put_word(shown, attributes, "mod", *optional);
+            put_word(attributes, shown, "mod", *optional);
             put_name(shown, *name);
-            put_path(shown, relative);
+            put_path(relative, shown);
         }
         Item::Newline => shown.put("newline"),
-        Item::Recipe(recipe) => put_recipe(shown, recipe),
-        Item::Setting(set) => put_set(shown, set),
+        Item::Recipe(recipe) => put_recipe(recipe, shown),
+        Item::Setting(set) => put_set(set, shown),
         Item::Unexport { attributes, name } => {
-            put_word(shown, attributes, "unexport", false);
+            put_word(attributes, shown, "unexport", false);
             put_name(shown, *name);
         }
     }

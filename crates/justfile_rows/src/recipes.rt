@@ -8,16 +8,6 @@ use justfile_syntax::line::Line;
 use justfile_syntax::recipe::UnresolvedRecipe;
 use row_notation::{Answer, field_at, number_at};
 
-/// The first recipe of a file's items.
-fn first_recipe<'ast, 'src>(items: &'ast [Item<'src>]) -> Option<&'ast UnresolvedRecipe<'src>> {
-    for item in items {
-        if let Item::Recipe(recipe) = item {
-            return Some(recipe);
-        }
-    }
-    None
-}
-
 /// What a row's word asks of the first recipe of a file's items.
 pub(crate) fn push_of_recipe(
     items: &[Item<'_>],
@@ -25,26 +15,28 @@ pub(crate) fn push_of_recipe(
     word: Word,
     fields: &[String],
 ) {
-    match first_recipe(items) {
-        Some(recipe) => push_part(recipe, answer, word, fields),
-        None => answer.push("none"),
+    for item in items {
+        if let Item::Recipe(recipe) = item {
+            return push_part(recipe, answer, word, fields);
+        }
     }
+    answer.push("none")
 }
 
 /// What a row's word asks of a recipe.
 fn push_part(recipe: &UnresolvedRecipe<'_>, answer: &mut Answer, word: Word, fields: &[String]) {
     match word {
-        Word::Arguments => push_arguments(answer, recipe.dependencies.as_slice()),
-        Word::Defaults => push_defaults(answer, recipe.parameters.as_slice()),
-        Word::Dependencies => push_dependencies(answer, recipe),
-        Word::Parameters => push_parameters(answer, recipe.parameters.as_slice()),
-        Word::Recipe => push_recipe(answer, recipe),
-        _ => push_of_body(answer, word, fields, recipe.body.as_slice()),
+        Word::Arguments => push_arguments(recipe.dependencies.as_slice(), answer),
+        Word::Defaults => push_defaults(recipe.parameters.as_slice(), answer),
+        Word::Dependencies => push_dependencies(recipe, answer),
+        Word::Parameters => push_parameters(recipe.parameters.as_slice(), answer),
+        Word::Recipe => push_recipe(recipe, answer),
+        _ => push_of_body(recipe.body.as_slice(), answer, word, fields),
     }
 }
 
 /// Which marks a recipe has, and what of it is not as it was handed in.
-fn push_recipe(answer: &mut Answer, recipe: &UnresolvedRecipe<'_>) {
+fn push_recipe(recipe: &UnresolvedRecipe<'_>, answer: &mut Answer) {
     answer.push_if("private", recipe.private);
     answer.push_if("quiet", recipe.quiet);
     answer.push_if("shebang", recipe.shebang);
@@ -57,18 +49,18 @@ fn push_recipe(answer: &mut Answer, recipe: &UnresolvedRecipe<'_>) {
 
 /// What a row's word asks of a body: of the line that the row counts from 0, or the sigils of the
 /// first line.
-fn push_of_body(answer: &mut Answer, word: Word, fields: &[String], body: &[Line<'_>]) {
+fn push_of_body(body: &[Line<'_>], answer: &mut Answer, word: Word, fields: &[String]) {
     let is_line = word == Word::Line;
     let at = if is_line { number_at(fields, 0) } else { 0 };
     match body.get(at as usize) {
-        Some(line) if is_line => push_line(answer, line),
-        Some(line) => push_sigils(answer, line, field_at(fields, 0) == "guarded"),
+        Some(line) if is_line => push_line(line, answer),
+        Some(line) => push_sigils(line, answer, field_at(fields, 0) == "guarded"),
         None => answer.push("none"),
     }
 }
 
 /// The sigils of a line, with guards or without.
-fn push_sigils(answer: &mut Answer, line: &Line<'_>, guards: bool) {
+fn push_sigils(line: &Line<'_>, answer: &mut Answer, guards: bool) {
     let Ok(sigils) = line.sigils(answer.alloc(), guards) else {
         return answer.fail();
     };
@@ -78,7 +70,7 @@ fn push_sigils(answer: &mut Answer, line: &Line<'_>, guards: bool) {
 }
 
 /// The number of a line of a body, and what the line is.
-fn push_line(answer: &mut Answer, line: &Line<'_>) {
+fn push_line(line: &Line<'_>, answer: &mut Answer) {
     answer.push_number(line.number);
     answer.push_if("comment", line.is_comment());
     answer.push_if("shebang", line.is_shebang());

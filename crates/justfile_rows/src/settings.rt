@@ -42,48 +42,48 @@ pub(crate) fn value_of<'ast, 'src>(setting: &'ast Setting<'src>) -> Option<&'ast
 }
 
 /// An interpreter: the values of its command and its arguments in brackets.
-fn put_interpreter(shown: &mut Text, interpreter: &Interpreter<Expression<'_>>) {
+fn put_interpreter(interpreter: &Interpreter<Expression<'_>>, shown: &mut Text) {
     shown.put("[");
-    put_value(shown, &interpreter.command);
+    put_value(&interpreter.command, shown);
     for argument in &interpreter.arguments {
         shown.put(", ");
-        put_value(shown, argument);
+        put_value(argument, shown);
     }
     shown.put("]");
 }
 
 /// What a setting is set to. After the literal of an indentation stands the indentation in ‹›.
-fn put_setting(shown: &mut Text, setting: &Setting<'_>) {
+fn put_setting(setting: &Setting<'_>, shown: &mut Text) {
     if let Some(value) = expression_of(setting) {
-        return put_value(shown, value);
+        return put_value(value, shown);
     }
     if let Some(interpreter) = interpreter_of(setting) {
-        return put_interpreter(shown, interpreter);
+        return put_interpreter(interpreter, shown);
     }
     match setting {
         Setting::Indentation(literal, indentation) => {
-            put_literal(shown, literal);
+            put_literal(literal, shown);
             shown.put_made(format!(in shown.alloc(); " ‹{indentation}›"));
         }
-        Setting::MinimumVersion(literal) => put_literal(shown, literal),
+        Setting::MinimumVersion(literal) => put_literal(literal, shown),
         _ => shown.put_made(setting.to_string(shown.alloc())),
     }
 }
 
 /// A setting as it stands in a file: its attributes, its name, and what it is set to.
-pub(crate) fn put_set(shown: &mut Text, set: &Set<'_>) {
-    put_attributes(shown, &set.attributes);
+pub(crate) fn put_set(set: &Set<'_>, shown: &mut Text) {
+    put_attributes(&set.attributes, shown);
     shown.put("set ");
     put_name(shown, set.name);
     shown.put(" ");
-    put_setting(shown, &set.value);
+    put_setting(&set.value, shown);
 }
 
 /// What each setting of a file's items is, and how it is written.
 pub(crate) fn settings(items: &[Item<'_>], answer: &mut Answer) {
     for item in items {
         if let Item::Setting(set) = item {
-            push_setting(answer, &set.value);
+            push_setting(&set.value, answer);
             answer.push_made(set.to_string(answer.alloc()));
         }
     }
@@ -91,7 +91,7 @@ pub(crate) fn settings(items: &[Item<'_>], answer: &mut Answer) {
 
 /// Which setting it is, whether it is as if its value was left out, and after `!` which settings it
 /// conflicts with.
-fn push_setting(answer: &mut Answer, setting: &Setting<'_>) {
+fn push_setting(setting: &Setting<'_>, answer: &mut Answer) {
     let mut shown = Text::new(answer.alloc());
     shown.put_made(format!(in answer.alloc(); "{:?}", setting.keyword()));
     put_if(&mut shown, " default", setting.is_default());

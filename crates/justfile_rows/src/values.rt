@@ -56,30 +56,30 @@ fn first_path<'ast, 'src>(items: &'ast [Item<'src>]) -> Option<&'ast StringLiter
 /// value.
 pub(crate) fn push_of_value(items: &[Item<'_>], answer: &mut Answer, word: Word) {
     match first_value(items) {
-        Some(value) if word == Word::Literal => push_place(answer, value),
-        Some(value) => push_parts(answer, value),
+        Some(value) if word == Word::Literal => push_place(value, answer),
+        Some(value) => push_parts(value, answer),
         None => push_of_path(items, answer, word),
     }
 }
 
 fn push_of_path(items: &[Item<'_>], answer: &mut Answer, word: Word) {
     match first_path(items) {
-        Some(path) if word == Word::Literal => push_literal_place(answer, path),
-        Some(path) => push_literal(answer, path),
+        Some(path) if word == Word::Literal => push_literal_place(path, answer),
+        Some(path) => push_literal(path, answer),
         None => answer.push("none"),
     }
 }
 
 /// What a value is as a literal.
-fn push_place(answer: &mut Answer, value: &Expression<'_>) {
+fn push_place(value: &Expression<'_>, answer: &mut Answer) {
     match value {
-        Expression::StringLiteral { string_literal } => push_literal_place(answer, string_literal),
+        Expression::StringLiteral { string_literal } => push_literal_place(string_literal, answer),
         _ => answer.push("none"),
     }
 }
 
 /// The kind of a literal, whether it is marked to be expanded, its lexeme and its offset.
-fn push_literal_place(answer: &mut Answer, literal: &StringLiteral<'_>) {
+fn push_literal_place(literal: &StringLiteral<'_>, answer: &mut Answer) {
     push_string_kind(answer, literal.kind);
     answer.push(if literal.expand { "marked" } else { "unmarked" });
     answer.push(literal.token.lexeme());
@@ -89,14 +89,14 @@ fn push_literal_place(answer: &mut Answer, literal: &StringLiteral<'_>) {
 
 /// What an expression is made of: its outermost form, with the token that is kept of it, and after
 /// it the texts of what stands inside.
-pub(crate) fn push_parts(answer: &mut Answer, expression: &Expression<'_>) {
+pub(crate) fn push_parts(expression: &Expression<'_>, answer: &mut Answer) {
     match expression {
         Expression::FormatString { start, expressions } => {
-            push_format_string(answer, start, expressions)
+            push_format_string(expressions, start, answer)
         }
         _ => {
-            push_form(answer, expression);
-            push_children(answer, expression)
+            push_form(expression, answer);
+            push_children(expression, answer)
         }
     }
 }
@@ -104,35 +104,35 @@ pub(crate) fn push_parts(answer: &mut Answer, expression: &Expression<'_>) {
 /// A format string: each part, and between them the expressions. A part of another kind than the
 /// start has `another` after it.
 fn push_format_string(
-    answer: &mut Answer,
-    start: &StringLiteral<'_>,
     expressions: &[(Expression<'_>, StringLiteral<'_>)],
+    start: &StringLiteral<'_>,
+    answer: &mut Answer,
 ) {
-    push_literal(answer, start);
+    push_literal(start, answer);
     for (expression, literal) in expressions {
-        push_expression(answer, expression);
-        push_literal(answer, literal);
+        push_expression(expression, answer);
+        push_literal(literal, answer);
         answer.push_if("another", literal.kind != start.kind || literal.expand);
     }
 }
 
 /// The texts of the expressions that stand in this one.
-fn push_children(answer: &mut Answer, expression: &Expression<'_>) {
+fn push_children(expression: &Expression<'_>, answer: &mut Answer) {
     for place in 0..usize::MAX {
         match child(expression, place) {
-            Some((part, _)) => push_expression(answer, part),
+            Some((part, _)) => push_expression(part, answer),
             None => return,
         }
     }
 }
 
 /// The text of an expression.
-fn push_expression(answer: &mut Answer, expression: &Expression<'_>) {
+fn push_expression(expression: &Expression<'_>, answer: &mut Answer) {
     answer.push_made(expression.to_string(answer.alloc()));
 }
 
 /// The form of an expression that is no format string, with the token that is kept of it.
-fn push_form(answer: &mut Answer, expression: &Expression<'_>) {
+fn push_form(expression: &Expression<'_>, answer: &mut Answer) {
     match expression {
         Expression::And { .. } => answer.push("&&"),
         Expression::Assert { name, .. } => push_head(answer, "", name),
@@ -152,7 +152,7 @@ fn push_form(answer: &mut Answer, expression: &Expression<'_>) {
         Expression::ListConcatenation { operator, .. } => push_head(answer, "", operator),
         Expression::Not { .. } => answer.push("!"),
         Expression::Or { .. } => answer.push("||"),
-        Expression::StringLiteral { string_literal } => push_literal(answer, string_literal),
+        Expression::StringLiteral { string_literal } => push_literal(string_literal, answer),
         Expression::Variable { name, number } => push_variable(answer, name, number.is_some()),
     }
 }
@@ -181,7 +181,7 @@ fn push_comparison(answer: &mut Answer, operator: ConditionalOperator, token: &T
 
 /// A literal: the part of a format string that it is, or `text`, or `marked` if it is expanded, and
 /// what it stands for.
-fn push_literal(answer: &mut Answer, literal: &StringLiteral<'_>) {
+fn push_literal(literal: &StringLiteral<'_>, answer: &mut Answer) {
     match &literal.part {
         Some(part) => answer.push_made(format!(in answer.alloc(); "{part:?}")),
         None if literal.expand => answer.push("marked"),
