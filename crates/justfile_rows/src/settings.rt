@@ -3,43 +3,13 @@
 use crate::attributes::put_attributes;
 use crate::items::{put_if, put_literal, put_name, put_value};
 use justfile_syntax::expression::Expression;
+use justfile_syntax::indentation::Indentation;
 use justfile_syntax::interpreter::Interpreter;
 use justfile_syntax::item::Item;
 use justfile_syntax::set::Set;
 use justfile_syntax::setting::Setting;
+use justfile_syntax::string_literal::StringLiteral;
 use row_notation::{Answer, Text};
-
-/// The expression that a setting is set to.
-fn expression_of<'ast, 'src>(setting: &'ast Setting<'src>) -> Option<&'ast Expression<'src>> {
-    match setting {
-        Setting::DotenvCommand(value) => Some(value),
-        Setting::DotenvFilename(value) => Some(value),
-        Setting::DotenvPath(value) => Some(value),
-        Setting::Tempdir(value) => Some(value),
-        Setting::WorkingDirectory(value) => Some(value),
-        _ => None,
-    }
-}
-
-/// The interpreter that a setting is set to.
-fn interpreter_of<'ast, 'src>(
-    setting: &'ast Setting<'src>,
-) -> Option<&'ast Interpreter<Expression<'src>>> {
-    match setting {
-        Setting::ScriptInterpreter(interpreter) => Some(interpreter),
-        Setting::Shell(interpreter) => Some(interpreter),
-        Setting::WindowsShell(interpreter) => Some(interpreter),
-        _ => None,
-    }
-}
-
-/// The expression that a setting is set to; of an interpreter its command.
-pub(crate) fn value_of<'ast, 'src>(setting: &'ast Setting<'src>) -> Option<&'ast Expression<'src>> {
-    match interpreter_of(setting) {
-        Some(interpreter) => Some(&interpreter.command),
-        None => expression_of(setting),
-    }
-}
 
 /// An interpreter: the values of its command and its arguments in brackets.
 fn put_interpreter(interpreter: &Interpreter<Expression<'_>>, shown: &mut Text) {
@@ -52,20 +22,25 @@ fn put_interpreter(interpreter: &Interpreter<Expression<'_>>, shown: &mut Text) 
     shown.put("]");
 }
 
-/// What a setting is set to. After the literal of an indentation stands the indentation in ‹›.
+/// The literal of an indentation, and after it the indentation in ‹›.
+fn put_indentation(literal: &StringLiteral<'_>, shown: &mut Text, indentation: Indentation) {
+    put_literal(literal, shown);
+    shown.put_made(format!(in shown.alloc(); " ‹{indentation}›"));
+}
+
+/// What a setting is set to.
 fn put_setting(setting: &Setting<'_>, shown: &mut Text) {
-    if let Some(value) = expression_of(setting) {
-        return put_value(value, shown);
-    }
-    if let Some(interpreter) = interpreter_of(setting) {
-        return put_interpreter(interpreter, shown);
-    }
     match setting {
-        Setting::Indentation(literal, indentation) => {
-            put_literal(literal, shown);
-            shown.put_made(format!(in shown.alloc(); " ‹{indentation}›"));
-        }
+        Setting::DotenvCommand(value) => put_value(value, shown),
+        Setting::DotenvFilename(value) => put_value(value, shown),
+        Setting::DotenvPath(value) => put_value(value, shown),
+        Setting::Indentation(literal, indentation) => put_indentation(literal, shown, *indentation),
         Setting::MinimumVersion(literal) => put_literal(literal, shown),
+        Setting::ScriptInterpreter(interpreter) => put_interpreter(interpreter, shown),
+        Setting::Shell(interpreter) => put_interpreter(interpreter, shown),
+        Setting::Tempdir(value) => put_value(value, shown),
+        Setting::WindowsShell(interpreter) => put_interpreter(interpreter, shown),
+        Setting::WorkingDirectory(value) => put_value(value, shown),
         _ => shown.put_made(setting.to_string(shown.alloc())),
     }
 }

@@ -1,73 +1,100 @@
 //! What the first value of a file is made of.
 
 use crate::lexing::push_string_kind;
-use crate::settings::value_of;
 use crate::word::Word;
 use justfile_syntax::conditional_operator::ConditionalOperator;
 use justfile_syntax::expression::Expression;
 use justfile_syntax::item::Item;
 use justfile_syntax::name::Name;
+use justfile_syntax::setting::Setting;
 use justfile_syntax::string_literal::StringLiteral;
 use justfile_syntax::token::Token;
 use justfile_tree::child;
 use row_notation::{Answer, Text};
 
-/// The value of an item: of an assignment, of a function, or of a setting; of an interpreter its
-/// command.
-fn value_in<'ast, 'src>(item: &'ast Item<'src>) -> Option<&'ast Expression<'src>> {
-    match item {
-        Item::Assignment(assignment) => Some(&assignment.value),
-        Item::Function(function) => Some(&function.body),
-        Item::Setting(set) => value_of(&set.value),
-        _ => None,
-    }
-}
-
-/// The first value of a file's items.
-fn first_value<'ast, 'src>(items: &'ast [Item<'src>]) -> Option<&'ast Expression<'src>> {
-    for item in items {
-        if let Some(value) = value_in(item) {
-            return Some(value);
-        }
-    }
-    None
-}
-
-/// The path of an import or a module.
-fn path_in<'ast, 'src>(item: &'ast Item<'src>) -> Option<&'ast StringLiteral<'src>> {
-    match item {
-        Item::Import { relative, .. } => Some(relative),
-        Item::Module { relative, .. } => relative.as_ref(),
-        _ => None,
-    }
-}
-
-/// The first path of a file's items.
-fn first_path<'ast, 'src>(items: &'ast [Item<'src>]) -> Option<&'ast StringLiteral<'src>> {
-    for item in items {
-        if let Some(path) = path_in(item) {
-            return Some(path);
-        }
-    }
-    None
-}
-
 /// What a row's word asks of the first value of a file's items, or of the first path if there is no
 /// value.
 pub(crate) fn push_of_value(items: &[Item<'_>], answer: &mut Answer, word: Word) {
-    match first_value(items) {
-        Some(value) if word == Word::Literal => push_place(value, answer),
-        Some(value) => push_parts(value, answer),
-        None => push_of_path(items, answer, word),
+    for item in items {
+        if push_value_in(item, answer, word) {
+            return;
+        }
+    }
+    push_of_path(items, answer, word)
+}
+
+/// What a row's word asks of the value of an item, and whether it has one: an assignment, a function
+/// or a setting.
+fn push_value_in(item: &Item<'_>, answer: &mut Answer, word: Word) -> bool {
+    match item {
+        Item::Assignment(assignment) => push_value(&assignment.value, answer, word),
+        Item::Function(function) => push_value(&function.body, answer, word),
+        Item::Setting(set) => push_value_set(&set.value, answer, word),
+        _ => false,
     }
 }
 
-fn push_of_path(items: &[Item<'_>], answer: &mut Answer, word: Word) {
-    match first_path(items) {
-        Some(path) if word == Word::Literal => push_literal_place(path, answer),
-        Some(path) => push_literal(path, answer),
-        None => answer.push("none"),
+/// What a row's word asks of the expression that a setting is set to, of an interpreter its command,
+/// and whether there is one.
+fn push_value_set(setting: &Setting<'_>, answer: &mut Answer, word: Word) -> bool {
+    match setting {
+        Setting::DotenvCommand(value) => push_value(value, answer, word),
+        Setting::DotenvFilename(value) => push_value(value, answer, word),
+        Setting::DotenvPath(value) => push_value(value, answer, word),
+        Setting::ScriptInterpreter(interpreter) => push_value(&interpreter.command, answer, word),
+        Setting::Shell(interpreter) => push_value(&interpreter.command, answer, word),
+        Setting::Tempdir(value) => push_value(value, answer, word),
+        Setting::WindowsShell(interpreter) => push_value(&interpreter.command, answer, word),
+        Setting::WorkingDirectory(value) => push_value(value, answer, word),
+        _ => false,
     }
+}
+
+/// What a row's word asks of a value. It is there.
+fn push_value(value: &Expression<'_>, answer: &mut Answer, word: Word) -> bool {
+    if word == Word::Literal {
+        push_place(value, answer);
+    } else {
+        push_parts(value, answer);
+    }
+    true
+}
+
+/// What a row's word asks of the first path of a file's items.
+fn push_of_path(items: &[Item<'_>], answer: &mut Answer, word: Word) {
+    for item in items {
+        if push_path_in(item, answer, word) {
+            return;
+        }
+    }
+    answer.push("none")
+}
+
+/// What a row's word asks of the path of an import or a module, and whether there is one.
+fn push_path_in(item: &Item<'_>, answer: &mut Answer, word: Word) -> bool {
+    match item {
+        Item::Import { relative, .. } => push_path(relative, answer, word),
+        Item::Module { relative, .. } => push_module_path(relative, answer, word),
+        _ => false,
+    }
+}
+
+/// What a row's word asks of the path of a module, and whether it has one.
+fn push_module_path(relative: &Option<StringLiteral<'_>>, answer: &mut Answer, word: Word) -> bool {
+    match relative {
+        Some(path) => push_path(path, answer, word),
+        None => false,
+    }
+}
+
+/// What a row's word asks of a path. It is there.
+fn push_path(path: &StringLiteral<'_>, answer: &mut Answer, word: Word) -> bool {
+    if word == Word::Literal {
+        push_literal_place(path, answer);
+    } else {
+        push_literal(path, answer);
+    }
+    true
 }
 
 /// What a value is as a literal.
