@@ -4,7 +4,7 @@ use justfile_tree::Expression;
 use std::collections::BTreeSet;
 
 /// What stands between brackets before a construct, and says how it is to be taken.
-#[derive(Debug, Drop, PartialEq, Eq)]
+#[derive(Drop, PartialEq, Eq)]
 pub enum Attribute<'src> {
     Android,
     /// What is said of a parameter of a recipe.

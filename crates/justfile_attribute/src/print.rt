@@ -148,3 +148,10 @@ impl fmt::Display for Attribute<'_> {
         write_attribute(self, f)
     }
 }
+
+/// The text, as `Display` writes it.
+impl fmt::Debug for Attribute<'_> {
+    fn fmt<W: fmt::Write>(&self, f: &mut fmt::Formatter<W>) -> fmt::Result {
+        write_attribute(self, f)
+    }
+}

@@ -4,7 +4,7 @@ use crate::compile_error_kind::CompileErrorKind;
 use crate::token::Token;
 
 /// A refusal: why, and the token at which it stands.
-#[derive(Debug, Drop, PartialEq)]
+#[derive(Drop, PartialEq)]
 pub struct CompileError<'src> {
     /// What is wrong.
     pub kind: CompileErrorKind<'src>,

@@ -483,3 +483,17 @@ impl fmt::Display for CompileError<'_> {
         write_kind(&self.kind, self.token.line, f)
     }
 }
+
+/// The message, as `Display` writes it.
+impl fmt::Debug for CompileError<'_> {
+    fn fmt<W: fmt::Write>(&self, f: &mut fmt::Formatter<W>) -> fmt::Result {
+        write_kind(&self.kind, self.token.line, f)
+    }
+}
+
+/// The message of an error of this kind on the first line.
+impl fmt::Debug for CompileErrorKind<'_> {
+    fn fmt<W: fmt::Write>(&self, f: &mut fmt::Formatter<W>) -> fmt::Result {
+        write_kind(self, 0, f)
+    }
+}

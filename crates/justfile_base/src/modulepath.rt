@@ -6,7 +6,7 @@ use std::alloc::{AllocError, Global};
 use std::fmt;
 
 /// The names of a module and of those that it lies in, the outermost first. The root has none.
-#[derive(Debug, Drop, PartialEq, Eq, PartialOrd, Ord)]
+#[derive(Drop, PartialEq, Eq, PartialOrd, Ord)]
 pub struct Modulepath {
     names: Vec<String>,
 }
@@ -68,6 +68,13 @@ impl fmt::Display for Modulepath {
 
     ghost output = { λ path. Some (path_text (names_of path)) };
 
+    fn fmt<W: fmt::Write>(&self, f: &mut fmt::Formatter<W>) -> fmt::Result {
+        write_path(&self.names, f)
+    }
+}
+
+/// The path, as `Display` writes it.
+impl fmt::Debug for Modulepath {
     fn fmt<W: fmt::Write>(&self, f: &mut fmt::Formatter<W>) -> fmt::Result {
         write_path(&self.names, f)
     }

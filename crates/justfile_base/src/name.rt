@@ -7,7 +7,7 @@ use std::fmt;
 use std::ops::Deref;
 
 /// A name: a token that is an identifier.
-#[derive(Clone, Copy, Debug, PartialEq, Eq, PartialOrd, Ord)]
+#[derive(Clone, Copy, PartialEq, Eq, PartialOrd, Ord)]
 pub struct Name<'src> {
     /// The identifier.
     pub token: Token<'src>,
@@ -46,5 +46,12 @@ impl fmt::Display for Name<'_> {
 
     fn fmt<W: fmt::Write>(&self, f: &mut fmt::Formatter<W>) -> fmt::Result {
         f.pad(self.lexeme())
+    }
+}
+
+/// The lexeme, between quotes.
+impl fmt::Debug for Name<'_> {
+    fn fmt<W: fmt::Write>(&self, f: &mut fmt::Formatter<W>) -> fmt::Result {
+        fmt::Debug::fmt(self.lexeme(), f)
     }
 }

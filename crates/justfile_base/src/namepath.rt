@@ -7,7 +7,7 @@ use std::alloc::{AllocError, Global};
 use std::{fmt, slice};
 
 /// A name with the modules that it lies in before it, the outermost first.
-#[derive(Debug, Drop, PartialEq, Eq, PartialOrd, Ord)]
+#[derive(Drop, PartialEq, Eq, PartialOrd, Ord)]
 pub struct Namepath<'src> {
     names: Vec<Name<'src>>,
     ghost is_nonempty: { 0 < length names.items },
@@ -90,6 +90,13 @@ impl fmt::Display for Namepath<'_> {
 
     ghost output = { λ path. Some (namepath_text path) };
 
+    fn fmt<W: fmt::Write>(&self, f: &mut fmt::Formatter<W>) -> fmt::Result {
+        write_path(&self.names, f)
+    }
+}
+
+/// The path, as `Display` writes it.
+impl fmt::Debug for Namepath<'_> {
     fn fmt<W: fmt::Write>(&self, f: &mut fmt::Formatter<W>) -> fmt::Result {
         write_path(&self.names, f)
     }

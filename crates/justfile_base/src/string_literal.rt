@@ -7,7 +7,7 @@ use std::alloc::{AllocError, Global};
 use std::fmt;
 
 /// A literal, or a part of a format string between interpolations.
-#[derive(Debug, Drop, PartialEq, Eq, PartialOrd, Ord)]
+#[derive(Drop, PartialEq, Eq, PartialOrd, Ord)]
 pub struct StringLiteral<'src> {
     /// The text that the literal stands for.
     pub cooked: String,
@@ -79,5 +79,12 @@ impl fmt::Display for StringLiteral<'_> {
     fn fmt<W: fmt::Write>(&self, f: &mut fmt::Formatter<W>) -> fmt::Result {
         f.write_str(self.marks())?;
         f.write_str(self.token.lexeme())
+    }
+}
+
+/// The literal as it is written, without its mark, between quotes.
+impl fmt::Debug for StringLiteral<'_> {
+    fn fmt<W: fmt::Write>(&self, f: &mut fmt::Formatter<W>) -> fmt::Result {
+        fmt::Debug::fmt(self.token.lexeme(), f)
     }
 }

@@ -10,7 +10,7 @@ use std::fmt;
 /// A part of a source text, with its kind and its place. Lines and columns count from 0, columns
 /// in bytes. The last newline of a text begins no line, so that what follows it is on the
 /// line that it ends.
-#[derive(Clone, Copy, Debug, PartialEq, Eq, PartialOrd, Ord)]
+#[derive(Clone, Copy, PartialEq, Eq, PartialOrd, Ord)]
 pub struct Token<'src> {
     /// The number of bytes before the token in its line.
     pub column: usize,
@@ -55,5 +55,12 @@ impl fmt::Display for Token<'_> {
 
     fn fmt<W: fmt::Write>(&self, f: &mut fmt::Formatter<W>) -> fmt::Result {
         write_excerpt(self, f)
+    }
+}
+
+/// The lexeme, between quotes.
+impl fmt::Debug for Token<'_> {
+    fn fmt<W: fmt::Write>(&self, f: &mut fmt::Formatter<W>) -> fmt::Result {
+        fmt::Debug::fmt(self.lexeme(), f)
     }
 }

@@ -13,7 +13,7 @@ use std::alloc::{AllocError, Global};
 use std::fmt;
 
 /// What a recipe takes as an argument.
-#[derive(Debug, Drop, PartialEq)]
+#[derive(Drop, PartialEq)]
 pub struct Parameter<'src> {
     /// What it is where no argument is given.
     pub default: Option<Box<Expression<'src>>>,
@@ -168,6 +168,13 @@ impl fmt::Display for Parameter<'_> {
 
     ghost output = { λ parameter. Some (parameter_text_of parameter) };
 
+    fn fmt<W: fmt::Write>(&self, f: &mut fmt::Formatter<W>) -> fmt::Result {
+        write_parameter(self, f)
+    }
+}
+
+/// The text, as `Display` writes it.
+impl fmt::Debug for Parameter<'_> {
     fn fmt<W: fmt::Write>(&self, f: &mut fmt::Formatter<W>) -> fmt::Result {
         write_parameter(self, f)
     }

@@ -12,7 +12,7 @@ use std::alloc::{AllocError, Global};
 use std::fmt;
 
 /// An argument of a dependency.
-#[derive(Debug, Drop, PartialEq)]
+#[derive(Drop, PartialEq)]
 pub struct DependencyArgument<'src> {
     /// Its value.
     pub expression: Box<Expression<'src>>,
@@ -21,7 +21,7 @@ pub struct DependencyArgument<'src> {
 }
 
 /// A dependency of a recipe as it was read.
-#[derive(Debug, Drop, PartialEq)]
+#[derive(Drop, PartialEq)]
 pub struct UnresolvedDependency<'src> {
     /// What is passed to the recipe.
     pub arguments: Vec<DependencyArgument<'src>>,
@@ -187,6 +187,20 @@ impl fmt::Display for UnresolvedDependency<'_> {
 
     ghost output = { λ dependency. Some (dependency_text_of dependency) };
 
+    fn fmt<W: fmt::Write>(&self, f: &mut fmt::Formatter<W>) -> fmt::Result {
+        write_dependency(self, f)
+    }
+}
+
+/// The text, as `Display` writes it.
+impl fmt::Debug for DependencyArgument<'_> {
+    fn fmt<W: fmt::Write>(&self, f: &mut fmt::Formatter<W>) -> fmt::Result {
+        self.write(f)
+    }
+}
+
+/// The text, as `Display` writes it.
+impl fmt::Debug for UnresolvedDependency<'_> {
     fn fmt<W: fmt::Write>(&self, f: &mut fmt::Formatter<W>) -> fmt::Result {
         write_dependency(self, f)
     }
