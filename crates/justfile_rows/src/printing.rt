@@ -50,10 +50,10 @@ fn prints_once(ast: &mut Ast<'_>, answer: &mut Answer, indentation: Indentation)
 /// Whether the first of a file's items has a body, and what it is printed as alone at an indentation.
 /// After that stands what an alias, an assignment or a setting is written as.
 pub(crate) fn prints_item(items: &[Item<'_>], answer: &mut Answer, indentation: Indentation) {
-    match items.first() {
-        Some(item) => push_item(item, answer, indentation),
-        None => answer.push("none"),
+    if items.is_empty() {
+        return answer.push("none");
     }
+    push_item(&items[0], answer, indentation)
 }
 
 fn push_item(item: &Item<'_>, answer: &mut Answer, indentation: Indentation) {
