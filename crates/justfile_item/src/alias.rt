@@ -16,7 +16,7 @@ use std::alloc::{AllocError, Global};
 use std::fmt;
 
 /// Another name for what it leads to: in a file, for the recipe at a path.
-#[derive(Debug, Drop)]
+#[derive(Drop)]
 pub struct Alias<'src, T> {
     /// The attributes before it.
     pub attributes: AttributeSet<'src>,
@@ -89,5 +89,12 @@ impl<'src> fmt::Display for Alias<'src, Namepath<'src>> {
 
     fn fmt<W: fmt::Write>(&self, f: &mut fmt::Formatter<W>) -> fmt::Result {
         write_alias(self, f)
+    }
+}
+
+/// The name.
+impl<'src, T> fmt::Debug for Alias<'src, T> {
+    fn fmt<W: fmt::Write>(&self, f: &mut fmt::Formatter<W>) -> fmt::Result {
+        f.write_str(self.name.lexeme())
     }
 }

@@ -11,9 +11,10 @@ ghost use Rattle.justfile_word.specs.contracts.number.NumberPartialEq.TheImpl.La
 use crate::attributes::are_equal;
 use justfile_attribute_set::AttributeSet;
 use justfile_base::{Keyed, Name, Number};
+use std::fmt;
 
 /// What a name stands for.
-#[derive(Debug, Drop)]
+#[derive(Drop)]
 pub struct Binding<'src, V> {
     /// The attributes before it.
     pub attributes: AttributeSet<'src>,
@@ -68,5 +69,12 @@ impl<'src, V: PartialEq> PartialEq for Binding<'src, V> {
             && self.prelude == other.prelude
             && self.private == other.private
             && self.value == other.value
+    }
+}
+
+/// The name.
+impl<'src, V> fmt::Debug for Binding<'src, V> {
+    fn fmt<W: fmt::Write>(&self, f: &mut fmt::Formatter<W>) -> fmt::Result {
+        f.write_str(self.name.lexeme())
     }
 }

@@ -20,9 +20,10 @@ use justfile_attribute_set::AttributeSet;
 use justfile_base::{Keyed, Name, Number};
 use justfile_tree::{Expression, Sink, put_piece, write_expression};
 use std::alloc::{AllocError, Global};
+use std::fmt;
 
 /// A function that a file defines.
-#[derive(Debug, Drop)]
+#[derive(Drop)]
 pub struct FunctionDefinition<'src> {
     /// The attributes before it.
     pub attributes: AttributeSet<'src>,
@@ -151,4 +152,11 @@ pub(crate) fn write_function<S: Sink>(
     write_names(&function.parameters, sink)?;
     put_piece(") := ", sink)?;
     write_expression(&function.body, sink)
+}
+
+/// The text, without the attributes.
+impl fmt::Debug for FunctionDefinition<'_> {
+    fn fmt<W: fmt::Write>(&self, f: &mut fmt::Formatter<W>) -> fmt::Result {
+        write_function(self, f)
+    }
 }

@@ -24,7 +24,7 @@ use justfile_tree::Sink;
 use std::alloc::{AllocError, Global};
 
 /// What stands on the lines of a file.
-#[derive(Debug, Drop)]
+#[derive(Drop)]
 pub enum Item<'src> {
     Alias(Alias<'src, Namepath<'src>>),
     Assignment(Assignment<'src>),

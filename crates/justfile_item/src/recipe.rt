@@ -16,9 +16,10 @@ use justfile_header::{
 use justfile_line::{Line, is_printable, write_line};
 use justfile_tree::{Sink, put_piece};
 use std::alloc::{AllocError, Global};
+use std::fmt;
 
 /// A recipe as it was read.
-#[derive(Debug, Drop)]
+#[derive(Drop)]
 pub struct UnresolvedRecipe<'src> {
     /// The attributes before it.
     pub attributes: AttributeSet<'src>,
@@ -167,4 +168,11 @@ pub(crate) fn write_recipe<S: Sink>(
     write_header(recipe, sink)?;
     write_body(&recipe.body, indentation, sink)?;
     Ok(())
+}
+
+/// The text of the header.
+impl fmt::Debug for UnresolvedRecipe<'_> {
+    fn fmt<W: fmt::Write>(&self, f: &mut fmt::Formatter<W>) -> fmt::Result {
+        write_header(self, f)
+    }
 }

@@ -14,7 +14,7 @@ use std::alloc::{AllocError, Global};
 use std::fmt;
 
 /// A setting as it stands in a file.
-#[derive(Debug, Drop)]
+#[derive(Drop)]
 pub struct Set<'src> {
     /// The attributes before it.
     pub attributes: AttributeSet<'src>,
@@ -112,6 +112,13 @@ impl fmt::Display for Set<'_> {
 
     ghost output = { λ set. Some (setting_text_of set) };
 
+    fn fmt<W: fmt::Write>(&self, f: &mut fmt::Formatter<W>) -> fmt::Result {
+        write_set(self, f)
+    }
+}
+
+/// The text, as `Display` puts it.
+impl fmt::Debug for Set<'_> {
     fn fmt<W: fmt::Write>(&self, f: &mut fmt::Formatter<W>) -> fmt::Result {
         write_set(self, f)
     }
