@@ -7,9 +7,10 @@ use justfile_base::interpolation::{INTERPOLATION_END, INTERPOLATION_START};
 use justfile_header::copied::Copied;
 use justfile_tree::{Expression, Sink, write_expression};
 use std::alloc::{AllocError, Global};
+use std::fmt;
 
 /// A part of a body line.
-#[derive(Debug, Drop, PartialEq)]
+#[derive(Drop, PartialEq)]
 pub enum Fragment<'src> {
     /// An expression between `{{` and `}}`.
     Interpolation { expression: Expression<'src> },
@@ -97,5 +98,12 @@ pub(crate) fn write_fragment<S: Sink>(fragment: &Fragment<'_>, sink: &mut S) -> 
             write_interpolation_end(sink)
         }
         Fragment::Text { token } => sink.put(token.lexeme()),
+    }
+}
+
+/// The text, as it is printed.
+impl fmt::Debug for Fragment<'_> {
+    fn fmt<W: fmt::Write>(&self, f: &mut fmt::Formatter<W>) -> fmt::Result {
+        write_fragment(self, f)
     }
 }

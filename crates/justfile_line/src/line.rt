@@ -15,9 +15,10 @@ use justfile_header::copied::{Copied, all_copied};
 use justfile_tree::Sink;
 use std::alloc::{AllocError, Global};
 use std::collections::BTreeSet;
+use std::fmt;
 
 /// A line of a recipe's body.
-#[derive(Debug, Drop, PartialEq)]
+#[derive(Drop, PartialEq)]
 pub struct Line<'src> {
     /// Its texts and its expressions between braces, in order.
     pub fragments: Vec<Fragment<'src>>,
@@ -171,4 +172,11 @@ pub fn write_line<S: Sink>(
     write_indentation(indentation, sink)?;
     write_fragments(&line.fragments, sink)?;
     Ok(())
+}
+
+/// The text, without an indentation.
+impl fmt::Debug for Line<'_> {
+    fn fmt<W: fmt::Write>(&self, f: &mut fmt::Formatter<W>) -> fmt::Result {
+        write_fragments(&self.fragments, f)
+    }
 }
