@@ -24,10 +24,10 @@ use Rattle.justfile_setting.specs.Setting.{IsWholeSetting, keyword_of, value_of}
 use Rattle.justfile_setting.specs.declared.setting.Setting.{Setting}
 use Rattle.justfile_setting.specs.declared.setting.Setting.TheVariants as settings
 use Rattle.justfile_tree.specs.Expression.{literal_tok}
-use Rattle.justfile_file.specs.Indented.{IsWholeItem, indentation_set, item_indentation, items_indentation, set_indentation}
-use Rattle.justfile_file.specs.Item.{item_of}
-use Rattle.justfile_file.specs.declared.item.Item.{Item}
-use Rattle.justfile_file.specs.declared.item.Item.TheVariants as items
+use Rattle.justfile_item.specs.Indented.{IsWholeItem, indentation_set, item_indentation, items_indentation, set_indentation}
+use Rattle.justfile_item.specs.Item.{item_of}
+use Rattle.justfile_item.specs.declared.item.Item.{Item}
+use Rattle.justfile_item.specs.declared.item.Item.TheVariants as items
 
 -- the token of a literal that an indentation stands with
 abbrev pub token_by : StringLiteral × Indentation → Tok

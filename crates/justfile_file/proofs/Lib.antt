@@ -1,14 +1,5 @@
-pub mod AttributeLines
-pub mod AttributeTexts
-pub mod Bodies
 pub mod Gaps
-pub mod HeaderTexts
 pub mod Indented
-pub mod ItemTexts
-pub mod Loops
 pub mod Numbered
 pub mod Printable
 pub mod PrintedBack
-pub mod SettingTexts
-pub mod ShownDocs
-pub mod SigilLaws

@@ -3,11 +3,11 @@ use Rattle.std.proofs.Common.{◌≡◌, ℕ, ◌+◌, List, [], ◌∷◌, ◌+
 use Rattle.std.specs.List.{flat_map}
 use Rattle.std.proofs.lemmas.List.{length-append, length-map}
 use Rattle.justfile_model.specs.Files.{NumbersFrom, bindings, item_bindings, item_recipes, recipes}
+use Rattle.justfile_item.specs.Item.{function_parameter_number, function_parameter_of, item_numbers, item_of, item_recipe_numbers, parameter_number}
+use Rattle.justfile_item.specs.declared.item.Item.{Item}
+use Rattle.justfile_item.specs.declared.item.Item.TheVariants as items
 use Rattle.justfile_file.specs.Ast.{binding_numbers, recipe_numbers, tree_of}
-use Rattle.justfile_file.specs.Item.{function_parameter_number, function_parameter_of, item_numbers, item_of, item_recipe_numbers, parameter_number}
 use Rattle.justfile_file.specs.declared.ast.Ast.{Ast}
-use Rattle.justfile_file.specs.declared.item.Item.{Item}
-use Rattle.justfile_file.specs.declared.item.Item.TheVariants as items
 use Rattle.justfile_header.specs.Header.{parameter_of}
 
 pub counted_alike : (first : ℕ) (ms ns : List ℕ) → NumbersFrom first ms → NumbersFrom first ns → length ms ≡ length ns → ms ≡ ns

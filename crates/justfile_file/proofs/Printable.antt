@@ -1,10 +1,15 @@
--- The loop over the items of which each has to be printable.
-use Rattle.std.proofs.Common.{◌≡◌, ℕ, ◌+◌, ◌<◌, ◌≤◌, Bool, true, false, ◌&&◌, List, [], ◌∷◌, length, drop, get_or, refl, sym, ap, ◌∙◌}
+-- A file is printable if each of its items is; the loop over them.
+use Rattle.std.proofs.Common.{◌≡◌, ℕ, ◌+◌, ◌<◌, ◌≤◌, Bool, true, false, ◌&&◌, List, [], ◌∷◌, length, drop, map, get_or, refl, sym, ap, ◌∙◌}
 use Rattle.std.specs.List.{list_all}
 use Rattle.std.proofs.lemmas.List.{at_drop_more, drop_all}
-use Rattle.justfile_model.specs.Printing.{printable_item}
-use Rattle.justfile_file.specs.Item.{item_shape}
-use Rattle.justfile_file.specs.declared.item.Item.{Item}
+use Rattle.justfile_model.specs.Printing.{printable, printable_item}
+use Rattle.justfile_model.specs.Tree.{item_shape_of}
+use Rattle.justfile_item.specs.Item.{item_of, item_shape}
+use Rattle.justfile_item.specs.declared.item.Item.{Item}
+
+pub printable_items : (items : List Item) → printable (map item_shape_of (map item_of items)) ≡ list_all (λ i. printable_item (item_shape i)) items
+printable_items [] = refl
+printable_items (i ∷ items) = ap (λ b. printable_item (item_shape i) && b) (printable_items items)
 
 abbrev is_printable : Item → Bool
 is_printable i = printable_item (item_shape i)

@@ -6,8 +6,8 @@ use Rattle.justfile_model.specs.Features.{Noted}
 use Rattle.justfile_model.specs.Tok.{Tok, tok_of}
 use Rattle.justfile_model.specs.Tree.{Tree, Shape, shape_of}
 use Rattle.justfile_word.specs.declared.list_feature.ListFeature.{ListFeature}
+use Rattle.justfile_item.specs.Item.{item_of, item_cooked, item_numbers, item_recipe_numbers}
 use Rattle.justfile_file.specs.declared.ast.Ast.{Ast}
-use Rattle.justfile_file.specs.Item.{item_of, item_cooked, item_numbers, item_recipe_numbers}
 
 -- the tree of a file
 abbrev pub tree_of : Ast → Tree

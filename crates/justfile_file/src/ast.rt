@@ -7,21 +7,21 @@ ghost use Rattle.justfile_model.specs.Enabled.{indentation_of};
 ghost use Rattle.justfile_model.specs.NormalShape.{normal};
 ghost use Rattle.justfile_model.specs.Printing.{printable, printable_item, text};
 ghost use Rattle.justfile_tree.specs.Expression.{literal_tok};
+ghost use Rattle.justfile_item.specs.Copies.{IsSameItem};
+ghost use Rattle.justfile_item.specs.Indented.{IsWholeItem, items_indentation};
+ghost use Rattle.justfile_item.specs.Item.{item_shape};
 ghost use Rattle.justfile_file.specs.Ast.{ast_shape, tree_of};
-ghost use Rattle.justfile_file.specs.Copies.{IsSameItem};
 ghost use Rattle.justfile_file.specs.Gap.{front_text, end_text};
-ghost use Rattle.justfile_file.specs.Indented.{IsWholeItem, items_indentation};
-ghost use Rattle.justfile_file.specs.Item.{item_shape};
 ghost use Rattle.justfile_file.specs.PrintsBack.{PrintsBack};
 ghost use Rattle.justfile_file.specs.Written.{AppendsPart};
 ghost use Rattle.justfile_file.specs.declared.gap.Gap.TheVariants.{Start};
 
 use crate::copied::put_made;
-use crate::gap::Gap;
-use crate::item::{Item, write_step};
+use crate::gap::{Gap, write_step};
 use crate::write_fault::WriteFault;
 use crate::writer::WriterSink;
 use justfile_base::{Indentation, Modulepath, Token, UnstableFeature};
+use justfile_item::{Item, is_printable, item_indentation};
 use justfile_tree::{ListFeature, Sink};
 use std::alloc::{AllocError, Global};
 use std::collections::BTreeSet;
@@ -60,7 +60,7 @@ impl<'src> Ast<'src> {
     }
 
     /// Whether the printed text parses back: no line of a body ends in a carriage return.
-    #[tactic(auto, using(crate::proofs::Bodies::printable_items))]
+    #[tactic(auto, using(crate::proofs::Printable::printable_items))]
     pub fn printable(&self) -> bool
         ensures { result ≡ printable (ast_shape self.now) }
     {
@@ -121,7 +121,7 @@ fn first_indentation(items: &[Item<'_>]) -> Option<Indentation>
     ensures { result ≡ option_map (λ p. p.1) (items_indentation items.now) }
 {
     for item in items {
-        if let Some(indentation) = item.indentation() {
+        if let Some(indentation) = item_indentation(item) {
             return Some(indentation);
         }
     }
@@ -134,7 +134,7 @@ fn are_printable(items: &[Item<'_>]) -> bool
     ensures { result ≡ list_all (λ item. printable_item (item_shape item)) items.now }
 {
     for item in items {
-        if !item.is_printable() {
+        if !is_printable(item) {
             return false;
         }
     }

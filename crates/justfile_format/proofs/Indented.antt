@@ -19,10 +19,10 @@ use Rattle.justfile_attribute_set.specs.AttributeSet.{attributes_of}
 use Rattle.justfile_attribute_set.specs.Attributes.{are_enabled}
 use Rattle.justfile_setting.specs.declared.setting.Setting.{Setting}
 use Rattle.justfile_setting.specs.declared.setting.Setting.TheVariants as settings
-use Rattle.justfile_file.specs.Indented.{indentation_set, item_indentation, items_indentation}
+use Rattle.justfile_item.specs.Indented.{indentation_set, item_indentation, items_indentation}
+use Rattle.justfile_item.specs.declared.item.Item.{Item}
+use Rattle.justfile_item.specs.declared.item.Item.TheVariants as items
 use Rattle.justfile_file.specs.declared.ast.Ast.{Ast}
-use Rattle.justfile_file.specs.declared.item.Item.{Item}
-use Rattle.justfile_file.specs.declared.item.Item.TheVariants as items
 use Rattle.justfile_parse_item.specs.Filled.{IsGivenItem, IsGivenLiteral, IsGivenSetting}
 use Rattle.justfile_parse.specs.Parsing.{IsParsedText}
 use Rattle.justfile_format.specs.Formatting.{IsFileOf, IsIndentedBy, IsSaid, conditions, unchanged}

@@ -15,8 +15,8 @@ use Rattle.justfile_model.specs.Printing.{printable}
 use Rattle.justfile_model.specs.Tok.{Tok}
 use Rattle.justfile_model.specs.Tree.{Tree, shape_of}
 use Rattle.justfile_tree.specs.Expression.{literal_tok}
+use Rattle.justfile_item.specs.Indented.{items_indentation}
 use Rattle.justfile_file.specs.Ast.{features_of, tree_of}
-use Rattle.justfile_file.specs.Indented.{items_indentation}
 use Rattle.justfile_file.specs.declared.ast.Ast.{Ast}
 use Rattle.justfile_round_trip.specs.RoundTrip.{TextDerives, printed}
 use Rattle.justfile_parse_expression.specs.Conditions.{depth_limit}

@@ -8,7 +8,7 @@ use justfile_tree::Expression;
 use std::alloc::{AllocError, Global};
 
 /// What can be copied.
-pub(crate) trait Copied: Drop {
+pub trait Copied: Drop {
     /// Whether the first value is a copy of the second.
     ghost is_copy: { Self → Self → Type 0 };
 
@@ -18,7 +18,7 @@ pub(crate) trait Copied: Drop {
 }
 
 /// Copies of the values.
-pub(crate) fn all_copied<T: Copied>(alloc: Global, originals: &[T]) -> Result<Vec<T>, AllocError>
+pub fn all_copied<T: Copied>(alloc: Global, originals: &[T]) -> Result<Vec<T>, AllocError>
     ensures { IfOk result (λ copies. AllZip T.is_copy copies.items originals.now) }
 {
     let mut copies = Vec::new(alloc);
@@ -29,7 +29,7 @@ pub(crate) fn all_copied<T: Copied>(alloc: Global, originals: &[T]) -> Result<Ve
 }
 
 /// A copy of a text that may be absent.
-pub(crate) fn copy_text(alloc: Global, text: &Option<String>) -> Result<Option<String>, AllocError>
+pub fn copy_text(alloc: Global, text: &Option<String>) -> Result<Option<String>, AllocError>
     ensures { IfOk result (λ copy. IsSameText copy text.now) }
 {
     match text {

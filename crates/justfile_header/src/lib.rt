@@ -1,7 +1,7 @@
 //! Parameters and dependencies of recipes, and how they print.
 #![tactic(auto)]
 
-mod copied;
+pub mod copied;
 pub mod parameter;
 mod parameter_kind;
 mod path;

@@ -20,7 +20,7 @@ use Rattle.justfile_word.specs.declared.attribute_kind.AttributeKind.TheVariants
 use Rattle.justfile_base.specs.declared.name.Name.{Name}
 use Rattle.justfile_base.specs.declared.string_literal.StringLiteral.{StringLiteral}
 use Rattle.justfile_base.specs.declared.token.Token.{Token}
-use Rattle.justfile_file.specs.Attributes.{attribute_cooked, boxed_cooked, literal_cooked, optional, option_cooked, property_cooked, set_cooked}
+use Rattle.justfile_item.specs.Attributes.{attribute_cooked, boxed_cooked, literal_cooked, optional, option_cooked, property_cooked, set_cooked}
 use Rattle.justfile_model.specs.Files.{attribute_literals, entries_literals, expr_literals, optional_literals, option_literals, quoted_literals}
 use Rattle.justfile_model.specs.Literals.{AreCookedTexts, Expanded, Expansions, Literal, Plain, cooked_text, over_literal, string_of}
 use Rattle.justfile_model.specs.Tok.{Tok, tok_of}

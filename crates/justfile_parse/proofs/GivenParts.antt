@@ -10,8 +10,8 @@ use Rattle.justfile_base.specs.declared.name.Name.{Name}
 use Rattle.justfile_word.specs.declared.number.Number.{Number}
 use Rattle.justfile_base.specs.declared.string_literal.StringLiteral.{StringLiteral}
 use Rattle.justfile_base.specs.declared.token.Token.{Token}
-use Rattle.justfile_file.specs.Attributes.{literal_cooked, optional}
-use Rattle.justfile_file.specs.Item.{quoted_of}
+use Rattle.justfile_item.specs.Attributes.{literal_cooked, optional}
+use Rattle.justfile_item.specs.Item.{quoted_of}
 use Rattle.justfile_model.specs.Files.{expr_literals, exprs_literals, optional_literals, quoted_literals, setting_literals}
 use Rattle.justfile_model.specs.Literals.{AreCookedTexts, Expansions, Literal}
 use Rattle.justfile_model.specs.Tok.{Tok}

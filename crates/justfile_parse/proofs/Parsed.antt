@@ -25,21 +25,22 @@ use Rattle.justfile_word.specs.declared.token_kind.TokenKind.TheVariants as kind
 use Rattle.std.specs.Str.{IsUtf8}
 use Rattle.justfile_round_trip.specs.RoundTrip.{TextDerives}
 use Rattle.justfile_round_trip.proofs.Quoted.{AreFramed, AreQuoted, IsFramed, IsQuoted, lexed_framed, lexed_quoted}
-use Rattle.justfile_file.specs.Item.{fragment_of, fragment_cooked, header_cooked, header_of, item_of, item_cooked, body_line_of, line_cooked, priors_of, subsequents_of}
+use Rattle.justfile_line.specs.Body.{fragment_of, fragment_cooked, body_line_of, line_cooked}
+use Rattle.justfile_item.specs.Item.{header_cooked, header_of, item_of, item_cooked, priors_of, subsequents_of}
 use Rattle.justfile_header.specs.Header.{argument_cooked, boxed_of, dependency_argument_of, dependency_cooked, dependency_of, option_cooked, parameter_cooked, parameter_of}
 use Rattle.justfile_header.specs.declared.parameter.Parameter.{Parameter}
 use Rattle.justfile_header.specs.declared.unresolved_dependency.DependencyArgument.{DependencyArgument}
 use Rattle.justfile_header.specs.declared.unresolved_dependency.UnresolvedDependency.{UnresolvedDependency}
-use Rattle.justfile_file.specs.declared.recipe.UnresolvedRecipe.{UnresolvedRecipe}
+use Rattle.justfile_item.specs.declared.recipe.UnresolvedRecipe.{UnresolvedRecipe}
 use Rattle.justfile_attribute_set.specs.AttributeSet.{entries_of}
+use Rattle.justfile_line.specs.declared.fragment.Fragment.{Fragment}
+use Rattle.justfile_line.specs.declared.fragment.Fragment.TheVariants as fragments
+use Rattle.justfile_line.specs.declared.line.Line.{Line}
+use Rattle.justfile_item.specs.Attributes.{set_cooked}
+use Rattle.justfile_item.specs.declared.item.Item.{Item}
+use Rattle.justfile_item.specs.declared.item.Item.TheVariants.{Alias, Assignment, Comment, Function, Import, Module, Newline, Recipe, Setting, Unexport}
 use Rattle.justfile_file.specs.Ast.{features_of, tree_of}
-use Rattle.justfile_file.specs.Attributes.{set_cooked}
-use Rattle.justfile_file.specs.declared.fragment.Fragment.{Fragment}
-use Rattle.justfile_file.specs.declared.fragment.Fragment.TheVariants as fragments
-use Rattle.justfile_file.specs.declared.line.Line.{Line}
 use Rattle.justfile_file.specs.declared.ast.Ast.{Ast}
-use Rattle.justfile_file.specs.declared.item.Item.{Item}
-use Rattle.justfile_file.specs.declared.item.Item.TheVariants.{Alias, Assignment, Comment, Function, Import, Module, Newline, Recipe, Setting, Unexport}
 use Rattle.justfile_model.specs.Answers.{IsFrom, IsLexerFault}
 use Rattle.justfile_model.specs.Conditions.{Conditions}
 use Rattle.justfile_model.specs.Files.{FileDerives, body_literals, dependency_literals, entries_literals, expr_literals, exprs_literals, fragments_literals, header_literals, item_literals, literals, optional_literals, ordered, parameter_literals, parts_literals}

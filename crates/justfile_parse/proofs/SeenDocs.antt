@@ -9,9 +9,9 @@ use Rattle.justfile_attribute_set.specs.AttributeSet.{AttributeSet, leaf_entries
 use Rattle.justfile_attribute_set.specs.Pairs.{Pair, entry_of, leaf_entry_of}
 use Rattle.justfile_word.specs.declared.attribute_kind.AttributeKind.TheVariants.{Doc}
 use Rattle.justfile_base.specs.declared.token.Token.{Token}
-use Rattle.justfile_file.specs.Item.{item_numbers, item_of, item_recipe_numbers}
-use Rattle.justfile_file.specs.declared.item.Item.{Item}
-use Rattle.justfile_file.specs.declared.item.Item.TheVariants as items
+use Rattle.justfile_item.specs.Item.{item_numbers, item_of, item_recipe_numbers}
+use Rattle.justfile_item.specs.declared.item.Item.{Item}
+use Rattle.justfile_item.specs.declared.item.Item.TheVariants as items
 use Rattle.justfile_model.specs.AttributeKinds.{same_attribute}
 use Rattle.justfile_model.specs.Conditions.{Conditions}
 use Rattle.justfile_model.specs.Docs.{Before, LineEnd, Nothing, Other, comment_taken, doc_in, doc_of, doc_or_comment, documented, redocumented, taken, takes_doc}

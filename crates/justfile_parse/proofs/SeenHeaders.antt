@@ -8,7 +8,7 @@ use Rattle.justfile_word.specs.Numerator.{number_of}
 use Rattle.justfile_base.specs.declared.name.Name.{Name}
 use Rattle.justfile_word.specs.declared.number.Number.{Number}
 use Rattle.justfile_base.specs.declared.token.Token.{Token}
-use Rattle.justfile_file.specs.Item.{parameter_number}
+use Rattle.justfile_item.specs.Item.{parameter_number}
 use Rattle.justfile_header.specs.Header.{dependency_argument_of, dependency_of, is_starred, name_of, parameter_of, star_of}
 use Rattle.justfile_header.specs.declared.parameter.Parameter.{Parameter}
 use Rattle.justfile_header.specs.declared.unresolved_dependency.DependencyArgument.{DependencyArgument}

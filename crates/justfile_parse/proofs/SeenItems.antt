@@ -9,15 +9,16 @@ use Rattle.justfile_base.specs.declared.name.Name.{Name}
 use Rattle.justfile_base.specs.declared.namepath.Namepath.{Namepath}
 use Rattle.justfile_base.specs.declared.string_literal.StringLiteral.{StringLiteral}
 use Rattle.justfile_base.specs.declared.token.Token.{Token}
+use Rattle.justfile_line.specs.Body.{body_line_of}
+use Rattle.justfile_item.specs.Item.{header_of, item_numbers, item_of, item_recipe_numbers, priors_of, subsequents_of}
+use Rattle.justfile_item.specs.declared.alias.Alias.{Alias}
+use Rattle.justfile_item.specs.declared.binding.Binding.{Binding}
+use Rattle.justfile_item.specs.declared.function_definition.FunctionDefinition.{FunctionDefinition}
+use Rattle.justfile_item.specs.declared.item.Item.{Item}
+use Rattle.justfile_item.specs.declared.item.Item.TheVariants as items
+use Rattle.justfile_item.specs.declared.recipe.UnresolvedRecipe.{UnresolvedRecipe}
+use Rattle.justfile_item.specs.declared.set.Set.{Set}
 use Rattle.justfile_file.specs.Ast.{noted_of}
-use Rattle.justfile_file.specs.Item.{body_line_of, header_of, item_numbers, item_of, item_recipe_numbers, priors_of, subsequents_of}
-use Rattle.justfile_file.specs.declared.alias.Alias.{Alias}
-use Rattle.justfile_file.specs.declared.binding.Binding.{Binding}
-use Rattle.justfile_file.specs.declared.function_definition.FunctionDefinition.{FunctionDefinition}
-use Rattle.justfile_file.specs.declared.item.Item.{Item}
-use Rattle.justfile_file.specs.declared.item.Item.TheVariants as items
-use Rattle.justfile_file.specs.declared.recipe.UnresolvedRecipe.{UnresolvedRecipe}
-use Rattle.justfile_file.specs.declared.set.Set.{Set}
 use Rattle.justfile_model.specs.Conditions.{Conditions}
 use Rattle.justfile_model.specs.Docs.{redocumented}
 use Rattle.justfile_model.specs.Features.{Noted}

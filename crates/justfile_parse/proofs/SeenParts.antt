@@ -9,7 +9,7 @@ use Rattle.justfile_base.specs.declared.name.Name.{Name}
 use Rattle.justfile_word.specs.declared.number.Number.{Number}
 use Rattle.justfile_base.specs.declared.string_literal.StringLiteral as strings
 use Rattle.justfile_base.specs.declared.token.Token.{Token}
-use Rattle.justfile_file.specs.Item.{function_parameter_number, function_parameter_of, quoted_of}
+use Rattle.justfile_item.specs.Item.{function_parameter_number, function_parameter_of, quoted_of}
 use Rattle.justfile_model.specs.Conditions.{Conditions}
 use Rattle.justfile_model.specs.Files.{NumbersFrom}
 use Rattle.justfile_model.specs.HeaderReader.{with_bindings}

@@ -8,8 +8,8 @@ use Rattle.justfile_attribute_set.specs.Pairs.{Pair, entry_of}
 use Rattle.justfile_word.specs.declared.attribute_kind.AttributeKind.{AttributeKind}
 use Rattle.justfile_word.specs.declared.unstable_feature.UnstableFeature.{UnstableFeature}
 use Rattle.justfile_word.specs.declared.unstable_feature.UnstableFeature.TheVariants.{CachedRecipes, ListsSetting, UserDefinedFunctions}
-use Rattle.justfile_file.specs.Item.{item_of}
-use Rattle.justfile_file.specs.declared.item.Item.{Item}
+use Rattle.justfile_item.specs.Item.{item_of}
+use Rattle.justfile_item.specs.declared.item.Item.{Item}
 use Rattle.justfile_model.specs.AttributeKinds.{same_attribute}
 use Rattle.justfile_model.specs.ContentKeys.{has_attribute}
 use Rattle.justfile_model.specs.UnstableFeatures.{uses}

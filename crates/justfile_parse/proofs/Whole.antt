@@ -10,9 +10,9 @@ use Rattle.justfile_base.specs.declared.fault.Fault.{Fault}
 use Rattle.justfile_base.specs.declared.fault.Fault.TheVariants as faults
 use Rattle.justfile_word.specs.declared.numerator.Numerator.{Numerator}
 use Rattle.justfile_base.specs.declared.token.Token.{Token}
-use Rattle.justfile_file.specs.Item.{function_parameter_of, item_of}
-use Rattle.justfile_file.specs.declared.item.Item.{Item}
-use Rattle.justfile_file.specs.declared.item.Item.TheVariants as items
+use Rattle.justfile_item.specs.Item.{function_parameter_of, item_of}
+use Rattle.justfile_item.specs.declared.item.Item.{Item}
+use Rattle.justfile_item.specs.declared.item.Item.TheVariants as items
 use Rattle.justfile_model.specs.Conditions.{Conditions}
 use Rattle.justfile_model.specs.Expressions.{front}
 use Rattle.justfile_model.specs.Features.{Noted}

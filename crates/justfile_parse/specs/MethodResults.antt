@@ -8,9 +8,9 @@ use Rattle.justfile_base.specs.declared.fault.Fault.{Fault}
 use Rattle.justfile_base.specs.declared.fault.Fault.TheVariants as faults
 use Rattle.justfile_word.specs.declared.numerator.Numerator.{Numerator}
 use Rattle.justfile_base.specs.declared.token.Token.{Token}
+use Rattle.justfile_item.specs.Item.{item_of}
+use Rattle.justfile_item.specs.declared.item.Item.{Item}
 use Rattle.justfile_file.specs.Ast.{noted_of}
-use Rattle.justfile_file.specs.Item.{item_of}
-use Rattle.justfile_file.specs.declared.item.Item.{Item}
 use Rattle.justfile_model.specs.Features.{Noted}
 use Rattle.justfile_model.specs.Conditions.{Conditions}
 use Rattle.justfile_model.specs.Files.{NumbersSuffice, ordered}

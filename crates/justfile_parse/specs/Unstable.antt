@@ -3,8 +3,8 @@ use Rattle.std.specs.Prelude.{Bool, List, map, cond}
 use Rattle.std.specs.BTreeSet.{insert_key}
 use Rattle.justfile_word.specs.contracts.unstable_feature.UnstableFeatureOrd.TheImpl as feature_order
 use Rattle.justfile_word.specs.declared.unstable_feature.UnstableFeature.{UnstableFeature}
-use Rattle.justfile_file.specs.Item.{item_of}
-use Rattle.justfile_file.specs.declared.item.Item.{Item}
+use Rattle.justfile_item.specs.Item.{item_of}
+use Rattle.justfile_item.specs.declared.item.Item.{Item}
 use Rattle.justfile_model.specs.UnstableFeatures.{unstable_features, uses}
 
 -- the item uses the feature

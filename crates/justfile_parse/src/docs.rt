@@ -15,7 +15,7 @@ ghost use Rattle.justfile_parse_item.specs.Whole.{AreWhole, IsWholeItem};
 
 use justfile_attribute_set::AttributeSet;
 use justfile_base::AttributeKind;
-use justfile_file::Item;
+use justfile_item::Item;
 use std::alloc::{AllocError, Global};
 
 /// The items with their docs, in place of comments.

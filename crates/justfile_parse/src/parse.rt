@@ -27,7 +27,8 @@ use justfile_base::{
     CompileError, CompileErrorKind, CompileResult, Expander, Fault, Modulepath, Namepath,
     Numerator, Source, Token, TokenKind, Version,
 };
-use justfile_file::{Ast, Item};
+use justfile_file::Ast;
+use justfile_item::Item;
 use justfile_lex::Lexer;
 use justfile_parse_attribute::Halt;
 use justfile_parse_expression::significant::{TableEntry, significant};

@@ -11,7 +11,7 @@ ghost use Rattle.justfile_setting.specs.Setting.{keyword_of};
 
 use justfile_attribute_set::AttributeSet;
 use justfile_base::{AttributeKind, UnstableFeature};
-use justfile_file::Item;
+use justfile_item::Item;
 use justfile_setting::Setting;
 use std::alloc::{AllocError, Global};
 use std::collections::BTreeSet;

@@ -3,8 +3,8 @@ use Rattle.std.proofs.Common.{◌≡◌, ℕ, ◌<◌, true, false, List, [], �
 use Rattle.std.proofs.lemmas.List.{map-append}
 use Rattle.justfile_base.specs.declared.token.Token.{Token}
 use Rattle.justfile_word.specs.declared.token_kind.TokenKind.TheVariants as kinds
-use Rattle.justfile_file.specs.declared.fragment.Fragment.{Fragment}
-use Rattle.justfile_file.specs.declared.line.Line.{Line}
+use Rattle.justfile_line.specs.declared.fragment.Fragment.{Fragment}
+use Rattle.justfile_line.specs.declared.line.Line.{Line}
 use Rattle.justfile_model.specs.Tree as tree
 use Rattle.justfile_model.specs.Tree.{BodyLine, trimmed}
 use Rattle.justfile_model.specs.Reader as files

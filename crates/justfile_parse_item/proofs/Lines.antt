@@ -3,10 +3,11 @@ use Rattle.std.proofs.Common.{◌≡◌, ℕ, Bool, true, false, List, [], ◌�
 use Rattle.std.proofs.lemmas.List.{append-nil, append_assoc}
 use Rattle.justfile_base.specs.declared.token.Token.{Token}
 use Rattle.justfile_word.specs.declared.token_kind.TokenKind.TheVariants as kinds
-use Rattle.justfile_file.specs.Item.{item_of, body_line_of}
-use Rattle.justfile_file.specs.declared.item.Item as file
-use Rattle.justfile_file.specs.declared.item.Item.TheVariants as items
-use Rattle.justfile_file.specs.declared.line.Line as body
+use Rattle.justfile_line.specs.Body.{body_line_of}
+use Rattle.justfile_line.specs.declared.line.Line as body
+use Rattle.justfile_item.specs.Item.{item_of}
+use Rattle.justfile_item.specs.declared.item.Item as file
+use Rattle.justfile_item.specs.declared.item.Item.TheVariants as items
 use Rattle.justfile_model.specs.Tree as tree
 use Rattle.justfile_model.specs.Tree.{OrderedItem}
 use Rattle.justfile_model.specs.Reader as files

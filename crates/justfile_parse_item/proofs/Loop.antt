@@ -4,7 +4,7 @@ use Rattle.justfile_word.specs.Numerator.{bindings_of, constants_of, recipes_of}
 use Rattle.justfile_word.specs.declared.numerator.Numerator.{Numerator}
 use Rattle.justfile_base.specs.declared.token.Token.{Token}
 use Rattle.justfile_word.specs.declared.token_kind.TokenKind.TheVariants as kinds
-use Rattle.justfile_file.specs.declared.item.Item as file
+use Rattle.justfile_item.specs.declared.item.Item as file
 use Rattle.justfile_model.specs.Tree.{OrderedItem}
 use Rattle.justfile_model.specs.Reader as files
 use Rattle.justfile_model.specs.PartReader.{after_numbered}

@@ -11,10 +11,10 @@ use Rattle.justfile_base.specs.declared.string_kind.StringKind.{StringKind}
 use Rattle.justfile_base.specs.declared.string_literal.StringLiteral as strings
 use Rattle.justfile_base.specs.declared.token.Token.{Token}
 use Rattle.std.proofs.lemmas.List.Elements.{All-cons, All-nil}
-use Rattle.justfile_file.specs.Item.{fragment_of, body_line_of}
-use Rattle.justfile_file.specs.declared.fragment.Fragment.{Fragment}
-use Rattle.justfile_file.specs.declared.fragment.Fragment.TheVariants as fragments
-use Rattle.justfile_file.specs.declared.line.Line.{Line}
+use Rattle.justfile_line.specs.Body.{fragment_of, body_line_of}
+use Rattle.justfile_line.specs.declared.fragment.Fragment.{Fragment}
+use Rattle.justfile_line.specs.declared.fragment.Fragment.TheVariants as fragments
+use Rattle.justfile_line.specs.declared.line.Line.{Line}
 use Rattle.justfile_model.specs.Conditions.{Conditions}
 use Rattle.justfile_attribute_set.specs.AttributeSet.{AttributeSet, leaf_entries_of, pairs_of, entries_of as set_entries}
 use Rattle.justfile_attribute_set.specs.Pairs.{Pair}

@@ -9,11 +9,11 @@ use Rattle.justfile_attribute_set.specs.AttributeSet.{attributes_of}
 use Rattle.justfile_attribute_set.specs.Attributes.{has_kind}
 use Rattle.justfile_base.specs.Token.{lexeme_of}
 use Rattle.justfile_word.specs.declared.attribute_kind.AttributeKind.TheVariants as kinds
-use Rattle.justfile_file.specs.declared.recipe.UnresolvedRecipe.{UnresolvedRecipe}
-use Rattle.justfile_file.specs.Line.{IsShebang, text_of_fragment}
-use Rattle.justfile_file.specs.declared.fragment.Fragment.{Fragment}
-use Rattle.justfile_file.specs.declared.fragment.Fragment.TheVariants as fragments
-use Rattle.justfile_file.specs.declared.line.Line.{Line}
+use Rattle.justfile_line.specs.Line.{IsShebang, text_of_fragment}
+use Rattle.justfile_line.specs.declared.fragment.Fragment.{Fragment}
+use Rattle.justfile_line.specs.declared.fragment.Fragment.TheVariants as fragments
+use Rattle.justfile_line.specs.declared.line.Line.{Line}
+use Rattle.justfile_item.specs.declared.recipe.UnresolvedRecipe.{UnresolvedRecipe}
 use Rattle.justfile_model.specs.Tree as tree
 use Rattle.justfile_parse_item.specs.ItemTable.{has_shebang, is_shebang}
 use Rattle.justfile_parse_item.specs.Filled.{HasShebang}

@@ -1,8 +1,8 @@
 -- What follows of items that are read one after another.
 use Rattle.std.proofs.Common.{◌≡◌, All, List, [], ◌∷◌, ◌++◌, OnOk, Result, Ok, Err, subst, sym}
 use Rattle.std.proofs.lemmas.List.Elements.{All-nil, All-push}
-use Rattle.justfile_file.specs.declared.item.Item.{Item}
-use Rattle.justfile_file.specs.declared.item.Item.TheVariants.{Newline}
+use Rattle.justfile_item.specs.declared.item.Item.{Item}
+use Rattle.justfile_item.specs.declared.item.Item.TheVariants.{Newline}
 use Rattle.justfile_parse_item.specs.Whole.{AreWhole, IsWholeItem, KeepsWhole}
 
 pub none_whole : AreWhole []

@@ -24,18 +24,18 @@ use Rattle.justfile_word.specs.declared.numerator.Numerator.{Numerator}
 use Rattle.justfile_base.specs.declared.string_literal.StringLiteral as literals
 use Rattle.justfile_base.specs.declared.token.Token.{Token}
 use Rattle.justfile_literal.specs.Literal.{IsPartOf}
-use Rattle.justfile_file.specs.declared.alias.Alias as aliases
-use Rattle.justfile_file.specs.declared.binding.Binding.{Binding}
-use Rattle.justfile_file.specs.declared.fragment.Fragment.{Fragment}
-use Rattle.justfile_file.specs.declared.fragment.Fragment.TheVariants as fragments
-use Rattle.justfile_file.specs.declared.function_definition.FunctionDefinition.{FunctionDefinition}
-use Rattle.justfile_file.specs.declared.item.Item.{Item}
-use Rattle.justfile_file.specs.declared.item.Item.TheVariants.{Alias, Assignment, Comment, Function, Import, Module, Newline, Recipe, Setting, Unexport}
-use Rattle.justfile_file.specs.declared.line.Line.{Line}
-use Rattle.justfile_file.specs.declared.recipe.UnresolvedRecipe.{UnresolvedRecipe}
-use Rattle.justfile_file.specs.declared.set.Set.{Set}
-use Rattle.justfile_file.specs.Item.{item_of, item_numbers, item_recipe_numbers}
-use Rattle.justfile_file.specs.Line.{IsShebang}
+use Rattle.justfile_line.specs.declared.fragment.Fragment.{Fragment}
+use Rattle.justfile_line.specs.declared.fragment.Fragment.TheVariants as fragments
+use Rattle.justfile_line.specs.declared.line.Line.{Line}
+use Rattle.justfile_line.specs.Line.{IsShebang}
+use Rattle.justfile_item.specs.declared.alias.Alias as aliases
+use Rattle.justfile_item.specs.declared.binding.Binding.{Binding}
+use Rattle.justfile_item.specs.declared.function_definition.FunctionDefinition.{FunctionDefinition}
+use Rattle.justfile_item.specs.declared.item.Item.{Item}
+use Rattle.justfile_item.specs.declared.item.Item.TheVariants.{Alias, Assignment, Comment, Function, Import, Module, Newline, Recipe, Setting, Unexport}
+use Rattle.justfile_item.specs.declared.recipe.UnresolvedRecipe.{UnresolvedRecipe}
+use Rattle.justfile_item.specs.declared.set.Set.{Set}
+use Rattle.justfile_item.specs.Item.{item_of, item_numbers, item_recipe_numbers}
 use Rattle.justfile_header.specs.declared.parameter.Parameter.{Parameter}
 use Rattle.justfile_header.specs.declared.unresolved_dependency.DependencyArgument.{DependencyArgument}
 use Rattle.justfile_header.specs.declared.unresolved_dependency.UnresolvedDependency.{UnresolvedDependency}

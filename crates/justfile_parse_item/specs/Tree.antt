@@ -7,16 +7,16 @@ use Rattle.justfile_base.specs.declared.namepath.Namepath.{Namepath}
 use Rattle.justfile_word.specs.declared.number.Number.{Number}
 use Rattle.justfile_base.specs.declared.string_literal.StringLiteral as literals
 use Rattle.justfile_attribute_set.specs.AttributeSet.{AttributeSet}
-use Rattle.justfile_file.specs.declared.alias.Alias.{Alias}
-use Rattle.justfile_file.specs.declared.binding.Binding.{Binding}
-use Rattle.justfile_file.specs.declared.fragment.Fragment as fragment
-use Rattle.justfile_file.specs.declared.fragment.Fragment.TheVariants as fragments
-use Rattle.justfile_file.specs.declared.function_definition.FunctionDefinition.{FunctionDefinition}
-use Rattle.justfile_file.specs.declared.item.Item as item
-use Rattle.justfile_file.specs.declared.item.Item.TheVariants as items
-use Rattle.justfile_file.specs.declared.line.Line as line
-use Rattle.justfile_file.specs.declared.recipe.UnresolvedRecipe.{UnresolvedRecipe}
-use Rattle.justfile_file.specs.declared.set.Set.{Set}
+use Rattle.justfile_line.specs.declared.fragment.Fragment as fragment
+use Rattle.justfile_line.specs.declared.fragment.Fragment.TheVariants as fragments
+use Rattle.justfile_line.specs.declared.line.Line as line
+use Rattle.justfile_item.specs.declared.alias.Alias.{Alias}
+use Rattle.justfile_item.specs.declared.binding.Binding.{Binding}
+use Rattle.justfile_item.specs.declared.function_definition.FunctionDefinition.{FunctionDefinition}
+use Rattle.justfile_item.specs.declared.item.Item as item
+use Rattle.justfile_item.specs.declared.item.Item.TheVariants as items
+use Rattle.justfile_item.specs.declared.recipe.UnresolvedRecipe.{UnresolvedRecipe}
+use Rattle.justfile_item.specs.declared.set.Set.{Set}
 use Rattle.justfile_base.specs.declared.token.Token.{Token}
 use Rattle.justfile_model.specs.Tree as tree
 use Rattle.justfile_model.specs.Tree.{Fragment, BodyLine, OrderedItem, Quoted, assignment_of}

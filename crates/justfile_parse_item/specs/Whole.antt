@@ -6,11 +6,11 @@ use Rattle.justfile_attribute_set.specs.Attributes.{has_kind}
 use Rattle.justfile_base.specs.Token.{lexeme_of}
 use Rattle.justfile_word.specs.declared.attribute_kind.AttributeKind.TheVariants as kinds
 use Rattle.justfile_base.specs.declared.token.Token.{Token}
-use Rattle.justfile_file.specs.declared.binding.Binding.{Binding}
-use Rattle.justfile_file.specs.declared.item.Item.{Item}
-use Rattle.justfile_file.specs.declared.item.Item.TheVariants.{Alias, Assignment, Comment, Function, Import, Module, Newline, Recipe, Setting, Unexport}
-use Rattle.justfile_file.specs.declared.recipe.UnresolvedRecipe.{UnresolvedRecipe}
-use Rattle.justfile_file.specs.declared.set.Set.{Set}
+use Rattle.justfile_item.specs.declared.binding.Binding.{Binding}
+use Rattle.justfile_item.specs.declared.item.Item.{Item}
+use Rattle.justfile_item.specs.declared.item.Item.TheVariants.{Alias, Assignment, Comment, Function, Import, Module, Newline, Recipe, Setting, Unexport}
+use Rattle.justfile_item.specs.declared.recipe.UnresolvedRecipe.{UnresolvedRecipe}
+use Rattle.justfile_item.specs.declared.set.Set.{Set}
 use Rattle.justfile_parse_item.specs.ItemTable.{has_shebang}
 use Rattle.justfile_parse_item.specs.Tree.{line_tree}
 use Rattle.justfile_parse_attribute.specs.WholeAttributes.{AreWholeAttributes}

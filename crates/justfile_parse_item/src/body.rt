@@ -1,7 +1,7 @@
 //! How bodies of recipes are read.
 ghost use Rattle.std.specs.Prelude.{◌≡◌, ◌<◌, ◌≤◌, ◌-◌, ◌↔◌, length, OnOk, IsSomeAnd, IsTrue, map};
 ghost use Rattle.std.specs.List.{slice_get};
-ghost use Rattle.justfile_file.specs.Line.{IsEmpty};
+ghost use Rattle.justfile_line.specs.Line.{IsEmpty};
 ghost use Rattle.justfile_model.specs.Tree.{trimmed};
 ghost use Rattle.justfile_parse_item.specs.ItemTable as reader;
 ghost use Rattle.justfile_parse_expression.specs.MethodResults.{Reads};
@@ -9,7 +9,7 @@ ghost use Rattle.justfile_parse_item.specs.Tree.{fragment_tree, line_tree};
 ghost use Rattle.justfile_parse_expression.specs.View.{left, state_of};
 
 use justfile_base::{Expander, TokenKind};
-use justfile_file::{Fragment, Line};
+use justfile_line::{Fragment, Line};
 use justfile_parse_expression::{ExpressionParser, Refusal, Stop};
 
 /// The body of a recipe, from the end of its header on; no line if it has none. A comment before

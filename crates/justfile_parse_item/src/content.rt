@@ -24,7 +24,7 @@ use crate::set::parse_set;
 use crate::unexport::parse_unexport;
 use justfile_attribute::Attribute;
 use justfile_base::{Expander, Keyword, Name, Numerator, TokenKind};
-use justfile_file::Item;
+use justfile_item::Item;
 use justfile_parse_attribute::{Halt, make_halt, parse_attributes};
 use justfile_parse_expression::ExpressionParser;
 use justfile_parse_parts::{Following, accept_before, is_assigned};

@@ -13,7 +13,7 @@ ghost use Rattle.justfile_parse_header.specs.Counting.{ReadsCounted, counters_of
 use crate::construct::allowed;
 use justfile_attribute::Attribute;
 use justfile_base::{Expander, ItemKind, Name, Numerator, TokenKind};
-use justfile_file::{FunctionDefinition, Item};
+use justfile_item::{FunctionDefinition, Item};
 use justfile_parse_attribute::Halt;
 use justfile_parse_expression::ExpressionParser;
 use justfile_parse_parts::parse_parameter_names;

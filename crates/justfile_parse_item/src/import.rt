@@ -11,7 +11,7 @@ ghost use Rattle.justfile_parse_expression.specs.View.{left, state_of};
 use crate::construct::allowed;
 use justfile_attribute::Attribute;
 use justfile_base::{Expander, ItemKind, Name, TokenKind};
-use justfile_file::Item;
+use justfile_item::Item;
 use justfile_parse_attribute::Halt;
 use justfile_parse_expression::ExpressionParser;
 use justfile_parse_parts::parse_file_path;

@@ -19,7 +19,7 @@ ghost use Rattle.justfile_parse_expression.specs.View.{left, state_of};
 
 use crate::content::parse_construct;
 use justfile_base::{Expander, Numerator, Token, TokenKind};
-use justfile_file::Item;
+use justfile_item::Item;
 use justfile_parse_attribute::Halt;
 use justfile_parse_expression::{ExpressionParser, Refusal, Stop};
 

@@ -11,7 +11,7 @@ use crate::construct::allowed;
 use crate::import::accept_question_mark;
 use justfile_attribute::Attribute;
 use justfile_base::{Expander, ItemKind, Name, TokenKind};
-use justfile_file::Item;
+use justfile_item::Item;
 use justfile_parse_attribute::Halt;
 use justfile_parse_expression::ExpressionParser;
 use justfile_parse_parts::parse_optional_path;

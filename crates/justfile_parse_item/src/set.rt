@@ -10,7 +10,7 @@ ghost use Rattle.justfile_parse_expression.specs.View.{left, state_of};
 use crate::construct::allowed;
 use justfile_attribute::Attribute;
 use justfile_base::{Expander, ItemKind, Name, TokenKind};
-use justfile_file::{Item, Set};
+use justfile_item::{Item, Set};
 use justfile_parse_attribute::Halt;
 use justfile_parse_expression::ExpressionParser;
 use justfile_parse_parts::{keyword_at, parse_setting_value};

@@ -2,11 +2,11 @@
 #![tactic(auto)]
 
 pub mod alias {
-    pub use justfile_file::Alias;
+    pub use justfile_item::Alias;
 }
 
 pub mod assignment {
-    pub use justfile_file::Assignment;
+    pub use justfile_item::Assignment;
 }
 
 pub mod ast {
@@ -24,7 +24,7 @@ pub mod attribute_set {
 }
 
 pub mod binding {
-    pub use justfile_file::Binding;
+    pub use justfile_item::Binding;
 }
 
 pub mod byte_class {
@@ -64,11 +64,11 @@ pub mod fault {
 }
 
 pub mod fragment {
-    pub use justfile_file::Fragment;
+    pub use justfile_line::Fragment;
 }
 
 pub mod function_definition {
-    pub use justfile_file::FunctionDefinition;
+    pub use justfile_item::FunctionDefinition;
 }
 
 pub mod indentation {
@@ -81,7 +81,7 @@ pub mod interpreter {
 
 pub mod item {
     pub use justfile_base::ItemKind;
-    pub use justfile_file::Item;
+    pub use justfile_item::Item;
 }
 
 pub mod keyed {
@@ -127,7 +127,7 @@ pub mod lexer {
 }
 
 pub mod line {
-    pub use justfile_file::Line;
+    pub use justfile_line::Line;
 }
 
 pub mod list {
@@ -159,11 +159,11 @@ pub mod numerator {
 }
 
 pub mod parameter {
-    pub use justfile_file::Parameter;
+    pub use justfile_header::Parameter;
 }
 
 pub mod parameter_kind {
-    pub use justfile_file::ParameterKind;
+    pub use justfile_header::ParameterKind;
 }
 
 pub mod parser {
@@ -173,11 +173,11 @@ pub mod parser {
 }
 
 pub mod recipe {
-    pub use justfile_file::UnresolvedRecipe;
+    pub use justfile_item::UnresolvedRecipe;
 }
 
 pub mod set {
-    pub use justfile_file::Set;
+    pub use justfile_item::Set;
 }
 
 pub mod setting {
@@ -185,7 +185,7 @@ pub mod setting {
 }
 
 pub mod sigil {
-    pub use justfile_file::Sigil;
+    pub use justfile_line::Sigil;
 }
 
 pub mod signal {
@@ -221,7 +221,7 @@ pub mod unindent {
 }
 
 pub mod unresolved_dependency {
-    pub use justfile_file::{DependencyArgument, UnresolvedDependency};
+    pub use justfile_header::{DependencyArgument, UnresolvedDependency};
 }
 
 pub mod unstable_feature {

@@ -1,7 +1,7 @@
 use Rattle.std.proofs.Common.{arith, subst}
 use Rattle.std.specs.Prelude.{IfOk}
 use Rattle.justfile_model.proofs.CopiedLists.{one_more}
-use Rattle.justfile_file.specs.Copies.{IsSameItem}
+use Rattle.justfile_item.specs.Copies.{IsSameItem}
 use Rattle.justfile_file.proofs.ast.copy_items.Goals as goal
 
 pub loop-item-preserved : goal.loop-item-preserved

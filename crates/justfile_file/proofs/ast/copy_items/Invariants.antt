@@ -1,6 +1,6 @@
 use Rattle.std.proofs.Common.{take}
 use Rattle.std.specs.List.{AllZip}
-use Rattle.justfile_file.specs.Copies.{IsSameItem}
+use Rattle.justfile_item.specs.Copies.{IsSameItem}
 use Rattle.justfile_file.proofs.ast.copy_items.Given as goal
 
 -- the copies are those of the items before

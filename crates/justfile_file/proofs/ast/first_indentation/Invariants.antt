@@ -1,5 +1,5 @@
 use Rattle.std.proofs.Common.{◌≡◌, drop}
-use Rattle.justfile_file.specs.Indented.{items_indentation}
+use Rattle.justfile_item.specs.Indented.{items_indentation}
 use Rattle.justfile_file.proofs.ast.first_indentation.Given as goal
 
 -- none of the items before sets one

@@ -4,12 +4,12 @@ use Rattle.justfile_word.specs.Indentation.{indentation_text}
 use Rattle.justfile_model.specs.NormalShape.{normal}
 use Rattle.justfile_model.specs.Printing.{text}
 use Rattle.justfile_model.specs.Tree.{item_shape_of}
-use Rattle.justfile_file.specs.declared.item.Item.{Item}
+use Rattle.justfile_line.proofs.Loops.{at_err}
+use Rattle.justfile_item.specs.declared.item.Item.{Item}
+use Rattle.justfile_item.specs.Item.{item_of, item_shape}
 use Rattle.justfile_file.specs.declared.gap.Gap.TheVariants.{Start}
 use Rattle.justfile_file.specs.Gap.{front_text, end_text}
-use Rattle.justfile_file.specs.Item.{item_of, item_shape}
 use Rattle.justfile_file.proofs.Gaps.{normal_text}
-use Rattle.justfile_file.proofs.Loops.{at_err}
 use Rattle.justfile_file.proofs.ast.write_ast.Goals as goal
 
 -- what the walk writes is the text of the normal shape

@@ -1,8 +1,8 @@
 use Rattle.std.proofs.Common.{arith}
 use Rattle.justfile_word.specs.Indentation.{indentation_text}
-use Rattle.justfile_file.specs.Item.{item_shape}
+use Rattle.justfile_line.proofs.Loops.{at_err}
+use Rattle.justfile_item.specs.Item.{item_shape}
 use Rattle.justfile_file.proofs.Gaps.{took_next, failed_next, gap_next}
-use Rattle.justfile_file.proofs.Loops.{at_err}
 use Rattle.justfile_file.proofs.ast.write_items.Goals as goal
 
 pub returns-in_err-gap-clause-err : goal.returns-in_err-gap-clause-err

@@ -1,8 +1,8 @@
 use Rattle.std.proofs.Common.{◌≡◌, map, take}
 use Rattle.justfile_word.specs.Indentation.{indentation_text}
+use Rattle.justfile_item.specs.Item.{item_shape}
 use Rattle.justfile_file.specs.declared.gap.Gap.TheVariants.{Start}
 use Rattle.justfile_file.specs.Gap.{front_text, last_gap}
-use Rattle.justfile_file.specs.Item.{item_shape}
 use Rattle.justfile_file.proofs.ast.write_items.Given as goal
 
 abbrev pub invariant-loop-item : goal.invariant-loop-item

@@ -1,6 +1,6 @@
 use Rattle.std.proofs.Common.{ap, ◌∙◌, sym, subst, List, map, All, Contains}
 use Rattle.std.proofs.lemmas.Result.{err_from_is_err_and}
-use Rattle.justfile_file.specs.declared.item.Item.{Item}
+use Rattle.justfile_item.specs.declared.item.Item.{Item}
 use Rattle.justfile_model.specs.Tok.{tok_of}
 use Rattle.justfile_parse_expression.specs.Formats.{IsTable}
 use Rattle.justfile_parse.specs.MethodResults.{IsRead}

@@ -1,0 +1,27 @@
+use Rattle.std.proofs.Common.{◌≡◌, ℕ, List, ◌++◌, codes, ap, ◌∙◌, subst}
+use Rattle.justfile_base.specs.Namepath.{namepath_text}
+use Rattle.justfile_base.specs.Token.{lexeme_of}
+use Rattle.justfile_base.specs.declared.namepath.Namepath.{Namepath}
+use Rattle.justfile_model.specs.Printing.{fixed_text}
+use Rattle.justfile_line.proofs.Loops.{at_err}
+use Rattle.justfile_item.specs.ItemText.{alias_text_of}
+use Rattle.justfile_item.specs.declared.alias.Alias.{Alias}
+use Rattle.justfile_item.proofs.ItemTexts.{alias_parts}
+use Rattle.justfile_item.proofs.alias.write_alias.Goals as goal
+
+-- the pieces that are put are the text of the alias
+written : (a : Alias Namepath) (name : List ℕ) → name ≡ lexeme_of a.name.token
+    → fixed_text (codes "alias ") ++ name ++ fixed_text (codes " := ") ++ namepath_text a.target ≡ alias_text_of a
+written a name e = ap (λ (n : List ℕ). fixed_text (codes "alias ") ++ n ++ fixed_text (codes " := ") ++ namepath_text a.target) e ∙ alias_parts a
+
+pub returns-in_err-write_namepath-clause-err : goal.returns-in_err-write_namepath-clause-err
+returns-in_err-write_namepath-clause-err g c =
+    let s = g.met.S.Sink in
+    at_err _ (subst (λ (t : List ℕ). g.S.Sink.failed c.args.sink.now t c.write_namepath.new.sink) (written c.args.alias.now c.lexeme.result.now (c.lexeme.ensures ∙ ap lexeme_of c.deref.ensures))
+    (s.failed_later _ _ _ _ _ (s.took_more _ _ _ _ _ (s.took_more _ _ _ _ _ c.in_ok-put_piece.ensures.ok c.in_ok-put.ensures.ok) c.in_ok-put_piece-2.ensures.ok) c.in_err-write_namepath.ensures.err))
+
+pub returns-clause-ok : goal.returns-clause-ok
+returns-clause-ok g c =
+    let s = g.met.S.Sink in
+    subst (λ (t : List ℕ). g.S.Sink.took c.args.sink.now t c.write_namepath.new.sink) (written c.args.alias.now c.lexeme.result.now (c.lexeme.ensures ∙ ap lexeme_of c.deref.ensures))
+    (s.took_more _ _ _ _ _ (s.took_more _ _ _ _ _ (s.took_more _ _ _ _ _ c.in_ok-put_piece.ensures.ok c.in_ok-put.ensures.ok) c.in_ok-put_piece-2.ensures.ok) c.in_ok-write_namepath.ensures.ok)

@@ -1,0 +1,28 @@
+use Rattle.std.proofs.Common.{◌≡◌, ℕ, List, ◌∷◌, ◌++◌, ap, ◌∙◌, subst}
+use Rattle.justfile_base.specs.Token.{lexeme_of}
+use Rattle.justfile_base.specs.declared.name.Name.{Name}
+use Rattle.justfile_word.specs.declared.number.Number.{Number}
+use Rattle.justfile_line.proofs.Loops.{at_err}
+use Rattle.justfile_item.specs.ItemText.{later_names_text, parameter_names_text}
+use Rattle.justfile_item.proofs.ItemTexts.{names_some}
+use Rattle.justfile_item.proofs.function_definition.write_names.Goals as goal
+
+-- the pieces that are put are the text of the names
+written : (parameters : List (Name × Number)) (first : Name × Number) (rest : List (Name × Number)) (name : List ℕ) → parameters ≡ first ∷ rest
+    → name ≡ lexeme_of first.0.token
+    → name ++ later_names_text rest ≡ parameter_names_text parameters
+written parameters first rest name e f = ap (λ (n : List ℕ). n ++ later_names_text rest) f ∙ names_some parameters first rest e
+
+pub returns-in_err-write_later_names-clause-err : goal.returns-in_err-write_later_names-clause-err
+returns-in_err-write_later_names-clause-err g c =
+    let s = g.met.S.Sink in
+    at_err _ (subst (λ (t : List ℕ). g.S.Sink.failed c.args.sink.now t c.write_later_names.new.sink)
+    (written c.args.parameters.now c.in-Some.first.now c.in-Some.rest.now c.lexeme.result.now c.in-Some.ensures.cases.0 (c.lexeme.ensures ∙ ap lexeme_of c.deref.ensures))
+    (s.failed_later _ _ _ _ _ c.in_ok-put.ensures.ok c.in_err-write_later_names.ensures.err))
+
+pub returns-clause-ok : goal.returns-clause-ok
+returns-clause-ok g c =
+    let s = g.met.S.Sink in
+    subst (λ (t : List ℕ). g.S.Sink.took c.args.sink.now t c.write_later_names.new.sink)
+    (written c.args.parameters.now c.in-Some.first.now c.in-Some.rest.now c.lexeme.result.now c.in-Some.ensures.cases.0 (c.lexeme.ensures ∙ ap lexeme_of c.deref.ensures))
+    (s.took_more _ _ _ _ _ c.in_ok-put.ensures.ok c.in_ok-write_later_names.ensures.ok)

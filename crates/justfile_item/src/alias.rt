@@ -1,0 +1,100 @@
+ghost use Rattle.std.specs.Prelude.{◌≡◌, ◌&&◌, OnOk, OnErr, IfOk};
+ghost use Rattle.std.specs.Cmp.{and_per, on_per};
+ghost use Rattle.justfile_attribute_set.specs.contracts.attribute_set.PairSetAttributeNamePartialEq.TheImpl as sets;
+ghost use Rattle.justfile_attribute_set.specs.contracts.attribute_set.PairSetAttributeNamePartialEq.TheImpl.Laws.{laws-law as set_per};
+ghost use Rattle.justfile_base.specs.contracts.name.NamePartialEq.TheImpl as names;
+ghost use Rattle.justfile_base.specs.contracts.name.NamePartialEq.TheImpl.Laws.{laws-law as name_per};
+ghost use Rattle.justfile_item.specs.Copies.{IsSameAlias};
+ghost use Rattle.justfile_item.specs.ItemText.{alias_text_of};
+
+use crate::attributes::are_equal;
+use justfile_attribute_set::AttributeSet;
+use justfile_base::{Keyed, Name, Namepath};
+use justfile_header::write_namepath;
+use justfile_tree::{Sink, put_piece};
+use std::alloc::{AllocError, Global};
+use std::fmt;
+
+/// Another name for what it leads to: in a file, for the recipe at a path.
+#[derive(Drop)]
+pub struct Alias<'src, T> {
+    /// The attributes before it.
+    pub attributes: AttributeSet<'src>,
+    /// The other name.
+    pub name: Name<'src>,
+    /// What it leads to.
+    pub target: T,
+}
+
+impl<'src> Alias<'src, Namepath<'src>> {
+    /// A copy of the alias.
+    pub fn clone(&self, alloc: Global) -> Result<Self, AllocError>
+        ensures { IfOk result (λ copy. IsSameAlias copy self.now) }
+    {
+        let target = self.target.clone(alloc)?;
+        match self.attributes.clone(alloc) {
+            Ok(attributes) => Ok(Alias {
+                attributes,
+                name: self.name,
+                target,
+            }),
+            Err(fault) => Err(fault),
+        }
+    }
+}
+
+/// The key of an alias is its name.
+impl<'src, T> Keyed<'src> for Alias<'src, T> {
+    ghost use Rattle.justfile_base.specs.Name.{name_text};
+
+    ghost key_text = { λ alias. name_text alias.name };
+
+    fn key(&self) -> &'src str {
+        self.name.token.lexeme()
+    }
+}
+
+/// Two aliases are equal if all their fields are.
+impl<'src, T: PartialEq> PartialEq for Alias<'src, T> {
+    ghost eq = { λ a b. sets.eq-value.it a.attributes b.attributes && (names.eq-value.it a.name b.name && T.eq a.target b.target) };
+
+    ghost laws = { and_per (on_per (λ b. b.attributes) set_per) (and_per (on_per (λ b. b.name) name_per) (on_per (λ b. b.target) T.laws)) };
+
+    fn eq(&self, other: &Self) -> bool {
+        are_equal(&self.attributes, &other.attributes)
+            && self.name == other.name
+            && self.target == other.target
+    }
+}
+
+/// Puts the text of an alias, without its attributes.
+pub(crate) fn write_alias<S: Sink>(
+    alias: &Alias<'_, Namepath<'_>>,
+    sink: &mut S,
+) -> Result<(), S::Fault>
+    ensures ok { OnOk result (S.took sink.old (alias_text_of alias.now) sink.new) }
+    ensures err { OnErr result (S.failed sink.old (alias_text_of alias.now) sink.new) }
+{
+    put_piece("alias ", sink)?;
+    sink.put(alias.name.lexeme())?;
+    put_piece(" := ", sink)?;
+    write_namepath(&alias.target, sink)?;
+    Ok(())
+}
+
+impl<'src> fmt::Display for Alias<'src, Namepath<'src>> {
+    ghost use Rattle.std.specs.Prelude.{Some};
+
+    ghost output = { λ alias. Some (alias_text_of alias) };
+
+    fn fmt<W: fmt::Write>(&self, f: &mut fmt::Formatter<W>) -> fmt::Result {
+        write_alias(self, f)
+    }
+}
+
+/// The name.
+impl<'src, T> fmt::Debug for Alias<'src, T> {
+    fn fmt<W: fmt::Write>(&self, f: &mut fmt::Formatter<W>) -> fmt::Result {
+        f.write_str(self.name.lexeme())
+    }
+}

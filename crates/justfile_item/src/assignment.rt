@@ -1,0 +1,69 @@
+ghost use Rattle.std.specs.Prelude.{OnOk, OnErr, IfOk};
+ghost use Rattle.justfile_model.specs.Printing.{fixed_text, if_true};
+ghost use Rattle.justfile_item.specs.Assignment.{binding_text};
+ghost use Rattle.justfile_item.specs.Copies.{IsSameAssignment};
+
+use crate::binding::Binding;
+use justfile_tree::{Expression, Sink, put_piece, write_expression};
+use std::alloc::{AllocError, Global};
+use std::fmt;
+
+/// An assignment: a name and the expression that it stands for.
+pub type Assignment<'src> = Binding<'src, Expression<'src>>;
+
+impl<'src> Binding<'src, Expression<'src>> {
+    /// A copy of the assignment.
+    pub fn clone(&self, alloc: Global) -> Result<Self, AllocError>
+        ensures { IfOk result (λ copy. IsSameAssignment copy self.now) }
+    {
+        let attributes = self.attributes.clone(alloc)?;
+        match self.value.clone(alloc) {
+            Ok(value) => Ok(Binding {
+                attributes,
+                eager: self.eager,
+                export: self.export,
+                file_depth: self.file_depth,
+                name: self.name,
+                number: self.number,
+                prelude: self.prelude,
+                private: self.private,
+                value,
+            }),
+            Err(fault) => Err(fault),
+        }
+    }
+}
+
+/// Puts a word and a space before a name, if it is said.
+fn write_word<S: Sink>(said: bool, word: &str, sink: &mut S) -> Result<(), S::Fault>
+    ensures ok { OnOk result (S.took sink.old (if_true said (fixed_text word.now)) sink.new) }
+    ensures err { OnErr result (S.failed sink.old (if_true said (fixed_text word.now)) sink.new) }
+{
+    if said { put_piece(word, sink) } else { Ok(()) }
+}
+
+/// Puts the text of an assignment, without its attributes.
+pub(crate) fn write_assignment<S: Sink>(
+    assignment: &Assignment<'_>,
+    sink: &mut S,
+) -> Result<(), S::Fault>
+    ensures ok { OnOk result (S.took sink.old (binding_text assignment.now) sink.new) }
+    ensures err { OnErr result (S.failed sink.old (binding_text assignment.now) sink.new) }
+{
+    write_word(assignment.eager, "eager ", sink)?;
+    write_word(assignment.export, "export ", sink)?;
+    sink.put(assignment.name.lexeme())?;
+    put_piece(" := ", sink)?;
+    write_expression(&assignment.value, sink)?;
+    Ok(())
+}
+
+impl<'src> fmt::Display for Binding<'src, Expression<'src>> {
+    ghost use Rattle.std.specs.Prelude.{Some};
+
+    ghost output = { λ assignment. Some (binding_text assignment) };
+
+    fn fmt<W: fmt::Write>(&self, f: &mut fmt::Formatter<W>) -> fmt::Result {
+        write_assignment(self, f)
+    }
+}

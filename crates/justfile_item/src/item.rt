@@ -1,0 +1,333 @@
+ghost use Rattle.std.specs.Prelude.{◌≡◌, OnOk, OnErr, IfOk, string_bytes};
+ghost use Rattle.std.specs.Option.{option_map};
+ghost use Rattle.justfile_word.specs.Indentation.{indentation_text};
+ghost use Rattle.justfile_model.specs.Printing.{if_some, item_text, printable_item};
+ghost use Rattle.justfile_item.specs.Attributes.{attributes_text};
+ghost use Rattle.justfile_item.specs.Copies.{IsSameItem};
+ghost use Rattle.justfile_item.specs.Indented.{item_indentation};
+ghost use Rattle.justfile_item.specs.Item.{item_shape};
+ghost use Rattle.justfile_item.specs.ItemText.{bare_text, item_attributes, item_doc_text};
+ghost use Rattle.justfile_item.specs.declared.item.Item.TheVariants as items;
+
+use crate::alias::{Alias, write_alias};
+use crate::assignment::{Assignment, write_assignment};
+use crate::attributes::write_attributes;
+use crate::doc::write_doc;
+use crate::function_definition::{FunctionDefinition, write_function};
+use crate::path::{copy_path, write_import, write_module, write_unexport};
+use crate::recipe::{UnresolvedRecipe, write_recipe};
+use crate::set::{Set, write_set};
+use justfile_attribute_set::AttributeSet;
+use justfile_base::{Indentation, Name, Namepath, StringLiteral};
+use justfile_header::copied::copy_text;
+use justfile_tree::Sink;
+use std::alloc::{AllocError, Global};
+
+/// What stands on the lines of a file.
+#[derive(Drop)]
+pub enum Item<'src> {
+    Alias(Alias<'src, Namepath<'src>>),
+    Assignment(Assignment<'src>),
+    /// A comment without the white space at its end.
+    Comment(&'src str),
+    Function(FunctionDefinition<'src>),
+    /// `import relative`, or `import? relative`, which asks for no file.
+    Import {
+        attributes: AttributeSet<'src>,
+        optional: bool,
+        relative: StringLiteral<'src>,
+    },
+    /// `mod name`, or `mod? name`, which asks for no file, with a path or without.
+    Module {
+        attributes: AttributeSet<'src>,
+        /// What the comment before it says of it, if there is one that does.
+        doc: Option<String>,
+        name: Name<'src>,
+        optional: bool,
+        relative: Option<StringLiteral<'src>>,
+    },
+    /// The end of a line, or a blank line.
+    Newline,
+    Recipe(UnresolvedRecipe<'src>),
+    Setting(Set<'src>),
+    /// A variable that recipes are not to have in their environment.
+    Unexport {
+        attributes: AttributeSet<'src>,
+        name: Name<'src>,
+    },
+}
+
+impl<'src> Item<'src> {
+    ghost use Rattle.justfile_model.specs.Reader.{has_body};
+    ghost use Rattle.justfile_item.specs.Item.{is_item_enabled, item_of};
+
+    /// A copy of the item.
+    pub fn clone(&self, alloc: Global) -> Result<Self, AllocError>
+        ensures { IfOk result (λ copy. IsSameItem copy self.now) }
+    {
+        match self {
+            Item::Alias(alias) => match alias.clone(alloc) {
+                Ok(alias) => Ok(Item::Alias(alias)),
+                Err(fault) => Err(fault),
+            },
+            Item::Assignment(assignment) => match assignment.clone(alloc) {
+                Ok(assignment) => Ok(Item::Assignment(assignment)),
+                Err(fault) => Err(fault),
+            },
+            Item::Comment(text) => Ok(Item::Comment(text)),
+            Item::Function(function) => match function.clone(alloc) {
+                Ok(function) => Ok(Item::Function(function)),
+                Err(fault) => Err(fault),
+            },
+            Item::Import {
+                attributes,
+                optional,
+                relative,
+            } => copy_import(attributes, alloc, *optional, relative),
+            Item::Module {
+                attributes,
+                doc,
+                name,
+                optional,
+                relative,
+            } => copy_module(attributes, alloc, doc, name, *optional, relative),
+            Item::Newline => Ok(Item::Newline),
+            Item::Recipe(recipe) => match recipe.clone(alloc) {
+                Ok(recipe) => Ok(Item::Recipe(recipe)),
+                Err(fault) => Err(fault),
+            },
+            Item::Setting(set) => match set.clone(alloc) {
+                Ok(set) => Ok(Item::Setting(set)),
+                Err(fault) => Err(fault),
+            },
+            Item::Unexport { attributes, name } => copy_unexport(attributes, alloc, name),
+        }
+    }
+
+    /// Whether the item is a recipe with a body.
+    pub fn has_body(&self) -> bool
+        ensures { result ≡ has_body (item_of self.now) }
+    {
+        match self {
+            Item::Recipe(recipe) => !recipe.body.is_empty(),
+            Item::Alias(_)
+            | Item::Assignment(_)
+            | Item::Comment(_)
+            | Item::Function(_)
+            | Item::Import { .. }
+            | Item::Module { .. }
+            | Item::Newline
+            | Item::Setting(_)
+            | Item::Unexport { .. } => false,
+        }
+    }
+
+    /// Whether the item is there on this system, as its attributes say.
+    pub fn is_enabled(&self) -> bool
+        ensures { result ≡ is_item_enabled self.now }
+    {
+        match self {
+            Item::Alias(alias) => alias.attributes.is_enabled(),
+            Item::Assignment(assignment) => assignment.attributes.is_enabled(),
+            Item::Comment(_) | Item::Newline => true,
+            Item::Function(function) => function.attributes.is_enabled(),
+            Item::Import { attributes, .. }
+            | Item::Module { attributes, .. }
+            | Item::Unexport { attributes, .. } => attributes.is_enabled(),
+            Item::Recipe(recipe) => recipe.attributes.is_enabled(),
+            Item::Setting(set) => set.attributes.is_enabled(),
+        }
+    }
+
+    /// The text of the item, at an indentation of the lines of bodies.
+    pub fn print(&self, alloc: Global, indentation: Indentation) -> Result<String, AllocError>
+        ensures { IfOk result (λ printed. string_bytes printed ≡ item_text (item_shape self.now) (indentation_text indentation)) }
+    {
+        let mut printed = String::new(alloc);
+        write_item(self, indentation, &mut printed)?;
+        Ok(printed)
+    }
+}
+
+/// Whether the printed item reads back: no line of its body ends in a carriage return.
+pub fn is_printable(item: &Item<'_>) -> bool
+    ensures { result ≡ printable_item (item_shape item.now) }
+{
+    match item {
+        Item::Recipe(recipe) => recipe.is_printable(),
+        Item::Alias(_)
+        | Item::Assignment(_)
+        | Item::Comment(_)
+        | Item::Function(_)
+        | Item::Import { .. }
+        | Item::Module { .. }
+        | Item::Newline
+        | Item::Setting(_)
+        | Item::Unexport { .. } => true,
+    }
+}
+
+/// The indentation that the item sets, if it is that setting and is there on this system.
+pub fn item_indentation(item: &Item<'_>) -> Option<Indentation>
+    ensures { result ≡ option_map (λ p. p.1) (item_indentation item.now) }
+{
+    match item {
+        Item::Setting(set) => set.indentation(),
+        Item::Alias(_)
+        | Item::Assignment(_)
+        | Item::Comment(_)
+        | Item::Function(_)
+        | Item::Import { .. }
+        | Item::Module { .. }
+        | Item::Newline
+        | Item::Recipe(_)
+        | Item::Unexport { .. } => None,
+    }
+}
+
+/// A copy of an import.
+fn copy_import<'src>(
+    attributes: &AttributeSet<'src>,
+    alloc: Global,
+    optional: bool,
+    relative: &StringLiteral<'src>,
+) -> Result<Item<'src>, AllocError>
+    ensures { IfOk result (λ copy. IsSameItem copy (items.Import attributes.now optional relative.now)) }
+{
+    let attributes = attributes.clone(alloc)?;
+    Ok(Item::Import {
+        attributes,
+        optional,
+        relative: relative.clone(alloc)?,
+    })
+}
+
+/// A copy of a module.
+fn copy_module<'src>(
+    attributes: &AttributeSet<'src>,
+    alloc: Global,
+    doc: &Option<String>,
+    name: &Name<'src>,
+    optional: bool,
+    relative: &Option<StringLiteral<'src>>,
+) -> Result<Item<'src>, AllocError>
+    ensures { IfOk result (λ copy. IsSameItem copy (items.Module attributes.now doc.now name.now optional relative.now)) }
+{
+    let doc = copy_text(alloc, doc)?;
+    let relative = copy_path(alloc, relative)?;
+    match attributes.clone(alloc) {
+        Ok(attributes) => Ok(Item::Module {
+            attributes,
+            doc,
+            name: *name,
+            optional,
+            relative,
+        }),
+        Err(fault) => Err(fault),
+    }
+}
+
+/// A copy of a variable that is not exported.
+fn copy_unexport<'src>(
+    attributes: &AttributeSet<'src>,
+    alloc: Global,
+    name: &Name<'src>,
+) -> Result<Item<'src>, AllocError>
+    ensures { IfOk result (λ copy. IsSameItem copy (items.Unexport attributes.now name.now)) }
+{
+    match attributes.clone(alloc) {
+        Ok(attributes) => Ok(Item::Unexport {
+            attributes,
+            name: *name,
+        }),
+        Err(fault) => Err(fault),
+    }
+}
+
+/// Puts the doc of an item that has one, on a line of its own, where no attribute says it.
+fn write_item_doc<S: Sink>(item: &Item<'_>, sink: &mut S) -> Result<(), S::Fault>
+    ensures ok { OnOk result (S.took sink.old (item_doc_text item.now) sink.new) }
+    ensures err { OnErr result (S.failed sink.old (item_doc_text item.now) sink.new) }
+{
+    match item {
+        Item::Module {
+            attributes,
+            doc,
+            ..
+        } => write_doc(attributes, doc, sink),
+        Item::Recipe(recipe) => write_doc(&recipe.attributes, &recipe.doc, sink),
+        Item::Alias(_)
+        | Item::Assignment(_)
+        | Item::Comment(_)
+        | Item::Function(_)
+        | Item::Import { .. }
+        | Item::Newline
+        | Item::Setting(_)
+        | Item::Unexport { .. } => Ok(()),
+    }
+}
+
+/// Puts the attributes of an item, each on a line of its own.
+fn write_item_attributes<S: Sink>(item: &Item<'_>, sink: &mut S) -> Result<(), S::Fault>
+    ensures ok { OnOk result (S.took sink.old (if_some attributes_text (item_attributes item.now)) sink.new) }
+    ensures err { OnErr result (S.failed sink.old (if_some attributes_text (item_attributes item.now)) sink.new) }
+{
+    match item {
+        Item::Alias(alias) => write_attributes(&alias.attributes, sink),
+        Item::Assignment(assignment) => write_attributes(&assignment.attributes, sink),
+        Item::Comment(_) | Item::Newline => Ok(()),
+        Item::Function(function) => write_attributes(&function.attributes, sink),
+        Item::Import { attributes, .. }
+        | Item::Module { attributes, .. }
+        | Item::Unexport { attributes, .. } => write_attributes(attributes, sink),
+        Item::Recipe(recipe) => write_attributes(&recipe.attributes, sink),
+        Item::Setting(set) => write_attributes(&set.attributes, sink),
+    }
+}
+
+/// Puts the text of an item, without its doc and its attributes.
+fn write_bare<S: Sink>(
+    item: &Item<'_>,
+    indentation: Indentation,
+    sink: &mut S,
+) -> Result<(), S::Fault>
+    ensures ok { OnOk result (S.took sink.old (bare_text item.now (indentation_text indentation)) sink.new) }
+    ensures err { OnErr result (S.failed sink.old (bare_text item.now (indentation_text indentation)) sink.new) }
+{
+    match item {
+        Item::Alias(alias) => write_alias(alias, sink),
+        Item::Assignment(assignment) => write_assignment(assignment, sink),
+        Item::Comment(text) => sink.put(text),
+        Item::Function(function) => write_function(function, sink),
+        Item::Import {
+            optional,
+            relative,
+            ..
+        } => write_import(*optional, relative, sink),
+        Item::Module {
+            name,
+            optional,
+            relative,
+            ..
+        } => write_module(name, *optional, relative, sink),
+        Item::Newline => Ok(()),
+        Item::Recipe(recipe) => write_recipe(recipe, indentation, sink),
+        Item::Setting(set) => write_set(set, sink),
+        Item::Unexport { name, .. } => write_unexport(name, sink),
+    }
+}
+
+/// Puts the text of an item, after a line for its doc and for each of its attributes.
+pub fn write_item<S: Sink>(
+    item: &Item<'_>,
+    indentation: Indentation,
+    sink: &mut S,
+) -> Result<(), S::Fault>
+    ensures ok { OnOk result (S.took sink.old (item_text (item_shape item.now) (indentation_text indentation)) sink.new) }
+    ensures err { OnErr result (S.failed sink.old (item_text (item_shape item.now) (indentation_text indentation)) sink.new) }
+{
+    write_item_doc(item, sink)?;
+    write_item_attributes(item, sink)?;
+    write_bare(item, indentation, sink)?;
+    Ok(())
+}

@@ -1,0 +1,22 @@
+//! What stands on the lines of files, and how it prints.
+#![tactic(auto)]
+
+pub mod alias;
+pub mod assignment;
+mod attributes;
+pub mod binding;
+mod copied;
+mod doc;
+pub mod function_definition;
+pub mod item;
+mod path;
+pub mod recipe;
+pub mod set;
+
+pub use crate::alias::Alias;
+pub use crate::assignment::Assignment;
+pub use crate::binding::Binding;
+pub use crate::function_definition::FunctionDefinition;
+pub use crate::item::{Item, is_printable, item_indentation, write_item};
+pub use crate::recipe::UnresolvedRecipe;
+pub use crate::set::Set;

@@ -1,0 +1,4 @@
+pub mod Body
+pub mod Copies
+pub mod Line
+pub mod Sigil

@@ -1,0 +1,109 @@
+ghost use Rattle.std.specs.Prelude.{OnOk, OnErr, ◌++◌, codes};
+ghost use Rattle.justfile_model.specs.Printing.{fixed_text, fragment_text};
+ghost use Rattle.justfile_line.specs.Body.{fragment_shape};
+
+use justfile_base::Token;
+use justfile_base::interpolation::{INTERPOLATION_END, INTERPOLATION_START};
+use justfile_header::copied::Copied;
+use justfile_tree::{Expression, Sink, write_expression};
+use std::alloc::{AllocError, Global};
+use std::fmt;
+
+/// A part of a body line.
+#[derive(Drop, PartialEq)]
+pub enum Fragment<'src> {
+    /// An expression between `{{` and `}}`.
+    Interpolation { expression: Expression<'src> },
+    /// Text that stands for itself.
+    Text { token: Token<'src> },
+}
+
+impl<'src> Fragment<'src> {
+    ghost use Rattle.std.specs.Prelude.{◌≡◌, IfOk};
+    ghost use Rattle.std.specs.Option.{option_copied};
+    ghost use Rattle.justfile_line.specs.Copies.{IsSameFragment};
+    ghost use Rattle.justfile_line.specs.Line.{text_of_fragment};
+
+    /// A copy of the fragment.
+    pub fn clone(&self, alloc: Global) -> Result<Self, AllocError>
+        ensures { IfOk result (λ copy. IsSameFragment copy self.now) }
+    {
+        match self {
+            Fragment::Interpolation { expression } => {
+                Ok(Fragment::Interpolation {
+                    expression: expression.clone(alloc)?,
+                })
+            }
+            Fragment::Text { token } => Ok(Fragment::Text { token: *token }),
+        }
+    }
+
+    /// The text of a fragment that is one.
+    pub(crate) fn text(&self) -> Option<&'src str>
+        ensures { option_copied result ≡ text_of_fragment self.now }
+    {
+        match self {
+            Fragment::Interpolation { .. } => None,
+            Fragment::Text { token } => Some(token.lexeme()),
+        }
+    }
+}
+
+impl Copied for Fragment<'_> {
+    ghost use Rattle.justfile_line.specs.Copies.{IsSameFragment};
+
+    ghost is_copy = { IsSameFragment };
+
+    fn copied(&self, alloc: Global) -> Result<Self, AllocError> {
+        self.clone(alloc)
+    }
+}
+
+/// Puts two pieces of text, one after the other.
+fn put_pair<S: Sink>(first: &str, second: &str, sink: &mut S) -> Result<(), S::Fault>
+    ensures ok { OnOk result (S.took sink.old (first.now ++ second.now) sink.new) }
+    ensures err { OnErr result (S.failed sink.old (first.now ++ second.now) sink.new) }
+{
+    sink.put(first)?;
+    sink.put(second)
+}
+
+/// Puts the braces before an expression, and a space.
+#[tactic(auto, unfolding(justfile_model::specs::Printing::fixed_text))]
+fn write_interpolation_start<S: Sink>(sink: &mut S) -> Result<(), S::Fault>
+    ensures ok { OnOk result (S.took sink.old (fixed_text (codes "{{ ")) sink.new) }
+    ensures err { OnErr result (S.failed sink.old (fixed_text (codes "{{ ")) sink.new) }
+{
+    put_pair(INTERPOLATION_START, " ", sink)
+}
+
+/// Puts a space, and the braces after an expression.
+#[tactic(auto, unfolding(justfile_model::specs::Printing::fixed_text))]
+fn write_interpolation_end<S: Sink>(sink: &mut S) -> Result<(), S::Fault>
+    ensures ok { OnOk result (S.took sink.old (fixed_text (codes " }}")) sink.new) }
+    ensures err { OnErr result (S.failed sink.old (fixed_text (codes " }}")) sink.new) }
+{
+    put_pair(" ", INTERPOLATION_END, sink)
+}
+
+/// Puts the text of a fragment.
+pub(crate) fn write_fragment<S: Sink>(fragment: &Fragment<'_>, sink: &mut S) -> Result<(), S::Fault>
+    ensures ok { OnOk result (S.took sink.old (fragment_text (fragment_shape fragment.now)) sink.new) }
+    ensures err { OnErr result (S.failed sink.old (fragment_text (fragment_shape fragment.now)) sink.new) }
+{
+    match fragment {
+        Fragment::Interpolation { expression } => {
+            write_interpolation_start(sink)?;
+            write_expression(expression, sink)?;
+            write_interpolation_end(sink)
+        }
+        Fragment::Text { token } => sink.put(token.lexeme()),
+    }
+}
+
+/// The text, as it is printed.
+impl fmt::Debug for Fragment<'_> {
+    fn fmt<W: fmt::Write>(&self, f: &mut fmt::Formatter<W>) -> fmt::Result {
+        write_fragment(self, f)
+    }
+}

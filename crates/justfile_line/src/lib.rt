@@ -1,0 +1,10 @@
+//! Lines of the bodies of recipes, and how they print.
+#![tactic(auto)]
+
+pub mod fragment;
+pub mod line;
+pub mod sigil;
+
+pub use crate::fragment::Fragment;
+pub use crate::line::{Line, is_printable, write_line};
+pub use crate::sigil::Sigil;

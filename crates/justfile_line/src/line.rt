@@ -1,0 +1,182 @@
+ghost use Rattle.std.specs.Prelude.{◌≡◌, ◌↔◌, OnOk, OnErr, IfOk, IsTrue};
+ghost use Rattle.std.specs.List.{Contains};
+ghost use Rattle.std.specs.Option.{option_copied};
+ghost use Rattle.justfile_word.specs.Indentation.{indentation_text};
+ghost use Rattle.justfile_model.specs.Printing.{ends_in_return, line_text, printable_fragments};
+ghost use Rattle.justfile_line.specs.Copies.{IsSameLine};
+ghost use Rattle.justfile_line.specs.Body.{fragment_shapes, fragments_text, line_shape};
+ghost use Rattle.justfile_line.specs.Line.{IsComment, IsContinuation, IsEmpty, IsShebang, HasSigil, first_text, last_text};
+ghost use Rattle.justfile_line.specs.Sigil.{IsSigilOf};
+
+use crate::fragment::{Fragment, write_fragment};
+use crate::sigil::Sigil;
+use justfile_base::Indentation;
+use justfile_header::copied::{Copied, all_copied};
+use justfile_tree::Sink;
+use std::alloc::{AllocError, Global};
+use std::collections::BTreeSet;
+use std::fmt;
+
+/// A line of a recipe's body.
+#[derive(Drop, PartialEq)]
+pub struct Line<'src> {
+    /// Its texts and its expressions between braces, in order.
+    pub fragments: Vec<Fragment<'src>>,
+    /// The line of the source that it stands on, from 0.
+    pub number: usize,
+}
+
+impl<'src> Line<'src> {
+    /// A copy of the line.
+    pub fn clone(&self, alloc: Global) -> Result<Self, AllocError>
+        ensures { IfOk result (λ copy. IsSameLine copy self.now) }
+    {
+        Ok(Line {
+            fragments: all_copied(alloc, &self.fragments)?,
+            number: self.number,
+        })
+    }
+
+    /// Whether the line begins with a text that begins `#`.
+    pub fn is_comment(&self) -> bool
+        ensures { IsTrue result ↔ IsComment self.now }
+    {
+        self.first().is_some_and(|text| text.starts_with('#'))
+    }
+
+    /// Whether the line ends with a text that ends in a backslash.
+    pub fn is_continuation(&self) -> bool
+        ensures { IsTrue result ↔ IsContinuation self.now }
+    {
+        self.last().is_some_and(|text| text.ends_with('\\'))
+    }
+
+    /// Whether nothing is on the line.
+    pub fn is_empty(&self) -> bool
+        ensures { IsTrue result ↔ IsEmpty self.now }
+    {
+        self.fragments.is_empty()
+    }
+
+    /// Whether the line begins with a text that begins `#!`.
+    pub fn is_shebang(&self) -> bool
+        ensures { IsTrue result ↔ IsShebang self.now }
+    {
+        self.first().is_some_and(|text| text.starts_with("#!"))
+    }
+
+    /// The sigils at the front of the line, each once. `?` is one only with guards.
+    pub fn sigils(&self, alloc: Global, guards: bool) -> Result<BTreeSet<Sigil>, AllocError>
+        ensures { IfOk result (λ sigils. (s : Sigil) → Contains sigils.keys s ↔ HasSigil guards self.now s) }
+    {
+        match self.first() {
+            Some(text) => front_sigils(alloc, text.as_bytes(), guards),
+            None => Ok(BTreeSet::new(alloc)),
+        }
+    }
+
+    /// The text that the line begins with, if it begins with one.
+    fn first(&self) -> Option<&'src str>
+        ensures { option_copied result ≡ first_text self.now }
+    {
+        self.fragments.first()?.text()
+    }
+
+    /// The text that the line ends with, if it ends with one.
+    fn last(&self) -> Option<&'src str>
+        ensures { option_copied result ≡ last_text self.now }
+    {
+        self.fragments.last()?.text()
+    }
+}
+
+impl Copied for Line<'_> {
+    ghost is_copy = { IsSameLine };
+
+    fn copied(&self, alloc: Global) -> Result<Self, AllocError> {
+        self.clone(alloc)
+    }
+}
+
+/// The sigils at the front of a text, up to another byte or one that stood before.
+fn front_sigils(alloc: Global, text: &[u8], guards: bool) -> Result<BTreeSet<Sigil>, AllocError>
+    ensures { IfOk result (λ sigils. (s : Sigil) → Contains sigils.keys s ↔ IsSigilOf guards text.now s) }
+{
+    let mut sigils = BTreeSet::new(alloc);
+    for &byte in text {
+        let Some(sigil) = Sigil::of_byte(byte, guards) else {
+            break;
+        };
+        if !sigils.insert(sigil)? {
+            break;
+        }
+    }
+    Ok(sigils)
+}
+
+/// Whether the printed line reads back: its last fragment is no text that ends in a carriage
+/// return.
+#[tactic(auto, using(crate::proofs::Bodies::printable_last))]
+pub fn is_printable(line: &Line<'_>) -> bool
+    ensures { result ≡ printable_fragments (fragment_shapes line.now.fragments.items) }
+{
+    match line.last() {
+        Some(text) => !ends_in_return(text),
+        None => true,
+    }
+}
+
+/// Whether a text ends in a carriage return.
+#[tactic(auto, using(crate::proofs::Bodies::return_last))]
+fn ends_in_return(text: &str) -> bool
+    ensures { result ≡ ends_in_return text.now }
+{
+    text.ends_with('\r')
+}
+
+/// Puts an indentation.
+fn write_indentation<S: Sink>(indentation: Indentation, sink: &mut S) -> Result<(), S::Fault>
+    ensures ok { OnOk result (S.took sink.old (indentation_text indentation) sink.new) }
+    ensures err { OnErr result (S.failed sink.old (indentation_text indentation) sink.new) }
+{
+    let blank = indentation.blank();
+    for _i in 0..indentation.count() {
+        sink.put(blank)?;
+    }
+    Ok(())
+}
+
+/// Puts the text of fragments.
+fn write_fragments<S: Sink>(fragments: &[Fragment<'_>], sink: &mut S) -> Result<(), S::Fault>
+    ensures ok { OnOk result (S.took sink.old (fragments_text fragments.now) sink.new) }
+    ensures err { OnErr result (S.failed sink.old (fragments_text fragments.now) sink.new) }
+{
+    for fragment in fragments {
+        write_fragment(fragment, sink)?;
+    }
+    Ok(())
+}
+
+/// Puts the text of a line.
+pub fn write_line<S: Sink>(
+    line: &Line<'_>,
+    indentation: Indentation,
+    sink: &mut S,
+) -> Result<(), S::Fault>
+    ensures ok { OnOk result (S.took sink.old (line_text (indentation_text indentation) (line_shape line.now)) sink.new) }
+    ensures err { OnErr result (S.failed sink.old (line_text (indentation_text indentation) (line_shape line.now)) sink.new) }
+{
+    if line.is_empty() {
+        return Ok(());
+    }
+    write_indentation(indentation, sink)?;
+    write_fragments(&line.fragments, sink)?;
+    Ok(())
+}
+
+/// The text, without an indentation.
+impl fmt::Debug for Line<'_> {
+    fn fmt<W: fmt::Write>(&self, f: &mut fmt::Formatter<W>) -> fmt::Result {
+        write_fragments(&self.fragments, f)
+    }
+}
