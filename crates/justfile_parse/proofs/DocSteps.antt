@@ -30,6 +30,7 @@ use Rattle.justfile_parse.specs.Docs.{LeafItem, comment_of, doc_before, doc_firs
 use Rattle.justfile_parse.proofs.TakenDocs.{from_first, with_items}
 use Rattle.justfile_parse_item.specs.Tree.{item_tree}
 use Rattle.justfile_parse_item.specs.Whole.{AreWhole, IsWholeItem}
+use Rattle.justfile_parse_item.proofs.Wholes.{pushed_whole, then_whole}
 use Rattle.justfile_tree.specs.LeafTree.{Leaf}
 
 -- ---- an item among others
@@ -173,3 +174,9 @@ pub all_taken : (all left done : List Item) → length left ≡ 0 → with_items
     → map item_tree done ≡ documented says_doc Nothing (map item_tree all)
 all_taken all [] done none so_far = so_far ∙ from_first (map item_tree all)
 all_taken all (i ∷ left) done none so_far = absurd cc
+
+-- the items with one more are whole, if it is
+pub whole_after : {E : Type 0} (done : Result (Unit {0}) E) (old new : List Item) (item : Item) → OnOk done (new ≡ old ++ item ∷ []) → AreWhole old → IsWholeItem item
+    → OnOk done (AreWhole new)
+whole_after (Ok _) old new item e h k = then_whole old new h (pushed_whole old new item e k)
+whole_after (Err _) old new item e h k = tt

@@ -16,6 +16,7 @@ ghost use Rattle.justfile_parse_item.specs.Whole.{AreWhole, IsWholeItem};
 use justfile_attribute_set::AttributeSet;
 use justfile_base::AttributeKind;
 use justfile_item::Item;
+use justfile_parse_item::push_item;
 use std::alloc::{AllocError, Global};
 
 /// The items with their docs, in place of comments.
@@ -39,6 +40,7 @@ pub(crate) fn take_docs<'src>(
 }
 
 /// Adds an item with its doc, in place of the comment before it.
+#[tactic(auto, using(crate::proofs::DocSteps::whole_after))]
 fn push_documented<'src>(
     alloc: Global,
     items: &mut Vec<Item<'src>>,
@@ -90,17 +92,6 @@ fn set_doc(item: &mut Item<'_>, text: String)
         Item::Recipe(recipe) => recipe.doc = Some(text),
         _ => {}
     }
-}
-
-/// Adds an item as it is.
-fn push_item<'src>(items: &mut Vec<Item<'src>>, item: Item<'src>) -> Result<(), AllocError>
-    requires items { AreWhole items.old.items }
-    requires item { IsWholeItem item }
-    ensures trees { OnOk result (map item_tree items.new.items ≡ map item_tree items.old.items ++ item_tree item.entry ∷ []) }
-    ensures whole { OnOk result (AreWhole items.new.items) }
-{
-    items.push(item)?;
-    Ok(())
 }
 
 /// Whether the item takes a doc, and neither an attribute nor a comment says it yet.

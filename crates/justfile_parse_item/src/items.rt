@@ -9,6 +9,7 @@ ghost use Rattle.justfile_parse_header.specs.Counting.{ReadsCounted, counters_of
 ghost use Rattle.justfile_model.specs.Reader.{has_body};
 ghost use Rattle.justfile_model.specs.Reading.{prepend};
 ghost use Rattle.justfile_model.specs.PartReader.{after_numbered};
+ghost use Rattle.justfile_item.specs.declared.item.Item.TheVariants as variants;
 ghost use Rattle.justfile_parse_item.specs.ItemTable as reader;
 ghost use Rattle.justfile_parse_item.specs.MethodResults.{IsMoved};
 ghost use Rattle.justfile_parse_expression.specs.MethodResults.{Reads, UnlessMemory};
@@ -22,6 +23,7 @@ use justfile_base::{Expander, Numerator, Token, TokenKind};
 use justfile_item::Item;
 use justfile_parse_attribute::Halt;
 use justfile_parse_expression::{ExpressionParser, Refusal, Stop};
+use std::alloc::AllocError;
 
 /// The items up to the end of the file, where no expression is open.
 ///
@@ -78,7 +80,7 @@ fn parse_line<'src, X: Expander>(
     ensures moved { IsMoved numerator.old numerator.new (identifiers (map significant_of (state_of X.answer parser.old).left)) }
 {
     if let Some(_newline) = parser.accept(TokenKind::Eol) {
-        push_item(items, Item::Newline)?;
+        push_newline(items)?;
         return Ok(());
     }
     let item = parse_item(parser, numerator)?;
@@ -119,7 +121,7 @@ fn parse_item_end<'src, X: Expander>(
     ensures progress { OnOk result (left parser.new ≤ left parser.old) }
 {
     if has_body {
-        push_item(items, Item::Newline)?;
+        push_newline(items)?;
         return Ok(());
     }
     parse_after_item(parser, items)
@@ -160,7 +162,7 @@ fn parse_line_end<'src, X: Expander>(
         return Ok(());
     }
     parser.expect(TokenKind::Eol)?;
-    push_item(items, Item::Newline)?;
+    push_newline(items)?;
     Ok(())
 }
 
@@ -208,11 +210,23 @@ fn is_bodied(item: &Item<'_>) -> bool
     item.has_body()
 }
 
-fn push_item<'src>(items: &mut Vec<Item<'src>>, item: Item<'src>) -> Result<(), Stop<'src>>
-    ensures trees { UnlessMemory result
-        (λ done. map item_tree items.new.items ≡ map item_tree items.old.items ++ item_tree item.entry ∷ []) }
+/// Adds an item.
+///
+/// # Errors
+///
+/// `AllocError` if the program is out of memory.
+pub fn push_item<'src>(items: &mut Vec<Item<'src>>, item: Item<'src>) -> Result<(), AllocError>
+    ensures trees { OnOk result (map item_tree items.new.items ≡ map item_tree items.old.items ++ item_tree item.entry ∷ []) }
     ensures pushed { OnOk result (items.new.items ≡ items.old.items ++ item.entry ∷ []) }
 {
     items.push(item)?;
     Ok(())
+}
+
+/// Adds the end of a line.
+fn push_newline(items: &mut Vec<Item<'_>>) -> Result<(), AllocError>
+    ensures trees { OnOk result (map item_tree items.new.items ≡ map item_tree items.old.items ++ tree.Newline ∷ []) }
+    ensures pushed { OnOk result (items.new.items ≡ items.old.items ++ variants.Newline ∷ []) }
+{
+    push_item(items, Item::Newline)
 }
