@@ -64,8 +64,7 @@ impl<'src> Lexer<'src> {
         let mut run = WhiteRun::before(src);
         'tokens: loop {
             if let Some(start) = lexer.unclosed_interpolation() {
-                let kind = CompileErrorKind::UnterminatedInterpolation;
-                return Err(Fault::Compile(CompileError::new(start, kind)));
+                return Err(lexer.unterminated(start));
             }
             match layout::scan_token(&lexer.mode, &mut run, lexer.rest()) {
                 Ok((kind, length)) => {
@@ -74,7 +73,7 @@ impl<'src> Lexer<'src> {
                         return Ok(lexer.tokens);
                     }
                 }
-                Err(refusal) => return Err(Fault::Compile(lexer.make_error(alloc, refusal)?)),
+                Err(refusal) => return Err(lexer.make_fault(alloc, refusal)),
             }
         }
     }
@@ -131,6 +130,16 @@ impl<'src> Lexer<'src> {
         }
     }
 
+    /// The fault of a text that ends in the interpolation that begins with this token.
+    fn unterminated(&self, start: Token<'src>) -> Fault<'src>
+        requires lexing { IsLexing self.now }
+        requires at_end { length (drop self.now.offset self.now.src.now) ≡ 0 }
+        requires open { self.now.mode.interpolation ≡ Some start }
+        ensures { IsLexerFault self.now.path.now self.now.src.now result }
+    {
+        Fault::Compile(CompileError::new(start, CompileErrorKind::UnterminatedInterpolation))
+    }
+
     /// A token of this kind and length at the place.
     fn make_token(&self, kind: TokenKind, length: usize) -> Token<'src>
         requires { IsWithin self.now.src.now self.now.offset length }
@@ -184,6 +193,19 @@ impl<'src> Lexer<'src> {
         let token = self.make_error_token(refusal.skip, refusal.length);
         let kind = refusal.fault.into_kind(alloc)?;
         Ok(CompileError::new(token, kind))
+    }
+
+    /// The fault that a refusal is here.
+    fn make_fault(&self, alloc: Global, refusal: Refusal<'src>) -> Fault<'src>
+        requires lexing { IsLexing self.now }
+        requires utf8 { IsUtf8 self.now.src.now }
+        requires refused { next (mode_of self.now.mode) (drop self.now.offset self.now.src.now) ≡ Err (scan_refusal refusal) }
+        ensures { IsLexerFault self.now.path.now self.now.src.now result }
+    {
+        match self.make_error(alloc, refusal) {
+            Ok(error) => Fault::Compile(error),
+            Err(_) => Fault::Memory,
+        }
     }
 
     /// Adds the next token.

@@ -2,31 +2,24 @@ use Rattle.std.proofs.Common.{◌≢◌, sym, ap, subst, ◌∙◌, rules, drop,
 use Rattle.std.specs.Str.{IsUtf8}
 use Rattle.std.proofs.lemmas.Str.{IsCharBoundary-from_rest}
 use Rattle.justfile_word.specs.declared.token_kind.TokenKind.TheVariants.{Eof}
-use Rattle.justfile_model.specs.Tok.{tok_of}
-use Rattle.justfile_model.specs.LexicalFault.{UnterminatedInterpolation, lexical_fault_of}
 use Rattle.justfile_model.specs.Next.{next}
-use Rattle.justfile_model.specs.Lexed.{IsFault}
 use Rattle.justfile_model.proofs.NextLaws.{token_cut}
 use Rattle.justfile_lex.specs.Modes.{mode_of}
-use Rattle.justfile_model.specs.Answers.{IsFrom}
+use Rattle.justfile_model.specs.Answers.{IsLexerFault}
 use Rattle.justfile_lex.specs.WhiteRun.{IsRunOf}
 use Rattle.justfile_lex.proofs.WhiteRunLemmas.{run_on}
-use Rattle.justfile_lex.proofs.LexerLemmas.{goes_down, lexes_on, unclosed_fault, from_open}
+use Rattle.justfile_lex.proofs.LexerLemmas.{goes_down, lexes_on}
 use Rattle.justfile_lex.proofs.lexer.Lexer.lex.Goals as goal
 
 pub returns-in-Some-clause-fault : goal.returns-in-Some-clause-fault
 returns-in-Some-clause-fault c =
-    let l = c.tokens.lexer in
-    let t = c.in-Some.start in
-    let lexing = c.tokens.invariant.lexing in
-    let fault = unclosed_fault l t lexing c.in-Some.ensures.0 c.in-Some.ensures.1 in
-    let from = from_open l t lexing c.in-Some.ensures.1 in
-    record {
-      fault = UnterminatedInterpolation;
-      kind_is = ap lexical_fault_of c.new.ensures.kind;
-      is_fault = subst (λ u. IsFault c.args.src.now UnterminatedInterpolation (tok_of u)) (sym c.new.ensures.token) (subst (λ s. IsFault s UnterminatedInterpolation (tok_of t)) c.tokens.invariant.src_is fault);
-      from = subst (IsFrom c.args.path.now c.args.src.now) (sym c.new.ensures.token) (subst (λ p. IsFrom p c.args.src.now t) c.tokens.invariant.path_is (subst (λ s. IsFrom l.path.now s t) c.tokens.invariant.src_is from));
-    }
+    subst (λ p. IsLexerFault p c.args.src.now c.unterminated.result) c.tokens.invariant.path_is
+    (subst (λ s. IsLexerFault c.tokens.lexer.path.now s c.unterminated.result) c.tokens.invariant.src_is c.unterminated.ensures)
+
+pub returns-in-Err-clause-fault : goal.returns-in-Err-clause-fault
+returns-in-Err-clause-fault c =
+    subst (λ p. IsLexerFault p c.args.src.now c.make_fault.result) c.tokens.invariant.path_is
+    (subst (λ s. IsLexerFault c.tokens.lexer.path.now s c.make_fault.result) c.tokens.invariant.src_is c.make_fault.ensures)
 
 pub push-requires-clause-cut : goal.push-requires-clause-cut
 push-requires-clause-cut c =

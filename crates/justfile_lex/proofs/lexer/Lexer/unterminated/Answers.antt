@@ -1,0 +1,18 @@
+use Rattle.std.proofs.Common.{sym, ap, subst}
+use Rattle.justfile_model.specs.Tok.{tok_of}
+use Rattle.justfile_model.specs.Answers.{IsFrom}
+use Rattle.justfile_model.specs.LexicalFault.{UnterminatedInterpolation, lexical_fault_of}
+use Rattle.justfile_model.specs.Lexed.{IsFault}
+use Rattle.justfile_lex.proofs.LexerLemmas.{unclosed_fault, from_open}
+use Rattle.justfile_lex.proofs.lexer.Lexer.unterminated.Goals as goal
+
+pub returns : goal.returns
+returns c =
+    let l = c.args.self.now in
+    let t = c.args.start in
+    record {
+      fault = UnterminatedInterpolation;
+      kind_is = ap lexical_fault_of c.new.ensures.kind;
+      is_fault = subst (λ u. IsFault l.src.now UnterminatedInterpolation (tok_of u)) (sym c.new.ensures.token) (unclosed_fault l t c.requires.lexing c.requires.at_end c.requires.open);
+      from = subst (IsFrom l.path.now l.src.now) (sym c.new.ensures.token) (from_open l t c.requires.lexing c.requires.open);
+    }
