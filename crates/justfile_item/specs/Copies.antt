@@ -7,6 +7,7 @@ use Rattle.justfile_base.specs.Namepath.{names_in}
 use Rattle.justfile_base.specs.StringLiteral.{IsSameLiteral}
 use Rattle.justfile_base.specs.declared.namepath.Namepath.{Namepath}
 use Rattle.justfile_header.specs.Copies.{IsSameDependency, IsSameParameter, IsSameText}
+use Rattle.justfile_line.specs.Copies.{IsSameLine}
 use Rattle.justfile_setting.specs.Copies.{IsSameSetting}
 use Rattle.justfile_tree.specs.declared.expression.Expression.{Expression}
 use Rattle.justfile_tree.specs.Copies.{IsSameExpression}
