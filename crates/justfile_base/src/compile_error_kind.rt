@@ -13,7 +13,7 @@ use justfile_word::version::Version;
 use std::ops::RangeInclusive;
 
 /// Why a text is refused.
-#[derive(Drop, PartialEq)]
+#[derive(Debug, Drop, PartialEq)]
 pub enum CompileErrorKind<'src> {
     /// An argument is to be given at least `min` times and at most `max` times, and `min` is the greater.
     ArgAttributeMinExceedsMax {

@@ -490,10 +490,3 @@ impl fmt::Debug for CompileError<'_> {
         write_kind(&self.kind, self.token.line, f)
     }
 }
-
-/// The message of an error of this kind on the first line.
-impl fmt::Debug for CompileErrorKind<'_> {
-    fn fmt<W: fmt::Write>(&self, f: &mut fmt::Formatter<W>) -> fmt::Result {
-        write_kind(self, 0, f)
-    }
-}
