@@ -2,7 +2,10 @@
 
 use crate::ast::Ast;
 use crate::indentation::Indentation;
-use crate::tests::support::{parsed, same};
+use crate::numerator::Numerator;
+use crate::parser::Parser;
+use crate::source::Source;
+use crate::tests::support::{CURRENT, Unchanged, same};
 use crate::write_fault::WriteFault;
 use std::alloc::Global;
 use std::io::{self, ErrorKind, Write};
@@ -92,9 +95,30 @@ fn compare_rows(ast: &mut Ast<'_>, rt: &impl Abort, alloc: Global) {
     }
 }
 
+/// Sees what the file that a text is is written as.
+fn compare_text(rt: &impl Abort, alloc: Global, text: &str) {
+    let source = Source {
+        file_depth: 0,
+        import_offsets: &[],
+        namepath: None,
+        working_directory: "/home",
+    };
+    let mut numerator = Numerator::new(0);
+    match Parser::parse_source(
+        alloc,
+        &mut numerator,
+        "justfile",
+        &source,
+        text,
+        &Unchanged,
+        CURRENT,
+    ) {
+        Ok(mut ast) => compare_rows(&mut ast, rt, alloc),
+        Err(_) => panic!(rt; "{text:?}"),
+    }
+}
+
 #[test]
 fn one_byte_at_a_time(rt: HostRuntime) {
-    let alloc = rt.alloc();
-    let mut ast = parsed(&rt, alloc, "a:=b");
-    compare_rows(&mut ast, &rt, alloc);
+    compare_text(&rt, rt.alloc(), "a:=b");
 }
