@@ -60,7 +60,10 @@ fn push_with_copy(value: &Expression<'_>, answer: &mut Answer) {
 }
 
 fn push_other<'src>(value: &Expression<'src>, copy: &Expression<'src>, answer: &mut Answer) {
-    answer.push_if("uncopied", value != copy || value.cmp(copy) != Ordering::Equal);
+    answer.push_if(
+        "uncopied",
+        value != copy || value.cmp(copy) != Ordering::Equal,
+    );
 }
 
 /// How two values compare with their places, and after it how by what they hold. Where the ways to
