@@ -8,9 +8,12 @@ use crate::headers::docs;
 use crate::items::{
     FILE_DEPTH, IMPORT_OFFSETS, WORKING_DIRECTORY, enabled, features, file, indented, unstable,
 };
+use crate::orders::orders;
 use crate::printing::{copies, prints, prints_item};
 use crate::recipes::push_of_recipe;
 use crate::refusal::{push_expected, push_fault, push_message};
+use crate::resolution::resolves;
+use crate::sets::sets;
 use crate::settings::settings;
 use crate::values::push_of_value;
 use crate::word::Word;
@@ -84,6 +87,8 @@ fn push_of_items(items: &[Item<'_>], answer: &mut Answer, word: Word, fields: &[
         Word::Docs => docs(items, answer),
         Word::Enabled => enabled(items, answer),
         Word::Expands | Word::Literal | Word::Value => push_of_value(items, answer, word),
+        Word::Orders => orders(items, answer),
+        Word::Sets => sets(items, answer),
         Word::Settings => settings(items, answer),
         _ => push_of_recipe(items, answer, word, fields),
     }
@@ -218,6 +223,8 @@ fn text_of(word: Word, fields: &[String]) -> &str {
 pub(crate) fn push_fields(answer: &mut Answer, word: Word, fields: &[String]) {
     if word == Word::Beginnings {
         beginnings(answer, join_fields(answer.alloc(), fields).as_str());
+    } else if word == Word::Resolves {
+        resolves(answer, fields);
     } else {
         push_parsed(answer, word, fields);
     }

@@ -4,12 +4,9 @@
 mod attributes;
 mod excerpts;
 mod format_parts;
-mod headers;
-mod items;
+mod interpreters;
 mod messages;
 mod names;
-mod numbers;
-mod order;
 mod small;
 mod support;
 mod texts;

@@ -9,7 +9,7 @@ use crate::list::List;
 use crate::list_feature::ListFeature;
 use crate::name::Name;
 use crate::namepath::Namepath;
-use crate::tests::support::{first_token, lexed, names, same_text};
+use crate::tests::support::{first_token, names, same_text};
 use crate::token::Token;
 use crate::token_kind::TokenKind;
 use std::alloc::Global;
@@ -159,206 +159,194 @@ fn circles(rt: HostRuntime) {
         ),
     ];
     let alloc = rt.alloc();
-    let token = first_token(&rt, alloc, "a");
     for (names, of_recipe, of_variable) in ROWS {
         let kind = CompileErrorKind::CircularRecipeDependency {
             recipe: "a",
             circle: circle(&rt, alloc, names),
         };
-        says(&rt, alloc, &token, kind, of_recipe);
+        says(&rt, alloc, &NAME, kind, of_recipe);
         let kind = CompileErrorKind::CircularVariableDependency {
             variable: "a",
             circle: circle(&rt, alloc, names),
         };
-        says(&rt, alloc, &token, kind, of_variable);
+        says(&rt, alloc, &NAME, kind, of_variable);
     }
 }
 
+/// A name on the first line.
+const NAME: Token<'static> = Token {
+    column: 0,
+    kind: TokenKind::Identifier,
+    length: 1,
+    line: 0,
+    offset: 0,
+    path: "justfile",
+    src: "a",
+};
+
+/// A name on the third line.
+const THIRD: Token<'static> = Token {
+    column: 0,
+    kind: TokenKind::Identifier,
+    length: 1,
+    line: 2,
+    offset: 2,
+    path: "justfile",
+    src: "\n\na",
+};
+
+/// A refusal of definitions that are repeated.
+fn repeated(place: usize) -> CompileErrorKind<'static> {
+    match place {
+        0 => CompileErrorKind::Redefinition {
+            first: 0,
+            first_type: ItemKind::Recipe,
+            name: "a",
+            second_type: ItemKind::Recipe,
+        },
+        1 => CompileErrorKind::Redefinition {
+            first: 0,
+            first_type: ItemKind::Recipe,
+            name: "a",
+            second_type: ItemKind::Alias,
+        },
+        2 => CompileErrorKind::DuplicateSet {
+            setting: "shell",
+            first: 1,
+        },
+        3 => CompileErrorKind::IncompatibleSettings {
+            first: Keyword::NoCd,
+            first_line: 1,
+            second: Keyword::WorkingDirectory,
+        },
+        4 => CompileErrorKind::DuplicateVariable { variable: "a" },
+        _ => CompileErrorKind::DuplicateUnexport { variable: "a" },
+    }
+}
+
+/// What they say on the third line.
+static REPEATED: &[&str] = &[
+    "recipe `a` first defined on line 1 is redefined on line 3",
+    "recipe `a` defined on line 1 is redefined as an alias on line 3",
+    "setting `shell` first set on line 2 is redefined on line 3",
+    "`no-cd` set on line 2 is incompatible with `working-directory`",
+    "variable `a` has multiple definitions",
+    "variable `a` is unexported multiple times",
+];
+
 #[test]
 fn definitions_that_are_repeated(rt: HostRuntime) {
-    let alloc = rt.alloc();
-    let tokens = lexed(&rt, alloc, "\n\na");
-    let token = tokens.get(2).expect(&rt, "no token");
-    let kind = CompileErrorKind::Redefinition {
-        first: 0,
-        first_type: ItemKind::Recipe,
-        name: "a",
-        second_type: ItemKind::Recipe,
-    };
-    let text = "recipe `a` first defined on line 1 is redefined on line 3";
-    says(&rt, alloc, token, kind, text);
-    let kind = CompileErrorKind::Redefinition {
-        first: 0,
-        first_type: ItemKind::Recipe,
-        name: "a",
-        second_type: ItemKind::Alias,
-    };
-    let text = "recipe `a` defined on line 1 is redefined as an alias on line 3";
-    says(&rt, alloc, token, kind, text);
-    let kind = CompileErrorKind::DuplicateSet {
-        setting: "shell",
-        first: 1,
-    };
-    let text = "setting `shell` first set on line 2 is redefined on line 3";
-    says(&rt, alloc, token, kind, text);
-    let kind = CompileErrorKind::IncompatibleSettings {
-        first: Keyword::NoCd,
-        first_line: 1,
-        second: Keyword::WorkingDirectory,
-    };
-    let text = "`no-cd` set on line 2 is incompatible with `working-directory`";
-    says(&rt, alloc, token, kind, text);
-    let kind = CompileErrorKind::DuplicateVariable { variable: "a" };
-    says(
-        &rt,
-        alloc,
-        token,
-        kind,
-        "variable `a` has multiple definitions",
-    );
-    let kind = CompileErrorKind::DuplicateUnexport { variable: "a" };
-    says(
-        &rt,
-        alloc,
-        token,
-        kind,
-        "variable `a` is unexported multiple times",
-    );
+    for (place, text) in REPEATED.iter().enumerate() {
+        says(&rt, rt.alloc(), &THIRD, repeated(place), text);
+    }
 }
 
-#[test]
-fn parameters_and_recipes(rt: HostRuntime) {
-    let alloc = rt.alloc();
-    let token = &first_token(&rt, alloc, "a");
-    let kind = CompileErrorKind::DuplicateParameter {
-        recipe: "a",
-        parameter: "b",
-    };
-    says(
-        &rt,
-        alloc,
-        token,
-        kind,
-        "recipe `a` has duplicate parameter `b`",
-    );
-    let kind = CompileErrorKind::DuplicateFunctionParameter {
-        function: "a",
-        parameter: "b",
-    };
-    says(
-        &rt,
-        alloc,
-        token,
-        kind,
-        "function `a` has duplicate parameter `b`",
-    );
-    let kind = CompileErrorKind::RequiredParameterFollowsDefaultParameter { parameter: "b" };
-    let text = "non-default parameter `b` follows default parameter";
-    says(&rt, alloc, token, kind, text);
-    let kind = CompileErrorKind::DuplicateDefault { recipe: "a" };
-    let text =
-        "recipe `a` has duplicate `[default]` attribute, which may only appear once per module";
-    says(&rt, alloc, token, kind, text);
-    let kind = CompileErrorKind::InvalidShellRecipeAttribute {
-        attribute: AttributeKind::Extension,
-        recipe: "a",
-    };
-    let text = "shell recipe `a` has script recipe attribute `extension`";
-    says(&rt, alloc, token, kind, text);
-    let kind = CompileErrorKind::GuardAndInfallibleSigil;
-    let text = "the guard `?` and infallible `-` sigils may not be used together";
-    says(&rt, alloc, token, kind, text);
-    let kind = CompileErrorKind::ExtraLeadingWhitespace;
-    says(
-        &rt,
-        alloc,
-        token,
-        kind,
-        "recipe line has extra leading whitespace",
-    );
+/// A refusal of parameters, recipes and names.
+fn named(place: usize) -> CompileErrorKind<'static> {
+    match place {
+        0 => CompileErrorKind::DuplicateParameter {
+            recipe: "a",
+            parameter: "b",
+        },
+        1 => CompileErrorKind::DuplicateFunctionParameter {
+            function: "a",
+            parameter: "b",
+        },
+        2 => CompileErrorKind::RequiredParameterFollowsDefaultParameter { parameter: "b" },
+        3 => CompileErrorKind::DuplicateDefault { recipe: "a" },
+        4 => CompileErrorKind::InvalidShellRecipeAttribute {
+            attribute: AttributeKind::Extension,
+            recipe: "a",
+        },
+        5 => CompileErrorKind::UndefinedVariable { variable: "a" },
+        6 => CompileErrorKind::UndefinedFunction { function: "a" },
+        _ => CompileErrorKind::ExportUnexported { variable: "a" },
+    }
 }
 
+/// What they say.
+static NAMED: &[&str] = &[
+    "recipe `a` has duplicate parameter `b`",
+    "function `a` has duplicate parameter `b`",
+    "non-default parameter `b` follows default parameter",
+    "recipe `a` has duplicate `[default]` attribute, which may only appear once per module",
+    "shell recipe `a` has script recipe attribute `extension`",
+    "variable `a` not defined",
+    "call to undefined function `a`",
+    "variable a is both exported and unexported",
+];
+
 #[test]
-fn names_that_are_unknown(rt: HostRuntime) {
-    let alloc = rt.alloc();
-    let names = names(&rt, alloc, "a b");
-    let first = *names.first().expect(&rt, "no name");
-    let second = *names.get(1).expect(&rt, "no second name");
-    let path = Namepath::from_name(alloc, first).expect(&rt, "no memory");
-    let path = path.join(alloc, second).expect(&rt, "no memory");
-    let copy = path.clone(alloc).expect(&rt, "no memory");
-    let kind = CompileErrorKind::UnknownDependency {
-        recipe: "c",
-        unknown: copy,
-    };
-    says(
-        &rt,
-        alloc,
-        &first,
-        kind,
-        "recipe `c` has unknown dependency `a::b`",
-    );
-    let kind = CompileErrorKind::UnknownAliasTarget {
-        alias: "c",
-        target: path,
-    };
-    says(
-        &rt,
-        alloc,
-        &first,
-        kind,
-        "alias `c` has an unknown target `a::b`",
-    );
-    let kind = CompileErrorKind::UndefinedVariable { variable: "a" };
-    says(&rt, alloc, &first, kind, "variable `a` not defined");
-    let kind = CompileErrorKind::UndefinedFunction { function: "a" };
-    says(&rt, alloc, &first, kind, "call to undefined function `a`");
-    let kind = CompileErrorKind::ExportUnexported { variable: "a" };
-    says(
-        &rt,
-        alloc,
-        &first,
-        kind,
-        "variable a is both exported and unexported",
-    );
+fn parameters_recipes_and_names(rt: HostRuntime) {
+    for (place, text) in NAMED.iter().enumerate() {
+        says(&rt, rt.alloc(), &NAME, named(place), text);
+    }
 }
+
+/// A refusal of lines and of what wants lists, or a fault of the program.
+fn other(place: usize) -> CompileErrorKind<'static> {
+    match place {
+        0 => CompileErrorKind::GuardAndInfallibleSigil,
+        1 => CompileErrorKind::ExtraLeadingWhitespace,
+        2 => CompileErrorKind::ListFeature(ListFeature::ListLiteral),
+        3 => CompileErrorKind::MappedDependencyWithoutListsSetting,
+        _ => CompileErrorKind::Internal { message: "b" },
+    }
+}
+
+/// What they say.
+static OTHER: &[&str] = &[
+    "the guard `?` and infallible `-` sigils may not be used together",
+    "recipe line has extra leading whitespace",
+    "list literals require `set lists`",
+    "mapped dependencies require `set lists`",
+    "internal error, this may indicate a bug in just: b\nconsider filing an issue: https://github.com/casey/just/issues/new",
+];
 
 #[test]
 fn lists_and_the_rest(rt: HostRuntime) {
+    for (place, text) in OTHER.iter().enumerate() {
+        says(&rt, rt.alloc(), &NAME, other(place), text);
+    }
+}
+
+/// A path of two names.
+fn path<'src>(rt: &impl Abort, alloc: Global, names: &[Name<'src>]) -> Namepath<'src> {
+    let (first, others) = names.split_first().expect(rt, "no name");
+    let mut path = Namepath::from_name(alloc, *first).expect(rt, "no memory");
+    for name in others {
+        path.push(*name).expect(rt, "no memory");
+    }
+    path
+}
+
+#[test]
+fn names_of_no_recipe(rt: HostRuntime) {
     let alloc = rt.alloc();
-    let token = &first_token(&rt, alloc, "a");
-    let kind = CompileErrorKind::ListFeature(ListFeature::ListLiteral);
-    says(&rt, alloc, token, kind, "list literals require `set lists`");
-    let kind = CompileErrorKind::MappedDependencyWithoutListsSetting;
-    says(
-        &rt,
-        alloc,
-        token,
-        kind,
-        "mapped dependencies require `set lists`",
-    );
-    let kind = CompileErrorKind::Internal { message: "b" };
-    let text =
-        "internal error, this may indicate a bug in just: b\nconsider filing an issue: https://github.com/casey/just/issues/new";
-    says(&rt, alloc, token, kind, text);
+    let names = names(&rt, alloc, "a b");
+    let kind = CompileErrorKind::UnknownDependency {
+        recipe: "c",
+        unknown: path(&rt, alloc, &names),
+    };
+    let text = "recipe `c` has unknown dependency `a::b`";
+    says(&rt, alloc, &NAME, kind, text);
+    let kind = CompileErrorKind::UnknownAliasTarget {
+        alias: "c",
+        target: path(&rt, alloc, &names),
+    };
+    let text = "alias `c` has an unknown target `a::b`";
+    says(&rt, alloc, &NAME, kind, text);
+}
+
+#[test]
+fn words_and_expansions(rt: HostRuntime) {
+    let alloc = rt.alloc();
     let err = "no".to_string(alloc).expect(&rt, "no memory");
     let kind = CompileErrorKind::ShellExpansion { err };
-    says(&rt, alloc, token, kind, "shell expansion failed: no");
-    let expected = vec![in alloc; TokenKind::Comma, TokenKind::ParenR].expect(&rt, "no memory");
-    let kind = CompileErrorKind::UnexpectedToken {
-        expected,
-        found: TokenKind::Eof,
-    };
-    says(
-        &rt,
-        alloc,
-        token,
-        kind,
-        "expected ',' or ')', but found end of file",
-    );
+    says(&rt, alloc, &NAME, kind, "shell expansion failed: no");
     let expected = vec![in alloc; Keyword::True, Keyword::False].expect(&rt, "no memory");
-    let found = *lexed(&rt, alloc, "\n").first().expect(&rt, "no token");
+    let found = first_token(&rt, alloc, "\n");
     let kind = CompileErrorKind::ExpectedKeyword { expected, found };
     let text = "expected keyword `true` or `false` but found `end of line`";
-    says(&rt, alloc, token, kind, text);
+    says(&rt, alloc, &NAME, kind, text);
 }

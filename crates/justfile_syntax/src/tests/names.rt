@@ -2,7 +2,6 @@
 
 use crate::assignment::Assignment;
 use crate::ast::Ast;
-use crate::fault::CompileResult;
 use crate::item::Item;
 use crate::lexer::Lexer;
 use crate::modulepath::Modulepath;
@@ -107,27 +106,6 @@ fn constants(rt: HostRuntime) {
     same(&rt, "the third", &numerator.constant(2), &Number(2));
 }
 
-/// The file of a module that a text is.
-fn parsed<'src>(
-    alloc: Global,
-    namepath: &Namepath<'_>,
-    numerator: &mut Numerator,
-    text: &'src str,
-) -> CompileResult<'src, Ast<'src>> {
-    let tokens = Lexer::lex(alloc, "justfile", text)?;
-    Parser::parse(
-        alloc,
-        3,
-        &[],
-        Some(namepath),
-        numerator,
-        tokens.as_slice(),
-        "/home/m",
-        &Unchanged,
-        CURRENT,
-    )
-}
-
 /// Sees what the file of a module has of what was handed in.
 fn compare_file(ast: &mut Ast<'_>, rt: &impl Abort, alloc: Global) {
     compare_written(rt, alloc, &ast.module_path, "m::n");
@@ -150,13 +128,37 @@ fn compare_assignment(rt: &impl Abort, assignment: &Assignment<'_>) {
     same(rt, "an assignment", &assignment.number, &Number(5));
 }
 
+/// Sees what is parsed from the tokens of a text, the module of this path.
+fn compare_module(
+    rt: &impl Abort,
+    alloc: Global,
+    namepath: &Namepath<'_>,
+    numerator: &mut Numerator,
+    text: &str,
+) {
+    let Ok(tokens) = Lexer::lex(alloc, "justfile", text) else {
+        panic!(rt; "{text:?}")
+    };
+    match Parser::parse(
+        alloc,
+        3,
+        &[],
+        Some(namepath),
+        numerator,
+        tokens.as_slice(),
+        "/home/m",
+        &Unchanged,
+        CURRENT,
+    ) {
+        Ok(mut ast) => compare_file(&mut ast, rt, alloc),
+        Err(_) => panic!(rt; "{text:?}"),
+    }
+}
+
 #[test]
 fn files_of_modules(rt: HostRuntime) {
     let alloc = rt.alloc();
     let namepath = path(&rt, alloc, names(&rt, alloc, "m n").as_slice());
     let mut numerator = Numerator::new(5);
-    match parsed(alloc, &namepath, &mut numerator, "a := 'x'\n") {
-        Ok(mut ast) => compare_file(&mut ast, &rt, alloc),
-        Err(fault) => panic!(rt; "{fault:?}"),
-    }
+    compare_module(&rt, alloc, &namepath, &mut numerator, "a := 'x'\n");
 }

@@ -1,12 +1,8 @@
 //! What the tests of several files need.
 
-use crate::ast::Ast;
 use crate::expander::{ExpandFault, Expander};
 use crate::lexer::Lexer;
 use crate::name::Name;
-use crate::numerator::Numerator;
-use crate::parser::Parser;
-use crate::source::Source;
 use crate::token::Token;
 use crate::token_kind::TokenKind;
 use crate::version::Version;
@@ -31,27 +27,6 @@ impl Expander for Unchanged {
     fn expand(&self, alloc: Global, text: &str) -> Result<String, ExpandFault> {
         Ok(text.to_string(alloc)?)
     }
-}
-
-/// The file that a text is.
-pub(crate) fn parsed<'src>(rt: &impl Abort, alloc: Global, text: &'src str) -> Ast<'src> {
-    let source = Source {
-        file_depth: 0,
-        import_offsets: &[],
-        namepath: None,
-        working_directory: "/home",
-    };
-    let mut numerator = Numerator::new(0);
-    Parser::parse_source(
-        alloc,
-        &mut numerator,
-        "justfile",
-        &source,
-        text,
-        &Unchanged,
-        CURRENT,
-    )
-    .expect(rt, text)
 }
 
 /// Sees that a text is the wanted one. A failure names what it was found of.

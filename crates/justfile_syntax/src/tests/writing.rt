@@ -2,7 +2,10 @@
 
 use crate::ast::Ast;
 use crate::indentation::Indentation;
-use crate::tests::support::{parsed, same};
+use crate::numerator::Numerator;
+use crate::parser::Parser;
+use crate::source::Source;
+use crate::tests::support::{CURRENT, Unchanged, same};
 use crate::write_fault::WriteFault;
 use std::alloc::Global;
 use std::io::{self, ErrorKind, Write};
@@ -48,58 +51,74 @@ impl Write for OneByte {
     }
 }
 
-/// A writer that takes one byte at each call.
-fn plain(alloc: Global) -> OneByte {
-    OneByte {
-        taken: Vec::new(alloc),
-        calls_before: None,
-        answer: Answer::Nothing,
-    }
-}
-
-/// The same, but for the call after so many, which answers this.
-fn failing(alloc: Global, calls: u32, answer: Answer) -> OneByte {
-    OneByte {
-        taken: Vec::new(alloc),
-        calls_before: Some(calls),
-        answer,
-    }
-}
+/// How many calls come before the one that takes nothing, what that call answers, what was taken, and
+/// what is answered.
+static ROWS: &[(Option<u32>, Answer, &str, Result<(), WriteFault>)] = &[
+    (None, Answer::Nothing, "a := b\n", Ok(())),
+    (
+        Some(3),
+        Answer::Error(ErrorKind::BrokenPipe),
+        "a :",
+        Err(WriteFault::Failed),
+    ),
+    (
+        Some(3),
+        Answer::Error(ErrorKind::Interrupted),
+        "a :",
+        Err(WriteFault::Failed),
+    ),
+    (Some(2), Answer::Nothing, "a ", Err(WriteFault::Zero)),
+];
 
 /// Sees what a file is written as to a writer, and what is answered.
 fn compare(
-    ast: &mut Ast<'_>,
+    ast: &Ast<'_>,
     rt: &impl Abort,
-    mut writer: OneByte,
+    writer: &mut OneByte,
     taken: &str,
-    answer: Result<(), WriteFault>,
+    answer: &Result<(), WriteFault>,
 ) {
-    let found = ast.print_to(Indentation::default(), &mut writer);
-    same(rt, taken, &found, &answer);
+    let found = ast.print_to(Indentation::default(), writer);
+    same(rt, taken, &found, answer);
     same(rt, taken, &writer.taken.as_slice(), &taken.as_bytes());
 }
 
-#[test]
-fn one_byte_at_a_time_is_the_whole_text(rt: HostRuntime) {
-    let alloc = rt.alloc();
-    let mut ast = parsed(&rt, alloc, "a:=b");
-    compare(&mut ast, &rt, plain(alloc), "a := b\n", Ok(()));
+/// Sees what a file is written as to the writer of each row.
+fn compare_rows(ast: &mut Ast<'_>, rt: &impl Abort, alloc: Global) {
+    for (calls_before, answer, taken, result) in ROWS {
+        let mut writer = OneByte {
+            taken: Vec::new(alloc),
+            calls_before: *calls_before,
+            answer: *answer,
+        };
+        compare(ast, rt, &mut writer, taken, result);
+    }
+}
+
+/// Sees what the file that a text is is written as.
+fn compare_text(rt: &impl Abort, alloc: Global, text: &str) {
+    let source = Source {
+        file_depth: 0,
+        import_offsets: &[],
+        namepath: None,
+        working_directory: "/home",
+    };
+    let mut numerator = Numerator::new(0);
+    match Parser::parse_source(
+        alloc,
+        &mut numerator,
+        "justfile",
+        &source,
+        text,
+        &Unchanged,
+        CURRENT,
+    ) {
+        Ok(mut ast) => compare_rows(&mut ast, rt, alloc),
+        Err(_) => panic!(rt; "{text:?}"),
+    }
 }
 
 #[test]
-fn a_write_that_fails_ends_the_printing(rt: HostRuntime) {
-    let alloc = rt.alloc();
-    let mut ast = parsed(&rt, alloc, "a:=b");
-    let broken = failing(alloc, 3, Answer::Error(ErrorKind::BrokenPipe));
-    compare(&mut ast, &rt, broken, "a :", Err(WriteFault::Failed));
-    let interrupted = failing(alloc, 3, Answer::Error(ErrorKind::Interrupted));
-    compare(&mut ast, &rt, interrupted, "a :", Err(WriteFault::Failed));
-}
-
-#[test]
-fn a_write_that_takes_nothing_ends_the_printing(rt: HostRuntime) {
-    let alloc = rt.alloc();
-    let mut ast = parsed(&rt, alloc, "a:=b");
-    let full = failing(alloc, 2, Answer::Nothing);
-    compare(&mut ast, &rt, full, "a ", Err(WriteFault::Zero));
+fn one_byte_at_a_time(rt: HostRuntime) {
+    compare_text(&rt, rt.alloc(), "a:=b");
 }

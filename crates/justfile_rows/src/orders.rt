@@ -1,0 +1,98 @@
+//! How the values of a file are ordered.
+
+use justfile_syntax::expression::Expression;
+use justfile_syntax::item::Item;
+use row_notation::{Answer, Text};
+use std::alloc::{AllocError, Global};
+use std::cmp::Ordering;
+
+/// How the value of each assignment compares with that of the next one. The end of a line stands
+/// between two assignments.
+pub(crate) fn orders(items: &[Item<'_>], answer: &mut Answer) {
+    for (place, item) in items.iter().enumerate() {
+        if let Item::Assignment(assignment) = item {
+            push_with_next(items, answer, place.saturating_add(2), &assignment.value);
+            push_with_copy(&assignment.value, answer);
+        }
+    }
+}
+
+/// How a value compares with that of the assignment at the place, if there is one.
+fn push_with_next<'src>(
+    items: &[Item<'src>],
+    answer: &mut Answer,
+    place: usize,
+    value: &Expression<'src>,
+) {
+    if place >= items.len() {
+        return;
+    }
+    if let Item::Assignment(next) = &items[place] {
+        push_order(value, &next.value, answer);
+    }
+}
+
+/// What was made, in a box.
+fn boxed<T: Drop>(alloc: Global, made: Result<T, AllocError>) -> Result<Box<T>, AllocError> {
+    match made {
+        Ok(value) => match Box::new(alloc, value) {
+            Ok(value) => Ok(value),
+            Err(_) => Err(AllocError),
+        },
+        Err(error) => Err(error),
+    }
+}
+
+/// A copy of a value.
+pub(crate) fn copy_of<'src>(
+    value: &Expression<'src>,
+    alloc: Global,
+) -> Result<Box<Expression<'src>>, AllocError> {
+    boxed(alloc, value.clone(alloc))
+}
+
+/// Says that a copy of a value is another value.
+fn push_with_copy(value: &Expression<'_>, answer: &mut Answer) {
+    match copy_of(value, answer.alloc()) {
+        Ok(copy) => push_other(value, &copy, answer),
+        Err(_) => answer.fail(),
+    }
+}
+
+fn push_other<'src>(value: &Expression<'src>, copy: &Expression<'src>, answer: &mut Answer) {
+    answer.push_if(
+        "uncopied",
+        value != copy || value.cmp(copy) != Ordering::Equal,
+    );
+}
+
+/// How two values compare with their places, and after it how by what they hold. Where the ways to
+/// compare them disagree, `apart` stands after it.
+pub(crate) fn push_order<'src>(
+    value: &Expression<'src>,
+    other: &Expression<'src>,
+    answer: &mut Answer,
+) {
+    let order = value.cmp(other);
+    let mut signs = Text::new(answer.alloc());
+    signs.put(sign(order));
+    signs.put(sign(value.content_cmp(other)));
+    answer.push_text(signs);
+    answer.push_if("apart", !agrees(value, other, order));
+}
+
+/// Whether each way to compare two values with their places gives this order.
+fn agrees<'src>(value: &Expression<'src>, other: &Expression<'src>, order: Ordering) -> bool {
+    value.partial_cmp(other) == Some(order)
+        && other.cmp(value) == order.reverse()
+        && (value == other) == order.is_eq()
+}
+
+/// The sign of an order.
+fn sign(order: Ordering) -> &'static str {
+    match order {
+        Ordering::Less => "<",
+        Ordering::Equal => "=",
+        Ordering::Greater => ">",
+    }
+}

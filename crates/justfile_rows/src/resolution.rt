@@ -1,0 +1,189 @@
+//! Which numbers the variables of values get.
+
+use crate::expansion::Expansion;
+use crate::files::parse;
+use crate::orders::{copy_of, push_order};
+use crate::refusal::push_fault;
+use justfile_syntax::expression::Expression;
+use justfile_syntax::interpreter::Interpreter;
+use justfile_syntax::item::Item;
+use justfile_syntax::name::Name;
+use justfile_syntax::numerator::Number;
+use justfile_syntax::setting::Setting;
+use justfile_tree::child;
+use row_notation::{Answer, Text, field_at};
+use std::alloc::{AllocError, Global};
+use std::collections::HashMap;
+
+/// The numbers that a field gives to names, as `a=1,b=2`.
+fn numbers_of<'row>(
+    alloc: Global,
+    field: &'row str,
+) -> Result<HashMap<&'row str, Number>, AllocError> {
+    let mut numbers = HashMap::new(alloc);
+    for given in field.split(',') {
+        if let Some((name, number)) = given.split_once('=') {
+            insert(&mut numbers, name, number.parse::<u32>().unwrap_or(0))?;
+        }
+    }
+    Ok(numbers)
+}
+
+/// Gives a name this number.
+fn insert<'row>(
+    numbers: &mut HashMap<&'row str, Number>,
+    name: &'row str,
+    number: u32,
+) -> Result<(), AllocError> {
+    match numbers.insert(name, Number(number)) {
+        Ok(_before) => Ok(()),
+        Err(_failed) => Err(AllocError),
+    }
+}
+
+/// Which numbers the variables of a text's first item get: first by the bindings of the second field
+/// alone, and then by the context of the first field too.
+pub(crate) fn resolves(answer: &mut Answer, fields: &[String]) {
+    let text = field_at(fields, 2);
+    match parse(answer.alloc(), &Expansion::Unchanged, text) {
+        Ok(mut ast) => resolve_by_fields(&mut ast.items, answer, fields),
+        Err(fault) => push_fault(answer, text, &fault),
+    }
+}
+
+/// Makes the numbers of a row's fields.
+fn resolve_by_fields<'src>(items: &mut [Item<'src>], answer: &mut Answer, fields: &'src [String]) {
+    let context = numbers_of(answer.alloc(), field_at(fields, 0));
+    let bindings = numbers_of(answer.alloc(), field_at(fields, 1));
+    match (context, bindings) {
+        (Ok(context), Ok(bindings)) => resolve_first(items, answer, &context, &bindings),
+        _ => answer.fail(),
+    }
+}
+
+/// Resolves the first of the items.
+fn resolve_first<'src>(
+    items: &mut [Item<'src>],
+    answer: &mut Answer,
+    context: &HashMap<&'src str, Number>,
+    bindings: &HashMap<&'src str, Number>,
+) {
+    if items.is_empty() {
+        return answer.push("none");
+    }
+    match &mut items[0] {
+        Item::Assignment(assignment) => {
+            resolve_value(&mut assignment.value, answer, context, bindings);
+        }
+        Item::Setting(set) => resolve_setting(&mut set.value, answer, context, bindings),
+        _ => answer.push("none"),
+    }
+}
+
+/// Resolves a setting.
+fn resolve_setting<'src>(
+    setting: &mut Setting<'src>,
+    answer: &mut Answer,
+    context: &HashMap<&'src str, Number>,
+    bindings: &HashMap<&'src str, Number>,
+) {
+    setting.resolve_variables(None, bindings);
+    push_setting(setting, answer);
+    setting.resolve_variables(Some(context), bindings);
+    push_setting(setting, answer);
+}
+
+/// Resolves a value, and compares it with what it was.
+fn resolve_value<'src>(
+    value: &mut Expression<'src>,
+    answer: &mut Answer,
+    context: &HashMap<&'src str, Number>,
+    bindings: &HashMap<&'src str, Number>,
+) {
+    match copy_of(value, answer.alloc()) {
+        Ok(before) => resolve_from(value, &before, answer, context, bindings),
+        Err(_) => answer.fail(),
+    }
+}
+
+fn resolve_from<'src>(
+    value: &mut Expression<'src>,
+    before: &Expression<'src>,
+    answer: &mut Answer,
+    context: &HashMap<&'src str, Number>,
+    bindings: &HashMap<&'src str, Number>,
+) {
+    value.resolve_variables(None, bindings);
+    push_resolved(before, value, answer);
+    value.resolve_variables(Some(context), bindings);
+    push_resolved(before, value, answer);
+}
+
+/// The variables of a value, and how what it was before compares with it.
+fn push_resolved<'src>(before: &Expression<'src>, value: &Expression<'src>, answer: &mut Answer) {
+    push_variables(value, answer);
+    push_order(before, value, answer);
+}
+
+/// The variables of the values that a setting holds.
+fn push_setting(setting: &Setting<'_>, answer: &mut Answer) {
+    match setting {
+        Setting::DotenvCommand(value) => push_variables(value, answer),
+        Setting::DotenvFilename(value) => push_variables(value, answer),
+        Setting::DotenvPath(value) => push_variables(value, answer),
+        Setting::ScriptInterpreter(interpreter) => push_interpreter(interpreter, answer),
+        Setting::Shell(interpreter) => push_interpreter(interpreter, answer),
+        Setting::Tempdir(value) => push_variables(value, answer),
+        Setting::WindowsShell(interpreter) => push_interpreter(interpreter, answer),
+        Setting::WorkingDirectory(value) => push_variables(value, answer),
+        _ => {}
+    }
+}
+
+/// The variables of an interpreter: those of its command, and then those of its arguments.
+fn push_interpreter(interpreter: &Interpreter<Expression<'_>>, answer: &mut Answer) {
+    push_variables(&interpreter.command, answer);
+    for argument in &interpreter.arguments {
+        push_variables(argument, answer);
+    }
+}
+
+/// The variables of a value: itself, those that stand in it, and those that stand in its parts.
+fn push_variables(value: &Expression<'_>, answer: &mut Answer) {
+    push_variable(value, answer);
+    for place in 0..usize::MAX {
+        match child(value, place) {
+            Some((part, _)) => push_part(part, answer),
+            None => return,
+        }
+    }
+}
+
+/// The variables of a part: itself, and those that stand in it.
+fn push_part(part: &Expression<'_>, answer: &mut Answer) {
+    push_variable(part, answer);
+    for place in 0..usize::MAX {
+        match child(part, place) {
+            Some((inner, _)) => push_variable(inner, answer),
+            None => return,
+        }
+    }
+}
+
+/// A variable with its number, if the expression is one.
+fn push_variable(expression: &Expression<'_>, answer: &mut Answer) {
+    if let Expression::Variable { name, number } = expression {
+        push_numbered(answer, name, *number);
+    }
+}
+
+/// A name, with its number if it has one.
+fn push_numbered(answer: &mut Answer, name: &Name<'_>, number: Option<Number>) {
+    let mut shown = Text::new(answer.alloc());
+    shown.put(name.lexeme());
+    if let Some(number) = number {
+        shown.put("=");
+        shown.put_number(number.0 as usize);
+    }
+    answer.push_text(shown);
+}
