@@ -1,4 +1,4 @@
-//! What stands on the lines of files, and how it prints.
+//! Items of files, and how they print.
 #![tactic(auto)]
 
 pub mod alias;
