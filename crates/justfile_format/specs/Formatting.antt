@@ -19,7 +19,7 @@ use Rattle.justfile_item.specs.Indented.{items_indentation}
 use Rattle.justfile_file.specs.Ast.{features_of, tree_of}
 use Rattle.justfile_file.specs.declared.ast.Ast.{Ast}
 use Rattle.justfile_round_trip.specs.RoundTrip.{TextDerives, printed}
-use Rattle.justfile_parse_expression.specs.Conditions.{depth_limit}
+use Rattle.justfile_parse_expression.specs.declared.expression.TheConstants.{RECURSION_LIMIT}
 use Rattle.justfile_parse.specs.Parsing.{IsTextRefused}
 use Rattle.justfile_format.specs.Failure.{error_text}
 
@@ -29,7 +29,7 @@ unchanged text = Some (Ok text)
 
 -- the limit of depth, that expander, and the version of the language
 abbrev pub conditions : Conditions
-conditions = record { limit = depth_limit; expander = unchanged; current = record { major = 1; minor = 58; patch = 0 } }
+conditions = record { limit = RECURSION_LIMIT; expander = unchanged; current = record { major = 1; minor = 58; patch = 0 } }
 
 -- what stands before the lines of bodies: what the literal stands for by which the file is indented, or else four spaces
 abbrev pub IsIndentedBy : Option Tok → (indentation : List ℕ) → Type 0

@@ -14,7 +14,7 @@ use justfile_syntax::compile_error::CompileError;
 use justfile_syntax::fault::Fault;
 use justfile_syntax::indentation::Indentation;
 use justfile_syntax::numerator::Numerator;
-use justfile_syntax::parser::Parser;
+use justfile_syntax::parser::{Parser, RECURSION_LIMIT};
 use justfile_syntax::source::Source;
 use justfile_syntax::version::Version;
 use std::alloc::Global;
@@ -61,6 +61,7 @@ fn parse(alloc: Global, source: &str) -> Result<Ast<'_>, Failure>
         source,
         &Unchanged,
         CURRENT,
+        RECURSION_LIMIT,
     ) {
         Ok(ast) => Ok(ast),
         Err(Fault::Compile(error)) => Err(refusal(alloc, &error)),

@@ -73,7 +73,7 @@ module _ (conditions : Conditions) where
         read (inr x) = absurd x.1
 
     -- what derives in all is read, with its features
-    derived : (tree : Tree) (features : List (Noted Tok)) (h : FileDerives conditions tokens tree features)
+    pub derived : (tree : Tree) (features : List (Noted Tok)) (h : FileDerives conditions tokens tree features)
         → tree_of_tokens conditions tokens ≡ Ok (h.written, features)
     derived tree features h =
         reached h.written h.by_construct h.derives h.obeys ∙ ap (λ (fs : List (Noted Tok)). Ok (h.written, fs)) (sym h.features_are)
@@ -112,3 +112,14 @@ module _ (conditions : Conditions) where
 
     pub refused : FileTree tokens written fs → (r : Refusal) → tree_of_tokens conditions tokens ≡ Err r → IsDue conditions (λ at. Unit {0}) written r
     refused h r is = is_due (λ at. Unit {0}) written r (only_due conditions (λ at. Unit {0}) is (free_found h))
+
+    -- where anything is read, it is what the grammar alone has
+    pub same_found : FileTree tokens written fs → (x : Found) → tree_of_tokens conditions tokens ≡ Ok x → x ≡ found_of written fs
+    same_found h x is = go (free_found h)
+      where
+        read_or_refused : (found : Result Found Refusal) (r : Refusal) → found ≡ Ok x → found ≡ Err r → ⊥
+        read_or_refused found r h k = cc
+
+        go : FileReached (λ at. Unit {0}) (tree_of_tokens conditions tokens) (found_of written fs) → x ≡ found_of written fs
+        go (some_read y a same read) = ok_inside x y (sym is ∙ read) ∙ same
+        go (is_refused {r = r} due refused) = absurd (read_or_refused (tree_of_tokens conditions tokens) r is refused)

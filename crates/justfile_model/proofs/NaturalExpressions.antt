@@ -6,7 +6,7 @@ use Rattle.justfile_model.specs.declared.level.Level.{Level}
 use Rattle.justfile_model.specs.declared.level.Level.TheVariants as levels
 use Rattle.justfile_word.specs.declared.list_feature.ListFeature.TheVariants as features
 use Rattle.justfile_model.specs.ExpressionReader as r
-use Rattle.justfile_model.specs.ExpressionReader.{Met, Out, Place, accept_operator, assert_rule, backtick, binary_rule, braced_rule, condition_rule, conditional_rule, conjunct_rule, element_rule, format_rest_rule, format_rule, format_string_rule, found, group_rule, is_within, list_rule, literal, name_rule, note_uncompared, opened, otherwise_rule, part, parts_rule, read, rule, sequence_rule, whole_format_string, size, stop_expression, literal_string, value_rule}
+use Rattle.justfile_model.specs.ExpressionReader.{Met, Out, Place, accept_operator, assert_rule, backtick, binary_rule, braced_rule, condition_rule, conditional_rule, conjunct_rule, element_rule, format_rest_rule, format_rule, format_string_rule, found, group_rule, list_rule, literal, name_rule, note_uncompared, opened, otherwise_rule, part, parts_rule, read, rule, sequence_rule, whole_format_string, size, stop_expression, literal_string, value_rule}
 use Rattle.justfile_model.specs.Expressions.{ends_open}
 use Rattle.justfile_model.specs.Features.{function_feature, uncompared_feature}
 use Rattle.justfile_model.specs.Literals as literals
@@ -15,7 +15,7 @@ use Rattle.justfile_model.specs.Operators.{feature_of, operand, rank, right}
 use Rattle.justfile_model.specs.Reading.{◌>>=◌, Leaves, Read, State, refused}
 use Rattle.justfile_model.specs.Tree.{Expr}
 use Rattle.justfile_model.proofs.Related as a
-use Rattle.justfile_model.proofs.Related.{Alike, AlikeAll, AlikeParts, Each, Meets, Never, Related, Relations, Respects, States, accepted, accepted_marked, accepted_operator, accepted_word, at_alike, bind, both, by_tests, closed_alike, cooked_alike, each_length, expected, met, neither, no_next, none_met, noted_if_alike, one_noted, opened_alike, pick, refused_alike, same_ends, same_uncompared, same_within, unexpected, with_alike}
+use Rattle.justfile_model.proofs.Related.{Alike, AlikeAll, AlikeParts, Each, Meets, Never, Related, Relations, Respects, States, accepted, accepted_marked, accepted_operator, accepted_word, at_alike, bind, both, by_tests, closed_alike, cooked_alike, each_length, entered, expected, met, neither, no_next, none_met, noted_if_alike, one_noted, opened_alike, pick, refused_alike, same_ends, same_uncompared, unexpected, with_alike}
 use Rattle.justfile_model.proofs.Turns.{both_recur}
 
 pub string_asks : (expanded : Bool) (lexeme : List ℕ) → token_of (string_of expanded lexeme) ≡ lexeme
@@ -128,10 +128,8 @@ module _ {R T A B S D R' T' A' B' S' D' : Type 0} (rel : Relations R T A B S D R
       binary_alike : (k : Level) (c : Bool) {s : State R T B} {s' : State R' T' B'} → States rel s s' → Reads (Alike rel) (binary_rule one f k c s) (binary_rule other g k c s')
       unfolding binary_rule refused
       binary_alike k c {s} {s'} h =
-          by_tests rel (is_within (one.conditions s.run).limit k s) (is_within (other.conditions s'.run).limit k s')
-          (same_within rel (one.conditions s.run) (other.conditions s'.run) k (agree.conditions s.run s'.run h.run) h)
-          (bind rel _ _ (level_alike (operand k) c (opened_alike rel k h)) (λ l l' e j. tail_alike k c l l' e j (accepted_operator rel one other agree k j)))
-          (neither (a.too_deep (a.front_alike rel h.left)))
+          entered rel h (bind rel _ _ (level_alike (operand k) c (opened_alike rel k h)) (λ l l' e j. tail_alike k c l l' e j (accepted_operator rel one other agree k j)))
+          (one.conditions s.run) (other.conditions s'.run) k (agree.conditions s.run s'.run h.run)
 
       conjunct_alike : (c : Bool) {s : State R T B} {s' : State R' T' B'} → States rel s s' → Reads (Alike rel) (conjunct_rule one f c s) (conjunct_rule other g c s')
       unfolding conjunct_rule

@@ -9,7 +9,7 @@ use Rattle.justfile_word.specs.declared.keyword.Keyword.TheVariants as words
 use Rattle.justfile_word.specs.declared.token_kind.TokenKind.{TokenKind}
 use Rattle.justfile_word.specs.declared.token_kind.TokenKind.TheVariants as kinds
 use Rattle.justfile_model.specs.AttributeRules.{of_some}
-use Rattle.justfile_model.specs.Conditions.{Conditions, VersionNumbers}
+use Rattle.justfile_model.specs.Conditions.{VersionNumbers}
 use Rattle.justfile_model.specs.ExpressionReader as expressions
 use Rattle.justfile_model.specs.HeaderReader.{draw_binding, expression, obeying, with_bindings}
 use Rattle.justfile_model.specs.Literals.{string_of}
@@ -224,8 +224,8 @@ module _ {R T A B S D R' T' A' B' S' D' : Type 0} (rel : Relations R T A B S D R
         → Each (AlikeBroken rel.spot) (value_broken (one.conditions run).current (sight run) (Some PlainForm) keyword (one.spot name) v)
         (value_broken (other.conditions run').current (sight' run') (Some PlainForm) keyword (other.spot name') v')
     plain_obeyed run run' same {v} {v'} q =
-        subst (λ (c : Conditions). Each (AlikeBroken rel.spot) (value_broken (one.conditions run).current (sight run) (Some PlainForm) keyword (one.spot name) v)
-        (value_broken c.current (sight' run') (Some PlainForm) keyword (other.spot name') v')) (agree.conditions run run' same)
+        subst (λ (current : VersionNumbers). Each (AlikeBroken rel.spot) (value_broken (one.conditions run).current (sight run) (Some PlainForm) keyword (one.spot name) v)
+        (value_broken current (sight' run') (Some PlainForm) keyword (other.spot name') v')) (agree.conditions run run' same).current
         (value_broken_alike rel (one.conditions run).current (sight run) (sight' run') (sees run run' same) keyword (agree.spot name name' named) q)
 
     plain_natural : {s : State R T B} {s' : State R' T' B'} → States rel s s'

@@ -1,6 +1,7 @@
 -- Two readers side by side: how what the one reads and leaves is related to what the other does. `Relations` says what is related of tokens
 -- and leaves, and the rest follows from it.
-use Rattle.std.proofs.Common.{◌≡◌, ℕ, suc, ◌+◌, Bool, true, false, ◌&&◌, cond, List, [], ◌∷◌, ◌++◌, length, Option, Some, None, Result, Ok, Err, refl, ap, subst, ◌-◌, nat_lt}
+use Rattle.std.proofs.Common.{◌≡◌, ◌⊎◌, ℕ, suc, ◌+◌, ◌<◌, ◌≤◌, Bool, true, false, ◌&&◌, cond, List, [], ◌∷◌, ◌++◌, length, Option, Some, None, Result, Ok, Err, refl, sym, ap, subst, ◌∙◌, inl, inr, arith, ◌-◌, nat_lt}
+use Rattle.std.proofs.lemmas.Bool.Decides.{nat_tests}
 use Rattle.justfile_word.specs.declared.keyword.Keyword.{Keyword}
 use Rattle.justfile_word.specs.declared.token_kind.TokenKind.{TokenKind}
 use Rattle.justfile_model.specs.declared.conditional_operator.ConditionalOperator.{ConditionalOperator}
@@ -28,6 +29,8 @@ use Rattle.justfile_model.proofs.Counters.{count}
 -- what is related of two readers' runs, tokens, leaves and places
 pub record Relations (R T A B S D R' T' A' B' S' D' : Type 0) : Type 1 where
   pub run : R → R' → Type 0
+  -- more expressions may be open in the other, so that it may read what is too deep in the one
+  pub looser : Type 0
   pub token : T → T' → Type 0
   pub spot : B → B' → Type 0
   -- variables, and names of what is called
@@ -335,12 +338,11 @@ module _ {R T A B S D R' T' A' B' S' D' : Type 0} (rel : Relations R T A B S D R
   closed_alike levels.Conjunct h = h
   closed_alike levels.Value h = h
 
-  pub same_within : (c c' : Conditions) (k : Level) {s : State R T B} {s' : State R' T' B'} → c ≡ c' → States s s' → is_within c.limit k s ≡ is_within c'.limit k s'
-  same_within c c' levels.Expression e h = λ i. nat_lt (h.depth i) (e i).limit
-  same_within c c' levels.Disjunct e h = refl
-  same_within c c' levels.Compared e h = refl
-  same_within c c' levels.Conjunct e h = refl
-  same_within c c' levels.Value e h = refl
+  -- the limit is the same, or the other's is greater where that may be; all else is the same
+  pub record AlikeConditions (c c' : Conditions) : Type 0 where
+    pub limit : (c.limit ≡ c'.limit) ⊎ (rel.looser × (c.limit ≤ c'.limit))
+    pub expander : c.expander ≡ c'.expander
+    pub current : c.current ≡ c'.current
 
   -- ---- answers
 
@@ -362,11 +364,13 @@ module _ {R T A B S D R' T' A' B' S' D' : Type 0} (rel : Relations R T A B S D R
     unknown_setting : {b : B} {b' : B'} → rel.spot b b' → Refusals (UnknownSetting b) (UnknownSetting b')
     expected_keyword : {expected : List Keyword} {b : B} {b' : B'} → rel.spot b b' → Refusals (ExpectedKeyword expected b) (ExpectedKeyword expected b')
 
-  -- Both are read and related, or refused for the same reason. Where a number is wanting in the one, `Short` is known of the other.
+  -- Both are read and related, or refused for the same reason. Where a number is wanting in the one, `Short` is known of the other. Where an
+  -- expression is too deep in the one, and the other may be looser, nothing is known of the other.
   pub data Related {X Y : Type 0} (Q : X → Y → Type 0) (Short : Counters → Read R' T' B' Y → Type 0) : Read R T B X → Read R' T' B' Y → Type 0 where
     both : {x : X × State R T B} {y : Y × State R' T' B'} → Q x.0 y.0 → States x.1 y.1 → Related Q Short (Ok x) (Ok y)
     neither : {e : Refusal T B} {e' : Refusal T' B'} → Refusals e e' → Related Q Short (Err e) (Err e')
     short : {n : Counters} {found : Read R' T' B' Y} → Short n found → Related Q Short (Err (NoNumber n)) found
+    deep : {o : Option T} {found : Read R' T' B' Y} → rel.looser → Related Q Short (Err (TooDeep o)) found
 
   -- no number is drawn
   abbrev pub Never : {Y : Type 0} → Counters → Read R' T' B' Y → Type 0
@@ -378,6 +382,7 @@ module _ {R T A B S D R' T' A' B' S' D' : Type 0} (rel : Relations R T A B S D R
   bind f f' (both {x = x} {y = y} q h) k = k x y q h
   bind f f' (neither h) k = neither h
   bind f f' (short h) k = absurd h
+  bind f f' (deep loose) k = deep loose
 
   -- steps one after another are alike, also where numbers are drawn in the first
   pub bind_short : {X X' Y Y' : Type 0} {Q : X → X' → Type 0} {P : Y → Y' → Type 0} {First : Counters → Read R' T' B' X' → Type 0} {Short : Counters → Read R' T' B' Y' → Type 0} {found : Read R T B X} {found' : Read R' T' B' X'}
@@ -387,18 +392,48 @@ module _ {R T A B S D R' T' A' B' S' D' : Type 0} (rel : Relations R T A B S D R
   bind_short f f' (both {x = x} {y = y} q h) lacks k = k x y refl refl q h
   bind_short f f' (neither h) lacks k = neither h
   bind_short f f' (short {n = n} h) lacks k = short (lacks n h)
+  bind_short f f' (deep loose) lacks k = deep loose
 
   pub weaken : {X Y : Type 0} {Q P : X → Y → Type 0} {Short Other : Counters → Read R' T' B' Y → Type 0} {found : Read R T B X} {found' : Read R' T' B' Y} → ((x : X) (y : Y) → Q x y → P x y) → ((n : Counters) → Short n found' → Other n found')
       → Related Q Short found found' → Related P Other found found'
   weaken f g (both {x = x} {y = y} q h) = both (f x.0 y.0 q) h
   weaken f g (neither h) = neither h
   weaken f g (short {n = n} h) = short (g n h)
+  weaken f g (deep loose) = deep loose
 
   pub by_tests : {X Y : Type 0} {Q : X → Y → Type 0} {Short : Counters → Read R' T' B' Y → Type 0} (b b' : Bool) {x y : Read R T B X} {x' y' : Read R' T' B' Y} → b ≡ b' → Related Q Short x x' → Related Q Short y y' → Related Q Short (cond b x y) (cond b' x' y')
   by_tests true true e h k = h
   by_tests false false e h k = k
   by_tests true false e h k = cc
   by_tests false true e h k = cc
+
+  -- an expression that is entered within the limit, or is too deep
+  module _ {X Y : Type 0} {Q : X → Y → Type 0} {Short : Counters → Read R' T' B' Y → Type 0} {x : Read R T B X} {x' : Read R' T' B' Y} {s : State R T B} {s' : State R' T' B'} (h : States s s') (inside : Related Q Short x x') where
+    too_deep_alike : Related Q Short (Err (refused TooDeep s)) (Err (refused TooDeep s'))
+    unfolding refused
+    too_deep_alike = neither (too_deep (front_alike h.left))
+
+    looser_tests : (b b' : Bool) → rel.looser → (b ≡ true → b' ≡ true) → Related Q Short (cond b x (Err (refused TooDeep s))) (cond b' x' (Err (refused TooDeep s')))
+    unfolding refused
+    looser_tests true true loose both_are = inside
+    looser_tests true false loose both_are = let e = both_are refl in cc
+    looser_tests false b' loose both_are = deep loose
+
+    still_below : (d d' limit limit' : ℕ) → d ≡ d' → limit ≤ limit' → nat_lt d limit ≡ true → nat_lt d' limit' ≡ true
+    still_below d d' limit limit' e le h = grind (arith, nat_tests, e, le, h)
+
+    by_limit : (limit limit' : ℕ) → (limit ≡ limit') ⊎ (rel.looser × (limit ≤ limit'))
+        → Related Q Short (cond (nat_lt s.depth limit) x (Err (refused TooDeep s))) (cond (nat_lt s'.depth limit') x' (Err (refused TooDeep s')))
+    by_limit limit limit' (inl e) = by_tests (nat_lt s.depth limit) (nat_lt s'.depth limit') (λ i. nat_lt (h.depth i) (e i)) inside too_deep_alike
+    by_limit limit limit' (inr le) = looser_tests (nat_lt s.depth limit) (nat_lt s'.depth limit') le.0 (still_below s.depth s'.depth limit limit' h.depth le.1)
+
+    pub entered : (c c' : Conditions) (k : Level) → AlikeConditions c c'
+        → Related Q Short (cond (is_within c.limit k s) x (Err (refused TooDeep s))) (cond (is_within c'.limit k s') x' (Err (refused TooDeep s')))
+    entered c c' levels.Expression e = by_limit c.limit c'.limit e.limit
+    entered c c' levels.Disjunct e = inside
+    entered c c' levels.Compared e = inside
+    entered c c' levels.Conjunct e = inside
+    entered c c' levels.Value e = inside
 
   -- ---- tokens that are taken
 
@@ -427,7 +462,7 @@ module _ {R T A B S D R' T' A' B' S' D' : Type 0} (rel : Relations R T A B S D R
 
   -- what the two make of tokens is related
   pub record Respects (one : Leaves R T A B S) (other : Leaves R' T' A' B' S') : Type 0 where
-    pub conditions : (r : R) (r' : R') → rel.run r r' → one.conditions r ≡ other.conditions r'
+    pub conditions : (r : R) (r' : R') → rel.run r r' → AlikeConditions (one.conditions r) (other.conditions r')
     pub see : (t : T) (t' : T') → rel.token t t' → one.see t ≡ other.see t'
     pub spot : (t : T) (t' : T') → rel.token t t' → rel.spot (one.spot t) (other.spot t')
     pub name : (t : T) (t' : T') → rel.token t t' → rel.name (one.name t) (other.name t')
@@ -521,4 +556,4 @@ module _ {R T A B S D R' T' A' B' S' D' : Type 0} (rel : Relations R T A B S D R
         (subst (λ F. Related Q Never (by_text one (λ text. make (one.literal x.0 l text)) x (cooked_text (one.conditions x.1.run).expander l)) (by_text other (λ text. make' (other.literal x'.0 l text)) x' (cooked_text F l))) f
         (text_alike Q (λ text. make (one.literal x.0 l text)) (λ text. make' (other.literal x'.0 l text)) x x' t h (cooked_text (one.conditions x.1.run).expander l)
         (λ text is. made (one.literal x.0 l text) (other.literal x'.0 l text) (agree.literal x.1.run x'.1.run x.0 x'.0 h.run t l text (asks lexeme) is)))) in
-        go (other.see x'.0).tok.lexeme (ap (λ y. y.tok.lexeme) (agree.see x.0 x'.0 t)) (other.conditions x'.1.run).expander (ap (λ (c : Conditions). c.expander) (agree.conditions x.1.run x'.1.run h.run))
+        go (other.see x'.0).tok.lexeme (ap (λ y. y.tok.lexeme) (agree.see x.0 x'.0 t)) (other.conditions x'.1.run).expander (agree.conditions x.1.run x'.1.run h.run).expander

@@ -69,6 +69,7 @@ module _ {A B : Type 0} (sight : Sight A B) (cooked : Literal A → Option (List
   same : Relations (Unit {0}) (Unit {0}) A B (Unit {0}) (Unit {0}) (Unit {0}) (Unit {0}) A B (Unit {0}) (Unit {0})
   same = record {
     run = λ r r'. Unit {0};
+    looser = ⊥;
     token = λ t t'. Unit {0};
     spot = λ b b'. b ≡ b';
     name = λ n n'. n ≡ n';

@@ -17,3 +17,7 @@ pub record Conditions : Type 0 where
 -- conditions with another expander, and with the limit and the version that they had
 abbrev pub with_expander : Expansions → Conditions → Conditions
 with_expander expander conditions = record { limit = conditions.limit; expander = expander; current = conditions.current }
+
+-- conditions with another limit, and with the expander and the version that they had
+abbrev pub with_limit : ℕ → Conditions → Conditions
+with_limit limit conditions = record { limit = limit; expander = conditions.expander; current = conditions.current }

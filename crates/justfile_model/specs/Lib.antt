@@ -36,6 +36,7 @@ pub mod LiteralText
 pub mod Literals
 pub mod Meaning
 pub mod Modes
+pub mod Need
 pub mod NewAttribute
 pub mod Next
 pub mod NormalShape

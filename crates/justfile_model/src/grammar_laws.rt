@@ -1,12 +1,13 @@
 //! Laws of the grammar, each the contract of a function that does nothing.
 ghost use Rattle.std.specs.Prelude.{◌≡◌, ◌<◌, ◌≤◌, ◌⊎◌, ℕ, ◌+◌, Bool, IsTrue, List, length, map, slice_index, Option, Some, Ok, Err};
-ghost use Rattle.justfile_model.specs.Conditions.{Conditions, with_expander};
+ghost use Rattle.justfile_model.specs.Conditions.{Conditions, with_expander, with_limit};
 ghost use Rattle.justfile_model.specs.Expressions.{Under, Waived};
 ghost use Rattle.justfile_model.specs.Features.{ConstructFeatures, Noted, over_noted};
 ghost use Rattle.justfile_model.specs.Files.{FileTree, FileDerives, NumbersFrom, Obeys, ShapeDerives, all_features, keeps_tokens, literals, ordered, bindings, recipes};
 ghost use Rattle.justfile_model.specs.Grammar.{File};
 ghost use Rattle.justfile_model.specs.Lexed.{Lexed};
 ghost use Rattle.justfile_model.specs.Literals.{Literal, Expansions, Within, AreCookedTexts};
+ghost use Rattle.justfile_model.specs.Need.{DerivesUnder, IsNeed};
 ghost use Rattle.justfile_model.specs.NormalShape.{normal};
 ghost use Rattle.justfile_model.specs.Printing.{printable, text};
 ghost use Rattle.justfile_model.specs.Reader.{items};
@@ -69,6 +70,38 @@ pub fn counts()
         → x.0.1.recipes ≡ n.recipes + recipes x.0.0 }
     ensures constants { (n : Counters) (s : State) (x : (WrittenTree × Counters) × State) → items token_leaves token_attributes n s ≡ Ok x
         → x.0.1.constants ≡ n.constants }
+{}
+
+/// What derives under a limit derives under each greater one. Tokens that derive a tree have one need, the least limit under which
+/// they do, and derive a tree under each limit from there on.
+pub fn needs()
+    ensures raised { (C : Conditions) (ts : List SignificantToken) (limit : ℕ) → C.limit ≤ limit
+        → (tree : Tree) (features : List (Noted Tok)) → FileDerives C ts tree features
+        → FileDerives (with_limit limit C) ts tree features }
+    ensures need { (C : Conditions) (ts : List SignificantToken) (tree : Tree)
+        (features : List (Noted Tok)) → FileDerives C ts tree features
+        → (need : ℕ) × IsNeed C ts need × (need ≤ C.limit) }
+    ensures one { (C : Conditions) (ts : List SignificantToken) (m n : ℕ) → IsNeed C ts m
+        → IsNeed C ts n → m ≡ n }
+    ensures enough { (C : Conditions) (ts : List SignificantToken) (need limit : ℕ)
+        → IsNeed C ts need → need ≤ limit → DerivesUnder C ts limit }
+    // Whether a limit suffices depends on neither the expander nor the version: what derives under these conditions, and under
+    // others, derives under these with the limit of the others.
+    ensures relimited { (C D : Conditions) (ts : List SignificantToken) (tree other : Tree)
+        (features others : List (Noted Tok)) → FileDerives C ts tree features
+        → FileDerives D ts other others → FileDerives (with_limit D.limit C) ts tree features }
+    // What derives under another limit, and is refused under this one, is refused as too deep. Where the expressions that are
+    // entered at the limit begin at some tokens, it is refused at one of these.
+    ensures deep { (C : Conditions) (ts : List SignificantToken) (limit : ℕ) (tree : Tree)
+        (features : List (Noted Tok)) → FileDerives (with_limit limit C) ts tree features
+        → (r : Refusal) → tree_of_tokens C ts ≡ Err r
+        → (at : Option SignificantToken) × (r ≡ TooDeep at) }
+    ensures deep_at { (C : Conditions) (ts : List SignificantToken) (limit : ℕ) (tree : Tree)
+        (features : List (Noted Tok)) (h : FileDerives (with_limit limit C) ts tree features)
+        (r : Refusal) → tree_of_tokens C ts ≡ Err r
+        → (fs : List (ConstructFeatures Tok)) (Hit : Option SignificantToken → Bool)
+        → File keeps_tokens (Waived C.limit (λ at. IsTrue (Hit at))) h.written fs ts
+        → (at : Option SignificantToken) × IsTrue (Hit at) × (r ≡ TooDeep at) }
 {}
 
 /// Of tokens whose kinds have the lexemes that are theirs, as those of a text have: a tree derives where its shape does, with features at

@@ -1,5 +1,5 @@
 -- What is read of a table, and what that says of the tokens.
-use Rattle.std.proofs.Common.{◌≡◌, ℕ, ◌+◌, ◌<◌, ◌≤◌, Bool, true, false, ◌&&◌, cond, IsTrue, rules, List, [], ◌∷◌, ◌++◌, map, length, All, Contains, Option, Some, None, Result, Ok, Err, inl, inr, refl, sym, ap, ◌∙◌, subst, arith}
+use Rattle.std.proofs.Common.{◌≡◌, ◌⊎◌, ℕ, ◌+◌, ◌<◌, ◌≤◌, Bool, true, false, ◌&&◌, cond, IsTrue, rules, List, [], ◌∷◌, ◌++◌, map, length, All, Contains, Option, Some, None, Result, Ok, Err, inl, inr, refl, sym, ap, ◌∙◌, subst, arith}
 use Rattle.std.specs.Prelude.{◌-◌, ◌^◌, codes, get_or, nat_eq, reverse, string_bytes}
 use Rattle.std.specs.Global.{Box}
 use Rattle.std.specs.List.{list_all, flat_map, starts_with}
@@ -42,8 +42,8 @@ use Rattle.justfile_item.specs.declared.item.Item.TheVariants.{Alias, Assignment
 use Rattle.justfile_file.specs.Ast.{features_of, tree_of}
 use Rattle.justfile_file.specs.declared.ast.Ast.{Ast}
 use Rattle.justfile_model.specs.Answers.{IsFrom, IsLexerFault}
-use Rattle.justfile_model.specs.Conditions.{Conditions}
-use Rattle.justfile_model.specs.Files.{FileDerives, body_literals, dependency_literals, entries_literals, expr_literals, exprs_literals, fragments_literals, header_literals, item_literals, literals, optional_literals, ordered, parameter_literals, parts_literals}
+use Rattle.justfile_model.specs.Conditions.{Conditions, with_limit}
+use Rattle.justfile_model.specs.Files.{FileDerives, NumbersSuffice, body_literals, dependency_literals, entries_literals, expr_literals, exprs_literals, fragments_literals, header_literals, item_literals, literals, optional_literals, ordered, parameter_literals, parts_literals}
 use Rattle.justfile_model.specs.Lexed.{Lexed, IsFault}
 use Rattle.justfile_model.specs.LexicalFault.{LexicalFault}
 use Rattle.justfile_model.specs.Features.{Noted}
@@ -57,12 +57,14 @@ use Rattle.justfile_model.specs.Tok.{Tok, tok_of}
 use Rattle.justfile_model.specs.Tree as tree
 use Rattle.justfile_model.specs.Tree.{Tree, WrittenTree, lexeme}
 use Rattle.justfile_model.proofs.LexedLaws.{one_list, never_both}
+use Rattle.std.proofs.lemmas.Bool.{cases_order}
 use Rattle.justfile_model.proofs.Agreement.{complete, due, refused}
+use Rattle.justfile_model.proofs.Needs.{deep_at, only_deep, raised}
 use Rattle.justfile_model.proofs.Soundness.{sound}
 use Rattle.justfile_model.proofs.Ordered.{ordered_bindings, ordered_recipes}
 use Rattle.justfile_parse_item.specs.Filled.{AreGivenExpressions, AreGivenParts, IfThere, IsGivenArgument, IsGivenBoxed, IsGivenDependency, IsGivenName, IsGivenParameter, IsGivenRecipe, IsGivenFragment, IsGivenOptional, IsGivenItem, IsGivenExpression, IsGivenLine, IsGivenPart, IsInTable, first_part, later_part}
 use Rattle.justfile_literal.specs.Literal.{IsPartOf, is_framed, is_quoted}
-use Rattle.justfile_parse.specs.Errors.{IsErrorOf}
+use Rattle.justfile_parse.specs.Errors.{IsErrorOf, IsTooDeepError}
 use Rattle.justfile_parse_expression.specs.Literal.{is_delimited, is_sound}
 use Rattle.justfile_parse.specs.Parsing.{HasNoTree, IsOneLex, IsParsed, IsParsedText, IsUnparsed}
 use Rattle.justfile_parse.specs.MethodResults.{IsRead, IsUnread}
@@ -429,10 +431,14 @@ module _ (conditions : Conditions) (tokens : List Token) (table : List TableEntr
   abbrev there : Result (WrittenTree × List (Noted Tok)) model.Refusal
   there = model.tree_of_tokens conditions (map significant_of table)
 
+  found_under : (limit : ℕ) (tree : Tree) (features : List (Noted Tok)) → FileDerives (with_limit limit conditions) (significant_tokens (map tok_of tokens)) tree features
+      → (written : WrittenTree) × (ordered (sees_tokens conditions.expander) written ≡ Some tree) × (model.tree_of_tokens (with_limit limit conditions) (map significant_of table) ≡ Ok (written, features))
+  found_under limit tree features d =
+      let x = complete (with_limit limit conditions) (significant_tokens (map tok_of tokens)) tree features d in
+      (x.0, x.1, ap (model.tree_of_tokens (with_limit limit conditions)) is ∙ x.2)
+
   found : (tree : Tree) (features : List (Noted Tok)) → Derives tree features → (written : WrittenTree) × (ordered (sees_tokens conditions.expander) written ≡ Some tree) × (there ≡ Ok (written, features))
-  found tree features d =
-      let x = complete conditions (significant_tokens (map tok_of tokens)) tree features d in
-      (x.0, x.1, ap (model.tree_of_tokens conditions) is ∙ x.2)
+  found tree features d = found_under conditions.limit tree features d
 
   pub derives_of : (written : WrittenTree) (tree : Tree) (features : List (Noted Tok)) → there ≡ Ok (written, features) → ordered (sees_tokens conditions.expander) written ≡ Some tree → Derives tree features
   derives_of written tree features h meaning =
@@ -459,16 +465,38 @@ module _ (conditions : Conditions) (tokens : List Token) (table : List TableEntr
           breaks = λ written features d. refused conditions ts written features d h.refusal read;
           breaks_at = λ written features Hit d. due conditions ts written features Hit d h.refusal read;
         };
+        deep = λ limit tree features d.
+            let x = only_deep conditions ts limit tree features d h.refusal read in
+            let E : model.Refusal → Type 0 = λ r. IsErrorOf ts r e in
+            record {
+              kind_is = (subst E x.1 error).0;
+              at_one = λ fs Hit waived.
+                  let y = deep_at conditions ts limit tree features d h.refusal read fs Hit waived in
+                  (y.0, y.1, (subst E y.2 error).1);
+            };
       }
   unparsed_of all faults.Memory h = tt
   unparsed_of all faults.Numbers h =
-      let P : List SignificantToken → Type 0 = λ ts. WantsNumber conditions ts old new in (
-        subst P is h.0,
-        λ tree features d enough. let x = found tree features d in h.1 x.0 features x.2 (record {
-          bindings_suffice = subst (λ (n : ℕ). bindings_of old + n ≤ 2 ^ 32 - 1) (ordered_bindings (sees_tokens conditions.expander) x.0 tree x.1) enough.bindings_suffice;
-          recipes_suffice = subst (λ (n : ℕ). recipes_of old + n ≤ 2 ^ 32 - 1) (ordered_recipes (sees_tokens conditions.expander) x.0 tree x.1) enough.recipes_suffice;
-        }),
-      )
+      let P : List SignificantToken → Type 0 = λ ts. WantsNumber conditions ts old new in
+      (subst P is h.0, λ limit tree features d enough. by_order limit tree features d enough (cases_order conditions.limit limit))
+    where
+      -- under a limit that is no less
+      under : (limit : ℕ) → conditions.limit ≤ limit → (tree : Tree) (features : List (Noted Tok)) → FileDerives (with_limit limit conditions) (significant_tokens (map tok_of tokens)) tree features
+          → NumbersSuffice (bindings_of old) (recipes_of old) tree → ⊥
+      under limit above tree features d enough =
+          let x = found_under limit tree features d in
+          h.1 limit above x.0 features x.2 (record {
+            bindings_suffice = subst (λ (n : ℕ). bindings_of old + n ≤ 2 ^ 32 - 1) (ordered_bindings (sees_tokens conditions.expander) x.0 tree x.1) enough.bindings_suffice;
+            recipes_suffice = subst (λ (n : ℕ). recipes_of old + n ≤ 2 ^ 32 - 1) (ordered_recipes (sees_tokens conditions.expander) x.0 tree x.1) enough.recipes_suffice;
+          })
+
+      by_order : (limit : ℕ) (tree : Tree) (features : List (Noted Tok)) → FileDerives (with_limit limit conditions) (significant_tokens (map tok_of tokens)) tree features
+          → NumbersSuffice (bindings_of old) (recipes_of old) tree → (conditions.limit ≡ limit) ⊎ ((conditions.limit < limit) ⊎ (limit < conditions.limit)) → ⊥
+      by_order limit tree features d enough (inl same) = under limit (omega (arith, same)) tree features d enough
+      by_order limit tree features d enough (inr (inl less)) = under limit (omega (arith, less)) tree features d enough
+      by_order limit tree features d enough (inr (inr more)) =
+          under conditions.limit (omega arith) tree features
+          (raised (with_limit limit conditions) (significant_tokens (map tok_of tokens)) conditions.limit (omega (arith, more)) tree features d) enough
 
   pub parsed_of : All (λ entry. Contains tokens entry.token.now) table → (file_depth : ℕ) (import_offsets : List ℕ) (ast : Ast)
       → IsRead conditions table file_depth import_offsets (map significant_of table) old new (ast.items.items, ast.list_features.items) → ast.unstable_features.keys ≡ unstable_features (tree_of ast)
@@ -494,21 +522,26 @@ module _ (conditions : Conditions) (path src : List ℕ) (utf8 : IsUtf8 src) (to
   from_tokens : (t : Token) → Contains tokens t → IsFrom path src t
   from_tokens t h = All-contains (IsFrom path src) tokens t all h
 
-  derives_tokens : (tree : Tree) (features : List (Noted Tok)) → TextDerives conditions src tree features → FileDerives conditions (significant_tokens (map tok_of tokens)) tree features
-  derives_tokens tree features d =
-      let P : List Tok → Type 0 = λ ts. FileDerives conditions (significant_tokens ts) tree features in
+  derives_tokens : (limit : ℕ) (tree : Tree) (features : List (Noted Tok)) → TextDerives (with_limit limit conditions) src tree features
+      → FileDerives (with_limit limit conditions) (significant_tokens (map tok_of tokens)) tree features
+  derives_tokens limit tree features d =
+      let P : List Tok → Type 0 = λ ts. FileDerives (with_limit limit conditions) (significant_tokens ts) tree features in
       subst P (one_list src d.tokens (map tok_of tokens) d.lexed lexed) d.file
 
   pub no_tree : (fault : Fault) → IsUnparsed conditions (map tok_of tokens) (Contains tokens) old new fault → HasNoTree conditions path src old new fault
   no_tree (faults.Compile e) h =
       record {
-        derives_none = λ tree features d. h.derives_none tree features (derives_tokens tree features d);
+        derives_none = λ tree features d. h.derives_none tree features (derives_tokens conditions.limit tree features d);
         from = from_tokens e.token h.among;
         not_internal = h.not_internal;
         cause = inr (record { tokens = map tok_of tokens; lexed = lexed; refused = h.refused });
+        deep = λ limit tree features d.
+            let P : List Tok → Type 0 = λ ts. (f : FileDerives (with_limit limit conditions) (significant_tokens ts) tree features)
+            → IsTooDeepError conditions (significant_tokens ts) f.written e in
+            subst P (sym (one_list src d.tokens (map tok_of tokens) d.lexed lexed)) (h.deep limit tree features) d.file;
       }
   no_tree faults.Memory h = tt
-  no_tree faults.Numbers h = (record { tokens = map tok_of tokens; lexed = lexed; wants = h.0 }, λ tree features d suffice. h.1 tree features (derives_tokens tree features d) suffice)
+  no_tree faults.Numbers h = (record { tokens = map tok_of tokens; lexed = lexed; wants = h.0 }, λ limit tree features d suffice. h.1 limit tree features (derives_tokens limit tree features d) suffice)
 
   pub text_parsed : (file_depth : ℕ) (import_offsets : List ℕ) (ast : Ast) → IsParsed conditions (map tok_of tokens) (Contains tokens) file_depth import_offsets old new ast → IsParsedText conditions path src file_depth import_offsets old new ast
   text_parsed file_depth import_offsets ast h =
@@ -536,6 +569,7 @@ lexical conditions path src numerator (faults.Compile e) h =
       from = h.from;
       not_internal = not_internal src e.kind (tok_of e.token) (let P : LexicalFault → Type 0 = λ f. IsFault src f (tok_of e.token) in subst P (sym h.kind_is) h.is_fault);
       cause = inl (h, refl);
+      deep = λ limit tree features d. absurd (never_both src d.tokens h.fault (tok_of e.token) d.lexed h.is_fault);
     }
 lexical conditions path src numerator faults.Memory h = tt
 lexical conditions path src numerator faults.Numbers h = absurd h

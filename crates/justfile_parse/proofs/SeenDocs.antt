@@ -114,9 +114,9 @@ LeafItem = OrderedItem Leaf Token ℕ
 abbrev TreeItem : Type 0
 TreeItem = OrderedItem Tok Tok ℕ
 
-module _ (conditions : Conditions) (IsToken : Token → Type 0) (file_depth : ℕ) (import_offsets : List ℕ) where
+module _ (conditions : Conditions) (bound : ℕ) (IsToken : Token → Type 0) (file_depth : ℕ) (import_offsets : List ℕ) where
   abbrev seen : Relates
-  seen = seeing.seen conditions IsToken file_depth import_offsets
+  seen = seeing.seen conditions bound IsToken file_depth import_offsets
 
   -- what a written item means
   abbrev meant : WrittenItem Tok Tok ℕ Tok → Option TreeItem
@@ -261,7 +261,7 @@ module _ (conditions : Conditions) (IsToken : Token → Type 0) (file_depth : �
   begun n (i ∷ is) (a.an_item {i' = t} h hs) =
       let bare = bare_is h in
       let k : AlikeItem seen n (undoc (item_tree i)) t = subst (λ (l : LeafItem). AlikeItem seen n l t) (sym bare) h in
-      let x = item_seen conditions IsToken file_depth import_offsets n i k in
+      let x = item_seen conditions bound IsToken file_depth import_offsets n i k in
       let y = begun (count n (item_tree i)) is hs in
       record {
         same = λ j. if_both ((x.same ∙ ap (λ (u : TreeItem). Some u) (without_doc i bare)) j) (y.same j);
@@ -280,14 +280,14 @@ module _ (conditions : Conditions) (IsToken : Token → Type 0) (file_depth : �
   record EndedItem (n : Counters) (i : Item) (u : TreeItem) : Type 0 where
     same : u ≡ item_of i
     written : WrittenItem Tok Tok ℕ Tok
-    seen_is : SeenItem conditions IsToken file_depth import_offsets n i written
+    seen_is : SeenItem conditions bound IsToken file_depth import_offsets n i written
 
   -- an item that is a construct, of which the definitions see this
   ended_construct : (n : Counters) (i : Item) {others : List (Entry Tok Tok)} {other : Content Tok Tok ℕ (Unit {0})} {t : WrittenItem Tok Tok ℕ Tok}
       → doc_at (item_tree i) ≡ doc_of other → AlikeItem seen n (undoc (item_tree i)) t → meant t ≡ Some (tree.Construct others (redocumented None other))
       → EndedItem n i (tree.Construct others other)
   ended_construct n i {others} {other} {t} docs h means =
-      let x = item_seen conditions IsToken file_depth import_offsets n i h in
+      let x = item_seen conditions bound IsToken file_depth import_offsets n i h in
       let bare : tree.Construct others (redocumented None other) ≡ undoc (item_of i)
       = some_back (tree.Construct others (redocumented None other)) (undoc (item_of i)) (sym means ∙ x.same) in
       record {
@@ -309,11 +309,11 @@ module _ (conditions : Conditions) (IsToken : Token → Type 0) (file_depth : �
   ended_item : (n : Counters) (i : Item) {u : TreeItem} → Docs n (item_tree i) u → EndedItem n i u
   ended_item n (items.Alias b) (construct says takes docs h means) = ended_construct n (items.Alias b) docs h means
   ended_item n (items.Assignment b) (construct says takes docs h means) = ended_construct n (items.Assignment b) docs h means
-  ended_item n (items.Comment text) comment = record { same = refl; written = tree.Comment text.now; seen_is = item_seen conditions IsToken file_depth import_offsets n (items.Comment text) a.comment }
+  ended_item n (items.Comment text) comment = record { same = refl; written = tree.Comment text.now; seen_is = item_seen conditions bound IsToken file_depth import_offsets n (items.Comment text) a.comment }
   ended_item n (items.Function f) (construct says takes docs h means) = ended_construct n (items.Function f) docs h means
   ended_item n (items.Import set optional relative) (construct says takes docs h means) = ended_construct n (items.Import set optional relative) docs h means
   ended_item n (items.Module set doc name optional relative) (construct says takes docs h means) = ended_construct n (items.Module set doc name optional relative) docs h means
-  ended_item n items.Newline newline = record { same = refl; written = tree.Newline; seen_is = item_seen conditions IsToken file_depth import_offsets n items.Newline a.newline }
+  ended_item n items.Newline newline = record { same = refl; written = tree.Newline; seen_is = item_seen conditions bound IsToken file_depth import_offsets n items.Newline a.newline }
   ended_item n (items.Recipe r) (construct says takes docs h means) = ended_construct n (items.Recipe r) docs h means
   ended_item n (items.Setting s) (construct says takes docs h means) = ended_construct n (items.Setting s) docs h means
   ended_item n (items.Unexport set name) (construct says takes docs h means) = ended_construct n (items.Unexport set name) docs h means

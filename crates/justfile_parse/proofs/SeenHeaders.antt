@@ -31,25 +31,25 @@ use Rattle.justfile_tree.specs.LeafTree.{Leaf, Named}
 use Rattle.justfile_parse_item.proofs.Seen as seeing
 use Rattle.justfile_parse_item.proofs.SeenAttributes as attributes
 
-module _ (conditions : Conditions) (IsToken : Token → Type 0) (file_depth : ℕ) (import_offsets : List ℕ) where
+module _ (conditions : Conditions) (bound : ℕ) (IsToken : Token → Type 0) (file_depth : ℕ) (import_offsets : List ℕ) where
   abbrev seen : Relates
-  seen = seeing.seen conditions IsToken file_depth import_offsets
+  seen = seeing.seen conditions bound IsToken file_depth import_offsets
 
   abbrev IsLeaf : (Token → Leaf) → Leaf → Tok → Type 0
-  IsLeaf = table.IsLeaf conditions IsToken file_depth import_offsets
+  IsLeaf = table.IsLeaf conditions bound IsToken file_depth import_offsets
 
   -- ---- names
 
   pub name_seen : (name : Name) (tok : Tok) → IsLeaf (λ token. Named token None) (name_tree name) tok → (tok ≡ name_of name) × IsGivenName conditions.expander IsToken name
   name_seen name tok h =
-      let x = seeing.variable_seen conditions IsToken file_depth import_offsets name.token None tok h in
+      let x = seeing.variable_seen conditions bound IsToken file_depth import_offsets name.token None tok h in
       (x.1, x.0)
 
   -- the names of a path
   pub path_seen : (names : List Name) {ts : List Tok} → Each (IsLeaf (λ token. Named token None)) (map name_tree names) ts
       → (ts ≡ map name_of names) × All (IsGivenName conditions.expander IsToken) names
   path_seen names h =
-      seeing.all_seen conditions IsToken file_depth import_offsets name_tree name_of (IsGivenName conditions.expander IsToken) name_seen names h
+      seeing.all_seen conditions bound IsToken file_depth import_offsets name_tree name_of (IsGivenName conditions.expander IsToken) name_seen names h
 
   -- ---- dependencies
 
@@ -60,20 +60,20 @@ module _ (conditions : Conditions) (IsToken : Token → Type 0) (file_depth : �
   argument_seen : (d : DependencyArgument) (t : tree.DependencyArgument Tok Tok Tok) → AlikeDependencyArgument seen seen.star (argument_tree d) t
       → (starless_argument t ≡ dependency_argument_of d) × IsGivenArgument conditions.expander IsToken d
   argument_seen d t h =
-      let x = seeing.seen_expression conditions IsToken file_depth import_offsets d.expression.value h.value in
+      let x = seeing.seen_expression conditions bound IsToken file_depth import_offsets d.expression.value h.value in
       ((λ i. record { star = star_seen d.starred h.star i; value = x.same i }), x.given)
 
   dependency_seen : (d : UnresolvedDependency) (t : tree.Dependency Tok Tok Tok) → AlikeDependency seen (dependency_tree d) t
       → (starless_dependency t ≡ dependency_of d) × IsGivenDependency conditions.expander IsToken d
   dependency_seen d t h =
       let p = path_seen (names_in d.recipe) h.path in
-      let q = seeing.each_seen conditions IsToken file_depth import_offsets argument_tree dependency_argument_of starless_argument (IsGivenArgument conditions.expander IsToken) argument_seen d.arguments.items h.arguments in
+      let q = seeing.each_seen conditions bound IsToken file_depth import_offsets argument_tree dependency_argument_of starless_argument (IsGivenArgument conditions.expander IsToken) argument_seen d.arguments.items h.arguments in
       ((λ i. record { star = star_seen (is_starred d) h.star i; path = p.0 i; arguments = q.0 i }), (p.1, q.1))
 
   pub dependencies_seen : (ds : List UnresolvedDependency) {ts : List (tree.Dependency Tok Tok Tok)} → Each (AlikeDependency seen) (map dependency_tree ds) ts
       → (map starless_dependency ts ≡ map dependency_of ds) × All (IsGivenDependency conditions.expander IsToken) ds
   dependencies_seen ds h =
-      seeing.each_seen conditions IsToken file_depth import_offsets dependency_tree dependency_of starless_dependency (IsGivenDependency conditions.expander IsToken) dependency_seen ds h
+      seeing.each_seen conditions bound IsToken file_depth import_offsets dependency_tree dependency_of starless_dependency (IsGivenDependency conditions.expander IsToken) dependency_seen ds h
 
   -- those before `&&` and those after it are all
   pub both_given : (priors : ℕ) (ds : List UnresolvedDependency) → All (IsGivenDependency conditions.expander IsToken) (take priors ds)
@@ -101,8 +101,8 @@ module _ (conditions : Conditions) (IsToken : Token → Type 0) (file_depth : �
 
   parameter_seen : (number : ℕ) (p : Parameter) (t : tree.Parameter Tok Tok) → AlikeParameter seen number (parameter_tree p) t → SeenParameter number p t
   parameter_seen number p t h =
-      let n = seeing.name_seen conditions IsToken file_depth import_offsets (λ token. Named token (Some (number_of number))) p.name.token (parameter_name p) t.name (λ token. refl) refl h.name in
-      let d = attributes.optional_seen conditions IsToken file_depth import_offsets p.default h.default in
+      let n = seeing.name_seen conditions bound IsToken file_depth import_offsets (λ token. Named token (Some (number_of number))) p.name.token (parameter_name p) t.name (λ token. refl) refl h.name in
+      let d = attributes.optional_seen conditions bound IsToken file_depth import_offsets p.default h.default in
       record {
         same = λ i. record { kind = sym h.kind i; export = sym h.export i; name = n.1 i; default = d.0 i };
         given = (n.0, d.1);

@@ -68,15 +68,15 @@ meant_item : (expander : Expansions) (content : Content Tok Tok ℕ Tok) (ws : L
     → ordered_item (sees_tokens expander) (tree.Construct ws content) ≡ Some (tree.Construct entries (starless content))
 meant_item expander content ws entries e = ap (with_entries content) e
 
-module _ (conditions : Conditions) (IsToken : Token → Type 0) (file_depth : ℕ) (import_offsets : List ℕ) where
+module _ (conditions : Conditions) (bound : ℕ) (IsToken : Token → Type 0) (file_depth : ℕ) (import_offsets : List ℕ) where
   abbrev seen : Relates
-  seen = seeing.seen conditions IsToken file_depth import_offsets
+  seen = seeing.seen conditions bound IsToken file_depth import_offsets
 
   abbrev IsLeaf : (Token → Leaf) → Leaf → Tok → Type 0
-  IsLeaf = table.IsLeaf conditions IsToken file_depth import_offsets
+  IsLeaf = table.IsLeaf conditions bound IsToken file_depth import_offsets
 
   abbrev IsGivenPair : Pair → Type 0
-  IsGivenPair = seeing.IsGivenPair conditions IsToken file_depth import_offsets
+  IsGivenPair = seeing.IsGivenPair conditions bound IsToken file_depth import_offsets
 
   -- the attributes of a set are given, with what the tree doesn't show of them
   pairs_given : (ps : List Pair) → All IsGivenPair ps → All IsWholeAttribute (firsts ps) → All (λ (p : Pair). IsToken p.1.token × IsGivenAttribute conditions.expander IsToken p.0 × IsWholeAttribute p.0) ps
@@ -108,15 +108,15 @@ module _ (conditions : Conditions) (IsToken : Token → Type 0) (file_depth : �
     pub numbers : (more : List ℕ) → NumbersFrom (count n (item_tree i)).bindings more → NumbersFrom n.bindings (item_numbers i ++ more)
     pub recipe_numbers : (more : List ℕ) → NumbersFrom (count n (item_tree i)).recipes more → NumbersFrom n.recipes (item_recipe_numbers i ++ more)
 
-  assignment_seen : (n : Counters) (b : Binding Expression) {ws : List (WrittenAttribute Tok Tok)} {t : Tok} {e : Expr Tok Tok} → AreMeant conditions IsToken file_depth import_offsets (leaf_entries_of b.attributes) ws
-      → IsLeaf (λ token. assigned_leaf (in_run conditions IsToken file_depth import_offsets) token n.bindings) (Assigned (assignment_name b)) t → Alike seen (leaf_tree_of b.value) e
+  assignment_seen : (n : Counters) (b : Binding Expression) {ws : List (WrittenAttribute Tok Tok)} {t : Tok} {e : Expr Tok Tok} → AreMeant conditions bound IsToken file_depth import_offsets (leaf_entries_of b.attributes) ws
+      → IsLeaf (λ token. assigned_leaf (in_run conditions bound IsToken file_depth import_offsets) token n.bindings) (Assigned (assignment_name b)) t → Alike seen (leaf_tree_of b.value) e
       → SeenItem n (items.Assignment b) (tree.Construct ws (tree.Assignment (assignment_of b.eager b.export t e)))
   assignment_seen n b {ws} {t} {e} means h v =
-      let same : assignment_name b ≡ assigned_in (assignment_name b) (assigned_leaf (in_run conditions IsToken file_depth import_offsets) h.token n.bindings) = ap (assigned_in (assignment_name b)) h.is in
+      let same : assignment_name b ≡ assigned_in (assignment_name b) (assigned_leaf (in_run conditions bound IsToken file_depth import_offsets) h.token n.bindings) = ap (assigned_in (assignment_name b)) h.is in
       let token : h.token ≡ b.name.token = ap (λ (x : AssignmentName). x.name) (sym same) in
       let number : b.number.0 ≡ n.bindings = ap (λ (x : AssignmentName). x.number.0) same in
       let m = means b.attributes refl in
-      let x = seeing.seen_expression conditions IsToken file_depth import_offsets b.value v in
+      let x = seeing.seen_expression conditions bound IsToken file_depth import_offsets b.value v in
       record {
         same =
             meant_item conditions.expander (tree.Assignment (assignment_of b.eager b.export t e)) ws (sets.entries_of b.attributes) m.0
@@ -133,19 +133,19 @@ module _ (conditions : Conditions) (IsToken : Token → Type 0) (file_depth : �
         recipe_numbers = λ more h. h;
       }
 
-  recipe_seen : (n : Counters) (r : UnresolvedRecipe) {ws : List (WrittenAttribute Tok Tok)} {h : Header Tok Tok Tok} {body : List (BodyLine Tok Tok ℕ)} → AreMeant conditions IsToken file_depth import_offsets (leaf_entries_of r.attributes) ws
+  recipe_seen : (n : Counters) (r : UnresolvedRecipe) {ws : List (WrittenAttribute Tok Tok)} {h : Header Tok Tok Tok} {body : List (BodyLine Tok Tok ℕ)} → AreMeant conditions bound IsToken file_depth import_offsets (leaf_entries_of r.attributes) ws
       → AlikeHeader seen n (recipe_header r) (map line_tree r.body.items) h body → Each (AlikeLine seen) (map line_tree r.body.items) body
       → SeenItem n (items.Recipe r) (tree.Construct ws (tree.Recipe (bare_recipe h body)))
   recipe_seen n r {ws} {h} {body} means k ls =
       let name = k.name in
-      let same : recipe_name r ≡ headed_in (recipe_name r) (headed_leaf (in_run conditions IsToken file_depth import_offsets) name.token n.recipes) = ap (headed_in (recipe_name r)) name.is in
+      let same : recipe_name r ≡ headed_in (recipe_name r) (headed_leaf (in_run conditions bound IsToken file_depth import_offsets) name.token n.recipes) = ap (headed_in (recipe_name r)) name.is in
       let token : name.token ≡ r.name.token = ap (λ (x : RecipeName). x.name) (sym same) in
       let number : r.number.0 ≡ n.recipes = ap (λ (x : RecipeName). x.number.0) same in
       let m = means r.attributes refl in
-      let x = seeing.all_seen conditions IsToken file_depth import_offsets line_tree body_line_of (IsGivenLine conditions.expander IsToken) (seeing.line_seen conditions IsToken file_depth import_offsets) r.body.items ls in
-      let ps = headers.parameters_seen conditions IsToken file_depth import_offsets n r.parameters.items k.parameters in
-      let ds = headers.dependencies_seen conditions IsToken file_depth import_offsets (priors_of r) k.priors in
-      let es = headers.dependencies_seen conditions IsToken file_depth import_offsets (subsequents_of r) k.subsequents in
+      let x = seeing.all_seen conditions bound IsToken file_depth import_offsets line_tree body_line_of (IsGivenLine conditions.expander IsToken) (seeing.line_seen conditions bound IsToken file_depth import_offsets) r.body.items ls in
+      let ps = headers.parameters_seen conditions bound IsToken file_depth import_offsets n r.parameters.items k.parameters in
+      let ds = headers.dependencies_seen conditions bound IsToken file_depth import_offsets (priors_of r) k.priors in
+      let es = headers.dependencies_seen conditions bound IsToken file_depth import_offsets (subsequents_of r) k.subsequents in
       let header : starless_header h ≡ header_of r = λ i. record {
         quiet = sym k.quiet i;
         name = (name.tok_is ∙ ap tok_of token) i;
@@ -162,7 +162,7 @@ module _ (conditions : Conditions) (IsToken : Token → Type 0) (file_depth : �
           parameters = ps.given;
           said = whole.parameters;
           priors = whole.priors;
-          dependencies = headers.both_given conditions IsToken file_depth import_offsets r.priors r.dependencies.items ds.1 es.1;
+          dependencies = headers.both_given conditions bound IsToken file_depth import_offsets r.priors r.dependencies.items ds.1 es.1;
           body = x.1;
           file_depth_is = ap (λ (x : RecipeName). x.file_depth) same;
           import_offsets_are = ap (λ (x : RecipeName). x.import_offsets) same;
@@ -178,13 +178,13 @@ module _ (conditions : Conditions) (IsToken : Token → Type 0) (file_depth : �
   abbrev IsName : Leaf → Tok → Type 0
   IsName = IsLeaf (λ token. Named token None)
 
-  alias_seen : (n : Counters) (b : Alias Namepath) {ws : List (WrittenAttribute Tok Tok)} {t : Tok} {ts : List Tok} → AreMeant conditions IsToken file_depth import_offsets (leaf_entries_of b.attributes) ws
+  alias_seen : (n : Counters) (b : Alias Namepath) {ws : List (WrittenAttribute Tok Tok)} {t : Tok} {ts : List Tok} → AreMeant conditions bound IsToken file_depth import_offsets (leaf_entries_of b.attributes) ws
       → IsName (name_tree b.name) t → Each IsName (path_tree b.target) ts
       → SeenItem n (items.Alias b) (tree.Construct ws (tree.Alias (record { name = t; target = ts })))
   alias_seen n b {ws} {t} {ts} means h hs =
       let m = means b.attributes refl in
-      let x = headers.name_seen conditions IsToken file_depth import_offsets b.name t h in
-      let y = headers.path_seen conditions IsToken file_depth import_offsets (names_in b.target) hs in
+      let x = headers.name_seen conditions bound IsToken file_depth import_offsets b.name t h in
+      let y = headers.path_seen conditions bound IsToken file_depth import_offsets (names_in b.target) hs in
       record {
         same =
             meant_item conditions.expander (tree.Alias (record { name = t; target = ts })) ws (sets.entries_of b.attributes) m.0
@@ -194,14 +194,14 @@ module _ (conditions : Conditions) (IsToken : Token → Type 0) (file_depth : �
         recipe_numbers = λ more k. k;
       }
 
-  function_seen : (n : Counters) (f : FunctionDefinition) {ws : List (WrittenAttribute Tok Tok)} {t : Tok} {ts : List Tok} {e : Expr Tok Tok} → AreMeant conditions IsToken file_depth import_offsets (leaf_entries_of f.attributes) ws
+  function_seen : (n : Counters) (f : FunctionDefinition) {ws : List (WrittenAttribute Tok Tok)} {t : Tok} {ts : List Tok} {e : Expr Tok Tok} → AreMeant conditions bound IsToken file_depth import_offsets (leaf_entries_of f.attributes) ws
       → IsName (name_tree f.name) t → AlikeNames seen n.bindings (map numbered_tree f.parameters.items) ts → Alike seen (leaf_tree_of f.body.value) e
       → SeenItem n (items.Function f) (tree.Construct ws (tree.Function (record { name = t; parameters = ts; body = e })))
   function_seen n f {ws} {t} {ts} {e} means h hs v =
       let m = means f.attributes refl in
-      let x = headers.name_seen conditions IsToken file_depth import_offsets f.name t h in
-      let y = parts.names_seen conditions IsToken file_depth import_offsets n f.parameters.items hs in
-      let z = seeing.seen_expression conditions IsToken file_depth import_offsets f.body.value v in
+      let x = headers.name_seen conditions bound IsToken file_depth import_offsets f.name t h in
+      let y = parts.names_seen conditions bound IsToken file_depth import_offsets n f.parameters.items hs in
+      let z = seeing.seen_expression conditions bound IsToken file_depth import_offsets f.body.value v in
       record {
         same =
             meant_item conditions.expander (tree.Function (record { name = t; parameters = ts; body = e })) ws (sets.entries_of f.attributes) m.0
@@ -212,11 +212,11 @@ module _ (conditions : Conditions) (IsToken : Token → Type 0) (file_depth : �
       }
 
   import_seen : (n : Counters) (set : AttributeSet) (optional : Bool) (relative : StringLiteral) {ws : List (WrittenAttribute Tok Tok)} {q : Quoted Tok}
-      → AreMeant conditions IsToken file_depth import_offsets (leaf_entries_of set) ws → AlikeQuoted seen (quoted_tree relative) q
+      → AreMeant conditions bound IsToken file_depth import_offsets (leaf_entries_of set) ws → AlikeQuoted seen (quoted_tree relative) q
       → SeenItem n (items.Import set optional relative) (tree.Construct ws (tree.Import (record { optional = optional; path = q })))
   import_seen n set optional relative {ws} {q} means h =
       let m = means set refl in
-      let x = parts.relative_seen conditions IsToken file_depth import_offsets relative q h in
+      let x = parts.relative_seen conditions bound IsToken file_depth import_offsets relative q h in
       record {
         same =
             meant_item conditions.expander (tree.Import (record { optional = optional; path = q })) ws (sets.entries_of set) m.0
@@ -227,13 +227,13 @@ module _ (conditions : Conditions) (IsToken : Token → Type 0) (file_depth : �
       }
 
   module_seen : (n : Counters) (set : AttributeSet) (doc : Option (String Global)) (name : Name) (optional : Bool) (relative : Option StringLiteral)
-      {ws : List (WrittenAttribute Tok Tok)} {t : Tok} {o : Option (Quoted Tok)} → AreMeant conditions IsToken file_depth import_offsets (leaf_entries_of set) ws
+      {ws : List (WrittenAttribute Tok Tok)} {t : Tok} {o : Option (Quoted Tok)} → AreMeant conditions bound IsToken file_depth import_offsets (leaf_entries_of set) ws
       → IsName (name_tree name) t → AlikeOption (AlikeQuoted seen) (option_map quoted_tree relative) o
       → SeenItem n (items.Module set doc name optional relative) (tree.Construct ws (tree.Module (bare_module optional t o)))
   module_seen n set doc name optional relative {ws} {t} {o} means h k =
       let m = means set refl in
-      let x = headers.name_seen conditions IsToken file_depth import_offsets name t h in
-      let y = parts.optional_relative_seen conditions IsToken file_depth import_offsets relative k in
+      let x = headers.name_seen conditions bound IsToken file_depth import_offsets name t h in
+      let y = parts.optional_relative_seen conditions bound IsToken file_depth import_offsets relative k in
       record {
         same =
             meant_item conditions.expander (tree.Module (bare_module optional t o)) ws (sets.entries_of set) m.0
@@ -243,13 +243,13 @@ module _ (conditions : Conditions) (IsToken : Token → Type 0) (file_depth : �
         recipe_numbers = λ more k. k;
       }
 
-  set_seen : (n : Counters) (s : Set) {ws : List (WrittenAttribute Tok Tok)} {t : Tok} {v : SettingValue Tok Tok} → AreMeant conditions IsToken file_depth import_offsets (leaf_entries_of s.attributes) ws
+  set_seen : (n : Counters) (s : Set) {ws : List (WrittenAttribute Tok Tok)} {t : Tok} {v : SettingValue Tok Tok} → AreMeant conditions bound IsToken file_depth import_offsets (leaf_entries_of s.attributes) ws
       → IsName (name_tree s.name) t → AlikeValue seen (leaf_value_of s.value.value) v
       → SeenItem n (items.Setting s) (tree.Construct ws (tree.Setting (record { keyword = keyword_of s.value.value; name = t; value = v })))
   set_seen n s {ws} {t} {v} means h k =
       let m = means s.attributes refl in
-      let x = headers.name_seen conditions IsToken file_depth import_offsets s.name t h in
-      let y = parts.setting_seen conditions IsToken file_depth import_offsets s.value.value k in
+      let x = headers.name_seen conditions bound IsToken file_depth import_offsets s.name t h in
+      let y = parts.setting_seen conditions bound IsToken file_depth import_offsets s.value.value k in
       record {
         same =
             meant_item conditions.expander (tree.Setting (record { keyword = keyword_of s.value.value; name = t; value = v })) ws (sets.entries_of s.attributes) m.0
@@ -259,11 +259,11 @@ module _ (conditions : Conditions) (IsToken : Token → Type 0) (file_depth : �
         recipe_numbers = λ more k. k;
       }
 
-  unexport_seen : (n : Counters) (set : AttributeSet) (name : Name) {ws : List (WrittenAttribute Tok Tok)} {t : Tok} → AreMeant conditions IsToken file_depth import_offsets (leaf_entries_of set) ws
+  unexport_seen : (n : Counters) (set : AttributeSet) (name : Name) {ws : List (WrittenAttribute Tok Tok)} {t : Tok} → AreMeant conditions bound IsToken file_depth import_offsets (leaf_entries_of set) ws
       → IsName (name_tree name) t → SeenItem n (items.Unexport set name) (tree.Construct ws (tree.Unexport t))
   unexport_seen n set name {ws} {t} means h =
       let m = means set refl in
-      let x = headers.name_seen conditions IsToken file_depth import_offsets name t h in
+      let x = headers.name_seen conditions bound IsToken file_depth import_offsets name t h in
       record {
         same =
             meant_item conditions.expander (tree.Unexport t) ws (sets.entries_of set) m.0

@@ -34,22 +34,22 @@ use Rattle.justfile_parse_expression.proofs.Seen.{Relates}
 use Rattle.justfile_parse_item.proofs.Seen as seeing
 use Rattle.justfile_parse_item.proofs.SeenAttributes as attributes
 
-module _ (conditions : Conditions) (IsToken : Token → Type 0) (file_depth : ℕ) (import_offsets : List ℕ) where
+module _ (conditions : Conditions) (bound : ℕ) (IsToken : Token → Type 0) (file_depth : ℕ) (import_offsets : List ℕ) where
   abbrev seen : Relates
-  seen = seeing.seen conditions IsToken file_depth import_offsets
+  seen = seeing.seen conditions bound IsToken file_depth import_offsets
 
   abbrev IsLeaf : (Token → Leaf) → Leaf → Tok → Type 0
-  IsLeaf = table.IsLeaf conditions IsToken file_depth import_offsets
+  IsLeaf = table.IsLeaf conditions bound IsToken file_depth import_offsets
 
   -- ---- paths of files
 
   pub relative_seen : (l : strings.StringLiteral) (q : Quoted Tok) → AlikeQuoted seen (quoted_tree l) q → (q ≡ quoted_of l) × IsGivenLiteral conditions.expander IsToken l
-  relative_seen l q h = attributes.quoted_seen conditions IsToken file_depth import_offsets l h
+  relative_seen l q h = attributes.quoted_seen conditions bound IsToken file_depth import_offsets l h
 
   pub optional_relative_seen : (o : Option strings.StringLiteral) {p : Option (Quoted Tok)} → AlikeOption (AlikeQuoted seen) (option_map quoted_tree o) p
       → (p ≡ option_map quoted_of o) × IsGivenPath conditions.expander IsToken o
   optional_relative_seen o h =
-      attributes.if_seen conditions IsToken file_depth import_offsets quoted_tree quoted_of (IsGivenLiteral conditions.expander IsToken) relative_seen o h
+      attributes.if_seen conditions bound IsToken file_depth import_offsets quoted_tree quoted_of (IsGivenLiteral conditions.expander IsToken) relative_seen o h
 
   -- ---- the parameters of functions
 
@@ -69,7 +69,7 @@ module _ (conditions : Conditions) (IsToken : Token → Type 0) (file_depth : �
 
   numbered_seen : (number : ℕ) (x : Name × Number) (t : Tok) → IsLeaf (λ token. Named token (Some (number_of number))) (numbered_tree x) t → SeenNumbered number x t
   numbered_seen number x t h =
-      let n = seeing.name_seen conditions IsToken file_depth import_offsets (λ token. Named token (Some (number_of number))) x.0.token (numbered_tree x) t (λ token. refl) refl h in
+      let n = seeing.name_seen conditions bound IsToken file_depth import_offsets (λ token. Named token (Some (number_of number))) x.0.token (numbered_tree x) t (λ token. refl) refl h in
       record { same = n.1; given = n.0; numbered = ap leaf_number h.is }
 
   -- names, where the counters stand before the first
@@ -94,24 +94,24 @@ module _ (conditions : Conditions) (IsToken : Token → Type 0) (file_depth : �
   expressions_seen : (es : List Expression) {ts : Exprs Tok Tok} → AlikeAll seen (trees_of es) ts → (ts ≡ exprs_of es) × All (IsGivenExpression conditions.expander IsToken) es
   expressions_seen [] a.none = (refl, All-nil (IsGivenExpression conditions.expander IsToken))
   expressions_seen (e ∷ es) (a.more h hs) =
-      let x = seeing.seen_expression conditions IsToken file_depth import_offsets e h in
+      let x = seeing.seen_expression conditions bound IsToken file_depth import_offsets e h in
       let y = expressions_seen es hs in
       ((λ i. tree.more (x.same i) (y.0 i)), All-cons (IsGivenExpression conditions.expander IsToken) e es x.given y.1)
 
   boxed_seen : (e : Box Expression) {v : SettingValue Tok Tok} → AlikeValue seen (boxed_by leaf_tree_of trees_of (λ l. Literal (literal_of l)) e) v
       → (v ≡ boxed_by expr_of exprs_of literal_tok e) × IsGivenBoxed conditions.expander IsToken e
-  boxed_seen e (a.value h) = let x = seeing.seen_expression conditions IsToken file_depth import_offsets e.value h in (ap tree.Value x.same, x.given)
+  boxed_seen e (a.value h) = let x = seeing.seen_expression conditions bound IsToken file_depth import_offsets e.value h in (ap tree.Value x.same, x.given)
 
   literal_seen : (l : strings.StringLiteral) {v : SettingValue Tok Tok} → AlikeValue seen (literal_by leaf_tree_of trees_of (λ l. Literal (literal_of l)) l) v
       → (v ≡ literal_by expr_of exprs_of literal_tok l) × IsGivenLiteral conditions.expander IsToken l
   literal_seen l (a.value (a.string lexeme {a' = t} h)) =
-      let x = seeing.string_seen conditions IsToken file_depth import_offsets lexeme l t h in
+      let x = seeing.string_seen conditions bound IsToken file_depth import_offsets lexeme l t h in
       (ap (λ (k : Tok). tree.Value (tree.StringLiteral l.expand k)) x.1, x.0)
 
   command_seen : (i : Box (Interpreter Expression)) {v : SettingValue Tok Tok} → AlikeValue seen (interpreter_by leaf_tree_of trees_of (λ l. Literal (literal_of l)) i) v
       → (v ≡ interpreter_by expr_of exprs_of literal_tok i) × IsGivenCommandLine conditions.expander IsToken i
   command_seen i (a.interpreter h hs) =
-      let x = seeing.seen_expression conditions IsToken file_depth import_offsets i.value.command h in
+      let x = seeing.seen_expression conditions bound IsToken file_depth import_offsets i.value.command h in
       let y = expressions_seen i.value.arguments.items hs in
       ((λ j. tree.Interpreter (x.same j) (y.0 j)), (x.given, y.1))
 

@@ -1,5 +1,5 @@
 -- A whole file: what is read of a table is what the definitions read of its tokens, or is refused as they refuse it.
-use Rattle.std.proofs.Common.{◌≡◌, ℕ, ◌+◌, Bool, false, List, [], ◌∷◌, map, All, Option, Result, Ok, Err, refl, sym, ap, ◌∙◌, subst, arith}
+use Rattle.std.proofs.Common.{◌≡◌, ℕ, ◌+◌, ◌<◌, ◌≤◌, Bool, false, List, [], ◌∷◌, map, All, Option, Result, Ok, Err, refl, sym, ap, ◌∙◌, subst, arith}
 use Rattle.std.specs.Prelude.{◌-◌, ◌^◌}
 use Rattle.std.proofs.lemmas.Bool.Decides.{nat_tests}
 use Rattle.std.proofs.lemmas.List.{length-map}
@@ -13,7 +13,7 @@ use Rattle.justfile_base.specs.declared.token.Token.{Token}
 use Rattle.justfile_item.specs.Item.{function_parameter_of, item_of}
 use Rattle.justfile_item.specs.declared.item.Item.{Item}
 use Rattle.justfile_item.specs.declared.item.Item.TheVariants as items
-use Rattle.justfile_model.specs.Conditions.{Conditions}
+use Rattle.justfile_model.specs.Conditions.{Conditions, with_limit}
 use Rattle.justfile_model.specs.Expressions.{front}
 use Rattle.justfile_model.specs.Features.{Noted}
 use Rattle.justfile_header.specs.Header.{parameter_of}
@@ -49,7 +49,7 @@ use Rattle.justfile_parse_expression.specs.TableReader as table_reader
 use Rattle.justfile_parse_item.specs.ItemTable as reader
 use Rattle.justfile_parse_item.specs.ItemTable.{ReadItems, kept}
 use Rattle.justfile_parse_expression.specs.TableReader.{Run, State, leaves}
-use Rattle.justfile_parse.specs.MethodResults.{IsFaultOf, IsKindAt, IsNextPlace, IsRead, IsUnread}
+use Rattle.justfile_parse.specs.MethodResults.{IsFaultOf, IsKindAt, IsNextPlace, IsRead, IsUnread, NeverEnough}
 use Rattle.justfile_parse_expression.specs.MethodResults.{StopsAt, literal_refusal, refusal_at}
 use Rattle.justfile_parse_expression.specs.Significant.{significant_of}
 use Rattle.justfile_parse_item.specs.Tree.{item_tree, numbered_tree}
@@ -103,24 +103,33 @@ same_recipes (items.Recipe r ∷ is) = ap (λ (n : ℕ). 1 + n) (same_recipes is
 same_recipes (items.Setting s ∷ is) = ap (λ (n : ℕ). 0 + n) (same_recipes is)
 same_recipes (items.Unexport set name ∷ is) = ap (λ (n : ℕ). 0 + n) (same_recipes is)
 
-module _ (conditions : Conditions) (table : List TableEntry) (file_depth : ℕ) (import_offsets : List ℕ) where
+-- where the parser begins
+abbrev pub first : Conditions → List TableEntry → (file_depth : ℕ) → (import_offsets : List ℕ) → State
+first conditions table file_depth import_offsets =
+    record { run = record { conditions = conditions; table = table; file_depth = file_depth; import_offsets = import_offsets }; depth = 0; left = table; noted = [] }
+
+-- The definitions read beside it under the same conditions, but for their limit of depth, `bound`, which may be greater.
+module _ (conditions : Conditions) (bound : ℕ) (within : conditions.limit ≤ bound) (table : List TableEntry) (file_depth : ℕ) (import_offsets : List ℕ) where
   abbrev tokens : List SignificantToken
   tokens = map significant_of table
 
+  abbrev others : Conditions
+  others = with_limit bound conditions
+
   abbrev rel : Relates
-  rel = seen conditions (IsInTable table) file_depth import_offsets
+  rel = seen conditions bound (IsInTable table) file_depth import_offsets
 
-  abbrev pub begin : State
-  begin = record { run = record { conditions = conditions; table = table; file_depth = file_depth; import_offsets = import_offsets }; depth = 0; left = table; noted = [] }
+  abbrev begin : State
+  begin = first conditions table file_depth import_offsets
 
-  each_entry : (es : List TableEntry) → All (λ (e : TableEntry). IsInTable table e.token.now) es → Each (IsEntry conditions (IsInTable table) file_depth import_offsets) es (map significant_of es)
+  each_entry : (es : List TableEntry) → All (λ (e : TableEntry). IsInTable table e.token.now) es → Each (IsEntry conditions bound (IsInTable table) file_depth import_offsets) es (map significant_of es)
   each_entry [] h = a.nil
   each_entry (e ∷ es) h =
       let P : TableEntry → Type 0 = λ (e : TableEntry). IsInTable table e.token.now in
       a.cons (record { among = All-head P e es h; is = refl }) (each_entry es (All-tail P e es h))
 
-  begin_alike : States rel begin (start_state conditions tokens)
-  begin_alike = record { run = record { conditions_are = refl; same = refl; file_depth_is = refl; import_offsets_are = refl }; depth = refl; left = each_entry table (λ k d h. in_table table k d h); noted = a.nil }
+  begin_alike : States rel begin (start_state others tokens)
+  begin_alike = record { run = record { conditions_are = refl; same = refl; within = within; file_depth_is = refl; import_offsets_are = refl }; depth = refl; left = each_entry table (λ k d h. in_table table k d h); noted = a.nil }
 
   -- items, the counters after them, and what is left
   abbrev Pair : Type 0
@@ -131,16 +140,16 @@ module _ (conditions : Conditions) (table : List TableEntry) (file_depth : ℕ) 
     Found = model.Read (WrittenTree × Counters)
 
     abbrev there : Found
-    there = files.file token_leaves token_attributes n (start_state conditions tokens)
+    there = files.file token_leaves token_attributes n (start_state others tokens)
 
     abbrev Q : List (OrderedItem Leaf Token ℕ) × Counters → WrittenTree × Counters → Type 0
-    Q = natural.AllNumbered rel leaves token_leaves (respects conditions (IsInTable table) file_depth import_offsets) kept token_attributes (IsKept conditions (IsInTable table) file_depth import_offsets) (attributed conditions (IsInTable table) file_depth import_offsets) n
+    Q = natural.AllNumbered rel leaves token_leaves (respects conditions bound (IsInTable table) file_depth import_offsets) kept token_attributes (IsKept conditions bound (IsInTable table) file_depth import_offsets) (attributed conditions bound (IsInTable table) file_depth import_offsets) n
 
     abbrev Short : Counters → Found → Type 0
-    Short = natural.NoFile rel leaves token_leaves (respects conditions (IsInTable table) file_depth import_offsets) kept token_attributes (IsKept conditions (IsInTable table) file_depth import_offsets) (attributed conditions (IsInTable table) file_depth import_offsets) n (files.after_mark token_leaves token_attributes (start_state conditions tokens))
+    Short = natural.NoFile rel leaves token_leaves (respects conditions bound (IsInTable table) file_depth import_offsets) kept token_attributes (IsKept conditions bound (IsInTable table) file_depth import_offsets) (attributed conditions bound (IsInTable table) file_depth import_offsets) n (files.after_mark token_leaves token_attributes (start_state others tokens))
 
     related : Related rel Q Short (reader.file n begin) there
-    related = natural.file_natural rel leaves token_leaves (respects conditions (IsInTable table) file_depth import_offsets) kept token_attributes (IsKept conditions (IsInTable table) file_depth import_offsets) (attributed conditions (IsInTable table) file_depth import_offsets) n begin (start_state conditions tokens) begin_alike
+    related = natural.file_natural rel leaves token_leaves (respects conditions bound (IsInTable table) file_depth import_offsets) kept token_attributes (IsKept conditions bound (IsInTable table) file_depth import_offsets) (attributed conditions bound (IsInTable table) file_depth import_offsets) n begin (start_state others tokens) begin_alike
 
     -- both read
     got : (found : ReadItems) (found' : Found) → Related rel Q Short found found' → (x : Pair) → found ≡ Ok x → (y : (WrittenTree × Counters) × model.State) × (found' ≡ Ok y) × Q x.0 y.0 × States rel x.1 y.1
@@ -158,11 +167,16 @@ module _ (conditions : Conditions) (table : List TableEntry) (file_depth : ℕ) 
       where
         never : (e : table_reader.Refusal) (x : Pair) → ◌≡◌ {A = ReadItems} (Err e) (Ok x) → ⊥
         never e x is = cc
+    got found found' (a.deep {o = at} loose) x is = absurd (never (reading.TooDeep at) x is)
+      where
+        never : (e : table_reader.Refusal) (x : Pair) → ◌≡◌ {A = ReadItems} (Err e) (Ok x) → ⊥
+        never e x is = cc
 
-    -- both are refused, or the one has no number left
+    -- Both are refused; or the one has no number left; or an expression is too deep in the one, and the other's limit is greater.
     pub data Lost (e : table_reader.Refusal) (found' : Found) : Type 0 where
       refused : (e' : model.Refusal) → found' ≡ Err e' → Refusals rel e e' → Lost e found'
       wanting : (m : Counters) → e ≡ NoNumber m → Short m found' → Lost e found'
+      deeper : (at : Option TableEntry) → e ≡ reading.TooDeep at → conditions.limit < bound → Lost e found'
 
     lost : (found : ReadItems) (found' : Found) → Related rel Q Short found found' → (e : table_reader.Refusal) → found ≡ Err e → Lost e found'
     lost found found' (a.both {x = z} q k) e is = absurd (never z e is)
@@ -176,6 +190,10 @@ module _ (conditions : Conditions) (table : List TableEntry) (file_depth : ℕ) 
     lost found found' (a.short {n = m} h) e is = wanting m (inside e is) h
       where
         inside : (e : table_reader.Refusal) → ◌≡◌ {A = ReadItems} (Err (NoNumber m)) (Err e) → e ≡ NoNumber m
+        inside e is = cc
+    lost found found' (a.deep {o = at} loose) e is = deeper at (inside e is) loose
+      where
+        inside : (e : table_reader.Refusal) → ◌≡◌ {A = ReadItems} (Err (reading.TooDeep at)) (Err e) → e ≡ reading.TooDeep at
         inside e is = cc
 
     pub file_lost : (e : table_reader.Refusal) → reader.file n begin ≡ Err e → Lost e there
@@ -193,17 +211,17 @@ module _ (conditions : Conditions) (table : List TableEntry) (file_depth : ℕ) 
       sym (documented_counts recipes recipes_count says_doc Nothing (map item_tree is)) ∙ ap (λ (t : List (OrderedItem Leaf Token ℕ)). recipes t) (sym documents) ∙ same_recipes docs
 
   pub read_of : (old new : Numerator) (is docs : List Item) (features : List (ListFeature × Token)) (s : State) → reader.file (counters_of old) begin ≡ Ok ((map item_tree is, counters_of new), s) → s.noted ≡ features
-      → map item_tree docs ≡ documented says_doc Nothing (map item_tree is) → AreWhole docs → IsRead conditions table file_depth import_offsets tokens old new (docs, features)
+      → map item_tree docs ≡ documented says_doc Nothing (map item_tree is) → AreWhole docs → IsRead others table file_depth import_offsets tokens old new (docs, features)
   unfolding AreWhole
   read_of old new is docs features s found noted documents whole_items =
       let n = counters_of old in
       let g = got n (reader.file n begin) (there n) (related n) ((map item_tree is, counters_of new), s) found in
-      let x = items_seen conditions (IsInTable table) file_depth import_offsets n is docs g.2.0 documents in
-      let f = noted_seen conditions (IsInTable table) file_depth import_offsets features (subst (λ (fs : List (ListFeature × Token)). Each (a.AlikeNoted rel) fs g.0.1.noted) noted g.3.noted) in
+      let x = items_seen conditions bound (IsInTable table) file_depth import_offsets n is docs g.2.0 documents in
+      let f = noted_seen conditions bound (IsInTable table) file_depth import_offsets features (subst (λ (fs : List (ListFeature × Token)). Each (a.AlikeNoted rel) fs g.0.1.noted) noted g.3.noted) in
       let counts : counters_of new ≡ counted n (map item_tree is) = g.2.2 in
       record {
         written = g.0.0.0;
-        read = sym (file_by n conditions tokens) ∙ ap (λ (r : Found n). whole r) g.1 ∙ (λ i. Ok (g.0.0.0, f.0 i));
+        read = sym (file_by n others tokens) ∙ ap (λ (r : Found n). whole r) g.1 ∙ (λ i. Ok (g.0.0.0, f.0 i));
         ordered_is = x.same;
         given = record {
           given = x.given whole_items;
@@ -262,13 +280,13 @@ module _ (conditions : Conditions) (table : List TableEntry) (file_depth : ℕ) 
   -- ---- a number that is wanting
 
   abbrev agree : a.Respects rel leaves token_leaves
-  agree = respects conditions (IsInTable table) file_depth import_offsets
+  agree = respects conditions bound (IsInTable table) file_depth import_offsets
 
   abbrev Keeps : Entry Leaf Token → ReadAttribute → Type 0
-  Keeps = IsKept conditions (IsInTable table) file_depth import_offsets
+  Keeps = IsKept conditions bound (IsInTable table) file_depth import_offsets
 
   abbrev keeps : natural.RespectsAttributes rel leaves token_leaves kept token_attributes Keeps
-  keeps = attributed conditions (IsInTable table) file_depth import_offsets
+  keeps = attributed conditions bound (IsInTable table) file_depth import_offsets
 
   last : (b : ℕ) → leaves.has_number b ≡ false → b ≡ 2 ^ 32 - 1
   unfolding leaves
@@ -338,7 +356,7 @@ module _ (conditions : Conditions) (table : List TableEntry) (file_depth : ℕ) 
   lines_of (natural.later is wants) = let x = lines_of wants in record { left = x.left; counters = x.counters; lines = a_line is x.lines; lacks = x.lacks }
 
   module _ (old new : Numerator) where
-    wants_of : natural.Wants rel leaves token_leaves agree kept token_attributes Keeps keeps (counters_of old) (files.after_mark token_leaves token_attributes (start_state conditions tokens)) (counters_of new) → WantsNumber conditions tokens old new
+    wants_of : natural.Wants rel leaves token_leaves agree kept token_attributes Keeps keeps (counters_of old) (files.after_mark token_leaves token_attributes (start_state others tokens)) (counters_of new) → WantsNumber others tokens old new
     wants_of wants = let x = lines_of wants in record { left = x.left; counters = x.counters; lines = x.lines; lacks = lacks_of x.left x.lacks }
 
     whole_of : (found : Found (counters_of old)) (t : WrittenTree) (fs : List (Noted Tok)) → whole found ≡ Ok (t, fs) → (y : (WrittenTree × Counters) × model.State) × (found ≡ Ok y) × (y.0.0 ≡ t)
@@ -374,12 +392,12 @@ module _ (conditions : Conditions) (table : List TableEntry) (file_depth : ℕ) 
         )
 
     -- no tree has numbers enough
-    never_of : natural.AllExceed rel leaves token_leaves agree kept token_attributes Keeps keeps (counters_of new) (there (counters_of old)) → (t : WrittenTree) (fs : List (Noted Tok)) → model.tree_of_tokens conditions tokens ≡ Ok (t, fs) → NumbersSuffice (bindings_of old) (recipes_of old) t → ⊥
+    never_of : natural.AllExceed rel leaves token_leaves agree kept token_attributes Keeps keeps (counters_of new) (there (counters_of old)) → (t : WrittenTree) (fs : List (Noted Tok)) → model.tree_of_tokens others tokens ≡ Ok (t, fs) → NumbersSuffice (bindings_of old) (recipes_of old) t → ⊥
     unfolding files.file
     never_of exceeds t fs is enough =
         let n = counters_of old in
-        let x = whole_of (there n) t fs (file_by n conditions tokens ∙ is) in
-        let counts = known x.0 (λ (y : (WrittenTree × Counters) × model.State). y.0.1 ≡ counted n y.0.0) x.1 (items_count token_leaves token_attributes n (files.after_mark token_leaves token_attributes (start_state conditions tokens))) in
+        let x = whole_of (there n) t fs (file_by n others tokens ∙ is) in
+        let counts = known x.0 (λ (y : (WrittenTree × Counters) × model.State). y.0.1 ≡ counted n y.0.0) x.1 (items_count token_leaves token_attributes n (files.after_mark token_leaves token_attributes (start_state others tokens))) in
         let over = known x.0 (λ (y : (WrittenTree × Counters) × model.State). natural.Exceeds rel leaves token_leaves agree kept token_attributes Keeps keeps (counters_of new) y.0.1) x.1 exceeds in
         exceeded x.0 t x.2 counts over enough
 
@@ -389,57 +407,78 @@ module _ (conditions : Conditions) (table : List TableEntry) (file_depth : ℕ) 
     no_refusal : (e' : model.Refusal) → Refusals rel (NoNumber (counters_of new)) e' → ⊥
     no_refusal e' h = elim h [ ]
 
-    wanting_of : Lost (counters_of old) (NoNumber (counters_of new)) (there (counters_of old))
-        → WantsNumber conditions tokens old new × ((t : WrittenTree) (fs : List (Noted Tok)) → model.tree_of_tokens conditions tokens ≡ Ok (t, fs) → NumbersSuffice (bindings_of old) (recipes_of old) t → ⊥)
+    too_deep : (at : Option TableEntry) → ◌≡◌ {A = table_reader.Refusal} (NoNumber (counters_of new)) (reading.TooDeep at) → ⊥
+    too_deep at e = cc
+
+    wanting_of : Lost (counters_of old) (NoNumber (counters_of new)) (there (counters_of old)) → Short (counters_of old) (counters_of new) (there (counters_of old))
     wanting_of (refused e' is h) = absurd (no_refusal e' h)
-    wanting_of (wanting m is short) =
-        let k = subst (λ (c : Counters). Short (counters_of old) c (there (counters_of old))) (same_counters m is) short in
-        (wants_of k.0, never_of k.1)
+    wanting_of (wanting m is short) = subst (λ (c : Counters). Short (counters_of old) c (there (counters_of old))) (same_counters m is) short
+    wanting_of (deeper at is loose) = absurd (too_deep at is)
 
-    refused_of : (r : Refusal) (s : State) (e : CompileError) → Lost (counters_of old) (refusal_at r s) (there (counters_of old)) → IsKindAt r e.kind e.token → IsNextPlace table (front s.left) e.token → IsUnread conditions tokens (IsInTable table) old new (faults.Compile e)
-    refused_of r s e (refused e' is h) kind at =
-        let x = error_at r s e e' h kind at in
-        record { refusal = e'; read = sym (file_by (counters_of old) conditions tokens) ∙ ap (λ (r : Found (counters_of old)). whole r) is; error = x.0; among = x.1 }
-    refused_of r s e (wanting m is short) kind at = absurd (no_number r s m is)
+    -- where a number is wanting, no tree has numbers enough
+    pub never_enough : reader.file (counters_of old) begin ≡ Err (NoNumber (counters_of new)) → (t : WrittenTree) (fs : List (Noted Tok)) → model.tree_of_tokens others tokens ≡ Ok (t, fs)
+        → NumbersSuffice (bindings_of old) (recipes_of old) t → ⊥
+    never_enough is t fs = never_of (wanting_of (file_lost (counters_of old) (NoNumber (counters_of new)) is)).1 t fs
 
-    literal_of : (l : LiteralRefusal) (e : CompileError) → Lost (counters_of old) (literal_refusal l.error) (there (counters_of old)) → e ≡ l.error → IsUnread conditions tokens (IsInTable table) old new (faults.Compile e)
-    literal_of l e (refused e' is h) same =
-        let x = literal_at l e' h in
-        subst (λ (k : CompileError). IsUnread conditions tokens (IsInTable table) old new (faults.Compile k)) (sym same)
-        (record { refusal = e'; read = sym (file_by (counters_of old) conditions tokens) ∙ ap (λ (r : Found (counters_of old)). whole r) is; error = x.0; among = x.1 })
-    literal_of l e (wanting m is short) same = absurd (no_literal l m is)
+    -- ---- where the limit is the same
 
-    unread_stop : (s : State) (stop : Stop) (fault : Fault) → StopsAt stop s (reader.file (counters_of old) begin ≡ Err (NoNumber (counters_of new))) (reader.file (counters_of old) begin) → IsFaultOf table (front s.left) stop fault
-        → IsUnread conditions tokens (IsInTable table) old new fault
-    unread_stop s (stops.Refused r) (faults.Compile e) h is = refused_of r s e (file_lost (counters_of old) (refusal_at r s) h) is.0 is.1
-    unread_stop s (stops.Refused r) faults.Memory h is = tt
-    unread_stop s (stops.Refused r) faults.Numbers h is = absurd is
-    unread_stop s (stops.Literal box) (faults.Compile e) h is = literal_of box.value e (file_lost (counters_of old) (literal_refusal box.value.error) h) is
-    unread_stop s (stops.Literal box) faults.Memory h is = absurd is
-    unread_stop s (stops.Literal box) faults.Numbers h is = absurd is
-    unread_stop s stops.Memory (faults.Compile e) h is = absurd is
-    unread_stop s stops.Memory faults.Memory h is = tt
-    unread_stop s stops.Memory faults.Numbers h is = absurd is
-    unread_stop s stops.Numbers (faults.Compile e) h is = absurd is
-    unread_stop s stops.Numbers faults.Memory h is = absurd is
-    unread_stop s stops.Numbers faults.Numbers h is = wanting_of (file_lost (counters_of old) (NoNumber (counters_of new)) h)
+    module _ (exact : conditions.limit < bound → ⊥) (never : reader.file (counters_of old) begin ≡ Err (NoNumber (counters_of new)) → NeverEnough others tokens old) where
+      refused_of : (r : Refusal) (s : State) (e : CompileError) → Lost (counters_of old) (refusal_at r s) (there (counters_of old)) → IsKindAt r e.kind e.token → IsNextPlace table (front s.left) e.token → IsUnread others tokens (IsInTable table) old new (faults.Compile e)
+      refused_of r s e (refused e' is h) kind at =
+          let x = error_at r s e e' h kind at in
+          record { refusal = e'; read = sym (file_by (counters_of old) others tokens) ∙ ap (λ (r : Found (counters_of old)). whole r) is; error = x.0; among = x.1 }
+      refused_of r s e (wanting m is short) kind at = absurd (no_number r s m is)
+      refused_of r s e (deeper o is loose) kind at = absurd (exact loose)
 
-    -- nothing is read where the error says that a rule is broken
-    broken_found : (error : CompileError) (found : ReadItems) → found ≡ reader.file (counters_of old) begin → IsBrokenBy found error
-        → IsUnread conditions tokens (IsInTable table) old new (faults.Compile error)
-    broken_found error (Ok x) is says = absurd says
-    broken_found error (Err r) is says = go (file_lost (counters_of old) r (sym is))
-      where
-        go : Lost (counters_of old) r (there (counters_of old)) → IsUnread conditions tokens (IsInTable table) old new (faults.Compile error)
-        go (refused e' there_is h) =
-            let x = broken_at error r e' says h in
-            record { refusal = e'; read = sym (file_by (counters_of old) conditions tokens) ∙ ap (λ (r : Found (counters_of old)). whole r) there_is; error = x.0; among = x.1 }
-        go (wanting m e short) = absurd (subst (λ (k : table_reader.Refusal). IsBrokenBy {Y = Pair} (Err k) error) e says)
+      literal_of : (l : LiteralRefusal) (e : CompileError) → Lost (counters_of old) (literal_refusal l.error) (there (counters_of old)) → e ≡ l.error → IsUnread others tokens (IsInTable table) old new (faults.Compile e)
+      literal_of l e (refused e' is h) same =
+          let x = literal_at l e' h in
+          subst (λ (k : CompileError). IsUnread others tokens (IsInTable table) old new (faults.Compile k)) (sym same)
+          (record { refusal = e'; read = sym (file_by (counters_of old) others tokens) ∙ ap (λ (r : Found (counters_of old)). whole r) is; error = x.0; among = x.1 })
+      literal_of l e (wanting m is short) same = absurd (no_literal l m is)
+      literal_of l e (deeper o is loose) same = absurd (exact loose)
 
-    pub unread_of : (s : State) (halt : Halt) (fault : Fault) → HaltsAt halt s (reader.file (counters_of old) begin ≡ Err (NoNumber (counters_of new))) (reader.file (counters_of old) begin) → IsFaultOfHalt table (front s.left) halt fault
-        → IsUnread conditions tokens (IsInTable table) old new fault
-    unread_of s (halts.Stopped stop) fault h is = unread_stop s stop fault h is
-    unread_of s (halts.Broken box) (faults.Compile e) h is =
-        subst (λ (k : CompileError). IsUnread conditions tokens (IsInTable table) old new (faults.Compile k)) (sym is) (broken_found box.value (reader.file (counters_of old) begin) refl h)
-    unread_of s (halts.Broken box) faults.Memory h is = absurd is
-    unread_of s (halts.Broken box) faults.Numbers h is = absurd is
+      unread_stop : (s : State) (stop : Stop) (fault : Fault) → StopsAt stop s (reader.file (counters_of old) begin ≡ Err (NoNumber (counters_of new))) (reader.file (counters_of old) begin) → IsFaultOf table (front s.left) stop fault
+          → IsUnread others tokens (IsInTable table) old new fault
+      unread_stop s (stops.Refused r) (faults.Compile e) h is = refused_of r s e (file_lost (counters_of old) (refusal_at r s) h) is.0 is.1
+      unread_stop s (stops.Refused r) faults.Memory h is = tt
+      unread_stop s (stops.Refused r) faults.Numbers h is = absurd is
+      unread_stop s (stops.Literal box) (faults.Compile e) h is = literal_of box.value e (file_lost (counters_of old) (literal_refusal box.value.error) h) is
+      unread_stop s (stops.Literal box) faults.Memory h is = absurd is
+      unread_stop s (stops.Literal box) faults.Numbers h is = absurd is
+      unread_stop s stops.Memory (faults.Compile e) h is = absurd is
+      unread_stop s stops.Memory faults.Memory h is = tt
+      unread_stop s stops.Memory faults.Numbers h is = absurd is
+      unread_stop s stops.Numbers (faults.Compile e) h is = absurd is
+      unread_stop s stops.Numbers faults.Memory h is = absurd is
+      unread_stop s stops.Numbers faults.Numbers h is = (wants_of (wanting_of (file_lost (counters_of old) (NoNumber (counters_of new)) h)).0, never h)
+
+      -- nothing is read where the error says that a rule is broken
+      broken_found : (error : CompileError) (found : ReadItems) → found ≡ reader.file (counters_of old) begin → IsBrokenBy found error
+          → IsUnread others tokens (IsInTable table) old new (faults.Compile error)
+      broken_found error (Ok x) is says = absurd says
+      broken_found error (Err r) is says = go (file_lost (counters_of old) r (sym is))
+        where
+          go : Lost (counters_of old) r (there (counters_of old)) → IsUnread others tokens (IsInTable table) old new (faults.Compile error)
+          go (refused e' there_is h) =
+              let x = broken_at error r e' says h in
+              record { refusal = e'; read = sym (file_by (counters_of old) others tokens) ∙ ap (λ (r : Found (counters_of old)). whole r) there_is; error = x.0; among = x.1 }
+          go (wanting m e short) = absurd (subst (λ (k : table_reader.Refusal). IsBrokenBy {Y = Pair} (Err k) error) e says)
+          go (deeper o e loose) = absurd (exact loose)
+
+      pub unread_of : (s : State) (halt : Halt) (fault : Fault) → HaltsAt halt s (reader.file (counters_of old) begin ≡ Err (NoNumber (counters_of new))) (reader.file (counters_of old) begin) → IsFaultOfHalt table (front s.left) halt fault
+          → IsUnread others tokens (IsInTable table) old new fault
+      unread_of s (halts.Stopped stop) fault h is = unread_stop s stop fault h is
+      unread_of s (halts.Broken box) (faults.Compile e) h is =
+          subst (λ (k : CompileError). IsUnread others tokens (IsInTable table) old new (faults.Compile k)) (sym is) (broken_found box.value (reader.file (counters_of old) begin) refl h)
+      unread_of s (halts.Broken box) faults.Memory h is = absurd is
+      unread_of s (halts.Broken box) faults.Numbers h is = absurd is
+
+-- why a file is not read
+pub unread : (conditions : Conditions) (table : List TableEntry) (file_depth : ℕ) (import_offsets : List ℕ) (old new : Numerator) (s : State) (halt : Halt) (fault : Fault)
+    → HaltsAt halt s (reader.file (counters_of old) (first conditions table file_depth import_offsets) ≡ Err (NoNumber (counters_of new)))
+    (reader.file (counters_of old) (first conditions table file_depth import_offsets)) → IsFaultOfHalt table (front s.left) halt fault
+    → IsUnread conditions (map significant_of table) (IsInTable table) old new fault
+unread conditions table file_depth import_offsets old new s halt fault h is =
+    unread_of conditions conditions.limit (omega arith) table file_depth import_offsets old new (λ loose. absurd (omega (arith, loose)))
+    (λ e limit above t fs. never_enough conditions limit above table file_depth import_offsets old new e t fs) s halt fault h is

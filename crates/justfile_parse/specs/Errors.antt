@@ -58,3 +58,11 @@ pub record IsRefused (conditions : Conditions) (tokens : List SignificantToken) 
   pub breaks : (written : WrittenTree) (features : List (ConstructFeatures Tok)) → FileTree tokens written features → IsDue conditions (λ at. Unit {0}) written refusal
   pub breaks_at : (written : WrittenTree) (features : List (ConstructFeatures Tok)) (Hit : Option SignificantToken → Bool)
       → File keeps_tokens (Waived conditions.limit (λ at. IsTrue (Hit at))) written features tokens → IsDue conditions (λ at. IsTrue (Hit at)) written refusal
+
+-- The error says that the limit of depth is exceeded. Where all expressions of the tree that are entered at the limit begin at some tokens, it
+-- stands at one of these.
+pub record IsTooDeepError (conditions : Conditions) (tokens : List SignificantToken) (written : WrittenTree) (e : CompileError) : Type 0 where
+  pub kind_is : e.kind ≡ kinds.ParsingRecursionDepthExceeded
+  pub at_one : (features : List (ConstructFeatures Tok)) (Hit : Option SignificantToken → Bool)
+      → File keeps_tokens (Waived conditions.limit (λ at. IsTrue (Hit at))) written features tokens
+      → (at : Option SignificantToken) × IsTrue (Hit at) × IsAt tokens at e.token

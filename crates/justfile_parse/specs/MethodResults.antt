@@ -1,5 +1,5 @@
 -- What reading a table of tokens returns is what the definitions read.
-use Rattle.std.specs.Prelude.{◌≡◌, ℕ, List, Option, Some, None, Ok, Err, map}
+use Rattle.std.specs.Prelude.{◌≡◌, ℕ, ◌≤◌, List, Option, Some, None, Ok, Err, map}
 use Rattle.justfile_word.specs.Numerator.{bindings_of, recipes_of}
 use Rattle.justfile_base.specs.declared.compile_error.CompileError.{CompileError}
 use Rattle.justfile_base.specs.declared.compile_error_kind.CompileErrorKind.{CompileErrorKind}
@@ -12,7 +12,7 @@ use Rattle.justfile_item.specs.Item.{item_of}
 use Rattle.justfile_item.specs.declared.item.Item.{Item}
 use Rattle.justfile_file.specs.Ast.{noted_of}
 use Rattle.justfile_model.specs.Features.{Noted}
-use Rattle.justfile_model.specs.Conditions.{Conditions}
+use Rattle.justfile_model.specs.Conditions.{Conditions, with_limit}
 use Rattle.justfile_model.specs.Files.{NumbersSuffice, ordered}
 use Rattle.justfile_model.specs.Sight.{sees_tokens}
 use Rattle.justfile_model.specs.SignificantTokens.{SignificantToken}
@@ -69,10 +69,15 @@ pub record IsReadError (conditions : Conditions) (tokens : List SignificantToken
   pub error : IsErrorOf tokens refusal e
   pub among : IsToken e.token
 
--- The fault says why nothing was read. Where a number was wanted, no tree that is read has numbers enough.
+-- no tree that is read under this limit or a greater one has numbers enough
+abbrev pub NeverEnough : Conditions → List SignificantToken → Numerator → Type 0
+NeverEnough conditions tokens old = (limit : ℕ) → conditions.limit ≤ limit → (t : WrittenTree) (features : List (Noted Tok))
+    → tree.tree_of_tokens (with_limit limit conditions) tokens ≡ Ok (t, features) → NumbersSuffice (bindings_of old) (recipes_of old) t → ⊥
+
+-- The fault says why nothing was read. Where a number was wanted, no tree has numbers enough.
 abbrev pub IsUnread : Conditions → List SignificantToken → (Token → Type 0) → Numerator → Numerator → Fault → Type 0
 IsUnread conditions tokens IsToken old new (faults.Compile e) = IsReadError conditions tokens IsToken e
 IsUnread conditions tokens IsToken old new faults.Memory = Unit {0}
 IsUnread conditions tokens IsToken old new faults.Numbers =
     WantsNumber conditions tokens old new
-    × ((t : WrittenTree) (features : List (Noted Tok)) → tree.tree_of_tokens conditions tokens ≡ Ok (t, features) → NumbersSuffice (bindings_of old) (recipes_of old) t → ⊥)
+    × NeverEnough conditions tokens old

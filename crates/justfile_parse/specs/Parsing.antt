@@ -12,7 +12,7 @@ use Rattle.justfile_round_trip.specs.RoundTrip.{TextDerives}
 use Rattle.justfile_file.specs.Ast.{tree_of, features_of, cooked_texts, binding_numbers, recipe_numbers}
 use Rattle.justfile_file.specs.declared.ast.Ast.{Ast}
 use Rattle.justfile_model.specs.Answers.{IsFrom, IsLexicalError}
-use Rattle.justfile_model.specs.Conditions.{Conditions}
+use Rattle.justfile_model.specs.Conditions.{Conditions, with_limit}
 use Rattle.justfile_model.specs.Features.{Noted}
 use Rattle.justfile_model.specs.Files.{FileDerives, NumbersFrom, NumbersSuffice, bindings, recipes, literals}
 use Rattle.justfile_model.specs.Lexed.{Lexed}
@@ -22,7 +22,7 @@ use Rattle.justfile_model.specs.Tok.{Tok, tok_of}
 use Rattle.justfile_model.specs.Tree.{Tree, lexeme}
 use Rattle.justfile_model.specs.UnstableFeatures.{unstable_features}
 use Rattle.justfile_word.specs.declared.list_feature.ListFeature.{ListFeature}
-use Rattle.justfile_parse.specs.Errors.{IsRefused}
+use Rattle.justfile_parse.specs.Errors.{IsRefused, IsTooDeepError}
 use Rattle.justfile_parse_item.specs.Filled.{IsGivenItem}
 use Rattle.justfile_parse.specs.WantsNumber.{WantsNumber}
 
@@ -50,21 +50,25 @@ pub record IsParsed (conditions : Conditions) (tokens : List Tok) (IsToken : Tok
   pub derives : FileDerives conditions (significant_tokens tokens) (tree_of ast) (features_of ast)
   pub filled : IsFilled conditions.expander IsToken file_depth import_offsets old new ast
 
--- no tree derives; the error is that of the refusal, stands at one of the tokens and is no fault of the program
+-- No tree derives; the error is that of the refusal, stands at one of the tokens and is no fault of the program. Where a tree derives under
+-- another limit, the error says that this one is exceeded.
 pub record IsCompileError (conditions : Conditions) (tokens : List Tok) (IsToken : Token → Type 0) (e : CompileError) : Type 0 where
   pub derives_none : (tree : Tree) (features : List (Noted Tok)) → FileDerives conditions (significant_tokens tokens) tree features → ⊥
   pub among : IsToken e.token
   pub not_internal : internal_message e.kind ≡ None
   pub refused : IsRefused conditions (significant_tokens tokens) e
+  pub deep : (limit : ℕ) (tree : Tree) (features : List (Noted Tok)) (d : FileDerives (with_limit limit conditions) (significant_tokens tokens) tree features)
+      → IsTooDeepError conditions (significant_tokens tokens) d.written e
 
--- Why there is no file. `Numbers`: a number was wanted, its counter was at its end, and no tree that derives has numbers enough. `Memory`
--- says nothing.
+-- Why there is no file. `Numbers`: a number was wanted, its counter was at its end, and no tree that derives under any limit has numbers
+-- enough. `Memory` says nothing.
 abbrev pub IsUnparsed : Conditions → List Tok → (Token → Type 0) → Numerator → Numerator → Fault → Type 0
 IsUnparsed conditions tokens IsToken old new (faults.Compile e) = IsCompileError conditions tokens IsToken e
 IsUnparsed conditions tokens IsToken old new faults.Memory = Unit {0}
 IsUnparsed conditions tokens IsToken old new faults.Numbers =
     WantsNumber conditions (significant_tokens tokens) old new
-    × ((tree : Tree) (features : List (Noted Tok)) → FileDerives conditions (significant_tokens tokens) tree features → NumbersSuffice (bindings_of old) (recipes_of old) tree → ⊥)
+    × ((limit : ℕ) (tree : Tree) (features : List (Noted Tok)) → FileDerives (with_limit limit conditions) (significant_tokens tokens) tree features
+    → NumbersSuffice (bindings_of old) (recipes_of old) tree → ⊥)
 
 -- the text derives the file's tree and its features
 pub record IsParsedText (conditions : Conditions) (path src : List ℕ) (file_depth : ℕ) (import_offsets : List ℕ) (old new : Numerator) (ast : Ast) : Type 0 where
@@ -78,12 +82,15 @@ pub record IsTextRefused (conditions : Conditions) (src : List ℕ) (e : Compile
   pub refused : IsRefused conditions (significant_tokens tokens) e
 
 -- The text derives no tree, which the error says at a part of the text and never as a fault of the program: it is the fault of lexing,
--- which leaves the numerator as it was, or that of the refusal of the text's tokens.
+-- which leaves the numerator as it was, or that of the refusal of the text's tokens. Where it derives a tree under another limit, the error
+-- says that this one is exceeded.
 pub record IsTreeless (conditions : Conditions) (path src : List ℕ) (old new : Numerator) (e : CompileError) : Type 0 where
   pub derives_none : (tree : Tree) (features : List (Noted Tok)) → TextDerives conditions src tree features → ⊥
   pub from : IsFrom path src e.token
   pub not_internal : internal_message e.kind ≡ None
   pub cause : (IsLexicalError path src e × (new ≡ old)) ⊎ IsTextRefused conditions src e
+  pub deep : (limit : ℕ) (tree : Tree) (features : List (Noted Tok)) (d : TextDerives (with_limit limit conditions) src tree features)
+      → IsTooDeepError conditions (significant_tokens d.tokens) d.file.written e
 
 -- a number is wanted in the text's tokens, and its counter, where the new numerator stands, is at its end
 pub record TextWantsNumber (conditions : Conditions) (src : List ℕ) (old new : Numerator) : Type 0 where
@@ -91,11 +98,12 @@ pub record TextWantsNumber (conditions : Conditions) (src : List ℕ) (old new :
   pub lexed : Lexed src tokens
   pub wants : WantsNumber conditions (significant_tokens tokens) old new
 
--- Why a text has no tree. `Numbers`: a number was wanted, its counter was at its end, and no tree that derives has numbers enough.
--- `Memory` says nothing.
+-- Why a text has no tree. `Numbers`: a number was wanted, its counter was at its end, and no tree that derives under any limit has numbers
+-- enough. `Memory` says nothing.
 abbrev pub HasNoTree : Conditions → (path src : List ℕ) → Numerator → Numerator → Fault → Type 0
 HasNoTree conditions path src old new (faults.Compile e) = IsTreeless conditions path src old new e
 HasNoTree conditions path src old new faults.Memory = Unit {0}
 HasNoTree conditions path src old new faults.Numbers =
     TextWantsNumber conditions src old new
-    × ((tree : Tree) (features : List (Noted Tok)) → TextDerives conditions src tree features → NumbersSuffice (bindings_of old) (recipes_of old) tree → ⊥)
+    × ((limit : ℕ) (tree : Tree) (features : List (Noted Tok)) → TextDerives (with_limit limit conditions) src tree features
+    → NumbersSuffice (bindings_of old) (recipes_of old) tree → ⊥)

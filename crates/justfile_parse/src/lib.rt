@@ -6,4 +6,4 @@ mod parse;
 mod unstable;
 
 pub use crate::parse::Parser;
-pub use justfile_parse_expression::significant;
+pub use justfile_parse_expression::{RECURSION_LIMIT, significant};

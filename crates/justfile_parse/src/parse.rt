@@ -41,7 +41,8 @@ use std::alloc::{AllocError, Global};
 pub struct Parser;
 
 impl Parser {
-    /// The file whose tokens these are.
+    /// The file whose tokens these are. At most `limit` of its expressions may be open in one another;
+    /// `RECURSION_LIMIT` is the usual limit.
     ///
     /// # Errors
     ///
@@ -58,14 +59,15 @@ impl Parser {
         working_directory: &str,
         expander: &X,
         current: Version,
+        limit: usize,
     ) -> CompileResult<'src, Ast<'src>>
         requires { IsOneLex tokens.now }
-        ensures parsed { IfOk result (IsParsed (conditions_of X.answer expander.now current) (map tok_of tokens.now)
-            (Contains tokens.now) file_depth import_offsets.now numerator.old numerator.new) }
+        ensures parsed { IfOk result (IsParsed (conditions_of X.answer expander.now current limit)
+            (map tok_of tokens.now) (Contains tokens.now) file_depth import_offsets.now numerator.old numerator.new) }
         ensures module_path { IfOk result (λ ast. names_of ast.module_path ≡ module_names module_namepath.entry) }
         ensures working_directory { IfOk result (λ ast. string_bytes ast.working_directory ≡ working_directory.now) }
-        ensures unparsed { IfErr result (IsUnparsed (conditions_of X.answer expander.now current) (map tok_of tokens.now)
-            (Contains tokens.now) numerator.old numerator.new) }
+        ensures unparsed { IfErr result (IsUnparsed (conditions_of X.answer expander.now current limit)
+            (map tok_of tokens.now) (Contains tokens.now) numerator.old numerator.new) }
         ensures moved { IsMoved numerator.old numerator.new (identifiers (significant_tokens (map tok_of tokens.now))) }
     {
         let table = significant(alloc, tokens)?;
@@ -77,6 +79,7 @@ impl Parser {
             table.as_slice(),
             expander,
             current,
+            limit,
         )?;
         let (items, unstable_features) = with_unstable(alloc, items)?;
         Ok(Ast {
@@ -88,7 +91,7 @@ impl Parser {
         })
     }
 
-    /// The file that a text is.
+    /// The file that a text is, under a limit as for `parse`.
     ///
     /// # Errors
     ///
@@ -102,13 +105,14 @@ impl Parser {
         src: &'src str,
         expander: &X,
         current: Version,
+        limit: usize,
     ) -> CompileResult<'src, Ast<'src>>
-        ensures parsed { IfOk result (IsParsedText (conditions_of X.answer expander.now current) path.now src.now
-            source.now.file_depth source.now.import_offsets.now numerator.old numerator.new) }
+        ensures parsed { IfOk result (IsParsedText (conditions_of X.answer expander.now current limit)
+            path.now src.now source.now.file_depth source.now.import_offsets.now numerator.old numerator.new) }
         ensures module_path { IfOk result (λ ast. names_of ast.module_path ≡ module_names source.now.namepath) }
         ensures working_directory { IfOk result (λ ast. string_bytes ast.working_directory ≡ source.now.working_directory.now) }
         ensures no_tree { IfErr result
-            (HasNoTree (conditions_of X.answer expander.now current) path.now src.now numerator.old numerator.new) }
+            (HasNoTree (conditions_of X.answer expander.now current limit) path.now src.now numerator.old numerator.new) }
         ensures moved { (tokens : List Tok) → Lexed src.now tokens → IsMoved numerator.old numerator.new
             (identifiers (significant_tokens tokens)) }
         ensures unmoved { ((tokens : List Tok) → Lexed src.now tokens → ⊥) → numerator.new ≡ numerator.old }
@@ -125,6 +129,7 @@ impl Parser {
             source.working_directory,
             expander,
             current,
+            limit,
         )
     }
 }
@@ -138,12 +143,14 @@ fn parse_table<'run, 'src, X: Expander>(
     tokens: &'run [TableEntry<'run, 'src>],
     expander: &'run X,
     current: Version,
+    limit: usize,
 ) -> CompileResult<'src, (Vec<Item<'src>>, Vec<(ListFeature, Token<'src>)>)>
     requires { IsTable tokens.now }
-    ensures ok { IfOk result (λ x. IsRead (conditions_of X.answer expander.now current) tokens.now file_depth import_offsets.now
-        (map significant_of tokens.now) numerator.old numerator.new (x.0.items, x.1.items)) }
-    ensures err { IfErr result (IsUnread (conditions_of X.answer expander.now current) (map significant_of tokens.now)
-        (IsInTable tokens.now) numerator.old numerator.new) }
+    ensures ok { IfOk result (λ x. IsRead (conditions_of X.answer expander.now current limit) tokens.now
+        file_depth import_offsets.now (map significant_of tokens.now) numerator.old numerator.new
+        (x.0.items, x.1.items)) }
+    ensures err { IfErr result (IsUnread (conditions_of X.answer expander.now current limit)
+        (map significant_of tokens.now) (IsInTable tokens.now) numerator.old numerator.new) }
     ensures moved { IsMoved numerator.old numerator.new (identifiers (map significant_of tokens.now)) }
 {
     let mut parser = ExpressionParser::new(
@@ -153,6 +160,7 @@ fn parse_table<'run, 'src, X: Expander>(
         file_depth,
         import_offsets,
         tokens,
+        limit,
     );
     match parse_file(&mut parser, numerator) {
         Ok(items) => Ok((take_docs(alloc, items)?, parser.list_features)),

@@ -1,5 +1,5 @@
 -- What is read from any place of a table on, side by side with what the definitions read of its tokens.
-use Rattle.std.proofs.Common.{◌≡◌, false, List, [], ◌∷◌, map, Ok, Err, refl, sym, ap, ◌∙◌, subst}
+use Rattle.std.proofs.Common.{◌≡◌, false, List, [], ◌∷◌, map, Ok, Err, refl, sym, ap, ◌∙◌, subst, arith}
 use Rattle.justfile_base.specs.declared.token.Token.{Token}
 use Rattle.justfile_model.specs.ExpressionReader as expressions
 use Rattle.justfile_model.specs.Expressions as grammar
@@ -32,20 +32,20 @@ abbrev pub noted_of : ListFeature × Token → Noted Tok
 noted_of x = (x.0, tok_of x.1)
 
 module _ (run : Run) where
-  each_entry : (es : List TableEntry) → Each (IsEntry run.conditions Any run.file_depth run.import_offsets) es (map significant_of es)
+  each_entry : (es : List TableEntry) → Each (IsEntry run.conditions run.conditions.limit Any run.file_depth run.import_offsets) es (map significant_of es)
   each_entry [] = a.nil
   each_entry (e ∷ es) = a.cons (record { among = tt; is = refl }) (each_entry es)
 
-  pub entries_are : {es : List TableEntry} {ts : List SignificantToken} → Each (IsEntry run.conditions Any run.file_depth run.import_offsets) es ts → ts ≡ map significant_of es
+  pub entries_are : {es : List TableEntry} {ts : List SignificantToken} → Each (IsEntry run.conditions run.conditions.limit Any run.file_depth run.import_offsets) es ts → ts ≡ map significant_of es
   entries_are a.nil = refl
   entries_are (a.cons h hs) = λ i. sym h.is i ∷ entries_are hs i
 
 module _ (AreMeant : Meanings) (run : Run) where
   abbrev pub rel : Relates
-  rel = seen run.conditions Any run.file_depth run.import_offsets AreMeant
+  rel = seen run.conditions run.conditions.limit Any run.file_depth run.import_offsets AreMeant
 
   abbrev pub agree : a.Respects rel leaves token_leaves
-  agree = respects run.conditions Any run.file_depth run.import_offsets AreMeant
+  agree = respects run.conditions run.conditions.limit Any run.file_depth run.import_offsets AreMeant
 
   each_noted : (fs : List (ListFeature × Token)) → Each (a.AlikeNoted rel) fs (map noted_of fs)
   each_noted [] = a.nil
@@ -56,7 +56,7 @@ abbrev pub state_seen : State → model.State
 state_seen s = record { run = s.run.conditions; depth = s.depth; left = map significant_of s.left; noted = map noted_of s.noted }
 
 pub state_alike : (AreMeant : Meanings) (s : State) → States (rel AreMeant s.run) s (state_seen s)
-state_alike AreMeant s = record { run = record { conditions_are = refl; same = refl; file_depth_is = refl; import_offsets_are = refl }; depth = refl; left = each_entry s.run s.left; noted = each_noted AreMeant s.run s.noted }
+state_alike AreMeant s = record { run = record { conditions_are = refl; same = refl; within = omega arith; file_depth_is = refl; import_offsets_are = refl }; depth = refl; left = each_entry s.run s.left; noted = each_noted AreMeant s.run s.noted }
 
 -- no matter what attributes are
 abbrev Meant : Meanings
@@ -81,3 +81,4 @@ derives s e rest found = by_law (read (At levels.Expression false s)) (expressio
         (y.0, d.features, subst (λ (ts : List SignificantToken). grammar.Expression itself itself Free false s.depth y.0 d.features (map significant_of s.left) ts) left (expression_freed s.run.conditions.limit itself itself d.derives))
     by_law o o' is (a.neither {e = f} h) same = absurd (no_read f (e, rest) same)
     by_law o o' is (a.short h) same = absurd h
+    by_law o o' is (a.deep loose) same = absurd (omega (arith, loose))

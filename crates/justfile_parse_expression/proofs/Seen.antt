@@ -1,16 +1,17 @@
 -- What is read of a table, side by side with what the definitions read of its tokens: each leaf is made of a token of the table.
-use Rattle.std.proofs.Common.{◌≡◌, ℕ, List, [], Some, None, Ok, refl, sym, ap, subst, ◌∙◌}
+use Rattle.std.proofs.Common.{◌≡◌, ◌⊎◌, ℕ, ◌<◌, ◌≤◌, List, [], Some, None, Ok, refl, sym, ap, subst, ◌∙◌, inl, inr, arith}
+use Rattle.std.proofs.Math.Nat.{eq-or-lt_of_le}
 use Rattle.justfile_word.specs.Numerator.{number_of}
 use Rattle.justfile_base.specs.Token.{lexeme_of}
 use Rattle.justfile_base.specs.declared.token.Token.{Token}
-use Rattle.justfile_model.specs.Conditions.{Conditions}
+use Rattle.justfile_model.specs.Conditions.{Conditions, with_limit}
 use Rattle.justfile_model.specs.Literals as literals
 use Rattle.justfile_model.specs.Literals.{cooked_text, token_of}
 use Rattle.justfile_model.specs.SignificantTokens.{SignificantToken}
 use Rattle.justfile_model.specs.Tok.{Tok, tok_of}
 use Rattle.justfile_model.specs.Tree.{Entry, WrittenAttribute}
 use Rattle.justfile_model.specs.TreeReader.{token_leaves}
-use Rattle.justfile_model.proofs.Related.{Relations, Respects}
+use Rattle.justfile_model.proofs.Related.{AlikeConditions, Relations, Respects}
 use Rattle.justfile_parse_expression.specs.TableReader.{Run, assigned_leaf, headed_leaf, leaves, literal_leaf}
 use Rattle.justfile_parse_expression.specs.Significant.{significant_of}
 use Rattle.justfile_tree.specs.LeafTree.{Leaf, Named, Text}
@@ -24,11 +25,13 @@ Meanings = List (Entry Leaf Token) → List (WrittenAttribute Tok Tok) → Type 
 abbrev pub Relates : Type 1
 Relates = Relations Run TableEntry Leaf Token (Unit {0}) (List (Entry Leaf Token)) Conditions SignificantToken Tok Tok Tok (List (WrittenAttribute Tok Tok))
 
-module _ (conditions : Conditions) (IsToken : Token → Type 0) (file_depth : ℕ) (import_offsets : List ℕ) where
+-- The other reads under the same conditions, but for its limit of depth, `bound`, which may be greater.
+module _ (conditions : Conditions) (bound : ℕ) (IsToken : Token → Type 0) (file_depth : ℕ) (import_offsets : List ℕ) where
   -- this run
   pub record IsRun (run : Run) (C : Conditions) : Type 0 where
-    pub conditions_are : run.conditions ≡ C
-    pub same : C ≡ conditions
+    pub conditions_are : run.conditions ≡ conditions
+    pub same : C ≡ with_limit bound conditions
+    pub within : conditions.limit ≤ bound
     pub file_depth_is : run.file_depth ≡ file_depth
     pub import_offsets_are : run.import_offsets ≡ import_offsets
 
@@ -64,6 +67,7 @@ module _ (conditions : Conditions) (IsToken : Token → Type 0) (file_depth : �
   abbrev pub seen : Meanings → Relates
   seen AreMeant = record {
     run = IsRun;
+    looser = conditions.limit < bound;
     token = IsEntry;
     spot = IsSpot;
     name = IsLeaf (λ token. Named token None);
@@ -88,10 +92,25 @@ module _ (conditions : Conditions) (IsToken : Token → Type 0) (file_depth : �
   headed_is : (run : Run) (C : Conditions) → IsRun run C → (token : Token) (number : ℕ) → headed_leaf run token number ≡ headed_leaf in_run token number
   headed_is run C h token number = rw (h.file_depth_is, h.import_offsets_are) refl
 
+  limits_alike : (AreMeant : Meanings) (run : Run) (C : Conditions) → IsRun run C → (conditions.limit ≡ bound) ⊎ (conditions.limit < bound) → AlikeConditions (seen AreMeant) run.conditions C
+  limits_alike AreMeant run C h (inl e) = record {
+    limit = inl (ap (λ (D : Conditions). D.limit) h.conditions_are ∙ e ∙ ap (λ (D : Conditions). D.limit) (sym h.same));
+    expander = ap (λ (D : Conditions). D.expander) h.conditions_are ∙ ap (λ (D : Conditions). D.expander) (sym h.same);
+    current = ap (λ (D : Conditions). D.current) h.conditions_are ∙ ap (λ (D : Conditions). D.current) (sym h.same);
+  }
+  limits_alike AreMeant run C h (inr less) =
+      let one = ap (λ (D : Conditions). D.limit) h.conditions_are in
+      let other = ap (λ (D : Conditions). D.limit) h.same in
+      record {
+        limit = inr (less, omega (arith, one, other, less));
+        expander = ap (λ (D : Conditions). D.expander) h.conditions_are ∙ ap (λ (D : Conditions). D.expander) (sym h.same);
+        current = ap (λ (D : Conditions). D.current) h.conditions_are ∙ ap (λ (D : Conditions). D.current) (sym h.same);
+      }
+
   pub respects : (AreMeant : Meanings) → Respects (seen AreMeant) leaves token_leaves
   unfolding leaves
   respects AreMeant = record {
-    conditions = λ run C h. h.conditions_are;
+    conditions = λ run C h. limits_alike AreMeant run C h (eq-or-lt_of_le h.within);
     see = λ entry t h. h.is;
     spot = λ entry t h. record { among = h.among; is = ap (λ (s : SignificantToken). s.tok) h.is };
     name = λ entry t h. named (λ token. Named token None) entry t h;
@@ -100,7 +119,7 @@ module _ (conditions : Conditions) (IsToken : Token → Type 0) (file_depth : �
       among = h.among;
       lexeme = lexeme;
       text = text;
-      cooked = ap (λ (D : Conditions). cooked_text D.expander l) (sym (r.conditions_are ∙ r.same)) ∙ cooked;
+      cooked = ap (λ (D : Conditions). cooked_text D.expander l) (sym r.conditions_are) ∙ cooked;
       is = refl;
       tok_is = ap (λ (s : SignificantToken). s.tok) (sym h.is);
     };

@@ -5,10 +5,6 @@ use Rattle.justfile_literal.specs.Literal.{answers_by}
 use Rattle.justfile_model.specs.Conditions.{Conditions}
 use Rattle.justfile_model.specs.Versions.{version_numbers}
 
--- how many expressions may be open
-abbrev pub depth_limit : ℕ
-depth_limit = 256
-
--- the limit of depth, what an expander answers, and the running version
-abbrev pub conditions_of : {X : Type 0} → (answer : X → List ℕ → Result (List ℕ) (List ℕ)) → (expander : X) → (current : Version) → Conditions
-conditions_of answer expander current = record { limit = depth_limit; expander = answers_by answer expander; current = version_numbers current }
+-- what an expander answers, the running version, and how many expressions may be open
+abbrev pub conditions_of : {X : Type 0} → (answer : X → List ℕ → Result (List ℕ) (List ℕ)) → (expander : X) → (current : Version) → (limit : ℕ) → Conditions
+conditions_of answer expander current limit = record { limit = limit; expander = answers_by answer expander; current = version_numbers current }

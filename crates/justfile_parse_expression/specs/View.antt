@@ -11,7 +11,7 @@ state_at run depth n features = record { run = run; depth = depth; left = drop n
 
 module _ {X : Type 0} (answer : X → List ℕ → Result (List ℕ) (List ℕ)) where
   abbrev pub run_of : ExpressionParser X → Run
-  run_of p = record { conditions = conditions_of answer p.expander.now p.current; table = p.tokens.now; file_depth = p.file_depth; import_offsets = p.import_offsets.now }
+  run_of p = record { conditions = conditions_of answer p.expander.now p.current p.limit; table = p.tokens.now; file_depth = p.file_depth; import_offsets = p.import_offsets.now }
 
   -- where the parser would be at another entry
   abbrev pub state_from : ExpressionParser X → ℕ → State

@@ -26,8 +26,8 @@ use justfile_base::{Expander, FormatStringPart, Keyword, Name, StringLiteral, To
 use justfile_model::{Level, Operator};
 use justfile_tree::{Expression, ListFeature};
 
-/// The number of expressions that may be open.
-const RECURSION_LIMIT: usize = 256;
+/// The usual limit of depth: how many expressions may be open in one another.
+pub const RECURSION_LIMIT: usize = 256;
 
 impl<'run, 'src, X: Expander> ExpressionParser<'run, 'src, X> {
     ghost use Rattle.justfile_parse_expression.specs.View.{Moves, left, state_of};
@@ -467,7 +467,7 @@ impl<'run, 'src, X: Expander> ExpressionParser<'run, 'src, X> {
         ensures stays { left self.new ≡ left self.old }
     {
         if matches!(level, Level::Expression) {
-            if self.depth == RECURSION_LIMIT {
+            if self.depth == self.limit {
                 return Err(Stop::Refused(Refusal::TooDeep));
             }
             self.depth += 1;

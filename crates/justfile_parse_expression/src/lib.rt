@@ -10,6 +10,7 @@ pub mod significant;
 mod stop;
 mod wanted;
 
+pub use crate::expression::RECURSION_LIMIT;
 pub use crate::parser::{ExpressionParser, is_word};
 pub use crate::stop::{LiteralRefusal, Refusal, Stop};
 pub use crate::wanted::Wanted;

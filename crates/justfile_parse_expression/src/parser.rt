@@ -5,7 +5,7 @@ ghost use Rattle.std.specs.List.{list_all};
 ghost use Rattle.justfile_word.specs.Keyword.{keyword_text};
 ghost use Rattle.justfile_word.specs.declared.token_kind.TokenKind.TheVariants as kinds;
 ghost use Rattle.justfile_model.specs.Expressions.{front};
-ghost use Rattle.justfile_parse_expression.specs.Conditions.{conditions_of, depth_limit};
+ghost use Rattle.justfile_parse_expression.specs.Conditions.{conditions_of};
 ghost use Rattle.justfile_parse_expression.specs.Formats.{AreEnded, IsTable, prop_ended};
 ghost use Rattle.justfile_parse_expression.specs.Literal.{IsOf, is_sound};
 ghost use Rattle.justfile_model.specs.Reading.{at, is_word, marks};
@@ -40,6 +40,8 @@ pub struct ExpressionParser<'run, 'src, X> {
     pub file_depth: u32,
     /// The offsets of the imports that lead to the file that is read, the outermost first.
     pub import_offsets: &'run [usize],
+    /// How many expressions may be open in one another.
+    pub(crate) limit: usize,
     /// What was read that needs the setting for lists, each with its token, in order.
     pub list_features: Vec<(ListFeature, Token<'src>)>,
     /// The index of the next token.
@@ -48,7 +50,7 @@ pub struct ExpressionParser<'run, 'src, X> {
     /// Which kinds are wanted in place of the next token.
     pub wanted: Wanted,
     ghost within: { next ≤ length tokens.now },
-    ghost shallow: { depth ≤ depth_limit },
+    ghost shallow: { depth ≤ limit },
     ghost nonempty: { 0 < length tokens.now },
     ghost sound: { IsTrue (list_all is_sound tokens.now) },
     ghost ended: { AreEnded (map significant_of tokens.now) } by { prop_ended (map significant_of tokens.now) },
@@ -57,7 +59,7 @@ pub struct ExpressionParser<'run, 'src, X> {
 impl<'run, 'src, X: Expander> ExpressionParser<'run, 'src, X> {
     ghost use Rattle.justfile_parse_expression.specs.View.{Moves, left, state_from, state_of};
 
-    /// The parser at the first token of a table, where no expression is open.
+    /// The parser at the first token of a table, where no expression is open, and up to `limit` may be.
     #[tactic(auto, using(crate::proofs::Rest::begin_is), unfolding(crate::specs::View::state_of))]
     pub fn new(
         alloc: Global,
@@ -66,10 +68,11 @@ impl<'run, 'src, X: Expander> ExpressionParser<'run, 'src, X> {
         file_depth: u32,
         import_offsets: &'run [usize],
         tokens: &'run [TableEntry<'run, 'src>],
+        limit: usize,
     ) -> Self
         requires { IsTable tokens.now }
         ensures { state_of X.answer result ≡ reader.begin (record {
-          conditions = conditions_of X.answer expander.now current;
+          conditions = conditions_of X.answer expander.now current limit;
           table = tokens.now;
           file_depth = file_depth;
           import_offsets = import_offsets.now;
@@ -82,6 +85,7 @@ impl<'run, 'src, X: Expander> ExpressionParser<'run, 'src, X> {
             expander,
             file_depth,
             import_offsets,
+            limit,
             list_features: Vec::new(alloc),
             next: 0,
             tokens,

@@ -106,6 +106,7 @@ module _ (s : State) where
   by_law o o' (a.both {x = x} {y = y} q k) counts = omega (arith, counts y refl, ap (λ (ts : Tokens). identifiers ts) (entries_are s.run k.left))
   by_law o o' (a.neither h) counts = tt
   by_law o o' (a.short h) counts = absurd h
+  by_law o o' (a.deep loose) counts = tt
 
   pub value_fewer : Fewer {A = Expr Leaf Token} s (value s)
   value_fewer =

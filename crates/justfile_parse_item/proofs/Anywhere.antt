@@ -18,17 +18,17 @@ use Rattle.justfile_parse_item.proofs.Seen.{AreMeant}
 
 module _ (run : Run) where
   abbrev pub rel : Relates
-  rel = seen run.conditions Any run.file_depth run.import_offsets
+  rel = seen run.conditions run.conditions.limit Any run.file_depth run.import_offsets
 
   abbrev pub agree : a.Respects rel leaves token_leaves
-  agree = respects run.conditions Any run.file_depth run.import_offsets
+  agree = respects run.conditions run.conditions.limit Any run.file_depth run.import_offsets
 
   -- what is kept of attributes
   abbrev pub Keeps : Entry Leaf Token → ReadAttribute → Type 0
-  Keeps = IsKept run.conditions Any run.file_depth run.import_offsets
+  Keeps = IsKept run.conditions run.conditions.limit Any run.file_depth run.import_offsets
 
   abbrev pub keeps : natural.RespectsAttributes rel leaves token_leaves kept token_attributes Keeps
-  keeps = attributed run.conditions Any run.file_depth run.import_offsets
+  keeps = attributed run.conditions run.conditions.limit Any run.file_depth run.import_offsets
 
 pub state_alike : (s : State) → States (rel s.run) s (state_seen s)
-state_alike s = table.state_alike (AreMeant s.run.conditions Any s.run.file_depth s.run.import_offsets) s
+state_alike s = table.state_alike (AreMeant s.run.conditions s.run.conditions.limit Any s.run.file_depth s.run.import_offsets) s

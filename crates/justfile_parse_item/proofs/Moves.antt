@@ -100,6 +100,7 @@ module _ (n : Counters) (s : State) (open_none : s.depth ≡ 0) where
           subst (λ (z : (OrderedItem Leaf Token ℕ × Counters) × State). MovesBy n z.0.1 (names s) (names z.1)) e counted
       by_law o o' is (a.neither {e = f} h) same = absurd (no_read f ((i, m), rest) same)
       by_law o o' is (a.short {n = k} h) same = absurd (no_read (reading.NoNumber k) ((i, m), rest) same)
+      by_law o o' is (a.deep {o = at} loose) same = absurd (no_read (reading.TooDeep at) ((i, m), rest) same)
 
 -- ---- the attributes before a construct
 
@@ -117,6 +118,7 @@ attributes_fewer s ws rest open_none found =
         omega (arith, attribute_lines_count itself itself (Under s.run.conditions.limit) read.derived.derives, ap (λ (ts : Tokens). identifiers ts) (entries_are s.run k.left))
     by_law o o' is (a.neither h) = tt
     by_law o o' is (a.short h) = absurd h
+    by_law o o' is (a.deep loose) = tt
 
 -- ---- what ends it
 

@@ -38,12 +38,12 @@ use Rattle.justfile_tree.specs.LeafTree.{Leaf, LiteralText, Named, Literal, Comm
 use Rattle.justfile_parse_expression.proofs.Seen as table
 use Rattle.justfile_parse_expression.proofs.Seen.{Relates}
 
-module _ (conditions : Conditions) (IsToken : Token → Type 0) (file_depth : ℕ) (import_offsets : List ℕ) where
+module _ (conditions : Conditions) (bound : ℕ) (IsToken : Token → Type 0) (file_depth : ℕ) (import_offsets : List ℕ) where
   abbrev IsLeaf : (make : Token → Leaf) → Leaf → Tok → Type 0
-  IsLeaf = table.IsLeaf conditions IsToken file_depth import_offsets
+  IsLeaf = table.IsLeaf conditions bound IsToken file_depth import_offsets
 
   abbrev IsLiteralLeaf : literals.Literal (List ℕ) → Leaf → Tok → Type 0
-  IsLiteralLeaf = table.IsLiteralLeaf conditions IsToken file_depth import_offsets
+  IsLiteralLeaf = table.IsLiteralLeaf conditions bound IsToken file_depth import_offsets
 
   -- an attribute with the token of its name, by its parts
   abbrev pub IsGivenPair : Pair → Type 0
@@ -55,10 +55,10 @@ module _ (conditions : Conditions) (IsToken : Token → Type 0) (file_depth : �
       → (entries_of (sees_tokens conditions.expander) ws ≡ Some (set_entries set)) × All IsGivenPair (pairs_of set)
 
   abbrev pub seen : Relates
-  seen = table.seen conditions IsToken file_depth import_offsets AreMeant
+  seen = table.seen conditions bound IsToken file_depth import_offsets AreMeant
 
   pub respects : Respects seen leaves token_leaves
-  respects = table.respects conditions IsToken file_depth import_offsets AreMeant
+  respects = table.respects conditions bound IsToken file_depth import_offsets AreMeant
 
   -- ---- what is at the leaves
 

@@ -59,30 +59,30 @@ use Rattle.justfile_parse_expression.proofs.Seen.{Relates}
 abbrev own : Token → Token
 own token = token
 
-module _ (conditions : Conditions) (IsToken : Token → Type 0) (file_depth : ℕ) (import_offsets : List ℕ) where
+module _ (conditions : Conditions) (bound : ℕ) (IsToken : Token → Type 0) (file_depth : ℕ) (import_offsets : List ℕ) where
   abbrev seen : Relates
-  seen = seeing.seen conditions IsToken file_depth import_offsets
+  seen = seeing.seen conditions bound IsToken file_depth import_offsets
 
   abbrev IsSpot : Token → Tok → Type 0
-  IsSpot = table.IsSpot conditions IsToken file_depth import_offsets
+  IsSpot = table.IsSpot conditions bound IsToken file_depth import_offsets
 
   abbrev IsLeaf : (Token → Leaf) → Leaf → Tok → Type 0
-  IsLeaf = table.IsLeaf conditions IsToken file_depth import_offsets
+  IsLeaf = table.IsLeaf conditions bound IsToken file_depth import_offsets
 
   abbrev IsLiteralLeaf : Literal (List ℕ) → Leaf → Tok → Type 0
-  IsLiteralLeaf = table.IsLiteralLeaf conditions IsToken file_depth import_offsets
+  IsLiteralLeaf = table.IsLiteralLeaf conditions bound IsToken file_depth import_offsets
 
   -- ---- attributes
 
   pub quoted_seen : (l : strings.StringLiteral) {q : Quoted Tok} → AlikeQuoted seen (quoted_by leaf_tree_of literal_leaf own l) q
       → (q ≡ quoted_by expr_of literal_tok tok_of l) × IsGivenLiteral conditions.expander IsToken l
   quoted_seen l {q} h =
-      let x = seeing.string_seen conditions IsToken file_depth import_offsets h.lexeme l q.token h.token in
+      let x = seeing.string_seen conditions bound IsToken file_depth import_offsets h.lexeme l q.token h.token in
       ((λ i. record { expanded = sym h.expanded i; token = x.1 i }), x.0)
 
   quoted_row : (ls : List strings.StringLiteral) {qs : List (Quoted Tok)} → Each (AlikeQuoted seen) (map (quoted_by leaf_tree_of literal_leaf own) ls) qs
       → (qs ≡ map (quoted_by expr_of literal_tok tok_of) ls) × All (IsGivenLiteral conditions.expander IsToken) ls
-  quoted_row ls h = seeing.all_seen conditions IsToken file_depth import_offsets (quoted_by leaf_tree_of literal_leaf own) (quoted_by expr_of literal_tok tok_of) (IsGivenLiteral conditions.expander IsToken) (λ l q k. quoted_seen l k) ls h
+  quoted_row ls h = seeing.all_seen conditions bound IsToken file_depth import_offsets (quoted_by leaf_tree_of literal_leaf own) (quoted_by expr_of literal_tok tok_of) (IsGivenLiteral conditions.expander IsToken) (λ l q k. quoted_seen l k) ls h
 
   -- what may be absent
   pub if_seen : {Z T U : Type 0} {Rel : T → U → Type 0} (view : Z → T) (model_view : Z → U) (IsGood : Z → Type 0) → ((z : Z) (u : U) → Rel (view z) u → (u ≡ model_view z) × IsGood z)
@@ -98,7 +98,7 @@ module _ (conditions : Conditions) (IsToken : Token → Type 0) (file_depth : �
   boxed_tree e = expr_of e.value
 
   value_seen : (e : Box Expression) (t : Expr Tok Tok) → Alike seen (boxed_leaves e) t → (t ≡ boxed_tree e) × IsGivenBoxed conditions.expander IsToken e
-  value_seen e t h = let x = seeing.seen_expression conditions IsToken file_depth import_offsets e.value h in (x.same, x.given)
+  value_seen e t h = let x = seeing.seen_expression conditions bound IsToken file_depth import_offsets e.value h in (x.same, x.given)
 
   spot_seen : (token : Token) (tok : Tok) → IsSpot token tok → (tok ≡ tok_of token) × IsToken token
   spot_seen token tok h = (sym h.is, h.among)
@@ -221,7 +221,7 @@ module _ (conditions : Conditions) (IsToken : Token → Type 0) (file_depth : �
   seen_attribute (attributes.WorkingDirectory value) (single kind h) = let x = value_seen value _ h in record { same = ap (tree.Single kinds.WorkingDirectory) x.0; given = x.1 }
 
   abbrev IsGivenPair : Pair → Type 0
-  IsGivenPair = seeing.IsGivenPair conditions IsToken file_depth import_offsets
+  IsGivenPair = seeing.IsGivenPair conditions bound IsToken file_depth import_offsets
 
   pair_seen : (p : Pair) (e : Entry Tok Tok) → AlikeEntry seen (leaf_entry_of p) e → (e ≡ entry_of p) × IsGivenPair p
   pair_seen p e h =
@@ -231,7 +231,7 @@ module _ (conditions : Conditions) (IsToken : Token → Type 0) (file_depth : �
   -- the attributes of a set
   set_seen : (set : AttributeSet) {es : List (Entry Tok Tok)} → Each (AlikeEntry seen) (leaf_entries_of set) es
       → (es ≡ sets.entries_of set) × All IsGivenPair (pairs_of set)
-  set_seen set h = seeing.all_seen conditions IsToken file_depth import_offsets leaf_entry_of entry_of IsGivenPair pair_seen (pairs_of set) h
+  set_seen set h = seeing.all_seen conditions bound IsToken file_depth import_offsets leaf_entry_of entry_of IsGivenPair pair_seen (pairs_of set) h
 
   -- ---- what is seen of leaves
 
@@ -379,7 +379,7 @@ module _ (conditions : Conditions) (IsToken : Token → Type 0) (file_depth : �
   each_entry (a.cons h hs) = a.cons h.alike (each_entry hs)
 
   meant : {xs : List (Entry Leaf Token)} {ys : List ReadAttribute} → Each IsKept xs ys
-      → AreMeant conditions IsToken file_depth import_offsets (in_order (entry_cmp sees_leaves) xs) (map (λ (x : ReadAttribute). x.written) ys)
+      → AreMeant conditions bound IsToken file_depth import_offsets (in_order (entry_cmp sees_leaves) xs) (map (λ (x : ReadAttribute). x.written) ys)
   meant {xs} {ys} h set e =
       let sorted : Each (AlikeEntry seen) (in_order (entry_cmp sees_leaves) xs) (in_order (entry_cmp (sees_tokens E)) (map entry_read ys)) =
       ordered_alike seen sees_leaves (sees_tokens E) sees_alike (each_entry h) in

@@ -37,6 +37,7 @@ pub mod GoodContents
 pub mod GoodHeaders
 pub mod GoodItems
 pub mod Inline
+pub mod LeastNeed
 pub mod LexesAttributes
 pub mod LexesBack
 pub mod LexesHeaders

@@ -1,2 +1,3 @@
 pub mod LiteralModes
+pub mod Need
 pub mod RoundTrip

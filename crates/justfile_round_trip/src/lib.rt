@@ -1,7 +1,7 @@
 //! What is printed reads back: the round trip of the syntax of justfiles, proved of the definitions alone.
 #![tactic(auto)]
 
-ghost use Rattle.std.specs.Prelude.{◌≡◌, ℕ, ◌<◌, min, List, ◌++◌, length, take, drop, slice_index, Ok, true, false};
+ghost use Rattle.std.specs.Prelude.{◌≡◌, ℕ, ◌<◌, ◌≤◌, min, List, ◌++◌, length, take, drop, slice_index, Ok, true, false};
 ghost use Rattle.justfile_word.specs.Indentation.{IsIndentation};
 ghost use Rattle.justfile_base.specs.declared.string_kind.StringKind.{StringKind};
 ghost use Rattle.justfile_word.specs.declared.token_kind.TokenKind.TheVariants.{StringToken};
@@ -18,6 +18,7 @@ ghost use Rattle.justfile_model.specs.Tok.{Tok};
 ghost use Rattle.justfile_model.specs.Tree.{Tree, Shape, shape_of};
 ghost use Rattle.justfile_model.specs.declared.raw_text.RawText.TheVariants.{Literal};
 ghost use Rattle.justfile_round_trip.specs.LiteralModes.{before_start, has_no_start};
+ghost use Rattle.justfile_round_trip.specs.Need.{TextNeeds};
 ghost use Rattle.justfile_round_trip.specs.RoundTrip.{TextDerives, ReadsBack, printed};
 
 /// What is printed of a printable shape of any text derives the normal form of that shape, with each
@@ -39,6 +40,20 @@ pub fn reads_back()
         → TextDerives conditions (printed (shape_of tree) indentation) again found
         → printed (shape_of again) indentation ≡ printed (shape_of tree) indentation }
     ensures stays_printable { (shape : Shape) → printable (normal shape) ≡ printable shape }
+{}
+
+/// A text that derives a tree has a need, the least limit of depth under which it does. What is printed of a printable shape of a text has
+/// the least need of all texts with the same normal form, whatever expander and version those are read with.
+pub fn least_need()
+    ensures need { (conditions : Conditions) (source : List ℕ) (tree : Tree)
+        (features : List (Noted Tok)) → TextDerives conditions source tree features
+        → (need : ℕ) × TextNeeds conditions source need × (need ≤ conditions.limit) }
+    ensures least { (conditions others : Conditions) (source other : List ℕ) (tree twin : Tree)
+        (features noted : List (Noted Tok)) (indentation : List ℕ) (need : ℕ)
+        → IsIndentation indentation → TextDerives conditions source tree features
+        → printable (shape_of tree) ≡ true → TextDerives others other twin noted
+        → normal (shape_of twin) ≡ normal (shape_of tree)
+        → TextNeeds conditions (printed (shape_of tree) indentation) need → need ≤ others.limit }
 {}
 
 /// Format mode and plain mode agree on where the inside of a literal ends, but for a `{{` that

@@ -9,6 +9,7 @@ use justfile_syntax::ast::Ast;
 use justfile_syntax::compile_error_kind::CompileErrorKind;
 use justfile_syntax::fault::Fault;
 use justfile_syntax::indentation::Indentation;
+use justfile_syntax::parser::RECURSION_LIMIT;
 use row_notation::{Answer, Text};
 
 /// The indentations at which what is printed is to settle.
@@ -26,7 +27,7 @@ fn settles_everywhere(ast: &mut Ast<'_>, answer: &mut Answer) {
 /// Says where what is printed of a file at an indentation does not settle.
 fn settles_at(ast: &Ast<'_>, answer: &mut Answer, indentation: Indentation) {
     match ast.print(answer.alloc(), indentation) {
-        Ok(printed) => settles(answer, indentation, printed.as_str()),
+        Ok(printed) => settles(answer, indentation, RECURSION_LIMIT, printed.as_str()),
         Err(_) => answer.fail(),
     }
 }
@@ -41,7 +42,7 @@ fn is_of_text(fault: &Fault<'_>) -> bool {
 
 /// Says what is wrong with the answer for a text, and answers whether it is a file.
 fn is_file(answer: &mut Answer, text: &str) -> bool {
-    match parse(answer.alloc(), &Expansion::Unchanged, text) {
+    match parse(answer.alloc(), &Expansion::Unchanged, RECURSION_LIMIT, text) {
         Ok(mut ast) => {
             settles_everywhere(&mut ast, answer);
             true

@@ -25,7 +25,9 @@ pub(crate) fn are_readable(word: Word, fields: &[String]) -> bool {
         Word::Breaks => is_breakable(first) && is_number(fields, 1),
         Word::Class => first.parse::<u8>().is_ok(),
         Word::Expands => Expansion::of(first).is_some(),
-        Word::Line => is_number(fields, 0),
+        Word::CanonicalUnder | Word::Line | Word::PrintsUnder | Word::RefusedUnder => {
+            is_number(fields, 0)
+        }
         Word::Numbers => is_number(fields, 0) && is_number(fields, 1),
         Word::PrintsAt | Word::PrintsItem => first.parse::<Indentation>().is_ok(),
         Word::Sigils => matches!(first, "guarded" | "unguarded"),

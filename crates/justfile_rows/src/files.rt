@@ -22,7 +22,7 @@ use justfile_syntax::fault::{CompileResult, Fault};
 use justfile_syntax::indentation::Indentation;
 use justfile_syntax::item::Item;
 use justfile_syntax::numerator::{Number, Numerator};
-use justfile_syntax::parser::Parser;
+use justfile_syntax::parser::{Parser, RECURSION_LIMIT};
 use justfile_syntax::source::Source;
 use justfile_syntax::version::Version;
 use row_notation::{Answer, Text, field_at, number_at};
@@ -35,11 +35,12 @@ const CURRENT: Version = Version {
     patch: 0,
 };
 
-/// The file that a text is, with numbers from a numerator.
+/// The file that a text is under a limit of depth, with numbers from a numerator.
 fn parse_from<'src>(
     alloc: Global,
     numerator: &mut Numerator,
     expansion: &Expansion<'_>,
+    limit: usize,
     text: &'src str,
 ) -> CompileResult<'src, Ast<'src>> {
     let source = Source {
@@ -49,33 +50,38 @@ fn parse_from<'src>(
         working_directory: WORKING_DIRECTORY,
     };
     Parser::parse_source(
-        alloc, numerator, "justfile", &source, text, expansion, CURRENT,
+        alloc, numerator, "justfile", &source, text, expansion, CURRENT, limit,
     )
 }
 
-/// What a text is parsed to, where the first numbers are 0.
+/// What a text is parsed to under a limit of depth, where the first numbers are 0.
 pub(crate) fn parse<'src>(
     alloc: Global,
     expansion: &Expansion<'_>,
+    limit: usize,
     text: &'src str,
 ) -> CompileResult<'src, Ast<'src>> {
-    parse_from(alloc, &mut Numerator::new(0), expansion, text)
+    parse_from(alloc, &mut Numerator::new(0), expansion, limit, text)
 }
 
 /// What a row's word asks of a file.
 fn push_file(ast: &mut Ast<'_>, answer: &mut Answer, word: Word, fields: &[String]) {
     match word {
-        Word::Expected | Word::Message | Word::Refused => answer.push("taken"),
+        Word::Expected | Word::Message | Word::Refused | Word::RefusedUnder => {
+            answer.push("taken");
+        }
         Word::Features => features(answer, &ast.list_features),
         Word::Indented => indented(ast, answer),
         Word::Items | Word::Numbers => file(ast, answer),
         Word::Unstable => unstable(answer, &ast.unstable_features),
         Word::Canonical
+        | Word::CanonicalUnder
         | Word::Copies
         | Word::ExpandsTo
         | Word::Prints
         | Word::PrintsAt
-        | Word::PrintsItem => push_printed(ast, answer, word, indentation_for(word, fields)),
+        | Word::PrintsItem
+        | Word::PrintsUnder => push_printed(ast, answer, word, fields),
         _ => push_of_items(&ast.items, answer, word, fields),
     }
 }
@@ -95,12 +101,13 @@ fn push_of_items(items: &[Item<'_>], answer: &mut Answer, word: Word, fields: &[
 }
 
 /// What a row's word asks of a file that is printed.
-fn push_printed(ast: &Ast<'_>, answer: &mut Answer, word: Word, indentation: Indentation) {
+fn push_printed(ast: &Ast<'_>, answer: &mut Answer, word: Word, fields: &[String]) {
+    let indentation = indentation_for(word, fields);
     match word {
         Word::Copies => copies(ast, answer, indentation),
         Word::ExpandsTo => push_value_and_text(ast, answer),
         Word::PrintsItem => prints_item(&ast.items, answer, indentation),
-        _ => prints(ast, answer, indentation),
+        _ => prints(ast, answer, indentation, limit_of(word, fields)),
     }
 }
 
@@ -124,11 +131,19 @@ fn push_file_and_copy(ast: &mut Ast<'_>, answer: &mut Answer, word: Word, fields
     let mut found = Answer::new(answer.alloc());
     push_file(ast, &mut found, word, fields);
     answer.push_all(&found);
-    if !matches!(word, Word::Canonical | Word::Prints | Word::PrintsAt) {
+    if is_copied(word) {
         let mut copied = Answer::new(answer.alloc());
         push_copy(ast, &mut copied, word, fields);
         answer.push_unless("copied", &copied, &found);
     }
+}
+
+/// Whether a copy of the file is asked, too. What a file is printed as is asked of the file alone.
+fn is_copied(word: Word) -> bool {
+    !matches!(
+        word,
+        Word::Canonical | Word::CanonicalUnder | Word::Prints | Word::PrintsAt | Word::PrintsUnder
+    )
 }
 
 /// What a row's word asks of a copy of a file.
@@ -146,7 +161,8 @@ fn push_parsed(answer: &mut Answer, word: Word, fields: &[String]) {
     let text = text_of(word, fields);
     let expansion = expansion_of(word, fields);
     let mut found = Answer::new(answer.alloc());
-    match parse_from(answer.alloc(), &mut numerator, &expansion, text) {
+    let limit = limit_of(word, fields);
+    match parse_from(answer.alloc(), &mut numerator, &expansion, limit, text) {
         Ok(mut ast) => push_file_and_copy(&mut ast, &mut found, word, fields),
         Err(fault) => push_why(&mut found, word, text, &fault),
     }
@@ -205,14 +221,27 @@ fn expansion_of(word: Word, fields: &[String]) -> Expansion<'_> {
     }
 }
 
+/// The limit of depth of a row.
+fn limit_of(word: Word, fields: &[String]) -> usize {
+    match word {
+        Word::CanonicalUnder | Word::PrintsUnder | Word::RefusedUnder => {
+            number_at(fields, 0) as usize
+        }
+        _ => RECURSION_LIMIT,
+    }
+}
+
 /// The text of a row.
 fn text_of(word: Word, fields: &[String]) -> &str {
     match word {
-        Word::Expands
+        Word::CanonicalUnder
+        | Word::Expands
         | Word::ExpandsTo
         | Word::Line
         | Word::PrintsAt
         | Word::PrintsItem
+        | Word::PrintsUnder
+        | Word::RefusedUnder
         | Word::Sigils => field_at(fields, 1),
         Word::Numbers => field_at(fields, 2),
         _ => field_at(fields, 0),

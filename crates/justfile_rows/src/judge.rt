@@ -22,7 +22,7 @@ pub(crate) enum Outcome {
 }
 
 /// What a row expects: the fields after those that it gives. `beginnings` expects its first field,
-/// and `canonical` what it gives.
+/// `canonical` what it gives, and `canonical_under` what it gives after its limit.
 fn expected(alloc: Global, word: Word, least: usize, fields: &[String]) -> Answer {
     let mut answer = Answer::new(alloc);
     for (place, field) in fields.iter().enumerate() {
@@ -38,6 +38,7 @@ fn is_expected(word: Word, least: usize, place: usize) -> bool {
     match word {
         Word::Beginnings => place == 0,
         Word::Canonical => true,
+        Word::CanonicalUnder => place >= 1,
         _ => place >= least,
     }
 }

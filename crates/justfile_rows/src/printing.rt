@@ -15,24 +15,25 @@ pub(crate) fn copies(ast: &Ast<'_>, answer: &mut Answer, indentation: Indentatio
 }
 
 /// What a file is printed as at an indentation. After it stands `unprintable` if the file says that
-/// this would not parse back; else what the printed text is if it does not settle.
-pub(crate) fn prints(ast: &Ast<'_>, answer: &mut Answer, indentation: Indentation) {
+/// this would not parse back; else what the printed text is if it does not settle under a limit of
+/// depth.
+pub(crate) fn prints(ast: &Ast<'_>, answer: &mut Answer, indentation: Indentation, limit: usize) {
     let Ok(printed) = ast.print(answer.alloc(), indentation) else {
         return answer.fail();
     };
     answer.push(printed.as_str());
     if ast.printable() {
-        settles(answer, indentation, printed.as_str());
+        settles(answer, indentation, limit, printed.as_str());
     } else {
         answer.push("unprintable");
     }
 }
 
-/// Says that a printed text is no file that can be printed and prints as this text, and what it is
-/// instead.
-pub(crate) fn settles(answer: &mut Answer, indentation: Indentation, printed: &str) {
+/// Says that under a limit of depth a printed text is no file that can be printed and prints as this
+/// text, and what it is instead.
+pub(crate) fn settles(answer: &mut Answer, indentation: Indentation, limit: usize, printed: &str) {
     let mut again = Answer::new(answer.alloc());
-    match parse(answer.alloc(), &Expansion::Unchanged, printed) {
+    match parse(answer.alloc(), &Expansion::Unchanged, limit, printed) {
         Ok(mut ast) => prints_once(&mut ast, &mut again, indentation),
         Err(fault) => push_fault(&mut again, printed, &fault),
     }

@@ -9,6 +9,7 @@ use justfile_syntax::interpreter::Interpreter;
 use justfile_syntax::item::Item;
 use justfile_syntax::name::Name;
 use justfile_syntax::numerator::Number;
+use justfile_syntax::parser::RECURSION_LIMIT;
 use justfile_syntax::setting::Setting;
 use justfile_tree::child;
 use row_notation::{Answer, Text, field_at};
@@ -45,7 +46,7 @@ fn insert<'row>(
 /// alone, and then by the context of the first field too.
 pub(crate) fn resolves(answer: &mut Answer, fields: &[String]) {
     let text = field_at(fields, 2);
-    match parse(answer.alloc(), &Expansion::Unchanged, text) {
+    match parse(answer.alloc(), &Expansion::Unchanged, RECURSION_LIMIT, text) {
         Ok(mut ast) => resolve_by_fields(&mut ast.items, answer, fields),
         Err(fault) => push_fault(answer, text, &fault),
     }

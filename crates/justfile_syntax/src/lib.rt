@@ -105,7 +105,7 @@ pub mod laws {
     };
     pub use justfile_model::attribute_laws::{attributes_made, content_order};
     pub use justfile_model::grammar_laws::{
-        counts, expanders, normal_twice, numbers_rise, printing, reads, shapes,
+        counts, expanders, needs, normal_twice, numbers_rise, printing, reads, shapes,
     };
     pub use justfile_model::laws::{
         answer_for_all, eof_is_last, in_order, lines_start_at_column_0, offsets_rise, one_answer,
@@ -115,7 +115,7 @@ pub mod laws {
         bodies_follow_colons, levels_close_before_blank_lines, literals_end_at_first_end,
         open_is_unclosed, reads_up_to_first_end,
     };
-    pub use justfile_round_trip::{modes_agree, reads_back};
+    pub use justfile_round_trip::{least_need, modes_agree, reads_back};
     pub use justfile_tree::laws::{
         cases_ordered, expressions_ordered, literals_ordered, modulepaths_ordered,
         namepaths_ordered, names_ordered, numbers_ordered, string_kinds_ordered, tokens_ordered,
@@ -168,8 +168,8 @@ pub mod parameter_kind {
 
 pub mod parser {
     pub use justfile_literal::cook_string;
-    pub use justfile_parse::Parser;
     pub use justfile_parse::significant::{TableEntry, significant};
+    pub use justfile_parse::{Parser, RECURSION_LIMIT};
 }
 
 pub mod recipe {

@@ -8,7 +8,7 @@ use crate::modulepath::Modulepath;
 use crate::name::Name;
 use crate::namepath::Namepath;
 use crate::numerator::{Number, Numerator};
-use crate::parser::Parser;
+use crate::parser::{Parser, RECURSION_LIMIT};
 use crate::tests::support::{CURRENT, Unchanged, holds, names, same, same_text};
 use std::alloc::{AllocError, Global};
 use std::process::Abort;
@@ -149,6 +149,7 @@ fn compare_module(
         "/home/m",
         &Unchanged,
         CURRENT,
+        RECURSION_LIMIT,
     ) {
         Ok(mut ast) => compare_file(&mut ast, rt, alloc),
         Err(_) => panic!(rt; "{text:?}"),

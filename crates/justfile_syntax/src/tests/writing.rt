@@ -3,7 +3,7 @@
 use crate::ast::Ast;
 use crate::indentation::Indentation;
 use crate::numerator::Numerator;
-use crate::parser::Parser;
+use crate::parser::{Parser, RECURSION_LIMIT};
 use crate::source::Source;
 use crate::tests::support::{CURRENT, Unchanged, same};
 use crate::write_fault::WriteFault;
@@ -112,6 +112,7 @@ fn compare_text(rt: &impl Abort, alloc: Global, text: &str) {
         text,
         &Unchanged,
         CURRENT,
+        RECURSION_LIMIT,
     ) {
         Ok(mut ast) => compare_rows(&mut ast, rt, alloc),
         Err(_) => panic!(rt; "{text:?}"),

@@ -24,13 +24,13 @@ returns-in_err-items-clause-unparsed g c =
     let p = err_from_is_err_and c.from_residual-in_err-items.result c.from_residual-in_err-items.ensures.1 in
     let Q : List TableEntry → Type 0 = λ t. All (λ entry. Contains c.args.tokens.now entry.token.now) t in
     rw (p.1, p.2)
-    (unparsed_of (conditions_of g.X.Expander.answer c.args.expander.now c.args.current) c.args.tokens.now c.as_slice.result.now c.args.numerator.now c.parse_table.new.numerator
+    (unparsed_of (conditions_of g.X.Expander.answer c.args.expander.now c.args.current c.args.limit) c.args.tokens.now c.as_slice.result.now c.args.numerator.now c.parse_table.new.numerator
     (ap (map significant_of) c.as_slice.ensures.value ∙ c.in_ok-table.ensures.table) (subst Q (sym c.as_slice.ensures.value) (entries_among c.args.tokens.now c.in_ok-table.table.items c.in_ok-table.ensures.tokens)) c.in_err-items.field-0.0 c.in_err-items.ensures.err)
 
 pub returns-clause-parsed : goal.returns-clause-parsed
 returns-clause-parsed g c =
     let Q : List TableEntry → Type 0 = λ t. All (λ entry. Contains c.args.tokens.now entry.token.now) t in
-    let conditions = conditions_of g.X.Expander.answer c.args.expander.now c.args.current in
+    let conditions = conditions_of g.X.Expander.answer c.args.expander.now c.args.current c.args.limit in
     let table = c.as_slice.result.now in
     let P : List Item → Type 0 = λ items. IsRead conditions table c.args.file_depth c.args.import_offsets.now (map significant_of table) c.args.numerator.now c.parse_table.new.numerator (items, c.in_ok-items.list_features.items) in
     parsed_of conditions c.args.tokens.now table c.args.numerator.now c.parse_table.new.numerator

@@ -16,7 +16,7 @@ returns-clause-no_tree g c =
     let P : List Token → Type 0 = λ ts. Lexed c.args.src.now (map tok_of ts) in
     let Q : List Token → Type 0 = λ ts. All (IsFrom c.args.path.now c.args.src.now) ts in
     IfErr-weaker c.parse.result _ _
-    (no_tree (conditions_of g.X.Expander.answer c.args.expander.now c.args.current) c.args.path.now c.args.src.now c.utf8.src c.as_slice.result.now
+    (no_tree (conditions_of g.X.Expander.answer c.args.expander.now c.args.current c.args.limit) c.args.path.now c.args.src.now c.utf8.src c.as_slice.result.now
     (subst P (sym c.as_slice.ensures.value) c.in_ok-tokens.ensures.tokens) (subst Q (sym c.as_slice.ensures.value) c.in_ok-tokens.ensures.source) c.args.numerator.now c.parse.new.numerator)
     c.parse.ensures.unparsed
 
@@ -25,7 +25,7 @@ returns-clause-parsed g c =
     let P : List Token → Type 0 = λ ts. Lexed c.args.src.now (map tok_of ts) in
     let Q : List Token → Type 0 = λ ts. All (IsFrom c.args.path.now c.args.src.now) ts in
     IfOk-weaker c.parse.result _ _
-    (text_parsed (conditions_of g.X.Expander.answer c.args.expander.now c.args.current) c.args.path.now c.args.src.now c.utf8.src c.as_slice.result.now
+    (text_parsed (conditions_of g.X.Expander.answer c.args.expander.now c.args.current c.args.limit) c.args.path.now c.args.src.now c.utf8.src c.as_slice.result.now
     (subst P (sym c.as_slice.ensures.value) c.in_ok-tokens.ensures.tokens) (subst Q (sym c.as_slice.ensures.value) c.in_ok-tokens.ensures.source) c.args.numerator.now c.parse.new.numerator c.args.source.now.file_depth c.args.source.now.import_offsets.now)
     c.parse.ensures.parsed
 
@@ -38,4 +38,4 @@ returns-clause-moved g c tokens lexed =
 pub returns-in_err-tokens-clause-no_tree : goal.returns-in_err-tokens-clause-no_tree
 returns-in_err-tokens-clause-no_tree g c =
     let p = err_from_is_err_and c.from_residual.result c.from_residual.ensures.1 in
-    rw (p.1, p.2) (lexical (conditions_of g.X.Expander.answer c.args.expander.now c.args.current) c.args.path.now c.args.src.now c.args.numerator.now c.in_err-tokens.field-0.0 c.in_err-tokens.ensures.fault)
+    rw (p.1, p.2) (lexical (conditions_of g.X.Expander.answer c.args.expander.now c.args.current c.args.limit) c.args.path.now c.args.src.now c.args.numerator.now c.in_err-tokens.field-0.0 c.in_err-tokens.ensures.fault)

@@ -1,0 +1,20 @@
+-- Which limit of depth tokens need.
+use Rattle.std.specs.Prelude.{ℕ, ◌≤◌, List}
+use Rattle.justfile_model.specs.Conditions.{Conditions, with_limit}
+use Rattle.justfile_model.specs.Features.{Noted}
+use Rattle.justfile_model.specs.Files.{FileDerives}
+use Rattle.justfile_model.specs.SignificantTokens.{SignificantToken}
+use Rattle.justfile_model.specs.Tok.{Tok}
+use Rattle.justfile_model.specs.Tree.{Tree}
+
+-- the tokens derive a tree under this limit, with the expander and the version of the conditions
+pub record DerivesUnder (conditions : Conditions) (tokens : List SignificantToken) (limit : ℕ) : Type 0 where
+  pub tree : Tree
+  pub features : List (Noted Tok)
+  pub derives : FileDerives (with_limit limit conditions) tokens tree features
+
+-- The need of tokens is the least limit under which they derive a tree, with the expander and the version of the conditions. The limit of the
+-- conditions has no part in it.
+pub record IsNeed (conditions : Conditions) (tokens : List SignificantToken) (need : ℕ) : Type 0 where
+  pub derives : DerivesUnder conditions tokens need
+  pub least : (limit : ℕ) → DerivesUnder conditions tokens limit → need ≤ limit
