@@ -1,0 +1,149 @@
+#!/usr/bin/env python3
+"""Writes the rows of nesting_places.rows to standard output: nesting.py > ROWS
+
+Each form in which an expression stands in another is nested 254 to 258 times, in each place where an
+expression stands. What is expected is reckoned here: an expression is open from its mark `<` to its
+mark `>`, at most LIMIT are open in one another, and the first one that is one too many is refused, at
+its first token.
+"""
+import re
+
+LIMIT = 256
+LEVELS = range(254, 259)
+
+# Each form, with E for what is nested in it, and whether it is a value.
+FORMS = [
+    ("(<E>)", True),
+    ("[<E>]", True),
+    ("[<b>, <E>]", True),
+    ("f(<E>)", True),
+    ("f(<b>, <E>)", True),
+    ("assert(<E>)", True),
+    ("assert(<b>, <E>)", True),
+    ("f'{{ <E> }}'", True),
+    ("!(<E>)", True),
+    ("if <E> { <c> }", False),
+    ("if <b> { <E> }", False),
+    ("if <b> { <c> } else { <E> }", False),
+    ("if <b> { <c> } else if <E> { <d> }", False),
+    ("if <b> { <c> } else if <d> { <E> }", False),
+    ("b || <E>", False),
+    ("b && (<E>)", False),
+    ("b + (<E>)", False),
+    ("/ (<E>)", False),
+]
+
+# Each place, with E for the expression in it, and whether that is a value there.
+PLACES = [
+    ("a := <E>\n", False),
+    ("f(a) := <E>\n", False),
+    ("set tempdir := <E>\n", False),
+    ("[doc(<E>)]\nfoo:\n", False),
+    ("foo a=E:\n", True),
+    ("foo: (a <E>)\n", False),
+    ("foo: *(a *E)\n", True),
+    ("foo:\n    {{ <E> }}\n", False),
+]
+
+
+def sides(text):
+    """What stands before the E of a text, and what stands after it."""
+    return text.split("E")
+
+
+def unmarked(text):
+    return text.replace("<", "").replace(">", "")
+
+
+def placed(place, form):
+    """What stands before and after an expression in a place: parentheses too, if it has to be a value
+    there and this form is none."""
+    (text, wants_value), (_, is_value) = place, form
+    before, after = sides(text)
+    if wants_value and not is_value:
+        return before + "(<", ">)" + after
+    return before, after
+
+
+def refusal(marked):
+    """The offset and the length of the first token of the first expression that is one too many, or
+    none."""
+    offset = depth = 0
+    for place, mark in enumerate(marked):
+        if mark == ">":
+            depth -= 1
+        elif mark != "<":
+            offset += 1
+        elif depth == LIMIT:
+            return offset, len(re.match(r"[a-z]+|.", unmarked(marked[place:]))[0])
+        else:
+            depth += 1
+    return None
+
+
+def repeated(count, text):
+    return "\\%d‹%s›" % (count, unmarked(text))
+
+
+def notation(text):
+    return unmarked(text).replace("\n", "\\n")
+
+
+def printed_as(form):
+    """The form as it is printed, with what is nested, and the same with what stands in the middle."""
+    if form == "if <b> { <c> } else { <E> }":
+        return "if b { c } else E", "{ b }"
+    return form, "b"
+
+
+def nested(place, form, level):
+    """The text with an expression nested in a place, with its marks and in the notation."""
+    before, after = placed(place, form)
+    opening, closing = sides(form[0])
+    marked = before + opening * level + "b" + closing * level + after
+    written = notation(before) + repeated(level, opening) + "b" + repeated(level, closing) + notation(after)
+    return marked, written
+
+
+def printed(place, form, level):
+    """The printed text with an expression nested in a place, in the notation."""
+    before, after = placed(place, form)
+    shape, middle = printed_as(form[0])
+    opening, closing = sides(shape)
+    last = repeated(level, closing) if closing else ""
+    return notation(before) + repeated(level, opening) + middle + last + notation(after)
+
+
+def taken(form, level):
+    """The row of a file with all places that hold so many levels."""
+    places = [place for place in PLACES if refusal(nested(place, form, level)[0]) is None]
+    if not places:
+        return []
+    source = "\\\n  ".join(nested(place, form, level)[1] for place in places)
+    target = "\\\n  ".join(printed(place, form, level) for place in places)
+    if source == target:
+        return ["canonical «%s»" % source]
+    return ["prints «%s»\n  «%s»" % (source, target)]
+
+
+def refused(form, level):
+    """The rows of the places that don't hold so many levels."""
+    for place in PLACES:
+        marked, written = nested(place, form, level)
+        fault = refusal(marked)
+        if fault is not None:
+            yield "refused «%s» ParsingRecursionDepthExceeded %d %d" % (written, *fault)
+
+
+def main():
+    print("# Each form in which an expression stands in another, nested 254 to 258 times, in each place where")
+    print("# an expression stands. Written by bench/nesting.py, which reckons what is expected.")
+    for form in FORMS:
+        print("\n# %s" % unmarked(form[0]).replace("E", "..").rstrip())
+        for level in LEVELS:
+            for row in [*taken(form, level), *refused(form, level)]:
+                print(row)
+
+
+if __name__ == "__main__":
+    main()
