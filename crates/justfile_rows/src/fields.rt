@@ -23,6 +23,7 @@ pub(crate) fn are_readable(word: Word, fields: &[String]) -> bool {
     let first = field_at(fields, 0);
     match word {
         Word::Breaks => is_breakable(first) && is_number(fields, 1),
+        Word::BreaksEach => matches!(first, "reading" | "reporting" | "writing"),
         Word::Class => first.parse::<u8>().is_ok(),
         Word::Expands => Expansion::of(first).is_some(),
         Word::CanonicalUnder | Word::Line | Word::PrintsUnder | Word::RefusedUnder => {

@@ -4,7 +4,7 @@ use crate::attributes::{attribute_kind, signal, switch};
 use crate::fields::are_readable;
 use crate::files::push_fields;
 use crate::lexing::lex;
-use crate::program::{formats, runs};
+use crate::program::{breaks_each, formats, runs};
 use crate::texts::{class, cooks, indentation, keyword, opens, unindents, version};
 use crate::word::Word;
 use row_notation::{Answer, field_at};
@@ -50,6 +50,7 @@ fn found(alloc: Global, word: Word, fields: &[String]) -> Answer {
     match word {
         Word::AttributeKind => attribute_kind(&mut answer, text),
         Word::Breaks | Word::Run => runs(&mut answer, word, fields),
+        Word::BreaksEach => breaks_each(&mut answer, fields),
         Word::Class => class(&mut answer, text),
         Word::Cooks => cooks(&mut answer, text),
         Word::Formats => formats(&mut answer, text),

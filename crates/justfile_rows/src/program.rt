@@ -1,6 +1,6 @@
 //! Runs of the program `justfmt`.
 
-use crate::stream::Stream;
+use crate::stream::{MOST_BYTES, Stream};
 use crate::word::Word;
 use justfile_format::run::run;
 use row_notation::{Answer, field_at, number_at};
@@ -25,15 +25,20 @@ impl<'row> Streams<'row> {
         }
     }
 
-    /// Makes what a row names fail after so many calls.
-    fn fail(&mut self, name: &str, calls: u32) {
+    /// Makes what a row names fail after so many calls, the last of which has at most so many bytes.
+    fn fail(&mut self, name: &str, calls: u32, last_bytes: usize) {
         match name {
-            "reading" => self.input.calls = calls,
-            "writing" => self.output.calls = calls,
+            "reading" => self.input.fail_after(calls, last_bytes),
+            "writing" => self.output.fail_after(calls, last_bytes),
             "flushing" => self.output.fails_at_flush = true,
-            "reporting" => self.errors.calls = calls,
+            "reporting" => self.errors.fail_after(calls, last_bytes),
             _ => {}
         }
+    }
+
+    /// Whether a read or a write has failed.
+    fn has_failed(&self) -> bool {
+        self.input.has_failed || self.output.has_failed || self.errors.has_failed
     }
 
     /// Runs the program, and answers its status.
@@ -92,8 +97,56 @@ pub(crate) fn runs(answer: &mut Answer, word: Word, fields: &[String]) {
         field_at(fields, argument_place + 1).as_bytes()
     };
     let mut streams = Streams::new(answer.alloc(), input);
-    streams.fail(name, number_at(fields, 1));
+    streams.fail(name, number_at(fields, 1), MOST_BYTES);
     push_run(answer, field_at(fields, argument_place), &mut streams);
+}
+
+/// How many calls fail in turn at most.
+const MOST_CALLS: u32 = 100_000;
+
+/// The runs of a row in which each call of what it names fails in turn, at once and after one byte: what
+/// the first of them leaves behind, and what others leave behind that is something else.
+pub(crate) fn breaks_each(answer: &mut Answer, fields: &[String]) {
+    let mut plain = Streams::new(answer.alloc(), field_at(fields, 2).as_bytes());
+    run_over(answer, field_at(fields, 1), &mut plain);
+    let mut first = Answer::new(answer.alloc());
+    break_at(&mut first, fields, &plain, 0, MOST_BYTES);
+    answer.push_all(&first);
+    for calls in 0..MOST_CALLS {
+        for last_bytes in 1..=MOST_BYTES {
+            let mut found = Answer::new(answer.alloc());
+            if !break_at(&mut found, fields, &plain, calls, last_bytes) {
+                return;
+            }
+            answer.push_unless("apart", &found, &first);
+        }
+    }
+}
+
+/// What the run of a row leaves behind in which a call fails after so many others, and whether it failed.
+fn break_at(
+    answer: &mut Answer,
+    fields: &[String],
+    plain: &Streams<'_>,
+    calls: u32,
+    last_bytes: usize,
+) -> bool {
+    let mut streams = Streams::new(answer.alloc(), field_at(fields, 2).as_bytes());
+    streams.fail(field_at(fields, 0), calls, last_bytes);
+    let status = run_over(answer, field_at(fields, 1), &mut streams);
+    answer.push_number(status as usize);
+    push_begun(answer, "output", &streams.output, &plain.output);
+    if streams.errors.has_failed {
+        push_begun(answer, "errors", &streams.errors, &plain.errors);
+    } else {
+        answer.push(text_of(&streams.errors.written));
+    }
+    streams.has_failed()
+}
+
+/// Puts a word if what was written to a stream is no beginning of what is written where nothing fails.
+fn push_begun(answer: &mut Answer, word: &str, stream: &Stream<'_>, plain: &Stream<'_>) {
+    answer.push_if(word, !plain.written.starts_with(&stream.written));
 }
 
 /// What a text is formatted to. After it stands what else the run leaves behind, and what a run

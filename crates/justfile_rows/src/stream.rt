@@ -4,7 +4,7 @@ use std::alloc::Global;
 use std::io::{self, ErrorKind, Read, Write};
 
 /// How many bytes a call reads or writes at most.
-const MOST_BYTES: usize = 2;
+pub(crate) const MOST_BYTES: usize = 2;
 
 /// A stream that is read or written to.
 #[derive(Drop)]
@@ -14,7 +14,11 @@ pub(crate) struct Stream<'row> {
     /// What was written.
     pub(crate) written: Vec<u8>,
     /// After how many more reads or writes it fails.
-    pub(crate) calls: u32,
+    calls: u32,
+    /// How many bytes the last of them reads or writes at most.
+    last_bytes: usize,
+    /// Whether it has failed.
+    pub(crate) has_failed: bool,
     /// Whether it fails where it is flushed.
     pub(crate) fails_at_flush: bool,
 }
@@ -26,34 +30,43 @@ impl<'row> Stream<'row> {
             unread,
             written: Vec::new(alloc),
             calls: u32::MAX,
+            last_bytes: MOST_BYTES,
+            has_failed: false,
             fails_at_flush: false,
         }
     }
 
-    /// Counts a read or a write.
-    fn count(&mut self) -> io::Result<()> {
+    /// Makes it fail after so many reads or writes, the last of which has at most so many bytes.
+    pub(crate) fn fail_after(&mut self, calls: u32, last_bytes: usize) {
+        self.calls = calls;
+        self.last_bytes = last_bytes;
+    }
+
+    /// Counts a read or a write, and answers how many bytes it may have.
+    fn count(&mut self) -> io::Result<usize> {
         match self.calls.checked_sub(1) {
             Some(calls) => {
                 self.calls = calls;
-                Ok(())
+                Ok(if calls == 0 { self.last_bytes } else { MOST_BYTES })
             }
-            None => Err(io::Error::from(ErrorKind::BrokenPipe)),
+            None => {
+                self.has_failed = true;
+                Err(io::Error::from(ErrorKind::BrokenPipe))
+            }
         }
     }
 }
 
 impl Read for Stream<'_> {
     fn read(&mut self, buf: &mut [u8]) -> io::Result<usize> {
-        self.count()?;
-        let most = buf.len().min(MOST_BYTES);
+        let most = buf.len().min(self.count()?);
         self.unread.read(&mut buf[..most])
     }
 }
 
 impl Write for Stream<'_> {
     fn write(&mut self, buf: &[u8]) -> io::Result<usize> {
-        self.count()?;
-        let most = buf.len().min(MOST_BYTES);
+        let most = buf.len().min(self.count()?);
         self.written.write(&buf[..most])
     }
 

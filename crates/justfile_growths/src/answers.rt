@@ -1,0 +1,124 @@
+//! What the calls answer where memory is scarce.
+
+use crate::counts::Outcome;
+use crate::scarcity::{AMPLE, Scarcity};
+use crate::text::{BINDINGS, PRINTED, RECIPES};
+use justfile_syntax::ast::Ast;
+use justfile_syntax::expander::{ExpandFault, Expander};
+use justfile_syntax::fault::{CompileResult, Fault};
+use justfile_syntax::indentation::Indentation;
+use justfile_syntax::lexer::Lexer;
+use justfile_syntax::numerator::{Number, Numerator};
+use justfile_syntax::parser::{Parser, RECURSION_LIMIT};
+use justfile_syntax::source::Source;
+use justfile_syntax::token::Token;
+use justfile_syntax::version::Version;
+use std::alloc::Global;
+
+/// Leaves the text of each `x'..'` as it is.
+struct Unchanged;
+
+impl Expander for Unchanged {
+    ghost use Rattle.std.specs.Prelude.{Ok};
+
+    ghost answer = { λ _ text. Ok text };
+
+    fn expand(&self, alloc: Global, text: &str) -> Result<String, ExpandFault> {
+        Ok(text.to_string(alloc)?)
+    }
+}
+
+/// The version of the language.
+const CURRENT: Version = Version {
+    major: 1,
+    minor: 58,
+    patch: 0,
+};
+
+/// Parses the justfile.
+pub(crate) fn parse<'src>(
+    alloc: Global,
+    numerator: &mut Numerator,
+    text: &'src str,
+) -> CompileResult<'src, Ast<'src>> {
+    let source = Source {
+        file_depth: 0,
+        import_offsets: &[],
+        namepath: None,
+        working_directory: "",
+    };
+    Parser::parse_source(
+        alloc,
+        numerator,
+        "justfile",
+        &source,
+        text,
+        &Unchanged,
+        CURRENT,
+        RECURSION_LIMIT,
+    )
+}
+
+/// How many numbers bindings and recipes were given.
+fn numbers(numerator: &mut Numerator) -> Option<(u32, u32)> {
+    let Number(bindings) = numerator.next_binding()?;
+    let Number(recipes) = numerator.next_recipe()?;
+    Some((bindings, recipes))
+}
+
+/// What lexing answers with so much memory, where these are the tokens.
+pub(crate) fn lex_with(
+    alloc: Global,
+    scarcity: &mut Scarcity,
+    size: usize,
+    text: &str,
+    tokens: &[Token<'_>],
+) -> Outcome {
+    scarcity.leave(alloc, size);
+    let answer = Lexer::lex(alloc, "justfile", text);
+    scarcity.end();
+    match answer {
+        Ok(found) if found.as_slice() == tokens => Outcome::Plain,
+        Err(Fault::Memory) => Outcome::Refused,
+        _ => Outcome::Wrong,
+    }
+}
+
+/// What parsing answers with so much memory. Where it runs out, the numerator has given no more numbers
+/// than the justfile has.
+pub(crate) fn parse_with(
+    alloc: Global,
+    scarcity: &mut Scarcity,
+    size: usize,
+    text: &str,
+) -> Outcome {
+    let mut numerator = Numerator::new(0);
+    scarcity.leave(alloc, size);
+    let answer = parse(alloc, &mut numerator, text);
+    scarcity.end();
+    let (bindings, recipes) = numbers(&mut numerator).unwrap_or((u32::MAX, u32::MAX));
+    match answer {
+        Ok(ast) if bindings == BINDINGS && recipes == RECIPES => {
+            print_with(&ast, alloc, scarcity, AMPLE)
+        }
+        Err(Fault::Memory) if bindings <= BINDINGS && recipes <= RECIPES => Outcome::Refused,
+        _ => Outcome::Wrong,
+    }
+}
+
+/// What printing answers with so much memory.
+pub(crate) fn print_with(
+    ast: &Ast<'_>,
+    alloc: Global,
+    scarcity: &mut Scarcity,
+    size: usize,
+) -> Outcome {
+    scarcity.leave(alloc, size);
+    let answer = ast.print(alloc, Indentation::default());
+    scarcity.end();
+    match answer {
+        Ok(printed) if printed.as_str() == PRINTED => Outcome::Plain,
+        Ok(_) => Outcome::Wrong,
+        Err(_) => Outcome::Refused,
+    }
+}

@@ -1,0 +1,82 @@
+//! Sees what lexing, parsing and printing answer where memory runs out.
+//!
+//! All memory that the system gives is taken in blocks that nothing is written to, but for one block
+//! of so many bytes, and a call is made with that. Its answer is that memory ran out, or the one that it
+//! has with ample memory, which the same call gives again at once. This is done for each size of that
+//! block, in steps of the least that is taken from the system's heap, until it is more than enough: so
+//! each growth is refused in turn.
+#![tactic(auto)]
+
+mod answers;
+mod counts;
+mod scarcity;
+mod text;
+
+use crate::answers::{lex_with, parse, parse_with, print_with};
+use crate::counts::Counts;
+use crate::scarcity::{AMPLE, Scarcity};
+use crate::text::TEXT;
+use justfile_syntax::ast::Ast;
+use justfile_syntax::fault::Fault;
+use justfile_syntax::lexer::Lexer;
+use justfile_syntax::numerator::Numerator;
+use justfile_syntax::token::Token;
+use std::alloc::{AllocError, Global};
+use std::io;
+
+/// By how many bytes the sizes of the block differ.
+const STEP: usize = 16;
+
+/// What the three calls answered.
+#[derive(Drop)]
+struct Outcomes {
+    lexing: Counts,
+    parsing: Counts,
+    printing: Counts,
+}
+
+/// Makes each call with each size of a block, and then with an ample one.
+fn sweep(
+    ast: &Ast<'_>,
+    alloc: Global,
+    text: &str,
+    tokens: &[Token<'_>],
+) -> Result<Outcomes, AllocError> {
+    let mut lexing = Counts::new();
+    let mut parsing = Counts::new();
+    let mut printing = Counts::new();
+    let mut scarcity = Scarcity::new(alloc)?;
+    for size in (0usize..AMPLE).step_by(STEP) {
+        let lexed = lex_with(alloc, &mut scarcity, size, text, tokens);
+        lexing.count(lexed, lex_with(alloc, &mut scarcity, AMPLE, text, tokens));
+        let parsed = parse_with(alloc, &mut scarcity, size, text);
+        parsing.count(parsed, parse_with(alloc, &mut scarcity, AMPLE, text));
+        let printed = print_with(ast, alloc, &mut scarcity, size);
+        printing.count(printed, print_with(ast, alloc, &mut scarcity, AMPLE));
+    }
+    Ok(Outcomes {
+        lexing,
+        parsing,
+        printing,
+    })
+}
+
+/// What the calls answer for a justfile where memory runs out.
+fn run(alloc: Global, text: &str) -> Result<Outcomes, Fault<'_>> {
+    let tokens = Lexer::lex(alloc, "justfile", text)?;
+    let ast = parse(alloc, &mut Numerator::new(0), text)?;
+    Ok(sweep(&ast, alloc, text, &tokens)?)
+}
+
+fn main(rt: HostRuntime) -> io::Result<()> {
+    let text = TEXT.to_string(rt.alloc())?;
+    match run(rt.alloc(), text.as_str()) {
+        Ok(outcomes) => {
+            println!(rt; "lexing: {}", outcomes.lexing.verdict())?;
+            println!(rt; "parsing: {}", outcomes.parsing.verdict())?;
+            println!(rt; "printing: {}", outcomes.printing.verdict())?;
+        }
+        Err(_) => println!(rt; "no answer with ample memory")?,
+    }
+    println!(rt; "the text is unchanged: {}", text.as_str() == TEXT)
+}

@@ -1,0 +1,94 @@
+//! Memory that is scarce.
+
+use std::alloc::{AllocError, Global};
+
+/// The size of the largest blocks that are taken, 64 GB.
+const LARGEST: usize = 0x10_0000_0000;
+
+/// The size of the smallest.
+const SMALLEST: usize = 16;
+
+/// Below this size the system keeps free blocks for their own size alone, so blocks are taken of each.
+const FINE: usize = 1040;
+
+/// How many bytes are more than enough for each call.
+pub(crate) const AMPLE: usize = 0x1_8000;
+
+/// How many bytes can be given back.
+const RESERVE: usize = 0x200_0000;
+
+/// How many blocks are taken at most for good.
+const MOST_FOR_GOOD: usize = 200_000;
+
+/// How many blocks are taken at most of what can be given back.
+const MOST_OF_RESERVE: usize = 20_000;
+
+/// Blocks that hold all memory but for what calls are to have.
+#[derive(Drop)]
+pub(crate) struct Scarcity {
+    for_good: Vec<Vec<u8>>,
+    of_reserve: Vec<Vec<u8>>,
+}
+
+impl Scarcity {
+    /// Takes all memory but for the reserve.
+    pub(crate) fn new(alloc: Global) -> Result<Self, AllocError> {
+        let mut for_good = Vec::with_capacity(alloc, MOST_FOR_GOOD)?;
+        let of_reserve = Vec::with_capacity(alloc, MOST_OF_RESERVE)?;
+        let mut reserve = Vec::with_capacity(alloc, 1)?;
+        take(alloc, RESERVE, &mut reserve);
+        take_all(alloc, LARGEST, &mut for_good);
+        Ok(Scarcity {
+            for_good,
+            of_reserve,
+        })
+    }
+
+    /// Takes all of the reserve but for a block of about so many bytes, and nothing where more than
+    /// enough is to be left. A longer block is given back and its beginning taken again, since a short
+    /// one would serve for its own size alone.
+    pub(crate) fn leave(&mut self, alloc: Global, size: usize) {
+        if size >= AMPLE {
+            return;
+        }
+        if let Ok(block) = Vec::with_capacity(alloc, size.saturating_add(FINE)) {
+            let _ = self.of_reserve.push(block);
+        }
+        take_all(alloc, RESERVE, &mut self.of_reserve);
+        if !self.of_reserve.is_empty() {
+            let _ = self.of_reserve.swap_remove(0);
+        }
+        if let Ok(beginning) = Vec::with_capacity(alloc, FINE) {
+            let _ = self.of_reserve.push(beginning);
+        }
+    }
+
+    /// Gives back the reserve.
+    pub(crate) fn end(&mut self) {
+        self.of_reserve.clear();
+    }
+}
+
+/// Takes blocks of one size, while there are some and room for them.
+fn take(alloc: Global, size: usize, blocks: &mut Vec<Vec<u8>>) {
+    for _ in blocks.len()..blocks.capacity() {
+        match Vec::with_capacity(alloc, size) {
+            Ok(block) => {
+                let _ = blocks.push(block);
+            }
+            Err(_) => return,
+        }
+    }
+}
+
+/// Takes what memory there is, in blocks of at most so many bytes.
+fn take_all(alloc: Global, largest: usize, blocks: &mut Vec<Vec<u8>>) {
+    let mut size = largest;
+    for _ in 0u32..200 {
+        take(alloc, size, blocks);
+        if size <= SMALLEST {
+            return;
+        }
+        size = if size > FINE { size / 2 } else { size - SMALLEST };
+    }
+}
