@@ -1,0 +1,97 @@
+/* Refuses calls of a program that is run with this library before it (LD_PRELOAD).
+ *
+ * FAULT_CALL   malloc (malloc, calloc and realloc), read or write
+ * FAULT_AT     the number of the call, from 1
+ * FAULT_HOW    alone: this call is refused
+ *              onward: this call and all after it are refused
+ *              short: this call moves one byte (read and write)
+ * FAULT_MARK   a file that is made once a call was refused or shortened
+ */
+#define _GNU_SOURCE
+#include <errno.h>
+#include <fcntl.h>
+#include <stdlib.h>
+#include <string.h>
+#include <sys/syscall.h>
+#include <sys/types.h>
+#include <unistd.h>
+
+extern void *__libc_malloc(size_t size);
+extern void *__libc_calloc(size_t count, size_t size);
+extern void *__libc_realloc(void *block, size_t size);
+
+enum answer { AS_IT_IS, REFUSED, SHORTENED };
+
+static const char *call_name, *how, *mark;
+static long at, calls;
+
+__attribute__((constructor)) static void begin(void) {
+    const char *number = getenv("FAULT_AT");
+    how = getenv("FAULT_HOW");
+    mark = getenv("FAULT_MARK");
+    at = number ? atol(number) : 0;
+    call_name = at && how && mark ? getenv("FAULT_CALL") : NULL;
+}
+
+/* Counts a call, and says what becomes of it. */
+static enum answer count(const char *name) {
+    if (!call_name || strcmp(name, call_name) != 0)
+        return AS_IT_IS;
+    calls += 1;
+    if (calls < at || (calls > at && strcmp(how, "onward") != 0))
+        return AS_IT_IS;
+    if (calls == at) {
+        long file = syscall(SYS_openat, AT_FDCWD, mark, O_CREAT | O_WRONLY, 0600);
+        syscall(SYS_close, file);
+    }
+    return strcmp(how, "short") == 0 ? SHORTENED : REFUSED;
+}
+
+void *malloc(size_t size) {
+    if (count("malloc") == AS_IT_IS)
+        return __libc_malloc(size);
+    errno = ENOMEM;
+    return NULL;
+}
+
+void *calloc(size_t number, size_t size) {
+    if (count("malloc") == AS_IT_IS)
+        return __libc_calloc(number, size);
+    errno = ENOMEM;
+    return NULL;
+}
+
+void *realloc(void *block, size_t size) {
+    if (count("malloc") == AS_IT_IS)
+        return __libc_realloc(block, size);
+    errno = ENOMEM;
+    return NULL;
+}
+
+/* How many bytes a read or a write may move, or -1 where it is refused. */
+static ssize_t moved(const char *name, size_t length) {
+    switch (count(name)) {
+    case REFUSED:
+        errno = EIO;
+        return -1;
+    case SHORTENED:
+        return length > 0 ? 1 : 0;
+    default:
+        return (ssize_t)length;
+    }
+}
+
+ssize_t read(int file, void *bytes, size_t length) {
+    ssize_t most = moved("read", length);
+    return most < 0 ? -1 : syscall(SYS_read, file, bytes, (size_t)most);
+}
+
+ssize_t write(int file, const void *bytes, size_t length) {
+    ssize_t most = moved("write", length);
+    return most < 0 ? -1 : syscall(SYS_write, file, bytes, (size_t)most);
+}
+
+/* The name by which some objects call it. */
+ssize_t __write(int file, const void *bytes, size_t length) {
+    return write(file, bytes, length);
+}

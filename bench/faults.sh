@@ -1,0 +1,99 @@
+#!/bin/sh
+# Refuses each allocation, read and write of the built program justfmt in turn: faults.sh [PROGRAM]
+#
+# The program is run on a longer justfile, with --check on it and on what it is formatted to, on a text
+# that is refused and on one that can't be printed. In each run one allocation is refused, alone or with
+# all after it, or one read or write, which fails or moves one byte. Every run has to end as it does
+# where nothing fails, or with status 3 and the one line for it, having written a beginning of the text.
+# Prints a row for each kind of run, and ends with 1 if a run ended otherwise. Needs gcc.
+set -u
+top=$(cd "$(dirname "$0")/.." && pwd)
+program=${1:-$top/crates/justfmt/out/justfmt}
+work=$(mktemp -d) || exit 2
+trap 'rm -rf "$work"' EXIT
+gcc -O2 -Wall -shared -fPIC -o "$work/faults.so" "$top/bench/faults.c" || exit 2
+status=0
+
+# Runs the program on a text, with an argument or without one, and keeps what it leaves behind. Its status
+# is the program's, and 124 if it did not end.
+run() {
+    timeout 20 env "$@" >"$work/output" 2>"$work/errors" <"$work/input"
+}
+
+# Whether a file is a beginning of another.
+is_beginning() {
+    head -c "$(wc -c <"$1")" "$2" | cmp -s - "$1"
+}
+
+# Whether a run that ended with this status left behind what it does where nothing fails.
+is_plain() {
+    [ "$1" = "$plain" ] && cmp -s "$work/output" "$work/plain_output" && cmp -s "$work/errors" "$work/plain_errors"
+}
+
+# Whether a run that ended with this status says that it failed, by the line in the file line.
+is_failure() {
+    [ "$1" = 3 ] && cmp -s "$work/errors" "$work/line" && is_beginning "$work/output" "$work/plain_output"
+}
+
+# Whether a run ended as one of these two, though standard error could not be written in full.
+is_cut_off() {
+    { [ "$1" = "$plain" ] && cmp -s "$work/output" "$work/plain_output" && is_beginning "$work/errors" "$work/plain_errors"; } ||
+        { [ "$1" = 3 ] && is_beginning "$work/output" "$work/plain_output" && is_beginning "$work/errors" "$work/line"; }
+}
+
+# Fails each call of a name in turn: NAME-OF-TEXT CALL HOW LINE, with the argument in $argument.
+sweep() {
+    number=0 plainly=0 failed=0 cut_off=0 wrong=0
+    printf '%s\n' "$4" >"$work/line"
+    while :; do
+        number=$((number + 1))
+        rm -f "$work/mark"
+        run LD_PRELOAD="$work/faults.so" FAULT_CALL="$2" FAULT_AT="$number" FAULT_HOW="$3" FAULT_MARK="$work/mark" \
+            "$program" $argument
+        ended=$?
+        [ -e "$work/mark" ] || break
+        if is_plain "$ended"; then
+            plainly=$((plainly + 1))
+        elif is_failure "$ended"; then
+            failed=$((failed + 1))
+        elif [ "$2" = write ] && is_cut_off "$ended"; then
+            cut_off=$((cut_off + 1))
+        else
+            wrong=$((wrong + 1))
+            status=1
+            echo "wrong: $1: $2 $number $3: status $ended" >&2
+        fi
+    done
+    echo "| $1 | $2 | $3 | $((number - 1)) | $plainly | $failed | $cut_off | $wrong |"
+}
+
+# All sweeps over the text in the file input: NAME ARGUMENT, where the argument may be empty.
+sweep_all() {
+    argument=$2
+    run "$program" $argument
+    plain=$?
+    mv "$work/output" "$work/plain_output"
+    mv "$work/errors" "$work/plain_errors"
+    sweep "$1" malloc alone 'error: out of memory'
+    sweep "$1" malloc onward 'error: out of memory'
+    sweep "$1" read alone 'error: reading failed'
+    sweep "$1" read short 'error: reading failed'
+    sweep "$1" write alone 'error: writing failed'
+    sweep "$1" write onward 'error: writing failed'
+    sweep "$1" write short 'error: writing failed'
+}
+
+# The longer justfile is read and written in several calls.
+echo "| text | call | how | runs | as where nothing fails | status 3 and its line | standard error cut off | wrong |"
+echo "|---|---|---|---:|---:|---:|---:|---:|"
+for _ in 1 2 3 4 5 6; do cat "$top/examples/build.just"; done >"$work/input"
+sweep_all "a longer justfile" ""
+cp "$top/examples/build.just" "$work/input"
+sweep_all "a justfile, --check" --check
+cp "$top/examples/build.formatted.just" "$work/input"
+sweep_all "a formatted one, --check" --check
+printf 'a := b\nfoo:\n  {{}}\n' >"$work/input"
+sweep_all "a refused text" ""
+printf 'foo:\n  a\r\r\n' >"$work/input"
+sweep_all "an unprintable file" ""
+exit $status
