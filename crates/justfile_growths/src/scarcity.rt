@@ -89,6 +89,10 @@ fn take_all(alloc: Global, largest: usize, blocks: &mut Vec<Vec<u8>>) {
         if size <= SMALLEST {
             return;
         }
-        size = if size > FINE { size / 2 } else { size - SMALLEST };
+        size = if size > FINE {
+            size / 2
+        } else {
+            size - SMALLEST
+        };
     }
 }

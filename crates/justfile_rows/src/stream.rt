@@ -47,7 +47,11 @@ impl<'row> Stream<'row> {
         match self.calls.checked_sub(1) {
             Some(calls) => {
                 self.calls = calls;
-                Ok(if calls == 0 { self.last_bytes } else { MOST_BYTES })
+                Ok(if calls == 0 {
+                    self.last_bytes
+                } else {
+                    MOST_BYTES
+                })
             }
             None => {
                 self.has_failed = true;
