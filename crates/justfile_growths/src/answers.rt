@@ -67,20 +67,26 @@ fn numbers(numerator: &mut Numerator) -> Option<(u32, u32)> {
 }
 
 /// What lexing answers with so much memory, where these are the tokens.
-pub(crate) fn lex_with(
+pub(crate) fn lex_with<'src>(
     alloc: Global,
     scarcity: &mut Scarcity,
     size: usize,
-    text: &str,
-    tokens: &[Token<'_>],
+    text: &'src str,
+    tokens: &[Token<'src>],
 ) -> Outcome {
     scarcity.leave(alloc, size);
     let answer = Lexer::lex(alloc, "justfile", text);
     scarcity.end();
     match answer {
-        Ok(found) if found.as_slice() == tokens => Outcome::Plain,
+        Ok(found) => {
+            if found.as_slice() == tokens {
+                Outcome::Plain
+            } else {
+                Outcome::Wrong
+            }
+        }
         Err(Fault::Memory) => Outcome::Refused,
-        _ => Outcome::Wrong,
+        Err(_fault) => Outcome::Wrong,
     }
 }
 

@@ -36,11 +36,11 @@ struct Outcomes {
 }
 
 /// Makes each call with each size of a block, and then with an ample one.
-fn sweep(
-    ast: &Ast<'_>,
+fn sweep<'src>(
+    ast: &mut Ast<'src>,
     alloc: Global,
-    text: &str,
-    tokens: &[Token<'_>],
+    text: &'src str,
+    tokens: &[Token<'src>],
 ) -> Result<Outcomes, AllocError> {
     let mut lexing = Counts::new();
     let mut parsing = Counts::new();
@@ -64,8 +64,10 @@ fn sweep(
 /// What the calls answer for a justfile where memory runs out.
 fn run(alloc: Global, text: &str) -> Result<Outcomes, Fault<'_>> {
     let tokens = Lexer::lex(alloc, "justfile", text)?;
-    let ast = parse(alloc, &mut Numerator::new(0), text)?;
-    Ok(sweep(&ast, alloc, text, &tokens)?)
+    match parse(alloc, &mut Numerator::new(0), text) {
+        Ok(mut ast) => Ok(sweep(&mut ast, alloc, text, &tokens)?),
+        Err(fault) => Err(fault),
+    }
 }
 
 fn main(rt: HostRuntime) -> io::Result<()> {
