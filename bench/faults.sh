@@ -1,8 +1,8 @@
 #!/bin/sh
 # Refuses each allocation, read and write of the built program justfmt in turn: faults.sh [PROGRAM]
 #
-# The program is run on a longer justfile, with --check on it and on what it is formatted to, on a text
-# that is refused and on one that can't be printed. In each run one allocation is refused, alone or with
+# The program is run on a longer justfile and a short one, with --check on one and on what it is formatted
+# to, on a text that is refused and on one that can't be printed. In each run one allocation is refused, alone or with
 # all after it, or one read or write, which fails or moves one byte. Every run has to end as it does
 # where nothing fails, or with status 3 and the one line for it, having written a beginning of the text.
 # Prints a row for each kind of run, and ends with 1 if a run ended otherwise. Needs gcc.
@@ -11,6 +11,7 @@ top=$(cd "$(dirname "$0")/.." && pwd)
 program=${1:-$top/crates/justfmt/out/justfmt}
 work=$(mktemp -d) || exit 2
 trap 'rm -rf "$work"' EXIT
+[ -x "$program" ] || { echo "faults.sh: no program $program: rt run in crates/justfmt builds it" >&2; exit 2; }
 gcc -O2 -Wall -shared -fPIC -o "$work/faults.so" "$top/bench/faults.c" || exit 2
 status=0
 
@@ -88,6 +89,25 @@ echo "| text | call | how | runs | as where nothing fails | status 3 and its lin
 echo "|---|---|---|---:|---:|---:|---:|---:|"
 for _ in 1 2 3 4 5 6; do cat "$top/examples/build.just"; done >"$work/input"
 sweep_all "a longer justfile" ""
+cat >"$work/input" <<'JUSTFILE'
+# use PowerShell instead of sh:
+set shell := ["powershell.exe", "-c"]
+
+hello:
+  Write-Host "Hello, world!"
+foo:
+  a
+
+   b{{if x==y{'1'}else{if z{"2"}else{'3'}}}}c
+[  env(bb, 'x')]
+[env(aaa, 'y')]
+foo:
+[arg("n", max="10", long, min=x'2')]
+foo +n:
+foo: *(b *x / y)
+x := f'a{{ f"b{{c}}" }}d'
+JUSTFILE
+sweep_all "a short justfile" ""
 cp "$top/examples/build.just" "$work/input"
 sweep_all "a justfile, --check" --check
 cp "$top/examples/build.formatted.just" "$work/input"

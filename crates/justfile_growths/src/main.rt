@@ -3,8 +3,7 @@
 //! All memory that the system gives is taken in blocks that nothing is written to, but for one block
 //! of so many bytes, and a call is made with that. Its answer is that memory ran out, or the one that it
 //! has with ample memory, which the same call gives again at once. This is done for each size of that
-//! block, in steps of the least that is taken from the system's heap, until it is more than enough: so
-//! each growth is refused in turn.
+//! block, in steps of the least that is taken from the system's heap, until it is more than enough.
 #![tactic(auto)]
 
 mod answers;
