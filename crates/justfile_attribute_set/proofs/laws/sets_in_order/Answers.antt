@@ -12,9 +12,9 @@ use Rattle.justfile_attribute_set.proofs.laws.sets_in_order.Goals as goal
 
 pub returns : goal.returns
 returns c = record {
-  order = λ p q. refl;
+  order = λ V p q. refl;
   total = on_total (λ (a : Attribute). attribute_key sees_leaves (leaf_attribute_of a)) (key_total content_total);
-  sorted = in_order_sorts pair_total;
-  one = sort_is pair_total;
-  twice = twice_is_once pair_total;
+  sorted = λ V. in_order_sorts (pair_total V);
+  one = λ V. sort_is (pair_total V);
+  twice = λ V. twice_is_once (pair_total V);
 }

@@ -5,7 +5,7 @@ use Rattle.justfile_attribute_set.proofs.Firsts.{any_firsts}
 use Rattle.justfile_attribute_set.specs.AttributeSet.{attributes_of}
 use Rattle.justfile_attribute_set.specs.Attributes.{kind_of}
 use Rattle.justfile_attribute_set.specs.Pairs.{Pair}
-use Rattle.justfile_attribute_set.proofs.attribute_set.PairSet+Attribute+Name.is_enabled.Goals as goal
+use Rattle.justfile_attribute_set.proofs.attribute_set.PairSet+Attribute+Written.is_enabled.Goals as goal
 
 pub returns : goal.returns
 returns c =

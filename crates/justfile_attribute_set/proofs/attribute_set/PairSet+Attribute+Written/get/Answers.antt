@@ -3,7 +3,7 @@ use Rattle.std.specs.Option.{option_copied, option_map}
 use Rattle.justfile_attribute_set.proofs.Firsts.{find_firsts}
 use Rattle.justfile_attribute_set.specs.Attributes.{is_of_kind}
 use Rattle.justfile_attribute_set.specs.Pairs.{Pair}
-use Rattle.justfile_attribute_set.proofs.attribute_set.PairSet+Attribute+Name.get.Goals as goal
+use Rattle.justfile_attribute_set.proofs.attribute_set.PairSet+Attribute+Written.get.Goals as goal
 
 pub returns-in-Some : goal.returns-in-Some
 returns-in-Some c =

@@ -1,8 +1,8 @@
 use Rattle.std.proofs.Common.{◌∙◌, ◌<◌, ap, get_or, length, subst, sym}
 use Rattle.justfile_attribute_set.proofs.Groups.{AreCopied, none_group, none_more, one_more}
-use Rattle.justfile_attribute_set.proofs.attribute_set.PairSet+Attribute+Name.groups.Goals.{in-Group+in_ok-clone+in_ok-push, in_default}
+use Rattle.justfile_attribute_set.proofs.attribute_set.PairSet+Attribute+Written.groups.Goals.{in-Group+in_ok-clone+in_ok-push, in_default}
 use Rattle.justfile_attribute_set.specs.Attributes.{group_of}
-use Rattle.justfile_attribute_set.proofs.attribute_set.PairSet+Attribute+Name.groups.Goals as goal
+use Rattle.justfile_attribute_set.proofs.attribute_set.PairSet+Attribute+Written.groups.Goals as goal
 
 pub loop-pair-preserved : goal.loop-pair-preserved
 loop-pair-preserved c =

@@ -3,7 +3,7 @@ use Rattle.std.specs.List.{list_any}
 use Rattle.justfile_attribute_set.proofs.Firsts.{any_firsts}
 use Rattle.justfile_attribute_set.specs.Attributes.{is_of_kind}
 use Rattle.justfile_attribute_set.specs.Pairs.{Pair}
-use Rattle.justfile_attribute_set.proofs.attribute_set.PairSet+Attribute+Name.contains.Goals as goal
+use Rattle.justfile_attribute_set.proofs.attribute_set.PairSet+Attribute+Written.contains.Goals as goal
 
 pub returns : goal.returns
 returns c =

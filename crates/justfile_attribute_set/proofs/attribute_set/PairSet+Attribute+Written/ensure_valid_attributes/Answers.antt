@@ -1,7 +1,7 @@
 use Rattle.std.proofs.Common.{◌∙◌, ap, sym}
 use Rattle.std.specs.Option.{option_copied}
 use Rattle.justfile_attribute_set.proofs.SeenKinds.{invalid_by, none_invalid}
-use Rattle.justfile_attribute_set.proofs.attribute_set.PairSet+Attribute+Name.ensure_valid_attributes.Goals as goal
+use Rattle.justfile_attribute_set.proofs.attribute_set.PairSet+Attribute+Written.ensure_valid_attributes.Goals as goal
 
 pub returns-in-None-clause-valid : goal.returns-in-None-clause-valid
 returns-in-None-clause-valid c =

@@ -2,7 +2,7 @@ use Rattle.std.proofs.Common.{◌∙◌}
 use Rattle.std.specs.Cmp.Lexicographic.{pointwise}
 use Rattle.justfile_attribute_set.proofs.Firsts.{pointwise_firsts}
 use Rattle.justfile_attribute_set.specs.Pairs.{Pair, same}
-use Rattle.justfile_attribute_set.proofs.attribute_set.PairSetAttributeNamePartialEq.eq.Goals as goal
+use Rattle.justfile_attribute_set.proofs.attribute_set.PairSetAttributeWrittenPartialEq.eq.Goals as goal
 
 pub returns : goal.returns
 returns c =
