@@ -47,7 +47,7 @@ build profile='release' *flags:
     echo "built {{ target }}/{{ name }}{{ suffix }}, version {{ version }}"
 
 # Everything that has to pass before a merge
-[confirm("run all of it?")]
+[confirm("run all of it?")] # asked once
 [env('RUST_BACKTRACE', '1')]
 [group('checks')]
 test: build lint && (report 'tests' "all")

@@ -4,6 +4,7 @@ pub mod CopiedTrees
 mod Firsts
 mod Groups
 mod Kept
+mod Named
 mod SeenKinds
 pub mod SetLaws
 mod Sorts

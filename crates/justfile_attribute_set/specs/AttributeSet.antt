@@ -15,26 +15,36 @@ use Rattle.justfile_model.specs.Tree.{Entry}
 use Rattle.justfile_tree.specs.LeafTree.{Leaf}
 use Rattle.justfile_attribute.specs.declared.attribute.Attribute.{Attribute}
 use Rattle.justfile_attribute_set.specs.Keys.{firsts}
-use Rattle.justfile_attribute_set.specs.Pairs.{Pair, entry_of, leaf_entry_of}
+use Rattle.justfile_attribute_set.specs.Pairs.{CommentedName, NamedPair, Pair, entry_of, leaf_entry_of, named, with_comment}
 use Rattle.justfile_attribute_set.specs.contracts.pair_set.AttributeContentOrder.TheImpl.{ghosts as content_order}
 use Rattle.justfile_attribute_set.specs.declared.pair_set.PairSet.{PairSet}
+use Rattle.justfile_written.specs.declared.written.Written.{Written}
 
 abbrev pub AttributeSet : Type 0
-AttributeSet = PairSet Attribute Name content_order
+AttributeSet = PairSet Attribute Written content_order
 
-abbrev pub pairs_of : AttributeSet → List Pair
-pairs_of set = set.pairs.items
+-- the attributes in their order, each with where it was written
+abbrev pub written_of : AttributeSet → List Pair
+written_of set = set.pairs.items
+
+-- each with its name
+abbrev pub pairs_of : AttributeSet → List NamedPair
+pairs_of set = map named (written_of set)
+
+-- each with its name, and its comment if it has one
+abbrev pub entries_with_comments : AttributeSet → List CommentedName
+entries_with_comments set = map with_comment (written_of set)
 
 -- the attributes in their order
 abbrev pub attributes_of : AttributeSet → List Attribute
-attributes_of set = firsts (pairs_of set)
+attributes_of set = firsts (written_of set)
 
--- each with the token of its name
+-- each with the token of its name, and the text of its comment
 abbrev pub entries_of : AttributeSet → List (Entry Tok Tok)
-entries_of set = map entry_of (pairs_of set)
+entries_of set = map entry_of (written_of set)
 
 abbrev pub leaf_entries_of : AttributeSet → List (Entry Leaf Token)
-leaf_entries_of set = map leaf_entry_of (pairs_of set)
+leaf_entries_of set = map leaf_entry_of (written_of set)
 
 -- the item is one that may have attributes
 abbrev pub IsConstruct : ItemKind → Type 0

@@ -2,13 +2,13 @@
 use Rattle.std.specs.Prelude.{◌≡◌}
 use Rattle.std.specs.List.{AllZip}
 use Rattle.justfile_attribute.specs.Copies.{IsSameAttribute}
-use Rattle.justfile_attribute_set.specs.AttributeSet.{AttributeSet, pairs_of}
+use Rattle.justfile_attribute_set.specs.AttributeSet.{AttributeSet, written_of}
 use Rattle.justfile_attribute_set.specs.Pairs.{Pair}
 
--- a copy of an attribute, with the same name
+-- a copy of an attribute, with the same name and the same comment
 abbrev pub IsSamePair : (copy original : Pair) → Type 0
 IsSamePair copy original = IsSameAttribute copy.0 original.0 × (copy.1 ≡ original.1)
 
 -- the copy has copies of the attributes, one by one
 abbrev pub IsSameSet : (copy original : AttributeSet) → Type 0
-IsSameSet copy original = AllZip IsSamePair (pairs_of copy) (pairs_of original)
+IsSameSet copy original = AllZip IsSamePair (written_of copy) (written_of original)

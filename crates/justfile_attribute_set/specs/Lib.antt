@@ -3,6 +3,7 @@ pub mod Attributes
 pub mod Copies
 pub mod InOrder
 pub mod IntoKeys
+pub mod IntoNamed
 pub mod Keys
 pub mod PairSet
 pub mod Pairs

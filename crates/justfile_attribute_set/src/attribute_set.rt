@@ -2,8 +2,7 @@ ghost use Rattle.std.specs.Prelude.{◌≡◌, [], length, find, map, not, None,
 ghost use Rattle.std.specs.Cmp.{on_per};
 ghost use Rattle.std.specs.Cmp.Lexicographic.{lists_per, pointwise};
 ghost use Rattle.std.specs.List.{AllZip};
-ghost use Rattle.std.specs.Option.{option_copied, option_map};
-ghost use Rattle.std.specs.Vec.Iter.{into_iter_items};
+ghost use Rattle.std.specs.Option.{option_and_then, option_copied, option_map};
 ghost use Rattle.justfile_base.specs.StringLiteral.{IsSameLiteral};
 ghost use Rattle.justfile_word.specs.declared.attribute_kind.AttributeKind.TheVariants as kinds;
 ghost use Rattle.justfile_model.specs.AttributeKinds.{is_allowed};
@@ -13,13 +12,15 @@ ghost use Rattle.justfile_model.specs.Distinct.{kept_last};
 ghost use Rattle.justfile_model.specs.Order.{in_order};
 ghost use Rattle.justfile_attribute.specs.contracts.attribute.AttributePartialEq.TheImpl.Laws.{laws-law as attribute_per};
 ghost use Rattle.justfile_tree.specs.LeafSight.{sees_leaves};
-ghost use Rattle.justfile_attribute_set.specs.Pairs.{leaf_entry_of, pair_cmp, same, same_attributes};
+ghost use Rattle.justfile_attribute_set.specs.Pairs.{commented_cmp, leaf_entry_of, pair_cmp, same, same_attributes, same_commented};
+ghost use Rattle.justfile_attribute_set.specs.IntoNamed.{named_left};
+ghost use Rattle.justfile_written.specs.Written.{uncommented};
 ghost use Rattle.justfile_attribute_set.specs.Attributes as wanted;
 ghost use Rattle.justfile_attribute_set.specs.Attributes.{are_enabled, groups_in, has_kind};
 ghost use Rattle.justfile_attribute_set.specs.Keys.{keys_left};
 
 use crate::copied::copy_pairs;
-use crate::keys::Keys;
+use crate::keys::{IntoNamed, Keys};
 use crate::kinds::{first_of_kind, has_enabler, has_kind, is_here, kind_of, may_have};
 use crate::pair_set::PairSet;
 use crate::pairs::{find_key, have_same_keys, last_of_each, sort_pairs};
@@ -27,15 +28,15 @@ use justfile_attribute::Attribute;
 use justfile_base::{
     AttributeKind, CompileError, CompileErrorKind, ItemKind, Name, StringLiteral, Token,
 };
+use justfile_written::{Written, with_comments, without_comments};
 use std::alloc::{AllocError, Global};
-use std::vec;
 
 /// The attributes of a construct in the order of their content, each with the name that it was
-/// written with.
-pub type AttributeSet<'src> = PairSet<Attribute<'src>, Name<'src>>;
+/// written with, and its comment if it has one.
+pub type AttributeSet<'src> = PairSet<Attribute<'src>, Written<'src>>;
 
-impl<'src> PairSet<Attribute<'src>, Name<'src>> {
-    ghost use Rattle.justfile_attribute_set.specs.AttributeSet.{IsConstruct, IsInvalidBy, attributes_of, leaf_entries_of, pairs_of};
+impl<'src> PairSet<Attribute<'src>, Written<'src>> {
+    ghost use Rattle.justfile_attribute_set.specs.AttributeSet.{IsConstruct, IsInvalidBy, attributes_of, entries_with_comments, leaf_entries_of, pairs_of, written_of};
     ghost use Rattle.justfile_attribute_set.specs.Copies.{IsSameSet};
 
     /// No attributes.
@@ -49,16 +50,48 @@ impl<'src> PairSet<Attribute<'src>, Name<'src>> {
     }
 
     /// The attributes of these pairs in the order of their content, where those that tie stay as
-    /// they stood. Of attributes that are equal, with their places, the last one is kept.
+    /// they stood. Of attributes that are equal, with their places, the last one is kept. None has a
+    /// comment.
     ///
     /// # Errors
     ///
     /// `AllocError` if the program is out of memory.
+    #[tactic(auto, using(crate::proofs::Named::pairs_in_order, crate::proofs::Named::none_commented))]
     pub fn from_pairs(
         alloc: Global,
         pairs: Vec<(Attribute<'src>, Name<'src>)>,
     ) -> Result<Self, AllocError>
-        ensures { IfOk result (λ set. pairs_of set ≡ in_order pair_cmp (kept_last same_attributes pairs.entry.items)) }
+        ensures pairs { IfOk result (λ set. pairs_of set ≡ in_order pair_cmp (kept_last same_attributes pairs.entry.items)) }
+        ensures comments { IfOk result (λ set. written_of set ≡ map uncommented (pairs_of set)) }
+    {
+        let written = without_comments(alloc, pairs)?;
+        Self::from_written(alloc, written)
+    }
+
+    /// The attributes of these entries in the order of their content, where those that tie stay as
+    /// they stood: each with its name, and its comment if it has one. Of attributes that are equal,
+    /// with their places, the last one is kept.
+    ///
+    /// # Errors
+    ///
+    /// `AllocError` if the program is out of memory.
+    #[tactic(auto, using(crate::proofs::Named::entries_in_order))]
+    pub fn from_entries(
+        alloc: Global,
+        entries: Vec<(Attribute<'src>, Name<'src>, Option<&'src str>)>,
+    ) -> Result<Self, AllocError>
+        ensures { IfOk result (λ set. entries_with_comments set ≡ in_order commented_cmp (kept_last same_commented entries.entry.items)) }
+    {
+        let written = with_comments(alloc, entries)?;
+        Self::from_written(alloc, written)
+    }
+
+    /// The attributes of these pairs in the order of their content, of equal ones the last.
+    fn from_written(
+        alloc: Global,
+        pairs: Vec<(Attribute<'src>, Written<'src>)>,
+    ) -> Result<Self, AllocError>
+        ensures { IfOk result (λ set. written_of set ≡ in_order pair_cmp (kept_last same_attributes pairs.entry.items)) }
     {
         let mut kept = last_of_each(alloc, pairs)?;
         sort_pairs(&mut kept)?;
@@ -72,8 +105,8 @@ impl<'src> PairSet<Attribute<'src>, Name<'src>> {
     ///
     /// `AllocError` if the program is out of memory.
     #[tactic(auto, using(crate::proofs::Sorts::entries_sorted))]
-    pub fn from_read(pairs: Vec<(Attribute<'src>, Name<'src>)>) -> Result<Self, AllocError>
-        ensures pairs { IfOk result (λ set. pairs_of set ≡ in_order pair_cmp pairs.entry.items) }
+    pub fn from_read(pairs: Vec<(Attribute<'src>, Written<'src>)>) -> Result<Self, AllocError>
+        ensures pairs { IfOk result (λ set. written_of set ≡ in_order pair_cmp pairs.entry.items) }
         ensures entries { IfOk result (λ set. leaf_entries_of set ≡ in_order (entry_cmp sees_leaves) (map leaf_entry_of pairs.entry.items)) }
     {
         let mut pairs = pairs;
@@ -81,7 +114,7 @@ impl<'src> PairSet<Attribute<'src>, Name<'src>> {
         Ok(PairSet { pairs })
     }
 
-    /// A copy of the set.
+    /// A copy of the set, with its comments.
     ///
     /// # Errors
     ///
@@ -122,8 +155,21 @@ impl<'src> PairSet<Attribute<'src>, Name<'src>> {
     pub fn name(&self, attribute: &Attribute<'src>) -> Option<Name<'src>>
         ensures { result ≡ option_map (λ p. p.1) (find (λ p. same attribute.now p.0) (pairs_of self.now)) }
     {
-        let pair = find_key(&self.pairs, attribute)?;
-        Some(pair.1)
+        match find_key(&self.pairs, attribute) {
+            Some(pair) => Some(pair.1.name),
+            None => None,
+        }
+    }
+
+    /// The comment after the line that this attribute was written on, if it was the last of its
+    /// brackets, without the white space at its end.
+    pub fn comment(&self, attribute: &Attribute<'src>) -> Option<&'src str>
+        ensures { result ≡ option_and_then (λ p. p.1.comment) (find (λ p. same attribute.now p.0) (written_of self.now)) }
+    {
+        match find_key(&self.pairs, attribute) {
+            Some(pair) => pair.1.comment,
+            None => None,
+        }
     }
 
     /// Copies of the names of the groups, in order.
@@ -162,17 +208,24 @@ impl<'src> PairSet<Attribute<'src>, Name<'src>> {
     }
 
     /// The attributes in their order.
-    pub fn iter(&self) -> Keys<'_, Attribute<'src>, Name<'src>>
+    pub fn iter(&self) -> Keys<'_, Attribute<'src>, Written<'src>>
         ensures { keys_left result ≡ attributes_of self.now }
     {
         Keys::new(&self.pairs)
     }
 
     /// The attributes in their order, each with its name.
-    pub fn into_items(self) -> vec::IntoIter<(Attribute<'src>, Name<'src>)>
-        ensures { into_iter_items result ≡ pairs_of self.entry }
+    pub fn into_items(self) -> IntoNamed<'src, Attribute<'src>>
+        ensures { named_left result ≡ pairs_of self.entry }
     {
-        self.pairs.into_iter()
+        IntoNamed::new(self.pairs)
+    }
+
+    /// The attributes in their order, each with where it was written.
+    pub fn written(&self) -> &[(Attribute<'src>, Written<'src>)]
+        ensures { result.now ≡ written_of self.now }
+    {
+        &self.pairs
     }
 
     /// Refuses what an item of this kind, with its name at this token, may not have.
@@ -200,8 +253,8 @@ impl<'src> PairSet<Attribute<'src>, Name<'src>> {
     }
 
     /// The first pair whose attribute such an item may not have.
-    fn first_invalid(&self, item_kind: ItemKind) -> Option<&(Attribute<'src>, Name<'src>)>
-        ensures { option_copied result ≡ find (λ p. not (is_allowed item_kind (wanted.kind_of p.0))) (pairs_of self.now) }
+    fn first_invalid(&self, item_kind: ItemKind) -> Option<&(Attribute<'src>, Written<'src>)>
+        ensures { option_copied result ≡ find (λ p. not (is_allowed item_kind (wanted.kind_of p.0))) (written_of self.now) }
     {
         self.pairs
             .iter()
@@ -209,7 +262,8 @@ impl<'src> PairSet<Attribute<'src>, Name<'src>> {
     }
 }
 
-impl PartialEq for PairSet<Attribute<'_>, Name<'_>> {
+/// Sets are equal that have equal attributes, whatever their comments.
+impl PartialEq for PairSet<Attribute<'_>, Written<'_>> {
     ghost use Rattle.justfile_attribute_set.specs.AttributeSet.{attributes_of};
 
     ghost eq = { λ a b. pointwise same (attributes_of a) (attributes_of b) };

@@ -1,8 +1,10 @@
-ghost use Rattle.std.specs.Prelude.{◌≡◌};
+ghost use Rattle.std.specs.Prelude.{◌≡◌, map};
 ghost use Rattle.std.specs.Iterator.{YieldsFirst, YieldsFirstRef, item_count};
 ghost use Rattle.std.specs.Slice.Iter.{iter_rest};
 ghost use Rattle.std.specs.Vec.Iter.{into_iter_items};
 
+use justfile_base::Name;
+use justfile_written::Written;
 use std::{slice, vec};
 
 /// The first of each pair.
@@ -71,6 +73,42 @@ impl<K: Drop, V: Drop> Iterator for IntoKeys<K, V> {
     fn next(&mut self) -> Option<K> {
         match self.pairs.next() {
             Some((key, _value)) => Some(key),
+            None => None,
+        }
+    }
+}
+
+/// Pairs, by value, of a first and the name that it was written with.
+#[derive(Drop)]
+pub struct IntoNamed<'src, K> {
+    pairs: vec::IntoIter<(K, Written<'src>)>,
+}
+
+impl<'src, K> IntoNamed<'src, K> {
+    ghost use Rattle.justfile_attribute_set.specs.IntoNamed.{named_left};
+    ghost use Rattle.justfile_attribute_set.specs.Pairs.{named};
+
+    pub(crate) fn new(pairs: Vec<(K, Written<'src>)>) -> Self
+        ensures { named_left result ≡ map named pairs.entry.items }
+    {
+        IntoNamed {
+            pairs: pairs.into_iter(),
+        }
+    }
+}
+
+impl<'src, K: Drop> Iterator for IntoNamed<'src, K> {
+    ghost use Rattle.justfile_attribute_set.specs.IntoNamed.{named_left};
+
+    type Item = (K, Name<'src>);
+
+    ghost next_gives = { YieldsFirst named_left };
+
+    ghost remaining = { item_count named_left };
+
+    fn next(&mut self) -> Option<(K, Name<'src>)> {
+        match self.pairs.next() {
+            Some((key, written)) => Some((key, written.name)),
             None => None,
         }
     }

@@ -7,7 +7,8 @@ ghost use Rattle.justfile_model.specs.AttributeKinds.{is_allowed};
 ghost use Rattle.justfile_attribute_set.specs.Attributes as wanted;
 
 use justfile_attribute::Attribute;
-use justfile_base::{AttributeKind, ItemKind, Name};
+use justfile_base::{AttributeKind, ItemKind};
+use justfile_written::Written;
 
 /// What the attribute is.
 #[tactic(auto, unfolding(crate::specs::Attributes::kind_of))]
@@ -26,7 +27,7 @@ fn is_of_kind(attribute: &Attribute<'_>, kind: AttributeKind) -> bool
 }
 
 /// Whether one of the attributes is of this kind.
-pub(crate) fn has_kind(pairs: &[(Attribute<'_>, Name<'_>)], kind: AttributeKind) -> bool
+pub(crate) fn has_kind(pairs: &[(Attribute<'_>, Written<'_>)], kind: AttributeKind) -> bool
     ensures { result ≡ list_any (λ p. wanted.is_of_kind kind p.0) pairs.now }
 {
     pairs.iter().any(|pair| is_of_kind(&pair.0, kind))
@@ -34,16 +35,16 @@ pub(crate) fn has_kind(pairs: &[(Attribute<'_>, Name<'_>)], kind: AttributeKind)
 
 /// The first pair whose attribute is of this kind.
 pub(crate) fn first_of_kind<'pairs, 'src>(
-    pairs: &'pairs [(Attribute<'src>, Name<'src>)],
+    pairs: &'pairs [(Attribute<'src>, Written<'src>)],
     kind: AttributeKind,
-) -> Option<&'pairs (Attribute<'src>, Name<'src>)>
+) -> Option<&'pairs (Attribute<'src>, Written<'src>)>
     ensures { option_copied result ≡ find (λ p. wanted.is_of_kind kind p.0) pairs.now }
 {
     pairs.iter().find(|pair| is_of_kind(&pair.0, kind))
 }
 
 /// Whether one of the attributes says on which systems the item is there.
-pub(crate) fn has_enabler(pairs: &[(Attribute<'_>, Name<'_>)]) -> bool
+pub(crate) fn has_enabler(pairs: &[(Attribute<'_>, Written<'_>)]) -> bool
     ensures { result ≡ list_any (λ p. is_enabler_kind (wanted.kind_of p.0)) pairs.now }
 {
     pairs.iter().any(|pair| kind_of(&pair.0).is_enabler())

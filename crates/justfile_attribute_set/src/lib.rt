@@ -10,7 +10,8 @@ mod pair_set;
 mod pairs;
 
 pub use crate::attribute_set::AttributeSet;
-pub use crate::keys::{IntoKeys, Keys};
+pub use crate::keys::{IntoKeys, IntoNamed, Keys};
 pub use crate::pair_set::{ContentOrder, PairSet};
 pub use justfile_attribute::Attribute;
 pub use justfile_base::AttributeKind;
+pub use justfile_written::Written;

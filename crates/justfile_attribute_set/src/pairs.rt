@@ -1,4 +1,4 @@
-//! Pairs of an attribute and its name: which are kept, and their order.
+//! Pairs of an attribute and where it was written: which are kept, and their order.
 ghost use Rattle.std.specs.Prelude.{◌≡◌, find, IfOk, OnOk};
 ghost use Rattle.std.specs.Cmp.Lexicographic.{pointwise};
 ghost use Rattle.std.specs.List.{list_any};
@@ -10,7 +10,7 @@ ghost use Rattle.justfile_attribute_set.specs.InOrder.{AreInOrder};
 ghost use Rattle.justfile_attribute_set.specs.Pairs.{pair_cmp};
 
 use justfile_attribute::{Attribute, attribute_content_cmp};
-use justfile_base::Name;
+use justfile_written::Written;
 use std::alloc::{AllocError, Global};
 
 /// Of pairs whose firsts are equal the last one, where it stands.
@@ -50,7 +50,7 @@ pub(crate) fn find_key<'pairs, K: PartialEq, V>(
 
 /// Puts pairs in the order of their content. Those that tie stay as they stood.
 pub(crate) fn sort_pairs<'src>(
-    pairs: &mut Vec<(Attribute<'src>, Name<'src>)>,
+    pairs: &mut Vec<(Attribute<'src>, Written<'src>)>,
 ) -> Result<(), AllocError>
     ensures ordered { OnOk result (pairs.new.items ≡ in_order pair_cmp pairs.old.items) }
     ensures sorted { OnOk result (AreInOrder attribute_content_cmp pairs.new.items) }

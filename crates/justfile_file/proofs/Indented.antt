@@ -16,7 +16,7 @@ use Rattle.justfile_model.specs.Enabled.{indentation_literal, indentation_of, is
 use Rattle.justfile_model.specs.RecipeRules.{or_else}
 use Rattle.justfile_model.specs.Tok.{Tok}
 use Rattle.justfile_model.specs.Tree as tree
-use Rattle.justfile_attribute_set.specs.AttributeSet.{AttributeSet, attributes_of, entries_of, pairs_of}
+use Rattle.justfile_attribute_set.specs.AttributeSet.{AttributeSet, attributes_of, entries_of, written_of}
 use Rattle.justfile_attribute_set.specs.Attributes.{are_enabled, is_of_kind, kind_of}
 use Rattle.justfile_attribute_set.specs.Keys.{firsts}
 use Rattle.justfile_attribute_set.specs.Pairs.{Pair, entry_of}
@@ -48,7 +48,7 @@ enabler_pairs (p ∷ ps) = ap (λ b. is_enabler_kind (kind_of p.0) || b) (enable
 
 pub enabled_entries : (set : AttributeSet) → is_enabled (entries_of set) ≡ are_enabled (attributes_of set)
 enabled_entries set =
-    λ i. not (enabler_pairs (pairs_of set) i) || kind_pairs kinds.Linux (pairs_of set) i || kind_pairs kinds.Unix (pairs_of set) i
+    λ i. not (enabler_pairs (written_of set) i) || kind_pairs kinds.Linux (written_of set) i || kind_pairs kinds.Unix (written_of set) i
 
 -- ---- the literal
 

@@ -6,6 +6,7 @@ ghost use Rattle.justfile_word.specs.Indentation.{indentation_text};
 ghost use Rattle.justfile_model.specs.Enabled.{indentation_of};
 ghost use Rattle.justfile_model.specs.NormalShape.{normal};
 ghost use Rattle.justfile_model.specs.Printing.{printable, printable_item, text};
+ghost use Rattle.justfile_model.specs.Uncommented.{HasNoComments, uncommented_text};
 ghost use Rattle.justfile_tree.specs.Expression.{literal_tok};
 ghost use Rattle.justfile_item.specs.Copies.{IsSameItem};
 ghost use Rattle.justfile_item.specs.Indented.{IsWholeItem, items_indentation};
@@ -92,6 +93,9 @@ impl<'src> Ast<'src> {
         ensures text { IfOk result (λ printed. string_bytes printed ≡ text (normal (ast_shape self.now)) (indentation_text indentation)) }
         ensures reads_back { IfOk result (λ printed. PrintsBack (ast_shape self.now) (indentation_text indentation)
             (string_bytes printed)) }
+        // Where no attribute and no recipe has a comment, none is printed of them.
+        ensures uncommented { IfOk result (λ printed. HasNoComments (ast_shape self.now)
+            → string_bytes printed ≡ uncommented_text (normal (ast_shape self.now)) (indentation_text indentation)) }
     {
         let mut printed = String::new(alloc);
         write_ast(self, indentation, &mut printed)?;

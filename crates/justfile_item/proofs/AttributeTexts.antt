@@ -18,7 +18,7 @@ use Rattle.justfile_model.specs.Tree.{Expr, Quoted, lexeme}
 use Rattle.justfile_attribute.specs.Attribute.{attribute_of, option_by, property_by, quoted_by, single_by}
 use Rattle.justfile_attribute.specs.declared.attribute.Attribute.{Attribute}
 use Rattle.justfile_attribute.specs.declared.attribute.Attribute.TheVariants as attributes
-use Rattle.justfile_attribute_set.specs.AttributeSet.{AttributeSet, entries_of, pairs_of}
+use Rattle.justfile_attribute_set.specs.AttributeSet.{AttributeSet, entries_of, written_of}
 use Rattle.justfile_attribute_set.specs.Keys.{firsts}
 use Rattle.justfile_attribute_set.specs.Pairs.{Pair, entry_of}
 use Rattle.justfile_item.specs.AttributeParts.{OfBoxed, OfParts, OfPair, OfProperty, OfSet}
@@ -139,4 +139,4 @@ module _ (expander : Expansions) where
 
     -- the literals of a set have the texts that are seen of it
     pub set_cooks : (set : AttributeSet) → OfSet OfExpression OfLiteral OfToken set → Cook (entries_literals (entries_of set)) (set_cooked set)
-    set_cooks set all = pairs_cook (pairs_of set) all
+    set_cooks set all = pairs_cook (written_of set) all

@@ -13,7 +13,7 @@ use Rattle.justfile_model.specs.Tree.{Entry, lexeme, nothing, over_attribute, ov
 use Rattle.justfile_model.proofs.SeesRules.{kind_over}
 use Rattle.justfile_attribute.specs.Attribute.{attribute_of}
 use Rattle.justfile_attribute.specs.declared.attribute.Attribute.{Attribute}
-use Rattle.justfile_attribute_set.specs.AttributeSet.{AttributeSet, attributes_of, pairs_of}
+use Rattle.justfile_attribute_set.specs.AttributeSet.{AttributeSet, attributes_of, written_of}
 use Rattle.justfile_attribute_set.specs.Attributes.{has_kind, is_of_kind, kind_of}
 use Rattle.justfile_attribute_set.specs.Keys.{firsts}
 use Rattle.justfile_attribute_set.specs.Pairs.{Pair, entry_of}
@@ -35,7 +35,7 @@ pairs_shown kind (p ∷ ps) = λ i. kind_shown kind p.0 i || pairs_shown kind ps
 
 -- an attribute of a kind is among those of a set, with places or without
 has_shown : (kind : AttributeKind) (set : AttributeSet) → has_attribute kind (entry_shapes set) ≡ has_kind kind (attributes_of set)
-has_shown kind set = pairs_shown kind (pairs_of set)
+has_shown kind set = pairs_shown kind (written_of set)
 
 -- the doc that is printed of a construct, by the attributes of its set
 pub shown_doc_is : (set : AttributeSet) (doc : Option (String Global)) → shown_doc_of set doc ≡ (if has_kind kinds.Doc (attributes_of set) then None else option_map string_bytes doc)

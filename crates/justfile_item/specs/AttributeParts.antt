@@ -7,7 +7,7 @@ use Rattle.justfile_base.specs.declared.token.Token.{Token}
 use Rattle.justfile_attribute.specs.declared.attribute.Attribute.{Attribute}
 use Rattle.justfile_attribute.specs.declared.attribute.Attribute.TheVariants as attributes
 use Rattle.justfile_attribute.specs.declared.interpreter.Interpreter.{Interpreter}
-use Rattle.justfile_attribute_set.specs.AttributeSet.{AttributeSet, pairs_of}
+use Rattle.justfile_attribute_set.specs.AttributeSet.{AttributeSet, written_of}
 use Rattle.justfile_attribute_set.specs.Pairs.{Pair}
 use Rattle.justfile_tree.specs.declared.expression.Expression.{Expression}
 
@@ -45,7 +45,7 @@ module _ (OfExpression : Expression → Type 0) (OfLiteral : StringLiteral → T
 
   -- of the parts of an attribute, and of its name
   abbrev pub OfPair : Pair → Type 0
-  OfPair p = OfParts p.0 × OfToken p.1.token
+  OfPair p = OfParts p.0 × OfToken p.1.name.token
 
   abbrev pub OfSet : AttributeSet → Type 0
-  OfSet set = All OfPair (pairs_of set)
+  OfSet set = All OfPair (written_of set)

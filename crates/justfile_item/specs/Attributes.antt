@@ -1,16 +1,16 @@
 -- What the definitions see of the attributes of a construct.
-use Rattle.std.specs.Prelude.{ℕ, List, [], ◌∷◌, ◌++◌, map, codes, Option, Some, None, string_bytes}
+use Rattle.std.specs.Prelude.{ℕ, List, [], ◌∷◌, ◌++◌, map, Option, Some, None, string_bytes}
 use Rattle.std.specs.Global.{Box}
 use Rattle.std.specs.List.{flat_map}
 use Rattle.justfile_base.specs.declared.name.Name.{Name}
 use Rattle.justfile_base.specs.declared.string_literal.StringLiteral.{StringLiteral}
-use Rattle.justfile_model.specs.Printing.{attribute_text, entries_text, fixed_text}
+use Rattle.justfile_model.specs.Printing.{entries_text, entry_text}
 use Rattle.justfile_model.specs.Tree.{Entry, lexeme, nothing, over_entry}
-use Rattle.justfile_attribute.specs.Attribute.{attribute_shape}
 use Rattle.justfile_attribute.specs.declared.attribute.Attribute.{Attribute}
 use Rattle.justfile_attribute.specs.declared.attribute.Attribute.TheVariants as attributes
 use Rattle.justfile_attribute.specs.declared.interpreter.Interpreter.{Interpreter}
-use Rattle.justfile_attribute_set.specs.AttributeSet.{AttributeSet, attributes_of, entries_of}
+use Rattle.justfile_attribute_set.specs.AttributeSet.{AttributeSet, attributes_of, entries_of, written_of}
+use Rattle.justfile_attribute_set.specs.Pairs.{Pair, entry_of}
 use Rattle.justfile_tree.specs.Expression.{expr_cooked}
 use Rattle.justfile_tree.specs.declared.expression.Expression.{Expression}
 
@@ -18,13 +18,17 @@ use Rattle.justfile_tree.specs.declared.expression.Expression.{Expression}
 abbrev pub entry_shapes : AttributeSet → List (Entry (List ℕ) (Unit {0}))
 entry_shapes set = map (over_entry lexeme nothing) (entries_of set)
 
--- an attribute in brackets, on a line of its own
-abbrev pub attribute_line : Attribute → List ℕ
-attribute_line a = fixed_text (codes "[") ++ attribute_text (attribute_shape a) ++ fixed_text (codes "]\n")
+-- an attribute in brackets, on a line of its own with its comment
+abbrev pub attribute_line : Pair → List ℕ
+attribute_line p = entry_text (over_entry lexeme nothing (entry_of p))
+
+-- the lines of these
+abbrev pub lines_text : List Pair → List ℕ
+lines_text pairs = entries_text (map (over_entry lexeme nothing) (map entry_of pairs))
 
 -- the lines of attributes
 abbrev pub attributes_text : AttributeSet → List ℕ
-attributes_text set = entries_text (entry_shapes set)
+attributes_text set = lines_text (written_of set)
 
 -- what is seen of a part that may be missing
 abbrev pub optional : {X : Type 0} → (X → List (List ℕ)) → Option X → List (List ℕ)

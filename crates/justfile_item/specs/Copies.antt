@@ -48,6 +48,7 @@ pub record IsSameFunction (copy original : FunctionDefinition) : Type 0 where
 pub record IsSameRecipe (copy original : UnresolvedRecipe) : Type 0 where
   pub attributes : IsSameSet copy.attributes original.attributes
   pub body : AllZip IsSameLine copy.body.items original.body.items
+  pub comment : copy.comment ≡ original.comment
   pub dependencies : AllZip IsSameDependency copy.dependencies.items original.dependencies.items
   pub doc : IsSameText copy.doc original.doc
   pub file_depth : copy.file_depth ≡ original.file_depth

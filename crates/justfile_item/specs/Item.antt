@@ -2,7 +2,7 @@
 use Rattle.std.specs.Prelude.{ℕ, Bool, true, List, [], ◌∷◌, ◌++◌, map, take, drop, Option, String, string_bytes}
 use Rattle.std.specs.Global.{Global}
 use Rattle.std.specs.List.{flat_map}
-use Rattle.std.specs.Option.{option_map}
+use Rattle.std.specs.Option.{option_copied, option_map}
 use Rattle.justfile_base.specs.Namepath.{names_in}
 use Rattle.justfile_base.specs.declared.name.Name.{Name}
 use Rattle.justfile_base.specs.declared.namepath.Namepath.{Namepath}
@@ -82,7 +82,7 @@ header_of r = record {
 
 -- the tree of a recipe
 abbrev pub recipe_of : UnresolvedRecipe → RecipeParts Tok Tok ℕ (Unit {0})
-recipe_of r = record { doc = option_map string_bytes r.doc; header = header_of r; body = map body_line_of r.body.items }
+recipe_of r = record { doc = option_map string_bytes r.doc; header = header_of r; comment = option_copied r.comment; body = map body_line_of r.body.items }
 
 -- the tree of an item
 abbrev pub item_of : Item → OrderedItem Tok Tok ℕ

@@ -1,9 +1,10 @@
 ghost use Rattle.std.specs.Prelude.{◌≡◌, OnOk, OnErr};
-ghost use Rattle.justfile_attribute_set.specs.contracts.attribute_set.PairSetAttributeNamePartialEq.TheImpl as sets;
-ghost use Rattle.justfile_item.specs.Attributes.{attribute_line, attributes_text};
+ghost use Rattle.justfile_attribute_set.specs.contracts.attribute_set.PairSetAttributeWrittenPartialEq.TheImpl as sets;
+ghost use Rattle.justfile_item.specs.Attributes.{attribute_line, attributes_text, lines_text};
 
+use crate::comment::write_comment;
 use justfile_attribute::{Attribute, write_attribute};
-use justfile_attribute_set::AttributeSet;
+use justfile_attribute_set::{AttributeSet, Written};
 use justfile_tree::{Sink, put_piece};
 
 /// Whether two sets have equal attributes.
@@ -13,14 +14,33 @@ pub(crate) fn are_equal<'src>(attributes: &AttributeSet<'src>, others: &Attribut
     *attributes == *others
 }
 
-/// Puts an attribute in brackets, on a line of its own.
-fn write_attribute_line<S: Sink>(attribute: &Attribute<'_>, sink: &mut S) -> Result<(), S::Fault>
-    ensures ok { OnOk result (S.took sink.old (attribute_line attribute.now) sink.new) }
-    ensures err { OnErr result (S.failed sink.old (attribute_line attribute.now) sink.new) }
+/// Puts an attribute in brackets, on a line of its own with its comment.
+fn write_attribute_line<S: Sink>(
+    pair: &(Attribute<'_>, Written<'_>),
+    sink: &mut S,
+) -> Result<(), S::Fault>
+    ensures ok { OnOk result (S.took sink.old (attribute_line pair.now) sink.new) }
+    ensures err { OnErr result (S.failed sink.old (attribute_line pair.now) sink.new) }
 {
     put_piece("[", sink)?;
-    write_attribute(attribute, sink)?;
-    put_piece("]\n", sink)
+    write_attribute(&pair.0, sink)?;
+    put_piece("]", sink)?;
+    write_comment(pair.1.comment, sink)?;
+    put_piece("\n", sink)
+}
+
+/// Puts attributes, each on a line of its own.
+fn write_lines<S: Sink>(
+    pairs: &[(Attribute<'_>, Written<'_>)],
+    sink: &mut S,
+) -> Result<(), S::Fault>
+    ensures ok { OnOk result (S.took sink.old (lines_text pairs.now) sink.new) }
+    ensures err { OnErr result (S.failed sink.old (lines_text pairs.now) sink.new) }
+{
+    for pair in pairs {
+        write_attribute_line(pair, sink)?;
+    }
+    Ok(())
 }
 
 /// Puts the attributes of a construct, each on a line of its own.
@@ -31,8 +51,5 @@ pub(crate) fn write_attributes<S: Sink>(
     ensures ok { OnOk result (S.took sink.old (attributes_text attributes.now) sink.new) }
     ensures err { OnErr result (S.failed sink.old (attributes_text attributes.now) sink.new) }
 {
-    for attribute in attributes {
-        write_attribute_line(attribute, sink)?;
-    }
-    Ok(())
+    write_lines(attributes.written(), sink)
 }

@@ -1,8 +1,8 @@
 ghost use Rattle.std.specs.Prelude.{◌≡◌, ◌++◌, ◌&&◌, OnOk, OnErr, IfOk, codes};
 ghost use Rattle.std.specs.Cmp.{and_per, on_per};
 ghost use Rattle.std.specs.Cmp.Lexicographic.{lists_per, pointwise};
-ghost use Rattle.justfile_attribute_set.specs.contracts.attribute_set.PairSetAttributeNamePartialEq.TheImpl as sets;
-ghost use Rattle.justfile_attribute_set.specs.contracts.attribute_set.PairSetAttributeNamePartialEq.TheImpl.Laws.{laws-law as set_per};
+ghost use Rattle.justfile_attribute_set.specs.contracts.attribute_set.PairSetAttributeWrittenPartialEq.TheImpl as sets;
+ghost use Rattle.justfile_attribute_set.specs.contracts.attribute_set.PairSetAttributeWrittenPartialEq.TheImpl.Laws.{laws-law as set_per};
 ghost use Rattle.justfile_base.specs.contracts.name.NamePartialEq.TheImpl as names;
 ghost use Rattle.justfile_base.specs.contracts.name.NamePartialEq.TheImpl.Laws.{laws-law as name_per};
 ghost use Rattle.justfile_base.specs.Token.{lexeme_of};

@@ -5,6 +5,7 @@ pub mod alias;
 pub mod assignment;
 mod attributes;
 pub mod binding;
+mod comment;
 mod copied;
 mod doc;
 pub mod function_definition;

@@ -7,6 +7,7 @@ ghost use Rattle.justfile_item.specs.Copies.{IsSameRecipe};
 ghost use Rattle.justfile_item.specs.Item.{header_shape, priors_of, subsequents_of};
 ghost use Rattle.justfile_item.specs.Recipe.{unresolved_recipe_text};
 
+use crate::comment::write_comment;
 use justfile_attribute_set::AttributeSet;
 use justfile_base::{Indentation, Name, Number};
 use justfile_header::copied::{all_copied, copy_text};
@@ -25,6 +26,9 @@ pub struct UnresolvedRecipe<'src> {
     pub attributes: AttributeSet<'src>,
     /// The lines of its body, without the empty ones at the end. There are none if it has no body.
     pub body: Vec<Line<'src>>,
+    /// The comment between its header and its body, without the white space at its end. There is
+    /// none if it has no body.
+    pub comment: Option<&'src str>,
     /// The recipes that run before it and after it, in order.
     pub dependencies: Vec<UnresolvedDependency<'src>>,
     /// What the comment before it says of it, if there is one that does.
@@ -63,6 +67,7 @@ impl<'src> UnresolvedRecipe<'src> {
         Ok(UnresolvedRecipe {
             attributes,
             body: all_copied(alloc, &self.body)?,
+            comment: self.comment,
             dependencies,
             doc,
             file_depth: self.file_depth,
@@ -166,6 +171,7 @@ pub(crate) fn write_recipe<S: Sink>(
     ensures err { OnErr result (S.failed sink.old (unresolved_recipe_text recipe.now (indentation_text indentation)) sink.new) }
 {
     write_header(recipe, sink)?;
+    write_comment(recipe.comment, sink)?;
     write_body(&recipe.body, indentation, sink)?;
     Ok(())
 }

@@ -77,6 +77,7 @@ module _ {R T A B S D R' T' A' B' S' D' : Type 0} (rel : Relations R T A B S D R
   pub record AlikeEntry (e : Entry A B) (e' : Entry A' B') : Type 0 where
     pub name : rel.spot e.name e'.name
     pub attribute : AlikeAttribute e.attribute e'.attribute
+    pub comment : e.comment ≡ e'.comment
 
   -- what is seen of related leaves is the same, and their places are related
   pub record SeesAlike (sight : Sight A B) (sight' : Sight A' B') : Type 0 where

@@ -2,6 +2,7 @@
 -- as too deep at one of these tokens, or by a rule that they break.
 use Rattle.std.proofs.Common.{◌≡◌, ℕ, Bool, true, false, List, [], ◌∷◌, ◌++◌, map, Contains, Option, Some, None, Ok, Err, is_some, refl, sym, subst, ap, ◌∙◌, append_assoc, append-nil, arith}
 use Rattle.std.specs.List.{AllByRecursion, flat_map}
+use Rattle.std.specs.Option.{option_map}
 use Rattle.std.proofs.lemmas.Grind.{flat_map-append}
 use Rattle.std.proofs.lemmas.List.{map-append}
 use Rattle.std.proofs.lemmas.List.Elements.{All-from_recursion}
@@ -17,24 +18,25 @@ use Rattle.justfile_model.specs.AttributeRules.{arguments_broken, attribute_brok
 use Rattle.justfile_model.specs.Conditions.{Conditions}
 use Rattle.justfile_model.specs.Expressions.{Tokens, Expression, IsKind, NotNext, Waived}
 use Rattle.justfile_model.specs.Features.{Noted}
+use Rattle.justfile_model.specs.Grammar.{NotEmpty}
 use Rattle.justfile_model.specs.Files.{argument_literals, expr_literals, written_literals}
 use Rattle.justfile_model.specs.Literals.{string_of}
 use Rattle.justfile_model.specs.Meaning.{KeyArgument, Placed, attribute_of, by_key, by_position, entry_of}
 use Rattle.justfile_model.specs.NewAttribute.{Made, new_entry}
-use Rattle.justfile_model.specs.ReadAttribute.{ReadAttribute, entry_read, keep_both, token_sight}
-use Rattle.justfile_model.specs.Reading.{◌>>=◌}
+use Rattle.justfile_model.specs.ReadAttribute.{ReadAttribute, commented_both, entry_read, keep_both, token_sight}
+use Rattle.justfile_model.specs.Reading.{◌>>=◌, comment_in}
 use Rattle.justfile_model.specs.Rules.{Broken, UnknownAttribute}
 use Rattle.justfile_model.specs.Sight.{text_or_none}
 use Rattle.justfile_model.specs.SignificantTokens.{SignificantToken}
 use Rattle.justfile_model.specs.Tok.{Tok}
 use Rattle.justfile_model.specs.Tree as tree
-use Rattle.justfile_model.specs.Tree.{Argument, Entry, Expr, Quoted, WrittenAttribute, itself}
-use Rattle.justfile_model.specs.TreeReader.{Read, State, read_attributes}
-use Rattle.justfile_model.proofs.AttributeCovers.{AreReadings, Covers, CoversAll, IsReading, argument_starts, covers_after, covers_duplicate, covers_line, covers_lines, covers_one, covers_order, covers_others, covers_repeat, none, more, readings_append}
+use Rattle.justfile_model.specs.Tree.{Argument, Entry, Expr, Quoted, WrittenAttribute, bare_attribute, bare_entry, commented, commented_line, itself}
+use Rattle.justfile_model.specs.TreeReader.{Read, State, read_attributes, token_leaves}
+use Rattle.justfile_model.proofs.AttributeCovers.{AreReadings, Covers, CoversAll, IsReading, argument_starts, covers_after, covers_duplicate, covers_line, covers_lines, covers_one, covers_order, covers_others, covers_repeat, none, more, readings_append, readings_commented}
 use Rattle.justfile_model.proofs.AttributeSteps.{key_left, key_taken, keys_append}
+use Rattle.justfile_model.proofs.Commented.{commented_after, commented_broken, commented_literals, commented_repeats, some_bracketed}
 use Rattle.justfile_model.proofs.CookedTexts.{AllCook, first_cook, then_cook}
 use Rattle.justfile_model.proofs.ExpressionDeep.{expression_deep}
-use Rattle.justfile_model.proofs.NewArgumentLaws as new
 use Rattle.justfile_model.specs.ArgumentTexts.{GivenHasText, HasText, HasTexts}
 use Rattle.justfile_model.proofs.NewAttributeLaws.{Breaks, alone, entry_made, entry_refused, repeated}
 use Rattle.justfile_model.proofs.Reaching as plain
@@ -250,16 +252,17 @@ module _ (conditions : Conditions) (Hit : Option SignificantToken → Type 0) wh
       → Among (attribute_broken (token_sight conditions) w) rules → Among (known_broken (token_sight conditions) w kind) rules
   named_covers w kind {rules = rules} is h = subst (λ o. Among (named_broken (token_sight conditions) w o) rules) is h
 
-  means_by : (w : WrittenAttribute Tok Tok) (kind : AttributeKind) (e : Entry Tok Tok) → kind_named w.name.lexeme ≡ Some kind → e.name ≡ w.name
+  means_by : (w : WrittenAttribute Tok Tok) (kind : AttributeKind) (e : Entry Tok Tok) → kind_named w.name.lexeme ≡ Some kind → e.name ≡ w.name → e.comment ≡ w.comment
       → attribute_of (token_sight conditions) kind (by_position w.arguments) (by_key w.arguments) ≡ Some e.attribute
       → entry_of (token_sight conditions) w ≡ Some e
-  means_by w kind e is named means = rw (is, means) (ap (λ (name : Tok). Some (record { name = name; attribute = e.attribute })) (sym named))
+  means_by w kind e is named comment_is means =
+      rw (is, means) (λ i. Some (record { name = sym named i; attribute = e.attribute; comment = sym comment_is i }))
 
   made_reached : (before : List ReadAttribute) (name : SignificantToken) (kind : AttributeKind) (all : List (Argument Tok Tok)) (ts : Tokens)
       (ns : List (Noted Tok)) {rules : List (Broken Tok)} → kind_named name.tok.lexeme ≡ Some kind
-      → AllCook conditions.expander (flat_map argument_literals all) → CoversOne before (record { name = name.tok; arguments = all }) rules
+      → AllCook conditions.expander (flat_map argument_literals all) → CoversOne before (bare_attribute name.tok all) rules
       → ReachesSome conditions Hit (reader.made before name kind all (input conditions 0 ts ns))
-      (IsAt (IsReading (token_sight conditions) (record { name = name.tok; arguments = all })) (input conditions 0 ts ns)) [] rules
+      (IsAt (IsReading (token_sight conditions) (bare_attribute name.tok all)) (input conditions 0 ts ns)) [] rules
   unfolding r.made
   made_reached before name kind all ts ns {rules = rules} is texts h = go made refl
     where
@@ -267,7 +270,7 @@ module _ (conditions : Conditions) (Hit : Option SignificantToken → Type 0) wh
       s = input conditions 0 ts ns
 
       w : WrittenAttribute Tok Tok
-      w = record { name = name.tok; arguments = all }
+      w = bare_attribute name.tok all
 
       made : Made Tok (Entry Tok Tok)
       made = new_entry (token_sight conditions) (entries_in before) name.tok kind (by_position all) (by_key all)
@@ -285,14 +288,14 @@ module _ (conditions : Conditions) (Hit : Option SignificantToken → Type 0) wh
       broken : (rule : Broken Tok) → Breaks (token_sight conditions) (entries_in before) name.tok kind (by_position all) (by_key all) rule → Contains rules rule
       broken rule (alone c) = arguments_covered.carries rule c
       broken rule (repeated attribute means c) =
-          let e : Entry Tok Tok = record { name = name.tok; attribute = attribute } in
-          (h.repeated e (means_by w kind e is refl means)).carries rule c
+          let e : Entry Tok Tok = bare_entry name.tok attribute in
+          (h.repeated e (means_by w kind e is refl refl means)).carries rule c
 
       go : (m : Made Tok (Entry Tok Tok)) → made ≡ m → ReachesSome conditions Hit (read_made m s >>= λ e. Ok (keep_both w e.0, e.1))
           (IsAt (IsReading (token_sight conditions) w) s) [] rules
       go (Ok e) eq =
           let m = entry_made (token_sight conditions) (entries_in before) name.tok kind (by_position all) (by_key all) e eq in
-          read_now conditions Hit (keep_both w e, s) (record { written_is = refl; means = means_by w kind e is m.name_is m.meant }, refl) refl
+          read_now conditions Hit (keep_both w e, s) (record { written_is = refl; means = means_by w kind e is m.name_is m.comment_is m.meant }, refl) refl
       go (Err rule) eq =
           breaks_one conditions Hit rule (broken rule (entry_refused (token_sight conditions) (entries_in before) name.tok kind (by_position all) (by_key all)
           rule (have_texts all texts) eq)) refl
@@ -318,9 +321,9 @@ module _ (conditions : Conditions) (Hit : Option SignificantToken → Type 0) wh
 
   named_reached : (before : List ReadAttribute) (ns : List (Noted Tok)) (name : SignificantToken) (all : List (Argument Tok Tok)) {fs : List (Noted Tok)}
       {ts rest : Tokens} {rules : List (Broken Tok)} → IsKind kinds.Identifier name
-      → AttributeOf itself itself Open (record { name = name.tok; arguments = all }) fs (name ∷ ts) rest
-      → CoversOne before (record { name = name.tok; arguments = all }) rules
-      → AttributeReached before ns (record { name = name.tok; arguments = all }) fs (name ∷ ts) rest rules
+      → AttributeOf itself itself Open (bare_attribute name.tok all) fs (name ∷ ts) rest
+      → CoversOne before (bare_attribute name.tok all) rules
+      → AttributeReached before ns (bare_attribute name.tok all) fs (name ∷ ts) rest rules
   unfolding r.attribute
   named_reached before ns name all {fs = fs} {ts = ts} {rest = rest} {rules = rules} kind h covers =
       rw (expect_taken kinds.Identifier name ts conditions 0 ns kind)
@@ -330,7 +333,7 @@ module _ (conditions : Conditions) (Hit : Option SignificantToken → Type 0) wh
       s = input conditions 0 ts ns
 
       w : WrittenAttribute Tok Tok
-      w = record { name = name.tok; arguments = all }
+      w = bare_attribute name.tok all
 
       after : AttributeKind × State → Read ReadAttribute
       after k = reader.arguments name (takes_keys k.0) k.1 >>= λ x. reader.made before name k.0 x.0 x.1
@@ -410,15 +413,17 @@ module _ (conditions : Conditions) (Hit : Option SignificantToken → Type 0) wh
   -- ---- lines of attributes
 
   -- the end of a line is read
-  record EndRead (ts rest : Tokens) (ns : List (Noted Tok)) : Type 0 where
-    newline : SignificantToken
-    is : reader.attributes_end (input conditions 0 ts ns) ≡ Ok (newline, input conditions 0 rest ns)
+  record EndRead (comment : Option (List ℕ)) (ts rest : Tokens) (ns : List (Noted Tok)) : Type 0 where
+    token : Option SignificantToken
+    says : option_map (comment_in token_leaves) token ≡ comment
+    is : reader.attributes_end (input conditions 0 ts ns) ≡ Ok (token, input conditions 0 rest ns)
 
-  line_end_read : (ns : List (Noted Tok)) {comment : Option (List ℕ)} {ts rest : Tokens} → AttributesEnd itself itself Open comment ts rest → EndRead ts rest ns
-  unfolding r.attributes_end
+  line_end_read : (ns : List (Noted Tok)) {comment : Option (List ℕ)} {ts rest : Tokens} → AttributesEnd itself itself Open comment ts rest → EndRead comment ts rest ns
+  unfolding r.attributes_end r.line_end_after
   line_end_read ns {rest = rest} (g.bare {newline = newline} kind) =
       record {
-        newline = newline;
+        token = None;
+        says = refl;
         is = rw (
           accept_left kinds.Comment (newline ∷ rest) conditions 0 ns (λ e. cc),
           expect_taken kinds.Eol newline rest conditions
@@ -427,13 +432,34 @@ module _ (conditions : Conditions) (Hit : Option SignificantToken → Type 0) wh
       }
   line_end_read ns {rest = rest} (g.commented {comment = comment} {newline = newline} kind kind2) =
       record {
-        newline = newline;
+        token = Some comment;
+        says = refl;
         is = rw (
           accept_taken kinds.Comment comment (newline ∷ rest) conditions 0 ns kind,
           expect_taken kinds.Eol newline rest
               conditions 0 ns kind2,
         ) refl;
       }
+
+  -- a line after its comment
+  some_read : {ws : List (WrittenAttribute Tok Tok)} {xs : List ReadAttribute} → NotEmpty ws → AreReadings (token_sight conditions) ws xs → NotEmpty xs
+  some_read some none = some
+  some_read some (more is h) = tt
+
+  reads_commented : (comment : Option (List ℕ)) (before : List ReadAttribute) (ws : List (WrittenAttribute Tok Tok)) (x : List ReadAttribute) → NotEmpty ws
+      → ReadsOn before ws x → ReadsOn before (commented_line comment ws) (commented commented_both comment x)
+  reads_commented comment before ws x some h = record {
+    others = commented commented_both comment h.others;
+    all_are = ap (commented commented_both comment) h.all_are ∙ commented_after commented_both comment before h.others (some_read some h.readings);
+    readings = readings_commented (token_sight conditions) comment h.readings;
+  }
+
+  covers_uncommented : (comment : Option (List ℕ)) (before : List (Entry Tok Tok)) (ws : List (WrittenAttribute Tok Tok)) {rules : List (Broken Tok)}
+      → CoversAll (token_sight conditions) before (commented_line comment ws) rules → CoversAll (token_sight conditions) before ws rules
+  covers_uncommented comment before ws {rules = rules} h = record {
+    each = subst (λ l. Among l rules) (commented_broken (token_sight conditions) comment ws) h.each;
+    repeats = subst (λ l. Among l rules) (commented_repeats (token_sight conditions) comment before ws) h.repeats;
+  }
 
   reads_lines : (before : List ReadAttribute) (ws vs : List (WrittenAttribute Tok Tok)) (x : List ReadAttribute) → ReadsOn before ws x
       → (all : List ReadAttribute) → ReadsOn x vs all → ReadsOn before (ws ++ vs) all
@@ -463,16 +489,24 @@ module _ (conditions : Conditions) (Hit : Option SignificantToken → Type 0) wh
         λ i. input
             conditions 0 ts (sym (append-nil ns) i),
       ) refl))
-  lines_reached before ns {ts = ts} {rest = rest} (g.line {ws = ws} {others = vs} {fs = fs} {gs = gs} {opener = opener} {tokens = tokens} {end = end}
-      {next = next} kind b e k) covers =
-      let closed : EndRead end next (ns ++ fs) = line_end_read (ns ++ fs) e in
+  lines_reached before ns {ts = ts} {rest = rest} (g.line {ws = ws} {others = vs} {fs = fs} {gs = gs} {comment = comment} {opener = opener}
+      {tokens = tokens} {end = end} {next = next} kind b e k) covers =
+      let closed : EndRead comment end next (ns ++ fs) = line_end_read (ns ++ fs) e in
+      let us : List (WrittenAttribute Tok Tok) = commented_line comment ws in
+      let literals : written_literals ws ++ written_literals vs ≡ written_literals (us ++ vs) =
+      ap (λ l. l ++ written_literals vs) (sym (commented_literals comment ws))
+      ∙ sym (flat_map-append (λ (w : WrittenAttribute Tok Tok). flat_map argument_literals w.arguments) us vs) in
       by conditions Hit (reader.attribute_lines_from_is (before, input conditions 0 ts ns))
       (rw (accept_taken kinds.BracketL opener tokens conditions 0 ns kind)
-      (regrouped conditions Hit (sym (flat_map-append (λ (w : WrittenAttribute Tok Tok). flat_map argument_literals w.arguments) ws vs))
-      (then_at conditions Hit _ _ (bracketed_reached before ns b (covers_line (token_sight conditions) (entries_in before) ws vs covers)) (λ x is.
-      rw closed.is
-      (read_as conditions Hit (ReadsOn before (ws ++ vs)) (reads_lines before ws vs x is) (λ i. input conditions 0 rest (append_assoc ns fs gs i))
-      (lines_reached x (ns ++ fs) k (covers_other_lines before ws vs x is covers)))))))
+      (regrouped conditions Hit literals
+      (then_at conditions Hit _ _
+      (bracketed_reached before ns b (covers_uncommented comment (entries_in before) ws (covers_line (token_sight conditions) (entries_in before) us vs covers)))
+      (λ x is.
+      let all : List ReadAttribute = commented commented_both comment x in
+      let read : ReadsOn before us all = reads_commented comment before ws x (some_bracketed itself itself Open b) is in
+      rw (closed.is, closed.says)
+      (read_as conditions Hit (ReadsOn before (us ++ vs)) (reads_lines before us vs all read) (λ i. input conditions 0 rest (append_assoc ns fs gs i))
+      (lines_reached all (ns ++ fs) k (covers_other_lines before us vs all read covers)))))))
 
   whole_covered : (ws : List (WrittenAttribute Tok Tok)) → CoversAll (token_sight conditions) [] ws (attributes_broken (token_sight conditions) ws)
   whole_covered ws =

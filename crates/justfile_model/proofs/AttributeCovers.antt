@@ -9,14 +9,15 @@ use Rattle.justfile_model.specs.Expressions as g
 use Rattle.justfile_model.specs.Expressions.{Tokens, NotNext}
 use Rattle.justfile_model.specs.Features.{Noted}
 use Rattle.justfile_model.specs.Meaning.{KeyArgument, all_of, at_key, by_key, entry_of}
-use Rattle.justfile_model.specs.ReadAttribute.{ReadAttribute, entry_read}
+use Rattle.justfile_model.specs.ReadAttribute.{ReadAttribute, commented_both, entry_read}
 use Rattle.justfile_model.specs.Rules.{AttributePositionalFollowsKeyword, Broken, DuplicateAttributeKey}
 use Rattle.justfile_model.specs.Sight.{Sight}
 use Rattle.justfile_model.specs.SignificantTokens.{SignificantToken}
 use Rattle.justfile_model.specs.Tok.{Tok}
 use Rattle.justfile_model.specs.Tree as tree
-use Rattle.justfile_model.specs.Tree.{Argument, Entry, Expr, WrittenAttribute}
+use Rattle.justfile_model.specs.Tree.{Argument, Entry, Expr, WrittenAttribute, at_last, commented, commented_attribute, commented_line}
 use Rattle.justfile_model.proofs.AttributeSteps.{key_last}
+use Rattle.justfile_model.proofs.Commented.{means_commented}
 use Rattle.justfile_model.proofs.ReachingRules.{Among, among_first, among_others}
 use Rattle.justfile_model.proofs.TokenAttributes as reader
 
@@ -140,6 +141,21 @@ module _ (sight : Sight Tok Tok) where
       → AreReadings (ws ++ vs) (xs ++ ys)
   readings_append none k = k
   readings_append (more is h) k = more is (readings_append h k)
+
+  reading_commented : (c : List ℕ) {w : WrittenAttribute Tok Tok} {x : ReadAttribute} → IsReading w x → IsReading (commented_attribute c w) (commented_both c x)
+  reading_commented c {w} {x} h = record { written_is = ap (commented_attribute c) h.written_is; means = means_commented sight c w x.entry h.means }
+
+  last_commented : (c : List ℕ) {ws : List (WrittenAttribute Tok Tok)} {xs : List ReadAttribute} → AreReadings ws xs
+      → AreReadings (at_last (commented_attribute c) ws) (at_last (commented_both c) xs)
+  last_commented c none = none
+  last_commented c (more is none) = more (reading_commented c is) none
+  last_commented c (more is (more is2 h)) = more is (last_commented c (more is2 h))
+
+  -- with a comment at the last one
+  pub readings_commented : (comment : Option (List ℕ)) {ws : List (WrittenAttribute Tok Tok)} {xs : List ReadAttribute} → AreReadings ws xs
+      → AreReadings (commented_line comment ws) (commented commented_both comment xs)
+  readings_commented None h = h
+  readings_commented (Some c) h = last_commented c h
 
   -- as they are written
   pub readings_written : {ws : List (WrittenAttribute Tok Tok)} {xs : List ReadAttribute} → AreReadings ws xs → map (λ (x : ReadAttribute). x.written) xs ≡ ws

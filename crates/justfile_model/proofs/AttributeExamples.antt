@@ -8,7 +8,7 @@ use Rattle.justfile_word.specs.Signal.{signal_named}
 use Rattle.justfile_model.specs.AttributeKinds.{same_attribute}
 use Rattle.justfile_model.specs.Sight.{Sight, sees_lexemes}
 use Rattle.justfile_model.specs.Tree as tree
-use Rattle.justfile_model.specs.Tree.{Argument, WrittenAttribute, Expr, Entry}
+use Rattle.justfile_model.specs.Tree.{Argument, WrittenAttribute, Expr, Entry, bare_attribute, commented_attribute}
 
 abbrev unasked : Expansions
 unasked text = None
@@ -17,13 +17,13 @@ abbrev sees : Sight (List ℕ) (Unit {0})
 sees = sees_lexemes unasked
 
 abbrev plain : List ℕ → WrittenAttribute (List ℕ) (Unit {0})
-plain name = record { name = name; arguments = [] }
+plain name = bare_attribute name []
 
 abbrev string : List ℕ → Expr (List ℕ) (Unit {0})
 string lexeme = tree.StringLiteral false lexeme
 
 abbrev given : List ℕ → List (Argument (List ℕ) (Unit {0})) → WrittenAttribute (List ℕ) (Unit {0})
-given name arguments = record { name = name; arguments = arguments }
+given name arguments = bare_attribute name arguments
 
 abbrev at : Expr (List ℕ) (Unit {0}) → Argument (List ℕ) (Unit {0})
 at value = tree.Positional tt value
@@ -52,3 +52,9 @@ cached : printed (entries_of sees (given (codes "env") (at (string (codes "'k'")
     ≡ codes "[cache(inputs=i, outputs=o)]\n[env('k', v)]\n[metadata('m', 'n')]\n"
 unfolding kind_named fixed_text signal_named same_attribute
 cached = refl
+
+-- each keeps its own comment
+with_comments : printed (entries_of sees (commented_attribute (codes "# b") (plain (codes "private")) ∷ commented_attribute (codes "# a") (plain (codes "linux")) ∷ []))
+    ≡ codes "[linux] # a\n[private] # b\n"
+unfolding kind_named fixed_text signal_named same_attribute
+with_comments = refl

@@ -1,5 +1,5 @@
 -- The reader of attribute lines, one rule at a time: what it reads leaves fewer tokens, in the same run and at the same depth.
-use Rattle.std.proofs.Common.{◌≡◌, ◌<◌, Bool, true, false, ◌&&◌, List, [], ◌∷◌, ◌++◌, length, map, Option, Some, None, Ok, Err, refl, ◌∙◌}
+use Rattle.std.proofs.Common.{◌≡◌, ◌<◌, ℕ, Bool, true, false, ◌&&◌, List, [], ◌∷◌, ◌++◌, length, map, Option, Some, None, Ok, Err, refl, ◌∙◌}
 use Rattle.justfile_word.specs.AttributeKind.{kind_named, takes_keys}
 use Rattle.justfile_word.specs.declared.attribute_kind.AttributeKind.{AttributeKind}
 use Rattle.justfile_word.specs.declared.token_kind.TokenKind.TheVariants as kinds
@@ -10,14 +10,14 @@ use Rattle.justfile_model.specs.ExpressionReader as expressions
 use Rattle.justfile_model.specs.Expressions.{front}
 use Rattle.justfile_model.specs.Meaning.{by_key, by_position}
 use Rattle.justfile_model.specs.NewAttribute.{Made, new_entry}
-use Rattle.justfile_model.specs.Reading.{Leaves, Read, State, Taken, accept, choose, expect}
+use Rattle.justfile_model.specs.Reading.{Leaves, Read, State, accept, expect}
 use Rattle.justfile_model.specs.Recursive.{below}
 use Rattle.justfile_model.specs.Rules.{UnknownAttribute}
 use Rattle.justfile_model.specs.Sight.{Sight}
 use Rattle.justfile_model.specs.Tree as tree
 use Rattle.justfile_model.specs.Tree.{Argument, Entry, Expr, WrittenAttribute}
 use Rattle.justfile_model.proofs.ExpressionReading.{advances}
-use Rattle.justfile_model.proofs.ReadingSteps.{ItemRest, Goes, Keeps, Past, accepts, after_test, after_then, bind_alike, choose_alike, either, either_goes, expects, first, goes_after, keeps, past, past_then, then, there, weaken}
+use Rattle.justfile_model.proofs.ReadingSteps.{Goes, Keeps, accepts, after_test, after_then, bind_alike, choose_alike, either, either_goes, expects, first, keeps, past, past_then, then, there, weaken}
 use Rattle.justfile_model.proofs.Turns.{below_smaller, recursive_is, recursive_keeps}
 
 module _ {R T A B S W : Type 0} (leaves : Leaves R T A B S) (sight : R → Sight A B) (keep : WrittenAttribute A B → Entry A B → W) (entry_in : W → Entry A B)
@@ -236,61 +236,63 @@ module _ {R T A B S W : Type 0} (leaves : Leaves R T A B S) (sight : R → Sight
 
     -- ---- lines of attributes
 
-    comment_kept : (s : State R T B) (o : Taken R T B) → ((p : T × State R T B) → o ≡ Some p → Past s p.1) → ItemRest s (choose o s (λ comment. comment.1))
-    comment_kept s None h = there s
-    comment_kept s (Some p) h = weaken s p.1 (h p refl)
+    line_end_goes : (comment : Option T) (s : State R T B) → Goes s (r.line_end_after leaves sight keep entry_in comment s)
+    unfolding r.line_end_after
+    line_end_goes comment s = first s (expect leaves kinds.Eol s) _ (expects leaves kinds.Eol s) (λ newline. there newline.1)
 
     pub attributes_end_goes : (s : State R T B) → Goes s (r.attributes_end leaves sight keep entry_in s)
     unfolding r.attributes_end
     attributes_end_goes s =
-        let rest : State R T B = choose (accept leaves kinds.Comment s) s (λ comment. comment.1) in
-        goes_after s rest _ (comment_kept s (accept leaves kinds.Comment s) (accepts leaves kinds.Comment s)) (expects leaves kinds.Eol rest)
+        either_goes s (accept leaves kinds.Comment s) _ _ (accepts leaves kinds.Comment s) (line_end_goes None s)
+        (λ comment. keeps comment.1 _ (line_end_goes (Some comment.0) comment.1))
 
-    lines_rule_keeps : (f : AttributePlace → ReadAttributes) → ((x : AttributePlace) → Keeps x.1 (f x)) → (x : AttributePlace)
-        → Keeps x.1 (r.attribute_lines_rule leaves sight keep entry_in f x)
-    lines_rule_keeps f h x =
-        either x.1 (accept leaves kinds.BracketL x.1) _ _ (accepts leaves kinds.BracketL x.1) (there x.1) (λ opener.
-        then opener.1 (r.bracketed leaves sight keep entry_in (x.0, opener.1)) _ (keeps opener.1 _ (bracketed_goes (x.0, opener.1))) (λ ws.
-        then ws.1 (r.attributes_end leaves sight keep entry_in ws.1) _ (keeps ws.1 _ (attributes_end_goes ws.1)) (λ end. h (ws.0, end.1))))
+    -- `put` is how a comment is put to what is kept
+    module _ (put : List ℕ → W → W) where
+      lines_rule_keeps : (f : AttributePlace → ReadAttributes) → ((x : AttributePlace) → Keeps x.1 (f x)) → (x : AttributePlace)
+          → Keeps x.1 (r.attribute_lines_rule leaves sight keep entry_in put f x)
+      lines_rule_keeps f h x =
+          either x.1 (accept leaves kinds.BracketL x.1) _ _ (accepts leaves kinds.BracketL x.1) (there x.1) (λ opener.
+          then opener.1 (r.bracketed leaves sight keep entry_in (x.0, opener.1)) _ (keeps opener.1 _ (bracketed_goes (x.0, opener.1))) (λ ws.
+          then ws.1 (r.attributes_end leaves sight keep entry_in ws.1) _ (keeps ws.1 _ (attributes_end_goes ws.1)) (λ end. h (r.commented_by leaves sight keep entry_in put end.0 ws.0, end.1))))
 
-    pub attribute_lines_from_keep : (x : AttributePlace) → Keeps x.1 (r.attribute_lines_from leaves sight keep entry_in x)
-    unfolding r.attribute_lines_from
-    attribute_lines_from_keep =
-        recursive_keeps (λ (x : AttributePlace). length x.1.left) (r.no_attributes leaves sight keep entry_in)
-        (r.attribute_lines_rule leaves sight keep entry_in)
-        (λ x found. Keeps x.1 found) (λ x. tt) lines_rule_keeps
+      pub attribute_lines_from_keep : (x : AttributePlace) → Keeps x.1 (r.attribute_lines_from leaves sight keep entry_in put x)
+      unfolding r.attribute_lines_from
+      attribute_lines_from_keep =
+          recursive_keeps (λ (x : AttributePlace). length x.1.left) (r.no_attributes leaves sight keep entry_in)
+          (r.attribute_lines_rule leaves sight keep entry_in put)
+          (λ x found. Keeps x.1 found) (λ x. tt) lines_rule_keeps
 
-    -- no attribute may stand before a construct, and then nothing is taken
-    pub attribute_lines_keep : (s : State R T B) → Keeps s (r.attribute_lines leaves sight keep entry_in s)
-    unfolding r.attribute_lines
-    attribute_lines_keep s = attribute_lines_from_keep ([], s)
+      -- no attribute may stand before a construct, and then nothing is taken
+      pub attribute_lines_keep : (s : State R T B) → Keeps s (r.attribute_lines leaves sight keep entry_in put s)
+      unfolding r.attribute_lines
+      attribute_lines_keep s = attribute_lines_from_keep ([], s)
 
-    inside_lines : AttributePlace → AttributePlace → ReadAttributes
-    inside_lines x =
-        below (λ (x : AttributePlace). length x.1.left) (r.no_attributes leaves sight keep entry_in) (r.attribute_lines_rule leaves sight keep entry_in) x
-        (r.attribute_lines_from leaves sight keep entry_in)
+      inside_lines : AttributePlace → AttributePlace → ReadAttributes
+      inside_lines x =
+          below (λ (x : AttributePlace). length x.1.left) (r.no_attributes leaves sight keep entry_in) (r.attribute_lines_rule leaves sight keep entry_in put) x
+          (r.attribute_lines_from leaves sight keep entry_in put)
 
-    lines_unfolded : (x : AttributePlace) → r.attribute_lines_from leaves sight keep entry_in x ≡ r.attribute_lines_rule leaves sight keep
-        entry_in (inside_lines x) x
-    unfolding r.attribute_lines_from inside_lines
-    lines_unfolded x =
-        recursive_is (λ (x : AttributePlace). length x.1.left) (r.no_attributes leaves sight keep entry_in) (r.attribute_lines_rule leaves sight keep entry_in)
-        x
+      lines_unfolded : (x : AttributePlace) → r.attribute_lines_from leaves sight keep entry_in put x ≡ r.attribute_lines_rule leaves sight keep
+          entry_in put (inside_lines x) x
+      unfolding r.attribute_lines_from inside_lines
+      lines_unfolded x =
+          recursive_is (λ (x : AttributePlace). length x.1.left) (r.no_attributes leaves sight keep entry_in) (r.attribute_lines_rule leaves sight keep entry_in put)
+          x
 
-    inside_lines_is : (x y : AttributePlace) → length y.1.left < length x.1.left → inside_lines x y ≡ r.attribute_lines_from leaves sight keep entry_in y
-    unfolding inside_lines
-    inside_lines_is x y h =
-        below_smaller (λ (x : AttributePlace). length x.1.left) (r.no_attributes leaves sight keep entry_in) (r.attribute_lines_rule leaves sight keep entry_in)
-        x
-        (r.attribute_lines_from leaves sight keep entry_in) y h
+      inside_lines_is : (x y : AttributePlace) → length y.1.left < length x.1.left → inside_lines x y ≡ r.attribute_lines_from leaves sight keep entry_in put y
+      unfolding inside_lines
+      inside_lines_is x y h =
+          below_smaller (λ (x : AttributePlace). length x.1.left) (r.no_attributes leaves sight keep entry_in) (r.attribute_lines_rule leaves sight keep entry_in put)
+          x
+          (r.attribute_lines_from leaves sight keep entry_in put) y h
 
-    pub attribute_lines_from_is : (x : AttributePlace)
-        → r.attribute_lines_from leaves sight keep entry_in x ≡ r.attribute_lines_rule leaves sight keep
-        entry_in (r.attribute_lines_from leaves sight keep entry_in) x
-    attribute_lines_from_is x =
-        lines_unfolded x ∙ choose_alike (accept leaves kinds.BracketL x.1) _ _ _ _ (λ _. refl)
-        (λ opener taken. bind_alike (r.bracketed leaves sight keep entry_in (x.0, opener.1)) _ _ (λ ws is.
-        bind_alike (r.attributes_end leaves sight keep entry_in ws.1) _ _ (λ end is2. inside_lines_is x (ws.0, end.1)
-        (past_then x.1 opener.1 end.1 (accepts leaves kinds.BracketL x.1 opener taken)
-        (after_then opener.1 ws.1 end.1 (weaken opener.1 ws.1 (past opener.1 _ ws (bracketed_goes (x.0, opener.1)) is))
-        (weaken ws.1 end.1 (past ws.1 _ end (attributes_end_goes ws.1) is2)))).0)))
+      pub attribute_lines_from_is : (x : AttributePlace)
+          → r.attribute_lines_from leaves sight keep entry_in put x ≡ r.attribute_lines_rule leaves sight keep
+          entry_in put (r.attribute_lines_from leaves sight keep entry_in put) x
+      attribute_lines_from_is x =
+          lines_unfolded x ∙ choose_alike (accept leaves kinds.BracketL x.1) _ _ _ _ (λ _. refl)
+          (λ opener taken. bind_alike (r.bracketed leaves sight keep entry_in (x.0, opener.1)) _ _ (λ ws is.
+          bind_alike (r.attributes_end leaves sight keep entry_in ws.1) _ _ (λ end is2. inside_lines_is x (r.commented_by leaves sight keep entry_in put end.0 ws.0, end.1)
+          (past_then x.1 opener.1 end.1 (accepts leaves kinds.BracketL x.1 opener taken)
+          (after_then opener.1 ws.1 end.1 (weaken opener.1 ws.1 (past opener.1 _ ws (bracketed_goes (x.0, opener.1)) is))
+          (weaken ws.1 end.1 (past ws.1 _ end (attributes_end_goes ws.1) is2)))).0)))

@@ -2,6 +2,7 @@
 -- attribute that is read has the meaning that was made of it.
 use Rattle.std.proofs.Common.{◌≡◌, ℕ, Bool, true, false, List, [], ◌∷◌, ◌++◌, length, map, Option, Some, None, Ok, Err, IfOk, refl, sym, subst, subst₂, ap, ◌∙◌, append_assoc, append-nil}
 use Rattle.std.specs.List.{flat_map}
+use Rattle.std.specs.Option.{option_map}
 use Rattle.std.specs.Str.{trim_end}
 use Rattle.std.proofs.lemmas.Grind.{flat_map-append}
 use Rattle.std.proofs.lemmas.List.{map-append}
@@ -17,17 +18,19 @@ use Rattle.justfile_model.specs.AttributeRules.{arguments_broken, attribute_brok
 use Rattle.justfile_model.specs.Conditions.{Conditions}
 use Rattle.justfile_model.specs.Expressions.{Tokens, IsKind, NotNext, Under, front}
 use Rattle.justfile_model.specs.Features.{Noted}
+use Rattle.justfile_model.specs.Grammar.{NotEmpty}
 use Rattle.justfile_model.specs.Files.{argument_literals, expr_literals, optional_literals, written_literals}
 use Rattle.justfile_model.specs.Meaning.{KeyArgument, all_of, attribute_of, by_key, by_position, entry_of}
 use Rattle.justfile_model.specs.NewAttribute.{Made, new_entry}
-use Rattle.justfile_model.specs.ReadAttribute.{ReadAttribute, entry_read, token_sight}
-use Rattle.justfile_model.specs.Reading.{◌>>=◌, at, expect}
+use Rattle.justfile_model.specs.ReadAttribute.{ReadAttribute, commented_both, entry_read, token_sight}
+use Rattle.justfile_model.specs.Reading.{◌>>=◌, at, comment_in}
 use Rattle.justfile_model.specs.SignificantTokens.{SignificantToken}
 use Rattle.justfile_model.specs.Tok.{Tok}
 use Rattle.justfile_model.specs.Tree as tree
-use Rattle.justfile_model.specs.Tree.{Argument, Entry, Expr, WrittenAttribute, itself}
+use Rattle.justfile_model.specs.Tree.{Argument, Entry, Expr, WrittenAttribute, bare_attribute, commented, commented_attribute, commented_entry, commented_line, itself}
 use Rattle.justfile_model.specs.TreeReader.{Read, Refusal, State, token_leaves, read_attributes}
-use Rattle.justfile_model.proofs.AttributeSteps.{AllMade, Follow, Follows, IsNew, key_is_next, key_taken, keys_append, none, more, none_broken, made_append, made_mean, none_follow, one_follows}
+use Rattle.justfile_model.proofs.AttributeSteps.{AllMade, Follow, Follows, IsNew, key_is_next, key_taken, keys_append, none, more, none_broken, made_append, made_commented, made_mean, none_follow, one_follows}
+use Rattle.justfile_model.proofs.Commented.{commented_after, commented_literals, commented_map, some_bracketed}
 use Rattle.justfile_model.proofs.CookedTexts.{AllCook}
 use Rattle.justfile_model.proofs.ExpressionSound as e
 use Rattle.justfile_model.proofs.ExpressionSound.{Derived, Here, expression_derives}
@@ -300,7 +303,7 @@ module _ (conditions : Conditions) where
   -- ---- what follows the name of an attribute
 
   abbrev written_at : SignificantToken → List (Argument Tok Tok) → WrittenAttribute Tok Tok
-  written_at name all = record { name = name.tok; arguments = all }
+  written_at name all = bare_attribute name.tok all
 
   -- an attribute from its name on
   abbrev Named : SignificantToken → List (Argument Tok Tok) → List (Noted Tok) → Tokens → Tokens → Type 0
@@ -360,13 +363,6 @@ module _ (conditions : Conditions) where
             (none_follow (token_sight conditions) name.tok (by_key (a.0 ∷ [])));
       }))
 
--- the token that is expected
-expected : (s : State) (P : Read SignificantToken → Type 0) → ((e : Refusal) → P (Err e))
-    → ((t : SignificantToken) (rest : Tokens) → s.left ≡ t ∷ rest → IsKind kinds.Eol t → P (Ok (t, at s rest)))
-    → P (expect token_leaves kinds.Eol s)
-unfolding expect
-expected s P fails goes = after_choose kinds.Eol s _ _ P (λ _. fails _) goes
-
 module _ (conditions : Conditions) where
   -- ---- an attribute after others
 
@@ -393,10 +389,11 @@ module _ (conditions : Conditions) where
   after_made (Ok e) s f P fails goes = goes e refl
   after_made (Err rule) s f P fails goes = fails _
 
-  named_means : (w : WrittenAttribute Tok Tok) (kind : AttributeKind) (e : Entry Tok Tok) → kind_named w.name.lexeme ≡ Some kind → e.name ≡ w.name
+  named_means : (w : WrittenAttribute Tok Tok) (kind : AttributeKind) (e : Entry Tok Tok) → kind_named w.name.lexeme ≡ Some kind → e.name ≡ w.name → e.comment ≡ w.comment
       → attribute_of (token_sight conditions) kind (by_position w.arguments) (by_key w.arguments) ≡ Some e.attribute
       → entry_of (token_sight conditions) w ≡ Some e
-  named_means w kind e is named means = rw (is, means) (ap (λ (name : Tok). Some (record { name = name; attribute = e.attribute })) (sym named))
+  named_means w kind e is named comment_is means =
+      rw (is, means) (λ i. Some (record { name = sym named i; attribute = e.attribute; comment = sym comment_is i }))
 
   named_unbroken : (w : WrittenAttribute Tok Tok) (kind : AttributeKind) → kind_named w.name.lexeme ≡ Some kind
       → Follow (token_sight conditions) w.name [] w.arguments
@@ -425,7 +422,7 @@ module _ (conditions : Conditions) where
           met = subst (λ ns. Met conditions.expander found.features (flat_map argument_literals x.0) ns x.1.noted) (sym same) found.met;
           stays = found.stays;
         };
-        means = named_means w kind e is m.name_is m.meant;
+        means = named_means w kind e is m.name_is m.comment_is m.meant;
         unbroken = named_unbroken w kind is h.follow m.unbroken;
         distinct = m.distinct;
       })
@@ -528,65 +525,81 @@ module _ (conditions : Conditions) where
       recursive_keeps (λ (x : reader.AttributePlace). length x.1.left) (reader.no_attributes) (reader.bracketed_rule)
       (AllAttributes (Bracketed conditions)) (λ x here. tt) bracket_keeps
 
-  -- what ends a line of attributes, and is dropped
-  record Ended (s : State) (x : SignificantToken × State) : Type 0 where
-    comment : Option (List ℕ)
-    ends : AttributesEnd conditions comment s.left x.1.left
+  -- what ends a line of attributes
+  record Ended (s : State) (x : Option SignificantToken × State) : Type 0 where
+    ends : AttributesEnd conditions (option_map (comment_in token_leaves) x.0) s.left x.1.left
     noted_is : x.1.noted ≡ s.noted
     stays : Here conditions 0 x.1
 
   end_sound : (s : State) → Here conditions 0 s → IfOk (reader.attributes_end s) (Ended s)
-  unfolding r.attributes_end
+  unfolding r.attributes_end r.line_end_after
   end_sound s here =
-      let P : Read SignificantToken → Type 0 = λ o. IfOk o (Ended s) in
-      after_choose kinds.Comment s s (λ comment. comment.1) (λ t. P (expect token_leaves kinds.Eol t))
-      (λ _. expected s P (λ e. tt) (λ newline rest split kind.
-      record { comment = None; ends = subst (λ ts. AttributesEnd conditions None ts rest) (sym split) (g.bare kind); noted_is = refl; stays = here }))
-      (λ c t1 split kind. expected (at s t1) P (λ e. tt) (λ newline rest split2 kind2.
+      let P : Read (Option SignificantToken) → Type 0 = λ o. IfOk o (Ended s) in
+      after_choose kinds.Comment s _ _ P
+      (λ _. after_expect kinds.Eol s _ P (λ e. tt) (λ newline rest split kind.
+      record { ends = subst (λ ts. AttributesEnd conditions None ts rest) (sym split) (g.bare kind); noted_is = refl; stays = here }))
+      (λ c t1 split kind. after_expect kinds.Eol (at s t1) _ P (λ e. tt) (λ newline rest split2 kind2.
       let R : Tokens → Type 0 = λ ts. AttributesEnd conditions (Some (trim_end c.tok.lexeme)) ts rest in
       record {
-        comment = Some (trim_end c.tok.lexeme);
         ends = subst R (sym split) (subst (λ (ts : Tokens). R (c ∷ ts)) (sym split2) (g.commented kind kind2));
         noted_is = refl;
         stays = here;
       }))
 
-  ended_at : (s : State) (x : SignificantToken × State) → reader.attributes_end s ≡ Ok x → Here conditions 0 s → Ended s x
+  ended_at : (s : State) (x : Option SignificantToken × State) → reader.attributes_end s ≡ Ok x → Here conditions 0 s → Ended s x
   ended_at s x is here = known x (Ended s) is (end_sound s here)
+
+  some_written : (xs : List ReadAttribute) → NotEmpty (written_in xs) → NotEmpty xs
+  some_written [] some = some
+  some_written (x ∷ xs) some = tt
 
   written_append : (xs ys : List ReadAttribute) → written_in (xs ++ ys) ≡ written_in xs ++ written_in ys
   written_append xs ys = map-append (λ (x : ReadAttribute). x.written) xs ys
 
   -- the attributes of a line, and those of the lines after it
-  more_lines : (x : reader.AttributePlace) (opener : SignificantToken) (t1 : Tokens) (ws : reader.AttributePlace) (end : SignificantToken × State)
+  more_lines : (x : reader.AttributePlace) (opener : SignificantToken) (t1 : Tokens) (ws : reader.AttributePlace) (end : Option SignificantToken × State)
       → x.1.left ≡ opener ∷ t1 → IsKind kinds.BracketL opener
       → AreAttributes (Bracketed conditions) (x.0, at x.1 t1) ws → Ended ws.1 end → (y : reader.AttributePlace)
-      → AreAttributes (AttributeLines conditions) (ws.0, end.1) y → AreAttributes (AttributeLines conditions) x y
+      → AreAttributes (AttributeLines conditions) (reader.commented_by end.0 ws.0, end.1) y → AreAttributes (AttributeLines conditions) x y
   more_lines x opener t1 ws end split kind h ended y k =
       let first : Derived conditions (Bracketed conditions (written_in h.others)) (written_literals (written_in h.others)) 0 (at x.1 t1) ws.1 = h.derived in
       let later : Derived conditions (AttributeLines conditions (written_in k.others)) (written_literals (written_in k.others)) 0 end.1 y.1 = k.derived in
-      let all : List ReadAttribute = h.others ++ k.others in
+      let comment : Option (List ℕ) = option_map (comment_in token_leaves) end.0 in
+      let line : List ReadAttribute = commented commented_both comment h.others in
+      let all : List ReadAttribute = line ++ k.others in
       let fs : List (Noted Tok) = first.features ++ later.features in
-      let same : written_in h.others ++ written_in k.others ≡ written_in all = sym (written_append h.others k.others) in
-      let lines : AttributeLines conditions (written_in h.others ++ written_in k.others) fs (opener ∷ t1) y.1.left = g.line kind first.derives ended.ends
-      later.derives in
-      let met : Met conditions.expander fs (written_literals (written_in h.others) ++ written_literals (written_in k.others)) x.1.noted y.1.noted =
-      both_met first.met (subst (λ ns. Met conditions.expander later.features (written_literals (written_in k.others)) ns y.1.noted) ended.noted_is later.met)
+      let some : NotEmpty h.others = some_written h.others (some_bracketed itself itself (Under conditions.limit) first.derives) in
+      let line_is : commented commented_both comment ws.0 ≡ x.0 ++ line =
+      ap (commented commented_both comment) h.all_are ∙ commented_after commented_both comment x.0 h.others some in
+      let written_is : commented_line comment (written_in h.others) ≡ written_in line =
+      sym (commented_map (λ (x : ReadAttribute). x.written) commented_both commented_attribute (λ c x. refl) comment h.others) in
+      let entries_are : commented commented_entry comment (entries_in h.others) ≡ entries_in line =
+      sym (commented_map entry_read commented_both commented_entry (λ c x. refl) comment h.others) in
+      let same : commented_line comment (written_in h.others) ++ written_in k.others ≡ written_in all =
+      ap (λ l. l ++ written_in k.others) written_is ∙ sym (written_append line k.others) in
+      let lines : AttributeLines conditions (commented_line comment (written_in h.others) ++ written_in k.others) fs (opener ∷ t1) y.1.left =
+      g.line kind first.derives ended.ends later.derives in
+      let line_made : AllMade (token_sight conditions) (entries_in x.0) (written_in line) (entries_in line) =
+      subst₂ (AllMade (token_sight conditions) (entries_in x.0)) written_is entries_are (made_commented (token_sight conditions) comment h.made) in
+      let met : Met conditions.expander fs (written_literals (commented_line comment (written_in h.others)) ++ written_literals (written_in k.others)) x.1.noted
+      y.1.noted =
+      both_met (subst (λ ls. Met conditions.expander first.features ls x.1.noted ws.1.noted) (sym (commented_literals comment (written_in h.others))) first.met)
+      (subst (λ ns. Met conditions.expander later.features (written_literals (written_in k.others)) ns y.1.noted) ended.noted_is later.met)
       in
       record {
         others = all;
-        all_are = k.all_are ∙ ap (λ (l : List ReadAttribute). l ++ k.others) h.all_are ∙ append_assoc x.0 h.others k.others;
+        all_are = k.all_are ∙ ap (λ (l : List ReadAttribute). l ++ k.others) line_is ∙ append_assoc x.0 line k.others;
         derived = record {
           features = fs;
           derives = subst (λ (ts : Tokens). AttributeLines conditions (written_in all) fs ts y.1.left) (sym split)
               (subst (λ vs. AttributeLines conditions vs fs (opener ∷ t1) y.1.left) same lines);
-          met = subst (λ ls. Met conditions.expander fs ls x.1.noted y.1.noted) (sym (flat_map-append _ (written_in h.others) (written_in k.others)) ∙ ap
+          met = subst (λ ls. Met conditions.expander fs ls x.1.noted y.1.noted) (sym (flat_map-append _ (commented_line comment (written_in h.others)) (written_in k.others)) ∙ ap
               written_literals same) met;
           stays = later.stays;
         };
-        made = subst₂ (AllMade (token_sight conditions) (entries_in x.0)) same (sym (map-append entry_read h.others k.others))
-            (made_append (token_sight conditions) h.made (subst (λ es. AllMade (token_sight conditions) es (written_in k.others) (entries_in k.others))
-            (ap entries_in h.all_are ∙ map-append entry_read x.0 h.others) k.made));
+        made = subst₂ (AllMade (token_sight conditions) (entries_in x.0)) (sym (written_append line k.others)) (sym (map-append entry_read line k.others))
+            (made_append (token_sight conditions) line_made (subst (λ es. AllMade (token_sight conditions) es (written_in k.others) (entries_in k.others))
+            (ap entries_in line_is ∙ map-append entry_read x.0 line) k.made));
       }
 
   lines_keep : (f : reader.AttributePlace → reader.ReadAttributes) → ((x : reader.AttributePlace) → AllAttributes (AttributeLines conditions) x (f x))
@@ -605,9 +618,10 @@ module _ (conditions : Conditions) where
       let found = known ws (AreAttributes (Bracketed conditions) (x.0, at x.1 t1)) is (bracketed_sound (x.0, at x.1 t1) here) in
       after_bind (reader.attributes_end ws.1) _ P (λ e. tt) (λ end is2.
       let ended = ended_at ws.1 end is2 found.derived.stays in
-      weaken (f (ws.0, end.1)) (AreAttributes (AttributeLines conditions) (ws.0, end.1)) (AreAttributes (AttributeLines conditions) x)
+      let next : reader.AttributePlace = (reader.commented_by end.0 ws.0, end.1) in
+      weaken (f next) (AreAttributes (AttributeLines conditions) next) (AreAttributes (AttributeLines conditions) x)
       (more_lines x opener t1 ws end split kind found ended)
-      (h (ws.0, end.1) ended.stays))))
+      (h next ended.stays))))
 
   lines_sound : (x : reader.AttributePlace) → AllAttributes (AttributeLines conditions) x (reader.attribute_lines_from x)
   unfolding r.attribute_lines_from

@@ -1,5 +1,5 @@
 -- How the rules of attributes go along what is read: arguments after those before them, and attributes after those before them.
-use Rattle.std.proofs.Common.{◌≡◌, Bool, true, false, not, cond, List, [], ◌∷◌, ◌++◌, Some, None, is_some, refl, sym, ap, subst, append_assoc, append-nil, codes}
+use Rattle.std.proofs.Common.{◌≡◌, ℕ, Bool, true, false, not, cond, List, [], ◌∷◌, ◌++◌, Option, Some, None, is_some, refl, sym, ap, subst, append_assoc, append-nil, codes}
 use Rattle.std.specs.List.{flat_map}
 use Rattle.std.proofs.lemmas.Bool.{and_parts}
 use Rattle.justfile_word.specs.declared.token_kind.TokenKind.TheVariants as kinds
@@ -10,8 +10,9 @@ use Rattle.justfile_model.specs.Meaning.{KeyArgument, all_of, at_key, by_key, en
 use Rattle.justfile_model.specs.Reading.{accept_marked, next_are}
 use Rattle.justfile_model.specs.Sight.{Sight}
 use Rattle.justfile_model.specs.Tree as tree
-use Rattle.justfile_model.specs.Tree.{Argument, Entry, WrittenAttribute}
+use Rattle.justfile_model.specs.Tree.{Argument, Entry, WrittenAttribute, at_last, commented, commented_attribute, commented_entry, commented_line}
 use Rattle.justfile_model.specs.TreeReader.{State, Taken, token_leaves}
+use Rattle.justfile_model.proofs.Commented.{means_commented}
 use Rattle.justfile_model.proofs.Steps.{AreNext, NoMark, after_marked, are_next, marked_left, next_taken}
 use Rattle.justfile_model.proofs.TokenAttributes as reader
 
@@ -126,6 +127,19 @@ module _ {A B : Type 0} (sight : Sight A B) where
   made_append {vs = vs} {ds = ds} (none {before = before}) k = subst (λ es. AllMade es vs ds) (append-nil before) k
   made_append {vs = vs} {ds = ds} (more {before = before} {e = e} {es = es} means unbroken distinct h) k =
       more means unbroken distinct (made_append h (subst (λ l. AllMade l vs ds) (sym (append_assoc before (e ∷ []) es)) k))
+
+  last_made : (c : List ℕ) {before : List (Entry A B)} {ws : List (WrittenAttribute A B)} {es : List (Entry A B)} → AllMade before ws es
+      → AllMade before (at_last (commented_attribute c) ws) (at_last (commented_entry c) es)
+  last_made c none = none
+  last_made c (more {w = w} {e = e} means unbroken distinct none) = more (means_commented sight c w e means) unbroken distinct none
+  last_made c (more means unbroken distinct (more means2 unbroken2 distinct2 h)) =
+      more means unbroken distinct (last_made c (more means2 unbroken2 distinct2 h))
+
+  -- with a comment at the last one
+  pub made_commented : (comment : Option (List ℕ)) {before : List (Entry A B)} {ws : List (WrittenAttribute A B)} {es : List (Entry A B)} → AllMade before ws es
+      → AllMade before (commented_line comment ws) (commented commented_entry comment es)
+  made_commented None h = h
+  made_commented (Some c) h = last_made c h
 
   pub made_mean : {before : List (Entry A B)} {ws : List (WrittenAttribute A B)} {es : List (Entry A B)} → AllMade before ws es
       → all_of (entry_of sight) ws ≡ Some es

@@ -359,26 +359,26 @@ module _ {A B C S A' B' C' S' D E F G : Type 0} (kept : Kept A B C S) (Open : �
   on_line (g.header e) us s =
       let x = header e us s in
       record {
-        tree = tree.Recipe (bare_recipe x.tree []);
+        tree = tree.Recipe (bare_recipe x.tree None []);
         features = x.features;
         after = x.after;
         derives = g.header x.derives;
-        alike = λ i. tree.Recipe (bare_recipe (x.alike i) []);
+        alike = λ i. tree.Recipe (bare_recipe (x.alike i) None []);
         noted_alike = x.noted_alike;
         same = x.same;
       }
 
   pub block : {c : Content A B C S} {fs : List (Noted B)} {ts rest : Tokens} → Block kept Open c fs ts rest → (us : Tokens) → Pairs Rel ts us → ContentOf (λ x n r. Block kept' Open' x n us r) c fs rest
-  block (g.recipe {lines = lines} {fs = fs} {gs = gs} e b ls some) us s =
+  block (g.recipe {lines = lines} {fs = fs} {gs = gs} {comment = comment} e b ls some) us s =
       let w = header e us s in
       let x = before_body b w.after w.same in
       let y = body_lines ls x.after x.same in
       record {
-        tree = tree.Recipe (bare_recipe w.tree (trimmed y.tree));
+        tree = tree.Recipe (bare_recipe w.tree comment (trimmed y.tree));
         features = w.features ++ y.features;
         after = y.after;
         derives = g.recipe w.derives x.derives y.derives (some_left lines y.tree y.alike some);
-        alike = λ i. tree.Recipe (bare_recipe (w.alike i) (trimmed_alike lines y.tree y.alike i));
+        alike = λ i. tree.Recipe (bare_recipe (w.alike i) comment (trimmed_alike lines y.tree y.alike i));
         noted_alike = both fs gs w.features y.features w.noted_alike y.noted_alike;
         same = y.same;
       }

@@ -1,5 +1,5 @@
 -- A derivation of lines of attributes carried over to tokens that differ in their places alone, to other leaves and to another limit.
-use Rattle.std.proofs.Common.{◌≡◌, ℕ, Bool, false, List, [], ◌∷◌, ◌++◌, map, Option, Some, None, refl, subst}
+use Rattle.std.proofs.Common.{◌≡◌, ℕ, Bool, false, List, [], ◌∷◌, ◌++◌, map, Option, Some, refl, sym, ap, subst, ◌∙◌}
 use Rattle.std.specs.Str.{trim_end}
 use Rattle.justfile_word.specs.declared.token_kind.TokenKind.{TokenKind}
 use Rattle.justfile_word.specs.declared.token_kind.TokenKind.TheVariants as kinds
@@ -11,7 +11,8 @@ use Rattle.justfile_model.specs.Features.{Noted, over_noted}
 use Rattle.justfile_model.specs.SignificantTokens.{SignificantToken}
 use Rattle.justfile_model.specs.Tok.{Tok}
 use Rattle.justfile_model.specs.Tree as tree
-use Rattle.justfile_model.specs.Tree.{Argument, Expr, WrittenAttribute, over_argument, over_expr, over_written_attribute}
+use Rattle.justfile_model.specs.Tree.{Argument, Expr, WrittenAttribute, bare_attribute, commented_attribute, commented_line, over_argument, over_expr, over_written_attribute}
+use Rattle.justfile_model.proofs.Commented.{commented_map}
 use Rattle.justfile_model.proofs.CarryExpressions as expressions
 use Rattle.justfile_model.proofs.CarryExpressions.{Same, Pairs, nil, cons, Carried, both_alike, same_kind_of, same_marked_of, turned, until}
 
@@ -23,6 +24,9 @@ module _ {A B A' B' C D : Type 0} (leaf : Tok → A) (spot : Tok → B) (Open : 
     (opens : (d : ℕ) (ts us : Tokens) → Pairs Rel ts us → Open d (front ts) → Open' d (front us)) where
   kind_of : {kind : TokenKind} {t u : SignificantToken} → Rel t u → IsKind kind t → IsKind kind u
   kind_of s = same_kind_of (weak _ _ s)
+
+  comment_of : (t u : SignificantToken) → Rel t u → trim_end u.tok.lexeme ≡ trim_end t.tok.lexeme
+  comment_of t u s = ap trim_end (sym (weak t u s).lexeme)
 
   next_of : (kind : TokenKind) {ts us : Tokens} → Pairs Rel ts us → NotNext kind ts → NotNext kind us
   next_of kind nil n = tt
@@ -130,34 +134,34 @@ module _ {A B A' B' C D : Type 0} (leaf : Tok → A) (spot : Tok → B) (Open : 
   attribute : {w : WrittenAttribute A B} {fs : List (Noted B)} {ts rest : Tokens} → AttributeOf leaf spot Open w fs ts rest → (us : Tokens)
       → Pairs Rel ts us → AttributeCarried (λ x n r. AttributeOf leaf' spot' Open' x n us r) w fs rest
   attribute (g.plain {name = t} kind nc np) us (cons {u = u} s ss) = record {
-    tree = record { name = leaf' u.tok; arguments = [] };
+    tree = bare_attribute (leaf' u.tok) [];
     features = [];
     after = _;
     derives = g.plain (kind_of s kind) (next_of kinds.Colon ss nc) (next_of kinds.ParenL ss np);
-    alike = λ i. record { name = leaves t u s i; arguments = [] };
+    alike = λ i. bare_attribute (leaves t u s i) [];
     noted_alike = refl;
     same = ss;
   }
   attribute (g.short {name = t} {first = first} kind kind2 e) us (cons {u = u} s (cons s2 (cons {u = v} {us = us2} s3 ss))) =
       let x = expression e (v ∷ us2) (cons s3 ss) in
       record {
-        tree = record { name = leaf' u.tok; arguments = tree.Positional (spot' v.tok) x.tree ∷ [] };
+        tree = bare_attribute (leaf' u.tok) (tree.Positional (spot' v.tok) x.tree ∷ []);
         features = x.features;
         after = x.after;
         derives = g.short (kind_of s kind) (kind_of s2 kind2) x.derives;
-        alike = λ i. record { name = leaves t u s i; arguments = tree.Positional (spots first v s3 i) (x.alike i) ∷ [] };
+        alike = λ i. bare_attribute (leaves t u s i) (tree.Positional (spots first v s3 i) (x.alike i) ∷ []);
         noted_alike = x.noted_alike;
         same = x.same;
       }
   attribute (g.long {name = t} kind kind2 all) us (cons {u = u} s (cons {us = us2} s2 ss)) =
       let x = arguments all us2 ss in
       record {
-        tree = record { name = leaf' u.tok; arguments = x.tree };
+        tree = bare_attribute (leaf' u.tok) x.tree;
         features = x.features;
         after = x.after;
         derives = g.long (kind_of s kind) (kind_of s2 kind2)
             (subst (λ lexeme. Arguments leaf' spot' Open' (name_takes_keys lexeme) x.tree x.features us2 x.after) (weak t u s).lexeme x.derives);
-        alike = λ i. record { name = leaves t u s i; arguments = x.alike i };
+        alike = λ i. bare_attribute (leaves t u s i) (x.alike i);
         noted_alike = x.noted_alike;
         same = x.same;
       }
@@ -191,32 +195,40 @@ module _ {A B A' B' C D : Type 0} (leaf : Tok → A) (spot : Tok → B) (Open : 
   -- ---- lines
 
   -- the end of a line, with its comment
-  record Ended (us : Tokens) (rest : Tokens) : Type 0 where
-    comment : Option (List ℕ)
+  record Ended (comment : Option (List ℕ)) (us : Tokens) (rest : Tokens) : Type 0 where
     after : Tokens
     derives : AttributesEnd leaf' spot' Open' comment us after
     same : Pairs Rel rest after
 
   attributes_end : {comment : Option (List ℕ)} {ts rest : Tokens} → AttributesEnd leaf spot Open comment ts rest → (us : Tokens) → Pairs Rel ts us
-      → Ended us rest
-  attributes_end (g.bare kind) us (cons s ss) = record { comment = None; after = _; derives = g.bare (kind_of s kind); same = ss }
-  attributes_end (g.commented kind kind2) us (cons {u = u} s (cons s2 ss)) =
-      record { comment = Some (trim_end u.tok.lexeme); after = _; derives = g.commented (kind_of s kind) (kind_of s2 kind2); same = ss }
+      → Ended comment us rest
+  attributes_end (g.bare kind) us (cons s ss) = record { after = _; derives = g.bare (kind_of s kind); same = ss }
+  attributes_end (g.commented {comment = t} kind kind2) us (cons {u = u} s (cons {u = newline} {us = after} s2 ss)) =
+      record {
+        after = after;
+        derives = subst (λ text. AttributesEnd leaf' spot' Open' (Some text) (u ∷ newline ∷ after) after) (comment_of t u s)
+            (g.commented (kind_of s kind) (kind_of s2 kind2));
+        same = ss;
+      }
 
   pub attribute_lines : {ws : List (WrittenAttribute A B)} {fs : List (Noted B)} {ts rest : Tokens} → AttributeLines leaf spot Open ws fs ts rest
       → (us : Tokens) → Pairs Rel ts us → AttributesCarried (λ x n r. AttributeLines leaf' spot' Open' x n us r) ws fs rest
   attribute_lines (g.none not) us s =
       record { tree = []; features = []; after = us; derives = g.none (next_of kinds.BracketL s not); alike = refl; noted_alike = refl; same = s }
-  attribute_lines (g.line {ws = ws} {others = vs} {fs = fs} {gs = gs} kind b e others) us (cons {us = us2} s ss) =
+  attribute_lines (g.line {ws = ws} {others = vs} {fs = fs} {gs = gs} {comment = comment} kind b e others) us (cons {us = us2} s ss) =
       let x = bracketed b us2 ss in
       let y = attributes_end e x.after x.same in
       let z = attribute_lines others y.after y.same in
       record {
-        tree = x.tree ++ z.tree;
+        tree = commented_line comment x.tree ++ z.tree;
         features = x.features ++ z.features;
         after = z.after;
         derives = g.line (kind_of s kind) x.derives y.derives z.derives;
-        alike = both_alike (over_written_attribute f h) (over_written_attribute f' h') ws vs x.tree z.tree x.alike z.alike;
+        alike = both_alike (over_written_attribute f h) (over_written_attribute f' h') (commented_line comment ws) vs (commented_line comment x.tree) z.tree
+            (commented_map (over_written_attribute f' h') commented_attribute commented_attribute (λ c w. refl) comment x.tree
+            ∙ ap (commented_line comment) x.alike
+            ∙ sym (commented_map (over_written_attribute f h) commented_attribute commented_attribute (λ c w. refl) comment ws))
+            z.alike;
         noted_alike = both fs gs x.features z.features x.noted_alike z.noted_alike;
         same = z.same;
       }

@@ -26,15 +26,16 @@ use Rattle.justfile_model.specs.Grammar.{LineRest, BeforeBody, BodyLines, OnLine
 use Rattle.justfile_model.specs.HeaderReader.{ReadHeader, draw_binding, obeying}
 use Rattle.justfile_model.specs.Headers as headers
 use Rattle.justfile_model.specs.Headers.{HeaderOf, NamedHeader, PathOf}
-use Rattle.justfile_model.specs.ItemParts.{EndsLine, FilePath, Names, NoPath, ValueOf}
+use Rattle.justfile_model.specs.ItemParts.{FilePath, Names, NoPath, ValueOf}
 use Rattle.justfile_model.specs.SettingRules.{value_broken}
 use Rattle.justfile_model.specs.Settings.{SettingForm, setting_form}
 use Rattle.justfile_model.specs.Literals.{Literal}
-use Rattle.justfile_model.specs.Files.{all_features, all_literals, body_literals, broken, construct_features, content_literals, entries_features, expr_literals, fragments_literals, item_broken, item_literals, keeps_tokens, written_literals}
-use Rattle.justfile_model.specs.Reading.{Counters, ◌>>=◌, accepted, next_are, prepend}
+use Rattle.justfile_model.specs.Files.{all_features, all_literals, body_literals, broken, construct_features, content_literals, entries_features, fragments_literals, item_broken, item_literals, keeps_tokens, written_literals}
+use Rattle.justfile_model.specs.Reading.{Counters, ◌>>=◌, accepted, comment_in, next_are, prepend}
+use Rattle.std.specs.Option.{option_map}
 use Rattle.justfile_model.specs.Reader as reader
 use Rattle.justfile_model.specs.PartReader.{after_numbered, keyword_at, setting_value}
-use Rattle.justfile_model.specs.Reader.{alias, any_module, any_recipe, assignment, at_end, attributes, before_item, construct, constructed, content, entries_read, headed, item_rest, body, optional_body, body_line, comment_item, draw_recipe, ended, fragment, function, has_body, import, imported, items, items_rule, line, line_end, line_rest, line_rest_rule, lines, lines_rule, named_module, no_exclusion, on_line, recipe, setting, some_lines, stands_alone, unexport, with_recipes, wordless}
+use Rattle.justfile_model.specs.Reader.{alias, any_module, any_recipe, assignment, at_end, attributes, before_item, construct, constructed, content, entries_read, headed, item_rest, body, body_after, optional_body, body_line, comment_item, draw_recipe, ended, fragment, function, has_body, import, imported, items, items_rule, line, line_end, line_rest, line_rest_rule, lines, lines_rule, named_module, no_exclusion, on_line, recipe, setting, some_lines, stands_alone, unexport, with_recipes, wordless}
 use Rattle.justfile_model.specs.TreeReader.{Read, State, tree_of_tokens, token_attributes, token_leaves, unnumbered}
 use Rattle.justfile_model.proofs.AttributeComplete.{attributes_reached}
 use Rattle.justfile_model.proofs.AttributeCovers as covers
@@ -45,7 +46,7 @@ use Rattle.justfile_model.proofs.Counters.{after_parameters, count, count_conten
 use Rattle.justfile_model.proofs.ExpressionDeep.{expression_deep}
 use Rattle.justfile_model.proofs.HeaderComplete.{CoversHeader, IsHeader, header_reached, obeying_reached, path_read}
 use Rattle.justfile_model.proofs.HeaderCovers.{not_there, parameters_start}
-use Rattle.justfile_model.proofs.PartComplete.{ends_pathless, file_path_reached, module_follows, names_read, no_path_read, path_begins, path_reached, path_token, path_token_is, path_unmarked, setting_follows, value_reached}
+use Rattle.justfile_model.proofs.PartComplete.{ends_pathless, file_path_reached, module_follows, names_read, no_path_read, path_begins, path_reached, path_token_is, path_unmarked, setting_follows, value_reached}
 use Rattle.justfile_model.proofs.WordsComplete.{alias_read, another_follows, assigned_taken, eager_read, export_read, import_read, line_taken, module_read, no_word_read, none_read, or_true, parameters_follow, setting_read, unexport_read, wordless_read}
 use Rattle.justfile_model.proofs.Reaching.{Reaches, is_read, by, renoted, then, pass}
 use Rattle.justfile_model.proofs.ReachingRules as r
@@ -224,25 +225,43 @@ module _ (conditions : Conditions) (Hit : Option SignificantToken → Type 0) wh
   unfolding body
   body_reached ns {ls = ls} {fs = fs} {rest = rest} h some = rw (trimmed_literals ls) (pass conditions Hit _ (lines_reached ns h) (some_read (trimmed ls) (input conditions 0 rest (ns ++ fs)) some))
 
-  optional_body_reached : (ns : List (Noted Tok)) {ls : List (BodyLine Tok Tok ℕ)} {fs : List (Noted Tok)} {comment : Option (List ℕ)} {ts between rest : Tokens} → BeforeBody comment ts between → BodyLines keeps_tokens (Waived conditions.limit Hit) ls fs between rest
-      → NotEmpty (trimmed ls) → BodyReached (optional_body token_leaves) (trimmed ls) (input conditions 0 ts ns) (input conditions 0 rest (ns ++ fs))
-  unfolding optional_body
-  optional_body_reached ns (g.at_once {newline = t} {indent = u} {rest = between} kind kind2) h some =
-      rw (next_taken (kinds.Eol ∷ kinds.Indent ∷ []) (input conditions 0 (t ∷ u ∷ between) ns) (kind, (kind2, tt))) (body_reached ns h some)
-  optional_body_reached ns (g.commented {comment = c} {newline = t} {indent = u} {rest = between} kind kind2 kind3) h some =
-      rw (
-        next_left (kinds.Eol ∷ kinds.Indent ∷ []) (input conditions 0 (c ∷ t ∷ u ∷ between) ns) (λ h. cc),
-        next_taken (kinds.Comment ∷ kinds.Eol ∷ kinds.Indent ∷ []) (input conditions 0 (c ∷ t ∷ u ∷ between) ns) (kind, (kind2, (kind3, tt))),
-      ) (body_reached ns h some)
+  -- a body and the comment before it are read, or neither is there
+  record BodyFound (comment : Option (List ℕ)) (ls : List (BodyLine Tok Tok ℕ)) (s rest : State) : Type 0 where
+    token : Option SignificantToken
+    says : option_map (comment_in token_leaves) token ≡ comment
+    reached : Reaches conditions Hit (optional_body token_leaves s) ((token, ls), rest) (body_literals ls)
 
-  no_body_read : (s : State) → NoBody s.left → optional_body token_leaves s ≡ Ok ([], s)
+  after_reached : (token : Option SignificantToken) (ls : List (BodyLine Tok Tok ℕ)) (s rest : State) → BodyReached (body token_leaves) ls s rest
+      → Reaches conditions Hit (body_after token_leaves token s) ((token, ls), rest) (body_literals ls)
+  unfolding body_after
+  after_reached token ls s rest h = pass conditions Hit _ h refl
+
+  optional_body_reached : (ns : List (Noted Tok)) {ls : List (BodyLine Tok Tok ℕ)} {fs : List (Noted Tok)} {comment : Option (List ℕ)} {ts between rest : Tokens} → BeforeBody comment ts between → BodyLines keeps_tokens (Waived conditions.limit Hit) ls fs between rest
+      → NotEmpty (trimmed ls) → BodyFound comment (trimmed ls) (input conditions 0 ts ns) (input conditions 0 rest (ns ++ fs))
+  unfolding optional_body
+  optional_body_reached ns {ls = ls} (g.at_once {newline = t} {indent = u} {rest = between} kind kind2) h some = record {
+    token = None;
+    says = refl;
+    reached = rw (next_taken (kinds.Eol ∷ kinds.Indent ∷ []) (input conditions 0 (t ∷ u ∷ between) ns) (kind, (kind2, tt)))
+        (after_reached None (trimmed ls) _ _ (body_reached ns h some));
+  }
+  optional_body_reached ns {ls = ls} (g.commented {comment = c} {newline = t} {indent = u} {rest = between} kind kind2 kind3) h some = record {
+    token = Some c;
+    says = refl;
+    reached = rw (
+      next_left (kinds.Eol ∷ kinds.Indent ∷ []) (input conditions 0 (c ∷ t ∷ u ∷ between) ns) (λ h. cc),
+      next_taken (kinds.Comment ∷ kinds.Eol ∷ kinds.Indent ∷ []) (input conditions 0 (c ∷ t ∷ u ∷ between) ns) (kind, (kind2, (kind3, tt))),
+    ) (after_reached (Some c) (trimmed ls) _ _ (body_reached ns h some));
+  }
+
+  no_body_read : (s : State) → NoBody s.left → optional_body token_leaves s ≡ Ok ((None, []), s)
   unfolding optional_body
   no_body_read s none = rw (next_left (kinds.Eol ∷ kinds.Indent ∷ []) s none.at_once, next_left (kinds.Comment ∷ kinds.Eol ∷ kinds.Indent ∷ []) s none.commented) refl
 
   -- ---- items, where what follows begins no body
 
-  abbrev recipe_content : Header Tok Tok Tok → List (BodyLine Tok Tok ℕ) → Content Tok Tok ℕ Tok
-  recipe_content h ls = tree.Recipe (bare_recipe h ls)
+  abbrev recipe_content : Header Tok Tok Tok → Option (List ℕ) → List (BodyLine Tok Tok ℕ) → Content Tok Tok ℕ Tok
+  recipe_content h comment ls = tree.Recipe (bare_recipe h comment ls)
 
   -- what the attributes mean that were read
   abbrev meant_by : List ReadAttribute → List (Entry Tok Tok)
@@ -263,15 +282,15 @@ module _ (conditions : Conditions) (Hit : Option SignificantToken → Type 0) wh
       (content_literals c) (breaks_by xs c)
 
   -- what a header breaks is among what its recipe breaks
-  header_covered : (xs : List ReadAttribute) (h : Header Tok Tok Tok) (ls : List (BodyLine Tok Tok ℕ))
-      → CoversHeader conditions Hit (arg_rules (meant_by xs)) h (breaks_by xs (recipe_content h ls))
-  header_covered xs h ls =
+  header_covered : (xs : List ReadAttribute) (h : Header Tok Tok Tok) (comment : Option (List ℕ)) (ls : List (BodyLine Tok Tok ℕ))
+      → CoversHeader conditions Hit (arg_rules (meant_by xs)) h (breaks_by xs (recipe_content h comment ls))
+  header_covered xs h comment ls =
       let said = arg_rules (meant_by xs) in
       let options : List (Broken Tok) = options_broken (token_sight conditions) h.name said in
       let each : List (Broken Tok) = parameters_broken (token_sight conditions) said [] h.parameters in
       let undefined : List (Broken Tok) = undefined_broken (token_sight conditions) h.parameters said in
       let exclusions : List (Broken Tok) = exclusions_broken (token_sight conditions) h.name (meant_by xs) in
-      let all = all_among (breaks_by xs (recipe_content h ls)) in
+      let all = all_among (breaks_by xs (recipe_content h comment ls)) in
       let meaning = among_first (options ++ each ++ undefined ++ exclusions) (header_broken h) all in
       let said_first = among_first (options ++ each ++ undefined) exclusions meaning in
       let both = among_first (options ++ each) undefined said_first in
@@ -282,14 +301,14 @@ module _ (conditions : Conditions) (Hit : Option SignificantToken → Type 0) wh
         starred = among_others (options ++ each ++ undefined ++ exclusions) (header_broken h) all;
       }
 
-  exclusions_covered : (xs : List ReadAttribute) (h : Header Tok Tok Tok) (ls : List (BodyLine Tok Tok ℕ))
-      → Among (exclusions_broken (token_sight conditions) h.name (meant_by xs)) (breaks_by xs (recipe_content h ls))
-  exclusions_covered xs h ls =
+  exclusions_covered : (xs : List ReadAttribute) (h : Header Tok Tok Tok) (comment : Option (List ℕ)) (ls : List (BodyLine Tok Tok ℕ))
+      → Among (exclusions_broken (token_sight conditions) h.name (meant_by xs)) (breaks_by xs (recipe_content h comment ls))
+  exclusions_covered xs h comment ls =
       let said = arg_rules (meant_by xs) in
       let others : List (Broken Tok) = options_broken (token_sight conditions) h.name said ++ parameters_broken (token_sight conditions) said [] h.parameters
       ++ undefined_broken (token_sight conditions) h.parameters said in
       among_others others (exclusions_broken (token_sight conditions) h.name (meant_by xs))
-      (among_first (recipe_broken (token_sight conditions) h (meant_by xs)) (header_broken h) (all_among (breaks_by xs (recipe_content h ls))))
+      (among_first (recipe_broken (token_sight conditions) h (meant_by xs)) (header_broken h) (all_among (breaks_by xs (recipe_content h comment ls))))
 
   -- a recipe after its attributes and its `@`
   abbrev RecipeReached : Bool → List ReadAttribute → Content Tok Tok ℕ Tok → State → State → Type 0
@@ -303,46 +322,48 @@ module _ (conditions : Conditions) (Hit : Option SignificantToken → Type 0) wh
       ap (λ (m : Counters). with_recipes (m.recipes + 1) m) is ∙ ap (λ (k : ℕ). with_recipes (k + 1) (after_parameters n ps)) (parameters_recipes n ps)
 
   -- a recipe that was read gets its number
-  numbered_reached : (quiet : Bool) (xs : List ReadAttribute) (n : Counters) (h : Header Tok Tok Tok) (ls : List (BodyLine Tok Tok ℕ)) (rest : Tokens)
-      (noted : List (Noted Tok)) (x : ReadHeader SignificantToken Tok Tok Tok × Counters) → IsHeader conditions Hit (arg_rules (meant_by xs)) quiet h n x
+  numbered_reached : (quiet : Bool) (xs : List ReadAttribute) (n : Counters) (h : Header Tok Tok Tok) (token : Option SignificantToken) (comment : Option (List ℕ))
+      (ls : List (BodyLine Tok Tok ℕ)) (rest : Tokens)
+      (noted : List (Noted Tok)) (x : ReadHeader SignificantToken Tok Tok Tok × Counters) → option_map (comment_in token_leaves) token ≡ comment
+      → IsHeader conditions Hit (arg_rules (meant_by xs)) quiet h n x
       → ReachesOne conditions Hit
       (no_exclusion token_leaves token_attributes xs x.0.name (input conditions 0 rest noted) >>= λ checked. draw_recipe token_leaves x.1 checked.1
-      >>= headed token_leaves token_attributes quiet xs x.0 ls)
-      ((Construct (written_in xs) (recipe_content h ls), count_content n (recipe_content h ls)), input conditions 0 rest noted) []
-      (breaks_by xs (recipe_content h ls))
+      >>= headed token_leaves token_attributes quiet xs x.0 (token, ls))
+      ((Construct (written_in xs) (recipe_content h comment ls), count_content n (recipe_content h comment ls)), input conditions 0 rest noted) []
+      (breaks_by xs (recipe_content h comment ls))
   unfolding draw_recipe
-  numbered_reached quiet xs n h ls rest noted x is =
+  numbered_reached quiet xs n h token comment ls rest noted x says is =
       let end : State = input conditions 0 rest noted in
-      let rules : List (Broken Tok) = breaks_by xs (recipe_content h ls) in
+      let rules : List (Broken Tok) = breaks_by xs (recipe_content h comment ls) in
       r.then_one conditions Hit _ _
       (obeying_reached conditions Hit (exclusions_broken (token_sight conditions) x.0.name.tok (meant_by xs)) end
       (subst (λ (name : Tok). Among (exclusions_broken (token_sight conditions) name (meant_by xs)) rules) (sym (ap (λ (h : Header Tok Tok Tok). h.name) is.0))
-      (exclusions_covered xs h ls)))
-      (r.read_now conditions Hit _ (λ i. ((Construct (written_in xs) (recipe_content (is.0 i) ls), counted_is n x.1 h.parameters is.1 i), end)) refl)
+      (exclusions_covered xs h comment ls)))
+      (r.read_now conditions Hit _ (λ i. ((Construct (written_in xs) (recipe_content (is.0 i) (says i) ls), counted_is n x.1 h.parameters is.1 i), end)) refl)
 
   recipe_reached : (quiet : Bool) (xs : List ReadAttribute) (ns : List (Noted Tok)) {h : Header Tok Tok Tok} {fs : List (Noted Tok)} {ts next : Tokens}
-      (rest : Tokens) (noted : List (Noted Tok)) (ls : List (BodyLine Tok Tok ℕ)) → NamedHeader itself itself itself (Waived conditions.limit Hit) quiet h fs ts next
-      → BodyReached (optional_body token_leaves) ls (input conditions 0 next (ns ++ (noted_by xs (recipe_content h ls) ++ fs))) (input conditions 0 rest noted)
-      → RecipeReached quiet xs (recipe_content h ls) (input conditions 0 ts ns) (input conditions 0 rest noted)
+      (rest : Tokens) (noted : List (Noted Tok)) (comment : Option (List ℕ)) (ls : List (BodyLine Tok Tok ℕ)) → NamedHeader itself itself itself (Waived conditions.limit Hit) quiet h fs ts next
+      → BodyFound comment ls (input conditions 0 next (ns ++ (noted_by xs (recipe_content h comment ls) ++ fs))) (input conditions 0 rest noted)
+      → RecipeReached quiet xs (recipe_content h comment ls) (input conditions 0 ts ns) (input conditions 0 rest noted)
   unfolding recipe
-  recipe_reached quiet xs ns {h = h} {fs = fs} rest noted ls q b n =
+  recipe_reached quiet xs ns {h = h} {fs = fs} rest noted comment ls q b n =
       let said = arg_rules (meant_by xs) in
-      r.then_at conditions Hit _ _ (header_reached conditions Hit said quiet n ns q (header_covered xs h ls)) (λ x is.
-      r.last_one conditions Hit _ _ (r.plainly conditions Hit b) (λ _. numbered_reached quiet xs n h ls rest noted x is))
+      r.then_at conditions Hit _ _ (header_reached conditions Hit said quiet n ns q (header_covered xs h comment ls)) (λ x is.
+      r.last_one conditions Hit _ _ (r.plainly conditions Hit b.reached) (λ _. numbered_reached quiet xs n h b.token comment ls rest noted x b.says is))
 
   any_reached : (xs : List ReadAttribute) (ns : List (Noted Tok)) {h : Header Tok Tok Tok} {fs : List (Noted Tok)} {ts next : Tokens}
-      (rest : Tokens) (noted : List (Noted Tok)) (ls : List (BodyLine Tok Tok ℕ)) → HeaderOf itself itself itself (Waived conditions.limit Hit) h fs ts next
-      → BodyReached (optional_body token_leaves) ls (input conditions 0 next (ns ++ (noted_by xs (recipe_content h ls) ++ fs))) (input conditions 0 rest noted)
-      → ContentReached xs (recipe_content h ls) (input conditions 0 ts ns) (input conditions 0 rest noted)
+      (rest : Tokens) (noted : List (Noted Tok)) (comment : Option (List ℕ)) (ls : List (BodyLine Tok Tok ℕ)) → HeaderOf itself itself itself (Waived conditions.limit Hit) h fs ts next
+      → BodyFound comment ls (input conditions 0 next (ns ++ (noted_by xs (recipe_content h comment ls) ++ fs))) (input conditions 0 rest noted)
+      → ContentReached xs (recipe_content h comment ls) (input conditions 0 ts ns) (input conditions 0 rest noted)
   unfolding wordless any_recipe
-  any_reached xs ns rest noted ls (headers.quiet {at = mark} {tokens = ts} kind q) b n =
+  any_reached xs ns rest noted comment ls (headers.quiet {at = mark} {tokens = ts} kind q) b n =
       r.by conditions Hit (no_word_read conditions ns xs n mark ts (λ k. cc))
       (rw (
         next_left (kinds.Identifier ∷ kinds.ParenL ∷ []) (input conditions 0 (mark ∷ ts) ns) (λ k. let first = k.0 in cc),
         next_left (kinds.Identifier ∷ kinds.ColonEquals ∷ []) (input conditions 0 (mark ∷ ts) ns) (λ k. let first = k.0 in cc),
         accept_taken kinds.At mark ts conditions 0 ns kind,
-      ) (recipe_reached true xs ns rest noted ls q b n))
-  any_reached xs ns rest noted ls (headers.loud (headers.header {name = name} {tokens = ts} kind ps ds)) b n =
+      ) (recipe_reached true xs ns rest noted comment ls q b n))
+  any_reached xs ns rest noted comment ls (headers.loud (headers.header {name = name} {tokens = ts} kind ps ds)) b n =
       let none = parameters_follow itself itself (Waived conditions.limit Hit) ts ps in
       r.by conditions Hit (none_read conditions ns xs n name ts none)
       (rw (
@@ -350,7 +371,7 @@ module _ (conditions : Conditions) (Hit : Option SignificantToken → Type 0) wh
         next_left (kinds.Identifier ∷ kinds.ColonEquals ∷ []) (input conditions 0 (name ∷ ts) ns)
             (λ k. not_there kinds.ColonEquals ts (parameters_start itself itself (Waived conditions.limit Hit) ps) k.1),
         accept_left kinds.At (name ∷ ts) conditions 0 ns (λ e. cc),
-      ) (recipe_reached false xs ns rest noted ls (headers.header {name = name} kind ps ds) b n))
+      ) (recipe_reached false xs ns rest noted comment ls (headers.header {name = name} kind ps ds) b n))
 
   -- what the attributes of an item break is among what it breaks
   allowed_reached : (xs : List ReadAttribute) (c : Content Tok Tok ℕ Tok) (s : State)
@@ -547,8 +568,9 @@ module _ (conditions : Conditions) (Hit : Option SignificantToken → Type 0) wh
       r.by conditions Hit (unexport_read conditions ns xs n word (name ∷ rest) is (line_taken conditions ns name rest kind ends))
       (unexport_reached xs ns name kind n)
   content_reached xs ns {rest = rest} (g.header {h = h} {fs = fs} q) none n =
-      let noted : List (Noted Tok) = ns ++ (noted_by xs (recipe_content h []) ++ fs) in
-      any_reached xs ns rest noted [] q (is_read tt (no_body_read (input conditions 0 rest noted) none)) n
+      let noted : List (Noted Tok) = ns ++ (noted_by xs (recipe_content h None []) ++ fs) in
+      any_reached xs ns rest noted None [] q
+      (record { token = None; says = refl; reached = is_read tt (no_body_read (input conditions 0 rest noted) none) }) n
 
   -- ---- attributes, and a construct after them
 
@@ -683,20 +705,20 @@ module _ (conditions : Conditions) (Hit : Option SignificantToken → Type 0) wh
       (r.then_both conditions Hit _ (r.pass conditions Hit _ (h n) (rw (ended_after i (input conditions 0 rest (ns ++ is)) (has_none o), c.first_read) refl))
       (front_more i c.first all (counted (count n i) all) ((ns ++ is) ++ fs) (items token_leaves token_attributes (count n i) (input conditions 0 c.rest (ns ++ is))) (c.goes_on (count n i))))))
 
-  some_body : (ws : List (WrittenAttribute Tok Tok)) (h : Header Tok Tok Tok) (ls : List (BodyLine Tok Tok ℕ)) (s : State) → NotEmpty ls
-      → ended token_leaves token_attributes (has_body (Construct ws (recipe_content h ls))) s ≡ Ok (tree.Newline ∷ [], s)
+  some_body : (ws : List (WrittenAttribute Tok Tok)) (h : Header Tok Tok Tok) (comment : Option (List ℕ)) (ls : List (BodyLine Tok Tok ℕ)) (s : State) → NotEmpty ls
+      → ended token_leaves token_attributes (has_body (Construct ws (recipe_content h comment ls))) s ≡ Ok (tree.Newline ∷ [], s)
   unfolding ended
-  some_body ws h [] s some = absurd some
-  some_body ws h (l ∷ ls) s some = refl
+  some_body ws h comment [] s some = absurd some
+  some_body ws h comment (l ∷ ls) s some = refl
 
   block_content : (xs : List ReadAttribute) (ns : List (Noted Tok)) {c : Content Tok Tok ℕ Tok} {fs : List (Noted Tok)} {ts rest : Tokens}
       → Block keeps_tokens (Waived conditions.limit Hit) c fs ts rest
       → ContentReached xs c (input conditions 0 ts ns) (input conditions 0 rest (ns ++ (noted_by xs c ++ fs)))
-  block_content xs ns {rest = rest} (g.recipe {h = h} {lines = ls} {fs = fs} {gs = gs} q b lines some) n =
-      let said : List (Noted Tok) = noted_by xs (recipe_content h (trimmed ls)) in
+  block_content xs ns {rest = rest} (g.recipe {h = h} {lines = ls} {fs = fs} {gs = gs} {comment = comment} q b lines some) n =
+      let said : List (Noted Tok) = noted_by xs (recipe_content h comment (trimmed ls)) in
       let noted : List (Noted Tok) = ns ++ (said ++ fs) in
       r.renoted conditions Hit (append_assoc ns (said ++ fs) gs ∙ ap (λ (l : List (Noted Tok)). ns ++ l) (append_assoc said fs gs))
-      (any_reached xs ns rest (noted ++ gs) (trimmed ls) q (optional_body_reached noted b lines some) n)
+      (any_reached xs ns rest (noted ++ gs) comment (trimmed ls) q (optional_body_reached noted b lines some) n)
 
   -- a recipe with a body and its attributes
   block_item : (ns : List (Noted Tok)) {ws : List (WrittenAttribute Tok Tok)} {c : Content Tok Tok ℕ Tok} {gs fs : List (Noted Tok)}
@@ -708,7 +730,7 @@ module _ (conditions : Conditions) (Hit : Option SignificantToken → Type 0) wh
   block_ends : (ws : List (WrittenAttribute Tok Tok)) {c : Content Tok Tok ℕ Tok} {is : List (Noted Tok)} {ts rest : Tokens} (s : State)
       → Block keeps_tokens (Waived conditions.limit Hit) c is ts rest
       → ended token_leaves token_attributes (has_body (Construct ws c)) s ≡ Ok (tree.Newline ∷ [], s)
-  block_ends ws s (g.recipe {h = h} {lines = ls} q b lines some) = some_body ws h (trimmed ls) s some
+  block_ends ws s (g.recipe {h = h} {lines = ls} {comment = comment} q b lines some) = some_body ws h comment (trimmed ls) s some
 
   block_reached : (n : Counters) (ns : List (Noted Tok)) {ws : List (WrittenAttribute Tok Tok)} {c : Content Tok Tok ℕ Tok} {gs is : List (Noted Tok)}
       {ts header rest : Tokens} (all : WrittenTree) (fs : List (Noted Tok)) → AttributeLines itself itself (Waived conditions.limit Hit) ws gs ts header

@@ -10,7 +10,7 @@ use Rattle.justfile_model.specs.HeaderReader as r
 use Rattle.justfile_model.specs.HeaderReader.{ReadHeader, draw_binding, expression, obeying, with_bindings}
 use Rattle.justfile_model.specs.PartReader.{accept_before, after_numbered, file_path, is_assigned, is_imported, is_module, is_set, keyword_at, line_is, names, names_end, names_rule, no_names, numbered_name, optional_path, setting_value}
 use Rattle.justfile_model.specs.Settings.{setting_form}
-use Rattle.justfile_model.specs.Reader.{Start, alias, allowed, any_module, any_recipe, argument_rules, assigned, assignment, at_end, attributes, construct, content, draw_recipe, end_of_tokens, ended, function, has_body, headed, import, imported, item_rest, items, items_from, items_rule, line, line_end, named_module, no_exclusion, no_items, on_line, optional_body, recipe, setting, unexport, with_recipes, wordless}
+use Rattle.justfile_model.specs.Reader.{CommentedBody, Start, alias, allowed, any_module, any_recipe, argument_rules, assigned, assignment, at_end, attributes, construct, content, draw_recipe, end_of_tokens, ended, function, has_body, headed, import, imported, item_rest, items, items_from, items_rule, line, line_end, named_module, no_exclusion, no_items, on_line, optional_body, recipe, setting, unexport, with_recipes, wordless}
 use Rattle.justfile_model.specs.Reading.{Counters, ◌>>=◌, Leaves, NoNumber, Read, State, Taken, accept, accepted, choose, expect, next_are}
 use Rattle.justfile_model.specs.RecipeRules.{parameter_broken, undefined_broken}
 use Rattle.justfile_model.specs.Sight.{Sight}
@@ -278,12 +278,12 @@ module _ {R T A B S D W : Type 0} (leaves : Leaves R T A B S) (kept : AttributeL
       go true = refl
       go false = tt
 
-  recipe_counted : (quiet : Bool) (ws : List W) (n : Counters) (s : State R T B) (h : ReadHeader T A B S) (m : Counters) (body : List (BodyLine A B ℕ))
-      → m ≡ after_parameters n h.parameters → ItemCounted n (draw_recipe leaves m s >>= headed leaves kept quiet ws h body)
+  recipe_counted : (quiet : Bool) (ws : List W) (n : Counters) (s : State R T B) (h : ReadHeader T A B S) (m : Counters) (b : CommentedBody leaves)
+      → m ≡ after_parameters n h.parameters → ItemCounted n (draw_recipe leaves m s >>= headed leaves kept quiet ws h b)
   unfolding draw_recipe
-  recipe_counted quiet ws n s h m body is = go (leaves.has_number m.recipes)
+  recipe_counted quiet ws n s h m b is = go (leaves.has_number m.recipes)
     where
-      go : (b : Bool) → ItemCounted n (cond b (Ok ((m.recipes, with_recipes (m.recipes + 1) m), s)) (Err (NoNumber m)) >>= headed leaves kept quiet ws h body)
+      go : (has : Bool) → ItemCounted n (cond has (Ok ((m.recipes, with_recipes (m.recipes + 1) m), s)) (Err (NoNumber m)) >>= headed leaves kept quiet ws h b)
       go true =
           ap (λ (m : Counters). with_recipes (m.recipes + 1) m) is
           ∙ ap (λ (k : ℕ). with_recipes (k + 1) (after_parameters n h.parameters)) (parameters_recipes n h.parameters)

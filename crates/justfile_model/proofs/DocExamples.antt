@@ -9,7 +9,7 @@ use Rattle.justfile_model.specs.Files.{says_doc}
 use Rattle.justfile_model.specs.Printing.{fixed_text, text}
 use Rattle.justfile_model.specs.Rewritten.{docs_written}
 use Rattle.justfile_model.specs.Tree as tree
-use Rattle.justfile_model.specs.Tree.{Comment, Construct, Entry, Header, Newline, OrderedItem, Shape, assignment_of}
+use Rattle.justfile_model.specs.Tree.{Comment, Construct, Entry, Header, Newline, OrderedItem, Shape, assignment_of, bare_entry, commented_entry}
 
 abbrev with_docs : Shape → Shape
 with_docs = documented says_doc Nothing
@@ -19,7 +19,7 @@ foo = record { quiet = false; name = codes "foo"; parameters = []; priors = []; 
 
 -- `foo:`, with this doc
 abbrev recipe_with : Option (List ℕ) → List (Entry (List ℕ) (Unit {0})) → OrderedItem (List ℕ) (Unit {0}) (Unit {0})
-recipe_with doc entries = Construct entries (tree.Recipe (record { doc = doc; header = foo; body = [] }))
+recipe_with doc entries = Construct entries (tree.Recipe (record { doc = doc; header = foo; comment = None; body = [] }))
 
 abbrev recipe : OrderedItem (List ℕ) (Unit {0}) (Unit {0})
 recipe = recipe_with None []
@@ -30,10 +30,10 @@ assignment = Construct [] (tree.Assignment (assignment_of false false (codes "x"
 
 -- `[private]`, and `[doc]`
 abbrev private : List (Entry (List ℕ) (Unit {0}))
-private = record { name = tt; attribute = tree.Plain kinds.Private } ∷ []
+private = bare_entry tt (tree.Plain kinds.Private) ∷ []
 
 abbrev doc : List (Entry (List ℕ) (Unit {0}))
-doc = record { name = tt; attribute = tree.Plain kinds.Doc } ∷ []
+doc = bare_entry tt (tree.Plain kinds.Doc) ∷ []
 
 -- ---- which comments are docs
 
@@ -94,3 +94,15 @@ as_comment = refl
 hidden : text (recipe_with (Some (codes "x")) doc ∷ []) [] ≡ codes "[doc]\nfoo:"
 unfolding fixed_text same_attribute
 hidden = refl
+
+-- a comment after an attribute is no doc
+after_attribute : with_docs (assignment ∷ Newline ∷ recipe_with None (commented_entry (codes "# x") (bare_entry tt (tree.Plain kinds.Private)) ∷ []) ∷ [])
+    ≡ assignment ∷ Newline ∷ recipe_with None (commented_entry (codes "# x") (bare_entry tt (tree.Plain kinds.Private)) ∷ []) ∷ []
+unfolding trim_start trim_end chars encode_utf8 same_attribute
+after_attribute = refl
+
+-- and a doc is printed before the attribute and its comment
+before_comment : text (recipe_with (Some (codes "d")) (commented_entry (codes "# x") (bare_entry tt (tree.Plain kinds.Private)) ∷ []) ∷ Newline ∷ []) []
+    ≡ codes "# d\n[private] # x\nfoo:\n"
+unfolding fixed_text same_attribute
+before_comment = refl

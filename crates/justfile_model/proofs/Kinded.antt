@@ -1,5 +1,5 @@
 -- A tree that is derived from tokens has at each place a token of the kind, and where it is fixed with the lexeme, that the grammar asks for.
-use Rattle.std.proofs.Common.{◌≡◌, ℕ, Bool, List, [], ◌∷◌, ◌++◌, Option, codes, subst}
+use Rattle.std.proofs.Common.{◌≡◌, ℕ, Bool, List, [], ◌∷◌, ◌++◌, Option, Some, None, codes, subst}
 use Rattle.std.specs.List.{AllByRecursion}
 use Rattle.justfile_word.specs.declared.token_kind.TokenKind.{TokenKind}
 use Rattle.justfile_word.specs.declared.token_kind.TokenKind.TheVariants as kinds
@@ -10,7 +10,7 @@ use Rattle.justfile_model.specs.Tok.{Tok}
 use Rattle.justfile_model.specs.SignificantTokens.{AllSpelled, HasSpelling, SignificantToken, Spelling}
 use Rattle.justfile_model.specs.Features.{Noted}
 use Rattle.justfile_model.specs.Tree as tree
-use Rattle.justfile_model.specs.Tree.{Expr, Exprs, Parts, Argument, WrittenAttribute, itself}
+use Rattle.justfile_model.specs.Tree.{Expr, Exprs, Parts, Argument, WrittenAttribute, at_last, commented_attribute, commented_line, itself}
 use Rattle.justfile_model.proofs.MeaningParts.{InArgument}
 use Rattle.justfile_model.specs.AttributeLines as lines
 use Rattle.justfile_model.specs.AttributeLines.{IsKey, ArgumentOf, Arguments, AttributeOf, Bracketed, AttributesEnd, AttributeLines}
@@ -246,10 +246,19 @@ module _ (Open : ℕ → Option SignificantToken → Type 0) where
   joined [] vs h k = k
   joined (u ∷ us) vs h k = (h.0, joined us vs h.1 k)
 
+  last_kinded : (c : List ℕ) (ws : List (WrittenAttribute Tok Tok)) → KindedWritten ws → KindedWritten (at_last (commented_attribute c) ws)
+  last_kinded c [] h = tt
+  last_kinded c (w ∷ []) h = (h.0, tt)
+  last_kinded c (w ∷ v ∷ ws) h = (h.0, last_kinded c (v ∷ ws) h.1)
+
+  commented_kinded : (comment : Option (List ℕ)) (ws : List (WrittenAttribute Tok Tok)) → KindedWritten ws → KindedWritten (commented_line comment ws)
+  commented_kinded None ws h = h
+  commented_kinded (Some c) ws h = last_kinded c ws h
+
   pub lines_kinded : {ws : List (WrittenAttribute Tok Tok)} {fs : List (Noted Tok)} {tokens rest : Tokens}
       → AttributeLines itself itself Open ws fs tokens rest → AllSpelled tokens → Kinds (KindedWritten ws) rest
   lines_kinded (lines.none n) s = record { kinded = tt; after = s }
-  lines_kinded (lines.line {ws = ws} {others = others} k bracketed e more) s =
+  lines_kinded (lines.line {ws = ws} {others = others} {comment = comment} k bracketed e more) s =
       let x = bracketed_kinded bracketed s.1 in
       let y = lines_kinded more (end_spelled e x.after) in
-      record { kinded = joined ws others x.kinded y.kinded; after = y.after }
+      record { kinded = joined (commented_line comment ws) others (commented_kinded comment ws x.kinded) y.kinded; after = y.after }

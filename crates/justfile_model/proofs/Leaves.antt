@@ -49,7 +49,8 @@ module _ {A B : Type 0} where
   argument_itself (tree.Keyed key value) = ap (tree.Keyed key) (expr_itself value)
 
   written_itself : (w : WrittenAttribute A B) → over_written_attribute same_leaf same_leaf w ≡ w
-  written_itself w = λ i. record { name = w.name; arguments = map_same (over_argument same_leaf same_leaf) argument_itself w.arguments i }
+  written_itself w =
+      λ i. record { name = w.name; arguments = map_same (over_argument same_leaf same_leaf) argument_itself w.arguments i; comment = w.comment }
 
   parameter_itself : (p : Parameter A B) → over_parameter same_leaf same_leaf p ≡ p
   parameter_itself p = λ i. record { kind = p.kind; export = p.export; name = p.name; default = option_same (over_expr same_leaf same_leaf) expr_itself p.default i }
@@ -92,7 +93,7 @@ content_itself {A = A} {B = B} (tree.Module parts) =
     λ i. tree.Module (record { doc = parts.doc; optional = parts.optional; name = parts.name; path = option_same (over_quoted {A = A} {B = B} same_leaf same_leaf) (λ q. refl) parts.path i })
 content_itself (tree.Setting parts) = λ i. tree.Setting (record { keyword = parts.keyword; name = parts.name; value = setting_itself parts.value i })
 content_itself (tree.Unexport name) = refl
-content_itself (tree.Recipe parts) = λ i. tree.Recipe (record { doc = parts.doc; header = header_itself parts.header i; body = body_itself parts.body i })
+content_itself (tree.Recipe parts) = λ i. tree.Recipe (record { doc = parts.doc; header = header_itself parts.header i; comment = parts.comment; body = body_itself parts.body i })
 
 item_itself : {A B C S : Type 0} (i : WrittenItem A B C S) → over_item same_leaf same_leaf same_leaf same_leaf (map (over_written_attribute same_leaf same_leaf)) i ≡ i
 item_itself tree.Newline = refl

@@ -272,7 +272,7 @@ module _ {A B : Type 0} (OfExpr : Expr A B → Type 0) (OfQuoted : Quoted A → 
       entry_in w e h m =
           let k = bind_back (kind_named (sight.bytes w.name)) _ e m in
           let a = bind_back (attribute_of sight k.first (by_position w.arguments) (by_key w.arguments)) _ e k.gives in
-          of_some_is (λ (e : Entry A B). InMeaning e.attribute) (record { name = sight.place w.name; attribute = a.first }) e a.gives
+          of_some_is (λ (e : Entry A B). InMeaning e.attribute) (record { name = sight.place w.name; attribute = a.first; comment = w.comment }) e a.gives
           (takes_in (takes_expressions k.first) k.first (map (λ (p : Placed A B). p.value) (by_position w.arguments)) (by_key w.arguments) a.first
           (values_in w.arguments h) (keys_in w.arguments h) a.is)
 

@@ -1,6 +1,6 @@
 -- The reader of files is natural in its tokens and leaves: readers whose tokens are related read related items, and draw the same numbers. Where
 -- the one has no number left, the other goes on: then the counter is exceeded in all that the other reads.
-use Rattle.std.proofs.Common.{◌≡◌, ℕ, zero, suc, ◌+◌, ◌<◌, ◌≤◌, Bool, true, false, ◌||◌, codes, cond, List, [], ◌∷◌, ◌++◌, length, drop, Some, Ok, Err, IfOk, refl, sym, subst, ap, ◌∙◌, arith, IsOk}
+use Rattle.std.proofs.Common.{◌≡◌, ℕ, zero, suc, ◌+◌, ◌<◌, ◌≤◌, Bool, true, false, ◌||◌, codes, cond, List, [], ◌∷◌, ◌++◌, length, drop, Option, Some, Ok, Err, IfOk, refl, sym, subst, ap, ◌∙◌, arith, IsOk}
 use Rattle.std.specs.Str.{trim_end}
 use Rattle.justfile_word.specs.declared.item_kind.ItemKind.{ItemKind}
 use Rattle.justfile_word.specs.declared.keyword.Keyword.{Keyword}
@@ -10,7 +10,8 @@ use Rattle.justfile_word.specs.declared.token_kind.TokenKind.TheVariants as kind
 use Rattle.justfile_model.specs.AttributeReader.{AttributeLeaves}
 use Rattle.justfile_model.specs.HeaderReader.{ReadHeader, draw_binding, expression, header, with_bindings}
 use Rattle.justfile_model.specs.PartReader.{accept_before, after_numbered, is_assigned, is_imported, is_module, is_set, line_is, names, setting_value}
-use Rattle.justfile_model.specs.Reader.{Start, after_mark, alias, any_module, any_recipe, argument_rules, assigned, assignment, at_end, attributes, body, body_line, construct, content, draw_recipe, end_of_tokens, ended, file, fragment, function, has_body, headed, import, imported, items, items_from, items_rule, line, line_at, line_end, line_rest, line_rest_rule, lines, lines_rule, named_module, no_exclusion, no_line_rest, no_lines, on_line, optional_body, recipe, setting, some_lines, unexport, with_recipes, wordless}
+use Rattle.justfile_model.specs.Reader.{CommentedBody, Start, after_mark, alias, any_module, any_recipe, argument_rules, assigned, assignment, at_end, attributes, body, body_after, body_line, construct, content, draw_recipe, end_of_tokens, ended, file, fragment, function, has_body, headed, import, imported, items, items_from, items_rule, line, line_at, line_end, line_rest, line_rest_rule, lines, lines_rule, named_module, no_exclusion, no_line_rest, no_lines, on_line, optional_body, recipe, setting, some_lines, unexport, with_recipes, wordless}
+use Rattle.justfile_model.specs.Expressions.{front}
 use Rattle.justfile_model.specs.Reader as r
 use Rattle.justfile_model.specs.Reading as taking
 use Rattle.justfile_model.specs.Reading.{◌>>=◌, Counters, Leaves, NoNumber, Read, State, Taken, accept, choose, expect, next_are, taken_or}
@@ -20,7 +21,7 @@ use Rattle.justfile_model.specs.Tree as tree
 use Rattle.justfile_model.specs.Tree.{ArgumentRules, BodyLine, Expr, Fragment, Item, Line, Parameter, trimmed}
 use Rattle.justfile_model.proofs.AlikeAttributes.{AlikeArgumentRules, AlikeEntry, ordered_alike}
 use Rattle.justfile_model.proofs.AlikeRecipes.{exclusions_alike}
-use Rattle.justfile_model.proofs.EachLaws.{each_mapped}
+use Rattle.justfile_model.proofs.EachLaws.{AlikeOption, absent, each_mapped, present}
 use Rattle.justfile_model.proofs.NaturalAttributes.{Keeping, attribute_lines_natural}
 use Rattle.justfile_model.proofs.NewAttributesAlike.{allowed_alike, arg_rules_alike}
 use Rattle.justfile_model.proofs.Counters.{Counted, after_parameters, count, counted, counted_bindings, counted_both, counted_recipes, items_count}
@@ -30,7 +31,7 @@ use Rattle.justfile_model.proofs.NaturalParts.{Higher, LacksName, accepted_befor
 use Rattle.justfile_model.proofs.ReadingSteps.{past}
 use Rattle.justfile_model.proofs.Reading.{items_is, line_goes}
 use Rattle.justfile_model.proofs.Related as a
-use Rattle.justfile_model.proofs.Related.{Alike, AlikeFragment, AlikeItem, AlikeItems, AlikeLine, Each, Never, Related, Relations, Respects, States, Takes, accepted, an_item, at_alike, bind, bind_short, both, by_tests, each_both, each_length, expected, neither, no_item, no_next, none_taken, pick, refused_alike, same_body, same_next, short, taken, trimmed_alike, unexpected, weaken}
+use Rattle.justfile_model.proofs.Related.{Alike, AlikeFragment, AlikeItem, AlikeItems, AlikeLine, Each, Never, Related, Relations, Respects, States, Takes, accepted, an_item, at_alike, bind, bind_short, both, by_tests, each_both, each_length, expected, neither, no_item, no_next, none_taken, pick, refused_alike, same_body, same_comment, same_next, short, taken, trimmed_alike, unexpected, weaken}
 use Rattle.justfile_model.proofs.Turns.{both_recur}
 
 dropped : {X Y : Type 0} {Rel : X → Y → Type 0} (n : ℕ) {xs : List X} {ys : List Y} → Each Rel xs ys → Each Rel (drop n xs) (drop n ys)
@@ -95,19 +96,35 @@ module _ {R T A B S D R' T' A' B' S' D' : Type 0} (rel : Relations R T A B S D R
   unfolding body
   body_natural {s} {s'} h = bind rel _ _ (lines_natural s s' h) (λ x x' q k. some_alike (trimmed_alike rel q) k)
 
-  pub optional_body_natural : {s : State R T B} {s' : State R' T' B'} → States rel s s' → Reads rel (Each (AlikeLine rel)) (optional_body one s) (optional_body other s')
+  -- comments before a body, and bodies
+  pub record AlikeBody (b : CommentedBody one) (b' : CommentedBody other) : Type 0 where
+    pub comment : AlikeOption rel.token b.0 b'.0
+    pub lines : Each (AlikeLine rel) b.1 b'.1
+
+  next_alike : {ts : List T} {ts' : List T'} → Each rel.token ts ts' → AlikeOption rel.token (front ts) (front ts')
+  next_alike a.nil = absent
+  next_alike (a.cons h hs) = present h
+
+  body_after_natural : {o : Option T} {o' : Option T'} → AlikeOption rel.token o o' → {s : State R T B} {s' : State R' T' B'} → States rel s s'
+      → Reads rel AlikeBody (body_after one o s) (body_after other o' s')
+  unfolding body_after
+  body_after_natural c h = bind rel _ _ (body_natural h) (λ x x' q k. both (record { comment = c; lines = q }) k)
+
+  pub optional_body_natural : {s : State R T B} {s' : State R' T' B'} → States rel s s' → Reads rel AlikeBody (optional_body one s) (optional_body other s')
   unfolding optional_body
   optional_body_natural {s} {s'} h =
       let short : List TokenKind = kinds.Eol ∷ kinds.Indent ∷ [] in
       let long : List TokenKind = kinds.Comment ∷ kinds.Eol ∷ kinds.Indent ∷ [] in
-      by_tests rel (next_are one short s) (next_are other short s') (same_next rel one other agree short h) (body_natural (at_alike rel h (dropped 2 h.left)))
-      (by_tests rel (next_are one long s) (next_are other long s') (same_next rel one other agree long h) (body_natural (at_alike rel h (dropped 3 h.left)))
-      (both a.nil h))
+      by_tests rel (next_are one short s) (next_are other short s') (same_next rel one other agree short h) (body_after_natural absent (at_alike rel h (dropped 2 h.left)))
+      (by_tests rel (next_are one long s) (next_are other long s') (same_next rel one other agree long h)
+      (body_after_natural (next_alike h.left) (at_alike rel h (dropped 3 h.left)))
+      (both (record { comment = absent; lines = a.nil }) h))
 
 -- Two readers keep related things of attributes: of each, of which `Keeps` holds, and of all those of a construct.
 pub record RespectsAttributes {R T A B S D W R' T' A' B' S' D' W' : Type 0} (rel : Relations R T A B S D R' T' A' B' S' D') (one : Leaves R T A B S)
     (other : Leaves R' T' A' B' S') (kept : AttributeLeaves R A B D W) (kept' : AttributeLeaves R' A' B' D' W') (Keeps : W → W' → Type 0) : Type 0 where
   pub keeping : Keeping rel one other kept.sight kept'.sight kept.keep kept.entry kept'.keep kept'.entry Keeps
+  pub commented : (c : List ℕ) (x : W) (x' : W') → Keeps x x' → Keeps (kept.comment c x) (kept'.comment c x')
   pub attributes : (r : R) (r' : R') → rel.run r r' → {ws : List W} {ws' : List W'} → Each Keeps ws ws'
       → rel.attributes (kept.attributes r ws) (kept'.attributes r' ws')
 
@@ -204,8 +221,8 @@ module _ {R T A B S D W R' T' A' B' S' D' W' : Type 0} (rel : Relations R T A B 
   recipes_stay n (p ∷ ps) = recipes_stay (with_bindings (n.bindings + 1) n) ps
 
   recipe_numbered : {Lacking : Counters → Type 0} {ws : List W} {ws' : List W'} (quiet : Bool) (n c : Counters) (x : ReadHeader T A B S) (x' : ReadHeader T' A' B' S') → Each Keeps ws ws'
-      → AlikeRead rel n (x, c) (x', c) → {body : List (BodyLine A B ℕ)} {body' : List (BodyLine A' B' ℕ)}
-      {s : State R T B} {s' : State R' T' B'} → Each (AlikeLine rel) body body' → States rel s s'
+      → AlikeRead rel n (x, c) (x', c) → {body : CommentedBody one} {body' : CommentedBody other}
+      {s : State R T B} {s' : State R' T' B'} → AlikeBody rel one other agree body body' → States rel s s'
       → Related rel (AlikeNumbered n) (NoRecipe Lacking) (draw_recipe one c s >>= headed one kept quiet ws x body) (draw_recipe other c s' >>= headed other kept' quiet ws' x' body')
   unfolding draw_recipe
   recipe_numbered {Lacking} {ws} {ws'} quiet n c x x' q k {body} {body'} {s} {s'} ls h = go (one.has_number c.recipes) (other.has_number c.recipes) refl refl
@@ -220,12 +237,12 @@ module _ {R T A B S D W R' T' A' B' S' D' W' : Type 0} (rel : Relations R T A B 
           both (
             a.recipe (attributed.attributes s.run s'.run h.run q) (record {
               quiet = refl;
-              name = subst (λ (number : ℕ). rel.recipe number (one.recipe s.run x.name c.recipes body) body (other.recipe s'.run x'.name c.recipes body') body') unmoved
-                  (agree.recipe s.run s'.run x.name x'.name h.run k.name c.recipes body body' ls);
+              name = subst (λ (number : ℕ). rel.recipe number (one.recipe s.run x.name c.recipes body.1) body.1 (other.recipe s'.run x'.name c.recipes body'.1) body'.1) unmoved
+                  (agree.recipe s.run s'.run x.name x'.name h.run k.name c.recipes body.1 body'.1 ls.lines);
               parameters = k.parameters;
               priors = k.priors;
               subsequents = k.subsequents;
-            }) ls,
+            }) (same_comment rel one other agree ls.comment) ls.lines,
             refl,
             λ i. with_recipes (unmoved i + 1) (k.counts i),
           ) h
@@ -235,8 +252,8 @@ module _ {R T A B S D W R' T' A' B' S' D' W' : Type 0} (rel : Relations R T A B 
       go false false is is' = short {found = Err (NoNumber c)} (no_number is (λ has. cc) tt)
 
   recipe_alike : {Lacking : Counters → Type 0} {ws : List W} {ws' : List W'} (quiet : Bool) (n : Counters) (x : ReadHeader T A B S × Counters) (x' : ReadHeader T' A' B' S' × Counters) → Each Keeps ws ws'
-      → AlikeRead rel n x x' → {body : List (BodyLine A B ℕ)} {body' : List (BodyLine A' B' ℕ)}
-      {s : State R T B} {s' : State R' T' B'} → Each (AlikeLine rel) body body' → States rel s s'
+      → AlikeRead rel n x x' → {body : CommentedBody one} {body' : CommentedBody other}
+      {s : State R T B} {s' : State R' T' B'} → AlikeBody rel one other agree body body' → States rel s s'
       → Related rel (AlikeNumbered n) (NoRecipe Lacking) (draw_recipe one x.1 s >>= headed one kept quiet ws x.0 body) (draw_recipe other x'.1 s' >>= headed other kept' quiet ws' x'.0 body')
   recipe_alike {Lacking} {ws} {ws'} quiet n x x' q k {body} {body'} {s} {s'} ls h =
       subst (λ (c : Counters). Related rel (AlikeNumbered n) (NoRecipe Lacking) (draw_recipe one x.1 s >>= headed one kept quiet ws x.0 body) (draw_recipe other c s' >>= headed other kept' quiet ws' x'.0 body')) k.same
@@ -283,7 +300,7 @@ module _ {R T A B S D W R' T' A' B' S' D' W' : Type 0} (rel : Relations R T A B 
   exceed_after m (Err e) f h = tt
 
   -- a recipe whose header exceeds a counter does too
-  drawn_exceeds : (m c : Counters) (quiet : Bool) (ws : List W') (x : ReadHeader T' A' B' S') (body : List (BodyLine A' B' ℕ)) (s : State R' T' B')
+  drawn_exceeds : (m c : Counters) (quiet : Bool) (ws : List W') (x : ReadHeader T' A' B' S') (body : CommentedBody other) (s : State R' T' B')
       → one.has_number m.bindings ≡ false → m.bindings < c.bindings → AllExceed m (draw_recipe other c s >>= headed other kept' quiet ws x body)
   unfolding draw_recipe
   drawn_exceeds m c quiet ws x body s ends less = go (other.has_number c.recipes)
@@ -343,7 +360,8 @@ module _ {R T A B S D W R' T' A' B' S' D' W' : Type 0} (rel : Relations R T A B 
   unfolding attributes
   attributes_natural h =
       pick rel _ _ (accepted rel one other agree kinds.BracketL h) (both a.nil h) (λ o o' t k.
-      bind rel _ _ (attribute_lines_natural rel one other agree kept.sight kept'.sight kept.keep kept.entry kept'.keep kept'.entry Keeps attributed.keeping h)
+      bind rel _ _ (attribute_lines_natural rel one other agree kept.sight kept'.sight kept.keep kept.entry kept'.keep kept'.entry Keeps attributed.keeping kept.comment kept'.comment
+      attributed.commented h)
       (λ ws ws' q j. by_tests rel _ _ (same_alone j) (neither (a.extraneous (each_length q) (agree.spot o.0 o'.0 t))) (both q j)))
 
   -- a number is wanting where these counters stand

@@ -1,6 +1,7 @@
 -- The reader of attribute lines is natural in its tokens, leaves and sights: readers whose tokens are related, and which see the same of what they
 -- keep of them, read related attributes, or refuse for the same reason.
-use Rattle.std.proofs.Common.{◌≡◌, Bool, true, false, ◌&&◌, not, List, [], ◌∷◌, ◌++◌, codes, length, map, Option, Some, None, Ok, is_some, refl, sym, ap, subst, ◌∙◌}
+use Rattle.std.proofs.Common.{◌≡◌, ℕ, Bool, true, false, ◌&&◌, not, List, [], ◌∷◌, ◌++◌, codes, length, map, Option, Some, None, Ok, is_some, refl, sym, ap, subst, ◌∙◌}
+use Rattle.std.specs.Option.{option_map}
 use Rattle.justfile_word.specs.AttributeKind.{kind_named, takes_keys}
 use Rattle.justfile_word.specs.declared.attribute_kind.AttributeKind.{AttributeKind}
 use Rattle.justfile_word.specs.declared.token_kind.TokenKind.TheVariants as kinds
@@ -8,10 +9,10 @@ use Rattle.justfile_model.specs.AttributeReader as r
 use Rattle.justfile_model.specs.AttributeReader.{read_made}
 use Rattle.justfile_model.specs.Meaning.{at_key, by_key, by_position}
 use Rattle.justfile_model.specs.NewAttribute.{Made, new_entry}
-use Rattle.justfile_model.specs.Reading.{◌>>=◌, Leaves, Read, State, Taken, choose}
+use Rattle.justfile_model.specs.Reading.{◌>>=◌, Leaves, Read, State, Taken, comment_in}
 use Rattle.justfile_model.specs.Sight.{Sight}
 use Rattle.justfile_model.specs.SignificantTokens.{SignificantToken}
-use Rattle.justfile_model.specs.Tree.{Argument, Entry, Expr, WrittenAttribute}
+use Rattle.justfile_model.specs.Tree.{Argument, Entry, Expr, WrittenAttribute, at_last, bare_attribute, commented}
 use Rattle.justfile_model.proofs.AlikeAttributes as alike
 use Rattle.justfile_model.proofs.AlikeAttributes.{AlikeArgument, AlikeEntry, AlikeKey, AlikeWritten, SeesAlike, keys_alike, positions_alike}
 use Rattle.justfile_model.proofs.AlikeRules as rules
@@ -20,13 +21,14 @@ use Rattle.justfile_model.proofs.MakesAlike.{Makes, broken, made}
 use Rattle.justfile_model.proofs.NaturalExpressions.{Reads, expression_natural}
 use Rattle.justfile_model.proofs.NewAttributesAlike.{key_found, new_entry_alike}
 use Rattle.justfile_model.proofs.Related as a
-use Rattle.justfile_model.proofs.Related.{Alike, AlikeNext, Each, Relations, Respects, States, Takes, accepted, accepted_marked, bind, both, breaks, by_tests, each_both, each_length, expected, front_alike, neither, no_next, pick, same_next, unexpected}
+use Rattle.justfile_model.proofs.Related.{Alike, AlikeNext, Each, Relations, Respects, States, Takes, accepted, accepted_marked, bind, both, breaks, by_tests, each_both, each_length, expected, front_alike, neither, no_next, pick, same_comment, same_next, unexpected}
 use Rattle.justfile_model.proofs.Turns.{both_recur}
 
--- An attribute is what is made of it as it is written, with the kind of its name, after others.
+-- An attribute without a comment is what is made of it as it is written, with the kind of its name, after others.
 pub record IsMade {R T A B S : Type 0} (leaves : Leaves R T A B S) (sight : Sight A B) (w : WrittenAttribute A B) (e : Entry A B) : Type 0 where
   pub name : T
   pub name_is : w.name ≡ leaves.name name
+  pub comment_is : w.comment ≡ None
   pub kind : AttributeKind
   pub named : kind_named (leaves.see name).tok.lexeme ≡ Some kind
   pub before : List (Entry A B)
@@ -227,14 +229,14 @@ module _ {R T A B S D W R' T' A' B' S' D' W' : Type 0} (rel : Relations R T A B 
       → Reads rel Keeps (r.made one sight keep entry_in before n kind all s) (r.made other sight' keep' entry_in' before' n' kind all' s')
   unfolding r.made
   made_natural {before} {before'} n n' kind {all} {all'} {s} {s'} first second d t k h =
-      let w : WrittenAttribute A B = record { name = one.name n; arguments = all } in
-      let w' : WrittenAttribute A' B' = record { name = other.name n'; arguments = all' } in
+      let w : WrittenAttribute A B = bare_attribute (one.name n) all in
+      let w' : WrittenAttribute A' B' = bare_attribute (other.name n') all' in
       let view = keeping.sees s.run s'.run h.run in
       let entries = each_mapped entry_in entry_in' keeping.entry d in
       made_kept w w' (new_entry_alike rel (sight s.run) (sight' s'.run) view kind entries (agree.spot n n' t) (positions_alike rel k) (keys_alike rel k))
       (λ e e' is is' j. keeping.kept s.run s'.run h.run w w' e e' (record { name = agree.name n n' t; arguments = k }) j
-      (record { name = n; name_is = refl; kind = kind; named = first; before = map entry_in before; made = is })
-      (record { name = n'; name_is = refl; kind = kind; named = second; before = map entry_in' before'; made = is' }))
+      (record { name = n; name_is = refl; comment_is = refl; kind = kind; named = first; before = map entry_in before; made = is })
+      (record { name = n'; name_is = refl; comment_is = refl; kind = kind; named = second; before = map entry_in' before'; made = is' }))
       h
 
   -- the arguments of an attribute of this kind, and what is made of them
@@ -282,36 +284,57 @@ module _ {R T A B S D W R' T' A' B' S' D' W' : Type 0} (rel : Relations R T A B 
 
   -- ---- lines of attributes
 
-  past_comment : {s : State R T B} {s' : State R' T' B'} {o : Taken R T B} {o' : Taken R' T' B'} → States rel s s' → Takes rel o o'
-      → States rel (choose o s (λ comment. comment.1)) (choose o' s' (λ comment. comment.1))
-  past_comment h a.none_taken = h
-  past_comment h (a.taken t k) = k
+  line_end_natural : {comment : Option T} {comment' : Option T'} → AlikeOption rel.token comment comment' → {s : State R T B} {s' : State R' T' B'}
+      → States rel s s'
+      → Reads rel (AlikeOption rel.token) (r.line_end_after one sight keep entry_in comment s) (r.line_end_after other sight' keep' entry_in' comment' s')
+  unfolding r.line_end_after
+  line_end_natural c h = bind rel _ _ (expected rel one other agree kinds.Eol h) (λ x x' t k. both c k)
 
   attributes_end_natural : {s : State R T B} {s' : State R' T' B'} → States rel s s'
-      → Reads rel rel.token (r.attributes_end one sight keep entry_in s) (r.attributes_end other sight' keep' entry_in' s')
+      → Reads rel (AlikeOption rel.token) (r.attributes_end one sight keep entry_in s) (r.attributes_end other sight' keep' entry_in' s')
   unfolding r.attributes_end
-  attributes_end_natural h = expected rel one other agree kinds.Eol (past_comment h (accepted rel one other agree kinds.Comment h))
+  attributes_end_natural h =
+      pick rel _ _ (accepted rel one other agree kinds.Comment h) (line_end_natural absent h) (λ c c' t k. line_end_natural (present t) k)
 
-  lines_agree : (f : List W × State R T B → Read R T B (List W)) (g : List W' × State R' T' B' → Read R' T' B' (List W'))
-      → ((x : List W × State R T B) (x' : List W' × State R' T' B') → Stand Keeps x x' → Reads rel (Each Keeps) (f x) (g x'))
-      → (x : List W × State R T B) (x' : List W' × State R' T' B') → Stand Keeps x x'
-      → Reads rel (Each Keeps) (r.attribute_lines_rule one sight keep entry_in f x) (r.attribute_lines_rule other sight' keep' entry_in' g x')
-  lines_agree f g same x x' h =
-      pick rel _ _ (accepted rel one other agree kinds.BracketL h.state) (both h.read h.state) (λ o o' t k.
-      bind rel _ _ (bracketed_natural (x.0, o.1) (x'.0, o'.1) (record { read = h.read; state = k })) (λ ws ws' d j.
-      bind rel _ _ (attributes_end_natural j) (λ e e' u i. same (ws.0, e.1) (ws'.0, e'.1) (record { read = d; state = i }))))
+  -- a comment is put to what is kept, and what is kept stays related
+  module _ (put : List ℕ → W → W) (put' : List ℕ → W' → W') (kept : (c : List ℕ) (x : W) (x' : W') → Keeps x x' → Keeps (put c x) (put' c x')) where
+    last_alike : (c : List ℕ) {ws : List W} {ws' : List W'} → Each Keeps ws ws' → Each Keeps (at_last (put c) ws) (at_last (put' c) ws')
+    last_alike c a.nil = a.nil
+    last_alike c (a.cons {x = x} {y = y} h a.nil) = a.cons (kept c x y h) a.nil
+    last_alike c (a.cons h (a.cons k ks)) = a.cons h (last_alike c (a.cons k ks))
 
-  lines_from_natural : (x : List W × State R T B) (x' : List W' × State R' T' B') → Stand Keeps x x'
-      → Reads rel (Each Keeps) (r.attribute_lines_from one sight keep entry_in x) (r.attribute_lines_from other sight' keep' entry_in' x')
-  unfolding r.attribute_lines_from
-  lines_from_natural =
-      both_recur (λ x. length x.1.left) (r.no_attributes one sight keep entry_in) (r.attribute_lines_rule one sight keep entry_in)
-      (λ x. length x.1.left) (r.no_attributes other sight' keep' entry_in') (r.attribute_lines_rule other sight' keep' entry_in') (Stand Keeps)
-      (λ x x' h. each_length h.state.left)
-      (λ x x' found found'. Reads rel (Each Keeps) found found') (λ x x' h. neither (unexpected no_next)) lines_agree
+    same_alike : (comment : Option (List ℕ)) {ws : List W} {ws' : List W'} → Each Keeps ws ws' → Each Keeps (commented put comment ws) (commented put' comment ws')
+    same_alike None h = h
+    same_alike (Some c) h = last_alike c h
 
-  -- the law
-  pub attribute_lines_natural : {s : State R T B} {s' : State R' T' B'} → States rel s s'
-      → Reads rel (Each Keeps) (r.attribute_lines one sight keep entry_in s) (r.attribute_lines other sight' keep' entry_in' s')
-  unfolding r.attribute_lines
-  attribute_lines_natural {s} {s'} h = lines_from_natural ([], s) ([], s') (record { read = a.nil; state = h })
+    commented_alike : {o : Option T} {o' : Option T'} → AlikeOption rel.token o o' → {ws : List W} {ws' : List W'} → Each Keeps ws ws'
+        → Each Keeps (r.commented_by one sight keep entry_in put o ws) (r.commented_by other sight' keep' entry_in' put' o' ws')
+    commented_alike {o = o} c {ws} {ws'} h =
+        subst (λ text. Each Keeps (r.commented_by one sight keep entry_in put o ws) (commented put' text ws')) (same_comment rel one other agree c)
+        (same_alike (option_map (comment_in one) o) h)
+
+    lines_agree : (f : List W × State R T B → Read R T B (List W)) (g : List W' × State R' T' B' → Read R' T' B' (List W'))
+        → ((x : List W × State R T B) (x' : List W' × State R' T' B') → Stand Keeps x x' → Reads rel (Each Keeps) (f x) (g x'))
+        → (x : List W × State R T B) (x' : List W' × State R' T' B') → Stand Keeps x x'
+        → Reads rel (Each Keeps) (r.attribute_lines_rule one sight keep entry_in put f x) (r.attribute_lines_rule other sight' keep' entry_in' put' g x')
+    lines_agree f g same x x' h =
+        pick rel _ _ (accepted rel one other agree kinds.BracketL h.state) (both h.read h.state) (λ o o' t k.
+        bind rel _ _ (bracketed_natural (x.0, o.1) (x'.0, o'.1) (record { read = h.read; state = k })) (λ ws ws' d j.
+        bind rel _ _ (attributes_end_natural j) (λ e e' u i.
+        same (r.commented_by one sight keep entry_in put e.0 ws.0, e.1) (r.commented_by other sight' keep' entry_in' put' e'.0 ws'.0, e'.1)
+        (record { read = commented_alike u d; state = i }))))
+
+    lines_from_natural : (x : List W × State R T B) (x' : List W' × State R' T' B') → Stand Keeps x x'
+        → Reads rel (Each Keeps) (r.attribute_lines_from one sight keep entry_in put x) (r.attribute_lines_from other sight' keep' entry_in' put' x')
+    unfolding r.attribute_lines_from
+    lines_from_natural =
+        both_recur (λ x. length x.1.left) (r.no_attributes one sight keep entry_in) (r.attribute_lines_rule one sight keep entry_in put)
+        (λ x. length x.1.left) (r.no_attributes other sight' keep' entry_in') (r.attribute_lines_rule other sight' keep' entry_in' put') (Stand Keeps)
+        (λ x x' h. each_length h.state.left)
+        (λ x x' found found'. Reads rel (Each Keeps) found found') (λ x x' h. neither (unexpected no_next)) lines_agree
+
+    -- the law
+    pub attribute_lines_natural : {s : State R T B} {s' : State R' T' B'} → States rel s s'
+        → Reads rel (Each Keeps) (r.attribute_lines one sight keep entry_in put s) (r.attribute_lines other sight' keep' entry_in' put' s')
+    unfolding r.attribute_lines
+    attribute_lines_natural {s} {s'} h = lines_from_natural ([], s) ([], s') (record { read = a.nil; state = h })

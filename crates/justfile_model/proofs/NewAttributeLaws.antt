@@ -16,7 +16,7 @@ use Rattle.justfile_model.specs.NewAttribute.{Made, check_count, check_keys, che
 use Rattle.justfile_model.specs.Rules.{Broken, InvalidSignal, UnknownAttributeKey}
 use Rattle.justfile_model.specs.Sight.{Sight}
 use Rattle.justfile_model.specs.Tree as tree
-use Rattle.justfile_model.specs.Tree.{Attribute, Entry, Expr, Quoted}
+use Rattle.justfile_model.specs.Tree.{Attribute, Entry, Expr, Quoted, bare_entry}
 use Rattle.justfile_model.specs.ArgumentTexts.{HasText, HasTexts}
 use Rattle.justfile_model.proofs.NewArgumentLaws.{rules_as_meant, with_text}
 use Rattle.justfile_model.proofs.NewAttributeSteps.{Agrees, Fits, agreed, each, first_of_all, if_there, last_step, nothing_in, one_some, refused_first, step, step_check, then_is}
@@ -239,6 +239,7 @@ module _ {A B : Type 0} (sight : Sight A B) where
     -- the entry is what is meant, at its name, and no rule is broken
     pub record IsMeant (e : Entry A B) : Type 0 where
       pub name_is : e.name ≡ name
+      pub comment_is : e.comment ≡ None
       pub meant : attribute_of sight kind placed keys ≡ Some e.attribute
       pub unbroken : arguments_broken sight name kind placed keys ≡ []
       pub distinct : duplicate_broken sight before e ≡ []
@@ -247,10 +248,10 @@ module _ {A B : Type 0} (sight : Sight A B) where
     pub data Breaks (r : Broken B) : Type 0 where
       alone : Contains (arguments_broken sight name kind placed keys) r → Breaks r
       repeated : (attribute : Attribute A B) → attribute_of sight kind placed keys ≡ Some attribute
-          → Contains (duplicate_broken sight before (record { name = name; attribute = attribute })) r → Breaks r
+          → Contains (duplicate_broken sight before (bare_entry name attribute)) r → Breaks r
 
     abbrev entry_at : Attribute A B → Entry A B
-    entry_at a = record { name = name; attribute = a }
+    entry_at a = bare_entry name a
 
     pub entry_made : (e : Entry A B) → new_entry sight before name kind placed keys ≡ Ok e → IsMeant e
     entry_made e h = go (new_attribute sight name kind placed keys) refl h
@@ -261,7 +262,7 @@ module _ {A B : Type 0} (sight : Sight A B) where
         within a m (Ok x) c k =
             let same : entry_at a ≡ e = cc in
             let made = attribute_made sight name kind placed keys a m in
-            subst IsMeant same (record { name_is = refl; meant = made.0; unbroken = made.1; distinct = (distinct_passes before (entry_at a)).0 c })
+            subst IsMeant same (record { name_is = refl; comment_is = refl; meant = made.0; unbroken = made.1; distinct = (distinct_passes before (entry_at a)).0 c })
 
         go : (m : Made B (Attribute A B)) → new_attribute sight name kind placed keys ≡ m
             → new.◌>>=◌ m (λ a. new.◌>>=◌ (check_repeated sight before (entry_at a)) (λ distinct. Ok (entry_at a))) ≡ Ok e → IsMeant e

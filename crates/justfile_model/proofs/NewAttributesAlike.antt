@@ -308,7 +308,8 @@ module _ {R T A B S D R' T' A' B' S' D' : Type 0} (rel : Relations R T A B S D R
       → Makes rel.spot (AlikeEntry rel) (new.new_entry sight ds n kind ps ks) (new.new_entry sight' ds' n' kind ps' ks')
   new_entry_alike {n} {n'} kind d place h k =
       step rel.spot _ _ (new_attribute_alike n n' place kind h k)
-      (λ x x' j. step rel.spot _ _ (repeated_alike d (record { name = place; attribute = j })) (λ _ _ _. made (record { name = place; attribute = j })))
+      (λ x x' j. step rel.spot _ _ (repeated_alike d (record { name = place; attribute = j; comment = refl }))
+      (λ _ _ _. made (record { name = place; attribute = j; comment = refl })))
 
   -- ---- by the item
 

@@ -220,7 +220,7 @@ module _ {A B C S A' B' C' S' : Type 0} (f : A → A') (g : B → B') (h : C →
   content_over (Module parts) = refl
   content_over (Setting parts) = refl
   content_over (Unexport name) = refl
-  content_over (Recipe parts) = λ i. Recipe (record { doc = parts.doc; header = header_over f g k parts.header i; body = map (over_line f g h) parts.body })
+  content_over (Recipe parts) = λ i. Recipe (record { doc = parts.doc; header = header_over f g k parts.header i; comment = parts.comment; body = map (over_line f g h) parts.body })
 
 -- ---- a tree and its shape
 

@@ -59,7 +59,7 @@ module _ {A B C : Type 0} where
   redocumented_same (Setting parts) o e = refl
   redocumented_same (Unexport name) o e = refl
   redocumented_same (Module parts) o e = λ i. Module (record { doc = sym e i; optional = parts.optional; name = parts.name; path = parts.path })
-  redocumented_same (Recipe parts) o e = λ i. Recipe (record { doc = sym e i; header = parts.header; body = parts.body })
+  redocumented_same (Recipe parts) o e = λ i. Recipe (record { doc = sym e i; header = parts.header; comment = parts.comment; body = parts.body })
 
   -- the doc is taken again
   with_doc_again : (entries : List (Entry A B)) (content : Content A B C (Unit {0})) (doc : List ℕ) → shown_doc entries content ≡ doc_of content → doc_of content ≡ Some doc
@@ -76,7 +76,7 @@ module _ {A B C : Type 0} where
       ap (λ b. cond (true && not b && true) (Some (Construct entries again)) None) n.0 ∙ ap (λ c. Some (Construct entries c)) (redocumented_same (Module parts) (Some doc) e)
   with_doc_again entries (Recipe parts) doc s e =
       let n = unless_some (says_doc entries) parts.doc doc (s ∙ e) in
-      let again : Content A B C (Unit {0}) = Recipe (record { doc = Some doc; header = parts.header; body = parts.body }) in
+      let again : Content A B C (Unit {0}) = Recipe (record { doc = Some doc; header = parts.header; comment = parts.comment; body = parts.body }) in
       ap (λ b. cond (true && not b && true) (Some (Construct entries again)) None) n.0 ∙ ap (λ c. Some (Construct entries c)) (redocumented_same (Recipe parts) (Some doc) e)
 
   comment_stays : (before : Before) (comment : List ℕ) (items : List (OrderedItem A B C)) → NoDoc before comment items → taken says_doc before (Comment comment) items ≡ Comment comment ∷ items

@@ -1,5 +1,5 @@
 -- The reader of items and of bodies, one rule at a time, and as a loop goes over them.
-use Rattle.std.proofs.Common.{◌≡◌, ℕ, ◌<◌, true, false, Bool, ◌&&◌, cond, List, [], ◌∷◌, ◌++◌, length, drop, Some, None, Ok, Err, codes, refl, sym, ap, ◌∙◌, arith}
+use Rattle.std.proofs.Common.{◌≡◌, ℕ, ◌<◌, true, false, Bool, ◌&&◌, cond, List, [], ◌∷◌, ◌++◌, length, drop, Option, Some, None, Ok, Err, codes, refl, sym, ap, ◌∙◌, arith}
 use Rattle.std.proofs.lemmas.List.{append-nil, append_assoc, length-drop}
 use Rattle.justfile_word.specs.declared.item_kind.ItemKind.{ItemKind}
 use Rattle.justfile_word.specs.declared.item_kind.ItemKind.TheVariants as item_kinds
@@ -9,7 +9,8 @@ use Rattle.justfile_model.specs.AttributeReader.{AttributeLeaves, attribute_line
 use Rattle.justfile_model.specs.HeaderReader.{draw_binding, expression, header, path}
 use Rattle.justfile_model.specs.PartReader.{accept_before, after_numbered, file_path, is_assigned, is_imported, is_module, is_set, keyword_at, line_is, names, optional_path, setting_value}
 use Rattle.justfile_model.specs.Settings.{setting_form}
-use Rattle.justfile_model.specs.Reader.{Start, alias, allowed, any_module, any_recipe, argument_rules, assignment, at_end, attributes, before_item, body, body_line, construct, content, draw_recipe, ended, fragment, function, has_body, import, imported, item_rest, items, items_from, items_rule, line, line_end, line_rest, line_rest_rule, lines, lines_rule, named_module, no_exclusion, no_items, no_line_rest, no_lines, on_line, optional_body, recipe, setting, some_lines, stands_alone, unexport, wordless}
+use Rattle.justfile_model.specs.Expressions.{front}
+use Rattle.justfile_model.specs.Reader.{CommentedBody, Start, alias, allowed, any_module, any_recipe, argument_rules, assignment, at_end, attributes, before_item, body, body_after, body_line, construct, content, draw_recipe, ended, fragment, function, has_body, import, imported, item_rest, items, items_from, items_rule, line, line_end, line_rest, line_rest_rule, lines, lines_rule, named_module, no_exclusion, no_items, no_line_rest, no_lines, on_line, optional_body, recipe, setting, some_lines, stands_alone, unexport, wordless}
 use Rattle.justfile_model.specs.Reading.{◌>>=◌, Counters, Leaves, Read, Refusal, State, Taken, accept, accept_by, accepted, prepend, at, begin_with, choose, expect, next_are, same_kind}
 use Rattle.justfile_model.specs.Recursive.{below}
 use Rattle.justfile_model.specs.Tree.{Fragment, BodyLine, Item, trimmed}
@@ -161,16 +162,20 @@ module _ {R T A B S : Type 0} (leaves : Leaves R T A B S) where
   body_goes s = first s (lines leaves s) _ (lines_go s) (λ x. some_keeps (trimmed x.0) x.1)
 
   -- a recipe may have no body
+  body_after_keeps : (comment : Option T) (s : State R T B) → Keeps s (body_after leaves comment s)
+  unfolding body_after
+  body_after_keeps comment s = then s (body leaves s) _ (keeps s _ (body_goes s)) (λ x. there x.1)
+
   pub optional_body_keeps : (s : State R T B) → Keeps s (optional_body leaves s)
   unfolding optional_body
   optional_body_keeps s =
-      let K : Read R T B (List (BodyLine A B ℕ)) → Type 0 = Keeps s in
+      let K : Read R T B (CommentedBody leaves) → Type 0 = Keeps s in
       let short : State R T B = at s (drop 2 s.left) in
       let long : State R T B = at s (drop 3 s.left) in
       after_test (next_are leaves (kinds.Eol ∷ kinds.Indent ∷ []) s) _ _ K
-      (λ _. from_there s short _ (at_drop 2 s) (keeps short _ (body_goes short)))
+      (λ _. from_there s short _ (at_drop 2 s) (body_after_keeps None short))
       (λ _. after_test (next_are leaves (kinds.Comment ∷ kinds.Eol ∷ kinds.Indent ∷ []) s) _ _ K
-      (λ _. from_there s long _ (at_drop 3 s) (keeps long _ (body_goes long)))
+      (λ _. from_there s long _ (at_drop 3 s) (body_after_keeps (front s.left) long))
       (λ _. there s))
 
   -- ---- numbers
@@ -351,10 +356,10 @@ module _ {R T A B S D W : Type 0} (leaves : Leaves R T A B S) (kept : AttributeL
   attributes_keep s = go (accept leaves kinds.BracketL s)
     where
       go : (o : Taken R T B)
-          → Keeps s (choose o (Ok ([], s)) (λ opener. attribute_lines leaves kept.sight kept.keep kept.entry s >>= before_item leaves kept opener.0))
+          → Keeps s (choose o (Ok ([], s)) (λ opener. attribute_lines leaves kept.sight kept.keep kept.entry kept.comment s >>= before_item leaves kept opener.0))
       go None = there s
       go (Some opener) =
-          then s (attribute_lines leaves kept.sight kept.keep kept.entry s) _ (attribute_lines_keep leaves kept.sight kept.keep kept.entry s)
+          then s (attribute_lines leaves kept.sight kept.keep kept.entry kept.comment s) _ (attribute_lines_keep leaves kept.sight kept.keep kept.entry kept.comment s)
           (λ ws. before_item_keeps opener.0 ws)
 
   pub construct_goes : (n : Counters) (s : State R T B) → Goes s (construct leaves kept n s)

@@ -1,6 +1,8 @@
 -- Two readers side by side: how what the one reads and leaves is related to what the other does. `Relations` says what is related of tokens
 -- and leaves, and the rest follows from it.
-use Rattle.std.proofs.Common.{◌≡◌, ◌⊎◌, ℕ, suc, ◌+◌, ◌<◌, ◌≤◌, Bool, true, false, ◌&&◌, cond, List, [], ◌∷◌, ◌++◌, length, Option, Some, None, Result, Ok, Err, refl, sym, ap, subst, ◌∙◌, inl, inr, arith, ◌-◌, nat_lt}
+use Rattle.std.specs.Option.{option_map}
+use Rattle.std.specs.Str.{trim_end}
+use Rattle.std.proofs.Common.{◌≡◌, ◌⊎◌, ℕ, suc, ◌+◌, ◌≤◌, Bool, true, false, ◌&&◌, cond, List, [], ◌∷◌, ◌++◌, length, Option, Some, None, Result, Ok, Err, refl, ap, subst, inl, inr, arith, ◌-◌, nat_lt}
 use Rattle.std.proofs.lemmas.Bool.Decides.{nat_tests}
 use Rattle.justfile_word.specs.declared.keyword.Keyword.{Keyword}
 use Rattle.justfile_word.specs.declared.token_kind.TokenKind.{TokenKind}
@@ -18,7 +20,7 @@ use Rattle.justfile_model.specs.Literals as literals
 use Rattle.justfile_model.specs.Literals.{Expansions, Literal, LiteralFault, cooked_text, string_of, token_of}
 use Rattle.justfile_model.specs.Operators.{binary, is_at, operator_of}
 use Rattle.justfile_model.specs.Reader.{has_body}
-use Rattle.justfile_model.specs.Reading.{◌>>=◌, AfterVariadic, BreaksRule, Counters, ExpectedKeyword, Extraneous, Leaves, NoNumber, NotCooked, Read, Refusal, State, Taken, TooDeep, Unexpected, UnknownSetting, accept, accept_by, accept_marked, accept_word, at, begin_with, choose, expect, is_word, marked_by, marks, next_are, refused, same_kind, with}
+use Rattle.justfile_model.specs.Reading.{◌>>=◌, AfterVariadic, BreaksRule, Counters, ExpectedKeyword, Extraneous, Leaves, NoNumber, NotCooked, Read, Refusal, State, Taken, TooDeep, Unexpected, UnknownSetting, accept, accept_by, accept_marked, accept_word, at, begin_with, choose, comment_in, expect, is_word, marked_by, marks, next_are, refused, same_kind, with}
 use Rattle.justfile_model.specs.Rules.{Broken}
 use Rattle.justfile_model.specs.SignificantTokens.{SignificantToken}
 use Rattle.justfile_model.specs.Tree as tree
@@ -211,8 +213,9 @@ module _ {R T A B S D R' T' A' B' S' D' : Type 0} (rel : Relations R T A B S D R
     setting : {keyword : Keyword} {d : D} {d' : D'} {a : A} {a' : A'} {v : SettingValue A B} {v' : SettingValue A' B'} → rel.attributes d d' → rel.name a a' → AlikeValue v v'
         → AlikeItem n (Construct d (tree.Setting (record { keyword = keyword; name = a; value = v }))) (Construct d' (tree.Setting (record { keyword = keyword; name = a'; value = v' })))
     unexport : {d : D} {d' : D'} {a : A} {a' : A'} → rel.attributes d d' → rel.name a a' → AlikeItem n (Construct d (tree.Unexport a)) (Construct d' (tree.Unexport a'))
-    recipe : {d : D} {d' : D'} {h : Header A B S} {h' : Header A' B' S'} {body : List (BodyLine A B ℕ)} {body' : List (BodyLine A' B' ℕ)} → rel.attributes d d' → AlikeHeader n h body h' body' → Each AlikeLine body body'
-        → AlikeItem n (Construct d (tree.Recipe (bare_recipe h body))) (Construct d' (tree.Recipe (bare_recipe h' body')))
+    recipe : {d : D} {d' : D'} {h : Header A B S} {h' : Header A' B' S'} {comment comment' : Option (List ℕ)} {body : List (BodyLine A B ℕ)} {body' : List (BodyLine A' B' ℕ)} → rel.attributes d d' → AlikeHeader n h body h' body'
+        → comment ≡ comment' → Each AlikeLine body body'
+        → AlikeItem n (Construct d (tree.Recipe (bare_recipe h comment body))) (Construct d' (tree.Recipe (bare_recipe h' comment' body')))
 
   -- items, where the counters stand before the first
   pub data AlikeItems : Counters → List (Item A B ℕ S D) → List (Item A' B' ℕ S' D') → Type 0 where
@@ -275,8 +278,8 @@ module _ {R T A B S D R' T' A' B' S' D' : Type 0} (rel : Relations R T A B S D R
   same_body (module_of d a o) = refl
   same_body (setting d a v) = refl
   same_body (unexport d a) = refl
-  same_body (recipe d a nil) = refl
-  same_body (recipe d a (cons l ls)) = refl
+  same_body (recipe d a e nil) = refl
+  same_body (recipe d a e (cons l ls)) = refl
 
   before_alike : {l : BodyLine A B ℕ} {l' : BodyLine A' B' ℕ} {ls : List (BodyLine A B ℕ)} {ls' : List (BodyLine A' B' ℕ)} → AlikeLine l l' → Each AlikeLine ls ls' → Each AlikeLine (line_before l ls) (line_before l' ls')
   before_alike (line nil) nil = nil
@@ -482,6 +485,11 @@ module _ {R T A B S D R' T' A' B' S' D' : Type 0} (rel : Relations R T A B S D R
     accepted_by : (test : SignificantToken → Bool) {s : State R T B} {s' : State R' T' B'} {ts : List T} {ts' : List T'} → States s s' → Each rel.token ts ts' → Takes (accept_by one test s ts) (accept_by other test s' ts')
     accepted_by test h nil = none_taken
     accepted_by test h (cons {x = t} {y = t'} k ks) = take_tested (test (one.see t)) (test (other.see t')) (ap test (agree.see t t' k)) k (at_alike h ks)
+
+    -- a comment says the same
+    pub same_comment : {o : Option T} {o' : Option T'} → AlikeOption rel.token o o' → option_map (comment_in one) o ≡ option_map (comment_in other) o'
+    same_comment absent = refl
+    same_comment (present {x = t} {y = t'} h) = ap (λ (x : SignificantToken). Some (trim_end x.tok.lexeme)) (agree.see t t' h)
 
     pub accepted : (kind : TokenKind) {s : State R T B} {s' : State R' T' B'} → States s s' → Takes (accept one kind s) (accept other kind s')
     unfolding accept

@@ -62,6 +62,7 @@ module _ {A B : Type 0} where
       priors = map_same starless_dependency dependency_starless parts.header.priors i;
       subsequents = map_same starless_dependency dependency_starless parts.header.subsequents i;
     };
+    comment = parts.comment;
     body = parts.body;
   })
 
@@ -190,7 +191,7 @@ module _ (current : VersionNumbers) (expander : Expansions) where
       }
   redocumented_again entries (Recipe parts) doc h =
       let content : ShapeContent = Recipe parts in
-      let again : ShapeContent = Recipe (record { doc = doc; header = parts.header; body = parts.body }) in
+      let again : ShapeContent = Recipe (record { doc = doc; header = parts.header; comment = parts.comment; body = parts.body }) in
       let m = construct_meant (sees expander) (rewritten_entries entries) content (Construct entries content) h.means in
       let means = m.means ∙ ap Some (sym (ap entries_in m.item_is)) in
       record {

@@ -367,4 +367,5 @@ module _ (expander : Expansions) where
       let broken : known_broken sight w k.first ≡ [] = ap (named_broken sight w) (sym k.is) ∙ u in
       let h = kept k.first es (by_key w.arguments) a.first (ap (λ ps. attribute_of sight k.first ps (by_key w.arguments)) (sym places) ∙ a.is)
       (ap (λ ps. arguments_broken sight tt k.first ps (by_key w.arguments)) (sym places) ∙ (nothing_in _ _ broken).1) in
-      subst MeansItself (some_back (record { name = tt; attribute = a.first }) e a.gives) (itself (record { name = tt; attribute = a.first }) k.first h)
+      subst MeansItself (some_back (record { name = tt; attribute = a.first; comment = w.comment }) e a.gives)
+      (itself (record { name = tt; attribute = a.first; comment = w.comment }) k.first h)

@@ -19,7 +19,7 @@ use Rattle.justfile_model.specs.Rules.{Broken, Rule}
 use Rattle.justfile_model.specs.Sight.{Sight, content_as_read, text_under}
 use Rattle.justfile_model.specs.Unindent.{unindented}
 use Rattle.justfile_model.specs.Tree as tree
-use Rattle.justfile_model.specs.Tree.{Argument, Attribute, Content, Dependency, DependencyArgument, Expr, Header, Parameter, WrittenAttribute, bare_recipe, assignment_of}
+use Rattle.justfile_model.specs.Tree.{Argument, Attribute, Content, Dependency, DependencyArgument, Expr, Header, Parameter, WrittenAttribute, bare_attribute, bare_recipe, assignment_of}
 
 abbrev unasked : Expansions
 unasked text = None
@@ -57,7 +57,7 @@ abbrev bare : List ℕ → Argument (List ℕ) (List ℕ)
 bare key = tree.Bare key
 
 abbrev given : List ℕ → List (Argument (List ℕ) (List ℕ)) → WrittenAttribute (List ℕ) (List ℕ)
-given name arguments = record { name = name; arguments = arguments }
+given name arguments = bare_attribute name arguments
 
 abbrev at : Rule (List ℕ) → List ℕ → Broken (List ℕ)
 at rule token = record { rule = rule; token = token }
@@ -248,7 +248,7 @@ headed parameters priors subsequents = record { quiet = false; name = codes "foo
 
 -- the recipe `foo` with these parameters
 abbrev recipe_of : List (Parameter (List ℕ) (List ℕ)) → Content (List ℕ) (List ℕ) (List ℕ) (List ℕ)
-recipe_of parameters = tree.Recipe (bare_recipe (headed parameters [] []) [])
+recipe_of parameters = tree.Recipe (bare_recipe (headed parameters [] []) None [])
 
 abbrev recipe : Content (List ℕ) (List ℕ) (List ℕ) (List ℕ)
 recipe = recipe_of []
@@ -364,10 +364,10 @@ on_b star arguments = record { star = star; path = codes "b" ∷ []; arguments =
 
 -- what such a dependency breaks, before `&&` and after it
 abbrev star_breaks : Dependency (List ℕ) (List ℕ) (List ℕ) → List (Broken (List ℕ))
-star_breaks d = construct_broken current sees {C = List ℕ} [] (tree.Recipe (bare_recipe (headed [] (d ∷ []) []) []))
+star_breaks d = construct_broken current sees {C = List ℕ} [] (tree.Recipe (bare_recipe (headed [] (d ∷ []) []) None []))
 
 abbrev later_star_breaks : Dependency (List ℕ) (List ℕ) (List ℕ) → List (Broken (List ℕ))
-later_star_breaks d = construct_broken current sees {C = List ℕ} [] (tree.Recipe (bare_recipe (headed [] (on_b None [] ∷ []) (d ∷ [])) []))
+later_star_breaks d = construct_broken current sees {C = List ℕ} [] (tree.Recipe (bare_recipe (headed [] (on_b None [] ∷ []) (d ∷ [])) None []))
 
 -- `*(b x)`
 star_without : star_breaks (on_b (Some (codes "first")) (argument_of None (codes "x") ∷ []))

@@ -173,7 +173,7 @@ module _ {A B : Type 0} (sight : Sight A B) (cooked : Literal A → Option (List
   })
 
   entry_same : (e e' : Entry A B) → AlikeEntry same e e' → e ≡ e'
-  entry_same e e' h = λ i. record { name = spot_same e.name e'.name h.name i; attribute = attribute_same h.attribute i }
+  entry_same e e' h = λ i. record { name = spot_same e.name e'.name h.name i; attribute = attribute_same h.attribute i; comment = h.comment i }
 
   -- ---- what is written is alike to itself, where all literals agree
 
@@ -389,9 +389,9 @@ module _ {A B : Type 0} (sight : Sight A B) (cooked : Literal A → Option (List
         let own = nothing_in (orders ++ repeats) (arguments_broken sight at kind (by_position w.arguments) (by_key w.arguments)) known in
         let two = nothing_in orders repeats own.0 in
         let made : KeptKind at kind w.arguments m.first = kind_kept at kind w.arguments m.first agreed texts m.is own.1 in
-        let entry : Entry A B = record { name = at; attribute = m.first } in
+        let entry : Entry A B = record { name = at; attribute = m.first; comment = w.comment } in
         let is : entry ≡ e = some_back entry e m.gives in
-        let itself : AlikeEntry same e e = subst (λ x. AlikeEntry same x x) is (record { name = refl; attribute = made.itself }) in
+        let itself : AlikeEntry same e e = subst (λ x. AlikeEntry same x x) is (record { name = refl; attribute = made.itself; comment = refl }) in
         let checked = made_too {Q = λ x y. Unit {0}} tt (repeated_too earlier itself) ((distinct_passes sight before e).1 distinct) in
         record {
           means = rw (named, made.means) (ap Some is);

@@ -249,7 +249,7 @@ module _ {A B C D : Type 0} {f : A → C} {g : B → D} {sight : Sight A B} {oth
       bind_over _ _ _ _ _ _
       ((λ i. attribute_of other kind (by_position_over f g w.arguments i) (by_key_over f g w.arguments i))
       ∙ attribute_of_over kind (by_position w.arguments) (by_key w.arguments))
-      (λ attribute. λ i. Some (record { name = sees.place w.name i; attribute = over_attribute f g attribute })))
+      (λ attribute. λ i. Some (record { name = sees.place w.name i; attribute = over_attribute f g attribute; comment = w.comment })))
 
   pub all_over : (ws : List (WrittenAttribute A B))
       → all_of (entry_of other) (map (over_written_attribute f g) ws) ≡ option_map (map (over_entry f g)) (all_of (entry_of sight) ws)

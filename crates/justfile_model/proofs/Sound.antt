@@ -1,5 +1,6 @@
 -- What is read of a file derives, with the features that are noted on the way, and its literals have texts.
 use Rattle.std.proofs.Common.{◌≡◌, ℕ, Bool, true, false, ◌||◌, cond, List, [], ◌∷◌, ◌++◌, length, drop, Option, Some, None, Ok, Err, IfOk, codes, refl, sym, subst, ap, ◌∙◌, append_assoc, append-nil}
+use Rattle.std.specs.Option.{option_map}
 use Rattle.std.specs.Str.{trim_end}
 use Rattle.justfile_word.specs.declared.token_kind.TokenKind.TheVariants as kinds
 use Rattle.justfile_word.specs.Keyword.{keyword_text}
@@ -18,7 +19,7 @@ use Rattle.justfile_model.specs.SignificantTokens.{SignificantToken}
 use Rattle.justfile_model.specs.Tree as tree
 use Rattle.justfile_model.specs.Tree.{BodyLine, Construct, Content, Entry, Expr, Fragment, Header, Line, Quoted, SettingValue, WrittenAttribute, WrittenItem, WrittenTree, bare_recipe, itself, assignment_of, bare_module, trimmed}
 use Rattle.justfile_model.specs.Features.{ConstructFeatures, Noted}
-use Rattle.justfile_model.specs.Expressions.{Tokens, IsKind, IsWord, NotNext, Under}
+use Rattle.justfile_model.specs.Expressions.{Tokens, IsKind, IsWord, NotNext, Under, front}
 use Rattle.justfile_model.specs.Grammar as g
 use Rattle.justfile_model.specs.Headers as headers
 use Rattle.justfile_model.specs.Grammar.{BeforeBody, NotEmpty}
@@ -27,12 +28,12 @@ use Rattle.justfile_model.specs.ItemParts.{EndsLine, FilePath, Names, NoPath, No
 use Rattle.justfile_model.specs.Literals.{Literal}
 use Rattle.justfile_model.specs.Meaning.{entries_of}
 use Rattle.justfile_model.specs.Files.{all_features, all_literals, body_literals, content_literals, entries_features, fragments_literals, keeps_tokens}
-use Rattle.justfile_model.specs.Reading.{◌>>=◌, Counters, accepted, at, next_are, prepend, taken_or}
+use Rattle.justfile_model.specs.Reading.{◌>>=◌, Counters, accepted, at, comment_in, next_are, prepend, taken_or}
 use Rattle.justfile_model.specs.SettingRules.{value_broken}
 use Rattle.justfile_model.specs.Settings.{SettingForm, setting_form}
 use Rattle.justfile_model.specs.Reader as reader
-use Rattle.justfile_model.specs.PartReader.{accept_before, after_numbered, file_path, is_assigned, is_imported, is_module, is_set, keyword_at, line_is, names, optional_path, setting_value}
-use Rattle.justfile_model.specs.Reader.{Start, alias, allowed, any_module, any_recipe, argument_rules, assignment, at_end, attributes, body, body_line, comment_item, construct, constructed, content, content_has_body, draw_recipe, ended, entries_read, fragment, function, has_body, import, imported, item_rest, items, items_from, items_rule, line, line_at, line_end, line_rest, line_rest_rule, lines, lines_rule, named_module, no_items, no_line_rest, no_lines, on_line, optional_body, recipe, setting, some_lines, stands_alone, unexport, wordless}
+use Rattle.justfile_model.specs.PartReader.{after_numbered, file_path, is_assigned, is_imported, is_module, is_set, line_is, names, optional_path, setting_value}
+use Rattle.justfile_model.specs.Reader.{Start, alias, allowed, any_module, any_recipe, argument_rules, assignment, at_end, attributes, body, body_after, body_line, comment_item, construct, constructed, content, content_has_body, draw_recipe, ended, entries_read, fragment, function, has_body, import, imported, item_rest, items, items_from, items_rule, line, line_at, line_end, line_rest, line_rest_rule, lines, lines_rule, named_module, no_items, no_line_rest, no_lines, on_line, optional_body, recipe, setting, some_lines, stands_alone, unexport, wordless}
 use Rattle.justfile_model.specs.TreeReader.{Read, State, read_attributes, tree_of_tokens, start_state, token_attributes, token_leaves, unnumbered}
 use Rattle.justfile_model.proofs.AttributeSound.{AttributeLines, IsRead, attributes_at, entries_in, written_in}
 use Rattle.justfile_model.proofs.HeaderSound.{HeaderOf, IsHeader, NamedHeader, after_obeying, header_of, header_sound, path_at}
@@ -147,19 +148,24 @@ module _ (conditions : Conditions) where
   starts_at_once (t ∷ []) h = absurd h.1
   starts_at_once (t ∷ u ∷ ts) h = g.at_once h.0 h.1.0
 
-  starts_commented : (ts : Tokens) → AreNext (kinds.Comment ∷ kinds.Eol ∷ kinds.Indent ∷ []) ts → (comment : Option (List ℕ)) × BeforeBody comment ts (drop 3 ts)
+  -- the text of a comment, if there is one
+  abbrev pub comment_said : Option SignificantToken → Option (List ℕ)
+  comment_said comment = option_map (comment_in token_leaves) comment
+
+  starts_commented : (ts : Tokens) → AreNext (kinds.Comment ∷ kinds.Eol ∷ kinds.Indent ∷ []) ts → BeforeBody (comment_said (front ts)) ts (drop 3 ts)
   starts_commented [] h = absurd h
   starts_commented (t ∷ []) h = absurd h.1
   starts_commented (t ∷ u ∷ []) h = absurd h.1.1
-  starts_commented (t ∷ u ∷ v ∷ ts) h = (Some (trim_end t.tok.lexeme), g.commented h.0 h.1.0 h.1.1.0)
+  starts_commented (t ∷ u ∷ v ∷ ts) h = g.commented h.0 h.1.0 h.1.1.0
 
-  abbrev recipe_content : Header Tok Tok Tok → List (BodyLine Tok Tok ℕ) → Content Tok Tok ℕ Tok
-  recipe_content h ls = tree.Recipe (bare_recipe h ls)
+  abbrev recipe_content : Header Tok Tok Tok → Option (List ℕ) → List (BodyLine Tok Tok ℕ) → Content Tok Tok ℕ Tok
+  recipe_content h comment ls = tree.Recipe (bare_recipe h comment ls)
 
-  starts_block : (h : Header Tok Tok Tok) (fs : List (Noted Tok)) (ts rest : Tokens) (ls : List (BodyLine Tok Tok ℕ))
-      → Block (recipe_content h ls) fs ts rest → NotEmpty ls → Contents (content_has_body (recipe_content h ls)) (recipe_content h ls) fs ts rest
-  starts_block h fs ts rest [] b some = absurd some
-  starts_block h fs ts rest (l ∷ ls) b some = a_block b
+  starts_block : (h : Header Tok Tok Tok) (comment : Option (List ℕ)) (fs : List (Noted Tok)) (ts rest : Tokens) (ls : List (BodyLine Tok Tok ℕ))
+      → Block (recipe_content h comment ls) fs ts rest → NotEmpty ls
+      → Contents (content_has_body (recipe_content h comment ls)) (recipe_content h comment ls) fs ts rest
+  starts_block h comment fs ts rest [] b some = absurd some
+  starts_block h comment fs ts rest (l ∷ ls) b some = a_block b
 
   -- one after the other, with all their literals
   joined : {fs gs : List (Noted Tok)} {ls ms all : List (Literal Tok)} {a b c : List (Noted Tok)} → Met conditions.expander fs ls a b → Met conditions.expander gs ms b c → AllCook conditions.expander all → Met conditions.expander (fs ++ gs) all a c
@@ -196,9 +202,10 @@ module _ (conditions : Conditions) where
     pub stays : Here conditions 0 x.1
 
   -- a body after a header, or none
-  pub data IsOptionalBody (s : State) : List (BodyLine Tok Tok ℕ) × State → Type 0 where
-    no_body : IsOptionalBody s ([], s)
-    a_body : {comment : Option (List ℕ)} {first : Tokens} {x : List (BodyLine Tok Tok ℕ) × State} → BeforeBody comment s.left first → IsBody (at s first) x → IsOptionalBody s x
+  pub data IsOptionalBody (s : State) : reader.CommentedBody token_leaves × State → Type 0 where
+    no_body : IsOptionalBody s ((None, []), s)
+    a_body : {comment : Option SignificantToken} {first : Tokens} {x : List (BodyLine Tok Tok ℕ) × State} → BeforeBody (comment_said comment) s.left first
+        → IsBody (at s first) x → IsOptionalBody s ((comment, x.0), x.1)
 
   -- what attributes that were read mean, in the order of their content
   abbrev meant : List ReadAttribute → List (Entry Tok Tok)
@@ -664,47 +671,53 @@ module _ (conditions : Conditions) where
   body_sound s here =
       after_bind (lines token_leaves s) _ (λ o. IfOk o (IsBody s)) (λ e. tt) (λ x is. some_left s x.1 x.0 (trimmed x.0) (lines_at s x is here) refl)
 
-  body_is_after : (s : State) (first : Tokens) → (comment : Option (List ℕ)) × BeforeBody comment s.left first → (found : Read (List (BodyLine Tok Tok ℕ))) → IfOk found (IsBody (at s first)) → IfOk found (IsOptionalBody s)
-  body_is_after s first b (Ok x) h = a_body b.1 h
-  body_is_after s first b (Err e) h = tt
+  body_is_after : (s : State) (comment : Option SignificantToken) (first : Tokens) → BeforeBody (comment_said comment) s.left first → Here conditions 0 s
+      → IfOk (body_after token_leaves comment (at s first)) (IsOptionalBody s)
+  unfolding body_after
+  body_is_after s comment first b here = go (body token_leaves (at s first)) (body_sound (at s first) here)
+    where
+      go : (found : Read (List (BodyLine Tok Tok ℕ))) → IfOk found (IsBody (at s first)) → IfOk (found >>= λ ls. Ok ((comment, ls.0), ls.1)) (IsOptionalBody s)
+      go (Ok x) h = a_body b h
+      go (Err e) h = tt
 
   pub optional_body_sound : (s : State) → Here conditions 0 s → IfOk (optional_body token_leaves s) (IsOptionalBody s)
   unfolding optional_body
   optional_body_sound s here =
-      let P : Read (List (BodyLine Tok Tok ℕ)) → Type 0 = λ o. IfOk o (IsOptionalBody s) in
+      let P : Read (reader.CommentedBody token_leaves) → Type 0 = λ o. IfOk o (IsOptionalBody s) in
       let short : State = at s (drop 2 s.left) in
       let long : State = at s (drop 3 s.left) in
       after_test (next_are token_leaves (kinds.Eol ∷ kinds.Indent ∷ []) s) _ _ P
-      (λ h. body_is_after s short.left (None, starts_at_once s.left (are_next (kinds.Eol ∷ kinds.Indent ∷ []) s h)) (body token_leaves short) (body_sound short here))
+      (λ h. body_is_after s None short.left (starts_at_once s.left (are_next (kinds.Eol ∷ kinds.Indent ∷ []) s h)) here)
       (λ _. after_test (next_are token_leaves (kinds.Comment ∷ kinds.Eol ∷ kinds.Indent ∷ []) s) _ _ P
-      (λ h. body_is_after s long.left (starts_commented s.left (are_next (kinds.Comment ∷ kinds.Eol ∷ kinds.Indent ∷ []) s h)) (body token_leaves long) (body_sound long here))
+      (λ h. body_is_after s (front s.left) long.left (starts_commented s.left (are_next (kinds.Comment ∷ kinds.Eol ∷ kinds.Indent ∷ []) s h)) here)
       (λ _. no_body))
 
-  pub optional_body_at : (s : State) (x : List (BodyLine Tok Tok ℕ) × State) → optional_body token_leaves s ≡ Ok x → Here conditions 0 s → IsOptionalBody s x
+  pub optional_body_at : (s : State) (x : reader.CommentedBody token_leaves × State) → optional_body token_leaves s ≡ Ok x → Here conditions 0 s → IsOptionalBody s x
   optional_body_at s x is here = known x (IsOptionalBody s) is (optional_body_sound s here)
 
   -- ---- items
 
   -- a header with its body, or without one
-  record IsHeaded (h : Header Tok Tok Tok) (fs : List (Noted Tok)) (ts : Tokens) (s : State) (x : List (BodyLine Tok Tok ℕ) × State) : Type 0 where
+  record IsHeaded (h : Header Tok Tok Tok) (fs : List (Noted Tok)) (ts : Tokens) (s : State) (x : reader.CommentedBody token_leaves × State) : Type 0 where
     features : List (Noted Tok)
-    derives : Contents (content_has_body (recipe_content h x.0)) (recipe_content h x.0) (fs ++ features) ts x.1.left
-    met : Met conditions.expander features (body_literals x.0) s.noted x.1.noted
+    derives : Contents (content_has_body (recipe_content h (comment_said x.0.0) x.0.1)) (recipe_content h (comment_said x.0.0) x.0.1) (fs ++ features) ts x.1.left
+    met : Met conditions.expander features (body_literals x.0.1) s.noted x.1.noted
     stays : Here conditions 0 x.1
 
-  headed : (h : Header Tok Tok Tok) (fs : List (Noted Tok)) (ts : Tokens) (s : State) (x : List (BodyLine Tok Tok ℕ) × State) → Here conditions 0 s
+  headed : (h : Header Tok Tok Tok) (fs : List (Noted Tok)) (ts : Tokens) (s : State) (x : reader.CommentedBody token_leaves × State) → Here conditions 0 s
       → HeaderOf conditions h fs ts s.left → IsOptionalBody s x → IsHeaded h fs ts s x
   headed h fs ts s x here o no_body = record {
     features = [];
-    derives = subst (λ l. Contents false (recipe_content h []) l ts s.left) (sym (append-nil fs)) (a_line (g.header o));
+    derives = subst (λ l. Contents false (recipe_content h None []) l ts s.left) (sym (append-nil fs)) (a_line (g.header o));
     met = nothing_met;
     stays = here;
   }
-  headed h fs ts s x here o (a_body b k) =
-      let R : List (BodyLine Tok Tok ℕ) → Type 0 = λ ls. Block (recipe_content h ls) (fs ++ k.features) ts x.1.left in
+  headed h fs ts s x here o (a_body {comment = comment} {x = y} b k) =
+      let said : Option (List ℕ) = comment_said comment in
+      let R : List (BodyLine Tok Tok ℕ) → Type 0 = λ ls. Block (recipe_content h said ls) (fs ++ k.features) ts y.1.left in
       record {
         features = k.features;
-        derives = starts_block h (fs ++ k.features) ts x.1.left x.0 (subst R k.left (g.recipe o b k.lines (subst NotEmpty (sym k.left) k.some))) k.some;
+        derives = starts_block h said (fs ++ k.features) ts y.1.left y.0 (subst R k.left (g.recipe o b k.lines (subst NotEmpty (sym k.left) k.some))) k.some;
         met = k.met;
         stays = k.stays;
       }
@@ -724,14 +737,14 @@ module _ (conditions : Conditions) where
       let all : Header Tok Tok Tok = header_of conditions (rules_in conditions ws) quiet h.0.0 in
       after_bind (optional_body token_leaves h.1) _ P (λ e. tt) (λ b is2.
       let found = headed all head.features ts h.1 b head.stays (begins all head.features h.1.left (head.derives quiet)) (optional_body_at h.1 b is2 head.stays) in
-      let said : List (Noted Tok) = entries_features (recipe_content all b.0) (meant ws) in
+      let said : List (Noted Tok) = entries_features (recipe_content all (comment_said b.0.0) b.0.1) (meant ws) in
       after_obeying (exclusion_breaks ws h.0.0.name.tok b.1.run) b.1 _ P (λ e. tt) (λ none.
       record {
-        content = recipe_content all b.0;
+        content = recipe_content all (comment_said b.0.0) b.0.1;
         is = refl;
         features = head.features ++ found.features;
         derives = found.derives;
-        met = subst (λ fs. Met conditions.expander fs (content_literals (recipe_content all b.0)) s.noted b.1.noted)
+        met = subst (λ fs. Met conditions.expander fs (content_literals (recipe_content all (comment_said b.0.0) b.0.1)) s.noted b.1.noted)
             (append_assoc said head.features found.features) (both_met head.met found.met);
         stays = found.stays;
         unbroken = rw (head.options_unbroken, head.parameters_unbroken, head.none_undefined)

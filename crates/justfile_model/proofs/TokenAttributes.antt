@@ -4,7 +4,7 @@ use Rattle.justfile_word.specs.AttributeKind.{kind_named}
 use Rattle.justfile_word.specs.declared.attribute_kind.AttributeKind.{AttributeKind}
 use Rattle.justfile_model.specs.AttributeReader as r
 use Rattle.justfile_model.specs.Conditions.{Conditions}
-use Rattle.justfile_model.specs.ReadAttribute.{ReadAttribute, entry_read, keep_both, token_sight}
+use Rattle.justfile_model.specs.ReadAttribute.{ReadAttribute, commented_both, entry_read, keep_both, token_sight}
 use Rattle.justfile_model.specs.SignificantTokens.{SignificantToken}
 use Rattle.justfile_model.specs.Tok.{Tok}
 use Rattle.justfile_model.specs.Tree.{Argument, Expr}
@@ -101,14 +101,20 @@ bracketed_rule = r.bracketed_rule token_leaves token_sight keep_both entry_read
 abbrev pub bracketed : AttributePlace → ReadAttributes
 bracketed = r.bracketed token_leaves token_sight keep_both entry_read
 
-abbrev pub attributes_end : State → Read SignificantToken
+abbrev pub attributes_end : State → Read (Option SignificantToken)
 attributes_end = r.attributes_end token_leaves token_sight keep_both entry_read
 
+abbrev pub line_end_after : Option SignificantToken → State → Read (Option SignificantToken)
+line_end_after = r.line_end_after token_leaves token_sight keep_both entry_read
+
+abbrev pub commented_by : Option SignificantToken → List ReadAttribute → List ReadAttribute
+commented_by = r.commented_by token_leaves token_sight keep_both entry_read commented_both
+
 abbrev pub attribute_lines_rule : (AttributePlace → ReadAttributes) → AttributePlace → ReadAttributes
-attribute_lines_rule = r.attribute_lines_rule token_leaves token_sight keep_both entry_read
+attribute_lines_rule = r.attribute_lines_rule token_leaves token_sight keep_both entry_read commented_both
 
 abbrev pub attribute_lines_from : AttributePlace → ReadAttributes
-attribute_lines_from = r.attribute_lines_from token_leaves token_sight keep_both entry_read
+attribute_lines_from = r.attribute_lines_from token_leaves token_sight keep_both entry_read commented_both
 
 -- the kind of this name, if there is one
 abbrev pub kind_or_refused : SignificantToken → State → Option AttributeKind → Read AttributeKind
@@ -127,4 +133,4 @@ pub bracketed_is : (x : AttributePlace) → bracketed x ≡ bracketed_rule brack
 bracketed_is = reading.bracketed_is token_leaves token_sight keep_both entry_read
 
 pub attribute_lines_from_is : (x : AttributePlace) → attribute_lines_from x ≡ attribute_lines_rule attribute_lines_from x
-attribute_lines_from_is = reading.attribute_lines_from_is token_leaves token_sight keep_both entry_read
+attribute_lines_from_is = reading.attribute_lines_from_is token_leaves token_sight keep_both entry_read commented_both

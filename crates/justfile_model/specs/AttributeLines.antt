@@ -8,7 +8,7 @@ use Rattle.justfile_model.specs.Features.{Noted}
 use Rattle.justfile_model.specs.SignificantTokens.{SignificantToken}
 use Rattle.justfile_model.specs.Tok.{Tok}
 use Rattle.justfile_model.specs.Tree as tree
-use Rattle.justfile_model.specs.Tree.{Argument, Expr, WrittenAttribute}
+use Rattle.justfile_model.specs.Tree.{Argument, Expr, WrittenAttribute, bare_attribute, commented_line}
 
 -- the next token is a name that marks no string
 abbrev pub IsKey : Tokens → Type 0
@@ -39,16 +39,16 @@ module _ {A B : Type 0} (leaf : Tok → A) (spot : Tok → B) (Open : ℕ → Op
         → ArgumentOf keys a fs tokens (comma ∷ next) → IsKind kinds.Comma comma → Arguments keys others gs next rest
         → Arguments keys (a ∷ others) (fs ++ gs) tokens rest
 
-  -- an attribute: a name, a name with a colon and an expression, or a name with arguments in parentheses
+  -- an attribute, without a comment: a name, a name with a colon and an expression, or a name with arguments in parentheses
   pub data AttributeOf : WrittenAttribute A B → List (Noted B) → Tokens → Tokens → Type 0 where
     plain : {name : SignificantToken} {rest : Tokens} → IsKind kinds.Identifier name → NotNext kinds.Colon rest → NotNext kinds.ParenL rest
-        → AttributeOf (record { name = leaf name.tok; arguments = [] }) [] (name ∷ rest) rest
+        → AttributeOf (bare_attribute (leaf name.tok) []) [] (name ∷ rest) rest
     short : {e : Expr A B} {fs : List (Noted B)} {name colon first : SignificantToken} {tokens rest : Tokens} → IsKind kinds.Identifier name
         → IsKind kinds.Colon colon → Expression leaf spot Open false 0 e fs (first ∷ tokens) rest
-        → AttributeOf (record { name = leaf name.tok; arguments = tree.Positional (spot first.tok) e ∷ [] }) fs (name ∷ colon ∷ first ∷ tokens) rest
+        → AttributeOf (bare_attribute (leaf name.tok) (tree.Positional (spot first.tok) e ∷ [])) fs (name ∷ colon ∷ first ∷ tokens) rest
     long : {arguments : List (Argument A B)} {fs : List (Noted B)} {name opener : SignificantToken} {tokens rest : Tokens} → IsKind kinds.Identifier name
         → IsKind kinds.ParenL opener → Arguments (name_takes_keys name.tok.lexeme) arguments fs tokens rest
-        → AttributeOf (record { name = leaf name.tok; arguments = arguments }) fs (name ∷ opener ∷ tokens) rest
+        → AttributeOf (bare_attribute (leaf name.tok) arguments) fs (name ∷ opener ∷ tokens) rest
 
   -- attributes with commas between them, up to the closing bracket and with it
   pub data Bracketed : List (WrittenAttribute A B) → List (Noted B) → Tokens → Tokens → Type 0 where
@@ -59,17 +59,17 @@ module _ {A B : Type 0} (leaf : Tok → A) (spot : Tok → B) (Open : ℕ → Op
         → AttributeOf w fs tokens (comma ∷ next) → IsKind kinds.Comma comma → Bracketed ws gs next rest
         → Bracketed (w ∷ ws) (fs ++ gs) tokens rest
 
-  -- what ends a line of attributes: a comment may stand before the line's end
+  -- What ends a line of attributes: a comment may stand before the line's end. Its text is without the white space at its end.
   pub data AttributesEnd : (comment : Option (List ℕ)) → Tokens → Tokens → Type 0 where
     bare : {newline : SignificantToken} {rest : Tokens} → IsKind kinds.Eol newline
         → AttributesEnd None (newline ∷ rest) rest
     commented : {comment newline : SignificantToken} {rest : Tokens} → IsKind kinds.Comment comment → IsKind kinds.Eol newline
         → AttributesEnd (Some (trim_end comment.tok.lexeme)) (comment ∷ newline ∷ rest) rest
 
-  -- The lines of attributes before a construct, none or more. A comment after them is dropped.
+  -- The lines of attributes before a construct, none or more. A comment after a line is that of its last attribute.
   pub data AttributeLines : List (WrittenAttribute A B) → List (Noted B) → Tokens → Tokens → Type 0 where
     none : {rest : Tokens} → NotNext kinds.BracketL rest
         → AttributeLines [] [] rest rest
     line : {ws others : List (WrittenAttribute A B)} {fs gs : List (Noted B)} {comment : Option (List ℕ)} {opener : SignificantToken} {tokens end next rest : Tokens}
         → IsKind kinds.BracketL opener → Bracketed ws fs tokens end → AttributesEnd comment end next → AttributeLines others gs next rest
-        → AttributeLines (ws ++ others) (fs ++ gs) (opener ∷ tokens) rest
+        → AttributeLines (commented_line comment ws ++ others) (fs ++ gs) (opener ∷ tokens) rest

@@ -1,6 +1,6 @@
 -- Reading attributes from left to right, up to the first refusal: each is made, and compared with those before it, as soon as it is read.
-use Rattle.std.specs.Prelude.{Bool, true, false, ◌&&◌, not, List, [], ◌∷◌, ◌++◌, length, map, Option, Some, None, Ok, Err, codes, if◌then◌else◌}
-use Rattle.std.specs.Option.{is_some}
+use Rattle.std.specs.Prelude.{ℕ, Bool, true, false, ◌&&◌, not, List, [], ◌∷◌, ◌++◌, length, map, Option, Some, None, Ok, Err, codes, if◌then◌else◌}
+use Rattle.std.specs.Option.{is_some, option_map}
 use Rattle.justfile_word.specs.AttributeKind.{kind_named, takes_keys}
 use Rattle.justfile_word.specs.declared.attribute_kind.AttributeKind.{AttributeKind}
 use Rattle.justfile_word.specs.declared.token_kind.TokenKind.TheVariants as kinds
@@ -9,12 +9,12 @@ use Rattle.justfile_model.specs.ExpressionReader as expressions
 use Rattle.justfile_model.specs.Expressions.{front}
 use Rattle.justfile_model.specs.Meaning.{at_key, by_key, by_position}
 use Rattle.justfile_model.specs.NewAttribute.{Made, new_entry}
-use Rattle.justfile_model.specs.Reading.{◌>>=◌, BreaksRule, Leaves, Read, State, Unexpected, accept, accept_marked, choose, expect, next_are}
+use Rattle.justfile_model.specs.Reading.{◌>>=◌, BreaksRule, Leaves, Read, State, Unexpected, accept, accept_marked, choose, comment_in, expect, next_are}
 use Rattle.justfile_model.specs.Recursive.{recursive}
 use Rattle.justfile_model.specs.Rules.{Rule, UnknownAttribute, AttributePositionalFollowsKeyword, DuplicateAttributeKey}
 use Rattle.justfile_model.specs.Sight.{Sight}
 use Rattle.justfile_model.specs.Tree as tree
-use Rattle.justfile_model.specs.Tree.{Argument, Entry, Expr, WrittenAttribute}
+use Rattle.justfile_model.specs.Tree.{Argument, Entry, Expr, WrittenAttribute, bare_attribute, commented}
 
 -- a broken rule is a refusal
 abbrev pub read_made : {R T B X : Type 0} → Made B X → State R T B → Read R T B X
@@ -32,6 +32,8 @@ pub record AttributeLeaves (R A B D W : Type 0) : Type 0 where
   pub keep : WrittenAttribute A B → Entry A B → W
   -- what it means
   pub entry : W → Entry A B
+  -- with this comment
+  pub comment : List ℕ → W → W
   -- what a construct has of the attributes before it
   pub attributes : R → List W → D
 
@@ -152,7 +154,7 @@ module _ {R T A B S W : Type 0} (leaves : Leaves R T A B S) (sight : R → Sight
   unfoldable pub made : (before : List W) → T → AttributeKind → List (Argument A B) → State R T B → Read R T B W
   made before name kind arguments s = do
     e ← read_made (new_entry (sight s.run) (map entry_in before) (leaves.spot name) kind (by_position arguments) (by_key arguments)) s
-    Ok (keep (record { name = leaves.name name; arguments = arguments }) e.0, e.1)
+    Ok (keep (bare_attribute (leaves.name name) arguments) e.0, e.1)
 
   -- an attribute after others
   unfoldable pub attribute : (before : List W) → State R T B → Read R T B W
@@ -187,21 +189,33 @@ module _ {R T A B S W : Type 0} (leaves : Leaves R T A B S) (sight : R → Sight
   unfoldable pub bracketed : AttributePlace → ReadAttributes
   bracketed = recursive (λ x. length x.1.left) no_attributes bracketed_rule
 
-  -- the end of a line of attributes; a comment before it is dropped
-  unfoldable pub attributes_end : State R T B → Read R T B T
-  attributes_end s = expect leaves kinds.Eol (choose (accept leaves kinds.Comment s) s (λ comment. comment.1))
+  -- the end of a line, after this comment or none
+  unfoldable pub line_end_after : (comment : Option T) → State R T B → Read R T B (Option T)
+  line_end_after comment s = do
+    newline ← expect leaves kinds.Eol s
+    Ok (comment, newline.1)
 
-  abbrev pub attribute_lines_rule : (AttributePlace → ReadAttributes) → AttributePlace → ReadAttributes
-  attribute_lines_rule read x =
-      choose (accept leaves kinds.BracketL x.1) (Ok x) (λ opener. do
-        ws ← bracketed (x.0, opener.1)
-        end ← attributes_end ws.1
-        read (ws.0, end.1))
+  -- the end of a line of attributes, and the comment before it, if there is one
+  unfoldable pub attributes_end : State R T B → Read R T B (Option T)
+  attributes_end s = choose (accept leaves kinds.Comment s) (line_end_after None s) (λ comment. line_end_after (Some comment.0) comment.1)
 
-  -- lines of attributes after those that were read
-  unfoldable pub attribute_lines_from : AttributePlace → ReadAttributes
-  attribute_lines_from = recursive (λ x. length x.1.left) no_attributes attribute_lines_rule
+  -- `put` is how a comment is put to what is kept
+  module _ (put : List ℕ → W → W) where
+    -- attributes, where the line of the last one ends after this comment or none
+    abbrev pub commented_by : (comment : Option T) → List W → List W
+    commented_by comment ws = commented put (option_map (comment_in leaves) comment) ws
 
-  -- the lines of attributes before a construct
-  unfoldable pub attribute_lines : State R T B → ReadAttributes
-  attribute_lines s = attribute_lines_from ([], s)
+    abbrev pub attribute_lines_rule : (AttributePlace → ReadAttributes) → AttributePlace → ReadAttributes
+    attribute_lines_rule read x =
+        choose (accept leaves kinds.BracketL x.1) (Ok x) (λ opener. do
+          ws ← bracketed (x.0, opener.1)
+          end ← attributes_end ws.1
+          read (commented_by end.0 ws.0, end.1))
+
+    -- lines of attributes after those that were read
+    unfoldable pub attribute_lines_from : AttributePlace → ReadAttributes
+    attribute_lines_from = recursive (λ x. length x.1.left) no_attributes attribute_lines_rule
+
+    -- the lines of attributes before a construct
+    unfoldable pub attribute_lines : State R T B → ReadAttributes
+    attribute_lines s = attribute_lines_from ([], s)

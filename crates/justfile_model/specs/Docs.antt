@@ -40,7 +40,7 @@ redocumented doc (Assignment parts) = Assignment parts
 redocumented doc (Function parts) = Function parts
 redocumented doc (Import parts) = Import parts
 redocumented doc (Module parts) = Module (record { doc = doc; optional = parts.optional; name = parts.name; path = parts.path })
-redocumented doc (Recipe parts) = Recipe (record { doc = doc; header = parts.header; body = parts.body })
+redocumented doc (Recipe parts) = Recipe (record { doc = doc; header = parts.header; comment = parts.comment; body = parts.body })
 redocumented doc (Setting parts) = Setting parts
 redocumented doc (Unexport name) = Unexport name
 

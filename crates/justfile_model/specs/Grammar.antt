@@ -113,15 +113,15 @@ module _ {A B C S : Type 0} (kept : Kept A B C S) (Open : ℕ → Option Signifi
     unexport : {word name : SignificantToken} {rest : List SignificantToken} → IsWord (codes "unexport") word → IsKind kinds.Identifier name → EndsLine rest
         → OnLine (tree.Unexport (kept.leaf name.tok)) [] (word ∷ name ∷ rest) rest
     header : {h : Header A B S} {fs : List (Noted B)} {tokens rest : List SignificantToken} → HeaderOf kept.leaf kept.spot kept.star Open h fs tokens rest
-        → OnLine (tree.Recipe (bare_recipe h [])) fs tokens rest
+        → OnLine (tree.Recipe (bare_recipe h None [])) fs tokens rest
 
   -- A recipe with a body: a header and lines, of which empty ones at the end are left out and some are left. A comment after the header is
-  -- dropped.
+  -- the recipe's.
   pub data Block : Content A B C S → List (Noted B) → List SignificantToken → List SignificantToken → Type 0 where
     recipe : {h : Header A B S} {lines : List (BodyLine A B C)} {fs gs : List (Noted B)} {comment : Option (List ℕ)}
         {tokens next body rest : List SignificantToken} → HeaderOf kept.leaf kept.spot kept.star Open h fs tokens next → BeforeBody comment next body
         → BodyLines lines gs body rest → NotEmpty (trimmed lines)
-        → Block (tree.Recipe (bare_recipe h (trimmed lines))) (fs ++ gs) tokens rest
+        → Block (tree.Recipe (bare_recipe h comment (trimmed lines))) (fs ++ gs) tokens rest
 
   mutual
     -- items from the start of a line to the end of the file

@@ -63,6 +63,7 @@ pub mod Tok
 pub mod Tree
 pub mod TreeReader
 pub mod Unclosed
+pub mod Uncommented
 pub mod Unindent
 pub mod UnstableFeatures
 pub mod Versions

@@ -201,7 +201,7 @@ module _ {A B : Type 0} (sight : Sight A B) where
   entry_of w = do
     kind ← kind_named (sight.bytes w.name)
     attribute ← attribute_of kind (by_position w.arguments) (by_key w.arguments)
-    Some (record { name = sight.place w.name; attribute = attribute })
+    Some (record { name = sight.place w.name; attribute = attribute; comment = w.comment })
 
   -- what the attributes of an item mean, in the order of their content; of the same content as they stand
   abbrev pub entries_of : List (WrittenAttribute A B) → Option (List (Entry A B))

@@ -14,7 +14,7 @@ use Rattle.justfile_model.specs.Meaning.{quoted, Placed, KeyArgument, text_of, a
 use Rattle.justfile_model.specs.Rules.{Rule, AttributeArgumentCountMismatch, AttributeArgumentExpression, UnknownAttributeKey, AttributeKeyMissingValue, AttributeKeyTakesNoValue, InvalidSignal, OptionNameContainsEqualSign, OptionNameStartsWithDash, OptionNameEmpty, ShortOptionWithMultipleCharacters, ArgAttributeRequiresOption, FlagAttributeTakesNoValue, FlagAndValueArgAttribute, FlagAndPatternArgAttribute, ArgumentCountValue, ArgumentCountParse, ArgAttributeMinExceedsMax, Broken}
 use Rattle.justfile_model.specs.Sight.{Sight}
 use Rattle.justfile_model.specs.Tree as tree
-use Rattle.justfile_model.specs.Tree.{Expr, Quoted, WrittenAttribute, OptionName, Property, Bound, ArgumentRules, Attribute, Entry}
+use Rattle.justfile_model.specs.Tree.{Expr, Quoted, WrittenAttribute, OptionName, Property, Bound, ArgumentRules, Attribute, Entry, bare_entry}
 
 -- what is made, or the rule that is broken
 abbrev pub Made : (B X : Type 0) → Type 0
@@ -227,5 +227,5 @@ module _ {A B : Type 0} (sight : Sight A B) where
   abbrev pub new_entry : (before : List (Entry A B)) → (name : B) → AttributeKind → List (Placed A B) → List (KeyArgument A B) → Made B (Entry A B)
   new_entry before name kind placed keys = do
     attribute ← new_attribute sight name kind placed keys
-    distinct ← check_repeated before (record { name = name; attribute = attribute })
-    Ok (record { name = name; attribute = attribute })
+    distinct ← check_repeated before (bare_entry name attribute)
+    Ok (bare_entry name attribute)

@@ -161,9 +161,14 @@ parenthesized_arguments arguments = fixed_text (codes "(") ++ arguments_text arg
 abbrev pub attribute_text : Attribute (List ℕ) (Unit {0}) → List ℕ
 attribute_text a = fixed_text (attribute_name (kind_of_attribute a)) ++ parenthesized_arguments (attribute_arguments a)
 
+-- a comment at the end of a line, after a blank, if there is one
+abbrev pub comment_text : Option (List ℕ) → List ℕ
+comment_text None = []
+comment_text (Some comment) = fixed_text (codes " ") ++ comment
+
 -- each attribute on a line of its own
 abbrev pub entry_text : Entry (List ℕ) (Unit {0}) → List ℕ
-entry_text e = fixed_text (codes "[") ++ attribute_text e.attribute ++ fixed_text (codes "]\n")
+entry_text e = fixed_text (codes "[") ++ attribute_text e.attribute ++ fixed_text (codes "]") ++ comment_text e.comment ++ fixed_text (codes "\n")
 
 abbrev pub entries_text : List (Entry (List ℕ) (Unit {0})) → List ℕ
 entries_text = flat_map entry_text
@@ -245,7 +250,7 @@ abbrev pub setting_text : SettingParts (List ℕ) (Unit {0}) → List ℕ
 setting_text s = fixed_text (codes "set ") ++ s.name ++ setting_value_text s.value
 
 abbrev pub recipe_text : RecipeParts (List ℕ) (Unit {0}) (Unit {0}) (Unit {0}) → (indentation : List ℕ) → List ℕ
-recipe_text r indentation = header_text r.header ++ body_text indentation r.body
+recipe_text r indentation = header_text r.header ++ comment_text r.comment ++ body_text indentation r.body
 
 -- a construct without its doc and its attributes
 abbrev pub content_text : Content (List ℕ) (Unit {0}) (Unit {0}) (Unit {0}) → (indentation : List ℕ) → List ℕ

@@ -1,7 +1,7 @@
 -- Reading the tokens of a file from left to right, up to the first refusal, and the numbers that its items get. That it agrees with the
 -- grammar is a law.
-use Rattle.std.specs.Prelude.{ℕ, ◌+◌, Bool, true, false, ◌||◌, List, [], ◌∷◌, ◌++◌, length, drop, map, None, Ok, Err, codes, if◌then◌else◌}
-use Rattle.std.specs.Str.{trim_end}
+use Rattle.std.specs.Prelude.{ℕ, ◌+◌, Bool, true, false, ◌||◌, List, [], ◌∷◌, length, drop, map, Option, None, Ok, Err, codes, if◌then◌else◌}
+use Rattle.std.specs.Option.{option_map}
 use Rattle.justfile_word.specs.declared.item_kind.ItemKind.{ItemKind}
 use Rattle.justfile_word.specs.declared.item_kind.ItemKind.TheVariants as item_kinds
 use Rattle.justfile_word.specs.declared.token_kind.TokenKind.TheVariants as kinds
@@ -12,10 +12,11 @@ use Rattle.justfile_model.specs.ContentKeys.{entry_cmp}
 use Rattle.justfile_model.specs.Order.{in_order}
 use Rattle.justfile_model.specs.RecipeRules.{exclusions_broken}
 use Rattle.justfile_model.specs.Tree as tree
+use Rattle.justfile_model.specs.Expressions.{front}
 use Rattle.justfile_model.specs.HeaderReader.{ReadHeader, draw_binding, expression, header, obeying, path}
-use Rattle.justfile_model.specs.Tree.{ArgumentRules, BodyLine, Construct, Content, Entry, Expr, Fragment, Header, Item, Line, assignment_of, bare_module, bare_recipe, trimmed}
+use Rattle.justfile_model.specs.Tree.{ArgumentRules, BodyLine, Construct, Content, Entry, Expr, Fragment, Header, Item, Line, RecipeParts, assignment_of, bare_module, bare_recipe, trimmed}
 use Rattle.justfile_model.specs.Recursive.{recursive}
-use Rattle.justfile_model.specs.Reading.{◌>>=◌, Counters, Extraneous, Leaves, NoNumber, Read, State, Unexpected, accept, accepted, prepend, at, choose, expect, next_are, refused}
+use Rattle.justfile_model.specs.Reading.{◌>>=◌, Counters, Extraneous, Leaves, NoNumber, Read, State, Unexpected, accept, accepted, prepend, at, choose, comment_in, expect, next_are, refused}
 use Rattle.justfile_model.specs.PartReader.{accept_before, after_numbered, file_path, is_assigned, is_imported, is_module, is_set, keyword_at, line_is, names, optional_path, setting_value}
 use Rattle.justfile_model.specs.Settings.{setting_form}
 
@@ -115,12 +116,22 @@ module _ {R T A B S : Type 0} (leaves : Leaves R T A B S) where
     ls ← lines s
     some_lines (trimmed ls.0) ls.1
 
-  -- the body of a recipe, from the end of its header on, if it has one
-  unfoldable pub optional_body : State R T B → Read R T B (List (BodyLine A B ℕ))
+  -- a comment before a body, or none, and the body
+  abbrev pub CommentedBody : Type 0
+  CommentedBody = Option T × List (BodyLine A B ℕ)
+
+  -- a body after this comment or none, from its first line on
+  unfoldable pub body_after : (comment : Option T) → State R T B → Read R T B CommentedBody
+  body_after comment s = do
+    ls ← body s
+    Ok ((comment, ls.0), ls.1)
+
+  -- the body of a recipe, from the end of its header on, and the comment before it; neither if it has none
+  unfoldable pub optional_body : State R T B → Read R T B CommentedBody
   optional_body s =
-      if next_are leaves (kinds.Eol ∷ kinds.Indent ∷ []) s then body (at s (drop 2 s.left))
-      else if next_are leaves (kinds.Comment ∷ kinds.Eol ∷ kinds.Indent ∷ []) s then body (at s (drop 3 s.left))
-      else Ok ([], s)
+      if next_are leaves (kinds.Eol ∷ kinds.Indent ∷ []) s then body_after None (at s (drop 2 s.left))
+      else if next_are leaves (kinds.Comment ∷ kinds.Eol ∷ kinds.Indent ∷ []) s then body_after (front s.left) (at s (drop 3 s.left))
+      else Ok ((None, []), s)
 
 module _ {R T A B S D W : Type 0} (leaves : Leaves R T A B S) (kept : AttributeLeaves R A B D W) where
   -- ---- attributes
@@ -141,14 +152,14 @@ module _ {R T A B S D W : Type 0} (leaves : Leaves R T A B S) (kept : AttributeL
   unfoldable pub attributes : State R T B → Read R T B (List W)
   attributes s =
       choose (accept leaves kinds.BracketL s) (Ok ([], s)) (λ opener. do
-        ws ← attribute_reader.attribute_lines leaves kept.sight kept.keep kept.entry s
+        ws ← attribute_reader.attribute_lines leaves kept.sight kept.keep kept.entry kept.comment s
         before_item opener.0 ws)
 
   -- ---- items
 
   -- a comment is kept without the white space at its end
   abbrev pub comment_item : T → Item A B ℕ S D
-  comment_item t = tree.Comment (trim_end (leaves.see t).tok.lexeme)
+  comment_item t = tree.Comment (comment_in leaves t)
 
   -- an item with its attributes, and the counters
   abbrev pub ReadItem : Type 0
@@ -240,10 +251,14 @@ module _ {R T A B S D W : Type 0} (leaves : Leaves R T A B S) (kept : AttributeL
   abbrev pub header_kept : (quiet : Bool) → ReadHeader T A B S → A → Header A B S
   header_kept quiet h name = record { quiet = quiet; name = name; parameters = h.parameters; priors = h.priors; subsequents = h.subsequents }
 
+  -- a recipe with this body, whose name keeps that
+  abbrev pub recipe_kept : (quiet : Bool) → ReadHeader T A B S → CommentedBody leaves → A → RecipeParts A B ℕ S
+  recipe_kept quiet h b name = bare_recipe (header_kept quiet h name) (option_map (comment_in leaves) b.0) b.1
+
   -- a recipe with a body and its attributes, which got a number
-  abbrev pub headed : (quiet : Bool) → List W → ReadHeader T A B S → List (BodyLine A B ℕ) → (ℕ × Counters) × State R T B → Read R T B (Item A B ℕ S D × Counters)
-  headed quiet ws h body x =
-      Ok ((Construct (kept.attributes x.1.run ws) (tree.Recipe (bare_recipe (header_kept quiet h (leaves.recipe x.1.run h.name x.0.0 body)) body)), x.0.1), x.1)
+  abbrev pub headed : (quiet : Bool) → List W → ReadHeader T A B S → CommentedBody leaves → (ℕ × Counters) × State R T B → Read R T B (Item A B ℕ S D × Counters)
+  headed quiet ws h b x =
+      Ok ((Construct (kept.attributes x.1.run ws) (tree.Recipe (recipe_kept quiet h b (leaves.recipe x.1.run h.name x.0.0 b.1))), x.0.1), x.1)
 
   -- no two attributes of the recipe with this name exclude each other
   abbrev pub no_exclusion : List W → T → State R T B → Read R T B (Unit {0})

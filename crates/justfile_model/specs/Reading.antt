@@ -1,7 +1,7 @@
 -- What reading is made of: tokens are read from left to right, up to the first refusal, and features are noted on the way. A reader is
 -- over any tokens, and `Leaves` says how it sees them and what a tree keeps of them.
 use Rattle.std.specs.Prelude.{ℕ, ◌+◌, ◌-◌, Bool, true, false, ◌&&◌, List, [], ◌∷◌, ◌++◌, Option, Some, None, Result, Ok, Err, if◌then◌else◌}
-use Rattle.std.specs.Str.{bytes_eq}
+use Rattle.std.specs.Str.{bytes_eq, trim_end}
 use denote.Enum.Bare.{sameb}
 use Rattle.justfile_word.specs.declared.keyword.Keyword.{Keyword}
 use Rattle.justfile_word.specs.contracts.token_kind.TokenKind.{the_type}
@@ -146,6 +146,10 @@ module _ {R T B : Type 0} where
     Ok (done ++ more.0, more.1)
 
 module _ {R T A B S : Type 0} (leaves : Leaves R T A B S) where
+  -- the text of a comment without the white space at its end
+  abbrev pub comment_in : T → List ℕ
+  comment_in t = trim_end (leaves.see t).tok.lexeme
+
   -- a state with a feature noted at a token
   abbrev pub note : ListFeature → T → State R T B → State R T B
   note feature t s = with (noted feature (leaves.spot t)) s

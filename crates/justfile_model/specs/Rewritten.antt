@@ -1,6 +1,6 @@
--- A shape as it is written where it is printed: each attribute by its kind's name, with the arguments that it is printed with, and docs as
--- comments.
-use Rattle.std.specs.Prelude.{ℕ, List, [], ◌∷◌, ◌++◌, map, Option, Some, None}
+-- A shape as it is written where it is printed: each attribute by its kind's name, with the arguments that it is printed with and its
+-- comment, and docs as comments.
+use Rattle.std.specs.Prelude.{ℕ, List, [], ◌∷◌, map, Option, Some, None}
 use Rattle.justfile_word.specs.AttributeKind.{attribute_name}
 use Rattle.justfile_model.specs.ContentKeys.{kind_of_attribute}
 use Rattle.justfile_model.specs.Docs.{redocumented}
@@ -8,7 +8,11 @@ use Rattle.justfile_model.specs.Printing.{attribute_arguments, doc_comment, fixe
 use Rattle.justfile_model.specs.Tree.{Comment, Construct, Entry, Item, Newline, OrderedItem, Shape, WrittenAttribute, WrittenItem, WrittenShape}
 
 abbrev pub rewritten_entry : Entry (List ℕ) (Unit {0}) → WrittenAttribute (List ℕ) (Unit {0})
-rewritten_entry e = record { name = fixed_text (attribute_name (kind_of_attribute e.attribute)); arguments = attribute_arguments e.attribute }
+rewritten_entry e = record {
+  name = fixed_text (attribute_name (kind_of_attribute e.attribute));
+  arguments = attribute_arguments e.attribute;
+  comment = e.comment;
+}
 
 abbrev pub rewritten_entries : List (Entry (List ℕ) (Unit {0})) → List (WrittenAttribute (List ℕ) (Unit {0}))
 rewritten_entries entries = map rewritten_entry entries

@@ -3,7 +3,7 @@
 -- more: `S` stands at the stars of dependencies, and `D` is what an item has of attributes. A written tree, which is what the grammar
 -- gives, keeps the tokens of stars, and attributes as they are written. A tree keeps no place of a star, and has attributes by what they
 -- mean, in the order of their content.
-use Rattle.std.specs.Prelude.{ℕ, Bool, List, [], ◌∷◌, map, Option, None}
+use Rattle.std.specs.Prelude.{ℕ, Bool, List, [], ◌∷◌, map, Option, Some, None}
 use Rattle.std.specs.Option.{option_map}
 use Rattle.justfile_word.specs.declared.attribute_kind.AttributeKind.{AttributeKind}
 use Rattle.justfile_word.specs.declared.keyword.Keyword.{Keyword}
@@ -89,6 +89,8 @@ pub data Argument (A B : Type 0) : Type 0 where
 pub record WrittenAttribute (A B : Type 0) : Type 0 where
   pub name : A
   pub arguments : List (Argument A B)
+  -- the comment after its line, of the last attribute on it; none of the others
+  pub comment : Option (List ℕ)
 
 -- what an argument of a recipe is called as an option
 pub data OptionName (A B : Type 0) : Type 0 where
@@ -134,10 +136,11 @@ pub data Attribute (A B : Type 0) : Type 0 where
   Cache : (extra inputs outputs : Option (Expr A B)) → Attribute A B
   Arg : (rules : ArgumentRules A B) → Attribute A B
 
--- an attribute of an item by what it means, and the place of its name
+-- an attribute of an item by what it means, the place of its name, and the comment that it is written with
 pub record Entry (A B : Type 0) : Type 0 where
   pub name : B
   pub attribute : Attribute A B
+  pub comment : Option (List ℕ)
 
 pub record Parameter (A B : Type 0) : Type 0 where
   pub kind : ParameterKind
@@ -197,10 +200,12 @@ pub record ModuleParts (A : Type 0) : Type 0 where
   pub name : A
   pub path : Option (Quoted A)
 
--- a recipe and the lines of its body; none if it has no body; a written one has no doc
+-- A recipe and the lines of its body; none if it has no body. A written one has no doc. The comment is the one between the header and the
+-- body.
 pub record RecipeParts (A B C S : Type 0) : Type 0 where
   pub doc : Option (List ℕ)
   pub header : Header A B S
+  pub comment : Option (List ℕ)
   pub body : List (BodyLine A B C)
 
 -- the value of a setting
@@ -267,8 +272,39 @@ abbrev pub bare_module : {A : Type 0} → (optional : Bool) → A → Option (Qu
 bare_module optional name path = record { doc = None; optional = optional; name = name; path = path }
 
 -- a recipe without a doc
-abbrev pub bare_recipe : {A B C S : Type 0} → Header A B S → List (BodyLine A B C) → RecipeParts A B C S
-bare_recipe header body = record { doc = None; header = header; body = body }
+abbrev pub bare_recipe : {A B C S : Type 0} → Header A B S → (comment : Option (List ℕ)) → List (BodyLine A B C) → RecipeParts A B C S
+bare_recipe header comment body = record { doc = None; header = header; comment = comment; body = body }
+
+-- a written attribute without a comment
+abbrev pub bare_attribute : {A B : Type 0} → A → List (Argument A B) → WrittenAttribute A B
+bare_attribute name arguments = record { name = name; arguments = arguments; comment = None }
+
+-- an attribute without a comment
+abbrev pub bare_entry : {A B : Type 0} → B → Attribute A B → Entry A B
+bare_entry name attribute = record { name = name; attribute = attribute; comment = None }
+
+-- a written attribute with this comment
+abbrev pub commented_attribute : {A B : Type 0} → (comment : List ℕ) → WrittenAttribute A B → WrittenAttribute A B
+commented_attribute comment w = record { name = w.name; arguments = w.arguments; comment = Some comment }
+
+-- an attribute with this comment
+abbrev pub commented_entry : {A B : Type 0} → (comment : List ℕ) → Entry A B → Entry A B
+commented_entry comment e = record { name = e.name; attribute = e.attribute; comment = Some comment }
+
+-- the last element replaced
+abbrev pub at_last : {X : Type 0} → (X → X) → List X → List X
+at_last f [] = []
+at_last f (x ∷ []) = f x ∷ []
+at_last f (x ∷ y ∷ xs) = x ∷ at_last f (y ∷ xs)
+
+-- a comment put to the last element; without a comment they stay as they are
+abbrev pub commented : {X : Type 0} → (List ℕ → X → X) → (comment : Option (List ℕ)) → List X → List X
+commented put None xs = xs
+commented put (Some comment) xs = at_last (put comment) xs
+
+-- the attributes of a line with the comment after it
+abbrev pub commented_line : {A B : Type 0} → (comment : Option (List ℕ)) → List (WrittenAttribute A B) → List (WrittenAttribute A B)
+commented_line = commented commented_attribute
 
 -- lines with one more before them; an empty line before none is left out
 abbrev pub line_before : {A B C : Type 0} → BodyLine A B C → List (BodyLine A B C) → List (BodyLine A B C)
@@ -323,7 +359,7 @@ module _ {A B C D : Type 0} (f : A → C) (g : B → D) where
   over_argument (Keyed key value) = Keyed (f key) (over_expr value)
 
   abbrev pub over_written_attribute : WrittenAttribute A B → WrittenAttribute C D
-  over_written_attribute w = record { name = f w.name; arguments = map over_argument w.arguments }
+  over_written_attribute w = record { name = f w.name; arguments = map over_argument w.arguments; comment = w.comment }
 
   abbrev pub over_quoted : Quoted A → Quoted C
   over_quoted q = record { expanded = q.expanded; token = f q.token }
@@ -389,7 +425,7 @@ module _ {A B C D : Type 0} (f : A → C) (g : B → D) where
   over_parameter p = record { kind = p.kind; export = p.export; name = f p.name; default = option_map over_expr p.default }
 
   abbrev pub over_entry : Entry A B → Entry C D
-  over_entry e = record { name = g e.name; attribute = over_attribute e.attribute }
+  over_entry e = record { name = g e.name; attribute = over_attribute e.attribute; comment = e.comment }
 
 module _ {A B C A' B' C' : Type 0} (f : A → A') (g : B → B') (h : C → C') where
   abbrev pub over_line : BodyLine A B C → BodyLine A' B' C'
@@ -413,7 +449,7 @@ module _ {A B S A' B' S' : Type 0} (f : A → A') (g : B → B') (k : S → S') 
 
 module _ {A B C S A' B' C' S' : Type 0} (f : A → A') (g : B → B') (h : C → C') (k : S → S') where
   abbrev pub over_recipe : RecipeParts A B C S → RecipeParts A' B' C' S'
-  over_recipe r = record { doc = r.doc; header = over_header f g k r.header; body = map (over_line f g h) r.body }
+  over_recipe r = record { doc = r.doc; header = over_header f g k r.header; comment = r.comment; body = map (over_line f g h) r.body }
 
   abbrev pub over_content : Content A B C S → Content A' B' C' S'
   over_content (Alias parts) = Alias (over_alias f g parts)
@@ -447,7 +483,7 @@ starless (Assignment parts) = Assignment parts
 starless (Function parts) = Function parts
 starless (Import parts) = Import parts
 starless (Module parts) = Module parts
-starless (Recipe parts) = Recipe (record { doc = parts.doc; header = starless_header parts.header; body = parts.body })
+starless (Recipe parts) = Recipe (record { doc = parts.doc; header = starless_header parts.header; comment = parts.comment; body = parts.body })
 starless (Setting parts) = Setting parts
 starless (Unexport name) = Unexport name
 

@@ -4,7 +4,7 @@ use Rattle.justfile_model.specs.Features.{Noted}
 use Rattle.justfile_model.specs.Conditions.{Conditions}
 use Rattle.justfile_model.specs.AttributeReader as attribute_reader
 use Rattle.justfile_model.specs.AttributeReader.{AttributeLeaves}
-use Rattle.justfile_model.specs.ReadAttribute.{ReadAttribute, entry_read, keep_both, token_sight}
+use Rattle.justfile_model.specs.ReadAttribute.{ReadAttribute, commented_both, entry_read, keep_both, token_sight}
 use Rattle.justfile_model.specs.Reader as reader
 use Rattle.justfile_model.specs.Reading as reading
 use Rattle.justfile_model.specs.Reading.{Counters, ◌>>=◌, Leaves}
@@ -35,6 +35,7 @@ token_attributes = record {
   sight = token_sight;
   keep = keep_both;
   entry = entry_read;
+  comment = commented_both;
   attributes = λ conditions xs. map (λ (x : ReadAttribute). x.written) xs;
 }
 
@@ -53,7 +54,7 @@ Taken = reading.Taken Conditions SignificantToken Tok
 
 -- the lines of attributes before a construct
 abbrev pub read_attributes : State → Read (List ReadAttribute)
-read_attributes = attribute_reader.attribute_lines token_leaves token_sight keep_both entry_read
+read_attributes = attribute_reader.attribute_lines token_leaves token_sight keep_both entry_read commented_both
 
 -- no number was drawn yet
 abbrev pub unnumbered : Counters

@@ -17,6 +17,7 @@ ghost use Rattle.justfile_model.specs.Sight.{sees_tokens};
 ghost use Rattle.justfile_model.specs.SignificantTokens.{AllSpelled, SignificantToken, identifiers, significant_tokens};
 ghost use Rattle.justfile_model.specs.Tok.{Tok};
 ghost use Rattle.justfile_model.specs.Tree.{Tree, Shape, WrittenTree, nothing, shape_of};
+ghost use Rattle.justfile_model.specs.Uncommented.{HasNoComments, uncommented_text};
 ghost use Rattle.justfile_model.specs.TreeReader.{Refusal, State, tree_of_tokens, token_attributes, token_leaves};
 
 /// The reader and the grammar agree, and tokens derive at most one tree with its features.
@@ -144,6 +145,11 @@ pub fn expanders()
 /// The printed text is a function of the normal shape and the indentation.
 pub fn printing()
     ensures { (s r : Shape) (indentation : List ℕ) → normal s ≡ normal r → text (normal s) indentation ≡ text (normal r) indentation }
+{}
+
+/// Where no attribute and no recipe has a comment, the printed text is that in which none is printed.
+pub fn uncommented()
+    ensures { (s : Shape) (indentation : List ℕ) → HasNoComments s → text (normal s) indentation ≡ uncommented_text (normal s) indentation }
 {}
 
 /// The numbers that one parse gives are distinct, and rise in the order of parsing.

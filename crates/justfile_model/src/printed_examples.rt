@@ -2,7 +2,7 @@
 ghost use Rattle.std.specs.Prelude.{◌≡◌, false, true, [], ◌∷◌, None, Some, codes};
 ghost use Rattle.justfile_word.specs.declared.attribute_kind.AttributeKind.TheVariants.{Private};
 ghost use Rattle.justfile_model.specs.Printing.{content_text, header_text, item_text};
-ghost use Rattle.justfile_model.specs.Tree.{Assignment, Construct, ListOf, Plain, Recipe, Root, StringLiteral, Variable, bare_recipe, more, none};
+ghost use Rattle.justfile_model.specs.Tree.{Assignment, Construct, Line, ListOf, Plain, Recipe, Root, StringLiteral, Text, Variable, bare_entry, bare_recipe, commented_entry, more, none};
 ghost use Rattle.justfile_model.specs.declared.parameter_kind.ParameterKind.TheVariants.{Plus, Singular, Star};
 
 /// A header has its parameters before the colon, and its dependencies after it.
@@ -45,13 +45,17 @@ pub fn constructs()
         ≡ codes "export a := b" }
     ensures eager { content_text (Assignment (record { eager = true; export = true; name = codes "a"; value = Variable (codes "b") })) []
         ≡ codes "eager export a := b" }
-    ensures doc { item_text (Construct [] (Recipe (record { doc = Some (codes "bar"); header = record { quiet = false; name = codes "foo"; parameters = []; priors = []; subsequents = [] }; body = [] }))) []
+    ensures doc { item_text (Construct [] (Recipe (record { doc = Some (codes "bar"); header = record { quiet = false; name = codes "foo"; parameters = []; priors = []; subsequents = [] }; comment = None; body = [] }))) []
         ≡ codes "# bar\nfoo:" }
     // Before the attributes.
-    ensures doc_first { item_text (Construct (record { name = tt; attribute = Plain Private } ∷ [])
-        (Recipe (record { doc = Some (codes "x"); header = record { quiet = false; name = codes "foo"; parameters = []; priors = []; subsequents = [] }; body = [] }))) []
+    ensures doc_first { item_text (Construct (bare_entry tt (Plain Private) ∷ [])
+        (Recipe (record { doc = Some (codes "x"); header = record { quiet = false; name = codes "foo"; parameters = []; priors = []; subsequents = [] }; comment = None; body = [] }))) []
         ≡ codes "# x\n[private]\nfoo:" }
-    ensures empty_doc { item_text (Construct [] (Recipe (record { doc = Some []; header = record { quiet = false; name = codes "foo"; parameters = []; priors = []; subsequents = [] }; body = [] }))) []
+    // At the ends of the lines of an attribute and of a header.
+    ensures comments { item_text (Construct (commented_entry (codes "# a") (bare_entry tt (Plain Private)) ∷ [])
+        (Recipe (bare_recipe (record { quiet = false; name = codes "foo"; parameters = []; priors = []; subsequents = [] }) (Some (codes "# b")) (Line tt (Text (codes "x") ∷ []) ∷ [])))) (codes "  ")
+        ≡ codes "[private] # a\nfoo: # b\n  x" }
+    ensures empty_doc { item_text (Construct [] (Recipe (record { doc = Some []; header = record { quiet = false; name = codes "foo"; parameters = []; priors = []; subsequents = [] }; comment = None; body = [] }))) []
         ≡ codes "#\nfoo:" }
-    ensures no_doc { item_text (Construct [] (Recipe (bare_recipe (record { quiet = false; name = codes "foo"; parameters = []; priors = []; subsequents = [] }) []))) [] ≡ codes "foo:" }
+    ensures no_doc { item_text (Construct [] (Recipe (bare_recipe (record { quiet = false; name = codes "foo"; parameters = []; priors = []; subsequents = [] }) None []))) [] ≡ codes "foo:" }
 {}

@@ -11,7 +11,7 @@ use Rattle.std.specs.List.{take-map}
 use Rattle.justfile_attribute.proofs.Ordered.{kind_seen}
 use Rattle.justfile_attribute.specs.Attribute.{leaf_attribute_of}
 use Rattle.justfile_attribute.specs.declared.attribute.Attribute.{Attribute}
-use Rattle.justfile_attribute_set.specs.AttributeSet.{AttributeSet, attributes_of, leaf_entries_of, pairs_of}
+use Rattle.justfile_attribute_set.specs.AttributeSet.{AttributeSet, attributes_of, leaf_entries_of, written_of}
 use Rattle.justfile_attribute_set.specs.Attributes.{has_kind, is_of_kind, kind_of}
 use Rattle.justfile_attribute_set.specs.Keys.{firsts}
 use Rattle.justfile_attribute_set.specs.Pairs.{Pair, leaf_entry_of}
@@ -124,7 +124,7 @@ pairs_say (p ∷ ps) = λ i. kind_is p.0 i || pairs_say ps i
 -- neither an attribute says a doc, nor is there one yet
 pub lacks_is : (set : AttributeSet) (doc : Option (String Global))
     → (not (has_kind kinds.Doc (attributes_of set)) && not (is_some doc)) ≡ (true && not (says_doc (leaf_entries_of set)) && not (is_some (option_map string_bytes doc)))
-lacks_is set doc = ap (λ (c : Bool). not c && not (is_some doc)) (sym (pairs_say (pairs_of set))) ∙ by_doc doc
+lacks_is set doc = ap (λ (c : Bool). not c && not (is_some doc)) (sym (pairs_say (written_of set))) ∙ by_doc doc
   where
     by_doc : (o : Option (String Global)) → (not (says_doc (leaf_entries_of set)) && not (is_some o)) ≡ (true && not (says_doc (leaf_entries_of set)) && not (is_some (option_map string_bytes o)))
     by_doc None = refl

@@ -11,7 +11,7 @@ use Rattle.justfile_attribute.specs.New.{IsWholeAttribute}
 use Rattle.justfile_attribute.specs.declared.attribute.Attribute.{Attribute}
 use Rattle.justfile_attribute.specs.declared.attribute.Attribute.TheVariants as attributes
 use Rattle.justfile_attribute.specs.declared.interpreter.Interpreter.{Interpreter}
-use Rattle.justfile_attribute_set.specs.AttributeSet.{AttributeSet, entries_of, pairs_of}
+use Rattle.justfile_attribute_set.specs.AttributeSet.{AttributeSet, entries_of, written_of}
 use Rattle.justfile_attribute_set.specs.Pairs.{Pair, entry_of}
 use Rattle.justfile_attribute_set.specs.Keys.{firsts}
 use Rattle.justfile_base.specs.Token.{lexeme_of}
@@ -91,9 +91,9 @@ module _ (expander : Expansions) (P Q : Token → Type 0) (weaker : (t : Token) 
 
   pub given_set : (set : AttributeSet) → AreGivenAttributes expander P set → AreGivenAttributes expander Q set
   given_set set =
-      All-weaker (λ (p : Pair). P p.1.token × IsGivenAttribute expander P p.0 × IsWholeAttribute p.0)
-      (λ (p : Pair). Q p.1.token × IsGivenAttribute expander Q p.0 × IsWholeAttribute p.0)
-      (λ p h. (weaker p.1.token h.0, given_attribute p.0 h.1, h.2)) (pairs_of set)
+      All-weaker (λ (p : Pair). P p.1.name.token × IsGivenAttribute expander P p.0 × IsWholeAttribute p.0)
+      (λ (p : Pair). Q p.1.name.token × IsGivenAttribute expander Q p.0 × IsWholeAttribute p.0)
+      (λ p h. (weaker p.1.name.token h.0, given_attribute p.0 h.1, h.2)) (written_of set)
 
 -- ---- the texts of literals
 
@@ -189,11 +189,11 @@ module _ (expander : Expansions) (P : Token → Type 0) (expression_cooks : (e :
   attribute_cooks (attributes.WorkingDirectory value) h = expression_cooks value.value h
   attribute_cooks _ h = tt
 
-  pairs_cook : (pairs : List Pair) → All (λ (p : Pair). P p.1.token × IsGivenAttribute expander P p.0 × IsWholeAttribute p.0) pairs → Cook (entries_literals (map entry_of pairs)) (flat_map attribute_cooked (firsts pairs))
+  pairs_cook : (pairs : List Pair) → All (λ (p : Pair). P p.1.name.token × IsGivenAttribute expander P p.0 × IsWholeAttribute p.0) pairs → Cook (entries_literals (map entry_of pairs)) (flat_map attribute_cooked (firsts pairs))
   pairs_cook [] all = tt
   pairs_cook (p ∷ ps) all =
-      let Given : Pair → Type 0 = λ (p : Pair). P p.1.token × IsGivenAttribute expander P p.0 × IsWholeAttribute p.0 in
+      let Given : Pair → Type 0 = λ (p : Pair). P p.1.name.token × IsGivenAttribute expander P p.0 × IsWholeAttribute p.0 in
       joined_cook expander (attribute_literals (attribute_of p.0)) _ (attribute_cooked p.0) _ (attribute_cooks p.0 (All-head Given p ps all).1) (pairs_cook ps (All-tail Given p ps all))
 
   pub set_cooks : (set : AttributeSet) → AreGivenAttributes expander P set → Cook (entries_literals (entries_of set)) (set_cooked set)
-  set_cooks set = pairs_cook (pairs_of set)
+  set_cooks set = pairs_cook (written_of set)

@@ -5,7 +5,7 @@ use Rattle.std.specs.Option.{option_map}
 use Rattle.std.proofs.lemmas.List.Elements.{All-cons, All-head, All-nil, All-tail}
 use Rattle.justfile_attribute.proofs.Ordered.{kind_seen}
 use Rattle.justfile_attribute_set.specs.AttributeSet as sets
-use Rattle.justfile_attribute_set.specs.AttributeSet.{AttributeSet, leaf_entries_of, pairs_of}
+use Rattle.justfile_attribute_set.specs.AttributeSet.{AttributeSet, leaf_entries_of, written_of}
 use Rattle.justfile_attribute_set.specs.Pairs.{Pair, entry_of, leaf_entry_of}
 use Rattle.justfile_word.specs.declared.attribute_kind.AttributeKind.TheVariants.{Doc}
 use Rattle.justfile_base.specs.declared.token.Token.{Token}
@@ -39,7 +39,7 @@ pairs_say [] = refl
 pairs_say (p ∷ ps) = λ i. same_attribute (sym (kind_seen p.0) i) Doc || pairs_say ps i
 
 set_says : (set : AttributeSet) → says_doc (leaf_entries_of set) ≡ says_doc (sets.entries_of set)
-set_says set = pairs_say (pairs_of set)
+set_says set = pairs_say (written_of set)
 
 -- an item with this doc, if it may have one
 abbrev redoc : {A B C S D : Type 0} → Option (List ℕ) → AnyItem A B C S D → AnyItem A B C S D
@@ -205,7 +205,7 @@ module _ (conditions : Conditions) (bound : ℕ) (IsToken : Token → Type 0) (f
   bare_is (a.module_of d h o) = refl
   bare_is (a.setting d h v) = refl
   bare_is (a.unexport d h) = refl
-  bare_is (a.recipe d h ls) = refl
+  bare_is (a.recipe d h said ls) = refl
 
   -- what the definitions see of an item has the doc that the parser's tree has
   redocumented_item : (i : Item) → redoc (doc_at (item_tree i)) (item_of i) ≡ item_of i

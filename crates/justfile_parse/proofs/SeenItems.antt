@@ -2,7 +2,7 @@
 use Rattle.std.proofs.Common.{◌≡◌, ℕ, Bool, List, [], ◌∷◌, ◌++◌, map, All, Option, Some, None, refl, sym, ap, subst, ◌∙◌}
 use Rattle.std.specs.Prelude.{String}
 use Rattle.std.specs.Global.{Global}
-use Rattle.std.specs.Option.{option_map}
+use Rattle.std.specs.Option.{option_copied, option_map}
 use Rattle.std.proofs.lemmas.List.Elements.{All-cons, All-head, All-nil, All-tail}
 use Rattle.justfile_base.specs.Namepath.{names_in}
 use Rattle.justfile_base.specs.declared.name.Name.{Name}
@@ -40,7 +40,7 @@ use Rattle.justfile_tree.specs.LeafTree.{Assigned, AssignmentName, Headed, Leaf,
 use Rattle.justfile_tree.specs.declared.expression.Expression.{Expression}
 use Rattle.justfile_attribute.specs.New.{IsWholeAttribute}
 use Rattle.justfile_attribute_set.specs.AttributeSet as sets
-use Rattle.justfile_attribute_set.specs.AttributeSet.{AttributeSet, leaf_entries_of, pairs_of}
+use Rattle.justfile_attribute_set.specs.AttributeSet.{AttributeSet, leaf_entries_of, written_of}
 use Rattle.justfile_attribute_set.specs.Keys.{firsts}
 use Rattle.justfile_attribute_set.specs.Pairs.{Pair}
 use Rattle.justfile_parse_item.specs.Filled.{AreGivenAttributes, IsGivenAttribute, IsGivenItem, IsGivenLine}
@@ -79,17 +79,17 @@ module _ (conditions : Conditions) (bound : ℕ) (IsToken : Token → Type 0) (f
   IsGivenPair = seeing.IsGivenPair conditions bound IsToken file_depth import_offsets
 
   -- the attributes of a set are given, with what the tree doesn't show of them
-  pairs_given : (ps : List Pair) → All IsGivenPair ps → All IsWholeAttribute (firsts ps) → All (λ (p : Pair). IsToken p.1.token × IsGivenAttribute conditions.expander IsToken p.0 × IsWholeAttribute p.0) ps
-  pairs_given [] given whole = All-nil (λ (p : Pair). IsToken p.1.token × IsGivenAttribute conditions.expander IsToken p.0 × IsWholeAttribute p.0)
+  pairs_given : (ps : List Pair) → All IsGivenPair ps → All IsWholeAttribute (firsts ps) → All (λ (p : Pair). IsToken p.1.name.token × IsGivenAttribute conditions.expander IsToken p.0 × IsWholeAttribute p.0) ps
+  pairs_given [] given whole = All-nil (λ (p : Pair). IsToken p.1.name.token × IsGivenAttribute conditions.expander IsToken p.0 × IsWholeAttribute p.0)
   pairs_given (p ∷ ps) given whole =
       let here = All-head IsGivenPair p ps given in
-      All-cons (λ (p : Pair). IsToken p.1.token × IsGivenAttribute conditions.expander IsToken p.0 × IsWholeAttribute p.0) p ps
+      All-cons (λ (p : Pair). IsToken p.1.name.token × IsGivenAttribute conditions.expander IsToken p.0 × IsWholeAttribute p.0) p ps
       (here.0, here.1, All-head IsWholeAttribute p.0 (firsts ps) whole)
       (pairs_given ps (All-tail IsGivenPair p ps given) (All-tail IsWholeAttribute p.0 (firsts ps) whole))
 
-  whole_given : (set : AttributeSet) → All IsGivenPair (pairs_of set) → HasWholeAttributes set → AreGivenAttributes conditions.expander IsToken set
+  whole_given : (set : AttributeSet) → All IsGivenPair (written_of set) → HasWholeAttributes set → AreGivenAttributes conditions.expander IsToken set
   unfolding AreWholeAttributes
-  whole_given set given whole = pairs_given (pairs_of set) given whole
+  whole_given set given whole = pairs_given (written_of set) given whole
 
   -- ---- items
 
@@ -133,10 +133,10 @@ module _ (conditions : Conditions) (bound : ℕ) (IsToken : Token → Type 0) (f
         recipe_numbers = λ more h. h;
       }
 
-  recipe_seen : (n : Counters) (r : UnresolvedRecipe) {ws : List (WrittenAttribute Tok Tok)} {h : Header Tok Tok Tok} {body : List (BodyLine Tok Tok ℕ)} → AreMeant conditions bound IsToken file_depth import_offsets (leaf_entries_of r.attributes) ws
-      → AlikeHeader seen n (recipe_header r) (map line_tree r.body.items) h body → Each (AlikeLine seen) (map line_tree r.body.items) body
-      → SeenItem n (items.Recipe r) (tree.Construct ws (tree.Recipe (bare_recipe h body)))
-  recipe_seen n r {ws} {h} {body} means k ls =
+  recipe_seen : (n : Counters) (r : UnresolvedRecipe) {ws : List (WrittenAttribute Tok Tok)} {h : Header Tok Tok Tok} {comment : Option (List ℕ)} {body : List (BodyLine Tok Tok ℕ)} → AreMeant conditions bound IsToken file_depth import_offsets (leaf_entries_of r.attributes) ws
+      → AlikeHeader seen n (recipe_header r) (map line_tree r.body.items) h body → option_copied r.comment ≡ comment
+      → Each (AlikeLine seen) (map line_tree r.body.items) body → SeenItem n (items.Recipe r) (tree.Construct ws (tree.Recipe (bare_recipe h comment body)))
+  recipe_seen n r {ws} {h} {comment} {body} means k said ls =
       let name = k.name in
       let same : recipe_name r ≡ headed_in (recipe_name r) (headed_leaf (in_run conditions bound IsToken file_depth import_offsets) name.token n.recipes) = ap (headed_in (recipe_name r)) name.is in
       let token : name.token ≡ r.name.token = ap (λ (x : RecipeName). x.name) (sym same) in
@@ -155,8 +155,8 @@ module _ (conditions : Conditions) (bound : ℕ) (IsToken : Token → Type 0) (f
       } in
       record {
         same =
-            meant_item conditions.expander (tree.Recipe (bare_recipe h body)) ws (sets.entries_of r.attributes) m.0
-            ∙ (λ i. Some (tree.Construct (sets.entries_of r.attributes) (tree.Recipe (bare_recipe (header i) (x.0 i)))));
+            meant_item conditions.expander (tree.Recipe (bare_recipe h comment body)) ws (sets.entries_of r.attributes) m.0
+            ∙ (λ i. Some (tree.Construct (sets.entries_of r.attributes) (tree.Recipe (bare_recipe (header i) (sym said i) (x.0 i)))));
         given = λ whole. record {
           among = subst IsToken token name.among;
           parameters = ps.given;
@@ -281,7 +281,7 @@ module _ (conditions : Conditions) (bound : ℕ) (IsToken : Token → Type 0) (f
   item_seen n (items.Import set optional relative) (a.import means h) = import_seen n set optional relative means h
   item_seen n (items.Module set doc name optional relative) (a.module_of means h k) = module_seen n set doc name optional relative means h k
   item_seen n items.Newline a.newline = record { same = refl; given = λ whole. tt; numbers = λ more h. h; recipe_numbers = λ more h. h }
-  item_seen n (items.Recipe r) (a.recipe means h ls) = recipe_seen n r means h ls
+  item_seen n (items.Recipe r) (a.recipe means h said ls) = recipe_seen n r means h said ls
   item_seen n (items.Setting s) (a.setting means h v) = set_seen n s means h v
   item_seen n (items.Unexport set name) (a.unexport means h) = unexport_seen n set name means h
 

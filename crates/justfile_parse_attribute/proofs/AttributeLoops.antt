@@ -5,7 +5,7 @@ use Rattle.justfile_word.specs.declared.token_kind.TokenKind.{TokenKind}
 use Rattle.justfile_word.specs.declared.token_kind.TokenKind.TheVariants as kinds
 use Rattle.justfile_model.specs.AttributeReader as attributes
 use Rattle.justfile_model.specs.Reading.{◌>>=◌, choose}
-use Rattle.justfile_model.specs.Tree.{Argument, Entry}
+use Rattle.justfile_model.specs.Tree.{Argument, Entry, commented_entry}
 use Rattle.justfile_model.proofs.AttributeReading as laws
 use Rattle.justfile_parse_attribute.specs.AttributeTable as r
 use Rattle.justfile_parse_attribute.specs.AttributeTable.{Arguments, meaning_in, meaning_kept, sight_of, then_last}
@@ -119,18 +119,18 @@ module _ (before : Entries) (s : State) (all : Read Entries) (so_far : r.bracket
 
 lines_law : (x : Entries × State) → r.attribute_lines_from x ≡ (r.line_step x.0 x.1 >>= by_last r.attribute_lines_from)
 unfolding r.line_step r.attribute_line
-lines_law x = laws.attribute_lines_from_is leaves sight_of meaning_kept meaning_in x ∙ go (accept kinds.BracketL x.1)
+lines_law x = laws.attribute_lines_from_is leaves sight_of meaning_kept meaning_in commented_entry x ∙ go (accept kinds.BracketL x.1)
   where
     flagged : Entries × State → Read (Entries × Bool)
     flagged y = Ok ((y.0, false), y.1)
 
-    ended : Entries → TableEntry × State → Read Entries
-    ended ws end = Ok (ws, end.1)
+    ended : Entries → Option TableEntry × State → Read Entries
+    ended ws end = Ok (r.commented_by end.0 ws, end.1)
 
-    later : Entries → TableEntry × State → Read Entries
-    later ws end = r.attribute_lines_from (ws, end.1)
+    later : Entries → Option TableEntry × State → Read Entries
+    later ws end = r.attribute_lines_from (r.commented_by end.0 ws, end.1)
 
-    by_end : (ws : Entries) (found : Read TableEntry) → (found >>= later ws) ≡ (((found >>= ended ws) >>= flagged) >>= by_last r.attribute_lines_from)
+    by_end : (ws : Entries) (found : Read (Option TableEntry)) → (found >>= later ws) ≡ (((found >>= ended ws) >>= flagged) >>= by_last r.attribute_lines_from)
     by_end ws (Ok end) = refl
     by_end ws (Err f) = refl
 

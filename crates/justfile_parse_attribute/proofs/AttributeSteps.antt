@@ -20,7 +20,7 @@ use Rattle.justfile_model.specs.Reading as reading
 use Rattle.justfile_model.specs.Reading.{◌>>=◌, choose}
 use Rattle.justfile_model.specs.Rules.{Rule}
 use Rattle.justfile_model.specs.Tree as tree
-use Rattle.justfile_model.specs.Tree.{Argument, Entry}
+use Rattle.justfile_model.specs.Tree.{Argument, Entry, bare_entry}
 use Rattle.justfile_model.proofs.AttributeReading as laws
 use Rattle.justfile_parse_attribute.specs.AttributeTable as r
 use Rattle.justfile_parse_attribute.specs.AttributeTable.{Arguments, meaning_in, meaning_kept, sight_of, then_last}
@@ -40,6 +40,8 @@ use Rattle.justfile_parse_expression.specs.declared.stop.Stop.TheVariants as sto
 use Rattle.justfile_parse_expression.proofs.Rest.{left_is}
 use Rattle.justfile_tree.specs.LeafSight.{sees_leaves}
 use Rattle.justfile_tree.specs.LeafTree.{Leaf}
+use Rattle.justfile_written.specs.Written.{uncommented}
+use Rattle.justfile_written.specs.declared.written.Written.{Written}
 
 -- a rule that is broken first is broken
 pub broken_first : {X Y : Type 0} (found : Read X) (next : X × State → Read Y) (e : CompileError) → IsBrokenBy found e → IsBrokenBy (found >>= next) e
@@ -175,7 +177,7 @@ refused_halts made next faults.Memory (Stopped (stops.Literal r)) s h k = absurd
 refused_halts made next faults.Memory (Broken error) s h k = absurd h
 refused_halts made next faults.Numbers halt s h k = absurd k
 
-module _ (pairs : List (Attribute × Name)) (name : Name) (kind : AttributeKind) (all : Arguments) (s : State) where
+module _ (pairs : List (Attribute × Written)) (name : Name) (kind : AttributeKind) (all : Arguments) (s : State) where
   abbrev before : Entries
   before = map entry_of_pair pairs
 
@@ -183,7 +185,7 @@ module _ (pairs : List (Attribute × Name)) (name : Name) (kind : AttributeKind)
   attribute_made = new_attribute sees_leaves name.token kind (by_position all) (by_key all)
 
   abbrev checked : tree.Attribute Leaf Token → Made Token (Entry Leaf Token)
-  checked a = new.◌>>=◌ (check_repeated sees_leaves before (record { name = name.token; attribute = a })) (λ distinct. Ok (record { name = name.token; attribute = a }))
+  checked a = new.◌>>=◌ (check_repeated sees_leaves before (bare_entry name.token a)) (λ distinct. Ok (bare_entry name.token a))
 
   -- no attribute is made of the arguments
   pub not_made : (fault : Fault) (halt : Halt) → HaltsFor halt fault → IsRefusedBy attribute_made fault → HaltsAt halt s ⊥ (r.one_made before name.token kind all s)
@@ -191,23 +193,23 @@ module _ (pairs : List (Attribute × Name)) (name : Name) (kind : AttributeKind)
   not_made fault halt h k = refused_halts (new.◌>>=◌ attribute_made checked) _ fault halt s h (made_first attribute_made checked fault k)
 
   -- it is made, and may not stand there
-  pub made_refused : (later : List (Attribute × Name)) (fault : Fault) (halt : Halt) → IsAdded attribute_made name pairs later → HaltsFor halt fault
+  pub made_refused : (later : List (Attribute × Written)) (fault : Fault) (halt : Halt) → IsAdded attribute_made name pairs later → HaltsFor halt fault
       → ChecksLast (Err fault) later → HaltsAt halt s ⊥ (r.one_made before name.token kind all s)
   unfolding r.one_made ChecksLast
   made_refused later fault halt h halts checks =
       let a = h.attribute in
       refused_halts (new.◌>>=◌ attribute_made checked) _ fault halt s halts
-      (rw h.is_made (made_first (check_repeated sees_leaves before (entry_of_pair (a, name))) _ fault (checks pairs (a, name) h.added)))
+      (rw h.is_made (made_first (check_repeated sees_leaves before (entry_of_pair (uncommented (a, name)))) _ fault (checks pairs (uncommented (a, name)) h.added)))
 
-  pub made_last : (later : List (Attribute × Name)) → IsAdded attribute_made name pairs later → ChecksLast (Ok tt) later
+  pub made_last : (later : List (Attribute × Written)) → IsAdded attribute_made name pairs later → ChecksLast (Ok tt) later
       → r.one_made before name.token kind all s ≡ Ok (map entry_of_pair later, s)
   unfolding r.one_made ChecksLast
   made_last later h checks =
       let a = h.attribute in
-      let P : List (Attribute × Name) → Read Entries = λ ps. Ok (map entry_of_pair ps, s) in
+      let P : List (Attribute × Written) → Read Entries = λ ps. Ok (map entry_of_pair ps, s) in
       let Q : Entries → Read Entries = λ es. Ok (es, s) in
-      let so_far : r.one_made before name.token kind all s ≡ Q (before ++ entry_of_pair (a, name) ∷ []) = rw (h.is_made, checks pairs (a, name) h.added) refl in
-      so_far ∙ ap Q (sym (map-append entry_of_pair pairs ((a, name) ∷ []))) ∙ sym (ap P h.added)
+      let so_far : r.one_made before name.token kind all s ≡ Q (before ++ entry_of_pair (uncommented (a, name)) ∷ []) = rw (h.is_made, checks pairs (uncommented (a, name)) h.added) refl in
+      so_far ∙ ap Q (sym (map-append entry_of_pair pairs (uncommented (a, name) ∷ []))) ∙ sym (ap P h.added)
 
 -- an attribute is not read where its kind is not, or its arguments are not
 pub kind_halts : (before : Entries) (s : State) (name : TableEntry) (named : State) (halt : Halt) → expect kinds.Identifier s ≡ Ok (name, named)

@@ -1,6 +1,7 @@
 pub mod ArgumentLists
 pub mod AttributeLoops
 pub mod AttributeSteps
+mod CommentedAttributes
 pub mod KeysPut
 pub mod RepeatedAttributes
 pub mod StillWhole

@@ -23,6 +23,8 @@ use Rattle.justfile_model.specs.Sight.{or_empty}
 use Rattle.justfile_model.specs.Rules.{DuplicateAttribute, DuplicateArgAttribute, DuplicateGroupAttribute}
 use Rattle.justfile_model.specs.Tree as tree
 use Rattle.justfile_model.specs.Tree.{Entry, Quoted}
+use Rattle.justfile_written.specs.Written.{uncommented}
+use Rattle.justfile_written.specs.declared.written.Written.{Written}
 use Rattle.justfile_parse_attribute.specs.AddedAttributes.{ChecksLast, IsAdded}
 use Rattle.justfile_parse_attribute.specs.Attributes.{entry_of_pair}
 use Rattle.justfile_tree.specs.LeafSight.{sees_leaves, leaf_cooked}
@@ -77,19 +79,19 @@ module _ (name first : Token) where
 
 -- ---- one after another
 
-module _ (pairs : List (Attribute × Name)) (e : Entry Leaf Token) where
-  abbrev pub checked_from : List (Attribute × Name) → Made Token (Unit {0})
+module _ (pairs : List (Attribute × Written)) (e : Entry Leaf Token) where
+  abbrev pub checked_from : List (Attribute × Written) → Made Token (Unit {0})
   checked_from ds = check_repeated sees_leaves (map entry_of_pair ds) e
 
-  module _ (i : ℕ) (x : Attribute × Name) (so_far : checked_from (drop i pairs) ≡ checked_from pairs) (within : i < length pairs) (item : x ≡ get_or pairs i x) where
+  module _ (i : ℕ) (x : Attribute × Written) (so_far : checked_from (drop i pairs) ≡ checked_from pairs) (within : i < length pairs) (item : x ≡ get_or pairs i x) where
     abbrev step : checked_from pairs ≡ checked_from (x ∷ drop (i + 1) pairs)
-    step = sym so_far ∙ at_drop_more checked_from pairs i x within ∙ ap (λ (y : Attribute × Name). checked_from (y ∷ drop (i + 1) pairs)) (sym item)
+    step = sym so_far ∙ at_drop_more checked_from pairs i x within ∙ ap (λ (y : Attribute × Written). checked_from (y ∷ drop (i + 1) pairs)) (sym item)
 
     pub repeated_later : excludes sees_leaves (leaf_attribute_of x.0) e.attribute ≡ false → checked_from (drop (i + 1) pairs) ≡ checked_from pairs
     repeated_later h = sym (step ∙ rw h refl)
 
     pub repeated_here : excludes sees_leaves (leaf_attribute_of x.0) e.attribute ≡ true
-        → checked_from pairs ≡ new.refuse (duplicate_rule sees_leaves e.name e.attribute x.1.token) e.name
+        → checked_from pairs ≡ new.refuse (duplicate_rule sees_leaves e.name e.attribute x.1.name.token) e.name
     repeated_here h = step ∙ rw h refl
 
   pub repeated_end : (i : ℕ) → checked_from (drop i pairs) ≡ checked_from pairs → length pairs ≤ i → checked_from pairs ≡ Ok tt
@@ -110,8 +112,8 @@ last_apart {X = X} (a ∷ xs) (b ∷ ys) x y e =
     let rest = last_apart xs ys x y others in
     (ap (λ (l : List X). a ∷ l) rest.0 ∙ ap (λ (z : X). z ∷ ys) first, rest.1)
 
-module _ (result : Result (Unit {0}) Fault) (pairs : List (Attribute × Name)) where
-  pub checks_last : (rest : List (Attribute × Name)) (x : Attribute × Name) → IsLastAndRest pairs x rest
+module _ (result : Result (Unit {0}) Fault) (pairs : List (Attribute × Written)) where
+  pub checks_last : (rest : List (Attribute × Written)) (x : Attribute × Written) → IsLastAndRest pairs x rest
       → Makes (λ (u : Unit {0}). tt) result (check_repeated sees_leaves (map entry_of_pair rest) (entry_of_pair x)) → ChecksLast result pairs
   unfolding ChecksLast
   checks_last rest x h made before last e =
@@ -126,6 +128,6 @@ module _ (result : Result (Unit {0}) Fault) (pairs : List (Attribute × Name)) w
 
 -- ---- what is made is added
 
-module _ (made : Made Token Seen) (name : Name) (before : List (Attribute × Name)) where
-  pub made_added : (a : Attribute) (later : List (Attribute × Name)) → made ≡ Ok (leaf_attribute_of a) → later ≡ before ++ (a, name) ∷ [] → IsAdded made name before later
+module _ (made : Made Token Seen) (name : Name) (before : List (Attribute × Written)) where
+  pub made_added : (a : Attribute) (later : List (Attribute × Written)) → made ≡ Ok (leaf_attribute_of a) → later ≡ before ++ uncommented (a, name) ∷ [] → IsAdded made name before later
   made_added a later e h = record { attribute = a; is_made = e; added = h }

@@ -7,10 +7,12 @@ use Rattle.justfile_attribute.specs.declared.attribute.Attribute.{Attribute}
 use Rattle.justfile_attribute.specs.declared.attribute.Attribute.TheVariants as variants
 use Rattle.justfile_base.specs.declared.fault.Fault.{Fault}
 use Rattle.justfile_base.specs.declared.name.Name.{Name}
+use Rattle.justfile_written.specs.Written.{uncommented}
+use Rattle.justfile_written.specs.declared.written.Written.{Written}
 use Rattle.justfile_parse_attribute.specs.KeyedBounds.{AreKeyed, IsKeyed}
 use Rattle.justfile_parse_attribute.specs.WholeAttributes.{AreWholeAttributes, AreWholePairs, KeepsWholePairs}
 
-abbrev attribute_of : Attribute × Name → Attribute
+abbrev attribute_of : Attribute × Written → Attribute
 attribute_of p = p.0
 
 -- a bound stands with its key in each of them
@@ -27,26 +29,26 @@ pub none_whole : AreWholePairs []
 unfolding AreWholeAttributes
 none_whole = All-nil IsWholeAttribute
 
-pub pushed_whole : (old new : List (Attribute × Name)) (a : Attribute) (name : Name) → new ≡ old ++ (a, name) ∷ [] → IsWholeAttribute a → KeepsWholePairs old new
+pub pushed_whole : (old new : List (Attribute × Written)) (a : Attribute) (written : Written) → new ≡ old ++ (a, written) ∷ [] → IsWholeAttribute a → KeepsWholePairs old new
 unfolding AreWholeAttributes KeepsWholePairs
-pushed_whole old new a name e h whole =
-    let all : map attribute_of new ≡ map attribute_of old ++ a ∷ [] = ap (map attribute_of) e ∙ map-append attribute_of old ((a, name) ∷ []) in
+pushed_whole old new a written e h whole =
+    let all : map attribute_of new ≡ map attribute_of old ++ a ∷ [] = ap (map attribute_of) e ∙ map-append attribute_of old ((a, written) ∷ []) in
     subst (All IsWholeAttribute) (sym all) (All-push IsWholeAttribute (map attribute_of old) a whole h)
 
 -- where it was added
-pub added_whole : (result : Result (Unit {0}) Fault) (old new : List (Attribute × Name)) (a : Attribute) (name : Name) → OnOk result (new ≡ old ++ (a, name) ∷ []) → IsWholeAttribute a
+pub added_whole : (result : Result (Unit {0}) Fault) (old new : List (Attribute × Written)) (a : Attribute) (name : Name) → OnOk result (new ≡ old ++ uncommented (a, name) ∷ []) → IsWholeAttribute a
     → OnOk result (KeepsWholePairs old new)
-added_whole (Ok done) old new a name e h = pushed_whole old new a name e h
+added_whole (Ok done) old new a name e h = pushed_whole old new a _ e h
 added_whole (Err fault) old new a name e h = tt
 
-pub same_whole : (pairs : List (Attribute × Name)) → KeepsWholePairs pairs pairs
+pub same_whole : (pairs : List (Attribute × Written)) → KeepsWholePairs pairs pairs
 unfolding KeepsWholePairs
 same_whole pairs h = h
 
-pub both_whole : (first between last : List (Attribute × Name)) → KeepsWholePairs first between → KeepsWholePairs between last → KeepsWholePairs first last
+pub both_whole : (first between last : List (Attribute × Written)) → KeepsWholePairs first between → KeepsWholePairs between last → KeepsWholePairs first last
 unfolding KeepsWholePairs
 both_whole first between last h k whole = k (h whole)
 
-pub then_whole : (old new : List (Attribute × Name)) → AreWholePairs old → KeepsWholePairs old new → AreWholePairs new
+pub then_whole : (old new : List (Attribute × Written)) → AreWholePairs old → KeepsWholePairs old new → AreWholePairs new
 unfolding KeepsWholePairs
 then_whole old new h k = k h

@@ -11,19 +11,21 @@ use Rattle.justfile_model.specs.Tree as tree
 use Rattle.justfile_parse_attribute.specs.Attributes.{entry_of_pair}
 use Rattle.justfile_tree.specs.LeafSight.{sees_leaves}
 use Rattle.justfile_tree.specs.LeafTree.{Leaf}
+use Rattle.justfile_written.specs.Written.{uncommented}
+use Rattle.justfile_written.specs.declared.written.Written.{Written}
 
--- the attribute that is made comes last, with its name
-pub record IsAdded (made : Made Token (tree.Attribute Leaf Token)) (name : Name) (old new : List (Attribute × Name)) : Type 0 where
+-- the attribute that is made comes last, with its name and without a comment
+pub record IsAdded (made : Made Token (tree.Attribute Leaf Token)) (name : Name) (old new : List (Attribute × Written)) : Type 0 where
   pub attribute : Attribute
   pub is_made : made ≡ Ok (leaf_attribute_of attribute)
-  pub added : new ≡ old ++ (attribute, name) ∷ []
+  pub added : new ≡ old ++ uncommented (attribute, name) ∷ []
 
 -- it is added, or refused by the same rule
-abbrev pub Adds : Result (Unit {0}) Fault → Made Token (tree.Attribute Leaf Token) → Name → (old new : List (Attribute × Name)) → Type 0
+abbrev pub Adds : Result (Unit {0}) Fault → Made Token (tree.Attribute Leaf Token) → Name → (old new : List (Attribute × Written)) → Type 0
 Adds (Ok added) made name old new = IsAdded made name old new
 Adds (Err fault) made name old new = IsRefusedBy made fault
 
 -- the last one may stand after those before it, or is refused by the same rule
-unfoldable pub ChecksLast : Result (Unit {0}) Fault → List (Attribute × Name) → Type 0
-ChecksLast result pairs = (before : List (Attribute × Name)) (last : Attribute × Name) → pairs ≡ before ++ last ∷ []
+unfoldable pub ChecksLast : Result (Unit {0}) Fault → List (Attribute × Written) → Type 0
+ChecksLast result pairs = (before : List (Attribute × Written)) (last : Attribute × Written) → pairs ≡ before ++ last ∷ []
     → Makes (λ (u : Unit {0}). u) result (check_repeated sees_leaves (map entry_of_pair before) (entry_of_pair last))

@@ -1,5 +1,5 @@
 -- Reading the attributes of a table, with all that the parser's trees hold.
-use Rattle.std.specs.Prelude.{Bool, true, false, List, [], ◌∷◌, ◌++◌, Option, Ok}
+use Rattle.std.specs.Prelude.{ℕ, Bool, true, false, List, [], ◌∷◌, ◌++◌, Option, Ok}
 use Rattle.justfile_word.specs.declared.attribute_kind.AttributeKind.{AttributeKind}
 use Rattle.justfile_base.specs.declared.token.Token.{Token}
 use Rattle.justfile_word.specs.declared.token_kind.TokenKind.{TokenKind}
@@ -7,9 +7,10 @@ use Rattle.justfile_word.specs.declared.token_kind.TokenKind.TheVariants as kind
 use Rattle.justfile_model.specs.AttributeReader as attributes
 use Rattle.justfile_model.specs.Meaning.{by_key, by_position}
 use Rattle.justfile_model.specs.NewAttribute.{new_entry}
+use Rattle.justfile_model.specs.Reading as reading
 use Rattle.justfile_model.specs.Reading.{◌>>=◌, choose}
 use Rattle.justfile_model.specs.Sight.{Sight}
-use Rattle.justfile_model.specs.Tree.{Argument, Entry, Expr, WrittenAttribute}
+use Rattle.justfile_model.specs.Tree.{Argument, Entry, Expr, WrittenAttribute, commented_entry}
 use Rattle.justfile_parse_expression.specs.TableReader.{Read, Run, State, accept, expect, leaves}
 use Rattle.justfile_tree.specs.LeafSight.{sees_leaves}
 use Rattle.justfile_tree.specs.LeafTree.{Leaf}
@@ -135,15 +136,28 @@ bracket_step before s = do
 abbrev pub bracketed : Entries × State → Read Entries
 bracketed = attributes.bracketed leaves sight_of meaning_kept meaning_in
 
-abbrev pub attributes_end : State → Read TableEntry
+-- the text of a comment without the white space at its end
+abbrev pub comment_in : TableEntry → List ℕ
+comment_in = reading.comment_in leaves
+
+-- the end of a line, after this comment or none
+abbrev pub line_end_after : (comment : Option TableEntry) → State → Read (Option TableEntry)
+line_end_after = attributes.line_end_after leaves sight_of meaning_kept meaning_in
+
+-- the end of a line of attributes, and the comment before it, if there is one
+abbrev pub attributes_end : State → Read (Option TableEntry)
 attributes_end = attributes.attributes_end leaves sight_of meaning_kept meaning_in
+
+-- the entries where the line of the last one ends after this comment or none
+abbrev pub commented_by : (comment : Option TableEntry) → Entries → Entries
+commented_by = attributes.commented_by leaves sight_of meaning_kept meaning_in commented_entry
 
 -- a line of attributes after its opening bracket, after others
 unfoldable pub attribute_line : (before : Entries) → State → Read Entries
 attribute_line before s = do
   ws ← bracketed (before, s)
   end ← attributes_end ws.1
-  Ok (ws.0, end.1)
+  Ok (commented_by end.0 ws.0, end.1)
 
 -- a line of attributes, if a bracket opens; whether the lines are at their end
 unfoldable pub line_step : (before : Entries) → State → Read (Entries × Bool)
@@ -153,8 +167,8 @@ line_step before s =
       Ok ((ws.0, false), ws.1))
 
 abbrev pub attribute_lines_from : Entries × State → Read Entries
-attribute_lines_from = attributes.attribute_lines_from leaves sight_of meaning_kept meaning_in
+attribute_lines_from = attributes.attribute_lines_from leaves sight_of meaning_kept meaning_in commented_entry
 
 -- the lines of attributes before a construct
 abbrev pub attribute_lines : State → Read Entries
-attribute_lines = attributes.attribute_lines leaves sight_of meaning_kept meaning_in
+attribute_lines = attributes.attribute_lines leaves sight_of meaning_kept meaning_in commented_entry

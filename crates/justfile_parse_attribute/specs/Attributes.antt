@@ -1,10 +1,9 @@
 -- What the definitions see of attributes, and of their arguments, while they are read.
 use Rattle.std.specs.Prelude.{List, ◌++◌, map, None}
 use Rattle.std.specs.Global.{Box}
-use Rattle.std.specs.Option.{option_map}
+use Rattle.std.specs.Option.{option_copied, option_map}
 use Rattle.justfile_attribute.specs.Attribute.{leaf_attribute_of}
 use Rattle.justfile_attribute.specs.declared.attribute.Attribute.{Attribute}
-use Rattle.justfile_base.specs.declared.name.Name.{Name}
 use Rattle.justfile_base.specs.declared.token.Token.{Token}
 use Rattle.justfile_model.specs.Tree as tree
 use Rattle.justfile_model.specs.Tree.{Argument, Entry}
@@ -13,6 +12,7 @@ use Rattle.justfile_parse_attribute.specs.AttributeTable.{argument_of_key}
 use Rattle.justfile_tree.specs.LeafTree.{Leaf, Named, leaf_tree_of}
 use Rattle.justfile_tree.specs.declared.expression.Expression.{Expression}
 use Rattle.justfile_parse_attribute.specs.declared.arguments.Arguments.{Arguments}
+use Rattle.justfile_written.specs.declared.written.Written.{Written}
 
 -- an argument by position, with its first token
 abbrev pub positional_of : Token × Box Expression → Argument Leaf Token
@@ -26,6 +26,6 @@ keyed_of k = argument_of_key (Named k.0.token None) (option_map (λ (e : Box Exp
 unfoldable pub arguments_of : Arguments → List (Argument Leaf Token)
 arguments_of a = map positional_of a.positional.items ++ map keyed_of a.keyed.items
 
--- an attribute, at its name
-abbrev pub entry_of_pair : Attribute × Name → Entry Leaf Token
-entry_of_pair p = record { name = p.1.token; attribute = leaf_attribute_of p.0 }
+-- an attribute, at its name, with the text of its comment
+abbrev pub entry_of_pair : Attribute × Written → Entry Leaf Token
+entry_of_pair p = record { name = p.1.name.token; attribute = leaf_attribute_of p.0; comment = option_copied p.1.comment }

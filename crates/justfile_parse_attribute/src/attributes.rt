@@ -2,7 +2,6 @@
 ghost use Rattle.std.specs.Prelude.{◌≡◌, ◌<◌, ◌≤◌, [], false, IfOk, OnOk, map};
 ghost use Rattle.std.specs.Option.{option_map};
 ghost use Rattle.justfile_attribute_rules.specs.Made.{IsRefusedBy};
-ghost use Rattle.justfile_word.specs.declared.token_kind.TokenKind.TheVariants as kinds;
 ghost use Rattle.justfile_model.specs.NewAttribute as new;
 ghost use Rattle.justfile_model.specs.Rules.{AttributePositionalFollowsKeyword, DuplicateAttributeKey, UnknownAttribute};
 ghost use Rattle.justfile_model.specs.Tree as tree;
@@ -10,12 +9,12 @@ ghost use Rattle.justfile_parse_attribute.specs.Attributes.{arguments_of, entry_
 ghost use Rattle.justfile_parse_attribute.specs.Halting.{ReadsRuled};
 ghost use Rattle.justfile_parse_attribute.specs.WholeAttributes.{AreWholePairs, KeepsWholePairs};
 ghost use Rattle.justfile_parse_expression.specs.MethodResults.{Reads};
-ghost use Rattle.justfile_parse_expression.specs.TableReader as table;
 ghost use Rattle.justfile_parse_attribute.specs.AttributeTable as reader;
 ghost use Rattle.justfile_tree.specs.LeafTree.{leaf_tree_of};
 ghost use Rattle.justfile_parse_expression.specs.View.{left, state_of};
 
 use crate::arguments::Arguments;
+use crate::comment::comment_text;
 use crate::halt::{Halt, make_halt};
 use crate::new_attribute::{check_last, push_made};
 use justfile_attribute::Attribute;
@@ -25,12 +24,13 @@ use justfile_base::{
 use justfile_parse_expression::significant::TableEntry;
 use justfile_parse_expression::{ExpressionParser, Refusal, Stop};
 use justfile_tree::Expression;
+use justfile_written::{Written, comment_last};
 
-/// The lines of attributes before a construct, each attribute with its name.
+/// The lines of attributes before a construct, each attribute with its name and its comment.
 #[tactic(auto, using(crate::proofs::AttributeLoops::lines_end, crate::proofs::AttributeLoops::lines_go_on, crate::proofs::StillWhole::then_whole))]
 pub fn parse_attributes<'src, X: Expander>(
     parser: &mut ExpressionParser<'_, 'src, X>,
-) -> Result<Vec<(Attribute<'src>, Name<'src>)>, Halt<'src>>
+) -> Result<Vec<(Attribute<'src>, Written<'src>)>, Halt<'src>>
     ensures reads { ReadsRuled (λ pairs. map entry_of_pair pairs.items) result (state_of X.answer parser.new)
         (reader.attribute_lines (state_of X.answer parser.old)) }
     ensures whole { IfOk result (λ pairs. AreWholePairs pairs.items) }
@@ -49,7 +49,7 @@ pub fn parse_attributes<'src, X: Expander>(
 #[tactic(auto, using(crate::proofs::AttributeSteps::broken_first, crate::proofs::StillWhole::same_whole), unfolding(crate::specs::AttributeTable::line_step))]
 fn parse_next_line<'src, X: Expander>(
     parser: &mut ExpressionParser<'_, 'src, X>,
-    attributes: &mut Vec<(Attribute<'src>, Name<'src>)>,
+    attributes: &mut Vec<(Attribute<'src>, Written<'src>)>,
 ) -> Result<bool, Halt<'src>>
     ensures reads { ReadsRuled (λ is_last. (map entry_of_pair attributes.new.items, is_last)) result (state_of X.answer parser.new)
         (reader.line_step (map entry_of_pair attributes.old.items) (state_of X.answer parser.old)) }
@@ -65,10 +65,10 @@ fn parse_next_line<'src, X: Expander>(
 }
 
 /// A line of attributes after its opening bracket, after those before it.
-#[tactic(auto, using(crate::proofs::AttributeSteps::broken_first), unfolding(crate::specs::AttributeTable::attribute_line))]
+#[tactic(auto, using(crate::proofs::AttributeSteps::broken_first, crate::proofs::StillWhole::both_whole), unfolding(crate::specs::AttributeTable::attribute_line))]
 fn parse_attribute_line<'src, X: Expander>(
     parser: &mut ExpressionParser<'_, 'src, X>,
-    attributes: &mut Vec<(Attribute<'src>, Name<'src>)>,
+    attributes: &mut Vec<(Attribute<'src>, Written<'src>)>,
 ) -> Result<(), Halt<'src>>
     ensures reads { ReadsRuled (λ _. map entry_of_pair attributes.new.items) result (state_of X.answer parser.new)
         (reader.attribute_line (map entry_of_pair attributes.old.items) (state_of X.answer parser.old)) }
@@ -76,15 +76,27 @@ fn parse_attribute_line<'src, X: Expander>(
     ensures progress { OnOk result (left parser.new < left parser.old) }
 {
     parse_bracketed(parser, attributes)?;
-    parse_attributes_end(parser)?;
+    let comment = parse_attributes_end(parser)?;
+    give_comment(attributes, comment);
     Ok(())
+}
+
+/// Gives the comment after a line of attributes, if there is one, to the last of them.
+fn give_comment<'src>(
+    attributes: &mut Vec<(Attribute<'src>, Written<'src>)>,
+    comment: Option<TableEntry<'_, 'src>>,
+)
+    ensures entries { map entry_of_pair attributes.new.items ≡ reader.commented_by comment.entry (map entry_of_pair attributes.old.items) }
+    ensures whole { KeepsWholePairs attributes.old.items attributes.new.items }
+{
+    comment_last(attributes.as_mut_slice(), comment_text(comment));
 }
 
 /// The attributes of a bracket and its end, after those before it.
 #[tactic(auto, using(crate::proofs::AttributeLoops::bracket_ends, crate::proofs::AttributeLoops::bracket_goes_on, crate::proofs::StillWhole::same_whole, crate::proofs::StillWhole::both_whole))]
 fn parse_bracketed<'src, X: Expander>(
     parser: &mut ExpressionParser<'_, 'src, X>,
-    attributes: &mut Vec<(Attribute<'src>, Name<'src>)>,
+    attributes: &mut Vec<(Attribute<'src>, Written<'src>)>,
 ) -> Result<(), Halt<'src>>
     ensures reads { ReadsRuled (λ _. map entry_of_pair attributes.new.items) result (state_of X.answer parser.new)
         (reader.bracketed (map entry_of_pair attributes.old.items, state_of X.answer parser.old)) }
@@ -102,7 +114,7 @@ fn parse_bracketed<'src, X: Expander>(
 #[tactic(auto, using(crate::proofs::AttributeSteps::broken_first), unfolding(crate::specs::AttributeTable::bracket_step))]
 fn parse_next_attribute<'src, X: Expander>(
     parser: &mut ExpressionParser<'_, 'src, X>,
-    attributes: &mut Vec<(Attribute<'src>, Name<'src>)>,
+    attributes: &mut Vec<(Attribute<'src>, Written<'src>)>,
 ) -> Result<bool, Halt<'src>>
     ensures reads { ReadsRuled (λ is_last. (map entry_of_pair attributes.new.items, is_last)) result (state_of X.answer parser.new)
         (reader.bracket_step (map entry_of_pair attributes.old.items) (state_of X.answer parser.old)) }
@@ -130,29 +142,33 @@ pub fn parse_separator<'src, X: Expander>(
     Ok(true)
 }
 
-/// The end of a line of attributes. A comment before it is dropped.
+/// The end of a line of attributes, and the comment before it, if there is one.
 #[tactic(auto, unfolding(justfile_model::specs::AttributeReader::attributes_end))]
 fn parse_attributes_end<'run, 'src, X: Expander>(
     parser: &mut ExpressionParser<'run, 'src, X>,
-) -> Result<TableEntry<'run, 'src>, Stop<'src>>
-    ensures reads { Reads (λ entry. entry) result (state_of X.answer parser.new) (reader.attributes_end (state_of X.answer parser.old)) }
+) -> Result<Option<TableEntry<'run, 'src>>, Stop<'src>>
+    ensures reads { Reads (λ comment. comment) result (state_of X.answer parser.new) (reader.attributes_end (state_of X.answer parser.old)) }
     ensures progress { OnOk result (left parser.new < left parser.old) }
 {
     match parser.accept(TokenKind::Comment) {
-        Some(_comment) => expect_line_end(parser),
-        None => expect_line_end(parser),
+        Some(comment) => parse_line_end_after(parser, Some(comment)),
+        None => parse_line_end_after(parser, None),
     }
 }
 
-/// The end of a line of attributes, which is not that of the file.
-fn expect_line_end<'run, 'src, X: Expander>(
+/// The end of a line of attributes, which is not that of the file, after this comment or none.
+#[tactic(auto, unfolding(justfile_model::specs::AttributeReader::line_end_after))]
+fn parse_line_end_after<'run, 'src, X: Expander>(
     parser: &mut ExpressionParser<'run, 'src, X>,
-) -> Result<TableEntry<'run, 'src>, Stop<'src>>
-    ensures reads { Reads (λ entry. entry) result (state_of X.answer parser.new) (table.expect kinds.Eol (state_of X.answer parser.old)) }
+    comment: Option<TableEntry<'run, 'src>>,
+) -> Result<Option<TableEntry<'run, 'src>>, Stop<'src>>
+    ensures reads { Reads (λ comment. comment) result (state_of X.answer parser.new)
+        (reader.line_end_after comment.entry (state_of X.answer parser.old)) }
     ensures progress { OnOk result (left parser.new < left parser.old) }
 {
     want_line_end(parser);
-    parser.expect(TokenKind::Eol)
+    parser.expect(TokenKind::Eol)?;
+    Ok(comment)
 }
 
 /// A line of attributes may end as other lines do. Where the file ends with it, a construct is missing.
@@ -172,7 +188,7 @@ fn want_line_end<X: Expander>(parser: &ExpressionParser<'_, '_, X>) {
 #[tactic(auto, using(crate::proofs::AttributeSteps::broken_first, crate::proofs::AttributeSteps::one_attribute_is))]
 fn parse_attribute<'src, X: Expander>(
     parser: &mut ExpressionParser<'_, 'src, X>,
-    attributes: &mut Vec<(Attribute<'src>, Name<'src>)>,
+    attributes: &mut Vec<(Attribute<'src>, Written<'src>)>,
 ) -> Result<(), Halt<'src>>
     ensures reads { ReadsRuled (λ _. map entry_of_pair attributes.new.items) result (state_of X.answer parser.new)
         (reader.one_attribute (map entry_of_pair attributes.old.items) (state_of X.answer parser.old)) }
@@ -209,7 +225,7 @@ fn find_attribute_kind<'run, 'src, X: Expander>(
 #[tactic(auto, using(crate::proofs::AttributeSteps::not_made, crate::proofs::AttributeSteps::made_refused, crate::proofs::AttributeSteps::made_last))]
 fn push_attribute<'src, X: Expander>(
     parser: &ExpressionParser<'_, 'src, X>,
-    attributes: &mut Vec<(Attribute<'src>, Name<'src>)>,
+    attributes: &mut Vec<(Attribute<'src>, Written<'src>)>,
     name: Name<'src>,
     kind: AttributeKind,
     arguments: Arguments<'src>,

@@ -3,8 +3,10 @@
 
 mod arguments;
 mod attributes;
+mod comment;
 mod halt;
 mod new_attribute;
 
 pub use crate::attributes::{parse_attributes, parse_separator};
+pub use crate::comment::comment_text;
 pub use crate::halt::{Halt, make_halt};

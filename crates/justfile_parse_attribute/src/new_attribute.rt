@@ -15,12 +15,14 @@ ghost use Rattle.justfile_parse_attribute.specs.AddedAttributes.{Adds, ChecksLas
 ghost use Rattle.justfile_parse_attribute.specs.Attributes.{arguments_of, entry_of_pair};
 ghost use Rattle.justfile_parse_attribute.specs.WholeAttributes.{KeepsWholePairs};
 ghost use Rattle.justfile_tree.specs.LeafSight.{sees_leaves};
+ghost use Rattle.justfile_written.specs.Written.{uncommented};
 
 use crate::arguments::Arguments;
 use justfile_attribute::Attribute;
 use justfile_attribute_rules::KeywordArguments;
 use justfile_base::{AttributeKind, CompileErrorKind, CompileResult, Fault, Name, StringLiteral};
 use justfile_tree::Expression;
+use justfile_written::Written;
 use std::alloc::{AllocError, Global};
 use std::collections::BTreeMap;
 
@@ -32,7 +34,7 @@ use std::collections::BTreeMap;
 #[tactic(auto, using(crate::proofs::RepeatedAttributes::made_added))]
 pub(crate) fn push_made<'src>(
     alloc: Global,
-    attributes: &mut Vec<(Attribute<'src>, Name<'src>)>,
+    attributes: &mut Vec<(Attribute<'src>, Written<'src>)>,
     name: Name<'src>,
     kind: AttributeKind,
     arguments: Arguments<'src>,
@@ -47,20 +49,21 @@ pub(crate) fn push_made<'src>(
     }
 }
 
-/// Adds an attribute.
+/// Adds an attribute, without a comment.
 ///
 /// # Errors
 ///
 /// `Memory` if memory runs out.
 fn push_pair<'src>(
-    attributes: &mut Vec<(Attribute<'src>, Name<'src>)>,
+    attributes: &mut Vec<(Attribute<'src>, Written<'src>)>,
     attribute: Attribute<'src>,
     name: Name<'src>,
 ) -> CompileResult<'src>
-    ensures added { OnOk result (attributes.new.items ≡ attributes.old.items ++ (attribute.entry, name.entry) ∷ []) }
+    ensures added { OnOk result (attributes.new.items ≡ attributes.old.items ++ uncommented (attribute.entry, name.entry) ∷ []) }
     ensures memory { IfErr result (λ fault. fault ≡ Memory) }
 {
-    attributes.push((attribute, name))?;
+    let comment = None;
+    attributes.push((attribute, Written { name, comment }))?;
     Ok(())
 }
 
@@ -124,7 +127,7 @@ fn put_key<'src>(
 #[tactic(auto, using(crate::proofs::RepeatedAttributes::checks_last, crate::proofs::RepeatedAttributes::checks_none))]
 pub(crate) fn check_last<'src>(
     alloc: Global,
-    attributes: &[(Attribute<'src>, Name<'src>)],
+    attributes: &[(Attribute<'src>, Written<'src>)],
 ) -> CompileResult<'src>
     ensures { ChecksLast result attributes.now }
 {
@@ -142,15 +145,15 @@ pub(crate) fn check_last<'src>(
 #[tactic(auto, using(crate::proofs::RepeatedAttributes::repeated_later, crate::proofs::RepeatedAttributes::repeated_here, crate::proofs::RepeatedAttributes::repeated_end))]
 fn check_repeated<'src>(
     alloc: Global,
-    before: &[(Attribute<'src>, Name<'src>)],
+    before: &[(Attribute<'src>, Written<'src>)],
     attribute: &Attribute<'src>,
-    name: Name<'src>,
+    written: Written<'src>,
 ) -> CompileResult<'src>
-    ensures { Makes (λ _. tt) result (check_repeated sees_leaves (map entry_of_pair before.now) (entry_of_pair (attribute.now, name.entry))) }
+    ensures { Makes (λ _. tt) result (check_repeated sees_leaves (map entry_of_pair before.now) (entry_of_pair (attribute.now, written.entry))) }
 {
     for earlier in before {
         if excludes(&earlier.0, attribute) {
-            return Err(repeated(alloc, attribute, name, earlier.1));
+            return Err(repeated(alloc, attribute, written.name, earlier.1.name));
         }
     }
     Ok(())

@@ -7,10 +7,11 @@ use Rattle.justfile_line.specs.declared.fragment.Fragment.{Fragment}
 use Rattle.justfile_line.specs.declared.line.Line.{Line}
 use Rattle.justfile_model.specs.Tree as tree
 use Rattle.justfile_model.specs.Tree.{BodyLine, trimmed}
+use Rattle.justfile_model.specs.Expressions.{front}
 use Rattle.justfile_model.specs.Reader as files
 use Rattle.justfile_model.specs.Reading.{◌>>=◌, Unexpected, prepend, at, choose, refused}
 use Rattle.justfile_parse_expression.specs.TableReader.{Read, Refusal, State, accept, enclosed, expect, leaves, next_are, read, At}
-use Rattle.justfile_parse_item.specs.ItemTable.{body, optional_body, body_line, fragment, line_rest, lines}
+use Rattle.justfile_parse_item.specs.ItemTable.{body, body_after, optional_body, body_line, fragment, line_rest, lines}
 use Rattle.justfile_parse_expression.specs.MethodResults.{StopsAt, literal_refusal, refusal_at}
 use Rattle.justfile_parse_item.specs.Tree.{fragment_tree, line_tree}
 use Rattle.justfile_tree.specs.LeafTree.{Leaf, Text}
@@ -117,14 +118,14 @@ module _ (s : State) where
   unfolding files.body
   body_none ls rest kept h is none = rw h (ap (λ (l : List (BodyLine Leaf Token ℕ)). files.some_lines leaves l rest) (sym is ∙ ap (map line_tree) none))
 
-  pub body_at_once : next_are (kinds.Eol ∷ kinds.Indent ∷ []) s ≡ true → optional_body s ≡ body (at s (drop 2 s.left))
+  pub body_at_once : next_are (kinds.Eol ∷ kinds.Indent ∷ []) s ≡ true → optional_body s ≡ body_after None (at s (drop 2 s.left))
   unfolding files.optional_body
   body_at_once h = rw h refl
 
-  pub body_commented : next_are (kinds.Eol ∷ kinds.Indent ∷ []) s ≡ false → next_are (kinds.Comment ∷ kinds.Eol ∷ kinds.Indent ∷ []) s ≡ true → optional_body s ≡ body (at s (drop 3 s.left))
+  pub body_commented : next_are (kinds.Eol ∷ kinds.Indent ∷ []) s ≡ false → next_are (kinds.Comment ∷ kinds.Eol ∷ kinds.Indent ∷ []) s ≡ true → optional_body s ≡ body_after (front s.left) (at s (drop 3 s.left))
   unfolding files.optional_body
   body_commented h1 h2 = rw (h1, h2) refl
 
-  pub body_missing : next_are (kinds.Eol ∷ kinds.Indent ∷ []) s ≡ false → next_are (kinds.Comment ∷ kinds.Eol ∷ kinds.Indent ∷ []) s ≡ false → optional_body s ≡ Ok ([], s)
+  pub body_missing : next_are (kinds.Eol ∷ kinds.Indent ∷ []) s ≡ false → next_are (kinds.Comment ∷ kinds.Eol ∷ kinds.Indent ∷ []) s ≡ false → optional_body s ≡ Ok ((None, []), s)
   unfolding files.optional_body
   body_missing h1 h2 = rw (h1, h2) refl

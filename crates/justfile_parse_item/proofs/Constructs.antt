@@ -34,6 +34,7 @@ use Rattle.justfile_model.specs.Tree.{Entry}
 use Rattle.justfile_parse_item.specs.Exclusions.{SaysFirst}
 use Rattle.justfile_parse_item.specs.Halting.{IsExtraneousFault}
 use Rattle.justfile_parse_item.specs.ItemTable as reader
+use Rattle.justfile_written.specs.declared.written.Written.{Written}
 use Rattle.justfile_parse_item.specs.ItemTable.{in_content_order}
 use Rattle.justfile_parse_attribute.specs.AttributeTable.{Entries}
 use Rattle.justfile_parse_attribute.specs.Attributes.{entry_of_pair}
@@ -159,7 +160,7 @@ module _ (s : State) (opener : TableEntry) (next : State) (opened : tokens.accep
     stand_alone h = before_is ∙ rw (read, h) refl
 
     -- reading halts for attributes before no construct
-    pub halts_alone : (pairs : List (Attribute × Name)) → ws ≡ map entry_of_pair pairs → reader.stands_alone rest ≡ true → (count : ℕ) → count ≡ length pairs
+    pub halts_alone : (pairs : List (Attribute × Written)) → ws ≡ map entry_of_pair pairs → reader.stands_alone rest ≡ true → (count : ℕ) → count ≡ length pairs
         → (fault : Fault) (halt : Halt) → HaltsFor halt fault → IsExtraneousFault count opener.token.now fault → HaltsAt halt rest ⊥ (reader.item_attributes s)
     halts_alone pairs is alone count e fault halt h k =
         let counted : length ws ≡ count = ap (λ (l : Entries). length l) is ∙ length-map pairs entry_of_pair ∙ sym e in

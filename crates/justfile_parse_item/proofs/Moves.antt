@@ -77,7 +77,7 @@ module _ (n : Counters) (s : State) (open_none : s.depth ≡ 0) where
   same_count a.newline = refl
   same_count (a.setting none h v) = refl
   same_count (a.unexport none h) = refl
-  same_count (a.recipe none h body) = ap (λ (k : ℕ). k + 1) (same_parameters h.parameters)
+  same_count (a.recipe none h said body) = ap (λ (k : ℕ). k + 1) (same_parameters h.parameters)
 
   -- what begins a line takes an identifier for its number
   pub on_line_moves : (i : OrderedItem Leaf Token ℕ) (m : Counters) (rest : State) → on_line n s ≡ Ok ((i, m), rest) → MovesBy n m (names s) (names rest)

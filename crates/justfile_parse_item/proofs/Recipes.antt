@@ -1,5 +1,6 @@
 -- Recipes, as the parser reads them.
-use Rattle.std.proofs.Common.{◌≡◌, ◌∙◌, ℕ, Bool, List, map-id, Ok, Err, sym, ap, subst}
+use Rattle.std.proofs.Common.{◌≡◌, ◌∙◌, ℕ, Bool, List, map-id, Option, Ok, Err, sym, ap, subst}
+use Rattle.std.specs.Option.{option_map}
 use Rattle.justfile_word.specs.Numerator.{number_of}
 use Rattle.justfile_word.specs.declared.number.Number.{Number}
 use Rattle.justfile_base.specs.declared.token.Token.{Token}
@@ -11,8 +12,8 @@ use Rattle.justfile_model.specs.RecipeRules.{exclusions_broken}
 use Rattle.justfile_model.specs.Tree as tree
 use Rattle.justfile_model.specs.Tree.{BodyLine, OrderedItem, bare_recipe}
 use Rattle.justfile_parse_item.specs.ItemTable as reader
-use Rattle.justfile_parse_item.specs.ItemTable.{ReadItem, draw_recipe, in_content_order, optional_body}
-use Rattle.justfile_parse_attribute.specs.AttributeTable.{Entries}
+use Rattle.justfile_parse_item.specs.ItemTable.{CommentedBody, ReadItem, draw_recipe, in_content_order, optional_body}
+use Rattle.justfile_parse_attribute.specs.AttributeTable.{Entries, comment_in}
 use Rattle.justfile_parse_attribute.specs.Halting.{HaltsAt}
 use Rattle.justfile_parse_attribute.specs.declared.halt.Halt.{Halt}
 use Rattle.justfile_parse_expression.specs.MethodResults.{StopsAt}
@@ -24,21 +25,21 @@ use Rattle.justfile_tree.specs.LeafSight.{sees_leaves}
 use Rattle.justfile_tree.specs.LeafTree.{Headed, Leaf, RecipeName}
 
 abbrev Body : Type 0
-Body = List (BodyLine Leaf Token ℕ)
+Body = CommentedBody
 
 module _ (quiet : Bool) (ws : Entries) (n : Counters) (s : State) (entries : Entries) (is : entries ≡ in_content_order ws) where
   -- a recipe with what is kept of its name
-  abbrev recipe_item : Entries → ReadHeader → Leaf → Body → OrderedItem Leaf Token ℕ
-  recipe_item kept h name lines =
-      tree.Construct kept (tree.Recipe (bare_recipe (record { quiet = quiet; name = name; parameters = h.parameters; priors = h.priors; subsequents = h.subsequents }) lines))
+  abbrev recipe_item : Entries → ReadHeader → Leaf → (comment : Option (List ℕ)) → List (BodyLine Leaf Token ℕ) → OrderedItem Leaf Token ℕ
+  recipe_item kept h name comment lines =
+      tree.Construct kept (tree.Recipe (bare_recipe (record { quiet = quiet; name = name; parameters = h.parameters; priors = h.priors; subsequents = h.subsequents }) comment lines))
 
   -- a recipe that got its number
   abbrev numbered_by : Entries → ReadHeader → Body → (ℕ × Counters) × State → ReadItem
-  numbered_by kept h lines x = Ok ((recipe_item kept h (leaves.recipe x.1.run h.name x.0.0 lines) lines, x.0.1), x.1)
+  numbered_by kept h b x = Ok ((recipe_item kept h (leaves.recipe x.1.run h.name x.0.0 b.1) (option_map comment_in b.0) b.1, x.0.1), x.1)
 
   -- what is read after the body
   abbrev checked_by : (all kept : Entries) → ReadHeader × Counters → Body → State → ReadItem
-  checked_by all kept h lines t = obeying (exclusions_broken sees_leaves h.0.name.token.now all) t >>= λ checked. draw_recipe h.1 checked.1 >>= numbered_by kept h.0 lines
+  checked_by all kept h b t = obeying (exclusions_broken sees_leaves h.0.name.token.now all) t >>= λ checked. draw_recipe h.1 checked.1 >>= numbered_by kept h.0 b
 
   -- what is read after the header
   abbrev bodied_by : (all kept : Entries) → (ReadHeader × Counters) × State → ReadItem
@@ -67,20 +68,20 @@ module _ (quiet : Bool) (ws : Entries) (n : Counters) (s : State) (entries : Ent
     body_stops stop left Wanting k =
         subst (λ (o : ReadItem). StopsAt stop left Wanting o) (sym after_header) (first_stops (optional_body t) (λ b. checked_by entries entries (h, m) b.0 b.1) stop left Wanting k)
 
-    module _ (lines : Body) (u : State) (body : optional_body t ≡ Ok (lines, u)) where
-      after_body : reader.recipe quiet ws n s ≡ checked_by entries entries (h, m) lines u
-      after_body = after_header ∙ ap (λ (o : Read Body). o >>= λ b. checked_by entries entries (h, m) b.0 b.1) body
+    module _ (b : Body) (u : State) (body : optional_body t ≡ Ok (b, u)) where
+      after_body : reader.recipe quiet ws n s ≡ checked_by entries entries (h, m) b u
+      after_body = after_header ∙ ap (λ (o : Read Body). o >>= λ x. checked_by entries entries (h, m) x.0 x.1) body
 
       -- attributes exclude each other
       pub exclusion_halts : (halt : Halt) (left : State) (Wanting : Type 0) → HaltsAt halt left ⊥ (obeying (exclusions_broken sees_leaves h.name.token.now entries) u)
           → HaltsAt halt left Wanting (reader.recipe quiet ws n s)
       exclusion_halts halt left Wanting k =
           subst (λ (o : ReadItem). HaltsAt halt left Wanting o) (sym after_body)
-          (first_halts (obeying (exclusions_broken sees_leaves h.name.token.now entries) u) (λ checked. draw_recipe m checked.1 >>= numbered_by entries h lines) halt left Wanting k)
+          (first_halts (obeying (exclusions_broken sees_leaves h.name.token.now entries) u) (λ checked. draw_recipe m checked.1 >>= numbered_by entries h b) halt left Wanting k)
 
       module _ (obeyed : obeying (exclusions_broken sees_leaves h.name.token.now entries) u ≡ Ok (tt, u)) where
-        after_check : reader.recipe quiet ws n s ≡ (draw_recipe m u >>= numbered_by entries h lines)
-        after_check = after_body ∙ ap (λ (o : Read (Unit {0})). o >>= λ checked. draw_recipe m checked.1 >>= numbered_by entries h lines) obeyed
+        after_check : reader.recipe quiet ws n s ≡ (draw_recipe m u >>= numbered_by entries h b)
+        after_check = after_body ∙ ap (λ (o : Read (Unit {0})). o >>= λ checked. draw_recipe m checked.1 >>= numbered_by entries h b) obeyed
 
         -- its number is wanting
         pub number_stops : (stop : Stop) (left : State) (wanting : Refusal) → StopsAt stop left (draw_recipe m u ≡ Err wanting) (draw_recipe m u)
@@ -88,17 +89,18 @@ module _ (quiet : Bool) (ws : Entries) (n : Counters) (s : State) (entries : Ent
         number_stops stop left wanting k = stopped (draw_recipe m u) (reader.recipe quiet ws n s) fails stop left _ _ (fails wanting) k
           where
             fails : (e : Refusal) → draw_recipe m u ≡ Err e → reader.recipe quiet ws n s ≡ Err e
-            fails e is = after_check ∙ ap (λ (o : Read (ℕ × Counters)). o >>= numbered_by entries h lines) is
+            fails e is = after_check ∙ ap (λ (o : Read (ℕ × Counters)). o >>= numbered_by entries h b) is
 
         -- it is read
-        pub recipe_read : (number : ℕ) (k : Counters) → draw_recipe m u ≡ Ok ((number, k), u) → (name : RecipeName)
+        pub recipe_read : (number : ℕ) (k : Counters) → draw_recipe m u ≡ Ok ((number, k), u) → (name : RecipeName) (comment : Option (List ℕ)) (lines : List (BodyLine Leaf Token ℕ))
             → name ≡ record { file_depth = u.run.file_depth; import_offsets = u.run.import_offsets; name = h.name.token.now; number = number_of number }
-            → reader.recipe quiet ws n s ≡ Ok ((recipe_item entries h (Headed name) lines, k), u)
+            → comment ≡ option_map comment_in b.0 → lines ≡ b.1
+            → reader.recipe quiet ws n s ≡ Ok ((recipe_item entries h (Headed name) comment lines, k), u)
         unfolding leaves
-        recipe_read number k drawn name is =
+        recipe_read number k drawn name comment lines is said same =
             after_check
-            ∙ ap (λ (o : Read (ℕ × Counters)). o >>= numbered_by entries h lines) drawn
-            ∙ ap (λ (x : RecipeName). Ok ((recipe_item entries h (Headed x) lines, k), u)) (sym is)
+            ∙ ap (λ (o : Read (ℕ × Counters)). o >>= numbered_by entries h b) drawn
+            ∙ (λ i. Ok ((recipe_item entries h (Headed (sym is i)) (sym said i) (sym same i), k), u))
 
 -- what is kept of a recipe's name
 pub recipe_named : (depth depth' : ℕ) (offsets offsets' : List ℕ) (name name' : Token) (number : Number) → depth ≡ depth' → offsets ≡ offsets' → name ≡ name'

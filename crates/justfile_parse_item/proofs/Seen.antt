@@ -16,7 +16,7 @@ use Rattle.justfile_line.specs.declared.fragment.Fragment.{Fragment}
 use Rattle.justfile_line.specs.declared.fragment.Fragment.TheVariants as fragments
 use Rattle.justfile_line.specs.declared.line.Line.{Line}
 use Rattle.justfile_model.specs.Conditions.{Conditions}
-use Rattle.justfile_attribute_set.specs.AttributeSet.{AttributeSet, leaf_entries_of, pairs_of, entries_of as set_entries}
+use Rattle.justfile_attribute_set.specs.AttributeSet.{AttributeSet, leaf_entries_of, written_of, entries_of as set_entries}
 use Rattle.justfile_attribute_set.specs.Pairs.{Pair}
 use Rattle.justfile_model.specs.Meaning.{entries_of}
 use Rattle.justfile_model.specs.Sight.{sees_tokens}
@@ -47,12 +47,12 @@ module _ (conditions : Conditions) (bound : ℕ) (IsToken : Token → Type 0) (f
 
   -- an attribute with the token of its name, by its parts
   abbrev pub IsGivenPair : Pair → Type 0
-  IsGivenPair p = IsToken p.1.token × IsGivenAttribute conditions.expander IsToken p.0
+  IsGivenPair p = IsToken p.1.name.token × IsGivenAttribute conditions.expander IsToken p.0
 
   -- a set whose entries are these holds what the written attributes mean, and its parts are given
   abbrev pub AreMeant : List (Entry Leaf Token) → List (WrittenAttribute Tok Tok) → Type 0
   AreMeant entries ws = (set : AttributeSet) → leaf_entries_of set ≡ entries
-      → (entries_of (sees_tokens conditions.expander) ws ≡ Some (set_entries set)) × All IsGivenPair (pairs_of set)
+      → (entries_of (sees_tokens conditions.expander) ws ≡ Some (set_entries set)) × All IsGivenPair (written_of set)
 
   abbrev pub seen : Relates
   seen = table.seen conditions bound IsToken file_depth import_offsets AreMeant

@@ -6,7 +6,7 @@ use Rattle.justfile_attribute.specs.Attribute.{attribute_of, bound_by, leaf_attr
 use Rattle.justfile_attribute.specs.declared.attribute.Attribute.{Attribute}
 use Rattle.justfile_attribute.specs.declared.attribute.Attribute.TheVariants as attributes
 use Rattle.justfile_attribute.specs.declared.interpreter.Interpreter.{Interpreter}
-use Rattle.justfile_attribute_set.specs.AttributeSet.{AttributeSet, leaf_entries_of, pairs_of}
+use Rattle.justfile_attribute_set.specs.AttributeSet.{AttributeSet, leaf_entries_of, written_of}
 use Rattle.justfile_attribute_set.specs.AttributeSet as sets
 use Rattle.justfile_attribute_set.specs.Pairs.{Pair, entry_of, leaf_entry_of}
 use Rattle.justfile_word.specs.AttributeKind.{kind_named}
@@ -35,6 +35,7 @@ use Rattle.justfile_model.specs.Tree.{Bound, Entry, Expr, OptionName, Property, 
 use Rattle.justfile_model.specs.TreeReader.{token_attributes, token_leaves}
 use Rattle.justfile_model.proofs.AlikeAttributes as alike
 use Rattle.justfile_model.proofs.AlikeAttributes.{AlikeAttribute, AlikeBound, AlikeEntry, AlikeLiteral, AlikeOptionName, AlikeProperty, AlikeQuoted, SeesAlike, arg, cache, env, no_option, option_named, ordered_alike, own_name, plain, signals, single, texts}
+use Rattle.justfile_model.proofs.Commented.{means_commented}
 use Rattle.justfile_model.proofs.EachLaws.{AlikeOption, absent, present}
 use Rattle.justfile_model.proofs.Natural.{RespectsAttributes}
 use Rattle.justfile_model.proofs.NaturalAttributes.{IsMade, Keeping}
@@ -226,12 +227,12 @@ module _ (conditions : Conditions) (bound : ℕ) (IsToken : Token → Type 0) (f
   pair_seen : (p : Pair) (e : Entry Tok Tok) → AlikeEntry seen (leaf_entry_of p) e → (e ≡ entry_of p) × IsGivenPair p
   pair_seen p e h =
       let x = seen_attribute p.0 h.attribute in
-      ((λ i. record { name = sym h.name.is i; attribute = x.same i }), (h.name.among, x.given))
+      ((λ i. record { name = sym h.name.is i; attribute = x.same i; comment = sym h.comment i }), (h.name.among, x.given))
 
   -- the attributes of a set
   set_seen : (set : AttributeSet) {es : List (Entry Tok Tok)} → Each (AlikeEntry seen) (leaf_entries_of set) es
-      → (es ≡ sets.entries_of set) × All IsGivenPair (pairs_of set)
-  set_seen set h = seeing.all_seen conditions bound IsToken file_depth import_offsets leaf_entry_of entry_of IsGivenPair pair_seen (pairs_of set) h
+      → (es ≡ sets.entries_of set) × All IsGivenPair (written_of set)
+  set_seen set h = seeing.all_seen conditions bound IsToken file_depth import_offsets leaf_entry_of entry_of IsGivenPair pair_seen (written_of set) h
 
   -- ---- what is seen of leaves
 
@@ -357,7 +358,7 @@ module _ (conditions : Conditions) (bound : ℕ) (IsToken : Token → Type 0) (f
   named_means C w e h =
       let m = entry_made (token_sight C) h.before h.name.tok h.kind (by_position w.arguments) (by_key w.arguments) e h.made in
       let named : kind_named w.name.lexeme ≡ Some h.kind = ap (λ (t : Tok). kind_named t.lexeme) h.name_is ∙ h.named in
-      rw (named, m.meant) (ap (λ (name : Tok). Some (record { name = name; attribute = e.attribute })) (h.name_is ∙ sym m.name_is))
+      rw (named, m.meant) (λ i. Some (record { name = (h.name_is ∙ sym m.name_is) i; attribute = e.attribute; comment = (h.comment_is ∙ sym m.comment_is) i }))
 
   pub keeping : Keeping seen leaves token_leaves kept.sight token_sight kept.keep kept.entry keep_both entry_read IsKept
   keeping = record {
@@ -387,4 +388,11 @@ module _ (conditions : Conditions) (bound : ℕ) (IsToken : Token → Type 0) (f
       (rw (all_mean h) (ap Some x.0), x.1)
 
   pub attributed : RespectsAttributes seen leaves token_leaves kept token_attributes IsKept
-  attributed = record { keeping = keeping; attributes = λ run C r h. meant h }
+  attributed = record {
+    keeping = keeping;
+    attributes = λ run C r h. meant h;
+    commented = λ c x y h. record {
+      alike = record { name = h.alike.name; attribute = h.alike.attribute; comment = refl };
+      means = means_commented (sees_tokens E) c y.written y.entry h.means;
+    };
+  }

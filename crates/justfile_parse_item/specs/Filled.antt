@@ -4,8 +4,9 @@ use Rattle.justfile_attribute.specs.New.{IsWholeAttribute}
 use Rattle.justfile_attribute.specs.declared.attribute.Attribute.{Attribute}
 use Rattle.justfile_attribute.specs.declared.attribute.Attribute.TheVariants as attributes
 use Rattle.justfile_attribute.specs.declared.interpreter.Interpreter.{Interpreter}
-use Rattle.justfile_attribute_set.specs.AttributeSet.{AttributeSet, attributes_of, pairs_of}
+use Rattle.justfile_attribute_set.specs.AttributeSet.{AttributeSet, attributes_of, written_of}
 use Rattle.justfile_attribute_set.specs.Attributes.{has_kind}
+use Rattle.justfile_attribute_set.specs.Pairs.{Pair}
 use Rattle.justfile_word.specs.declared.attribute_kind.AttributeKind.TheVariants as kinds
 use Rattle.justfile_base.specs.declared.name.Name.{Name}
 use Rattle.justfile_word.specs.declared.format_string_part.FormatStringPart.{FormatStringPart}
@@ -171,7 +172,7 @@ module _ (expander : Expansions) (IsToken : Token → Type 0) where
 
   -- the attributes of a construct, each with the token of its name, and with what the tree doesn't show of it
   abbrev pub AreGivenAttributes : AttributeSet → Type 0
-  AreGivenAttributes set = All (λ (p : Attribute × Name). IsToken p.1.token × IsGivenAttribute p.0 × IsWholeAttribute p.0) (pairs_of set)
+  AreGivenAttributes set = All (λ (p : Pair). IsToken p.1.name.token × IsGivenAttribute p.0 × IsWholeAttribute p.0) (written_of set)
 
   -- a name of a path
   abbrev pub IsGivenName : Name → Type 0

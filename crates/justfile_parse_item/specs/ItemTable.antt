@@ -1,10 +1,10 @@
 -- Reading the items of a table, with all that the parser's trees hold.
-use Rattle.std.specs.Prelude.{ℕ, Bool, false, List, [], ◌∷◌, Ok, Err, codes, nat_eq}
+use Rattle.std.specs.Prelude.{ℕ, Bool, false, List, [], ◌∷◌, Option, Ok, Err, codes, nat_eq}
 use Rattle.std.specs.List.{starts_with}
 use Rattle.justfile_base.specs.Token.{lexeme_of}
 use Rattle.justfile_base.specs.declared.token.Token.{Token}
 use Rattle.justfile_model.specs.Tree as tree
-use Rattle.justfile_model.specs.Tree.{BodyLine, Entry, Fragment, OrderedItem}
+use Rattle.justfile_model.specs.Tree.{BodyLine, Entry, Fragment, OrderedItem, commented_entry}
 use Rattle.justfile_word.specs.declared.item_kind.ItemKind.{ItemKind}
 use Rattle.justfile_word.specs.declared.token_kind.TokenKind.{TokenKind}
 use Rattle.justfile_model.specs.AttributeReader as attributes
@@ -36,6 +36,7 @@ kept = record {
   sight = λ run. sees_leaves;
   keep = λ written entry. entry;
   entry = λ entry. entry;
+  comment = commented_entry;
   attributes = λ run entries. in_order (entry_cmp sees_leaves) entries;
 }
 
@@ -57,7 +58,14 @@ lines = files.lines leaves
 abbrev pub body : State → Read (List (BodyLine Leaf Token ℕ))
 body = files.body leaves
 
-abbrev pub optional_body : State → Read (List (BodyLine Leaf Token ℕ))
+-- a comment before a body, or none, and the body
+abbrev pub CommentedBody : Type 0
+CommentedBody = files.CommentedBody leaves
+
+abbrev pub body_after : (comment : Option TableEntry) → State → Read CommentedBody
+body_after = files.body_after leaves
+
+abbrev pub optional_body : State → Read CommentedBody
 optional_body = files.optional_body leaves
 
 -- an item, and the counters after it
@@ -115,7 +123,7 @@ in_content_order entries = in_order (entry_cmp sees_leaves) entries
 
 -- the lines of attributes before a construct
 abbrev pub lines_of_attributes : State → Read Entries
-lines_of_attributes = attributes.attribute_lines leaves kept.sight kept.keep kept.entry
+lines_of_attributes = attributes.attribute_lines leaves kept.sight kept.keep kept.entry kept.comment
 
 -- attributes that begin with this bracket stand before no blank line and no comment
 abbrev pub before_item : (opener : TableEntry) → Entries × State → Read Entries

@@ -1,6 +1,6 @@
 -- All that the parser's trees hold, without the places of boxes.
 use Rattle.std.specs.Prelude.{ℕ, Bool, List, Option, Some, None, drop, map, string_bytes, take}
-use Rattle.std.specs.Option.{option_map}
+use Rattle.std.specs.Option.{option_copied, option_map}
 use Rattle.justfile_attribute_set.specs.AttributeSet.{leaf_entries_of}
 use Rattle.justfile_base.specs.declared.name.Name.{Name}
 use Rattle.justfile_base.specs.declared.namepath.Namepath.{Namepath}
@@ -84,7 +84,7 @@ recipe_header r = record {
 }
 
 abbrev pub recipe_tree : UnresolvedRecipe → OrderedItem Leaf Token ℕ
-recipe_tree r = tree.Construct (leaf_entries_of r.attributes) (tree.Recipe (record { doc = doc_text r; header = recipe_header r; body = map line_tree r.body.items }))
+recipe_tree r = tree.Construct (leaf_entries_of r.attributes) (tree.Recipe (record { doc = doc_text r; header = recipe_header r; comment = option_copied r.comment; body = map line_tree r.body.items }))
 
 abbrev pub item_tree : item.Item → OrderedItem Leaf Token ℕ
 item_tree (items.Alias a) = alias_tree a

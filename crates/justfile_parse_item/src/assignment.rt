@@ -17,6 +17,7 @@ use justfile_item::{Binding, Item};
 use justfile_parse_attribute::Halt;
 use justfile_parse_expression::ExpressionParser;
 use justfile_parse_header::draw_binding;
+use justfile_written::Written;
 
 /// NAME `:=` expression, after the attributes, and after `eager` or `export` or none of these words.
 #[tactic(auto, using(crate::proofs::Moved::unmoved, justfile_parse_expression::proofs::Rest::file_depth_is), unfolding(justfile_model::specs::Reader::assignment, justfile_parse_expression::specs::TableReader::leaves))]
@@ -24,7 +25,7 @@ pub(crate) fn parse_assignment<'src, X: Expander>(
     parser: &mut ExpressionParser<'_, 'src, X>,
     eager: bool,
     export: bool,
-    attributes: Vec<(Attribute<'src>, Name<'src>)>,
+    attributes: Vec<(Attribute<'src>, Written<'src>)>,
     numerator: &mut Numerator,
 ) -> Result<Item<'src>, Halt<'src>>
     requires { AreWholePairs attributes.items }

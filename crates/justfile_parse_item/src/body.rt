@@ -10,28 +10,47 @@ ghost use Rattle.justfile_parse_expression.specs.View.{left, state_of};
 
 use justfile_base::{Expander, TokenKind};
 use justfile_line::{Fragment, Line};
+use justfile_parse_expression::significant::TableEntry;
 use justfile_parse_expression::{ExpressionParser, Refusal, Stop};
 
-/// The body of a recipe, from the end of its header on; no line if it has none. A comment before
-/// a body is left out.
+/// A comment before a body, or none, and the lines of the body.
+pub(crate) type CommentedBody<'run, 'src> = (Option<TableEntry<'run, 'src>>, Vec<Line<'src>>);
+
+/// The body of a recipe, from the end of its header on, and the comment before it; neither if it has
+/// none.
 #[tactic(auto, using(crate::proofs::Bodies::body_at_once, crate::proofs::Bodies::body_commented, crate::proofs::Bodies::body_missing))]
-pub(crate) fn parse_body_after_header<'src, X: Expander>(
-    parser: &mut ExpressionParser<'_, 'src, X>,
-) -> Result<Vec<Line<'src>>, Stop<'src>>
-    ensures reads { Reads (λ lines. map line_tree lines.items) result (state_of X.answer parser.new)
+pub(crate) fn parse_body_after_header<'run, 'src, X: Expander>(
+    parser: &mut ExpressionParser<'run, 'src, X>,
+) -> Result<CommentedBody<'run, 'src>, Stop<'src>>
+    ensures reads { Reads (λ b. (b.0, map line_tree b.1.items)) result (state_of X.answer parser.new)
         (reader.optional_body (state_of X.answer parser.old)) }
     ensures progress { OnOk result (left parser.new ≤ left parser.old) }
 {
     if parser.peek_kinds(&[TokenKind::Eol, TokenKind::Indent]) {
         parser.skip(2);
-        return parse_body(parser);
+        return parse_body_after(parser, None);
     }
     if parser.peek_kinds(&[TokenKind::Comment, TokenKind::Eol, TokenKind::Indent]) {
+        let comment = parser.peek_front();
         parser.skip(3);
-        return parse_body(parser);
+        return parse_body_after(parser, comment);
     }
     parser.wanted.add(TokenKind::Indent);
-    Ok(Vec::new(parser.alloc))
+    Ok((None, Vec::new(parser.alloc)))
+}
+
+/// A body after this comment or none, from its first line on.
+#[tactic(auto, unfolding(justfile_model::specs::Reader::body_after))]
+fn parse_body_after<'run, 'src, X: Expander>(
+    parser: &mut ExpressionParser<'run, 'src, X>,
+    comment: Option<TableEntry<'run, 'src>>,
+) -> Result<CommentedBody<'run, 'src>, Stop<'src>>
+    ensures reads { Reads (λ b. (b.0, map line_tree b.1.items)) result (state_of X.answer parser.new)
+        (reader.body_after comment.entry (state_of X.answer parser.old)) }
+    ensures progress { OnOk result (left parser.new ≤ left parser.old) }
+{
+    let lines = parse_body(parser)?;
+    Ok((comment, lines))
 }
 
 /// A body from its first line on, without the empty lines at its end. One line is not empty.

@@ -15,9 +15,10 @@ ghost use Rattle.justfile_tree.specs.LeafSight.{sees_leaves};
 
 use justfile_attribute::Attribute;
 use justfile_attribute_set::AttributeSet;
-use justfile_base::{AttributeKind, CompileErrorKind, Fault, ItemKind, Name, Token};
+use justfile_base::{AttributeKind, CompileErrorKind, Fault, ItemKind, Token};
 use justfile_parse_attribute::{Halt, make_halt};
 use justfile_parse_expression::significant::TableEntry;
+use justfile_written::Written;
 use std::alloc::Global;
 
 /// The attributes of an item of this kind, whose name or path is at this token, if it may have them.
@@ -25,7 +26,7 @@ use std::alloc::Global;
 pub(crate) fn allowed<'src>(
     alloc: Global,
     item: ItemKind,
-    attributes: Vec<(Attribute<'src>, Name<'src>)>,
+    attributes: Vec<(Attribute<'src>, Written<'src>)>,
     name: TableEntry<'_, 'src>,
 ) -> Result<AttributeSet<'src>, Halt<'src>>
     requires construct { IsConstruct item }

@@ -23,11 +23,12 @@ use crate::recipe::parse_any_recipe;
 use crate::set::parse_set;
 use crate::unexport::parse_unexport;
 use justfile_attribute::Attribute;
-use justfile_base::{Expander, Keyword, Name, Numerator, TokenKind};
+use justfile_base::{Expander, Keyword, Numerator, TokenKind};
 use justfile_item::Item;
 use justfile_parse_attribute::{Halt, make_halt, parse_attributes};
 use justfile_parse_expression::ExpressionParser;
 use justfile_parse_parts::{Following, accept_before, is_assigned};
+use justfile_written::Written;
 
 /// A word that a construct begins with.
 #[derive(Clone, Copy, Debug, PartialEq, Eq)]
@@ -62,7 +63,7 @@ pub(crate) fn parse_construct<'src, X: Expander>(
 #[tactic(auto, unfolding(justfile_model::specs::Reader::attributes))]
 fn parse_item_attributes<'src, X: Expander>(
     parser: &mut ExpressionParser<'_, 'src, X>,
-) -> Result<Vec<(Attribute<'src>, Name<'src>)>, Halt<'src>>
+) -> Result<Vec<(Attribute<'src>, Written<'src>)>, Halt<'src>>
     ensures reads { ReadsRuled (λ pairs. map entry_of_pair pairs.items) result (state_of X.answer parser.new)
         (reader.item_attributes (state_of X.answer parser.old)) }
     ensures whole { IfOk result (λ pairs. AreWholePairs pairs.items) }
@@ -89,7 +90,7 @@ fn stands_alone<X: Expander>(parser: &ExpressionParser<'_, '_, X>) -> bool
 #[tactic(auto, using(crate::proofs::Words::content_worded, crate::proofs::Words::content_wordless))]
 fn parse_content<'src, X: Expander>(
     parser: &mut ExpressionParser<'_, 'src, X>,
-    attributes: Vec<(Attribute<'src>, Name<'src>)>,
+    attributes: Vec<(Attribute<'src>, Written<'src>)>,
     numerator: &mut Numerator,
 ) -> Result<Item<'src>, Halt<'src>>
     requires { AreWholePairs attributes.items }
@@ -138,7 +139,7 @@ fn accept_word<X: Expander>(parser: &mut ExpressionParser<'_, '_, X>) -> Option<
 fn parse_after_word<'src, X: Expander>(
     word: Word,
     parser: &mut ExpressionParser<'_, 'src, X>,
-    attributes: Vec<(Attribute<'src>, Name<'src>)>,
+    attributes: Vec<(Attribute<'src>, Written<'src>)>,
     numerator: &mut Numerator,
 ) -> Result<Item<'src>, Halt<'src>>
     requires { AreWholePairs attributes.items }
@@ -163,7 +164,7 @@ fn parse_after_word<'src, X: Expander>(
 #[tactic(auto, unfolding(justfile_model::specs::Reader::wordless))]
 fn parse_wordless<'src, X: Expander>(
     parser: &mut ExpressionParser<'_, 'src, X>,
-    attributes: Vec<(Attribute<'src>, Name<'src>)>,
+    attributes: Vec<(Attribute<'src>, Written<'src>)>,
     numerator: &mut Numerator,
 ) -> Result<Item<'src>, Halt<'src>>
     requires { AreWholePairs attributes.items }

@@ -17,12 +17,13 @@ use justfile_item::{FunctionDefinition, Item};
 use justfile_parse_attribute::Halt;
 use justfile_parse_expression::ExpressionParser;
 use justfile_parse_parts::parse_parameter_names;
+use justfile_written::Written;
 
 /// NAME `(` names `)` `:=` expression, after the attributes.
 #[tactic(auto, using(crate::proofs::Moved::unmoved), unfolding(justfile_model::specs::Reader::function, justfile_parse_expression::specs::TableReader::leaves))]
 pub(crate) fn parse_function<'src, X: Expander>(
     parser: &mut ExpressionParser<'_, 'src, X>,
-    attributes: Vec<(Attribute<'src>, Name<'src>)>,
+    attributes: Vec<(Attribute<'src>, Written<'src>)>,
     numerator: &mut Numerator,
 ) -> Result<Item<'src>, Halt<'src>>
     requires { AreWholePairs attributes.items }

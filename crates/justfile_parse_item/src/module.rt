@@ -15,12 +15,13 @@ use justfile_item::Item;
 use justfile_parse_attribute::Halt;
 use justfile_parse_expression::ExpressionParser;
 use justfile_parse_parts::parse_optional_path;
+use justfile_written::Written;
 
 /// NAME and a path or none, with `?` before the name or not, after the attributes and the word.
 #[tactic(auto, unfolding(crate::specs::MethodResults::ReadsUncounted, justfile_model::specs::Reader::any_module))]
 pub(crate) fn parse_module<'src, X: Expander>(
     parser: &mut ExpressionParser<'_, 'src, X>,
-    attributes: Vec<(Attribute<'src>, Name<'src>)>,
+    attributes: Vec<(Attribute<'src>, Written<'src>)>,
 ) -> Result<Item<'src>, Halt<'src>>
     requires { AreWholePairs attributes.items }
     ensures reads { ReadsUncounted item_tree result (state_of X.answer parser.new)
@@ -37,7 +38,7 @@ pub(crate) fn parse_module<'src, X: Expander>(
 fn parse_named_module<'src, X: Expander>(
     parser: &mut ExpressionParser<'_, 'src, X>,
     optional: bool,
-    attributes: Vec<(Attribute<'src>, Name<'src>)>,
+    attributes: Vec<(Attribute<'src>, Written<'src>)>,
 ) -> Result<Item<'src>, Halt<'src>>
     requires { AreWholePairs attributes.items }
     ensures reads { ReadsUncounted item_tree result (state_of X.answer parser.new)

@@ -20,15 +20,16 @@ use justfile_attribute_set::AttributeSet;
 use justfile_base::{AttributeKind, Expander, Name, Number, Numerator, TokenKind};
 use justfile_item::UnresolvedRecipe;
 use justfile_line::Line;
-use justfile_parse_attribute::Halt;
+use justfile_parse_attribute::{Halt, comment_text};
 use justfile_parse_expression::{ExpressionParser, Stop};
 use justfile_parse_header::parse_header;
+use justfile_written::Written;
 
 /// A recipe after its attributes, with `@` before its name or not.
 #[tactic(auto, unfolding(justfile_model::specs::Reader::any_recipe))]
 pub(crate) fn parse_any_recipe<'src, X: Expander>(
     parser: &mut ExpressionParser<'_, 'src, X>,
-    attributes: Vec<(Attribute<'src>, Name<'src>)>,
+    attributes: Vec<(Attribute<'src>, Written<'src>)>,
     numerator: &mut Numerator,
 ) -> Result<UnresolvedRecipe<'src>, Halt<'src>>
     requires { AreWholePairs attributes.items }
@@ -44,12 +45,12 @@ pub(crate) fn parse_any_recipe<'src, X: Expander>(
     }
 }
 
-/// A recipe from its name to its end: its header, and the body if it has one. The recipe is numbered
+/// A recipe from its name to its end: its header, and the body if it has one, after a comment or none. The recipe is numbered
 /// after its body.
 #[tactic(auto, using(crate::proofs::Moved::unmoved, crate::proofs::Constructs::set_whole))]
 fn parse_recipe<'src, X: Expander>(
     parser: &mut ExpressionParser<'_, 'src, X>,
-    attributes: Vec<(Attribute<'src>, Name<'src>)>,
+    attributes: Vec<(Attribute<'src>, Written<'src>)>,
     quiet: bool,
     numerator: &mut Numerator,
 ) -> Result<UnresolvedRecipe<'src>, Halt<'src>>
@@ -67,10 +68,11 @@ fn parse_recipe<'src, X: Expander>(
     let import_offsets = parser.import_offsets.to_vec(parser.alloc)?;
     let number = draw_recipe(numerator)?;
     let private = is_hidden(*header.name.token, &attributes);
-    let shebang = is_script(&attributes, body.as_slice());
+    let shebang = is_script(&attributes, body.1.as_slice());
     Ok(UnresolvedRecipe {
         attributes,
-        body,
+        body: body.1,
+        comment: comment_text(body.0),
         dependencies: header.dependencies,
         doc: None,
         file_depth: parser.file_depth,

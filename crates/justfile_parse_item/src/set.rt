@@ -14,12 +14,13 @@ use justfile_item::{Item, Set};
 use justfile_parse_attribute::Halt;
 use justfile_parse_expression::ExpressionParser;
 use justfile_parse_parts::{keyword_at, parse_setting_value};
+use justfile_written::Written;
 
 /// The name of a setting and its value, after the attributes and the word.
 #[tactic(auto, unfolding(crate::specs::MethodResults::ReadsUncounted, justfile_model::specs::Reader::setting, justfile_parse_expression::specs::TableReader::leaves))]
 pub(crate) fn parse_set<'src, X: Expander>(
     parser: &mut ExpressionParser<'_, 'src, X>,
-    attributes: Vec<(Attribute<'src>, Name<'src>)>,
+    attributes: Vec<(Attribute<'src>, Written<'src>)>,
 ) -> Result<Item<'src>, Halt<'src>>
     requires { AreWholePairs attributes.items }
     ensures reads { ReadsUncounted item_tree result (state_of X.answer parser.new)

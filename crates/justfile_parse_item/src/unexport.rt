@@ -13,12 +13,13 @@ use justfile_base::{Expander, ItemKind, Name, TokenKind};
 use justfile_item::Item;
 use justfile_parse_attribute::Halt;
 use justfile_parse_expression::ExpressionParser;
+use justfile_written::Written;
 
 /// NAME, after the attributes and the word.
 #[tactic(auto, unfolding(crate::specs::MethodResults::ReadsUncounted, justfile_model::specs::Reader::unexport, justfile_parse_expression::specs::TableReader::leaves))]
 pub(crate) fn parse_unexport<'src, X: Expander>(
     parser: &mut ExpressionParser<'_, 'src, X>,
-    attributes: Vec<(Attribute<'src>, Name<'src>)>,
+    attributes: Vec<(Attribute<'src>, Written<'src>)>,
 ) -> Result<Item<'src>, Halt<'src>>
     requires { AreWholePairs attributes.items }
     ensures reads { ReadsUncounted item_tree result (state_of X.answer parser.new)

@@ -1,20 +1,20 @@
 -- The tokens of good attributes derive them.
-use Rattle.std.proofs.Common.{◌≡◌, ℕ, Bool, true, false, List, [], ◌∷◌, ◌++◌, refl, sym, ◌∙◌, cond}
+use Rattle.std.proofs.Common.{◌≡◌, ℕ, Bool, true, false, List, [], ◌∷◌, ◌++◌, Option, Some, None, refl, sym, subst, ◌∙◌, cond}
 use Rattle.justfile_word.specs.declared.token_kind.TokenKind.TheVariants as kinds
 use Rattle.justfile_model.specs.AttributeKinds.{name_takes_keys}
 use Rattle.justfile_model.specs.AttributeLines as g
-use Rattle.justfile_model.specs.AttributeLines.{IsKey, ArgumentOf, Arguments, AttributeOf, AttributeLines}
+use Rattle.justfile_model.specs.AttributeLines.{IsKey, ArgumentOf, Arguments, AttributeOf, AttributesEnd, AttributeLines}
 use Rattle.justfile_model.specs.Expressions.{Tokens, IsKind, NotNext, Under, Expression}
 use Rattle.justfile_model.specs.SignificantTokens.{SignificantToken, is_whitespace}
 use Rattle.justfile_model.specs.Tree as tree
-use Rattle.justfile_model.specs.Tree.{lexeme, nothing}
+use Rattle.justfile_model.specs.Tree.{bare_attribute, commented_line, lexeme, nothing}
 use Rattle.justfile_round_trip.proofs.Reading.{Mark, placed}
 use Rattle.justfile_round_trip.proofs.Back.{none_but_closing}
 use Rattle.justfile_round_trip.proofs.Canon as canon
 use Rattle.justfile_round_trip.proofs.Canon.{Shown, word, paren_right, newline, expr_marks}
-use Rattle.justfile_round_trip.proofs.CanonAttributes.{Argument, Written, ShapeEntry, bracket_right, argument_marks, other_arguments_marks, parenthesized_marks, attributes_marks, entries_marks}
+use Rattle.justfile_round_trip.proofs.CanonAttributes.{Argument, Written, ShapeEntry, bracket_right, argument_marks, other_arguments_marks, parenthesized_marks, comment_marks, attributes_marks, entries_marks}
 use Rattle.justfile_model.specs.Rewritten.{rewritten_entries}
-use Rattle.justfile_round_trip.proofs.Good.{significant, ends_value}
+use Rattle.justfile_round_trip.proofs.Good.{significant, ends_value, GoodOptionalComment}
 use Rattle.justfile_round_trip.proofs.GoodAttributes.{is_literal, GoodArgument, GoodArguments, AllGoodWritten, GoodEntries}
 
 -- ---- what comes first, and what follows
@@ -78,10 +78,24 @@ module _ (limit : ℕ) where
 
   -- a name and its arguments, up to the closing bracket
   attribute_back : (name : List ℕ) (arguments : List Argument) (on : List Mark) → GoodArguments limit (name_takes_keys name) arguments
-      → (fs : Shown) × AttributeOf lexeme nothing (Under limit) (record { name = name; arguments = arguments }) fs (significant true (word name ∷ parenthesized_marks arguments (bracket_right ∷ on))) (significant true (bracket_right ∷ on))
+      → (fs : Shown) × AttributeOf lexeme nothing (Under limit) (bare_attribute name arguments) fs (significant true (word name ∷ parenthesized_marks arguments (bracket_right ∷ on))) (significant true (bracket_right ∷ on))
   attribute_back name [] on h = ([], g.plain refl (λ e. cc) (λ e. cc))
   attribute_back name (a ∷ arguments) on h =
       let r = arguments_back (name_takes_keys name) a arguments true (bracket_right ∷ on) h in (r.0, g.long refl refl r.1)
+
+  -- the end of a line of attributes
+  end_back : (comment : Option (List ℕ)) (on : List Mark) → GoodOptionalComment comment
+      → AttributesEnd lexeme nothing (Under limit) comment (significant true (comment_marks comment (newline ∷ on))) (significant true on)
+  end_back None on h = g.bare refl
+  end_back (Some t) on h =
+      subst (λ x. AttributesEnd lexeme nothing (Under limit) (Some x) (significant true (comment_marks (Some t) (newline ∷ on))) (significant true on)) h.trimmed
+      (g.commented refl refl)
+
+  -- the line of one attribute
+  line_is : (name : List ℕ) (arguments : List Argument) (comment : Option (List ℕ))
+      → commented_line comment (bare_attribute {B = Unit {0}} name arguments ∷ []) ≡ record { name = name; arguments = arguments; comment = comment } ∷ []
+  line_is name arguments None = refl
+  line_is name arguments (Some t) = refl
 
   -- lines of attributes before what is none
   pub attributes_back : (ws : List Written) (glued : Bool) (on : List Mark) → AllGoodWritten limit ws
@@ -89,9 +103,13 @@ module _ (limit : ℕ) where
       → (fs : Shown) × AttributeLines lexeme nothing (Under limit) ws fs (significant glued (attributes_marks ws on)) (significant (glued_after ws glued) on)
   attributes_back [] glued on h next = ([], g.none next)
   attributes_back (w ∷ ws) glued on h next =
-      let r = attribute_back w.name w.arguments (newline ∷ attributes_marks ws on) h.0.arguments in
+      let r = attribute_back w.name w.arguments (comment_marks w.comment (newline ∷ attributes_marks ws on)) h.0.arguments in
       let q = attributes_back ws true on h.1 next in
-      (r.0 ++ q.0, g.line {ws = w ∷ []} refl (g.last r.1 refl) (g.bare refl) q.1)
+      let line = g.line {ws = bare_attribute w.name w.arguments ∷ []} refl (g.last r.1 refl) (end_back w.comment (attributes_marks ws on) h.0.comment) q.1 in (
+        r.0 ++ q.0,
+        subst (λ all. AttributeLines lexeme nothing (Under limit) (all ++ ws) (r.0 ++ q.0) (significant glued (attributes_marks (w ∷ ws) on))
+            (significant (glued_after ws true) on)) (line_is w.name w.arguments w.comment) line,
+      )
 
   pub entries_back : (entries : List ShapeEntry) (glued : Bool) (on : List Mark) → GoodEntries limit entries
       → NotNext kinds.BracketL (significant (glued_after (rewritten_entries entries) glued) on)

@@ -11,8 +11,9 @@ use Rattle.justfile_round_trip.proofs.Inline.{head_is, amid, space_step}
 use Rattle.justfile_round_trip.proofs.Lines.{at_item, line_end}
 use Rattle.justfile_round_trip.proofs.BodyLines.{at_line, in_line, IsLevel, text_step, body_line_end, interpolation_start, interpolation_end, empty_step, indent_step, level_step, white_blanks, closes_over, closes_feed, closes_nothing, ends_body, dedent_step}
 use Rattle.justfile_round_trip.proofs.RawTexts.{NoFeed, raw_no_feed, not_blank_line, text_no_end}
-use Rattle.justfile_round_trip.proofs.Canon.{Value, Fragment, Row, newline, fragment_on, fragments_on, lines_on, body_on, body_on_is, fragment_marks, fragments_marks, lines_marks, body_marks}
-use Rattle.justfile_round_trip.proofs.Good.{GoodExpression, GoodFragments, IsShown, IsFirst, GoodLines, GoodBody, pale, pale_line, all_pale, pale_after}
+use Rattle.justfile_round_trip.proofs.Canon.{Value, Fragment, Row, newline, space, fragment_on, fragments_on, lines_on, body_on, body_on_is, fragment_marks, fragments_marks, lines_marks, body_marks}
+use Rattle.justfile_round_trip.proofs.Good.{GoodComment, GoodExpression, GoodFragments, IsShown, IsFirst, GoodLines, GoodBody, pale, pale_line, all_pale, pale_after}
+use Rattle.justfile_round_trip.proofs.LexesAttributes.{trailing}
 use Rattle.justfile_round_trip.proofs.LexesValues.{value_no_blank, lex_value}
 
 -- ---- whether levels close before a blank line of a body
@@ -125,3 +126,11 @@ module _ (limit : ℕ) where
       → LexesTo (at_item false) more ts → LexesTo (amid [] [] true None f) (body_on ind ls (10 ∷ more)) (newline ∷ body_marks ind ls ts)
   lex_after_header f ind ls more ts i good following h k =
       subst (λ x. LexesTo (amid [] [] true None f) x (newline ∷ body_marks ind ls ts)) (sym (body_on_is ind ls more)) (line_end true f (lex_body ind ls more ts i good following h k))
+
+  -- after the header of a recipe and the blank after it: a comment, its line end, the body, and the line end of the body's last line
+  pub lex_after_comment : (f : Bool) (ind t : List ℕ) (ls : List Row) (more : List ℕ) (ts : List Mark) → IsLevel ind → GoodComment t → GoodBody limit ls
+      → ends_body more ≡ true → (pale_after ls ≡ true → more ≡ []) → LexesTo (at_item false) more ts
+      → LexesTo (amid [] [] true None f) (32 ∷ (t ++ body_on ind ls (10 ∷ more))) (space ∷ mark kinds.Comment t ∷ newline ∷ body_marks ind ls ts)
+  lex_after_comment f ind t ls more ts i commented good following h k =
+      subst (λ x. LexesTo (amid [] [] true None f) (32 ∷ (t ++ x)) (space ∷ mark kinds.Comment t ∷ newline ∷ body_marks ind ls ts)) (sym (body_on_is ind ls more))
+      (trailing true f t commented (lex_body ind ls more ts i good following h k))

@@ -112,7 +112,7 @@ module _ (limit : ℕ) (ind : List ℕ) where
   some_text _ items (good.comment {t = []} h more) = absurd (no_hash h.comment.first)
   some_text _ items (good.comment {t = x ∷ xs} h more) = refl
   some_text _ items (good.on_line {entries = entries} attributes h more) = construct_text entries (content_begins h _)
-  some_text _ items (good.recipe {entries = entries} {h = h} attributes head body more) = construct_text entries (header_begins h.quiet h.name _ head.lexes.is_name)
+  some_text _ items (good.recipe {entries = entries} {h = h} attributes head commented body more) = construct_text entries (header_begins h.quiet h.name _ head.lexes.is_name)
 
   -- the printed text of these items may stand after a body
   pub text_follows : {items : Shape} → AtStart limit items → follows_body items ≡ true → ends_body (text_on ind items) ≡ true
@@ -122,4 +122,4 @@ module _ (limit : ℕ) (ind : List ℕ) where
   text_follows (good.comment {t = []} c more) h = absurd (no_hash c.comment.first)
   text_follows (good.comment {t = x ∷ xs} c more) h = ends_at_item x _ (hash_white x c.comment.first)
   text_follows (good.on_line {entries = entries} attributes h more) f = construct_follows entries (content_begins h _)
-  text_follows (good.recipe {entries = entries} {h = h} attributes head body more) f = construct_follows entries (header_begins h.quiet h.name _ head.lexes.is_name)
+  text_follows (good.recipe {entries = entries} {h = h} attributes head commented body more) f = construct_follows entries (header_begins h.quiet h.name _ head.lexes.is_name)

@@ -1,13 +1,13 @@
 -- The printed text of attributes before more, and its tokens before more.
-use Rattle.std.proofs.Common.{◌≡◌, ℕ, List, [], ◌∷◌, ◌++◌, refl, ap, ◌∙◌, append_assoc, codes}
+use Rattle.std.proofs.Common.{◌≡◌, ℕ, List, [], ◌∷◌, ◌++◌, Option, Some, None, refl, ap, ◌∙◌, append_assoc, codes}
 use Rattle.std.specs.List.{flat_map}
 use Rattle.justfile_word.specs.declared.token_kind.TokenKind.TheVariants as kinds
 use Rattle.justfile_model.specs.Tree as tree
 use Rattle.justfile_model.specs.Tree.{WrittenAttribute, Positional, Bare, Keyed, Entry}
-use Rattle.justfile_model.specs.Printing.{fixed_text, expr_text, argument_text, arguments_text, parenthesized_arguments, attribute_arguments, entry_text, entries_text}
+use Rattle.justfile_model.specs.Printing.{comment_text, fixed_text, expr_text, argument_text, arguments_text, parenthesized_arguments, attribute_arguments, entry_text, entries_text}
 use Rattle.justfile_model.specs.Rewritten.{rewritten_entry, rewritten_entries}
 use Rattle.justfile_round_trip.proofs.Reading.{Mark, mark}
-use Rattle.justfile_round_trip.proofs.Canon.{newline, word, paren_left, paren_right, comma, space, expr_on, expr_marks, expr_is}
+use Rattle.justfile_round_trip.proofs.Canon.{newline, word, paren_left, paren_right, comma, space, expr_on, expr_marks, expr_is, then}
 
 -- What attributes of a shape are made of: arguments, attributes as they are written, and what they mean.
 abbrev pub Argument : Type 0
@@ -36,9 +36,14 @@ abbrev pub parenthesized_on : List Argument → List ℕ → List ℕ
 parenthesized_on [] more = more
 parenthesized_on (a ∷ arguments) more = 40 ∷ argument_on a (other_arguments_on arguments (41 ∷ more))
 
+-- a comment at the end of a line, after a blank, if there is one
+abbrev pub comment_on : Option (List ℕ) → List ℕ → List ℕ
+comment_on None more = more
+comment_on (Some t) more = 32 ∷ (t ++ more)
+
 -- an attribute on a line of its own
 abbrev pub written_on : Written → List ℕ → List ℕ
-written_on w more = 91 ∷ (w.name ++ parenthesized_on w.arguments (93 ∷ 10 ∷ more))
+written_on w more = 91 ∷ (w.name ++ parenthesized_on w.arguments (93 ∷ comment_on w.comment (10 ∷ more)))
 
 abbrev pub attributes_on : List Written → List ℕ → List ℕ
 attributes_on [] more = more
@@ -72,8 +77,12 @@ abbrev pub parenthesized_marks : List Argument → List Mark → List Mark
 parenthesized_marks [] ts = ts
 parenthesized_marks (a ∷ arguments) ts = paren_left ∷ argument_marks a (other_arguments_marks arguments (paren_right ∷ ts))
 
+abbrev pub comment_marks : Option (List ℕ) → List Mark → List Mark
+comment_marks None ts = ts
+comment_marks (Some t) ts = space ∷ mark kinds.Comment t ∷ ts
+
 abbrev pub written_marks : Written → List Mark → List Mark
-written_marks w ts = bracket_left ∷ word w.name ∷ parenthesized_marks w.arguments (bracket_right ∷ newline ∷ ts)
+written_marks w ts = bracket_left ∷ word w.name ∷ parenthesized_marks w.arguments (bracket_right ∷ comment_marks w.comment (newline ∷ ts))
 
 abbrev pub attributes_marks : List Written → List Mark → List Mark
 attributes_marks [] ts = ts
@@ -108,14 +117,20 @@ unfolding fixed_text
 parenthesized_is [] more = refl
 parenthesized_is (a ∷ arguments) more = ap (λ t. 40 ∷ t) (append_assoc (arguments_text (a ∷ arguments)) (codes ")") more ∙ arguments_is a arguments (41 ∷ more))
 
+pub comment_is : (comment : Option (List ℕ)) (more : List ℕ) → comment_text comment ++ more ≡ comment_on comment more
+unfolding fixed_text
+comment_is None more = refl
+comment_is (Some t) more = refl
+
 entry_is : (e : ShapeEntry) (more : List ℕ) → entry_text e ++ more ≡ written_on (rewritten_entry e) more
 unfolding fixed_text
 entry_is e more =
     let name = (rewritten_entry e).name in
     let arguments = attribute_arguments e.attribute in
-    ap (λ t. 91 ∷ t) (append_assoc (name ++ parenthesized_arguments arguments) (codes "]\n") more
-    ∙ append_assoc name (parenthesized_arguments arguments) (93 ∷ 10 ∷ more)
-    ∙ ap (λ t. name ++ t) (parenthesized_is arguments (93 ∷ 10 ∷ more)))
+    let inside = name ++ parenthesized_arguments arguments in
+    ap (λ t. 91 ∷ t) (then ((inside ++ codes "]") ++ comment_text e.comment) (codes "\n") more refl
+    (then (inside ++ codes "]") (comment_text e.comment) _ (comment_is e.comment (10 ∷ more))
+    (then inside (codes "]") _ refl (then name (parenthesized_arguments arguments) _ (parenthesized_is arguments _) refl))))
 
 pub entries_is : (entries : List ShapeEntry) (more : List ℕ) → entries_text entries ++ more ≡ entries_on entries more
 entries_is [] more = refl

@@ -1,20 +1,20 @@
 -- What the printer means by items: their printed text before more, and their tokens before more.
-use Rattle.std.proofs.Common.{◌≡◌, ℕ, List, [], ◌∷◌, ◌++◌, None, refl, ap, ◌∙◌, append_assoc, codes}
+use Rattle.std.proofs.Common.{◌≡◌, ℕ, List, [], ◌∷◌, ◌++◌, Option, None, refl, ap, ◌∙◌, append_assoc, codes}
 use Rattle.justfile_base.specs.Path.{path_text}
 use Rattle.justfile_word.specs.declared.token_kind.TokenKind.TheVariants as kinds
 use Rattle.justfile_model.specs.Docs.{doc_of}
 use Rattle.justfile_model.specs.Tree.{AliasParts, AssignmentParts, FunctionParts, ImportParts, ModuleParts, SettingParts, Alias, Assignment, Function, Import, Module, Recipe, Setting, Unexport, Comment, Newline, Construct, Shape, bare_recipe}
-use Rattle.justfile_model.specs.Printing.{fixed_text, expr_text, body_text, doc_line, if_some, if_true, header_text, alias_text, assignment_text, function_text, import_text, module_text, setting_text, names_text, file_path_text, setting_value_text, entries_text, content_text, item_text, item_end, text}
+use Rattle.justfile_model.specs.Printing.{comment_text, fixed_text, expr_text, body_text, doc_line, if_some, if_true, header_text, alias_text, assignment_text, function_text, import_text, module_text, setting_text, names_text, file_path_text, setting_value_text, entries_text, content_text, item_text, item_end, text}
 use Rattle.justfile_model.proofs.DocsText.{none_shown}
 use Rattle.justfile_round_trip.proofs.Reading.{Mark, mark}
 use Rattle.justfile_round_trip.proofs.Canon.{Row, ShapeContent, ShapeItem, paren_left, paren_right, space, newline, word, expr_on, expr_marks, body_on, body_marks, then, expr_is, body_is}
-use Rattle.justfile_round_trip.proofs.CanonAttributes.{ShapeEntry, entries_on, entries_marks, entries_is}
+use Rattle.justfile_round_trip.proofs.CanonAttributes.{ShapeEntry, comment_on, entries_on, comment_marks, entries_marks, comment_is, entries_is}
 use Rattle.justfile_round_trip.proofs.CanonHeaders.{ShapeHeader, path_on, path_marks, path_is, header_on, header_marks, header_is}
 use Rattle.justfile_round_trip.proofs.CanonParts.{colon_equals, word_on, question_on, names_on, file_path_on, optional_path_on, setting_value_on, word_marks, question_marks, names_marks, file_path_marks, optional_path_marks, setting_value_marks, word_is, question_is, names_is, file_path_is, optional_path_is, setting_value_is}
 
 -- a recipe without a doc, after attributes
-abbrev pub recipe_item : List ShapeEntry → ShapeHeader → List Row → ShapeItem
-recipe_item entries header body = Construct entries (Recipe (bare_recipe header body))
+abbrev pub recipe_item : List ShapeEntry → ShapeHeader → (comment : Option (List ℕ)) → List Row → ShapeItem
+recipe_item entries header comment body = Construct entries (Recipe (bare_recipe header comment body))
 
 -- the item has no doc
 abbrev pub NoDoc : ShapeItem → Type 0
@@ -50,7 +50,7 @@ content_on ind (Assignment parts) more = assignment_on parts more
 content_on ind (Function parts) more = function_on parts more
 content_on ind (Import parts) more = import_on parts more
 content_on ind (Module parts) more = module_on parts more
-content_on ind (Recipe parts) more = header_on parts.header (body_on ind parts.body more)
+content_on ind (Recipe parts) more = header_on parts.header (comment_on parts.comment (body_on ind parts.body more))
 content_on ind (Setting parts) more = setting_on parts more
 content_on ind (Unexport name) more = codes "unexport " ++ (name ++ more)
 
@@ -59,7 +59,7 @@ item_on ind Newline more = more
 item_on ind (Comment t) more = t ++ more
 item_on ind (Construct entries content) more = entries_on entries (content_on ind content more)
 
--- of a recipe the header
+-- of a recipe the header, with the comment after it
 abbrev pub content_marks : ShapeContent → List Mark → List Mark
 content_marks (Alias parts) ts = word (codes "alias") ∷ space ∷ word parts.name ∷ space ∷ colon_equals ∷ space ∷ path_marks parts.target ts
 content_marks (Assignment parts) ts =
@@ -68,7 +68,7 @@ content_marks (Function parts) ts =
     word parts.name ∷ paren_left ∷ names_marks parts.parameters (paren_right ∷ space ∷ colon_equals ∷ space ∷ expr_marks parts.body ts)
 content_marks (Import parts) ts = word (codes "import") ∷ question_marks parts.optional (space ∷ file_path_marks parts.path ts)
 content_marks (Module parts) ts = word (codes "mod") ∷ question_marks parts.optional (space ∷ word parts.name ∷ optional_path_marks parts.path ts)
-content_marks (Recipe parts) ts = header_marks parts.header ts
+content_marks (Recipe parts) ts = header_marks parts.header (comment_marks parts.comment ts)
 content_marks (Setting parts) ts = word (codes "set") ∷ space ∷ word parts.name ∷ setting_value_marks parts.value ts
 content_marks (Unexport name) ts = word (codes "unexport") ∷ space ∷ word name ∷ ts
 
@@ -174,7 +174,9 @@ content_is ind (Assignment parts) more = assignment_is parts more
 content_is ind (Function parts) more = function_is parts more
 content_is ind (Import parts) more = import_is parts more
 content_is ind (Module parts) more = module_is parts more
-content_is ind (Recipe parts) more = then (header_text parts.header) (body_text ind parts.body) more (body_is ind parts.body more) (header_is parts.header _)
+content_is ind (Recipe parts) more =
+    then (header_text parts.header ++ comment_text parts.comment) (body_text ind parts.body) more (body_is ind parts.body more)
+    (then (header_text parts.header) (comment_text parts.comment) _ (comment_is parts.comment _) (header_is parts.header _))
 content_is ind (Setting parts) more = setting_is parts more
 content_is ind (Unexport name) more = unexport_is name more
 

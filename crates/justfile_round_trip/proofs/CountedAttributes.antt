@@ -257,7 +257,7 @@ module _ (weight : Value → ℕ) (weightless : (expanded : Bool) (l : List ℕ)
         in_two w.arguments
         ∙ taken (takes_expressions kind.first) kind.first (by_position w.arguments) (by_key w.arguments) attribute.first refl few.0
         (counted.keys_found weight expander kind.first (by_key w.arguments) repeats.1 unknown.1) attribute.is
-        ∙ ap (λ (e : ShapeEntry). attribute_weight e.attribute) (some_back (record { name = tt; attribute = attribute.first }) e attribute.gives)
+        ∙ ap (λ (e : ShapeEntry). attribute_weight e.attribute) (some_back (record { name = tt; attribute = attribute.first; comment = w.comment }) e attribute.gives)
 
     all_weight : (ws : List Written) (es : List ShapeEntry) → all_of (entry_of sight) ws ≡ Some es → flat_map (attribute_broken sight) ws ≡ []
         → written_weight ws ≡ entries_weight es

@@ -1,12 +1,12 @@
 -- The tokens of a good shape derive it, and its text is UTF-8.
-use Rattle.std.proofs.Common.{ℕ, Bool, true, List, [], ◌∷◌, ◌++◌, map, refl, sym, subst}
+use Rattle.std.proofs.Common.{ℕ, Bool, true, List, [], ◌∷◌, ◌++◌, Option, Some, None, map, refl, sym, subst}
 use Rattle.std.specs.Str.{IsUtf8}
 use Rattle.std.proofs.lemmas.Str.{IsUtf8-nil, IsUtf8-append}
 use Rattle.std.proofs.Math.Utf8.{encode}
 use Rattle.justfile_word.specs.declared.token_kind.TokenKind.TheVariants as kinds
 use Rattle.justfile_model.specs.SignificantTokens.{SignificantToken}
 use Rattle.justfile_model.specs.Tree as tree
-use Rattle.justfile_model.specs.Tree.{Shape, Construct, bare_recipe, lexeme, nothing}
+use Rattle.justfile_model.specs.Tree.{Shape, Construct, bare_recipe, lexeme, nothing, trimmed}
 use Rattle.justfile_model.specs.AttributeLines.{AttributeLines}
 use Rattle.justfile_model.specs.Grammar as g
 use Rattle.justfile_model.specs.Expressions.{Under}
@@ -16,14 +16,14 @@ use Rattle.justfile_model.specs.Grammar.{Items, LineEnd, Block, NotEmpty}
 use Rattle.justfile_model.specs.ItemParts.{EndsLine, at_comment, at_line_end}
 use Rattle.justfile_model.specs.Rewritten.{rewritten_entries, rewritten_item}
 use Rattle.justfile_round_trip.proofs.Reading.{Mark, mark}
-use Rattle.justfile_round_trip.proofs.AttributesUtf8.{entries_utf8}
+use Rattle.justfile_round_trip.proofs.AttributesUtf8.{comment_utf8, entries_utf8}
 use Rattle.justfile_round_trip.proofs.BackAttributes.{glued_after, entries_back}
 use Rattle.justfile_round_trip.proofs.BackContents.{content_back, content_no_bracket, content_utf8, header_no_bracket}
 use Rattle.justfile_round_trip.proofs.Canon.{Shown, Row, ShapeContent, ShapeItem, space, newline, body_marks}
-use Rattle.justfile_round_trip.proofs.CanonAttributes.{ShapeEntry, entries_marks}
+use Rattle.justfile_round_trip.proofs.CanonAttributes.{ShapeEntry, comment_marks, entries_marks}
 use Rattle.justfile_round_trip.proofs.CanonHeaders.{ShapeHeader, header_rest_marks, header_marks}
 use Rattle.justfile_round_trip.proofs.CanonItems.{content_marks, item_marks, end_on, end_marks, text_on, marks_from, marks}
-use Rattle.justfile_round_trip.proofs.Good.{significant, GoodComment, EndedBody}
+use Rattle.justfile_round_trip.proofs.Good.{significant, GoodComment, GoodOptionalComment, EndedBody}
 use Rattle.justfile_round_trip.proofs.GoodAttributes.{GoodEntries}
 use Rattle.justfile_round_trip.proofs.GoodContents.{GoodContent, content_no_body}
 use Rattle.justfile_round_trip.proofs.GoodHeaders.{GoodHeader}
@@ -53,14 +53,24 @@ module _ (limit : ℕ) where
   trailing_back t items on h e = subst (λ x. AfterItem (tree.Comment x ∷ items) (significant true (space ∷ mark kinds.Comment t ∷ on))) h.trimmed (e.0, g.trailing refl e.1)
 
   -- a recipe with a body, up to the Dedent
-  block_back : (ind : List ℕ) (header : ShapeHeader) (l : Row) (ls : List Row) (glued : Bool) (on : List Mark) → GoodHeader limit header → EndedBody limit (l ∷ ls)
-      → (ns : Shown) × Block keeps_lexemes (Under limit) (tree.Recipe (bare_recipe header (l ∷ ls))) ns (significant glued (header_marks header (newline ∷ body_marks ind (l ∷ ls) on))) (significant true on)
-  block_back ind header (tree.Line n fs) ls glued on h b =
+  block_back : (ind : List ℕ) (header : ShapeHeader) (comment : Option (List ℕ)) (l : Row) (ls : List Row) (glued : Bool) (on : List Mark) → GoodHeader limit header
+      → GoodOptionalComment comment → EndedBody limit (l ∷ ls)
+      → (ns : Shown) × Block keeps_lexemes (Under limit) (tree.Recipe (bare_recipe header comment (l ∷ ls))) ns (significant glued (header_marks header (comment_marks comment (newline ∷ body_marks ind (l ∷ ls) on)))) (significant true on)
+  block_back ind header None (tree.Line n fs) ls glued on h c b =
       let body : List Row = tree.Line n fs ∷ ls in
       let read = body_back limit ind n fs ls on b.good in (
         h.features ++ read.0,
-        subst (λ x. Block keeps_lexemes (Under limit) (tree.Recipe (bare_recipe header x)) (h.features ++ read.0) (significant glued (header_marks header (newline ∷ body_marks ind body on))) (significant true on)) b.ended
+        subst (λ x. Block keeps_lexemes (Under limit) (tree.Recipe (bare_recipe header None x)) (h.features ++ read.0) (significant glued (header_marks header (newline ∷ body_marks ind body on))) (significant true on)) b.ended
             (g.recipe {lines = body} (h.derives.derives glued (newline ∷ body_marks ind body on) refl) (g.at_once refl refl) read.1 (subst NotEmpty (sym b.ended) tt)),
+      )
+  block_back ind header (Some t) (tree.Line n fs) ls glued on h c b =
+      let body : List Row = tree.Line n fs ∷ ls in
+      let after : List Mark = comment_marks (Some t) (newline ∷ body_marks ind body on) in
+      let read = body_back limit ind n fs ls on b.good in (
+        h.features ++ read.0,
+        subst (λ x. Block keeps_lexemes (Under limit) (tree.Recipe (bare_recipe header (Some t) x)) (h.features ++ read.0) (significant glued (header_marks header after)) (significant true on)) b.ended
+            (subst (λ x. Block keeps_lexemes (Under limit) (tree.Recipe (bare_recipe header (Some x) (trimmed body))) (h.features ++ read.0) (significant glued (header_marks header after)) (significant true on)) c.trimmed
+            (g.recipe {lines = body} (h.derives.derives glued after refl) (g.commented refl refl refl) read.1 (subst NotEmpty (sym b.ended) tt))),
       )
 
   -- lines of attributes before a header
@@ -101,9 +111,9 @@ module _ (limit : ℕ) (ind : List ℕ) where
         let x = content_back limit h after on (line_ends entries content more) in
         let r = derive_after entries content more in
         unbodied h entries items glued (record { attributes = a.0; content = x.0 } ∷ r.0, g.on_line a.1 x.1 r.1)
-    derive_start (good.recipe {entries = entries} {h = header} {l = l} {ls = ls} attributes h body (good.body_end {items = items} follows last more)) glued =
-        let a = attributes_before_header limit entries header glued (newline ∷ body_marks ind (l ∷ ls) (marks ind items)) attributes in
-        let b = block_back limit ind header l ls (glued_after (rewritten_entries entries) glued) (marks ind items) h body in
+    derive_start (good.recipe {entries = entries} {h = header} {comment = comment} {l = l} {ls = ls} attributes h commented body (good.body_end {items = items} follows last more)) glued =
+        let a = attributes_before_header limit entries header glued (comment_marks comment (newline ∷ body_marks ind (l ∷ ls) (marks ind items))) attributes in
+        let b = block_back limit ind header comment l ls (glued_after (rewritten_entries entries) glued) (marks ind items) h commented body in
         let r = derive_start more true in
         (record { attributes = a.0; content = b.0 } ∷ r.0, g.block a.1 b.1 r.1)
 
@@ -139,8 +149,8 @@ module _ (limit : ℕ) (ind : List ℕ) (level : IsLevel ind) where
     start_utf8 (good.comment {t = t} {items = items} h more) = IsUtf8-append t _ h.utf8 (end_utf8 (tree.Comment t) items _ (line_end_utf8 more))
     start_utf8 (good.on_line {entries = entries} {content = content} {items = items} attributes h more) =
         entries_utf8 limit entries _ attributes (content_utf8 limit h ind _ (end_utf8 (Construct entries content) items _ (after_utf8 more)))
-    start_utf8 (good.recipe {entries = entries} {h = header} {l = l} {ls = ls} attributes h body (good.body_end {items = items} follows last more)) =
-        entries_utf8 limit entries _ attributes (h.utf8 _ (body_utf8 limit ind (l ∷ ls) _ level body.good (end_utf8 tree.Newline items _ (start_utf8 more))))
+    start_utf8 (good.recipe {entries = entries} {h = header} {comment = comment} {l = l} {ls = ls} attributes h commented body (good.body_end {items = items} follows last more)) =
+        entries_utf8 limit entries _ attributes (h.utf8 _ (comment_utf8 limit comment _ commented (body_utf8 limit ind (l ∷ ls) _ level body.good (end_utf8 tree.Newline items _ (start_utf8 more)))))
 
     after_utf8 : {items : Shape} → ItemRest limit items → IsUtf8 (text_on ind items)
     after_utf8 (good.trailing {t = t} {items = items} h more) = IsUtf8-append t _ h.utf8 (end_utf8 (tree.Comment t) items _ (line_end_utf8 more))

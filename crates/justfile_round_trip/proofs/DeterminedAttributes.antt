@@ -1,12 +1,12 @@
 -- The features of attributes are determined by them.
-use Rattle.std.proofs.Common.{◌≡◌, ℕ, Bool, false, List, [], ◌∷◌, ◌++◌, Option, refl, sym, ap, ◌∙◌, append_assoc}
+use Rattle.std.proofs.Common.{◌≡◌, ℕ, Bool, false, List, [], ◌∷◌, ◌++◌, Option, Some, None, refl, sym, ap, ◌∙◌, append_assoc}
 use Rattle.std.proofs.lemmas.List.{append-nil}
 use Rattle.justfile_model.specs.AttributeLines as g
 use Rattle.justfile_model.specs.AttributeLines.{ArgumentOf, Arguments, AttributeOf, Bracketed, AttributeLines}
 use Rattle.justfile_model.specs.Expressions.{Tokens}
 use Rattle.justfile_model.specs.Rewritten.{rewritten_entries}
 use Rattle.justfile_model.specs.SignificantTokens.{SignificantToken}
-use Rattle.justfile_model.specs.Tree.{Positional, Bare, Keyed, lexeme, nothing}
+use Rattle.justfile_model.specs.Tree.{Positional, Bare, Keyed, at_last, commented_attribute, commented_line, lexeme, nothing}
 use Rattle.justfile_round_trip.proofs.Canon.{Shown}
 use Rattle.justfile_round_trip.proofs.CanonAttributes.{Argument, Written, ShapeEntry}
 use Rattle.justfile_round_trip.proofs.Determined.{value_features, of_expression}
@@ -34,6 +34,16 @@ written_joined (w ∷ ws) others =
     ap (λ fs. arguments_features w.arguments ++ fs) (written_joined ws others)
     ∙ sym (append_assoc (arguments_features w.arguments) (written_features ws) (written_features others))
 
+-- comments note nothing
+last_noted : (c : List ℕ) (ws : List Written) → written_features (at_last (commented_attribute c) ws) ≡ written_features ws
+last_noted c [] = refl
+last_noted c (w ∷ []) = refl
+last_noted c (w ∷ v ∷ ws) = ap (λ fs. arguments_features w.arguments ++ fs) (last_noted c (v ∷ ws))
+
+commented_noted : (comment : Option (List ℕ)) (ws : List Written) → written_features (commented_line comment ws) ≡ written_features ws
+commented_noted None ws = refl
+commented_noted (Some c) ws = last_noted c ws
+
 module _ (Open : ℕ → Option SignificantToken → Type 0) where
   of_argument : {keys : Bool} {a : Argument} {fs : Shown} {ts rest : Tokens} → ArgumentOf lexeme nothing Open keys a fs ts rest → fs ≡ argument_features a
   of_argument (g.positional no_key x) = of_expression Open x
@@ -58,5 +68,5 @@ module _ (Open : ℕ → Option SignificantToken → Type 0) where
   -- the features of lines of attributes
   pub of_attribute_lines : {ws : List Written} {fs : Shown} {ts rest : Tokens} → AttributeLines lexeme nothing Open ws fs ts rest → fs ≡ written_features ws
   of_attribute_lines (g.none next) = refl
-  of_attribute_lines (g.line {ws = ws} {others = others} kind inside end after) =
-      (λ i. of_bracketed inside i ++ of_attribute_lines after i) ∙ sym (written_joined ws others)
+  of_attribute_lines (g.line {ws = ws} {others = others} {comment = comment} kind inside end after) =
+      (λ i. (of_bracketed inside ∙ sym (commented_noted comment ws)) i ++ of_attribute_lines after i) ∙ sym (written_joined (commented_line comment ws) others)

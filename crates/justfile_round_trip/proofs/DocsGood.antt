@@ -144,9 +144,9 @@ module _ (limit : ℕ) where
         construct_good entries content (documented says_doc Other items) (content_no_doc limit h)
         (subst (λ c. AtStart limit (Construct entries c ∷ docs_written (documented says_doc Other items))) (sym (content_undocumented limit h))
         (good.on_line attributes h (rest_good more)))
-    docs_good before (good.recipe {entries = entries} {h = header} {l = l} {ls = ls} attributes h body (good.body_end {items = items} follows last more)) =
-        construct_good entries (Recipe (bare_recipe header (l ∷ ls))) (documented says_doc Other (Newline ∷ items)) refl
-        (good.recipe attributes h body
+    docs_good before (good.recipe {entries = entries} {h = header} {comment = text} {l = l} {ls = ls} attributes h commented body (good.body_end {items = items} follows last more)) =
+        construct_good entries (Recipe (bare_recipe header text (l ∷ ls))) (documented says_doc Other (Newline ∷ items)) refl
+        (good.recipe attributes h commented body
         (good.body_end (follows_kept LineEnd items ∙ follows) (λ p. ap (λ s. docs_written (documented says_doc LineEnd s)) (last p)) (docs_good LineEnd more)))
 
     rest_good : {s : Shape} → ItemRest limit s → ItemRest limit (docs_written (documented says_doc Other s))
@@ -162,7 +162,7 @@ module _ (limit : ℕ) where
     start_plain (good.newline more) = (tt, start_plain more)
     start_plain (good.comment h (good.line_end more)) = (tt, (tt, start_plain more))
     start_plain (good.on_line attributes h more) = (content_no_doc limit h, rest_plain more)
-    start_plain (good.recipe attributes h body (good.body_end follows last more)) = (refl, (tt, start_plain more))
+    start_plain (good.recipe attributes h commented body (good.body_end follows last more)) = (refl, (tt, start_plain more))
 
     rest_plain : {s : Shape} → ItemRest limit s → AllByRecursion IsPlain s
     rest_plain (good.trailing h (good.line_end more)) = (tt, (tt, start_plain more))
@@ -177,7 +177,7 @@ module _ (limit : ℕ) where
     start_comments (good.newline more) = (tt, start_comments more)
     start_comments (good.comment {t = t} h (good.line_end more)) = (comment_utf8 t h, (tt, start_comments more))
     start_comments (good.on_line attributes h more) = (tt, rest_comments more)
-    start_comments (good.recipe attributes h body (good.body_end follows last more)) = (tt, (tt, start_comments more))
+    start_comments (good.recipe attributes h commented body (good.body_end follows last more)) = (tt, (tt, start_comments more))
 
     rest_comments : {s : Shape} → ItemRest limit s → AllByRecursion (InComment Utf8Comment) s
     rest_comments (good.trailing {t = t} h (good.line_end more)) = (comment_utf8 t h, (tt, start_comments more))

@@ -160,6 +160,11 @@ pub record GoodComment (t : List ℕ) : Type 0 where
   pub trimmed : trim_end t ≡ t
   pub utf8 : IsUtf8 t
 
+-- a comment at the end of a line, if there is one
+abbrev pub GoodOptionalComment : Option (List ℕ) → Type 0
+GoodOptionalComment None = Unit {0}
+GoodOptionalComment (Some t) = GoodComment t
+
 -- ---- what derives back, where so many expressions may be open
 
 module _ (limit : ℕ) where

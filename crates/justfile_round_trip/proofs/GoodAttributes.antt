@@ -5,7 +5,7 @@ use Rattle.justfile_model.specs.Rewritten.{rewritten_entry, rewritten_entries}
 use Rattle.justfile_model.specs.Tree.{StringLiteral, Positional, Bare, Keyed}
 use Rattle.justfile_round_trip.proofs.Canon.{Value}
 use Rattle.justfile_round_trip.proofs.CanonAttributes.{Argument, Written, ShapeEntry}
-use Rattle.justfile_round_trip.proofs.Good.{GoodName, GoodExpression}
+use Rattle.justfile_round_trip.proofs.Good.{GoodName, GoodExpression, GoodOptionalComment}
 
 -- a string literal, which is no key
 abbrev pub is_literal : Value → Bool
@@ -27,6 +27,7 @@ module _ (limit : ℕ) where
   pub record GoodWritten (w : Written) : Type 0 where
     pub named : GoodName w.name
     pub arguments : GoodArguments (name_takes_keys w.name) w.arguments
+    pub comment : GoodOptionalComment w.comment
 
   abbrev pub AllGoodWritten : List Written → Type 0
   AllGoodWritten [] = Unit {0}

@@ -68,7 +68,7 @@ module _ (limit : ℕ) where
     module_named : {optional : Bool} {name : List ℕ} {path : Option ShapeQuoted} → GoodName name → GoodOptionalPath path
         → GoodContent (tree.Module (bare_module optional name path))
     header : {h : ShapeHeader} → GoodHeader limit h
-        → GoodContent (tree.Recipe (bare_recipe h []))
+        → GoodContent (tree.Recipe (bare_recipe h None []))
     setting : {keyword : Keyword} {form : SettingForm} {name : List ℕ} {value : ShapeSetting} → GoodName name → name ≡ keyword_text keyword
         → setting_form keyword ≡ Some form → GoodSettingValue form value
         → GoodContent (tree.Setting (record { keyword = keyword; name = name; value = value }))

@@ -1,5 +1,5 @@
 -- What is known of the items of a shape that is printed: they stand in lines, and their attributes and their contents are good.
-use Rattle.std.proofs.Common.{◌≡◌, ℕ, Bool, true, false, List, [], ◌∷◌, refl}
+use Rattle.std.proofs.Common.{◌≡◌, ℕ, Bool, true, false, List, [], ◌∷◌, Option, refl}
 use Rattle.std.specs.Prelude.{◌||◌, not}
 use Rattle.justfile_model.specs.Modes.{is_empty}
 use Rattle.justfile_model.specs.Tree as tree
@@ -8,7 +8,7 @@ use Rattle.justfile_round_trip.proofs.Canon.{Row, ShapeContent}
 use Rattle.justfile_round_trip.proofs.CanonAttributes.{ShapeEntry}
 use Rattle.justfile_round_trip.proofs.CanonHeaders.{ShapeHeader}
 use Rattle.justfile_round_trip.proofs.CanonItems.{NoDocs, recipe_item}
-use Rattle.justfile_round_trip.proofs.Good.{GoodComment, EndedBody, pale_after}
+use Rattle.justfile_round_trip.proofs.Good.{GoodComment, GoodOptionalComment, EndedBody, pale_after}
 use Rattle.justfile_round_trip.proofs.GoodAttributes.{GoodEntries}
 use Rattle.justfile_round_trip.proofs.GoodContents.{GoodContent, content_no_doc}
 use Rattle.justfile_round_trip.proofs.GoodHeaders.{GoodHeader}
@@ -32,9 +32,9 @@ module _ (limit : ℕ) where
       comment : {t : List ℕ} {items : Shape} → GoodComment t → AtEnd items → AtStart (tree.Comment t ∷ items)
       on_line : {entries : List ShapeEntry} {content : ShapeContent} {items : Shape} → GoodEntries limit entries → GoodContent limit content → ItemRest items
           → AtStart (tree.Construct entries content ∷ items)
-      recipe : {entries : List ShapeEntry} {h : ShapeHeader} {l : Row} {ls : List Row} {items : Shape} → GoodEntries limit entries → GoodHeader limit h
-          → EndedBody limit (l ∷ ls) → AfterBody (l ∷ ls) items
-          → AtStart (recipe_item entries h (l ∷ ls) ∷ items)
+      recipe : {entries : List ShapeEntry} {h : ShapeHeader} {comment : Option (List ℕ)} {l : Row} {ls : List Row} {items : Shape} → GoodEntries limit entries → GoodHeader limit h
+          → GoodOptionalComment comment → EndedBody limit (l ∷ ls) → AfterBody (l ∷ ls) items
+          → AtStart (recipe_item entries h comment (l ∷ ls) ∷ items)
 
     -- after an item a comment may trail it
     pub data ItemRest : Shape → Type 0 where
@@ -62,7 +62,7 @@ module _ (limit : ℕ) where
     start_no_doc (newline more) = (tt, start_no_doc more)
     start_no_doc (comment c more) = (tt, end_no_doc more)
     start_no_doc (on_line attributes h more) = (content_no_doc limit h, rest_no_doc more)
-    start_no_doc (recipe attributes h body (body_end follows last more)) = (refl, (tt, start_no_doc more))
+    start_no_doc (recipe attributes h c body (body_end follows last more)) = (refl, (tt, start_no_doc more))
 
     rest_no_doc : {items : Shape} → ItemRest items → NoDocs items
     rest_no_doc (trailing c more) = (tt, end_no_doc more)

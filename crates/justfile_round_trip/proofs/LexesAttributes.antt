@@ -1,7 +1,7 @@
 -- The text of good attributes is lexed back.
-use Rattle.std.proofs.Common.{◌≡◌, ℕ, Bool, false, List, [], ◌∷◌, Option, None, refl}
+use Rattle.std.proofs.Common.{◌≡◌, ℕ, Bool, false, List, [], ◌∷◌, ◌++◌, Option, Some, None, refl}
 use Rattle.justfile_base.specs.declared.delimiter.Delimiter.TheVariants.{Bracket, Paren}
-use Rattle.justfile_word.specs.declared.token_kind.TokenKind.TheVariants.{BracketL}
+use Rattle.justfile_word.specs.declared.token_kind.TokenKind.TheVariants.{BracketL, Comment}
 use Rattle.justfile_word.specs.ByteClass.{class_of}
 use Rattle.justfile_model.specs.declared.open_delimiter.OpenDelimiter.{OpenDelimiter}
 use Rattle.justfile_model.specs.Bytes.{blank}
@@ -12,10 +12,11 @@ use Rattle.justfile_model.specs.Tree.{Positional, Bare, Keyed}
 use Rattle.justfile_round_trip.proofs.Reading.{Mark, mark, LexesTo, step}
 use Rattle.justfile_round_trip.proofs.Inline.{head_is, joins, head_word, amid, name_step, space_step}
 use Rattle.justfile_round_trip.proofs.Fixed.{comma_step, equals_before, open_paren_step, close_paren_step, close_bracket_step}
-use Rattle.justfile_round_trip.proofs.Lines.{at_item, item_next, line_end}
-use Rattle.justfile_round_trip.proofs.Canon.{paren_right}
-use Rattle.justfile_round_trip.proofs.CanonAttributes.{Argument, Written, ShapeEntry, bracket_right, argument_on, other_arguments_on, parenthesized_on, written_on, attributes_on, entries_on, argument_marks, other_arguments_marks, parenthesized_marks, written_marks, attributes_marks, entries_marks}
+use Rattle.justfile_round_trip.proofs.Lines.{at_item, comment_no_blank, comment_step, item_next, line_end}
+use Rattle.justfile_round_trip.proofs.Canon.{newline, paren_right, space}
+use Rattle.justfile_round_trip.proofs.CanonAttributes.{Argument, Written, ShapeEntry, bracket_right, argument_on, other_arguments_on, parenthesized_on, comment_on, written_on, attributes_on, entries_on, argument_marks, other_arguments_marks, parenthesized_marks, comment_marks, written_marks, attributes_marks, entries_marks}
 use Rattle.justfile_round_trip.proofs.LexesValues.{name_no_blank, value_begins, value_no_blank, lex_value}
+use Rattle.justfile_round_trip.proofs.Good.{GoodComment, GoodOptionalComment}
 use Rattle.justfile_round_trip.proofs.GoodAttributes.{GoodArgument, GoodArguments, GoodWritten, AllGoodWritten, GoodEntries}
 
 -- the bracket that begins a line of attributes
@@ -23,6 +24,17 @@ item_bracket : (c : Bool) {more : List ℕ} {ts : List Mark} → ((line : ℕ) �
     → LexesTo (at_item c) (91 ∷ more) (mark BracketL (91 ∷ []) ∷ ts)
 unfolding token_by_class class_of
 item_bracket c {more} {ts} k = step (at_item c) BracketL (91 ∷ []) more ts (item_next c 91 more refl) (λ e. cc) (λ o n col. k n)
+
+-- a comment, the end of its line, and what is read after that
+pub trailing : (c f : Bool) (t : List ℕ) {more : List ℕ} {ts : List Mark} → GoodComment t → LexesTo (at_item c) more ts
+    → LexesTo (amid [] [] c None f) (32 ∷ (t ++ (10 ∷ more))) (space ∷ mark Comment t ∷ newline ∷ ts)
+trailing c f t {more} good k = space_step (comment_no_blank t more good.comment) (comment_step [] [] c None false t good.comment (line_end c false k))
+
+-- a comment or none
+commented_end : (c f : Bool) (comment : Option (List ℕ)) {more : List ℕ} {ts : List Mark} → GoodOptionalComment comment → LexesTo (at_item c) more ts
+    → LexesTo (amid [] [] c None f) (comment_on comment (10 ∷ more)) (comment_marks comment (newline ∷ ts))
+commented_end c f None h k = line_end c f k
+commented_end c f (Some t) h k = trailing c f t h k
 
 module _ (limit : ℕ) where
   argument_no_blank : (keys : Bool) (a : Argument) (more : List ℕ) → GoodArgument limit keys a → head_is blank (argument_on a more) ≡ false
@@ -76,8 +88,8 @@ module _ (limit : ℕ) where
   lex_written : (c : Bool) (w : Written) {more : List ℕ} {ts : List Mark} → GoodWritten limit w → LexesTo (at_item c) more ts
       → LexesTo (at_item c) (written_on w more) (written_marks w ts)
   lex_written c w {more} h k =
-      item_bracket c (λ line. name_step w.name h.named.is_name (head_word _ (parenthesized_no_word w.arguments (10 ∷ more)))
-      (lex_parenthesized [] c None _ [] line w.arguments h.arguments (line_end c false k) _))
+      item_bracket c (λ line. name_step w.name h.named.is_name (head_word _ (parenthesized_no_word w.arguments (comment_on w.comment (10 ∷ more))))
+      (lex_parenthesized [] c None _ [] line w.arguments h.arguments (commented_end c false w.comment h.comment k) _))
 
   pub lex_attributes : (c : Bool) (ws : List Written) {more : List ℕ} {ts : List Mark} → AllGoodWritten limit ws → LexesTo (at_item c) more ts
       → LexesTo (at_item c) (attributes_on ws more) (attributes_marks ws ts)

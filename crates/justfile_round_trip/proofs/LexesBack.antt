@@ -1,33 +1,27 @@
 -- The text of good items is lexed back.
-use Rattle.std.proofs.Common.{ℕ, Bool, false, List, [], ◌∷◌, ◌++◌, None, refl, sym, ap, subst}
-use Rattle.justfile_word.specs.declared.token_kind.TokenKind.TheVariants as kinds
+use Rattle.std.proofs.Common.{ℕ, Bool, false, List, [], ◌∷◌, Option, Some, None, refl, sym, ap, subst}
 use Rattle.justfile_word.specs.ByteClass.{class_of}
 use Rattle.justfile_model.specs.Tree as tree
 use Rattle.justfile_model.specs.Tree.{Shape}
 use Rattle.justfile_model.specs.Next.{next}
-use Rattle.justfile_round_trip.proofs.Reading.{Mark, mark, LexesTo, end}
-use Rattle.justfile_round_trip.proofs.Inline.{amid, space_step}
-use Rattle.justfile_round_trip.proofs.Lines.{at_item, item_comment, comment_step, comment_no_blank, blank_line, line_end}
-use Rattle.justfile_round_trip.proofs.Canon.{Row, ShapeContent, space, newline}
+use Rattle.justfile_round_trip.proofs.Reading.{LexesTo, end}
+use Rattle.justfile_round_trip.proofs.Lines.{at_item, item_comment, blank_line, line_end}
+use Rattle.justfile_round_trip.proofs.Canon.{Row, ShapeContent}
 use Rattle.justfile_round_trip.proofs.CanonAttributes.{ShapeEntry}
 use Rattle.justfile_round_trip.proofs.CanonHeaders.{ShapeHeader}
 use Rattle.justfile_round_trip.proofs.CanonItems.{recipe_item, item_marks, end_marks, text_on, marks_from, marks}
-use Rattle.justfile_round_trip.proofs.Good.{GoodComment, EndedBody}
+use Rattle.justfile_round_trip.proofs.Good.{GoodComment, GoodOptionalComment, EndedBody}
 use Rattle.justfile_round_trip.proofs.GoodAttributes.{GoodEntries}
 use Rattle.justfile_round_trip.proofs.GoodContents.{GoodContent, content_no_body}
 use Rattle.justfile_round_trip.proofs.GoodHeaders.{GoodHeader}
 use Rattle.justfile_round_trip.proofs.GoodItems as good
 use Rattle.justfile_round_trip.proofs.GoodItems.{AtStart, ItemRest, AtEnd, AfterBody}
-use Rattle.justfile_round_trip.proofs.LexesAttributes.{lex_entries}
+use Rattle.justfile_round_trip.proofs.LexesAttributes.{lex_entries, trailing}
 use Rattle.justfile_round_trip.proofs.LexesParts.{lex_content}
 use Rattle.justfile_round_trip.proofs.LexesHeaders.{lex_header}
 use Rattle.justfile_round_trip.proofs.BodyLines.{IsLevel}
-use Rattle.justfile_round_trip.proofs.Bodies.{lex_after_header}
+use Rattle.justfile_round_trip.proofs.Bodies.{lex_after_comment, lex_after_header}
 use Rattle.justfile_round_trip.proofs.BodyFollows.{text_follows}
-
--- a comment, the end of its line, and what is read after that
-trailing : (c f : Bool) (t : List ℕ) {more : List ℕ} {ts : List Mark} → GoodComment t → LexesTo (at_item c) more ts → LexesTo (amid [] [] c None f) (32 ∷ (t ++ (10 ∷ more))) (space ∷ mark kinds.Comment t ∷ newline ∷ ts)
-trailing c f t {more} good k = space_step (comment_no_blank t more good.comment) (comment_step [] [] c None false t good.comment (line_end c false k))
 
 at_end : (c : Bool) → LexesTo (at_item c) [] []
 unfolding next
@@ -52,7 +46,8 @@ module _ (limit : ℕ) (ind : List ℕ) (level : IsLevel ind) where
     lex_start c (good.newline more) = blank_line c (lex_start c more)
     lex_start c (good.comment {t = t} h more) = lex_end c t h more
     lex_start c (good.on_line {entries = entries} {content = content} attributes h more) = lex_after c entries content attributes h more
-    lex_start c (good.recipe {entries = entries} {h = header} {l = l} {ls = ls} attributes h body more) = lex_block c entries header l ls attributes h body more
+    lex_start c (good.recipe {entries = entries} {h = header} {comment = comment} {l = l} {ls = ls} attributes h commented body more) =
+        lex_block c entries header comment l ls attributes h commented body more
 
     -- a construct on one line, and what follows it
     lex_after : (c : Bool) (entries : List ShapeEntry) (content : ShapeContent) {items : Shape} → GoodEntries limit entries → GoodContent limit content
@@ -66,13 +61,18 @@ module _ (limit : ℕ) (ind : List ℕ) (level : IsLevel ind) where
         (lex_entries limit c entries attributes (lex_content c limit h ind 10 refl refl refl (λ d f. line_end d f (lex_start d more))))
 
     -- a recipe with a body, the end of its last line, and what follows that
-    lex_block : (c : Bool) (entries : List ShapeEntry) (header : ShapeHeader) (l : Row) (ls : List Row) {items : Shape} → GoodEntries limit entries
-        → GoodHeader limit header → EndedBody limit (l ∷ ls) → AfterBody limit (l ∷ ls) items
-        → LexesTo (at_item c) (text_on ind (recipe_item entries header (l ∷ ls) ∷ items)) (marks ind (recipe_item entries header (l ∷ ls) ∷ items))
-    lex_block c entries header l ls attributes h body (good.body_end follows last more) =
+    lex_block : (c : Bool) (entries : List ShapeEntry) (header : ShapeHeader) (comment : Option (List ℕ)) (l : Row) (ls : List Row) {items : Shape}
+        → GoodEntries limit entries → GoodHeader limit header → GoodOptionalComment comment → EndedBody limit (l ∷ ls) → AfterBody limit (l ∷ ls) items
+        → LexesTo (at_item c) (text_on ind (recipe_item entries header comment (l ∷ ls) ∷ items)) (marks ind (recipe_item entries header comment (l ∷ ls) ∷ items))
+    lex_block c entries header None l ls attributes h commented body (good.body_end follows last more) =
         lex_entries limit c entries attributes
         (lex_header c header 10 h.lexes refl refl refl
         (λ f. lex_after_header limit f ind (l ∷ ls) _ _ level body.good (text_follows limit ind more follows) (λ p. ap (text_on ind) (last p)) (lex_start false more)))
+    lex_block c entries header (Some t) l ls attributes h commented body (good.body_end follows last more) =
+        lex_entries limit c entries attributes
+        (lex_header c header 32 h.lexes refl refl refl
+        (λ f. lex_after_comment limit f ind t (l ∷ ls) _ _ level commented body.good (text_follows limit ind more follows) (λ p. ap (text_on ind) (last p))
+        (lex_start false more)))
 
     -- a comment, and what follows it
     lex_end : (c : Bool) (t : List ℕ) {items : Shape} → GoodComment t → AtEnd limit items

@@ -58,6 +58,7 @@ same_content (tree.Recipe parts) = λ i. tree.Recipe (record {
     priors = same_dependencies parts.header.priors i;
     subsequents = same_dependencies parts.header.subsequents i;
   };
+  comment = parts.comment;
   body = parts.body;
 })
 

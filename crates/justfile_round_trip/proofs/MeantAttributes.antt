@@ -31,7 +31,7 @@ use Rattle.justfile_model.specs.Tree.{Quoted, Property, Bound, OptionName, Argum
 use Rattle.justfile_round_trip.proofs.Inline.{Each, IsName}
 use Rattle.justfile_round_trip.proofs.Canon.{Value}
 use Rattle.justfile_round_trip.proofs.CanonAttributes.{Argument, Written, ShapeEntry}
-use Rattle.justfile_round_trip.proofs.Good.{GoodName, GoodExpression}
+use Rattle.justfile_round_trip.proofs.Good.{GoodName, GoodExpression, GoodOptionalComment}
 use Rattle.justfile_round_trip.proofs.GoodAttributes.{GoodArguments, GoodEntry, GoodEntries}
 use Rattle.justfile_round_trip.proofs.PlainLiterals.{some_limit, number_good, signal_good}
 use Rattle.justfile_round_trip.proofs.WrittenValues.{all_ascii, plain}
@@ -144,9 +144,14 @@ module _ (limit : ℕ) where
   AllGoodSource [] = Unit {0}
   AllGoodSource (a ∷ arguments) = GoodSource a × AllGoodSource arguments
 
+  -- an attribute as it is written in a source, and its comment
+  pub record GoodSourceAttribute (w : Written) : Type 0 where
+    pub arguments : AllGoodSource w.arguments
+    pub comment : GoodOptionalComment w.comment
+
   abbrev pub AllGoodAttributes : List Written → Type 0
   AllGoodAttributes [] = Unit {0}
-  AllGoodAttributes (w ∷ ws) = AllGoodSource w.arguments × AllGoodAttributes ws
+  AllGoodAttributes (w ∷ ws) = GoodSourceAttribute w × AllGoodAttributes ws
 
   abbrev AllValues : List Value → Type 0
   AllValues [] = Unit {0}
@@ -403,15 +408,16 @@ module _ (limit : ℕ) where
         literals_good kind b.0 keys a b.2 (all_quoted values b.0 b.1 h) ks
 
     -- an attribute whose values are good means one that is
-    pub entry_good : (w : Written) (e : ShapeEntry) → entry_of sight w ≡ Some e → AllGoodSource w.arguments → GoodEntry limit e
+    pub entry_good : (w : Written) (e : ShapeEntry) → entry_of sight w ≡ Some e → GoodSourceAttribute w → GoodEntry limit e
     entry_good w e is h =
         let kind = bind_some (kind_named (sight.bytes w.name)) _ e is in
         let attribute = bind_some (attribute_of sight kind.0 (by_position w.arguments) (by_key w.arguments)) _ e kind.2 in
-        let good = meant_by (takes_expressions kind.0) kind.0 _ (by_key w.arguments) attribute.0 refl attribute.1 (source_values w.arguments h)
-        (source_keys w.arguments h) in
+        let good = meant_by (takes_expressions kind.0) kind.0 _ (by_key w.arguments) attribute.0 refl attribute.1 (source_values w.arguments h.arguments)
+        (source_keys w.arguments h.arguments) in
         subst (GoodEntry limit) (some_same attribute.2) (record {
           named = kind_good (kind_of_attribute attribute.0);
           arguments = subst (λ k. GoodArguments limit k (attribute_arguments attribute.0)) (sym (keys_of_name (kind_of_attribute attribute.0))) good;
+          comment = h.comment;
         })
 
     all_entries_good : (ws : List Written) (entries : List ShapeEntry) → all_of (entry_of sight) ws ≡ Some entries → AllGoodAttributes ws

@@ -28,7 +28,7 @@ use Rattle.justfile_round_trip.proofs.Canon.{Shown, Value, Fragment, Row, ShapeC
 use Rattle.justfile_round_trip.proofs.CanonAttributes.{Written, ShapeEntry}
 use Rattle.justfile_round_trip.proofs.CanonHeaders.{ShapeHeader}
 use Rattle.justfile_round_trip.proofs.CanonItems.{recipe_item}
-use Rattle.justfile_round_trip.proofs.Good.{EndedBody, pale_after}
+use Rattle.justfile_round_trip.proofs.Good.{EndedBody, GoodOptionalComment, pale_after}
 use Rattle.justfile_round_trip.proofs.GoodAttributes.{GoodEntries}
 use Rattle.justfile_round_trip.proofs.GoodHeaders.{GoodHeader}
 use Rattle.justfile_round_trip.proofs.GoodContents as contents
@@ -56,16 +56,19 @@ past_indent t ts e w =
     (subst (λ k. BodySound (outline_after k t.tok.lexeme w.outline) ts) e w.sound.1)
 
 -- what is known at the first line of a body
-record InBody (ts : List SignificantToken) : Type 0 where
+record InBody (text : Option (List ℕ)) (ts : List SignificantToken) : Type 0 where
+  comment : GoodOptionalComment text
   facts : Sound outside false ts
   body : BodySound (inner First false true) ts
 
-before_body : {text : Option (List ℕ)} {ts rest : List SignificantToken} → BeforeBody text ts rest → Sound outside false ts → Walked IsHeader ts → InBody rest
+before_body : {text : Option (List ℕ)} {ts rest : List SignificantToken} → BeforeBody text ts rest → Sound outside false ts → Walked IsHeader ts → InBody text rest
 before_body (g.at_once {newline} {indent} {rest} kind kind2) h w = record {
+  comment = tt;
   facts = past outside indent rest kinds.Indent kind2 (past outside newline (indent ∷ rest) kinds.Eol kind h.2).2;
   body = past_indent indent rest kind2 (past_walked IsHeader header_after newline (indent ∷ rest) kinds.Eol kind refl w);
 }
 before_body (g.commented {comment} {newline} {indent} {rest} kind kind2 kind3) h w = record {
+  comment = lexed_comment comment kind h.0;
   facts = past outside indent rest kinds.Indent kind3 (past outside newline (indent ∷ rest) kinds.Eol kind2 (past outside comment (newline ∷ indent ∷ rest) kinds.Comment kind h.2).2).2;
   body = past_indent indent rest kind3
       (past_walked IsHeader header_after newline (indent ∷ rest) kinds.Eol kind2 refl (past_walked IsHeader header_after comment (newline ∷ indent ∷ rest) kinds.Comment kind refl w));
@@ -103,8 +106,9 @@ module _ (limit : ℕ) where
       record { parts = (first.parts, m.parts); following = m.following }
 
   -- a recipe with a body; where levels would close within it, the file ends after it
-  record BlockGood (h : ShapeHeader) (body : List Row) (rest : List SignificantToken) : Type 0 where
+  record BlockGood (h : ShapeHeader) (comment : Option (List ℕ)) (body : List Row) (rest : List SignificantToken) : Type 0 where
     header : GoodHeader limit h
+    commented : GoodOptionalComment comment
     good : EndedBody limit body
     some : NotEmpty body
     last : pale_after body ≡ true → NextIs (λ k. k ≡ kinds.Eof) rest
@@ -113,7 +117,7 @@ module _ (limit : ℕ) where
   block_good : {fs ns : Shown} {h : ShapeHeader} {lines : List Row} {comment : Option (List ℕ)} {tokens next body rest : List SignificantToken}
       → HeaderOf lexeme nothing nothing (Under limit) h fs tokens next → header_broken h ≡ [] → BeforeBody comment next body → LinesOf limit lines ns body rest
       → NotEmpty (trimmed lines)
-      → (c : Bool) → Ahead outside c tokens → printable_body (trimmed lines) ≡ true → BlockGood h (trimmed lines) rest
+      → (c : Bool) → Ahead outside c tokens → printable_body (trimmed lines) ≡ true → BlockGood h comment (trimmed lines) rest
   block_good {lines = lines} head unbroken before read some c h p =
       let named = header_at limit head unbroken c h.facts in
       let start = before_body before named.following (walk_header limit head h.bodies) in
@@ -121,6 +125,7 @@ module _ (limit : ℕ) where
       let body = body_read limit true read start.body parts.parts (sym (trimmed_printable lines) ∙ p) in
       record {
         header = named.good;
+        commented = start.comment;
         good = record { good = body.good; ended = trimmed_twice lines };
         some = some;
         last = body.last;
@@ -166,10 +171,11 @@ module _ (limit : ℕ) where
       by (tree.Newline ∷ _ ∷ r) f l h = good.body_end f l h
       by (_ ∷ r) f l h = good.body_end f l h
 
-  start_block : (entries : List ShapeEntry) (h : ShapeHeader) (body : List Row) (items : Shape) → NotEmpty body → GoodEntries limit entries
-      → GoodHeader limit h → EndedBody limit body → AfterBody limit body items → AtStart limit (recipe_item entries h body ∷ items)
-  start_block entries h [] items some attributes head b more = absurd some
-  start_block entries h (l ∷ ls) items some attributes head b more = good.recipe attributes head b more
+  start_block : (entries : List ShapeEntry) (h : ShapeHeader) (comment : Option (List ℕ)) (body : List Row) (items : Shape) → NotEmpty body
+      → GoodEntries limit entries → GoodHeader limit h → GoodOptionalComment comment → EndedBody limit body → AfterBody limit body items
+      → AtStart limit (recipe_item entries h comment body ∷ items)
+  start_block entries h comment [] items some attributes head commented b more = absurd some
+  start_block entries h comment (l ∷ ls) items some attributes head commented b more = good.recipe attributes head commented b more
 
   -- no item is before the end of the file: a construct begins with a bracket, or with what its content begins with
   no_construct : {P : Type 0} {ws : List Written} {ns : Shown} {ts rest : List SignificantToken}
@@ -308,12 +314,13 @@ module _ (limit : ℕ) where
           let found = content_good x (form_unbroken ws content items u) before.following in
           good.on_line before.entries found.good
           (after_good more (others_unbroken (tree.Construct ws content) items u) false found.following (and_parts (printable_content content) (printable (meant sight items)) p).1)
-      items_good (g.block {ws = ws} {items = items} {rest = rest} a (g.recipe {h = header} {lines = lines} head before read some) more) u c h p =
+      items_good (g.block {ws = ws} {items = items} {rest = rest} a (g.recipe {h = header} {lines = lines} {comment = comment} head before read some) more) u c h p =
           let parts = and_parts (printable_body (trimmed lines)) (printable (meant sight items)) p in
           let attributes = attributes_ahead a c h in
-          let b = block_good head (form_unbroken ws (tree.Recipe (bare_recipe header (trimmed lines))) (tree.Newline ∷ items) u) before read some false attributes.following parts.0 in
-          let others : broken current sight items ≡ [] = others_unbroken (tree.Construct ws (tree.Recipe (bare_recipe header (trimmed lines)))) (tree.Newline ∷ items) u in
-          start_block (entries_or_none (entries_of sight ws)) header (trimmed lines) (after_newline (rest_of items)) b.some attributes.entries b.header b.good
+          let b = block_good head (form_unbroken ws (tree.Recipe (bare_recipe header comment (trimmed lines))) (tree.Newline ∷ items) u) before read some false attributes.following parts.0 in
+          let others : broken current sight items ≡ [] = others_unbroken (tree.Construct ws (tree.Recipe (bare_recipe header comment (trimmed lines)))) (tree.Newline ∷ items) u in
+          start_block (entries_or_none (entries_of sight ws)) header comment (trimmed lines) (after_newline (rest_of items)) b.some attributes.entries b.header b.commented
+          b.good
           (optional_body_newline (trimmed lines) (meant sight items) (λ pale. ap (meant sight) (file_ended more (b.last pale))) (items_good more others false b.following parts.1))
 
       after_good : {items : WrittenShape} {ns : List (ConstructFeatures (Unit {0}))} {ts : List SignificantToken} → ItemRest keeps_lexemes (Under limit) items ns ts

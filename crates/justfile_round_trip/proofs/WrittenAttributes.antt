@@ -8,14 +8,16 @@ use Rattle.justfile_model.specs.Expressions.{Tokens, IsKind, Under}
 use Rattle.justfile_model.specs.Meaning.{entries_of}
 use Rattle.justfile_model.specs.Sight.{Sight}
 use Rattle.justfile_model.specs.SignificantTokens.{SignificantToken}
-use Rattle.justfile_model.specs.Tree.{lexeme, nothing}
+use Rattle.justfile_model.specs.Tree.{at_last, commented_attribute, commented_line, lexeme, nothing}
 use Rattle.justfile_round_trip.proofs.Canon.{Shown}
 use Rattle.justfile_round_trip.proofs.CanonAttributes.{Argument, Written, ShapeEntry}
+use Rattle.justfile_round_trip.proofs.Good.{GoodComment, GoodOptionalComment}
 use Rattle.justfile_round_trip.proofs.GoodAttributes.{GoodEntries}
-use Rattle.justfile_round_trip.proofs.MeantAttributes.{GoodSource, AllGoodSource, AllGoodAttributes, entries_good}
+use Rattle.justfile_round_trip.proofs.MeantAttributes.{GoodSource, GoodSourceAttribute, AllGoodSource, AllGoodAttributes, entries_good}
 use Rattle.justfile_round_trip.proofs.Sound.{Around, outside, Sound}
 use Rattle.justfile_round_trip.proofs.BodyFacts.{outline_after}
 use Rattle.justfile_round_trip.proofs.BodyGood.{shifts, IsOutside, outside_after, Walked, walk_outside}
+use Rattle.justfile_round_trip.proofs.WrittenParts.{lexed_comment}
 use Rattle.justfile_round_trip.proofs.WrittenValues.{past, on, within, value_at, good_expression}
 
 key_kind : (t : SignificantToken) (ts : Tokens) → IsKey (t ∷ ts) → IsKind kinds.Identifier t
@@ -70,16 +72,21 @@ module _ (limit : ℕ) where
       let y = arguments_at others s false (on (within s None) false t ts kinds.Comma kind (λ l. refl) refl x.following) in
       record { good = (x.good, y.good); following = y.following }
 
+  record AttributeAt (s : Around) (w : Written) (rest : Tokens) : Type 0 where
+    good : GoodSourceAttribute limit w
+    following : Sound s false rest
+
   attribute_at : {w : Written} {fs : Shown} {ts rest : Tokens} → AttributeOf lexeme nothing (Under limit) w fs ts rest → (s : Around) (c : Bool) → Sound s c ts
-      → ArgumentsAt s w.arguments rest
+      → AttributeAt s w rest
   attribute_at (g.plain {name = t} {rest = rest} kind no_colon no_paren) s c h =
-      record { good = tt; following = on s c t rest kinds.Identifier kind (λ l. refl) refl h }
+      record { good = record { arguments = tt; comment = tt }; following = on s c t rest kinds.Identifier kind (λ l. refl) refl h }
   attribute_at (g.short {name = t} {colon = u} {first = first} {tokens = ts} kind kind2 x) s c h =
       let v = value_at (Under limit) x s false
       (on s false u (first ∷ ts) kinds.Colon kind2 (λ l. refl) refl (on s c t (u ∷ first ∷ ts) kinds.Identifier kind (λ l. refl) refl h)) in
-      record { good = (good_expression limit x v, tt); following = v.following }
+      record { good = record { arguments = (good_expression limit x v, tt); comment = tt }; following = v.following }
   attribute_at (g.long {name = t} {opener = u} {tokens = ts} kind kind2 arguments) s c h =
-      arguments_at arguments s false (past s u ts kinds.ParenL kind2 (on s c t (u ∷ ts) kinds.Identifier kind (λ l. refl) refl h).2)
+      let x = arguments_at arguments s false (past s u ts kinds.ParenL kind2 (on s c t (u ∷ ts) kinds.Identifier kind (λ l. refl) refl h).2) in
+      record { good = record { arguments = x.good; comment = tt }; following = x.following }
 
   -- inside brackets, and past the closing one
   bracketed_at : {ws : List Written} {fs : Shown} {ts rest : Tokens} → Bracketed lexeme nothing (Under limit) ws fs ts rest → (s : Around) (c : Bool)
@@ -92,10 +99,25 @@ module _ (limit : ℕ) where
       let y = bracketed_at others s false (on (within s None) false t ts kinds.Comma kind (λ l. refl) refl x.following) in
       record { good = (x.good, y.good); following = y.following }
 
+  record EndAt (s : Around) (comment : Option (List ℕ)) (rest : Tokens) : Type 0 where
+    good : GoodOptionalComment comment
+    following : Sound s false rest
+
   end_at : {comment : Option (List ℕ)} {ts rest : Tokens} → AttributesEnd lexeme nothing (Under limit) comment ts rest → (s : Around) (c : Bool) → Sound s c ts
-      → Sound s false rest
-  end_at (g.bare {newline = t} {rest = rest} kind) s c h = past s t rest kinds.Eol kind h.2
-  end_at (g.commented {comment = t} {newline = u} {rest = rest} kind kind2) s c h = past s u rest kinds.Eol kind2 (past s t (u ∷ rest) kinds.Comment kind h.2).2
+      → EndAt s comment rest
+  end_at (g.bare {newline = t} {rest = rest} kind) s c h = record { good = tt; following = past s t rest kinds.Eol kind h.2 }
+  end_at (g.commented {comment = t} {newline = u} {rest = rest} kind kind2) s c h =
+      record { good = lexed_comment t kind h.0; following = past s u rest kinds.Eol kind2 (past s t (u ∷ rest) kinds.Comment kind h.2).2 }
+
+  last_good : (c : List ℕ) (ws : List Written) → GoodComment c → AllGoodAttributes limit ws → AllGoodAttributes limit (at_last (commented_attribute c) ws)
+  last_good c [] good h = tt
+  last_good c (w ∷ []) good h = (record { arguments = h.0.arguments; comment = good }, tt)
+  last_good c (w ∷ v ∷ ws) good h = (h.0, last_good c (v ∷ ws) good h.1)
+
+  good_commented : (comment : Option (List ℕ)) (ws : List Written) → GoodOptionalComment comment → AllGoodAttributes limit ws
+      → AllGoodAttributes limit (commented_line comment ws)
+  good_commented None ws good h = h
+  good_commented (Some c) ws good h = last_good c ws good h
 
   good_joined : (ws others : List Written) → AllGoodAttributes limit ws → AllGoodAttributes limit others → AllGoodAttributes limit (ws ++ others)
   good_joined [] others h k = k
@@ -104,10 +126,11 @@ module _ (limit : ℕ) where
   lines_at : {ws : List Written} {fs : Shown} {ts rest : Tokens} → AttributeLines lexeme nothing (Under limit) ws fs ts rest → (c : Bool) → Sound outside c ts
       → AttributesAt outside ws rest
   lines_at {ts = ts} (g.none next) c h = record { good = tt; following = uncommented outside c ts h }
-  lines_at (g.line {ws = ws} {others = others} {opener = t} {tokens = ts} kind inside end after) c h =
+  lines_at (g.line {ws = ws} {others = others} {comment = comment} {opener = t} {tokens = ts} kind inside end after) c h =
       let x = bracketed_at inside outside false (past outside t ts kinds.BracketL kind h.2) in
-      let y = lines_at after false (end_at end outside false x.following) in
-      record { good = good_joined ws others x.good y.good; following = y.following }
+      let e = end_at end outside false x.following in
+      let y = lines_at after false e.following in
+      record { good = good_joined (commented_line comment ws) others (good_commented comment ws e.good x.good) y.good; following = y.following }
 
   -- ---- no body begins or ends
 

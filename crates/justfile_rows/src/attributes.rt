@@ -1,9 +1,9 @@
 //! Attributes of items, and kinds of attributes, signals and switches.
 
+use crate::items::put_marked;
 use justfile_syntax::attribute::{Attribute, AttributeKind};
 use justfile_syntax::attribute_set::AttributeSet;
 use justfile_syntax::item::Item;
-use justfile_syntax::name::Name;
 use justfile_syntax::signal::Signal;
 use justfile_syntax::switch::Switch;
 use row_notation::{Answer, Text, field_at};
@@ -59,7 +59,7 @@ pub(crate) fn put_attributes(attributes: &AttributeSet<'_>, shown: &mut Text) {
     }
 }
 
-/// The attributes of the first item that has some, each with the offset of its name.
+/// The attributes of the first item that has some, each with the offset of its name, and its comment.
 pub(crate) fn attributes(items: &[Item<'_>], answer: &mut Answer) {
     for item in items {
         if push_attributes_of(item, answer) {
@@ -83,21 +83,28 @@ fn push_attributes_of(item: &Item<'_>, answer: &mut Answer) -> bool {
     }
 }
 
-/// Attributes, each with the offset of its name, and whether there are some.
+/// Attributes, each with the offset of its name and its comment, and whether there are some.
 fn push_attributes(attributes: &AttributeSet<'_>, answer: &mut Answer) -> bool {
     for attribute in attributes.iter() {
-        push_attribute(attribute, attributes.name(attribute), answer);
+        push_attribute(attributes, attribute, answer);
     }
     attributes.len() > 0
 }
 
-/// An attribute with the offset of its name.
-fn push_attribute(attribute: &Attribute<'_>, name: Option<Name<'_>>, answer: &mut Answer) {
+/// An attribute of a set, with the offset of its name, and in ‹› its comment if it has one.
+pub(crate) fn push_attribute<'src>(
+    set: &AttributeSet<'src>,
+    attribute: &Attribute<'src>,
+    answer: &mut Answer,
+) {
     let mut shown = Text::new(answer.alloc());
     shown.put_made(attribute.to_string(answer.alloc()));
-    if let Some(name) = name {
+    if let Some(name) = set.name(attribute) {
         shown.put("@");
         shown.put_number(name.token.offset);
+    }
+    if let Some(comment) = set.comment(attribute) {
+        put_marked(&mut shown, "", comment);
     }
     answer.push_text(shown);
 }

@@ -1,12 +1,12 @@
 //! What is seen of the first recipe of a file and of the lines of its body.
 
 use crate::headers::{push_arguments, push_defaults, push_dependencies, push_parameters};
-use crate::items::{FILE_DEPTH, IMPORT_OFFSETS};
+use crate::items::{FILE_DEPTH, IMPORT_OFFSETS, put_marked};
 use crate::word::Word;
 use justfile_syntax::item::Item;
 use justfile_syntax::line::Line;
 use justfile_syntax::recipe::UnresolvedRecipe;
-use row_notation::{Answer, field_at, number_at};
+use row_notation::{Answer, Text, field_at, number_at};
 
 /// What a row's word asks of the first recipe of a file's items.
 pub(crate) fn push_of_recipe(
@@ -35,7 +35,8 @@ fn push_part(recipe: &UnresolvedRecipe<'_>, answer: &mut Answer, word: Word, fie
     }
 }
 
-/// Which marks a recipe has, and what of it is not as it was handed in.
+/// Which marks a recipe has, what of it is not as it was handed in, and in ‹› the comment before its
+/// body if it has one.
 fn push_recipe(recipe: &UnresolvedRecipe<'_>, answer: &mut Answer) {
     answer.push_if("private", recipe.private);
     answer.push_if("quiet", recipe.quiet);
@@ -45,6 +46,16 @@ fn push_recipe(recipe: &UnresolvedRecipe<'_>, answer: &mut Answer) {
         "imports",
         recipe.import_offsets.as_slice() != IMPORT_OFFSETS,
     );
+    if let Some(comment) = recipe.comment {
+        push_comment(answer, comment);
+    }
+}
+
+/// A comment in ‹›.
+fn push_comment(answer: &mut Answer, comment: &str) {
+    let mut shown = Text::new(answer.alloc());
+    put_marked(&mut shown, "", comment);
+    answer.push_text(shown);
 }
 
 /// What a row's word asks of a body: of the line that the row counts from 0, or the sigils of the

@@ -1,41 +1,56 @@
-//! Sets of attributes that are made of pairs.
+//! Sets of attributes that are made of entries and of pairs.
 
+use crate::attributes::push_attribute;
 use justfile_syntax::attribute::Attribute;
-use justfile_syntax::attribute_set::AttributeSet;
+use justfile_syntax::attribute_set::{AttributeSet, IntoNamed};
 use justfile_syntax::item::Item;
 use justfile_syntax::name::Name;
-use row_notation::{Answer, Text};
+use row_notation::Answer;
 use std::alloc::{AllocError, Global};
-use std::vec;
 
 /// The set that is made of the attributes of a file's first recipe.
 pub(crate) fn sets(items: &[Item<'_>], answer: &mut Answer) {
     for item in items {
         if let Item::Recipe(recipe) = item {
-            return push_joined(&recipe.attributes, answer, recipe.name);
+            return push_joined(&recipe.attributes, answer, recipe.name, recipe.comment);
         }
     }
     answer.push("none")
 }
 
-/// What is said of the set that is made of a set's attributes and their copies with this name.
-fn push_joined<'src>(set: &AttributeSet<'src>, answer: &mut Answer, name: Name<'src>) {
-    match joined(set, answer.alloc(), name) {
+/// What is said of the set that is made of a set's attributes and their copies with this name and
+/// this comment.
+fn push_joined<'src>(
+    set: &AttributeSet<'src>,
+    answer: &mut Answer,
+    name: Name<'src>,
+    comment: Option<&'src str>,
+) {
+    match joined(set, answer.alloc(), name, comment) {
         Ok(mut made) => push_set(set, &mut made, answer),
         Err(_) => answer.fail(),
     }
 }
 
-/// The set of a set's attributes from the last to the first, and then of copies of them that have this
-/// name.
+/// The set of a set's attributes from the last to the first, with a comment that no copy has, and
+/// then of copies of them that have this name and this comment.
 fn joined<'src>(
     set: &AttributeSet<'src>,
     alloc: Global,
     name: Name<'src>,
+    comment: Option<&'src str>,
 ) -> Result<AttributeSet<'src>, AllocError> {
+    let mut entries = Vec::new(alloc);
+    put_entries(&mut entries, copies(set, alloc)?, None, Some("# earlier"))?;
+    entries.reverse();
+    put_entries(&mut entries, copies(set, alloc)?, Some(name), comment)?;
+    AttributeSet::from_entries(alloc, entries)
+}
+
+/// The set of a set's attributes with their names alone.
+fn named<'src>(set: &AttributeSet<'src>, alloc: Global) -> Result<AttributeSet<'src>, AllocError> {
     let mut pairs = Vec::new(alloc);
-    put_turned(&mut pairs, copies(set, alloc)?)?;
-    put_named(&mut pairs, copies(set, alloc)?, name)?;
+    put_pairs(&mut pairs, copies(set, alloc)?)?;
     AttributeSet::from_pairs(alloc, pairs)
 }
 
@@ -43,31 +58,37 @@ fn joined<'src>(
 fn copies<'src>(
     set: &AttributeSet<'src>,
     alloc: Global,
-) -> Result<vec::IntoIter<(Attribute<'src>, Name<'src>)>, AllocError> {
+) -> Result<IntoNamed<'src, Attribute<'src>>, AllocError> {
     match set.clone(alloc) {
         Ok(copy) => Ok(copy.into_items()),
         Err(error) => Err(error),
     }
 }
 
-/// Puts values after others, the last first.
-fn put_turned<T: Drop>(values: &mut Vec<T>, more: vec::IntoIter<T>) -> Result<(), AllocError> {
-    for value in more.rev() {
-        if values.push(value).is_err() {
+/// Puts pairs after others.
+fn put_pairs<'src, K: Drop>(
+    pairs: &mut Vec<(K, Name<'src>)>,
+    more: IntoNamed<'src, K>,
+) -> Result<(), AllocError> {
+    for pair in more {
+        if pairs.push(pair).is_err() {
             return Err(AllocError);
         }
     }
     Ok(())
 }
 
-/// Puts the first of each pair after other pairs, with this name.
-fn put_named<K: Drop, V: Copy + Drop>(
-    pairs: &mut Vec<(K, V)>,
-    more: vec::IntoIter<(K, V)>,
-    name: V,
+/// Puts the first of each pair after other entries, with this name or else its own, and with this
+/// comment.
+fn put_entries<'src, K: Drop>(
+    entries: &mut Vec<(K, Name<'src>, Option<&'src str>)>,
+    more: IntoNamed<'src, K>,
+    name: Option<Name<'src>>,
+    comment: Option<&'src str>,
 ) -> Result<(), AllocError> {
-    for (key, _) in more {
-        if pairs.push((key, name)).is_err() {
+    for (key, own) in more {
+        let name = name.unwrap_or(own);
+        if entries.push((key, name, comment)).is_err() {
             return Err(AllocError);
         }
     }
@@ -80,6 +101,24 @@ fn push_set<'src>(set: &AttributeSet<'src>, made: &mut AttributeSet<'src>, answe
     let is_equal = *set == *made && set.len() == made.len();
     push_members(made, answer);
     answer.push_if("unequal", !is_equal);
+    push_named(made, answer);
+}
+
+/// Where the set of a set's attributes with their names alone is not equal to it, `unnamed`, and
+/// where it has a comment, `commented`.
+fn push_named<'src>(set: &AttributeSet<'src>, answer: &mut Answer) {
+    match named(set, answer.alloc()) {
+        Ok(mut made) => {
+            answer.push_if("unnamed", *set != made);
+            answer.push_if("commented", has_comment(&mut made));
+        }
+        Err(_) => answer.fail(),
+    }
+}
+
+/// Whether an attribute of a set has a comment.
+fn has_comment(set: &mut AttributeSet<'_>) -> bool {
+    set.written().iter().any(|pair| pair.1.comment.is_some())
 }
 
 /// The attributes of a set, its groups, and whether one is `private`.
@@ -91,16 +130,10 @@ fn push_members(set: &AttributeSet<'_>, answer: &mut Answer) {
     answer.push_if("private", set.private());
 }
 
-/// An attribute of a set with the offset of its name. `missing` stands after it if the set says that
-/// it has none of this kind.
+/// An attribute of a set with the offset of its name and its comment. `missing` stands after it if
+/// the set says that it has none of this kind.
 fn push_member<'src>(set: &AttributeSet<'src>, attribute: &Attribute<'src>, answer: &mut Answer) {
-    let mut shown = Text::new(answer.alloc());
-    shown.put_made(attribute.to_string(answer.alloc()));
-    if let Some(name) = set.name(attribute) {
-        shown.put("@");
-        shown.put_number(name.token.offset);
-    }
-    answer.push_text(shown);
+    push_attribute(set, attribute, answer);
     answer.push_if("missing", !set.contains(attribute.kind()));
     push_first(set, attribute, answer);
 }

@@ -20,7 +20,7 @@ pub mod attribute {
 }
 
 pub mod attribute_set {
-    pub use justfile_attribute_set::{AttributeSet, IntoKeys, Keys};
+    pub use justfile_attribute_set::{AttributeSet, IntoKeys, IntoNamed, Keys, Written};
 }
 
 pub mod binding {
@@ -105,7 +105,7 @@ pub mod laws {
     };
     pub use justfile_model::attribute_laws::{attributes_made, content_order};
     pub use justfile_model::grammar_laws::{
-        counts, expanders, needs, normal_twice, numbers_rise, printing, reads, shapes,
+        counts, expanders, needs, normal_twice, numbers_rise, printing, reads, shapes, uncommented,
     };
     pub use justfile_model::laws::{
         answer_for_all, eof_is_last, in_order, lines_start_at_column_0, offsets_rise, one_answer,

@@ -11,10 +11,10 @@ use Rattle.justfile_attribute_set.proofs.Sorts.{pair_total}
 use Rattle.justfile_attribute_set.proofs.laws.sets_in_order.Goals as goal
 
 pub returns : goal.returns
-returns c = record {
+returns g c = record {
   order = λ p q. refl;
   total = on_total (λ (a : Attribute). attribute_key sees_leaves (leaf_attribute_of a)) (key_total content_total);
-  sorted = in_order_sorts pair_total;
-  one = sort_is pair_total;
-  twice = twice_is_once pair_total;
+  sorted = in_order_sorts (pair_total _);
+  one = sort_is (pair_total _);
+  twice = twice_is_once (pair_total _);
 }

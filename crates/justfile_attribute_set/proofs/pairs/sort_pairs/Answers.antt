@@ -5,7 +5,7 @@ use Rattle.justfile_attribute_set.proofs.pairs.sort_pairs.Goals as goal
 
 pub returns-clause-ordered : goal.returns-clause-ordered
 returns-clause-ordered c =
-    on_ok c.sort_by.result (λ sorted. sort_by_is pair_total c.args.pairs.now.items c.sort_by.new.self.items sorted c.sort_by.ensures.stable (λ a r f' k. search rules))
+    on_ok c.sort_by.result (λ sorted. sort_by_is (pair_total _) c.args.pairs.now.items c.sort_by.new.self.items sorted c.sort_by.ensures.stable (λ a r f' k. search rules))
     c.sort_by.ensures.sorted
 
 pub returns-clause-sorted : goal.returns-clause-sorted

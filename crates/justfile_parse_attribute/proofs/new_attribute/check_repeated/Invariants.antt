@@ -5,4 +5,4 @@ use Rattle.justfile_parse_attribute.proofs.new_attribute.check_repeated.Given as
 
 abbrev pub invariant-loop-earlier : goal.invariant-loop-earlier
 invariant-loop-earlier l =
-    checked_from l.before (entry_of_pair (l.attribute, l.name)) (drop l.earlier-index l.before) ≡ checked_from l.before (entry_of_pair (l.attribute, l.name)) l.before
+    checked_from l.before (entry_of_pair (l.attribute, l.written)) (drop l.earlier-index l.before) ≡ checked_from l.before (entry_of_pair (l.attribute, l.written)) l.before

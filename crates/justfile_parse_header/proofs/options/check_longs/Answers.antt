@@ -1,6 +1,6 @@
 use Rattle.std.proofs.Common.{ℕ, List, Bor, map, refl, subst, sym}
 use Rattle.std.proofs.lemmas.Result.{err_from_is_err_and}
-use Rattle.justfile_attribute_set.specs.AttributeSet.{pairs_of}
+use Rattle.justfile_attribute_set.specs.AttributeSet.{written_of}
 use Rattle.justfile_attribute_set.specs.Keys.{keys_left}
 use Rattle.justfile_parse_header.specs.Tree.{rules_of}
 use Rattle.justfile_parse_header.proofs.SameOptions.{LongsAhead, longs_begin, longs_go_on, longs_halt}
@@ -11,7 +11,7 @@ attributes-init c =
     let all = rules_of c.args.attributes.now in
     let left = keys_left c.iter-left.result in
     subst (λ (l : List (Bor (List ℕ))). LongsAhead c.args.recipe all (map (λ (t : Bor (List ℕ)). t.now) l) left) (sym c.new-before.ensures.items)
-    (longs_begin c.args.recipe all (pairs_of c.args.attributes.now) left refl c.iter-left.ensures)
+    (longs_begin c.args.recipe all (written_of c.args.attributes.now) left refl c.iter-left.ensures)
 
 pub attributes-preserved : goal.attributes-preserved
 attributes-preserved c =

@@ -1,10 +1,16 @@
-use Rattle.std.proofs.Common.{◌+◌, ◌≡◌, ◌∙◌, map, rules, subst, sym}
+use Rattle.std.proofs.Common.{◌+◌, ◌≡◌, ◌∙◌, ◌||◌, List, ap, map, refl, rules, subst, sym}
 use Rattle.std.proofs.lemmas.Result.{err_from_is_err_and}
-use Rattle.justfile_attribute_set.specs.AttributeSet.{attributes_of, leaf_entries_of, pairs_of}
+use Rattle.justfile_base.specs.declared.token.Token.{Token}
+use Rattle.justfile_attribute_set.specs.AttributeSet.{attributes_of, leaf_entries_of, written_of}
+use Rattle.justfile_attribute_set.specs.Attributes.{has_kind}
+use Rattle.justfile_line.specs.declared.line.Line.{Line}
+use Rattle.justfile_word.specs.declared.attribute_kind.AttributeKind.TheVariants as kinds
 use Rattle.justfile_word.specs.declared.numerator.Numerator.{Numerator}
 use Rattle.justfile_model.specs.Reading as reading
+use Rattle.justfile_parse_item.specs.ItemTable.{has_shebang}
 use Rattle.justfile_parse_item.specs.MethodResults.{IsMoved}
 use Rattle.justfile_parse_item.specs.Tree.{line_tree}
+use Rattle.justfile_parse_item.specs.Whole.{is_hidden}
 use Rattle.justfile_parse_attribute.specs.Attributes.{entry_of_pair}
 use Rattle.justfile_parse_attribute.proofs.StillWhole.{all_keyed}
 use Rattle.justfile_parse_expression.specs.View.{state_of}
@@ -18,7 +24,7 @@ use Rattle.justfile_parse_item.proofs.recipe.parse_recipe.Goals as goal
 
 pub parse_header-requires : goal.parse_header-requires
 parse_header-requires g c =
-    all_keyed (attributes_of c.in_ok-attributes.attributes) (set_whole c.args.attributes.items (pairs_of c.in_ok-attributes.attributes) c.in_ok-attributes.ensures.pairs c.requires)
+    all_keyed (attributes_of c.in_ok-attributes.attributes) (set_whole c.args.attributes.items (written_of c.in_ok-attributes.attributes) c.in_ok-attributes.ensures.pairs c.requires)
 
 pub returns-in_err-header-clause-reads : goal.returns-in_err-header-clause-reads
 returns-in_err-header-clause-reads g c =
@@ -45,7 +51,7 @@ returns-in_err-check_exclusions-clause-reads g c =
     rw (p.1, p.2)
     (exclusion_halts c.args.quiet (map entry_of_pair c.args.attributes.items) (counters_of c.args.numerator.now) (state_of A c.args.parser.now) (leaf_entries_of c.in_ok-attributes.attributes) c.in_ok-attributes.ensures.entries
     (header_tree c.in_ok-header.header) (counters_of c.parse_header.new.numerator) (state_of A c.parse_header.new.parser) c.in_ok-header.ensures.reads
-    (map line_tree c.in_ok-body.body.items) u c.in_ok-body.ensures.reads c.in_err-check_exclusions.field-0.0 u _ (c.in_err-check_exclusions.ensures u))
+    (c.in_ok-body.body.0, map line_tree c.in_ok-body.body.1.items) u c.in_ok-body.ensures.reads c.in_err-check_exclusions.field-0.0 u _ (c.in_err-check_exclusions.ensures u))
 
 pub returns-in_err-number-clause-reads : goal.returns-in_err-number-clause-reads
 returns-in_err-number-clause-reads g c =
@@ -55,7 +61,7 @@ returns-in_err-number-clause-reads g c =
     rw (p.1, p.2)
     (number_stops c.args.quiet (map entry_of_pair c.args.attributes.items) (counters_of c.args.numerator.now) (state_of A c.args.parser.now) (leaf_entries_of c.in_ok-attributes.attributes) c.in_ok-attributes.ensures.entries
     (header_tree c.in_ok-header.header) (counters_of c.parse_header.new.numerator) (state_of A c.parse_header.new.parser) c.in_ok-header.ensures.reads
-    (map line_tree c.in_ok-body.body.items) u c.in_ok-body.ensures.reads (c.in_ok-check_exclusions.ensures u)
+    (c.in_ok-body.body.0, map line_tree c.in_ok-body.body.1.items) u c.in_ok-body.ensures.reads (c.in_ok-check_exclusions.ensures u)
     c.in_err-number.field-0.0 u (reading.NoNumber (counters_of c.draw_recipe.new.numerator)) (c.in_err-number.ensures.reads u))
 
 pub returns-clause-reads : goal.returns-clause-reads
@@ -66,11 +72,26 @@ returns-clause-reads g c =
     let copied : c.in_ok-import_offsets.import_offsets.items ≡ q.import_offsets.now = search (rules, c.in_ok-import_offsets.ensures.items_if_clones_equal) in
     recipe_read c.args.quiet (map entry_of_pair c.args.attributes.items) (counters_of c.args.numerator.now) (state_of A c.args.parser.now) (leaf_entries_of c.in_ok-attributes.attributes) c.in_ok-attributes.ensures.entries
     (header_tree c.in_ok-header.header) (counters_of c.parse_header.new.numerator) (state_of A c.parse_header.new.parser) c.in_ok-header.ensures.reads
-    (map line_tree c.in_ok-body.body.items) u c.in_ok-body.ensures.reads (c.in_ok-check_exclusions.ensures u)
+    (c.in_ok-body.body.0, map line_tree c.in_ok-body.body.1.items) u c.in_ok-body.ensures.reads (c.in_ok-check_exclusions.ensures u)
     c.in_ok-number.number.0 (counters_of c.draw_recipe.new.numerator) (c.in_ok-number.ensures.reads u)
     (record { file_depth = q.file_depth; import_offsets = c.in_ok-import_offsets.import_offsets.items; name = c.from_identifier.result.token; number = c.in_ok-number.number })
+    _ _
     (recipe_named q.file_depth u.run.file_depth c.in_ok-import_offsets.import_offsets.items u.run.import_offsets c.from_identifier.result.token c.in_ok-header.header.name.token.now c.in_ok-number.number
     (sym (file_depth_is A q)) (copied ∙ sym (import_offsets_are A q)) c.from_identifier.ensures)
+    c.comment_text.ensures refl
+
+pub returns-clause-whole : goal.returns-clause-whole
+returns-clause-whole g c =
+    let set = c.in_ok-attributes.attributes in
+    record {
+      attributes = set_whole c.args.attributes.items (written_of set) c.in_ok-attributes.ensures.pairs c.requires;
+      parameters = c.in_ok-header.ensures.whole;
+      priors = c.in_ok-header.ensures.priors;
+      private = c.is_hidden-private.ensures ∙ ap (λ (name : Token). is_hidden name set) (sym c.from_identifier.ensures);
+      shebang =
+          c.is_script-shebang.ensures
+          ∙ ap (λ (lines : List Line). has_kind kinds.Script (attributes_of set) || has_shebang (map line_tree lines)) c.as_slice.ensures.value;
+    }
 
 pub returns-clause-moved : goal.returns-clause-moved
 returns-clause-moved g c =

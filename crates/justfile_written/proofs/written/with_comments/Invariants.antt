@@ -1,0 +1,6 @@
+use Rattle.std.proofs.Common.{◌≡◌, map}
+use Rattle.justfile_written.specs.Written.{commented}
+use Rattle.justfile_written.proofs.written.with_comments.Given as goal
+
+abbrev pub invariant-loop-attribute : goal.invariant-loop-attribute
+invariant-loop-attribute g l = l.written.items ≡ map commented l.yielded
