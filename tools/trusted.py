@@ -1,0 +1,194 @@
+#!/usr/bin/env python3
+"""Checks the tables of README under "What you have to trust", or writes their last column with --write.
+
+What a statement rests on is found by name: from the definitions that the clauses of public calls cite, on to all that these are made
+of. Each table has a group of calls, and lists the files with what the tables before it lack. A row's last column is the number of the
+lines of these definitions in its files, comments aside, rounded up to ten. Files without a path are those of `justfile_model`.
+"""
+import functools
+import re
+import sys
+from pathlib import Path
+
+TOP = Path(__file__).resolve().parent.parent
+CRATES = TOP / "crates"
+README = TOP / "README.md"
+WORD = re.compile(r"[^\s(){}\[\].,;:λ]+")
+
+
+class File:
+    """A file of definitions: what it imports, and the lines of each definition by its name."""
+
+    def __init__(self, path):
+        text = path.read_text()
+        self.path = path
+        self.crate = path.relative_to(CRATES).parts[0]
+        self.name = path.relative_to(CRATES).as_posix() if self.crate != "justfile_model" else path.name
+        self.imports, self.aliases = imports(text, r"(?:pub |unfoldable |abbrev )*use ")
+        self.units, self.owner = {}, {}
+        self.read_units(text)
+
+    def read_units(self, text):
+        """Notes the lines of each definition, with the headers of the modules around it, and whose each constructor and field is."""
+        levels, headers, current = [0], [], None
+        for line in text.split("\n"):
+            bare = line.strip()
+            if not bare or bare.startswith("--") or re.match(r"(pub |unfoldable |abbrev )*use |unfolding", bare):
+                continue
+            indent = len(line) - len(line.lstrip())
+            while indent < levels[-1]:
+                levels.pop()
+                headers.pop()
+            words = re.sub(r"^(?:(?:abbrev|unfoldable|pub|data|record)\s+)*", "", bare)
+            if indent == levels[-1]:
+                if re.match(r"module|mutual", words):
+                    levels.append(indent + 2)
+                    headers.append(line)
+                    continue
+                name = WORD.match(words)
+                if name and name.group(0) != current:
+                    current = name.group(0)
+                    self.units.setdefault(current, [it for it in headers if "module" in it])
+            if current is None:
+                continue
+            self.units[current].append(line)
+            field = re.match(r"\s+(?:pub )?([^\s(]+) :", line)
+            if field:
+                self.owner.setdefault(field.group(1), current)
+
+    def find(self, name):
+        """The definition of this name, or the one that has this constructor, here or where it is imported from."""
+        if name in self.units:
+            return self, name
+        if name in self.owner:
+            return self, self.owner[name]
+        return imported(self.imports, self.aliases, name)
+
+    def cites(self, unit):
+        """The definitions that one is made of."""
+        text = "\n".join(self.units[unit])
+        for word in set(WORD.findall(text)):
+            yield (self, word) if word in self.units else imported(self.imports, {}, word)
+        for alias, name in set(re.findall(r"([\w-]+)\.([^\s(){}\[\],;:.]+)", text)):
+            yield imported({}, self.aliases, f"{alias}.{name}")
+
+    def count(self, unit):
+        return sum(1 for line in self.units[unit] if not line.strip().startswith("module"))
+
+
+def imports(text, use):
+    """What the `use` lines of a text import by name, and the modules that they give a name."""
+    names, aliases = {}, {}
+    for head, tail in re.findall(rf"^\s*{use}([\w.+]+?)\.\{{([^}}]*)\}}", text, re.M):
+        for one in tail.split(","):
+            old, _, new = one.strip().partition(" as ")
+            names[new or old] = (head, old)
+    for head, alias in re.findall(rf"^\s*{use}([\w.+]+) as (\w+)", text, re.M):
+        aliases[alias] = head
+    return names, aliases
+
+
+def imported(names, aliases, word):
+    """The file and the definition that a word names by way of these imports, if it is one of this repository."""
+    alias, _, name = word.partition(".")
+    if name:
+        head, old = aliases.get(alias, ""), name
+    else:
+        head, old = names.get(word, ("", ""))
+    file = file_of(head)
+    return file.find(old) if file else None
+
+
+@functools.cache
+def file_of(head):
+    found = re.match(r"Rattle\.(\w+)\.specs\.([\w.]+)$", head)
+    if not found or found.group(2).split(".")[0] in ("declared", "contracts"):
+        return None
+    path = CRATES / found.group(1) / "specs" / (found.group(2).replace(".", "/") + ".antt")
+    return File(path) if path.exists() else None
+
+
+def cited(source, calls):
+    """The definitions that the clauses of these functions of a source file cite."""
+    text = (CRATES / source).read_text()
+    names, aliases = imports(text, "ghost use ")
+    for call in calls:
+        start = re.search(rf"\n\s*(?:pub )?fn {call}\b", text).end()
+        clauses = text[start : start + re.search(r"\n\s*\{\n", text[start:]).start()]
+        for word in set(WORD.findall(clauses)):
+            yield imported(names, {}, word)
+        for alias, name in set(re.findall(r"(\w+)\.(\w+)", clauses)):
+            yield imported({}, aliases, f"{alias}.{name}")
+
+
+def closure(roots):
+    seen, left = set(), [it for it in roots if it]
+    while left:
+        it = left.pop()
+        if it not in seen:
+            seen.add(it)
+            left.extend(other for other in it[0].cites(it[1]) if other and other not in seen)
+    return seen
+
+
+def lines_by_file(units):
+    lines = {}
+    for file, unit in units:
+        lines[file.name] = lines.get(file.name, 0) + file.count(unit)
+    return lines
+
+
+GROUPS = [
+    [("justfile_format/src/run.rt", ["run"])],
+    [
+        ("justfile_format/src/run.rt", ["format", "check"]),
+        ("justfile_format/src/formatting.rt", ["refusal"]),
+        ("justfile_format/src/failure.rt", ["report"]),
+    ],
+    [
+        ("justfile_lex/src/lexer.rt", ["lex"]),
+        ("justfile_parse/src/parse.rt", ["parse", "parse_source"]),
+        ("justfile_file/src/ast.rt", ["print", "print_to", "printable"]),
+    ],
+]
+
+
+def checked(rows, lines, title):
+    """The rows of a table with their last column written anew; says which files are too many or missing."""
+    listed, made = set(), []
+    for row in rows:
+        cells = row.split("|")
+        files = re.findall(r"`([^`]+\.antt)`", cells[2])
+        listed.update(files)
+        for file in files:
+            if file not in lines:
+                print(f"{title}: {file} is not cited")
+        cells[3] = f" {-(-sum(lines.get(it, 0) for it in files) // 10) * 10} "
+        made.append("|".join(cells))
+    for file in sorted(set(lines) - listed):
+        print(f"{title}: {file} is missing ({lines[file]} lines)")
+    return made
+
+
+def main():
+    text = README.read_text()
+    start = text.index("### What you have to trust")
+    end = text.index("\n### ", start)
+    section, seen = text[start:end], set()
+    tables = re.findall(r"(?:^\|[^\n]*\|\n)+", section, re.M)
+    for group, table in zip(GROUPS, tables, strict=True):
+        units = closure(it for source, calls in group for it in cited(source, calls)) - seen
+        seen |= units
+        rows = table.rstrip("\n").split("\n")
+        made = rows[:2] + checked(rows[2:], lines_by_file(units), rows[0].split("|")[1].strip())
+        section = section.replace(table, "\n".join(made) + "\n")
+    if "--write" in sys.argv:
+        README.write_text(text[:start] + section + text[end:])
+    elif section != text[start:end]:
+        print("the last column is not what the definitions have: --write writes it")
+        return 1
+    return 0
+
+
+if __name__ == "__main__":
+    sys.exit(main())
