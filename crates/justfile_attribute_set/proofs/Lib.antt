@@ -1,4 +1,5 @@
 mod CopiedAttributes
+mod CopiedKeys
 mod CopiedPairs
 pub mod CopiedTrees
 mod Firsts

@@ -50,6 +50,13 @@ IsOfText Memory = Unit {0}
 IsOfText Numbers = Unit {0}
 IsOfText _ = ⊥
 
+-- what keeps the canonical text of a file from being printed or written
+abbrev pub IsOfPrinting : Failure → Type 0
+IsOfPrinting NotPrintable = Unit {0}
+IsOfPrinting Writing = Unit {0}
+IsOfPrinting Memory = Unit {0}
+IsOfPrinting _ = ⊥
+
 -- what keeps a canonical text from being written
 abbrev pub IsOfTextOrWriting : Failure → Type 0
 IsOfTextOrWriting Writing = Unit {0}

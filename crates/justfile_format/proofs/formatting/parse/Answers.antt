@@ -1,4 +1,5 @@
 use Rattle.justfile_format.proofs.Indented.{file_of}
+use Rattle.justfile_format.proofs.Outcomes.{lacking}
 use Rattle.justfile_format.proofs.Refused.{refusal_of}
 use Rattle.justfile_format.proofs.formatting.parse.Goals as goal
 
