@@ -141,11 +141,6 @@ def lines_by_file(units):
 GROUPS = [
     [("justfile_format/src/run.rt", ["run"])],
     [
-        ("justfile_format/src/run.rt", ["format", "check"]),
-        ("justfile_format/src/formatting.rt", ["refusal"]),
-        ("justfile_format/src/failure.rt", ["report"]),
-    ],
-    [
         ("justfile_lex/src/lexer.rt", ["lex"]),
         ("justfile_parse/src/parse.rt", ["parse", "parse_source"]),
         ("justfile_file/src/ast.rt", ["print", "print_to", "printable"]),

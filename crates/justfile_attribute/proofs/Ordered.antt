@@ -1,5 +1,5 @@
--- What attributes compare by is what the definitions see of their fields.
-use Rattle.std.proofs.Common.{◌≡◌, ◌∙◌, ℕ, List, [], ◌∷◌, map, Option, Some, None, refl, sym, ap, codes, true, false}
+-- What attributes compare by is what the definitions see of their fields, if these are as the parser makes them.
+use Rattle.std.proofs.Common.{◌≡◌, ◌∙◌, ℕ, List, [], ◌∷◌, map, Option, Some, None, is_some, refl, sym, ap, codes, true, false}
 use denote.Enum.Bare.{tag_one}
 use denote.Enum.Declared.{tag_of}
 use Rattle.std.proofs.lemmas.Map.Lookups.{exact_unsigned}
@@ -13,22 +13,26 @@ use Rattle.justfile_word.specs.contracts.attribute_kind.AttributeKind as attribu
 use Rattle.justfile_model.specs.KeyLaws.{then_end}
 use Rattle.justfile_model.specs.Tok.{tok_of}
 use Rattle.justfile_tree.specs.Expression.{expr_of, literal_tok}
+use Rattle.justfile_base.specs.StringLiteral.{IsSameLiteral}
 use Rattle.justfile_base.specs.declared.name.Name.{Name}
 use Rattle.justfile_base.specs.declared.string_literal.StringLiteral.{StringLiteral}
 use Rattle.justfile_base.specs.declared.token.Token.{Token}
 use Rattle.justfile_model.specs.ContentKeys.{attribute_key, attribute_keys, kind_of_attribute, expr_key, bound_number_key, bound_word_key, option_name_key, own_name_key, quoted_key, word_key}
 use Rattle.justfile_model.specs.ContentKeys as keys
+use Rattle.justfile_model.specs.ContentLeaf as contents
 use Rattle.justfile_model.specs.ContentLeaf.{ContentLeaf, content_cmp}
-use Rattle.justfile_model.specs.Key.{Key, keys_cmp, node, end, next, row, keys_of, option_key, absent_key, present_key}
+use Rattle.justfile_model.specs.Key.{Key, keys_cmp, leaf, node, end, next, row, keys_of, option_key, present_key}
 use Rattle.justfile_model.specs.Tree.{Expr, Quoted}
-use Rattle.justfile_tree.specs.Content.{expression_content_cmp}
+use Rattle.justfile_tree.specs.Content.{expression_content_cmp, token_content}
 use Rattle.justfile_tree.specs.ContentLaws.{content_key_cmp}
 use Rattle.justfile_tree.specs.LeafSight.{sees_leaves}
 use Rattle.justfile_tree.specs.LeafTree.{Leaf, leaf_tree_of}
 use Rattle.justfile_tree.specs.SeenKeys.{key_seen, quoted_seen}
 use Rattle.justfile_tree.specs.declared.expression.Expression.{Expression}
 use Rattle.justfile_attribute.specs.Attribute.{attribute_by, attribute_of, leaf_attribute_of, literal_leaf, quoted_by, option_by, property_by, bound_by}
-use Rattle.justfile_attribute.specs.Order.{attribute_content_cmp, by_content, case_keys, case_kind, count_key, expression_key, literal_key, name_key, number_token, option_literal, token_key}
+use Rattle.justfile_attribute.specs.New.{IsWholeAttribute}
+use Rattle.justfile_attribute.specs.Order.{attribute_content_cmp, by_content, case_keys, case_kind, content_key, count_key, expression_key, literal_key, name_key, text_key}
+use Rattle.justfile_attribute_rules.specs.ArgumentRules.{IsNamedAs}
 use Rattle.justfile_attribute.specs.declared.attribute.Attribute.{Attribute}
 use Rattle.justfile_attribute.specs.declared.attribute.Attribute.TheVariants as attributes
 
@@ -52,11 +56,17 @@ seen_option : {X Y : Type 0} (f : Y → Key ContentLeaf) (g : X → Y) (o : Opti
 seen_option f g None = refl
 seen_option f g (Some x) = refl
 
-option_is : (name : StringLiteral) (key : Option Name) (literal : Option StringLiteral)
-    → option_name_key sees_leaves (quoted_of name) (option_by leaf_tree_of literal_leaf (λ (t : Token). t) key literal) ≡ option_key literal_key (option_literal name key literal)
-option_is name (Some key) literal = ap present_key (literal_is name)
-option_is name None (Some literal) = ap present_key (literal_is literal)
-option_is name None None = refl
+-- the same literal has the same key
+pub same_literal_key : (a b : StringLiteral) → IsSameLiteral a b → literal_key a ≡ literal_key b
+same_literal_key a b h =
+    λ i. leaf (contents.literal (record { cooked = h.cooked i; expand = h.expand i; kind = h.kind i; part = h.part i; token = token_content (h.token i) }))
+
+option_is : (name : StringLiteral) (key : Option Name) (literal : Option StringLiteral) → IsNamedAs name key literal
+    → option_name_key sees_leaves (quoted_of name) (option_by leaf_tree_of literal_leaf (λ (t : Token). t) key literal) ≡ option_key literal_key literal
+option_is name (Some key) (Some literal) h = ap present_key (literal_is name ∙ sym (same_literal_key literal name h))
+option_is name (Some key) None h = absurd h
+option_is name None (Some literal) h = ap present_key (literal_is literal)
+option_is name None None h = refl
 
 own_is : (word : List ℕ) (key : Option Name) (literal : Option StringLiteral)
     → own_name_key sees_leaves word (option_by leaf_tree_of literal_leaf (λ (t : Token). t) key literal) ≡ option_key name_key key
@@ -70,11 +80,12 @@ number_is name key None = refl
 number_is name (Some key) (Some number) = refl
 number_is name None (Some number) = refl
 
-word_is : (word : List ℕ) (name : StringLiteral) (key : Option Name) (number : Option ℕ)
-    → bound_word_key sees_leaves word (bound_by leaf_tree_of literal_leaf (λ (t : Token). t) name key number) ≡ option_key token_key (number_token name key number)
-word_is word name key None = refl
-word_is word name (Some key) (Some number) = refl
-word_is word name None (Some number) = refl
+word_is : (word : List ℕ) (name : StringLiteral) (key : Option Name) (number : Option ℕ) → is_some key ≡ is_some number
+    → bound_word_key sees_leaves word (bound_by leaf_tree_of literal_leaf (λ (t : Token). t) name key number) ≡ option_key name_key key
+word_is word name None None h = refl
+word_is word name (Some key) (Some number) h = refl
+word_is word name None (Some number) h = absurd cc
+word_is word name (Some key) None h = absurd cc
 
 -- ---- an attribute by its case
 
@@ -94,36 +105,37 @@ module _ {A B : Type 0} (expression : Expression → Expr A B) (leaf : StringLit
 pub kind_seen : (a : Attribute) → kind_of_attribute (attribute_of a) ≡ kind_of_attribute (leaf_attribute_of a)
 kind_seen a = kind_is expr_of literal_tok tok_of a ∙ sym (kind_is leaf_tree_of literal_leaf (λ (t : Token). t) a)
 
-fields_are : (a : Attribute) → attribute_keys sees_leaves (leaf_attribute_of a) ≡ case_keys a
-fields_are (attributes.Arg flag help property long long_key max max_key min min_key multiple name pattern short short_key value) = λ i.
-    next (seen_option (word_key sees_leaves (codes "flag")) (λ (t : Token). t) flag i) (next absent_key
+fields_are : (a : Attribute) → IsWholeAttribute a → attribute_keys sees_leaves (leaf_attribute_of a) ≡ case_keys a
+fields_are (attributes.Arg flag help property long long_key max max_key min min_key multiple name pattern short short_key value) h = λ i.
+    next (seen_option (word_key sees_leaves (codes "flag")) (λ (t : Token). t) flag i) (next (option_key text_key (sym h.no_help i))
     (next (seen_option (keys.property_key sees_leaves (codes "help")) (property_by leaf_tree_of literal_leaf (λ (t : Token). t)) property i)
-    (next (option_is name long_key long i) (next (own_is (codes "long") long_key long i)
-    (next (number_is name max_key max i) (next (word_is (codes "max") name max_key max i)
-    (next (number_is name min_key min i) (next (word_is (codes "min") name min_key min i)
+    (next (option_is name long_key long h.long_named i) (next (own_is (codes "long") long_key long i)
+    (next (number_is name max_key max i) (next (word_is (codes "max") name max_key max h.max_keyed i)
+    (next (number_is name min_key min i) (next (word_is (codes "min") name min_key min h.min_keyed i)
     (next (seen_option (word_key sees_leaves (codes "multiple")) (λ (t : Token). t) multiple i) (next (literal_is name i)
     (next (seen_option (keys.property_key sees_leaves (codes "pattern")) (property_by leaf_tree_of literal_leaf (λ (t : Token). t)) pattern i)
-    (next (option_is name short_key short i) (next (own_is (codes "short") short_key short i)
+    (next (option_is name short_key short h.short_named i) (next (own_is (codes "short") short_key short i)
     (next (seen_option (expr_key sees_leaves) (λ (e : Box Expression). leaf_tree_of e.value) value i) end))))))))))))))
-fields_are (attributes.Cache extra inputs outputs) = λ i.
+fields_are (attributes.Cache extra inputs outputs) h = λ i.
     next (seen_option (expr_key sees_leaves) (λ (e : Box Expression). leaf_tree_of e.value) extra i) (next (seen_option (expr_key sees_leaves) (λ (e : Box Expression). leaf_tree_of e.value) inputs i)
     (next (seen_option (expr_key sees_leaves) (λ (e : Box Expression). leaf_tree_of e.value) outputs i) end))
-fields_are (attributes.Confirm None) = refl
-fields_are (attributes.Confirm (Some e)) = refl
-fields_are (attributes.Doc None) = refl
-fields_are (attributes.Doc (Some e)) = refl
-fields_are (attributes.Extension l) = λ i. next (literal_is l i) end
-fields_are (attributes.Group l) = λ i. next (literal_is l i) end
-fields_are (attributes.Metadata ls) = λ i. next (row (literals_are ls.items i)) end
-fields_are (attributes.Timestamp None) = refl
-fields_are (attributes.Timestamp (Some e)) = refl
-fields_are (attributes.Script None) = refl
-fields_are (attributes.Script (Some interpreter)) = λ i.
+fields_are (attributes.Confirm None) h = refl
+fields_are (attributes.Confirm (Some e)) h = refl
+fields_are (attributes.Doc None) h = refl
+fields_are (attributes.Doc (Some e)) h = refl
+fields_are (attributes.Extension l) h = λ i. next (literal_is l i) end
+fields_are (attributes.Group l) h = λ i. next (literal_is l i) end
+fields_are (attributes.Metadata ls) h = λ i. next (row (literals_are ls.items i)) end
+fields_are (attributes.Timestamp None) h = refl
+fields_are (attributes.Timestamp (Some e)) h = refl
+fields_are (attributes.Script None) h = refl
+fields_are (attributes.Script (Some interpreter)) h = λ i.
     next (present_key (row (next (literal_is interpreter.command i) (next (row (literals_are interpreter.arguments.items i)) end)))) end
-fields_are _ = refl
+fields_are _ h = refl
 
-key_is : (a : Attribute) → attribute_key sees_leaves (leaf_attribute_of a) ≡ node (tag_of attribute_kinds.the_type (case_kind a)) (case_keys a)
-key_is a = λ i. node (tag_of attribute_kinds.the_type (kind_is leaf_tree_of literal_leaf (λ (t : Token). t) a i)) (fields_are a i)
+-- an attribute as the parser makes it has the key of what it means
+pub key_is : (a : Attribute) → IsWholeAttribute a → attribute_key sees_leaves (leaf_attribute_of a) ≡ content_key a
+key_is a h = λ i. node (tag_of attribute_kinds.the_type (kind_is leaf_tree_of literal_leaf (λ (t : Token). t) a i)) (fields_are a h i)
 
 -- ---- comparisons one after another
 
@@ -132,12 +144,12 @@ then_then Less b c = refl
 then_then Equal b c = refl
 then_then Greater b c = refl
 
-pub chained : (a b l lk m mk n nk u v p s sk w : Ordering)
-    → ordering_then (ordering_then (ordering_then (ordering_then (ordering_then (ordering_then (ordering_then (ordering_then (ordering_then a b)
+pub chained : (a t b l lk m mk n nk u v p s sk w : Ordering)
+    → ordering_then (ordering_then (ordering_then (ordering_then (ordering_then (ordering_then (ordering_then (ordering_then (ordering_then (ordering_then a t) b)
     (ordering_then l lk)) (ordering_then m mk)) (ordering_then n nk)) u) v) p) (ordering_then s sk)) w
-    ≡ ordering_then a (ordering_then b (ordering_then l (ordering_then lk (ordering_then m (ordering_then mk (ordering_then n (ordering_then nk
-    (ordering_then u (ordering_then v (ordering_then p (ordering_then s (ordering_then sk (ordering_then w Equal)))))))))))))
-chained a b l lk m mk n nk u v p s sk w = simp (then_then, then_end)
+    ≡ ordering_then a (ordering_then t (ordering_then b (ordering_then l (ordering_then lk (ordering_then m (ordering_then mk (ordering_then n (ordering_then nk
+    (ordering_then u (ordering_then v (ordering_then p (ordering_then s (ordering_then sk (ordering_then w Equal))))))))))))))
+chained a t b l lk m mk n nk u v p s sk w = simp (then_then, then_end)
 
 pub then_are : {a b p q : Ordering} (r : Ordering) → p ≡ a → q ≡ b → r ≡ ordering_then p q → r ≡ ordering_then a b
 then_are r e f g = g ∙ λ i. ordering_then (e i) (f i)
@@ -149,7 +161,7 @@ abbrev pub kind_place : Attribute → ℕ
 kind_place a = tag_of attribute_kinds.the_type (case_kind a)
 
 whole : (a b : Attribute) → attribute_content_cmp a b ≡ ordering_then (nat_cmp (kind_place a) (kind_place b)) (keys_cmp content_cmp (case_keys a) (case_keys b))
-whole a b = λ i. by_content (key_is a i) (key_is b i)
+whole a b = refl
 
 pub place_is : (a : Attribute) → tag_of attribute_kinds.the_type (kind_of_attribute (attribute_of a)) ≡ kind_place a
 place_is a = ap (tag_of attribute_kinds.the_type) (kind_is expr_of literal_tok tok_of a)

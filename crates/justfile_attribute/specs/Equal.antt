@@ -5,44 +5,23 @@ use Rattle.std.specs.Global.{Box}
 use Rattle.std.specs.Option.{option_eq}
 use Rattle.std.specs.Bool.{nat_eq}
 use Rattle.std.specs.String.{string_eq}
-use Rattle.justfile_base.specs.contracts.name.NamePartialEq.TheImpl as names
-use Rattle.justfile_base.specs.contracts.string_literal.StringLiteralPartialEq.TheImpl as literals
-use Rattle.justfile_base.specs.contracts.token.TokenPartialEq.TheImpl as tokens
 use Rattle.justfile_base.specs.declared.name.Name.{Name}
-use Rattle.justfile_base.specs.declared.string_literal.StringLiteral.{StringLiteral}
-use Rattle.justfile_base.specs.declared.token.Token.{Token}
 use Rattle.justfile_word.specs.contracts.signal.SignalPartialEq.TheImpl as signals
 use Rattle.justfile_word.specs.declared.signal.Signal.{Signal}
 use Rattle.justfile_model.specs.AttributeKinds.{same_attribute}
-use Rattle.justfile_tree.specs.contracts.order.ExpressionPartialEq.TheImpl as expressions
+use Rattle.justfile_tree.specs.Equal.{boxed_eq, literal_eq, name_eq, token_eq}
 use Rattle.justfile_tree.specs.declared.expression.Expression.{Expression}
+use Rattle.justfile_attribute.specs.InterpreterOrder.{interpreter_eq}
 use Rattle.justfile_attribute.specs.Order.{case_kind}
 use Rattle.justfile_attribute.specs.declared.attribute.Attribute.{Attribute}
 use Rattle.justfile_attribute.specs.declared.attribute.Attribute.TheVariants as attributes
-use Rattle.justfile_attribute.specs.declared.interpreter.Interpreter.{Interpreter}
-
-abbrev pub token_eq : Token → Token → Bool
-token_eq = tokens.eq-value.it
-
-abbrev pub name_eq : Name → Name → Bool
-name_eq = names.eq-value.it
-
-abbrev pub literal_eq : StringLiteral → StringLiteral → Bool
-literal_eq = literals.eq-value.it
 
 abbrev pub signal_eq : Signal → Signal → Bool
 signal_eq = signals.eq-value.it
 
--- an expression, wherever its box lies
-abbrev pub boxed_eq : Box Expression → Box Expression → Bool
-boxed_eq x y = expressions.eq-value.it x.value y.value
-
 -- a key and its value
 abbrev pub property_eq : Name × Box Expression → Name × Box Expression → Bool
 property_eq p q = name_eq p.0 q.0 && boxed_eq p.1 q.1
-
-abbrev pub interpreter_eq : Interpreter StringLiteral → Interpreter StringLiteral → Bool
-interpreter_eq i j = literal_eq i.command j.command && pointwise literal_eq i.arguments.items j.arguments.items
 
 -- they are of one case, and all their fields are equal, places included
 abbrev pub attribute_eq : Attribute → Attribute → Bool
@@ -61,7 +40,7 @@ attribute_eq (attributes.Env name value) (attributes.Env name' value') = boxed_e
 attribute_eq (attributes.Extension x) (attributes.Extension y) = literal_eq x y
 attribute_eq (attributes.Group x) (attributes.Group y) = literal_eq x y
 attribute_eq (attributes.Metadata x) (attributes.Metadata y) = pointwise literal_eq x.items y.items
-attribute_eq (attributes.Script x) (attributes.Script y) = option_eq interpreter_eq x y
+attribute_eq (attributes.Script x) (attributes.Script y) = option_eq (interpreter_eq literal_eq) x y
 attribute_eq (attributes.Timestamp x) (attributes.Timestamp y) = option_eq boxed_eq x y
 attribute_eq (attributes.WorkingDirectory x) (attributes.WorkingDirectory y) = boxed_eq x y
 attribute_eq a b = same_attribute (case_kind a) (case_kind b)

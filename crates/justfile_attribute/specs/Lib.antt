@@ -6,4 +6,5 @@ pub mod Order
 pub mod Print
 pub mod Equal
 pub mod Interpreter
+pub mod InterpreterOrder
 pub mod Interpreters

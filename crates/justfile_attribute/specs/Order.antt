@@ -1,22 +1,23 @@
--- How attributes compare by content: the keys of their fields, and of the parts of those.
-use Rattle.std.specs.Prelude.{ℕ, Option, Some, None}
-use Rattle.std.specs.Global.{Box}
+-- How attributes compare by content: the keys of their fields, in the order in which they are declared, and of the parts of those.
+use denote.Enum.Declared.{tag_of}
+use Rattle.std.specs.Prelude.{ℕ, Option, String, string_bytes}
+use Rattle.std.specs.Global.{Box, Global}
 use Rattle.std.specs.declared.cmp.Ordering.{Ordering}
+use Rattle.justfile_word.specs.contracts.attribute_kind.AttributeKind.{the_type}
 use Rattle.justfile_word.specs.declared.attribute_kind.AttributeKind.{AttributeKind}
 use Rattle.justfile_word.specs.declared.attribute_kind.AttributeKind.TheVariants as kinds
 use Rattle.justfile_base.specs.declared.name.Name.{Name}
 use Rattle.justfile_word.specs.declared.signal.Signal.{Signal}
 use Rattle.justfile_base.specs.declared.string_literal.StringLiteral.{StringLiteral}
 use Rattle.justfile_base.specs.declared.token.Token.{Token}
-use Rattle.justfile_model.specs.ContentKeys.{attribute_key, expr_key}
+use Rattle.justfile_model.specs.ContentKeys.{expr_key}
 use Rattle.justfile_model.specs.ContentLeaf as contents
 use Rattle.justfile_model.specs.ContentLeaf.{ContentLeaf, content_cmp}
-use Rattle.justfile_model.specs.Key.{Key, Keys, leaf, end, next, row, keys_of, option_key, absent_key, key_cmp}
+use Rattle.justfile_model.specs.Key.{Key, Keys, leaf, node, end, next, row, keys_of, option_key, key_cmp}
 use Rattle.justfile_tree.specs.Content.{literal_content, token_content}
 use Rattle.justfile_tree.specs.LeafSight.{sees_leaves}
 use Rattle.justfile_tree.specs.LeafTree.{leaf_tree_of}
 use Rattle.justfile_tree.specs.declared.expression.Expression.{Expression}
-use Rattle.justfile_attribute.specs.Attribute.{leaf_attribute_of}
 use Rattle.justfile_attribute.specs.declared.attribute.Attribute.{Attribute}
 use Rattle.justfile_attribute.specs.declared.attribute.Attribute.TheVariants as attributes
 use Rattle.justfile_attribute.specs.declared.interpreter.Interpreter.{Interpreter}
@@ -24,10 +25,6 @@ use Rattle.justfile_attribute.specs.declared.interpreter.Interpreter.{Interprete
 -- how two keys compare
 abbrev pub by_content : Key ContentLeaf → Key ContentLeaf → Ordering
 by_content = key_cmp content_cmp
-
--- how two attributes compare
-abbrev pub attribute_content_cmp : Attribute → Attribute → Ordering
-attribute_content_cmp a b = by_content (attribute_key sees_leaves (leaf_attribute_of a)) (attribute_key sees_leaves (leaf_attribute_of b))
 
 abbrev pub token_key : Token → Key ContentLeaf
 token_key t = leaf (contents.token (token_content t))
@@ -51,22 +48,14 @@ property_key p = row (next (name_key p.0) (next (boxed_key p.1) end))
 abbrev pub count_key : ℕ → Key ContentLeaf
 count_key n = leaf (contents.count n)
 
+abbrev pub text_key : String Global → Key ContentLeaf
+text_key s = leaf (contents.text (string_bytes s))
+
 abbrev pub signal_key : Signal → Key ContentLeaf
 signal_key s = leaf (contents.signal s)
 
 abbrev pub interpreter_key : Interpreter StringLiteral → Key ContentLeaf
 interpreter_key i = row (next (literal_key i.command) (next (row (keys_of literal_key i.arguments.items)) end))
-
--- the literal that an option is named by: the argument's own where a key stands alone
-abbrev pub option_literal : (name : StringLiteral) → (key : Option Name) → Option StringLiteral → Option StringLiteral
-option_literal name (Some key) literal = Some name
-option_literal name None literal = literal
-
--- the token that a number stands with
-abbrev pub number_token : (name : StringLiteral) → (key : Option Name) → Option ℕ → Option Token
-number_token name key None = None
-number_token name (Some key) (Some number) = Some key.token
-number_token name None (Some number) = Some name.token
 
 -- what an attribute is, by its case
 abbrev pub case_kind : Attribute → AttributeKind
@@ -104,12 +93,11 @@ case_kind (attributes.WorkingDirectory x) = kinds.WorkingDirectory
 -- the keys of its fields, by its case
 abbrev pub case_keys : Attribute → Keys ContentLeaf
 case_keys (attributes.Arg flag help property long long_key max max_key min min_key multiple name pattern short short_key value) =
-    next (option_key token_key flag) (next absent_key (next (option_key property_key property)
-    (next (option_key literal_key (option_literal name long_key long)) (next (option_key name_key long_key)
-    (next (option_key count_key max) (next (option_key token_key (number_token name max_key max))
-    (next (option_key count_key min) (next (option_key token_key (number_token name min_key min))
+    next (option_key token_key flag) (next (option_key text_key help) (next (option_key property_key property)
+    (next (option_key literal_key long) (next (option_key name_key long_key) (next (option_key count_key max) (next (option_key name_key max_key)
+    (next (option_key count_key min) (next (option_key name_key min_key)
     (next (option_key token_key multiple) (next (literal_key name) (next (option_key property_key pattern)
-    (next (option_key literal_key (option_literal name short_key short)) (next (option_key name_key short_key) (next (option_key boxed_key value) end))))))))))))))
+    (next (option_key literal_key short) (next (option_key name_key short_key) (next (option_key boxed_key value) end))))))))))))))
 case_keys (attributes.Cache extra inputs outputs) = next (option_key boxed_key extra) (next (option_key boxed_key inputs) (next (option_key boxed_key outputs) end))
 case_keys (attributes.Confirm prompt) = next (option_key boxed_key prompt) end
 case_keys (attributes.Continue signals) = next (row (keys_of signal_key signals.keys)) end
@@ -122,3 +110,11 @@ case_keys (attributes.Script interpreter) = next (option_key interpreter_key int
 case_keys (attributes.Timestamp format) = next (option_key boxed_key format) end
 case_keys (attributes.WorkingDirectory path) = next (boxed_key path) end
 case_keys _ = end
+
+-- the key of an attribute: its kind, and then its fields
+abbrev pub content_key : Attribute → Key ContentLeaf
+content_key a = node (tag_of the_type (case_kind a)) (case_keys a)
+
+-- how two attributes compare
+abbrev pub attribute_content_cmp : Attribute → Attribute → Ordering
+attribute_content_cmp a b = by_content (content_key a) (content_key b)

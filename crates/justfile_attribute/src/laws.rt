@@ -10,12 +10,17 @@ ghost use Rattle.justfile_model.specs.Rules.{Broken};
 ghost use Rattle.justfile_model.specs.Tree.{Attribute};
 ghost use Rattle.justfile_tree.specs.LeafSight.{sees_leaves};
 ghost use Rattle.justfile_tree.specs.LeafTree.{Leaf};
+ghost use Rattle.justfile_tree.specs.Orders.{IsOrder};
 ghost use Rattle.justfile_tree.specs.declared.expression.Expression.{Expression};
 ghost use Rattle.justfile_attribute.specs.Equal.{attribute_eq};
+ghost use Rattle.justfile_attribute.specs.InterpreterOrder.{interpreter_cmp, interpreter_eq};
 ghost use Rattle.justfile_attribute.specs.contracts.attribute.AttributePartialEq.TheImpl as equality;
 ghost use Rattle.justfile_attribute.specs.declared.attribute.Attribute as code;
+ghost use Rattle.justfile_attribute.specs.declared.interpreter.Interpreter.{Interpreter};
 ghost use Rattle.justfile_attribute_rules.specs.Keys.{KeyMap, key_arguments};
 ghost use Rattle.justfile_attribute_rules.specs.Made.{placed_leaves};
+
+use crate::interpreter::Interpreter;
 
 /// What `Attribute::new` makes of the arguments that it is passed is what they mean, and they break no rule; what it refuses breaks
 /// the rule that is named; and of arguments that break no rule an attribute is made.
@@ -35,4 +40,13 @@ pub fn new_attributes()
 /// Two attributes are equal exactly if they are of one case and all their fields are equal, places included.
 pub fn attributes_equal()
     ensures { (a b : code.Attribute) → equality.eq-value.it a b ≡ attribute_eq a b }
+{}
+
+/// Interpreters are compared by their commands, and then by their arguments, from the first on. The
+/// order is total, and it agrees with `==`, which asks for equal commands and equal arguments.
+pub fn interpreters_ordered<T: Ord>()
+    ensures equal { (i j : Interpreter T)
+        → ⟦<Interpreter<T> as PartialEq>⟧.eq i j ≡ interpreter_eq T.eq i j }
+    ensures order { IsOrder ⟦<Interpreter<T> as PartialEq>⟧.eq ⟦<Interpreter<T> as Ord>⟧.cmp
+        (interpreter_cmp T.cmp) }
 {}

@@ -13,13 +13,14 @@ ghost use Rattle.justfile_attribute.specs.Cached.{cache_of, cache_read};
 ghost use Rattle.justfile_attribute.specs.New.{IsCounted, IsWholeAttribute, continue_made, has_texts, is_plain, values_of, with_known};
 ghost use Rattle.justfile_attribute_rules.specs.ArgumentRules.{AreNamed, rules_of};
 ghost use Rattle.justfile_attribute_rules.specs.Keys.{AreKeyed, IsTaken, key_arguments};
+ghost use Rattle.justfile_attribute_rules.specs.KeywordArguments.{keys_of};
 ghost use Rattle.justfile_attribute_rules.specs.Made.{Makes, placed_leaves, quoted_leaf, quoted_leaves};
 
 use crate::attribute::Attribute;
 use crate::cache_values::CacheValues;
 use crate::interpreter::Interpreter;
 use justfile_attribute_rules::{
-    ArgumentRules, KeywordArguments, accepts_expressions, check_count, check_keys,
+    ArgumentRules, KeyMap, KeywordArguments, accepts_expressions, check_count, check_keys,
     read_argument_rules, signal_set, string_literals, take_value,
 };
 use justfile_base::{AttributeKind, CompileResult, Name, StringLiteral, Token};
@@ -40,16 +41,16 @@ impl<'src> Attribute<'src> {
         arguments: Vec<(Token<'src>, Box<Expression<'src>>)>,
         keyword_arguments: KeywordArguments<'src>,
     ) -> CompileResult<'src, Self>
-        requires keyed { AreKeyed keyword_arguments }
         ensures made { Makes leaf_attribute_of result
-            (new.new_attribute sees_leaves name.entry.token kind (placed_leaves arguments.entry.items) (key_arguments keyword_arguments.entry)) }
+            (new.new_attribute sees_leaves name.entry.token kind (placed_leaves arguments.entry.items) (key_arguments (keys_of keyword_arguments.entry))) }
         ensures whole { IfOk result IsWholeAttribute }
     {
+        let keys = keyword_arguments.into_map();
         check_count(name, kind, arguments.len())?;
         if accepts_expressions(kind) {
-            from_expressions(name, kind, arguments, keyword_arguments)
+            from_expressions(name, kind, arguments, keys)
         } else {
-            from_literals(alloc, name, kind, arguments, keyword_arguments)
+            from_literals(alloc, name, kind, arguments, keys)
         }
     }
 }
@@ -60,7 +61,7 @@ fn from_expressions<'src>(
     name: Name<'src>,
     kind: AttributeKind,
     arguments: Vec<(Token<'src>, Box<Expression<'src>>)>,
-    keys: KeywordArguments<'src>,
+    keys: KeyMap<'src>,
 ) -> CompileResult<'src, Attribute<'src>>
     requires keyed { AreKeyed keys }
     requires kind { takes_expressions kind ≡ true }
@@ -126,7 +127,7 @@ fn from_literals<'src>(
     name: Name<'src>,
     kind: AttributeKind,
     arguments: Vec<(Token<'src>, Box<Expression<'src>>)>,
-    mut keys: KeywordArguments<'src>,
+    mut keys: KeyMap<'src>,
 ) -> CompileResult<'src, Attribute<'src>>
     requires keyed { AreKeyed keys }
     requires kind { takes_expressions kind ≡ false }
@@ -146,7 +147,7 @@ fn of_literals<'src>(
     name: Name<'src>,
     kind: AttributeKind,
     literals: Vec<StringLiteral<'src>>,
-    keys: &mut KeywordArguments<'src>,
+    keys: &mut KeyMap<'src>,
 ) -> CompileResult<'src, Attribute<'src>>
     requires keyed { AreKeyed keys.old }
     requires kind { takes_expressions kind ≡ false }
@@ -170,7 +171,7 @@ fn of_texts<'src>(
     name: Name<'src>,
     kind: AttributeKind,
     literals: Vec<StringLiteral<'src>>,
-    keys: &KeywordArguments<'src>,
+    keys: &KeyMap<'src>,
 ) -> CompileResult<'src, Attribute<'src>>
     requires keyed { AreKeyed keys.now }
     requires kind { takes_expressions kind ≡ false }
@@ -235,7 +236,7 @@ fn proceed<'src>(
     alloc: Global,
     name: Name<'src>,
     literals: Vec<StringLiteral<'src>>,
-    keys: &KeywordArguments<'src>,
+    keys: &KeyMap<'src>,
 ) -> CompileResult<'src, Attribute<'src>>
     requires { AreKeyed keys.now }
     ensures made { Makes leaf_attribute_of result
@@ -268,7 +269,7 @@ fn script(mut literals: Vec<StringLiteral<'_>>) -> Attribute<'_>
 fn cache<'src>(
     alloc: Global,
     name: Name<'src>,
-    keys: &mut KeywordArguments<'src>,
+    keys: &mut KeyMap<'src>,
 ) -> CompileResult<'src, Attribute<'src>>
     requires { AreKeyed keys.old }
     ensures made { Makes leaf_attribute_of result
@@ -300,7 +301,7 @@ fn no_values<'src>(alloc: Global) -> Result<Box<CacheValues<'src>>, AllocError> 
 #[tactic(auto, using(justfile_attribute_rules::proofs::Refused::refused_first))]
 fn read_cache<'src>(
     name: Name<'src>,
-    keys: &mut KeywordArguments<'src>,
+    keys: &mut KeyMap<'src>,
     values: &mut CacheValues<'src>,
 ) -> CompileResult<'src>
     requires { AreKeyed keys.old }
@@ -314,7 +315,7 @@ fn read_cache<'src>(
 /// Takes one key of `cache` with its value.
 fn read_value<'src>(
     name: Name<'src>,
-    keys: &mut KeywordArguments<'src>,
+    keys: &mut KeyMap<'src>,
     word: &str,
     value: &mut Option<Box<Expression<'src>>>,
 ) -> CompileResult<'src>
@@ -350,7 +351,7 @@ fn arg<'src>(
     alloc: Global,
     name: Name<'src>,
     literals: Vec<StringLiteral<'src>>,
-    keys: &mut KeywordArguments<'src>,
+    keys: &mut KeyMap<'src>,
 ) -> CompileResult<'src, Attribute<'src>>
     requires keyed { AreKeyed keys.old }
     requires counted { length literals.items ≡ 1 }

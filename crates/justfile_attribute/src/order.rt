@@ -7,13 +7,13 @@ ghost use Rattle.justfile_word.specs.contracts.attribute_kind.AttributeKind.{the
 ghost use Rattle.justfile_word.specs.declared.attribute_kind.AttributeKind.TheVariants as kinds;
 ghost use Rattle.justfile_model.specs.ContentLeaf.{content_cmp};
 ghost use Rattle.justfile_model.specs.Key.{keys_cmp, end, next, keys_of, option_key, row};
-ghost use Rattle.justfile_attribute.specs.Order.{attribute_content_cmp, boxed_key, by_content, case_keys, case_kind, count_key, expression_key, interpreter_key, literal_key, name_key, number_token, option_literal, property_key, signal_key, token_key};
+ghost use Rattle.justfile_attribute.specs.Order.{attribute_content_cmp, boxed_key, by_content, case_keys, case_kind, count_key, expression_key, interpreter_key, literal_key, name_key, property_key, signal_key, text_key, token_key};
 
 use crate::attribute::Attribute;
 use crate::interpreter::Interpreter;
 use crate::parts_order::{
     compare_bounds, compare_expressions, compare_interpreters, compare_named, compare_optional,
-    compare_properties, compare_rows, compare_tokens,
+    compare_properties, compare_rows, compare_texts, compare_tokens,
 };
 use justfile_base::{Signal, StringLiteral};
 use justfile_tree::{Expression, literal_content_cmp};
@@ -81,6 +81,7 @@ fn compare_arg<'src>(attribute: &Attribute<'src>, other: &Attribute<'src>) -> Or
     match attribute {
         Attribute::Arg {
             flag,
+            help,
             help_property,
             long,
             long_key,
@@ -94,11 +95,11 @@ fn compare_arg<'src>(attribute: &Attribute<'src>, other: &Attribute<'src>) -> Or
             short,
             short_key,
             value,
-            ..
         } => match other {
             Attribute::Arg {
                 flag: other_flag,
-                help_property: other_help,
+                help: other_help,
+                help_property: other_property,
                 long: other_long,
                 long_key: other_long_key,
                 max: other_max,
@@ -111,23 +112,16 @@ fn compare_arg<'src>(attribute: &Attribute<'src>, other: &Attribute<'src>) -> Or
                 short: other_short,
                 short_key: other_short_key,
                 value: other_value,
-                ..
             } => compare_tokens(flag, other_flag)
-                .then(compare_properties(help_property, other_help))
-                .then(compare_named(name, long_key, long, other_name, other_long_key, other_long))
-                .then(compare_bounds(name, max_key, max, other_name, other_max_key, other_max))
-                .then(compare_bounds(name, min_key, min, other_name, other_min_key, other_min))
+                .then(compare_texts(help, other_help))
+                .then(compare_properties(help_property, other_property))
+                .then(compare_named(long, long_key, other_long, other_long_key))
+                .then(compare_bounds(max, max_key, other_max, other_max_key))
+                .then(compare_bounds(min, min_key, other_min, other_min_key))
                 .then(compare_tokens(multiple, other_multiple))
                 .then(literal_content_cmp(name, other_name))
                 .then(compare_properties(pattern_property, other_pattern))
-                .then(compare_named(
-                    name,
-                    short_key,
-                    short,
-                    other_name,
-                    other_short_key,
-                    other_short,
-                ))
+                .then(compare_named(short, short_key, other_short, other_short_key))
                 .then(compare_optional(value, other_value)),
             _ => Ordering::Equal,
         },

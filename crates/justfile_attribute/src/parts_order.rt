@@ -3,7 +3,7 @@ ghost use Rattle.std.specs.Prelude.{◌≡◌};
 ghost use Rattle.std.specs.Cmp.Lexicographic.{slice_cmp};
 ghost use Rattle.std.specs.Ordering.{on, ordering_then};
 ghost use Rattle.justfile_model.specs.Key.{option_key};
-ghost use Rattle.justfile_attribute.specs.Order.{boxed_key, by_content, count_key, expression_key, interpreter_key, literal_key, name_key, number_token, option_literal, property_key, token_key};
+ghost use Rattle.justfile_attribute.specs.Order.{boxed_key, by_content, count_key, expression_key, interpreter_key, literal_key, name_key, property_key, text_key, token_key};
 
 use crate::interpreter::Interpreter;
 use justfile_base::{Name, StringLiteral, Token};
@@ -58,12 +58,28 @@ fn compare_numbers(number: &Option<u64>, other: &Option<u64>) -> Ordering
     }
 }
 
+/// Compares two texts that may be absent. An absent one comes first.
+pub fn compare_texts(text: &Option<String>, other: &Option<String>) -> Ordering
+    ensures { result ≡ by_content (option_key text_key text.now) (option_key text_key other.now) }
+{
+    match text {
+        None => match other {
+            None => Ordering::Equal,
+            Some(_) => Ordering::Less,
+        },
+        Some(text) => match other {
+            None => Ordering::Greater,
+            Some(other) => text.as_str().cmp(other.as_str()),
+        },
+    }
+}
+
 /// Compares two literals that may be absent. An absent one comes first.
-fn compare_literals<'a, 'src>(
-    literal: Option<&'a StringLiteral<'src>>,
-    other: Option<&'a StringLiteral<'src>>,
+fn compare_literals<'src>(
+    literal: &Option<StringLiteral<'src>>,
+    other: &Option<StringLiteral<'src>>,
 ) -> Ordering
-    ensures { result ≡ by_content (option_key (λ l. literal_key l.now) literal.entry) (option_key (λ l. literal_key l.now) other.entry) }
+    ensures { result ≡ by_content (option_key literal_key literal.now) (option_key literal_key other.now) }
 {
     match literal {
         None => match other {
@@ -77,75 +93,30 @@ fn compare_literals<'a, 'src>(
     }
 }
 
-/// The literal that an option is named by: that of the argument where the key stands alone.
-fn option_literal<'a, 'src>(
-    name: &'a StringLiteral<'src>,
-    key: &Option<Name<'src>>,
-    literal: &'a Option<StringLiteral<'src>>,
-) -> Option<&'a StringLiteral<'src>>
-    ensures { option_key (λ l. literal_key l.now) result ≡ option_key literal_key (option_literal name.now key.now literal.now) }
-{
-    match key {
-        Some(_) => Some(name),
-        None => literal.as_ref(),
-    }
-}
-
-/// The token that a number stands with.
-fn number_token<'src>(
-    name: &StringLiteral<'src>,
-    key: &Option<Name<'src>>,
-    number: &Option<u64>,
-) -> Option<Token<'src>>
-    ensures { result ≡ number_token name.now key.now number.now }
-{
-    match number {
-        None => None,
-        Some(_) => match key {
-            Some(key) => Some(key.token),
-            None => Some(name.token),
-        },
-    }
-}
-
-/// Compares what two arguments are called as options: their literals, and then the keys that stand
-/// alone.
+/// Compares what two options are called: their literals, and then the keys that stand alone.
 pub fn compare_named<'src>(
-    name: &StringLiteral<'src>,
-    key: &Option<Name<'src>>,
     literal: &Option<StringLiteral<'src>>,
-    other_name: &StringLiteral<'src>,
-    other_key: &Option<Name<'src>>,
+    key: &Option<Name<'src>>,
     other_literal: &Option<StringLiteral<'src>>,
+    other_key: &Option<Name<'src>>,
 ) -> Ordering
-    ensures { result ≡ ordering_then (by_content (option_key literal_key (option_literal name.now key.now literal.now))
-        (option_key literal_key (option_literal other_name.now other_key.now other_literal.now)))
+    ensures { result ≡ ordering_then (by_content (option_key literal_key literal.now) (option_key literal_key other_literal.now))
         (by_content (option_key name_key key.now) (option_key name_key other_key.now)) }
 {
-    compare_literals(
-        option_literal(name, key, literal),
-        option_literal(other_name, other_key, other_literal),
-    )
-    .then(compare_names(key, other_key))
+    compare_literals(literal, other_literal).then(compare_names(key, other_key))
 }
 
-/// Compares two numbers, and then the tokens that they stand with.
+/// Compares two numbers, and then their keys.
 pub fn compare_bounds<'src>(
-    name: &StringLiteral<'src>,
-    key: &Option<Name<'src>>,
     number: &Option<u64>,
-    other_name: &StringLiteral<'src>,
-    other_key: &Option<Name<'src>>,
+    key: &Option<Name<'src>>,
     other_number: &Option<u64>,
+    other_key: &Option<Name<'src>>,
 ) -> Ordering
     ensures { result ≡ ordering_then (by_content (option_key count_key number.now) (option_key count_key other_number.now))
-        (by_content (option_key token_key (number_token name.now key.now number.now))
-        (option_key token_key (number_token other_name.now other_key.now other_number.now))) }
+        (by_content (option_key name_key key.now) (option_key name_key other_key.now)) }
 {
-    compare_numbers(number, other_number).then(compare_tokens(
-        &number_token(name, key, number),
-        &number_token(other_name, other_key, other_number),
-    ))
+    compare_numbers(number, other_number).then(compare_names(key, other_key))
 }
 
 /// Compares two expressions.

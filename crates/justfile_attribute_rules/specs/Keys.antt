@@ -1,9 +1,13 @@
 -- The keys of an attribute's arguments, as a map holds them.
 use Rattle.std.specs.Prelude.{◌≡◌, ℕ, List, [], ◌∷◌, map, Option, None, if◌then◌else◌}
-use Rattle.std.specs.BTreeMap.{BTreeMap, values}
+use Rattle.std.specs.BTreeMap.{BTreeMap, insert_entry, values}
+use Rattle.std.specs.Cmp.Lexicographic.{slice_cmp}
+use Rattle.std.specs.Coded.{Coded-set, coded_list, coded_ℕ}
 use Rattle.std.specs.Global.{Box}
 use Rattle.std.specs.List.{All}
 use Rattle.std.specs.Option.{option_map}
+use Rattle.std.specs.Ordering.{nat_cmp}
+use Rattle.std.specs.declared.cmp.Ordering.{Ordering}
 use denote.Ref.{Bor}
 use Rattle.justfile_base.specs.Token.{lexeme_of}
 use Rattle.justfile_base.specs.declared.name.Name.{Name}
@@ -31,6 +35,23 @@ key_arguments m = map key_argument (values m)
 -- each key stands by its text
 unfoldable pub AreKeyed : KeyMap → Type 0
 AreKeyed m = All (λ e. e.0.now ≡ lexeme_of e.1.0.token) m.entries
+
+pub prop_keyed : (m : KeyMap) → IsProp (AreKeyed m)
+unfolding AreKeyed
+prop_keyed m = hlevel (Coded-set (coded_list coded_ℕ))
+
+abbrev pub key_text : Given → List ℕ
+key_text g = lexeme_of g.0.token
+
+-- texts by their bytes
+abbrev pub text_order : Bor (List ℕ) → Bor (List ℕ) → Ordering
+text_order s t = slice_cmp nat_cmp s.now t.now
+
+-- a key was put into a map by its text, in the place of one that had the same text
+pub record IsPut (given : Given) (old new : KeyMap) : Type 0 where
+  pub text : Bor (List ℕ)
+  pub is : text.now ≡ key_text given
+  pub entries : new.entries ≡ insert_entry text_order old.entries text given
 
 -- the keys without the first one of this text
 abbrev pub without : (word : List ℕ) → List (KeyArgument Leaf Token) → List (KeyArgument Leaf Token)

@@ -1,5 +1,6 @@
 pub mod ArgumentRules
 pub mod Keys
+pub mod KeywordArguments
 pub mod Made
 pub mod RuleErrors
 pub mod Steps

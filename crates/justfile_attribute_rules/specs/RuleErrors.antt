@@ -6,9 +6,11 @@ use Rattle.justfile_base.specs.declared.compile_error_kind.CompileErrorKind.{Com
 use Rattle.justfile_base.specs.declared.compile_error_kind.CompileErrorKind.TheVariants as errors
 use Rattle.justfile_word.specs.declared.switch.Switch.TheVariants as switches
 use Rattle.justfile_base.specs.declared.token.Token.{Token}
+use Rattle.justfile_model.specs.ContentLeaf.{literal_value}
 use Rattle.justfile_model.specs.Rules as rules
 use Rattle.justfile_model.specs.Rules.{Broken, Rule}
 use Rattle.justfile_model.specs.Versions.{version_numbers}
+use Rattle.justfile_tree.specs.Content.{literal_content}
 
 -- the greatest number stands for no bound
 abbrev pub IsMost : Option ℕ → ℕ → Type 0
@@ -36,12 +38,13 @@ SaysRule at (rules.FlagAttributeTakesNoValue parameter) (errors.FlagAttributeTak
 SaysRule at (rules.FlagAndValueArgAttribute parameter) (errors.FlagAndValueArgAttribute parameter') = string_bytes parameter' ≡ parameter
 SaysRule at (rules.FlagAndPatternArgAttribute parameter) (errors.FlagAndPatternArgAttribute parameter') = string_bytes parameter' ≡ parameter
 SaysRule at (rules.ArgumentCountValue key value) (errors.ArgumentCountValue key' value') = (key'.token ≡ key) × (string_bytes value' ≡ value)
-SaysRule at (rules.ArgumentCountParse key value) (errors.ArgumentCountParse key' value') = (key'.token ≡ key) × (string_bytes value' ≡ value)
+SaysRule at (rules.ArgumentCountParse key value) (errors.ArgumentCountParse key' source value') =
+    (key'.token ≡ key) × (source.now ≡ codes "number too large to fit in target type") × (string_bytes value' ≡ value)
 SaysRule at (rules.ArgAttributeMinExceedsMax min max) (errors.ArgAttributeMinExceedsMax min' max') = (min' ≡ min) × (max' ≡ max)
 SaysRule at (rules.DuplicateAttribute name first) (errors.DuplicateAttribute attribute line) = (attribute.token ≡ name) × (line ≡ first.line)
 SaysRule at (rules.DuplicateArgAttribute arg first) (errors.DuplicateArgAttribute arg' line) = (string_bytes arg' ≡ arg) × (line ≡ first.line)
-SaysRule at (rules.DuplicateGroupAttribute expanded name first) (errors.DuplicateGroupAttribute line group) =
-    (group.expand ≡ expanded) × (group.token ≡ name) × (line ≡ first.line)
+SaysRule at (rules.DuplicateGroupAttribute value name first) (errors.DuplicateGroupAttribute line group) =
+    (literal_value (literal_content group) ≡ value) × (group.token ≡ name) × (line ≡ first.line)
 SaysRule at (rules.InvalidAttribute item kind) (errors.InvalidAttribute item' name attribute) = (item' ≡ item) × (name.now ≡ lexeme_of at) × (attribute ≡ kind)
 SaysRule at (rules.UndefinedArgAttribute argument) (errors.UndefinedArgAttribute argument') = string_bytes argument' ≡ argument
 SaysRule at (rules.DuplicateLongOption option recipe) (errors.DuplicateOption recipe' (switches.Long name)) = (recipe'.now ≡ lexeme_of recipe) × (string_bytes name ≡ option)

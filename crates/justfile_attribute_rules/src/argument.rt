@@ -9,7 +9,7 @@ ghost use Rattle.justfile_attribute_rules.specs.Made.{Makes, bound_at, quoted_le
 ghost use Rattle.justfile_attribute_rules.specs.Steps.{after_bounds, after_names, after_switches, after_values, bounds_read, help_read, named_only, names_read, rules_read, switches_read, values_read, at, long_of, short_of, with_long, with_short, with_numbers};
 
 use crate::argument_rules::ArgumentRules;
-use crate::keys::{KeywordArguments, take_required};
+use crate::keys::{KeyMap, take_required};
 use crate::numbers::{check_bounds, take_bound};
 use crate::options::{OptionName, name_option, take_option};
 use crate::switches::{take_flag, take_multiple, take_value};
@@ -25,7 +25,7 @@ pub fn read_argument_rules<'src>(
     alloc: Global,
     name: Name<'src>,
     argument: StringLiteral<'src>,
-    keys: &mut KeywordArguments<'src>,
+    keys: &mut KeyMap<'src>,
 ) -> CompileResult<'src, Box<ArgumentRules<'src>>>
     requires { AreKeyed keys.old }
     ensures made { Makes (λ rules. rules_of rules.value) result
@@ -73,7 +73,7 @@ fn named(argument: StringLiteral<'_>) -> ArgumentRules<'_>
 fn read_rules<'src>(
     alloc: Global,
     name: Name<'src>,
-    keys: &mut KeywordArguments<'src>,
+    keys: &mut KeyMap<'src>,
     rules: &mut ArgumentRules<'src>,
 ) -> CompileResult<'src>
     requires { AreKeyed keys.old }
@@ -91,7 +91,7 @@ fn read_rules<'src>(
 fn read_names<'src>(
     alloc: Global,
     name: Name<'src>,
-    keys: &mut KeywordArguments<'src>,
+    keys: &mut KeyMap<'src>,
     rules: &mut ArgumentRules<'src>,
 ) -> CompileResult<'src>
     requires { AreKeyed keys.old }
@@ -108,7 +108,7 @@ fn read_names<'src>(
 fn read_long<'src>(
     alloc: Global,
     name: Name<'src>,
-    keys: &mut KeywordArguments<'src>,
+    keys: &mut KeyMap<'src>,
     rules: &mut ArgumentRules<'src>,
 ) -> CompileResult<'src>
     requires { AreKeyed keys.old }
@@ -138,7 +138,7 @@ fn set_long<'src>(rules: &mut ArgumentRules<'src>, long: OptionName<'src>)
 fn read_short<'src>(
     alloc: Global,
     name: Name<'src>,
-    keys: &mut KeywordArguments<'src>,
+    keys: &mut KeyMap<'src>,
     rules: &mut ArgumentRules<'src>,
 ) -> CompileResult<'src>
     requires { AreKeyed keys.old }
@@ -167,7 +167,7 @@ fn set_short<'src>(rules: &mut ArgumentRules<'src>, short: OptionName<'src>)
 #[tactic(auto, using(crate::proofs::Refused::refused_first))]
 fn read_values<'src>(
     name: Name<'src>,
-    keys: &mut KeywordArguments<'src>,
+    keys: &mut KeyMap<'src>,
     rules: &mut ArgumentRules<'src>,
 ) -> CompileResult<'src>
     requires { AreKeyed keys.old }
@@ -184,7 +184,7 @@ fn read_values<'src>(
 #[tactic(auto, using(crate::proofs::Refused::refused_first))]
 fn read_switches<'src>(
     alloc: Global,
-    keys: &mut KeywordArguments<'src>,
+    keys: &mut KeyMap<'src>,
     rules: &mut ArgumentRules<'src>,
 ) -> CompileResult<'src>
     requires { AreKeyed keys.old }
@@ -202,7 +202,7 @@ fn read_switches<'src>(
 fn read_bounds<'src>(
     alloc: Global,
     name: Name<'src>,
-    keys: &mut KeywordArguments<'src>,
+    keys: &mut KeyMap<'src>,
     rules: &mut ArgumentRules<'src>,
 ) -> CompileResult<'src>
     requires { AreKeyed keys.old }
@@ -233,7 +233,7 @@ fn set_bounds<'src>(
 #[tactic(auto, using(crate::proofs::Refused::refused_first))]
 fn read_help<'src>(
     name: Name<'src>,
-    keys: &mut KeywordArguments<'src>,
+    keys: &mut KeyMap<'src>,
     rules: &mut ArgumentRules<'src>,
 ) -> CompileResult<'src>
     requires { AreKeyed keys.old }

@@ -1,4 +1,4 @@
-ghost use Rattle.std.specs.Prelude.{◌≡◌, codes};
+ghost use Rattle.std.specs.Prelude.{◌≡◌, OnErr, OnOk, codes};
 ghost use Rattle.std.specs.List.{list_any};
 ghost use Rattle.std.specs.Option.{option_map};
 ghost use Rattle.std.specs.Str.{bytes_eq};
@@ -8,16 +8,17 @@ ghost use Rattle.justfile_model.specs.NewAttribute as new;
 ghost use Rattle.justfile_tree.specs.LeafSight.{sees_leaves};
 ghost use Rattle.justfile_tree.specs.LeafTree.{leaf_tree_of};
 ghost use Rattle.justfile_attribute_rules.specs.ArgumentRules.{property_of};
-ghost use Rattle.justfile_attribute_rules.specs.Keys.{AreKeyed, IsTaken, key_argument, key_arguments};
+ghost use Rattle.justfile_attribute_rules.specs.Keys.{AreKeyed, IsPut, IsTaken, key_argument, key_arguments};
 ghost use Rattle.justfile_model.specs.Rules.{AttributeKeyMissingValue};
 ghost use Rattle.justfile_attribute_rules.specs.Made.{IsRefusedBy, Makes};
 
 use justfile_base::{AttributeKind, CompileErrorKind, CompileResult, Fault, Name};
 use justfile_tree::Expression;
+use std::alloc::AllocError;
 use std::collections::BTreeMap;
 
 /// The keys of an attribute by their texts, each with its name, and its value if it has one.
-pub type KeywordArguments<'src> = BTreeMap<&'src str, (Name<'src>, Option<Box<Expression<'src>>>)>;
+pub type KeyMap<'src> = BTreeMap<&'src str, (Name<'src>, Option<Box<Expression<'src>>>)>;
 
 /// The keys that `arg` knows.
 static ARGUMENT_KEYS: [&str; 9] = [
@@ -27,9 +28,27 @@ static ARGUMENT_KEYS: [&str; 9] = [
 /// The keys that `cache` knows.
 static CACHE_KEYS: [&str; 3] = ["extra", "inputs", "outputs"];
 
+/// Puts a key among others, by its text.
+#[tactic(auto, using(crate::proofs::PutKeys::same_keyed))]
+pub(crate) fn put_key<'src>(
+    keys: &mut KeyMap<'src>,
+    given: (Name<'src>, Option<Box<Expression<'src>>>),
+) -> Result<(), AllocError>
+    requires { AreKeyed keys.old }
+    ensures ok { OnOk result (IsPut given.entry keys.old keys.new) }
+    ensures err { OnErr result (keys.new.entries ≡ keys.old.entries) }
+    ensures keyed { AreKeyed keys.new }
+{
+    let text = given.0.lexeme();
+    match keys.insert(text, given) {
+        Ok(_before) => Ok(()),
+        Err(_failed) => Err(AllocError),
+    }
+}
+
 /// Takes the key of this text, if it is there.
 pub fn take<'src>(
-    keys: &mut KeywordArguments<'src>,
+    keys: &mut KeyMap<'src>,
     word: &str,
 ) -> Option<(Name<'src>, Option<Box<Expression<'src>>>)>
     requires { AreKeyed keys.old }
@@ -46,7 +65,7 @@ pub fn take<'src>(
 /// `Compile` at the key, if it has no value.
 pub fn take_required<'src>(
     name: Name<'src>,
-    keys: &mut KeywordArguments<'src>,
+    keys: &mut KeyMap<'src>,
     word: &str,
 ) -> CompileResult<'src, Option<(Name<'src>, Box<Expression<'src>>)>>
     requires { AreKeyed keys.old }
@@ -68,7 +87,7 @@ pub fn take_required<'src>(
 /// `Compile` at the key, if it has no value.
 pub fn take_value<'src>(
     name: Name<'src>,
-    keys: &mut KeywordArguments<'src>,
+    keys: &mut KeyMap<'src>,
     word: &str,
 ) -> CompileResult<'src, Option<Box<Expression<'src>>>>
     requires { AreKeyed keys.old }
@@ -115,7 +134,7 @@ fn is_among(text: &str, words: &[&str]) -> bool
 pub fn check_keys<'src>(
     name: Name<'src>,
     kind: AttributeKind,
-    keys: &KeywordArguments<'src>,
+    keys: &KeyMap<'src>,
 ) -> CompileResult<'src>
     requires { AreKeyed keys.now }
     ensures { Makes (λ _. tt) result (new.check_keys sees_leaves name.entry.token kind (key_arguments keys.now)) }

@@ -10,11 +10,14 @@ ghost use Rattle.justfile_tree.specs.LeafTree.{leaf_tree_of};
 ghost use Rattle.justfile_attribute_rules.specs.Keys.{AreKeyed, IsTaken, key_arguments};
 ghost use Rattle.justfile_attribute_rules.specs.Made.{Makes, bound_at, bound_made, count_made, quoted_leaf, within};
 
-use crate::keys::{KeywordArguments, missing_value, take};
+use crate::keys::{KeyMap, missing_value, take};
 use crate::literals::key_literal;
 use justfile_base::{CompileErrorKind, CompileResult, Fault, Name, StringLiteral};
 use justfile_tree::Expression;
 use std::alloc::Global;
+
+/// Why digits are no number of 64 bits.
+const TOO_LARGE: &str = "number too large to fit in target type";
 
 /// Takes the key of `max` or `min`, and reads its number.
 ///
@@ -25,7 +28,7 @@ use std::alloc::Global;
 pub(crate) fn take_bound<'src>(
     alloc: Global,
     name: Name<'src>,
-    keys: &mut KeywordArguments<'src>,
+    keys: &mut KeyMap<'src>,
     word: &str,
 ) -> CompileResult<'src, Option<(Name<'src>, u64)>>
     requires { AreKeyed keys.old }
@@ -77,9 +80,11 @@ fn read_count<'src>(
         None => {
             let value = text.to_string(alloc)?;
             Err(Fault::Compile(
-                literal
-                    .token
-                    .error(CompileErrorKind::ArgumentCountParse { key, value }),
+                literal.token.error(CompileErrorKind::ArgumentCountParse {
+                    key,
+                    source: TOO_LARGE,
+                    value,
+                }),
             ))
         }
     }

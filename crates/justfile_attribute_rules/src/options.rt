@@ -9,7 +9,7 @@ ghost use Rattle.justfile_attribute_rules.specs.ArgumentRules.{IsNamedAs, option
 ghost use Rattle.justfile_attribute_rules.specs.Keys.{AreKeyed, IsTaken, key_arguments};
 ghost use Rattle.justfile_attribute_rules.specs.Made.{Makes, option_word, quoted_leaf};
 
-use crate::keys::{KeywordArguments, take};
+use crate::keys::{KeyMap, take};
 use crate::literals::key_literal;
 use justfile_base::{CompileErrorKind, CompileResult, Fault, Name, StringLiteral};
 use justfile_tree::Expression;
@@ -28,7 +28,7 @@ pub(crate) fn take_option<'src>(
     name: Name<'src>,
     argument: &StringLiteral<'src>,
     is_short: bool,
-    keys: &mut KeywordArguments<'src>,
+    keys: &mut KeyMap<'src>,
 ) -> CompileResult<'src, OptionName<'src>>
     requires { AreKeyed keys.old }
     ensures taken { Makes (λ p. option_of p.1 p.0) result

@@ -11,7 +11,7 @@ ghost use Rattle.justfile_attribute_rules.specs.Made.{Makes};
 ghost use Rattle.justfile_attribute_rules.specs.Steps.{flag_made, multiple_made, value_made, wants_option};
 
 use crate::argument_rules::ArgumentRules;
-use crate::keys::{KeywordArguments, missing_value, take};
+use crate::keys::{KeyMap, missing_value, take};
 use crate::options::argument_text;
 use justfile_base::{CompileErrorKind, CompileResult, Fault, Name, Token};
 use justfile_tree::Expression;
@@ -44,7 +44,7 @@ fn check_wanted<'src>(key: Name<'src>, rules: &ArgumentRules<'src>) -> CompileRe
 ///
 /// `Compile` at the key.
 pub(crate) fn take_value<'src>(
-    keys: &mut KeywordArguments<'src>,
+    keys: &mut KeyMap<'src>,
     rules: &ArgumentRules<'src>,
 ) -> CompileResult<'src, Option<Box<Expression<'src>>>>
     requires { AreKeyed keys.old }
@@ -69,7 +69,7 @@ pub(crate) fn take_value<'src>(
 /// `Compile` at the key; `Memory` if memory runs out.
 pub(crate) fn take_flag<'src>(
     alloc: Global,
-    keys: &mut KeywordArguments<'src>,
+    keys: &mut KeyMap<'src>,
     rules: &ArgumentRules<'src>,
 ) -> CompileResult<'src, Option<Token<'src>>>
     requires { AreKeyed keys.old }
@@ -124,7 +124,7 @@ fn check_flag<'src>(
 ///
 /// `Compile` at the key.
 pub(crate) fn take_multiple<'src>(
-    keys: &mut KeywordArguments<'src>,
+    keys: &mut KeyMap<'src>,
     rules: &ArgumentRules<'src>,
 ) -> CompileResult<'src, Option<Token<'src>>>
     requires { AreKeyed keys.old }

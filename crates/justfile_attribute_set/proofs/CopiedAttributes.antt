@@ -49,7 +49,7 @@ same_maps R f each (copy ∷ copies) [] same = absurd same
 abbrev boxed_leaves : Box Expression → Expr Leaf Token
 boxed_leaves e = leaf_tree_of e.value
 
-same_boxed : (copy original : Box Expression) → IsSameBoxed copy original → boxed_leaves copy ≡ boxed_leaves original
+pub same_boxed : (copy original : Box Expression) → IsSameBoxed copy original → boxed_leaves copy ≡ boxed_leaves original
 same_boxed copy original same = same_tree copy.value original.value same
 
 same_expressions : (copy original : Option (Box Expression)) → IsSameIfPresent IsSameBoxed copy original → option_map boxed_leaves copy ≡ option_map boxed_leaves original

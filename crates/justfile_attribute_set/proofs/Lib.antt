@@ -1,4 +1,5 @@
 mod CopiedAttributes
+mod CopiedKeys
 mod CopiedPairs
 pub mod CopiedTrees
 mod Firsts
@@ -6,5 +7,4 @@ mod Groups
 mod Kept
 mod Named
 mod SeenKinds
-pub mod SetLaws
 mod Sorts

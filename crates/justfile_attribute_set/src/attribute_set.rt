@@ -1,7 +1,7 @@
 ghost use Rattle.std.specs.Prelude.{◌≡◌, [], length, find, map, not, None, IfErr, IfOk, OnOk};
 ghost use Rattle.std.specs.Cmp.{on_per};
 ghost use Rattle.std.specs.Cmp.Lexicographic.{lists_per, pointwise};
-ghost use Rattle.std.specs.List.{AllZip};
+ghost use Rattle.std.specs.List.{All, AllZip};
 ghost use Rattle.std.specs.Option.{option_and_then, option_copied, option_map};
 ghost use Rattle.justfile_base.specs.StringLiteral.{IsSameLiteral};
 ghost use Rattle.justfile_word.specs.declared.attribute_kind.AttributeKind.TheVariants as kinds;
@@ -10,6 +10,7 @@ ghost use Rattle.justfile_model.specs.AttributeRules.{first_invalid};
 ghost use Rattle.justfile_model.specs.ContentKeys.{entry_cmp};
 ghost use Rattle.justfile_model.specs.Distinct.{kept_last};
 ghost use Rattle.justfile_model.specs.Order.{in_order};
+ghost use Rattle.justfile_attribute.specs.New.{IsWholeAttribute};
 ghost use Rattle.justfile_attribute.specs.contracts.attribute.AttributePartialEq.TheImpl.Laws.{laws-law as attribute_per};
 ghost use Rattle.justfile_tree.specs.LeafSight.{sees_leaves};
 ghost use Rattle.justfile_attribute_set.specs.Pairs.{commented_cmp, leaf_entry_of, pair_cmp, same, same_attributes, same_commented};
@@ -99,7 +100,8 @@ impl<'src> PairSet<Attribute<'src>, Written<'src>> {
     }
 
     /// The attributes of pairs of which no two are equal, as those that are read, in the order of
-    /// their content: all are kept, and those that tie stay as they stood.
+    /// their content: all are kept, and those that tie stay as they stood. What the parser makes is
+    /// in the order of what it means.
     ///
     /// # Errors
     ///
@@ -107,7 +109,8 @@ impl<'src> PairSet<Attribute<'src>, Written<'src>> {
     #[tactic(auto, using(crate::proofs::Sorts::entries_sorted))]
     pub fn from_read(pairs: Vec<(Attribute<'src>, Written<'src>)>) -> Result<Self, AllocError>
         ensures pairs { IfOk result (λ set. written_of set ≡ in_order pair_cmp pairs.entry.items) }
-        ensures entries { IfOk result (λ set. leaf_entries_of set ≡ in_order (entry_cmp sees_leaves) (map leaf_entry_of pairs.entry.items)) }
+        ensures entries { IfOk result (λ set. All (λ p. IsWholeAttribute p.0) pairs.entry.items
+            → leaf_entries_of set ≡ in_order (entry_cmp sees_leaves) (map leaf_entry_of pairs.entry.items)) }
     {
         let mut pairs = pairs;
         sort_pairs(&mut pairs)?;

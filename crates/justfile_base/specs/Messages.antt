@@ -37,7 +37,8 @@ abbrev pub kind_message : ℕ → CompileErrorKind → List ℕ
 kind_message _ (kinds.ArgAttributeMinExceedsMax min max) = codes "argument attribute `min` `" & decimal min & codes "` exceeds `max` `" & decimal max & codes "`"
 kind_message _ (kinds.ArgAttributeRequiresMultipleOrVariadic key) = codes "argument attribute `" & name_text key & codes "` only valid with `multiple` or a variadic parameter"
 kind_message _ (kinds.ArgAttributeRequiresOption key) = codes "argument attribute `" & name_text key & codes "` only valid with `long` or `short`"
-kind_message _ (kinds.ArgumentCountParse key value) = codes "invalid `" & name_text key & codes "` value `" & string_bytes value & codes "`: number too large to fit in target type"
+kind_message _ (kinds.ArgumentCountParse key source value) =
+    codes "invalid `" & name_text key & codes "` value `" & string_bytes value & codes "`: " & source.now
 kind_message _ (kinds.ArgumentCountValue key value) = codes "invalid `" & name_text key & codes "` value `" & string_bytes value & codes "`"
 kind_message _ (kinds.AttributeArgumentCountMismatch attribute found min max) = codes "attribute `" & name_text attribute & codes "` got " & arguments_text found & codes " but takes " & taken_text found min max
 kind_message _ (kinds.AttributeArgumentExpression attribute) = codes "attribute `" & name_text attribute & codes "` arguments must be string literals"

@@ -28,9 +28,10 @@ pub enum CompileErrorKind<'src> {
     ArgAttributeRequiresOption {
         key: Name<'src>,
     },
-    /// The value of `min` or `max` is a number past 64 bits.
+    /// The value of `min` or `max` is no number of 64 bits, for the reason that is given.
     ArgumentCountParse {
         key: Name<'src>,
+        source: &'static str,
         value: String,
     },
     /// The value of `min` or `max` is no number, or begins with a `0` that it doesn't need.

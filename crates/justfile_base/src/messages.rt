@@ -13,8 +13,8 @@ use justfile_message::counts::{write_count_mismatch, write_extraneous, write_fun
 use justfile_message::parts::{
     write_around, write_both, write_duplicate, write_duplicate_set, write_expected_character,
     write_expected_end, write_incompatible, write_inconsistent, write_invalid_attribute,
-    write_invalid_version, write_minimum_version, write_mixed, write_redefinition,
-    write_unexpected_token,
+    write_invalid_count, write_invalid_version, write_minimum_version, write_mixed,
+    write_redefinition, write_unexpected_token,
 };
 use justfile_word::shown::{Escaped, Start};
 use std::fmt;
@@ -48,13 +48,8 @@ fn write_kind<W: fmt::Write>(
             "` only valid with `long` or `short`",
             f,
         ),
-        CompileErrorKind::ArgumentCountParse { key, value } => write_both(
-            "invalid `",
-            key,
-            "` value `",
-            value,
-            "`: number too large to fit in target type",
-            f,
+        CompileErrorKind::ArgumentCountParse { key, source, value } => write_invalid_count(
+            key, value, source, f,
         ),
         CompileErrorKind::ArgumentCountValue { key, value } => write_both(
             "invalid `",

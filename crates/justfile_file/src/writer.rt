@@ -40,7 +40,7 @@ impl<W: Write> Sink for WriterSink<'_, W> {
 
 /// Writes bytes by as many writes as they take. Nothing more is written after a write that failed
 /// or took nothing.
-fn write_whole<W: Write>(bytes: &[u8], writer: &mut W) -> Result<(), WriteFault>
+pub fn write_whole<W: Write>(bytes: &[u8], writer: &mut W) -> Result<(), WriteFault>
     ensures ok { OnOk result (Appends (W.contents writer.old) (W.contents writer.new) bytes.now) }
     ensures err { OnErr result (AppendsPart (W.contents writer.old) (W.contents writer.new) bytes.now) }
 {

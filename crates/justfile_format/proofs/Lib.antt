@@ -1,3 +1,5 @@
+pub mod Formatted
 pub mod Indented
+pub mod Outcomes
 pub mod Refused
 pub mod Written

@@ -50,6 +50,18 @@ IsOfText Memory = Unit {0}
 IsOfText Numbers = Unit {0}
 IsOfText _ = ⊥
 
+-- what keeps the canonical text of a file from being printed
+abbrev pub IsOfPrinting : Failure → Type 0
+IsOfPrinting NotPrintable = Unit {0}
+IsOfPrinting Memory = Unit {0}
+IsOfPrinting _ = ⊥
+
+-- what keeps it from being written
+abbrev pub IsOfWriting : Failure → Type 0
+IsOfWriting NotPrintable = Unit {0}
+IsOfWriting Writing = Unit {0}
+IsOfWriting _ = ⊥
+
 -- what keeps a canonical text from being written
 abbrev pub IsOfTextOrWriting : Failure → Type 0
 IsOfTextOrWriting Writing = Unit {0}

@@ -1,7 +1,8 @@
 ghost use Rattle.std.specs.Prelude.{◌≡◌};
 ghost use Rattle.justfile_format.specs.Failure.{failure_text, status_of};
+ghost use Rattle.justfile_format.specs.Outcome.{AppendsBeginning};
 
-use justfile_syntax::write_fault::WriteFault;
+use justfile_syntax::write_fault::{WriteFault, write_whole};
 use std::alloc::{AllocError, AllocFailed};
 use std::io::Write;
 
@@ -84,10 +85,13 @@ impl Failure {
     }
 }
 
-/// Writes the failure's lines, and answers its status. What can't be written is let go.
+/// Writes the failure's lines up to the first write that fails, and answers its status.
+#[tactic(auto, using(crate::proofs::Outcomes::told))]
 pub fn report<E: Write>(failure: &Failure, errors: &mut E) -> u8
-    ensures { result ≡ status_of failure.now }
+    ensures status { result ≡ status_of failure.now }
+    ensures told { AppendsBeginning (E.contents errors.old) (E.contents errors.new)
+        (failure_text failure.now) }
 {
-    let _ = errors.write_all(failure.message().as_bytes());
+    let _ = write_whole(failure.message().as_bytes(), errors);
     failure.status()
 }

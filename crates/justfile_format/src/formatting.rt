@@ -1,6 +1,7 @@
-ghost use Rattle.std.specs.Prelude.{◌≡◌, Err, IfErr, IfOk, OnOk, false, string_bytes, true};
+ghost use Rattle.std.specs.Prelude.{◌≡◌, ◌≢◌, Err, IfErr, IfOk, OnOk, false, string_bytes, true};
 ghost use Rattle.justfile_format.specs.declared.failure.Failure.TheVariants as failures;
-ghost use Rattle.justfile_format.specs.Failure.{IfRefused, IsOfText, IsOfTextOrWriting, IsRefusalFor};
+ghost use Rattle.justfile_format.specs.Failure.{IfRefused, IsOfPrinting, IsOfText, IsOfTextOrWriting, IsOfWriting, IsRefusalFor};
+ghost use Rattle.justfile_format.specs.Outcome.{FormatsBeginning, LacksNumbers, PrintsBeginning};
 ghost use Rattle.justfile_format.specs.Formatting.{Formats, IsFileOf, IsFormatted, IsIndented, IsIndentedBy, IsPrinted, IsRefusal, IsUnprintable, Prints};
 ghost use Rattle.justfile_word.specs.Indentation.{indentation_text};
 ghost use Rattle.justfile_file.specs.Ast.{ast_shape, tree_of};
@@ -44,6 +45,7 @@ fn parse(alloc: Global, source: &str) -> Result<Ast<'_>, Failure>
     ensures ok { IfOk result (IsFileOf source.now) }
     ensures refused { IfErr result (IfRefused (IsRefusal source.now)) }
     ensures printable { result ≡ Err failures.NotPrintable → ⊥ }
+    ensures numbers { result ≡ Err failures.Numbers → LacksNumbers source.now }
     ensures err { IfErr result IsOfText }
 {
     let mut numerator = Numerator::new(0);
@@ -101,20 +103,23 @@ fn print(alloc: Global, ast: &mut Ast<'_>) -> Result<String, Failure>
     ensures ok { IfOk result (λ text. IsPrinted ast.old (string_bytes text)) }
     ensures refused { IfErr result (IfRefused (λ _. ⊥)) }
     ensures unprintable { result ≡ Err failures.NotPrintable → printable (ast_shape ast.old) ≡ false }
-    ensures err { IfErr result IsOfText }
+    ensures err { IfErr result IsOfPrinting }
 {
     let indentation = printing_indentation(ast)?;
     Ok(ast.print(alloc, indentation)?)
 }
 
 /// Writes the canonical text of a file, which stays as it is.
+#[tactic(auto, using(crate::proofs::Outcomes::part))]
 fn print_to<W: Write>(ast: &mut Ast<'_>, writer: &mut W) -> Result<(), Failure>
     requires { IsIndented ast.old }
     ensures ok { OnOk result (Prints ast.old (W.contents writer.old) (W.contents writer.new)) }
     ensures refused { IfErr result (IfRefused (λ _. ⊥)) }
     ensures unprintable { result ≡ Err failures.NotPrintable → printable (ast_shape ast.old) ≡ false }
-    ensures prints_nothing { result ≡ Err failures.NotPrintable → writer.new ≡ writer.old }
-    ensures err { IfErr result IsOfTextOrWriting }
+    ensures part { result ≡ Err failures.Writing
+        → PrintsBeginning ast.old (W.contents writer.old) (W.contents writer.new) }
+    ensures unwritten { IfErr result (λ e. e ≢ failures.Writing → writer.new ≡ writer.old) }
+    ensures err { IfErr result IsOfWriting }
 {
     let indentation = printing_indentation(ast)?;
     ast.print_to(indentation, writer)?;
@@ -128,6 +133,7 @@ pub fn format_text(alloc: Global, source: &str) -> Result<String, Failure>
     ensures ok { IfOk result (λ text. IsFormatted source.now (string_bytes text)) }
     ensures refused { IfErr result (IfRefused (IsRefusal source.now)) }
     ensures unprintable { result ≡ Err failures.NotPrintable → IsUnprintable source.now }
+    ensures numbers { result ≡ Err failures.Numbers → LacksNumbers source.now }
     ensures err { IfErr result IsOfText }
 {
     let mut ast = parse(alloc, source)?;
@@ -142,8 +148,10 @@ pub fn format_to<W: Write>(alloc: Global, source: &str, writer: &mut W) -> Resul
     ensures ok { OnOk result (Formats source.now (W.contents writer.old) (W.contents writer.new)) }
     ensures refused { IfErr result (IfRefused (IsRefusal source.now)) }
     ensures unprintable { result ≡ Err failures.NotPrintable → IsUnprintable source.now }
-    ensures writes_nothing { IfErr result (IfRefused (λ _. writer.new ≡ writer.old)) }
-    ensures prints_nothing { result ≡ Err failures.NotPrintable → writer.new ≡ writer.old }
+    ensures part { result ≡ Err failures.Writing
+        → FormatsBeginning source.now (W.contents writer.old) (W.contents writer.new) }
+    ensures numbers { result ≡ Err failures.Numbers → LacksNumbers source.now }
+    ensures unwritten { IfErr result (λ e. e ≢ failures.Writing → writer.new ≡ writer.old) }
     ensures err { IfErr result IsOfTextOrWriting }
 {
     let mut ast = parse(alloc, source)?;

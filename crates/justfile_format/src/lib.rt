@@ -3,5 +3,6 @@
 
 pub mod failure;
 pub mod formatting;
+pub mod laws;
 pub mod run;
 mod unchanged;

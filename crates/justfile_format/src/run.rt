@@ -1,10 +1,11 @@
-ghost use Rattle.std.specs.Prelude.{◌≡◌, ◌≢◌, ◌≤◌, true, false, Ok, Err, IfOk, IfErr, IfSome, OnOk};
+ghost use Rattle.std.specs.Prelude.{◌≡◌, ◌≢◌, ◌≤◌, ◌<◌, true, false, Ok, Err, IfOk, IfErr, IfSome, OnOk};
 ghost use Rattle.std.specs.Io.KnownBytes.{IsAtEnd, Keeps};
 ghost use Rattle.std.specs.Str.{IsUtf8};
 ghost use Rattle.justfile_format.specs.declared.failure.Failure.TheVariants as failures;
 ghost use Rattle.justfile_format.specs.Arguments.{AsksCheck, AsksFormat};
 ghost use Rattle.justfile_format.specs.Failure.{IfRefused, IsOfReading};
 ghost use Rattle.justfile_format.specs.Formatting.{IsFormatted, IsRefusal, IsUnprintable, Formats, Differs, HasNone};
+ghost use Rattle.justfile_format.specs.Outcome.{Fails, FormatsBeginning, LacksNumbers};
 
 use crate::failure::{Failure, report};
 use crate::formatting::{format_text, format_to};
@@ -72,7 +73,7 @@ fn decode(bytes: &[u8]) -> Result<&str, Failure>
 
 /// Flushes what was written.
 fn flush<W: Write>(writer: &mut W) -> Result<(), Failure>
-    ensures ok { OnOk result (Keeps (W.contents writer.old) (W.contents writer.new)) }
+    ensures kept { Keeps (W.contents writer.old) (W.contents writer.new) }
     ensures err { IfErr result (λ e. e ≡ failures.Writing) }
 {
     match writer.flush() {
@@ -82,7 +83,7 @@ fn flush<W: Write>(writer: &mut W) -> Result<(), Failure>
 }
 
 /// Writes the canonical text of what the reader gives, and flushes it.
-#[tactic(auto, using(crate::proofs::Written::flushed))]
+#[tactic(auto, using(crate::proofs::Written::flushed, crate::proofs::Outcomes::unflushed))]
 fn format<R: Read, W: Write>(alloc: Global, reader: &mut R, writer: &mut W) -> Result<(), Failure>
     ensures ok { OnOk result (IfSome (R.remaining reader.old)
         (λ source. Formats source (W.contents writer.old) (W.contents writer.new))) }
@@ -91,8 +92,10 @@ fn format<R: Read, W: Write>(alloc: Global, reader: &mut R, writer: &mut W) -> R
     ensures not_utf8 { result ≡ Err failures.NotUtf8 → IfSome (R.remaining reader.old) (λ source. ¬ IsUtf8 source) }
     ensures unread_writes_nothing { ¬ IsAtEnd (R.remaining reader.new) → writer.new ≡ writer.old }
     ensures not_utf8_writes_nothing { IfSome (R.remaining reader.old) (λ source. ¬ IsUtf8 source → writer.new ≡ writer.old) }
-    ensures writes_nothing { IfErr result (IfRefused (λ _. writer.new ≡ writer.old)) }
-    ensures prints_nothing { result ≡ Err failures.NotPrintable → writer.new ≡ writer.old }
+    ensures part { result ≡ Err failures.Writing → IfSome (R.remaining reader.old)
+        (λ source. FormatsBeginning source (W.contents writer.old) (W.contents writer.new)) }
+    ensures numbers { result ≡ Err failures.Numbers → IfSome (R.remaining reader.old) LacksNumbers }
+    ensures unwritten { IfErr result (λ e. e ≢ failures.Writing → writer.new ≡ writer.old) }
     ensures err { IfErr result (λ e. e ≢ failures.Usage) }
 {
     let bytes = read_all(alloc, reader)?;
@@ -108,6 +111,7 @@ fn check<R: Read>(alloc: Global, reader: &mut R) -> Result<bool, Failure>
     ensures refused { IfErr result (IfRefused (λ lines. IfSome (R.remaining reader.old) (λ source. IsRefusal source lines))) }
     ensures unprintable { result ≡ Err failures.NotPrintable → IfSome (R.remaining reader.old) IsUnprintable }
     ensures not_utf8 { result ≡ Err failures.NotUtf8 → IfSome (R.remaining reader.old) (λ source. ¬ IsUtf8 source) }
+    ensures numbers { result ≡ Err failures.Numbers → IfSome (R.remaining reader.old) LacksNumbers }
     ensures err { IfErr result (λ e. (e ≢ failures.Usage) × (e ≢ failures.Writing)) }
 {
     let bytes = read_all(alloc, reader)?;
@@ -136,6 +140,8 @@ pub fn run<R: Read, W: Write, E: Write>(
     ensures canonical { AsksCheck arguments.now → result ≡ 0 → IfSome (R.remaining reader.old) (λ source. IsFormatted source source) }
     ensures differs { result ≡ 1 → AsksCheck arguments.now × IfSome (R.remaining reader.old) Differs }
     ensures refused { result ≡ 2 → IfSome (R.remaining reader.old) HasNone }
+    ensures failed { 1 < result → Fails arguments.now (R.remaining reader.old)
+        W.contents writer.old writer.new (E.contents errors.old) (E.contents errors.new) result }
 
     ensures written_asked { ¬ AsksFormat arguments.now → writer.new ≡ writer.old }
     ensures unread_writes_nothing { ¬ IsAtEnd (R.remaining reader.new) → writer.new ≡ writer.old }

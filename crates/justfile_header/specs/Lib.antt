@@ -1,3 +1,4 @@
 pub mod Copies
+pub mod Equal
 pub mod Header
 pub mod Parameter

@@ -2,6 +2,7 @@
 #![tactic(auto)]
 
 pub mod copied;
+pub mod laws;
 pub mod parameter;
 mod parameter_kind;
 mod path;

@@ -3,6 +3,7 @@ pub mod AttributeParts
 pub mod Attributes
 pub mod Copies
 pub mod Doc
+pub mod Equal
 pub mod FunctionParameter
 pub mod HeaderParts
 pub mod Indented

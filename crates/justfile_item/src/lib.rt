@@ -10,6 +10,7 @@ mod copied;
 mod doc;
 pub mod function_definition;
 pub mod item;
+pub mod laws;
 mod path;
 pub mod recipe;
 pub mod set;

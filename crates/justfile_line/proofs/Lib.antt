@@ -1,3 +1,4 @@
 pub mod Bodies
+pub mod Equalities
 pub mod Loops
 pub mod SigilLaws

@@ -1,4 +1,5 @@
 pub mod Body
 pub mod Copies
+pub mod Equal
 pub mod Line
 pub mod Sigil

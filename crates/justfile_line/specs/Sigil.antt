@@ -1,7 +1,11 @@
 -- Sigils, and those at the front of a text.
-use Rattle.std.specs.Prelude.{◌≡◌, ◌≢◌, ℕ, Bool, List, ◌++◌, Option, Some, None, ◌==◌, if◌then◌else◌, map, IsTrue, AllPairs, Contains}
+use Rattle.std.specs.Prelude.{◌≡◌, ◌≢◌, ℕ, Bool, List, [], ◌∷◌, ◌++◌, Option, Some, None, ◌==◌, if◌then◌else◌, map, IsTrue, AllPairs, Contains}
 use Rattle.justfile_line.specs.declared.sigil.Sigil.{Sigil}
 use Rattle.justfile_line.specs.declared.sigil.Sigil.TheVariants.{Guard, Infallible, Quiet}
+
+-- in the order in which they are declared
+abbrev pub sigils_in_order : List Sigil
+sigils_in_order = Guard ∷ Infallible ∷ Quiet ∷ []
 
 -- `?`, `-` and `@`
 abbrev pub byte_of : Sigil → ℕ

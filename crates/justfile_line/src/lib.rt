@@ -2,6 +2,7 @@
 #![tactic(auto)]
 
 pub mod fragment;
+pub mod laws;
 pub mod line;
 pub mod sigil;
 

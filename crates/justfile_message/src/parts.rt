@@ -176,6 +176,20 @@ pub fn write_invalid_attribute<W: fmt::Write>(
     )
 }
 
+/// Writes that the value of a key is no number, and why.
+pub fn write_invalid_count<A: fmt::Display, W: fmt::Write>(
+    key: &A,
+    value: &String,
+    source: &str,
+    f: &mut fmt::Formatter<W>,
+) -> fmt::Result
+    ensures { DisplaysOnOk W.write_str_gives f.old result
+        (Some (codes "invalid `") ++? A.output key.now ++? Some (codes "` value `" & string_bytes value.now
+        & codes "`: " & source.now)) f.new }
+{
+    write!(f, "invalid `{key}` value `{value}`: {source}")
+}
+
 /// Writes that a text is no version, and why.
 pub fn write_invalid_version<W: fmt::Write>(
     version: &String,

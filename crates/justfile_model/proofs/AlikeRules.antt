@@ -1,9 +1,10 @@
 -- Broken rules side by side: the same rule of related places, with the same texts.
-use Rattle.std.proofs.Common.{◌≡◌, ℕ, Bool, List, Option}
+use Rattle.std.proofs.Common.{◌≡◌, ℕ, List, Option}
 use Rattle.justfile_word.specs.declared.attribute_kind.AttributeKind.{AttributeKind}
 use Rattle.justfile_word.specs.declared.item_kind.ItemKind.{ItemKind}
 use Rattle.justfile_word.specs.declared.keyword.Keyword.{Keyword}
 use Rattle.justfile_model.specs.Conditions.{VersionNumbers}
+use Rattle.justfile_model.specs.ContentLeaf.{LiteralValue}
 use Rattle.justfile_model.specs.Rules as rules
 use Rattle.justfile_model.specs.Rules.{Broken, Rule}
 
@@ -32,8 +33,8 @@ module _ {B B' : Type 0} (Spot : B → B' → Type 0) where
     min_exceeds : {m m' n n' : ℕ} → m ≡ m' → n ≡ n' → AlikeRule (rules.ArgAttributeMinExceedsMax m n) (rules.ArgAttributeMinExceedsMax m' n')
     duplicate : {a f : B} {a' f' : B'} → Spot a a' → Spot f f' → AlikeRule (rules.DuplicateAttribute a f) (rules.DuplicateAttribute a' f')
     duplicate_arg : {s s' : List ℕ} {f : B} {f' : B'} → s ≡ s' → Spot f f' → AlikeRule (rules.DuplicateArgAttribute s f) (rules.DuplicateArgAttribute s' f')
-    duplicate_group : {b b' : Bool} {g f : B} {g' f' : B'} → b ≡ b' → Spot g g' → Spot f f'
-        → AlikeRule (rules.DuplicateGroupAttribute b g f) (rules.DuplicateGroupAttribute b' g' f')
+    duplicate_group : {v v' : LiteralValue} {g f : B} {g' f' : B'} → v ≡ v' → Spot g g' → Spot f f'
+        → AlikeRule (rules.DuplicateGroupAttribute v g f) (rules.DuplicateGroupAttribute v' g' f')
     invalid_attribute : {item : ItemKind} {k k' : AttributeKind} → k ≡ k' → AlikeRule (rules.InvalidAttribute item k) (rules.InvalidAttribute item k')
     duplicate_long : {s s' : List ℕ} {r : B} {r' : B'} → s ≡ s' → Spot r r' → AlikeRule (rules.DuplicateLongOption s r) (rules.DuplicateLongOption s' r')
     duplicate_short : {c c' : ℕ} {r : B} {r' : B'} → c ≡ c' → Spot r r' → AlikeRule (rules.DuplicateShortOption c r) (rules.DuplicateShortOption c' r')

@@ -1,9 +1,12 @@
 -- What docs do not change: what counts items without their comments and docs is the same with docs and with comments in their place; and docs
 -- are taken over other leaves as they are.
 use Rattle.std.proofs.Common.{◌≡◌, ◌∙◌, ℕ, ◌+◌, Bool, true, false, cond, not, ◌&&◌, ◌||◌, List, [], ◌∷◌, ◌++◌, map, Option, Some, None, is_some, refl, sym, ap, arith}
+use Rattle.std.specs.List.{list_any}
 use Rattle.std.specs.Option.{option_map}
+use Rattle.justfile_word.specs.declared.attribute_kind.AttributeKind.{AttributeKind}
 use Rattle.justfile_word.specs.declared.attribute_kind.AttributeKind.TheVariants.{Doc}
 use Rattle.justfile_model.specs.AttributeKinds.{same_attribute}
+use Rattle.justfile_model.specs.ContentKeys.{kind_of_attribute}
 use Rattle.justfile_model.specs.Docs.{Before, LineEnd, Other, comment_taken, doc_in, doc_or_comment, documented, item_with_doc, redocumented, taken, wants_doc}
 use Rattle.justfile_model.specs.Files.{bindings, content_bindings, content_literals, content_recipes, items_literals, recipes, says_doc}
 use Rattle.justfile_model.specs.Literals.{Literal}
@@ -226,9 +229,13 @@ module _ {A B C S D A' B' C' S' D' : Type 0} (f : A → A') (g : B → B') (h : 
   documented_over before (Construct attributes content ∷ items) = ap (λ l. over (Construct attributes content) ∷ l) (documented_over Other items)
 
 module _ {A B A' B' : Type 0} (f : A → A') (g : B → B') where
+  pub any_kind_over : (P : AttributeKind → Bool) (entries : List (Entry A B))
+      → list_any (λ (e : Entry _ _). P (kind_of_attribute e.attribute)) (map (over_entry f g) entries) ≡ list_any (λ (e : Entry _ _). P (kind_of_attribute e.attribute)) entries
+  any_kind_over P [] = refl
+  any_kind_over P (e ∷ entries) = λ i. P (kind_over f g e.attribute i) || any_kind_over P entries i
+
   says_doc_over : (entries : List (Entry A B)) → says_doc (map (over_entry f g) entries) ≡ says_doc entries
-  says_doc_over [] = refl
-  says_doc_over (e ∷ entries) = λ i. same_attribute (kind_over f g e.attribute i) Doc || says_doc_over entries i
+  says_doc_over = any_kind_over (λ kind. same_attribute kind Doc)
 
 -- the docs of a shape are those of its tree
 pub documented_shape : (before : Before) (tree : Tree) → documented says_doc before (shape_of tree) ≡ shape_of (documented says_doc before tree)

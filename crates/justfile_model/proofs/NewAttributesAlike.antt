@@ -9,8 +9,9 @@ use Rattle.justfile_word.specs.declared.attribute_kind.AttributeKind.TheVariants
 use Rattle.justfile_word.specs.declared.signal.Signal.{Signal}
 use Rattle.justfile_word.specs.declared.item_kind.ItemKind.{ItemKind}
 use Rattle.justfile_model.specs.AttributeKinds.{is_allowed, is_repeatable, known_keys, least_count, most_count, same_attribute, takes_expressions}
-use Rattle.justfile_model.specs.AttributeRules.{allowed_broken, arg_rules, duplicate_rule, excludes, first_invalid, has_more, label_of, rules_in, same_label, same_text}
+use Rattle.justfile_model.specs.AttributeRules.{allowed_broken, arg_rules, duplicate_rule, excludes, first_invalid, has_more, label_of, quoted_value, rules_in, same_label, same_text}
 use Rattle.justfile_model.specs.ContentKeys.{kind_of_attribute}
+use Rattle.justfile_model.specs.ContentLeaf.{literal_value}
 use Rattle.justfile_model.specs.Literals.{string_of}
 use Rattle.justfile_model.specs.Meaning.{KeyArgument, Placed, at_key, count_of, is_count, quoted_text, signal_set, single_of, text_of, texts_of}
 use Rattle.justfile_model.specs.NewAttribute as new
@@ -45,6 +46,10 @@ module _ {R T A B S D R' T' A' B' S' D' : Type 0} (rel : Relations R T A B S D R
 
   pub same_text_of : {q : Quoted A} {q' : Quoted A'} → AlikeQuoted rel q q' → text_of sight q ≡ text_of sight' q'
   same_text_of h = ap or_empty (same_quoted_text h)
+
+  same_value : {q : Quoted A} {q' : Quoted A'} → AlikeQuoted rel q q' → quoted_value sight q ≡ quoted_value sight' q'
+  same_value {q} {q'} h =
+      ap literal_value (sees.literal_content (string_of q.expanded q.token) (string_of q'.expanded q'.token) (quoted_literal rel h))
 
   pub quoted_place : {q : Quoted A} {q' : Quoted A'} → AlikeQuoted rel q q' → rel.spot (sight.place q.token) (sight'.place q'.token)
   quoted_place {q} {q'} h = sees.literal_place (string_of q.expanded h.lexeme) q.token q'.token h.token
@@ -288,7 +293,7 @@ module _ {R T A B S D R' T' A' B' S' D' : Type 0} (rel : Relations R T A B S D R
   duplicate_alike n (alike.plain kind) f = broken.duplicate n f
   duplicate_alike n (alike.single kind e) f = broken.duplicate n f
   duplicate_alike n (alike.texts attributes.Group a.nil) f = broken.duplicate n f
-  duplicate_alike n (alike.texts attributes.Group (a.cons q qs)) f = broken.duplicate_group q.expanded (quoted_place q) f
+  duplicate_alike n (alike.texts attributes.Group (a.cons q qs)) f = broken.duplicate_group (same_value q) (quoted_place q) f
   duplicate_alike n (alike.texts kind qs) f = broken.duplicate n f
   duplicate_alike n (alike.env k v) f = broken.duplicate n f
   duplicate_alike n (alike.signals given) f = broken.duplicate n f

@@ -1,9 +1,9 @@
 -- The normal shape is its own, has the same literals, bindings and recipes, and is printable where the shape is.
-use Rattle.std.proofs.Common.{◌≡◌, [], ◌∷◌, ◌++◌, ◌&&◌, refl, ap, ◌∙◌, arith}
-use Rattle.justfile_model.specs.Tree.{Comment, Construct, Newline, Shape}
-use Rattle.justfile_model.specs.Files.{entries_literals, item_literals, literals, bindings, recipes}
+use Rattle.std.proofs.Common.{◌≡◌, [], ◌∷◌, ◌+◌, ◌++◌, ◌&&◌, refl, sym, ap, ◌∙◌, arith}
+use Rattle.justfile_model.specs.Tree.{Comment, Construct, Newline, OrderedItem, Shape}
+use Rattle.justfile_model.specs.Files.{entries_literals, item_bindings, item_literals, item_recipes, literals, bindings, recipes}
 use Rattle.justfile_model.specs.NormalShape.{after_newline, normal_rest, normal}
-use Rattle.justfile_model.specs.Printing.{printable_content, printable}
+use Rattle.justfile_model.specs.Printing.{printable_item, printable}
 
 after_twice : (r : Shape) → normal_rest r ≡ r → normal_rest (after_newline r) ≡ after_newline r
 after_twice [] h = refl
@@ -28,78 +28,36 @@ pub normal_twice : (s : Shape) → normal (normal s) ≡ normal s
 normal_twice [] = refl
 normal_twice (i ∷ s) = normal_of (normal_rest (i ∷ s)) (rest_twice (i ∷ s))
 
-after_literals : (r : Shape) → literals (after_newline r) ≡ literals r
-after_literals [] = refl
-after_literals (Newline ∷ []) = refl
-after_literals (Newline ∷ Newline ∷ r) = refl
-after_literals (Newline ∷ Comment text ∷ r) = refl
-after_literals (Newline ∷ Construct attributes content ∷ r) = refl
-after_literals (Comment text ∷ r) = refl
-after_literals (Construct attributes content ∷ r) = refl
+-- what is seen of the items of a shape and of no line end is seen of its normal form
+module _ {Z : Type 0} (seen : Shape → Z) (newline : (s : Shape) → seen (Newline ∷ s) ≡ seen s)
+    (first : (i : OrderedItem _ _ _) (s r : Shape) → seen s ≡ seen r → seen (i ∷ s) ≡ seen (i ∷ r)) where
+  after_seen : (r : Shape) → seen (after_newline r) ≡ seen r
+  after_seen [] = newline []
+  after_seen (Newline ∷ []) = refl
+  after_seen (Newline ∷ Newline ∷ r) = refl
+  after_seen (Newline ∷ Comment text ∷ r) = newline (Newline ∷ Comment text ∷ r)
+  after_seen (Newline ∷ Construct attributes content ∷ r) = newline (Newline ∷ Construct attributes content ∷ r)
+  after_seen (Comment text ∷ r) = newline (Comment text ∷ r)
+  after_seen (Construct attributes content ∷ r) = newline (Construct attributes content ∷ r)
 
-rest_literals : (s : Shape) → literals (normal_rest s) ≡ literals s
-rest_literals [] = refl
-rest_literals (Newline ∷ s) = after_literals (normal_rest s) ∙ rest_literals s
-rest_literals (Comment text ∷ s) = rest_literals s
-rest_literals (Construct attributes content ∷ s) = ap (λ l. item_literals entries_literals (Construct attributes content) ++ l) (rest_literals s)
+  rest_seen : (s : Shape) → seen (normal_rest s) ≡ seen s
+  rest_seen [] = newline []
+  rest_seen (Newline ∷ s) = after_seen (normal_rest s) ∙ rest_seen s ∙ sym (newline s)
+  rest_seen (Comment text ∷ s) = first (Comment text) (normal_rest s) s (rest_seen s)
+  rest_seen (Construct attributes content ∷ s) = first (Construct attributes content) (normal_rest s) s (rest_seen s)
+
+  pub normal_seen : (s : Shape) → seen (normal s) ≡ seen s
+  normal_seen [] = refl
+  normal_seen (i ∷ s) = rest_seen (i ∷ s)
 
 pub normal_literals : (s : Shape) → literals (normal s) ≡ literals s
-normal_literals [] = refl
-normal_literals (i ∷ s) = rest_literals (i ∷ s)
-
-after_bindings : (r : Shape) → bindings (after_newline r) ≡ bindings r
-after_bindings [] = omega arith
-after_bindings (Newline ∷ []) = omega arith
-after_bindings (Newline ∷ Newline ∷ r) = omega arith
-after_bindings (Newline ∷ Comment text ∷ r) = omega arith
-after_bindings (Newline ∷ Construct attributes content ∷ r) = omega arith
-after_bindings (Comment text ∷ r) = omega arith
-after_bindings (Construct attributes content ∷ r) = omega arith
-
-rest_bindings : (s : Shape) → bindings (normal_rest s) ≡ bindings s
-rest_bindings [] = omega arith
-rest_bindings (Newline ∷ s) = omega (arith, after_bindings (normal_rest s), rest_bindings s)
-rest_bindings (Comment text ∷ s) = omega (arith, rest_bindings s)
-rest_bindings (Construct attributes content ∷ s) = omega (arith, rest_bindings s)
+normal_literals = normal_seen literals (λ s. refl) (λ i s r e. ap (λ l. item_literals entries_literals i ++ l) e)
 
 pub normal_bindings : (s : Shape) → bindings (normal s) ≡ bindings s
-normal_bindings [] = refl
-normal_bindings (i ∷ s) = rest_bindings (i ∷ s)
-
-after_recipes : (r : Shape) → recipes (after_newline r) ≡ recipes r
-after_recipes [] = omega arith
-after_recipes (Newline ∷ []) = omega arith
-after_recipes (Newline ∷ Newline ∷ r) = omega arith
-after_recipes (Newline ∷ Comment text ∷ r) = omega arith
-after_recipes (Newline ∷ Construct attributes content ∷ r) = omega arith
-after_recipes (Comment text ∷ r) = omega arith
-after_recipes (Construct attributes content ∷ r) = omega arith
-
-rest_recipes : (s : Shape) → recipes (normal_rest s) ≡ recipes s
-rest_recipes [] = omega arith
-rest_recipes (Newline ∷ s) = omega (arith, after_recipes (normal_rest s), rest_recipes s)
-rest_recipes (Comment text ∷ s) = omega (arith, rest_recipes s)
-rest_recipes (Construct attributes content ∷ s) = omega (arith, rest_recipes s)
+normal_bindings = normal_seen bindings (λ s. omega arith) (λ i s r e. ap (λ n. item_bindings i + n) e)
 
 pub normal_recipes : (s : Shape) → recipes (normal s) ≡ recipes s
-normal_recipes [] = refl
-normal_recipes (i ∷ s) = rest_recipes (i ∷ s)
-
-after_printable : (r : Shape) → printable (after_newline r) ≡ printable r
-after_printable [] = refl
-after_printable (Newline ∷ []) = refl
-after_printable (Newline ∷ Newline ∷ r) = refl
-after_printable (Newline ∷ Comment text ∷ r) = refl
-after_printable (Newline ∷ Construct attributes content ∷ r) = refl
-after_printable (Comment text ∷ r) = refl
-after_printable (Construct attributes content ∷ r) = refl
-
-rest_printable : (s : Shape) → printable (normal_rest s) ≡ printable s
-rest_printable [] = refl
-rest_printable (Newline ∷ s) = after_printable (normal_rest s) ∙ rest_printable s
-rest_printable (Comment text ∷ s) = rest_printable s
-rest_printable (Construct attributes content ∷ s) = ap (λ b. printable_content content && b) (rest_printable s)
+normal_recipes = normal_seen recipes (λ s. omega arith) (λ i s r e. ap (λ n. item_recipes i + n) e)
 
 pub normal_printable : (s : Shape) → printable (normal s) ≡ printable s
-normal_printable [] = refl
-normal_printable (i ∷ s) = rest_printable (i ∷ s)
+normal_printable = normal_seen printable (λ s. refl) (λ i s r e. ap (λ b. printable_item i && b) e)

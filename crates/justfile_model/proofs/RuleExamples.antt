@@ -1,6 +1,7 @@
 -- Examples of the rules that attributes break, computed from the definitions: each once, with the token that it is refused at.
 use Rattle.std.proofs.Common.{◌≡◌, ℕ, false, List, [], ◌∷◌, Option, Some, None, Err, codes, refl}
 use Rattle.std.specs.Str.{chars}
+use Rattle.justfile_base.specs.StringKind.{kind_of}
 use Rattle.justfile_word.specs.AttributeKind.{kind_named}
 use Rattle.justfile_word.specs.Signal.{signal_named}
 use Rattle.justfile_word.specs.declared.attribute_kind.AttributeKind.TheVariants as kinds
@@ -224,7 +225,8 @@ unfolding kind_named same_attribute unindented
 arg_twice = refl
 
 group_twice : attributes_broken sees (labelled (codes "group") (codes "'a'") ∷ labelled (codes "group") (codes "'a'") ∷ [])
-    ≡ one (rule.DuplicateGroupAttribute false (codes "'a'") (codes "group")) (codes "group")
+    ≡ one (rule.DuplicateGroupAttribute (record { cooked = codes "a"; expand = false; kind = kind_of (codes "'a'"); part = None }) (codes "'a'") (codes "group"))
+    (codes "group")
 unfolding kind_named same_attribute
 group_twice = refl
 

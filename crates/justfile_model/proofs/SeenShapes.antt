@@ -16,7 +16,7 @@ use Rattle.justfile_model.specs.ConditionalOperator.{operator_sign}
 use Rattle.justfile_model.specs.Conditions.{VersionNumbers}
 use Rattle.justfile_model.specs.ConstructRules.{construct_broken}
 use Rattle.justfile_model.specs.ContentKeys.{name_key, spot_key, literal_key, expr_key, exprs_keys, parts_keys, quoted_key, option_name_key, word_key, own_name_key, property_key, bound_number_key, bound_word_key, rules_keys, texts_keys, is_optional, single_keys, attribute_keys, attribute_key, entry_cmp}
-use Rattle.justfile_model.specs.ContentLeaf.{ContentLeaf, token, literal, operator, text, unseen, content_cmp}
+use Rattle.justfile_model.specs.ContentLeaf.{ContentLeaf, token, literal, literal_value, operator, text, unseen, content_cmp}
 use Rattle.justfile_model.specs.Expressions.{operator_kind}
 use Rattle.justfile_model.specs.Key.{Key, leaf, node, end, next, row, keys_of, absent_key, present_key, option_key, key_cmp}
 use Rattle.justfile_model.specs.Literals as literals
@@ -52,9 +52,18 @@ module _ (expander : Expansions) where
   same_cooked (literals.Continue s t) = refl
   same_cooked (literals.End s t) = refl
 
+  same_value : (l : Literal Tok) → literal_value (lexemes.literal_content (over_literal lexeme l)) ≡ literal_value (tokens.literal_content l)
+  same_value (literals.Plain t) = refl
+  same_value (literals.Expanded t) = refl
+  same_value (literals.Command t) = refl
+  same_value (literals.Single t) = refl
+  same_value (literals.Start t) = refl
+  same_value (literals.Continue s t) = refl
+  same_value (literals.End s t) = refl
+
   -- a shape is seen as the tree is
   pub seen : Sees lexeme nothing tokens lexemes
-  seen = record { bytes = λ t. refl; place = λ t. refl; cooked = same_cooked }
+  seen = record { bytes = λ t. refl; place = λ t. refl; cooked = same_cooked; value = same_value }
 
   -- ---- keys of expressions
 

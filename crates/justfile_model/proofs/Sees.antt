@@ -9,6 +9,7 @@ use Rattle.justfile_word.specs.declared.attribute_kind.AttributeKind.{AttributeK
 use Rattle.justfile_word.specs.declared.attribute_kind.AttributeKind.TheVariants as kinds
 use Rattle.justfile_word.specs.declared.signal.Signal.{Signal}
 use Rattle.justfile_model.specs.AttributeKinds.{takes_expressions}
+use Rattle.justfile_model.specs.ContentLeaf.{literal_value}
 use Rattle.justfile_model.specs.Literals.{Literal, over_literal, string_of}
 use Rattle.justfile_model.specs.Meaning.{◌>>=◌, all_of, of_given, first_of, quoted, Placed, KeyArgument, by_position, by_key, count_of, quoted_text, text_of, is_key, at_key, property_of, value_of, bare_of, option_at, bound_of, rules_of, single_of, texts_of, env_of, signal_of, of_expressions, of_literals, by_takes, attribute_of, entry_of}
 use Rattle.justfile_model.specs.Sight.{Sight, or_empty}
@@ -96,6 +97,7 @@ module _ {A B C D : Type 0} (f : A → C) (g : B → D) (sight : Sight A B) (oth
     pub bytes : (a : A) → other.bytes (f a) ≡ sight.bytes a
     pub place : (a : A) → other.place (f a) ≡ g (sight.place a)
     pub cooked : (l : Literal A) → other.cooked (over_literal f l) ≡ sight.cooked l
+    pub value : (l : Literal A) → literal_value (other.literal_content (over_literal f l)) ≡ literal_value (sight.literal_content l)
 
 module _ {A B C D : Type 0} {f : A → C} {g : B → D} {sight : Sight A B} {other : Sight C D} (sees : Sees f g sight other) where
   pub text_over : (q : Quoted A) → quoted_text other (over_quoted f g q) ≡ quoted_text sight q

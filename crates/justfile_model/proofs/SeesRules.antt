@@ -11,16 +11,17 @@ use Rattle.justfile_word.specs.declared.attribute_kind.AttributeKind.{AttributeK
 use Rattle.justfile_word.specs.declared.attribute_kind.AttributeKind.TheVariants as kinds
 use Rattle.justfile_word.specs.declared.item_kind.ItemKind.{ItemKind}
 use Rattle.justfile_model.specs.AttributeKinds.{same_attribute, known_keys, takes_expressions, least_count, most_count, is_repeatable, is_allowed}
-use Rattle.justfile_model.specs.AttributeRules.{has_more, is_literal, of_some, lesser, least, count_broken, expression_broken, expressions_broken, order_broken, repeats_broken, is_known, unknown_broken, missing_broken, literal_broken, signal_broken, signals_broken, has, key_broken, option_broken, option_key_broken, count_text_broken, bound_broken, wants_option, value_broken, flag_broken, multiple_broken, number_of, exceeds_broken, arg_broken, kind_broken, arguments_broken, known_broken, named_broken, attribute_broken, label_of, same_text, same_label, excludes, duplicate_rule, duplicate_broken, duplicates_broken, attributes_broken, first_invalid, allowed_broken}
+use Rattle.justfile_model.specs.AttributeRules.{has_more, is_literal, of_some, lesser, least, count_broken, expression_broken, expressions_broken, order_broken, repeats_broken, is_known, unknown_broken, missing_broken, literal_broken, signal_broken, signals_broken, has, key_broken, option_broken, option_key_broken, count_text_broken, bound_broken, wants_option, value_broken, flag_broken, multiple_broken, number_of, exceeds_broken, arg_broken, kind_broken, arguments_broken, known_broken, named_broken, attribute_broken, label_of, same_text, same_label, excludes, quoted_value, duplicate_rule, duplicate_broken, duplicates_broken, attributes_broken, first_invalid, allowed_broken}
 use Rattle.justfile_model.specs.ContentKeys.{kind_of_attribute}
-use Rattle.justfile_model.specs.ContentLeaf.{text_cmp}
+use Rattle.justfile_model.specs.ContentLeaf.{literal_value, text_cmp}
+use Rattle.justfile_model.specs.Literals.{string_of}
 use Rattle.justfile_model.specs.Meaning.{quoted, Placed, KeyArgument, by_position, by_key, quoted_text, at_key, is_count, count_of, entry_of}
 use Rattle.justfile_model.specs.Rules.{Rule, UnknownAttribute, AttributeArgumentCountMismatch, AttributeArgumentExpression, AttributePositionalFollowsKeyword, DuplicateAttributeKey, UnknownAttributeKey, AttributeKeyMissingValue, AttributeKeyTakesNoValue, InvalidSignal, OptionNameContainsEqualSign, OptionNameStartsWithDash, OptionNameEmpty, ShortOptionWithMultipleCharacters, ArgAttributeRequiresOption, FlagAttributeTakesNoValue, FlagAndValueArgAttribute, FlagAndPatternArgAttribute, ArgumentCountValue, ArgumentCountParse, ArgAttributeMinExceedsMax, DuplicateArgAttribute, DuplicateGroupAttribute, InvalidAttribute, Broken, broken_if, over_rule, over_broken}
 use Rattle.justfile_model.specs.Sight.{Sight, or_empty}
 use Rattle.justfile_model.specs.Tree as tree
 use Rattle.justfile_model.specs.Tree.{Expr, Quoted, Argument, WrittenAttribute, Attribute, Entry, over_expr, over_argument, over_written_attribute, over_quoted, over_attribute, over_entry}
 use Rattle.justfile_model.proofs.Mapped.{flat_mapped}
-use Rattle.justfile_model.proofs.Sees.{Sees, find_over, over_placed, over_key, quoted_over, by_position_over, by_key_over, text_over, at_key_over, entry_over}
+use Rattle.justfile_model.proofs.Sees.{Sees, find_over, over_placed, over_key, quoted_over, by_position_over, by_key_over, text_over, at_key_over, entry_over, string_over}
 
 -- ---- options and lists
 
@@ -449,12 +450,15 @@ module _ {A B C D : Type 0} {f : A → C} {g : B → D} {sight : Sight A B} {oth
       ∙ ap (λ l. same_attribute (kind_of_attribute a) (kind_of_attribute b) && (not (is_repeatable (kind_of_attribute a)) || l))
       (same_label_over (label_of sight a) (label_of sight b))
 
+  held_over : (q : Quoted A) → quoted_value other (over_quoted f g q) ≡ quoted_value sight q
+  held_over q = ap (λ l. literal_value (other.literal_content l)) (string_over f g q.expanded q.token) ∙ sees.value (string_of q.expanded q.token)
+
   duplicate_rule_over : (name : B) (a : Attribute A B) (first : B)
       → duplicate_rule other (g name) (over_attribute f g a) (g first) ≡ over_rule g (duplicate_rule sight name a first)
   duplicate_rule_over name (tree.Plain kind) first = refl
   duplicate_rule_over name (tree.Single kind value) first = refl
   duplicate_rule_over name (tree.Texts kinds.Group []) first = refl
-  duplicate_rule_over name (tree.Texts kinds.Group (q ∷ qs)) first = λ i. DuplicateGroupAttribute q.expanded (sees.place q.token i) (g first)
+  duplicate_rule_over name (tree.Texts kinds.Group (q ∷ qs)) first = λ i. DuplicateGroupAttribute (held_over q i) (sees.place q.token i) (g first)
   duplicate_rule_over name (tree.Texts kind texts) first = refl
   duplicate_rule_over name (tree.Env key value) first = refl
   duplicate_rule_over name (tree.Signals given) first = refl

@@ -11,7 +11,8 @@ use Rattle.justfile_word.specs.declared.attribute_kind.AttributeKind.TheVariants
 use Rattle.justfile_word.specs.declared.item_kind.ItemKind.{ItemKind}
 use Rattle.justfile_model.specs.AttributeKinds.{same_attribute, known_keys, takes_expressions, least_count, most_count, is_repeatable, is_allowed}
 use Rattle.justfile_model.specs.ContentKeys.{kind_of_attribute}
-use Rattle.justfile_model.specs.ContentLeaf.{text_cmp}
+use Rattle.justfile_model.specs.ContentLeaf.{LiteralValue, literal_value, text_cmp}
+use Rattle.justfile_model.specs.Literals.{string_of}
 use Rattle.justfile_model.specs.Meaning.{quoted, Placed, KeyArgument, by_position, by_key, first_of, quoted_text, text_of, at_key, is_count, count_of, entry_of, entries_of}
 use Rattle.justfile_model.specs.Rules.{Rule, UnknownAttribute, AttributeArgumentCountMismatch, AttributeArgumentExpression, AttributePositionalFollowsKeyword, DuplicateAttributeKey, UnknownAttributeKey, AttributeKeyMissingValue, AttributeKeyTakesNoValue, InvalidSignal, OptionNameContainsEqualSign, OptionNameStartsWithDash, OptionNameEmpty, ShortOptionWithMultipleCharacters, ArgAttributeRequiresOption, FlagAttributeTakesNoValue, FlagAndValueArgAttribute, FlagAndPatternArgAttribute, ArgumentCountValue, ArgumentCountParse, ArgAttributeMinExceedsMax, DuplicateAttribute, DuplicateArgAttribute, DuplicateGroupAttribute, InvalidAttribute, Broken, broken_if}
 use Rattle.justfile_model.specs.Sight.{Sight}
@@ -211,10 +212,14 @@ module _ {A B : Type 0} (sight : Sight A B) where
   abbrev pub excludes : Attribute A B → Attribute A B → Bool
   excludes a b = same_attribute (kind_of_attribute a) (kind_of_attribute b) && (not (is_repeatable (kind_of_attribute a)) || same_label (label_of a) (label_of b))
 
+  -- what a literal holds
+  abbrev pub quoted_value : Quoted A → LiteralValue
+  quoted_value q = literal_value (sight.literal_content (string_of q.expanded q.token))
+
   -- the rule that an attribute breaks by an earlier one
   abbrev pub duplicate_rule : (name : B) → Attribute A B → (first : B) → Rule B
   duplicate_rule name (tree.Arg rules) first = DuplicateArgAttribute (text_of sight rules.name) first
-  duplicate_rule name (tree.Texts kinds.Group (q ∷ qs)) first = DuplicateGroupAttribute q.expanded (sight.place q.token) first
+  duplicate_rule name (tree.Texts kinds.Group (q ∷ qs)) first = DuplicateGroupAttribute (quoted_value q) (sight.place q.token) first
   duplicate_rule name a first = DuplicateAttribute name first
 
   -- by the first of the attributes before it that excludes it

@@ -26,6 +26,16 @@ pub record LiteralContent : Type 0 where
   pub part : Option FormatStringPart
   pub token : TokenContent
 
+-- what a literal holds beside its token
+pub record LiteralValue : Type 0 where
+  pub cooked : List ℕ
+  pub expand : Bool
+  pub kind : StringKind
+  pub part : Option FormatStringPart
+
+abbrev pub literal_value : LiteralContent → LiteralValue
+literal_value l = record { cooked = l.cooked; expand = l.expand; kind = l.kind; part = l.part }
+
 -- texts by their bytes
 abbrev pub text_cmp : List ℕ → List ℕ → Ordering
 text_cmp xs ys = slice_cmp nat_cmp xs ys

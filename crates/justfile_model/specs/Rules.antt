@@ -4,6 +4,7 @@ use Rattle.justfile_word.specs.declared.attribute_kind.AttributeKind.{AttributeK
 use Rattle.justfile_word.specs.declared.item_kind.ItemKind.{ItemKind}
 use Rattle.justfile_word.specs.declared.keyword.Keyword.{Keyword}
 use Rattle.justfile_model.specs.Conditions.{VersionNumbers}
+use Rattle.justfile_model.specs.ContentLeaf.{LiteralValue}
 
 -- A rule that is broken. A text is that of a literal; `T` is what is kept of a token.
 pub data Rule (T : Type 0) : Type 0 where
@@ -31,8 +32,8 @@ pub data Rule (T : Type 0) : Type 0 where
   -- of the attributes of one item
   DuplicateAttribute : (attribute first : T) → Rule T
   DuplicateArgAttribute : (arg : List ℕ) (first : T) → Rule T
-  -- the literal that names the group, and whether it is expanded
-  DuplicateGroupAttribute : (expanded : Bool) (group first : T) → Rule T
+  -- what the literal holds that names the group, and its token
+  DuplicateGroupAttribute : (value : LiteralValue) (group first : T) → Rule T
   InvalidAttribute : (item : ItemKind) (attribute : AttributeKind) → Rule T
   -- of a recipe: an argument of which `arg` speaks is no parameter
   UndefinedArgAttribute : (argument : List ℕ) → Rule T
@@ -88,7 +89,7 @@ module _ {T U : Type 0} (g : T → U) where
   over_rule (ArgAttributeMinExceedsMax min max) = ArgAttributeMinExceedsMax min max
   over_rule (DuplicateAttribute attribute first) = DuplicateAttribute (g attribute) (g first)
   over_rule (DuplicateArgAttribute arg first) = DuplicateArgAttribute arg (g first)
-  over_rule (DuplicateGroupAttribute expanded group first) = DuplicateGroupAttribute expanded (g group) (g first)
+  over_rule (DuplicateGroupAttribute value group first) = DuplicateGroupAttribute value (g group) (g first)
   over_rule (InvalidAttribute item attribute) = InvalidAttribute item attribute
   over_rule (UndefinedArgAttribute argument) = UndefinedArgAttribute argument
   over_rule (DuplicateLongOption option recipe) = DuplicateLongOption option (g recipe)

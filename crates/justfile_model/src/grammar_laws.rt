@@ -1,12 +1,15 @@
 //! Laws of the grammar, each the contract of a function that does nothing.
-ghost use Rattle.std.specs.Prelude.{◌≡◌, ◌<◌, ◌≤◌, ◌⊎◌, ℕ, ◌+◌, Bool, IsTrue, List, length, map, slice_index, Option, Some, Ok, Err};
+ghost use Rattle.std.specs.Prelude.{◌≡◌, ◌<◌, ◌≤◌, ◌⊎◌, ℕ, ◌+◌, Bool, IsTrue, List, length, map, slice_index, Option, Some, IfSome, Ok, Err};
+ghost use Rattle.std.specs.Option.{option_map};
+ghost use Rattle.justfile_word.specs.Indentation.{IsIndentation};
 ghost use Rattle.justfile_model.specs.Conditions.{Conditions, with_expander, with_limit};
+ghost use Rattle.justfile_model.specs.Enabled.{indentation_of};
 ghost use Rattle.justfile_model.specs.Expressions.{Under, Waived};
 ghost use Rattle.justfile_model.specs.Features.{ConstructFeatures, Noted, over_noted};
 ghost use Rattle.justfile_model.specs.Files.{FileTree, FileDerives, NumbersFrom, Obeys, ShapeDerives, all_features, keeps_tokens, literals, ordered, bindings, recipes};
 ghost use Rattle.justfile_model.specs.Grammar.{File};
 ghost use Rattle.justfile_model.specs.Lexed.{Lexed};
-ghost use Rattle.justfile_model.specs.Literals.{Literal, Expansions, Within, AreCookedTexts};
+ghost use Rattle.justfile_model.specs.Literals.{Literal, Expansions, Within, AreCookedTexts, string_text};
 ghost use Rattle.justfile_model.specs.Need.{DerivesUnder, IsNeed};
 ghost use Rattle.justfile_model.specs.NormalShape.{normal};
 ghost use Rattle.justfile_model.specs.Printing.{printable, text};
@@ -16,7 +19,7 @@ ghost use Rattle.justfile_model.specs.Refusals.{IsDue};
 ghost use Rattle.justfile_model.specs.Sight.{sees_tokens};
 ghost use Rattle.justfile_model.specs.SignificantTokens.{AllSpelled, SignificantToken, identifiers, significant_tokens};
 ghost use Rattle.justfile_model.specs.Tok.{Tok};
-ghost use Rattle.justfile_model.specs.Tree.{Tree, Shape, WrittenTree, nothing, shape_of};
+ghost use Rattle.justfile_model.specs.Tree.{Tree, Shape, WrittenTree, lexeme, nothing, shape_of};
 ghost use Rattle.justfile_model.specs.Uncommented.{HasNoComments, uncommented_text};
 ghost use Rattle.justfile_model.specs.TreeReader.{Refusal, State, tree_of_tokens, token_attributes, token_leaves};
 
@@ -130,6 +133,15 @@ pub fn normal_twice()
     ensures same_bindings { (s : Shape) → bindings (normal s) ≡ bindings s }
     ensures same_recipes { (s : Shape) → recipes (normal s) ≡ recipes s }
     ensures same_printable { (s : Shape) → printable (normal s) ≡ printable s }
+{}
+
+/// How a file is indented is seen of its shape, and of its normal form. The literal that says it stands for an indentation.
+pub fn indentations()
+    ensures shape { (tree : Tree) → indentation_of (shape_of tree) ≡ option_map lexeme (indentation_of tree) }
+    ensures normal { (s : Shape) → indentation_of (normal s) ≡ indentation_of s }
+    ensures said { (C : Conditions) (ts : List SignificantToken) (shape : Shape) (features : List (Noted (Unit {0})))
+        → ShapeDerives C ts shape features → IfSome (indentation_of shape)
+        (λ literal. (text : List ℕ) × (string_text literal ≡ Ok text) × IsIndentation text) }
 {}
 
 /// What derives where an expander answers less derives where it answers more.

@@ -3,6 +3,7 @@ pub mod DocSteps
 pub mod Formats
 pub mod GivenAttributes
 pub mod GivenParts
+pub mod Held
 pub mod NotInternal
 pub mod Parsed
 pub mod SeenDocs

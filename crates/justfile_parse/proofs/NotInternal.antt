@@ -174,6 +174,12 @@ fault_lexical text fault t h =
     let found = (next_lexical (mode h.earlier) (drop _ text)).is in
     span_lexical text h.earlier fault t h.refusal (ap lexical_found (sym h.refused) ∙ found) h.spans
 
+pub not_lexical : (text : List ℕ) (fault : LexicalFault) (t : Tok) → fault ≡ NotLexical → IsFault text fault t → ⊥
+not_lexical text fault t other h = never (ap is_lexical (sym other) ∙ fault_lexical text fault t h)
+  where
+    never : false ≡ true → ⊥
+    never e = cc
+
 by_kind : (kind : CompileErrorKind) → is_lexical (lexical_fault_of kind) ≡ true → internal_message kind ≡ None
 by_kind (Internal message) h = cc
 by_kind _ h = refl

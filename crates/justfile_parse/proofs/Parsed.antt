@@ -7,6 +7,7 @@ use Rattle.std.specs.Option.{option_map}
 use Rattle.std.proofs.lemmas.Bool.Decides.{nat_tests}
 use Rattle.std.proofs.lemmas.List.{append-nil, append_assoc, length-map, reverse-append, reverse-reverse}
 use Rattle.std.proofs.lemmas.List.Elements.{All-contains, All-drop, All-head, All-tail, All-take, All-weaker}
+use Rattle.justfile_base.specs.CompileErrorKind.{tokens_in}
 use Rattle.justfile_base.specs.StringKind.{delimiter_len, kind_of}
 use Rattle.justfile_base.specs.StringLiteral.{begins_format_string}
 use Rattle.justfile_word.specs.declared.format_string_part.FormatStringPart.TheVariants as format_parts
@@ -45,7 +46,7 @@ use Rattle.justfile_model.specs.Answers.{IsFrom, IsLexerFault}
 use Rattle.justfile_model.specs.Conditions.{Conditions, with_limit}
 use Rattle.justfile_model.specs.Files.{FileDerives, NumbersSuffice, body_literals, dependency_literals, entries_literals, expr_literals, exprs_literals, fragments_literals, header_literals, item_literals, literals, optional_literals, ordered, parameter_literals, parts_literals}
 use Rattle.justfile_model.specs.Lexed.{Lexed, IsFault}
-use Rattle.justfile_model.specs.LexicalFault.{LexicalFault}
+use Rattle.justfile_model.specs.LexicalFault.{LexicalFault, lexical_fault_of}
 use Rattle.justfile_model.specs.Features.{Noted}
 use Rattle.justfile_model.specs.Literals as lits
 use Rattle.justfile_model.specs.Literals.{Expansions, Expanded, Literal, Plain, over_literal, string_of, cooked_text, AreCookedTexts}
@@ -75,7 +76,8 @@ use Rattle.justfile_parse.specs.WantsNumber.{WantsNumber}
 use Rattle.justfile_parse.proofs.Comments.{AreComments, lexed_comments}
 use Rattle.justfile_parse.proofs.GivenAttributes.{given_set, joined_cook, lexemes, set_cooks, string_cooks, string_tok}
 use Rattle.justfile_parse.proofs.GivenParts as parts
-use Rattle.justfile_parse.proofs.NotInternal.{not_internal, refusal_not_internal}
+use Rattle.justfile_parse.proofs.Held.{lexical_held}
+use Rattle.justfile_parse.proofs.NotInternal.{not_internal, not_lexical, refusal_not_internal}
 use Rattle.justfile_tree.specs.Expression.{assert_of, conditional_of, expr_of, expr_cooked, exprs_cooked, exprs_of_row, format_of, optional_cooked, join_of, literal_tok, part_tok, parts_cooked, parts_of_row}
 use Rattle.justfile_tree.specs.declared.expression.Expression.{Expression, And', Assert', Backtick, Call', Comparison', Concatenation', Conditional', FormatString', Group', Join', List', ListConcatenation', Not', Or', StringLiteral, Variable, Held-Expression-Assert-1 as OptionalExpression, None', Some', Row_of-Expression as ExpressionRow, end_of-Expression as row_end, more_of-Expression as row_more, Row_of-Expression-FormatString-1-2 as FormatRow, end_of-Expression-FormatString-1-2 as format_row_end, more_of-Expression-FormatString-1-2 as format_row_more}
 
@@ -457,6 +459,7 @@ module _ (conditions : Conditions) (tokens : List Token) (table : List TableEntr
       record {
         derives_none = λ tree features d. let x = found tree features d in ok_is_no_error h.refusal (x.0, features) there h.read x.2;
         among = in_tokens tokens table all e.token h.among;
+        held = All-weaker (IsInTable table) (Contains tokens) (in_tokens tokens table all) (tokens_in e.kind) h.held;
         not_internal = refusal_not_internal ts h.refusal e error;
         refused = record {
           refusal = h.refusal;
@@ -533,6 +536,7 @@ module _ (conditions : Conditions) (path src : List ℕ) (utf8 : IsUtf8 src) (to
       record {
         derives_none = λ tree features d. h.derives_none tree features (derives_tokens conditions.limit tree features d);
         from = from_tokens e.token h.among;
+        held = All-weaker (Contains tokens) (IsFrom path src) from_tokens (tokens_in e.kind) h.held;
         not_internal = h.not_internal;
         cause = inr (record { tokens = map tok_of tokens; lexed = lexed; refused = h.refused });
         deep = λ limit tree features d.
@@ -567,6 +571,7 @@ lexical conditions path src numerator (faults.Compile e) h =
     record {
       derives_none = λ tree features d. never_both src d.tokens h.fault (tok_of e.token) d.lexed h.is_fault;
       from = h.from;
+      held = lexical_held (IsFrom path src) e.kind (λ other. not_lexical src (lexical_fault_of e.kind) (tok_of e.token) other (let P : LexicalFault → Type 0 = λ f. IsFault src f (tok_of e.token) in subst P (sym h.kind_is) h.is_fault));
       not_internal = not_internal src e.kind (tok_of e.token) (let P : LexicalFault → Type 0 = λ f. IsFault src f (tok_of e.token) in subst P (sym h.kind_is) h.is_fault);
       cause = inl (h, refl);
       deep = λ limit tree features d. absurd (never_both src d.tokens h.fault (tok_of e.token) d.lexed h.is_fault);

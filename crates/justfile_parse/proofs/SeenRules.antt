@@ -31,7 +31,7 @@ module _ (Spot : Token → Tok → Type 0) (is : (t : Token) (k : Tok) → Spot 
   same_rule (alike.min_exceeds e f) = λ i. rules.ArgAttributeMinExceedsMax (e i) (f i)
   same_rule (alike.duplicate a f) = λ i. rules.DuplicateAttribute (is _ _ a i) (is _ _ f i)
   same_rule (alike.duplicate_arg e f) = λ i. rules.DuplicateArgAttribute (e i) (is _ _ f i)
-  same_rule (alike.duplicate_group b g f) = λ i. rules.DuplicateGroupAttribute (b i) (is _ _ g i) (is _ _ f i)
+  same_rule (alike.duplicate_group v g f) = λ i. rules.DuplicateGroupAttribute (v i) (is _ _ g i) (is _ _ f i)
   same_rule (alike.invalid_attribute {item = item} e) = λ i. rules.InvalidAttribute item (e i)
   same_rule (alike.duplicate_long e r) = λ i. rules.DuplicateLongOption (e i) (is _ _ r i)
   same_rule (alike.duplicate_short e r) = λ i. rules.DuplicateShortOption (e i) (is _ _ r i)

@@ -3,8 +3,9 @@ use Rattle.std.proofs.Common.{◌≡◌, ℕ, ◌+◌, ◌<◌, ◌≤◌, Bool,
 use Rattle.std.specs.Prelude.{◌-◌, ◌^◌}
 use Rattle.std.proofs.lemmas.Bool.Decides.{nat_tests}
 use Rattle.std.proofs.lemmas.List.{length-map}
-use Rattle.std.proofs.lemmas.List.Elements.{All-head, All-tail}
+use Rattle.std.proofs.lemmas.List.Elements.{All-head, All-nil, All-tail}
 use Rattle.justfile_word.specs.Numerator.{bindings_of, recipes_of}
+use Rattle.justfile_base.specs.CompileErrorKind.{tokens_in}
 use Rattle.justfile_base.specs.declared.compile_error.CompileError.{CompileError}
 use Rattle.justfile_base.specs.declared.fault.Fault.{Fault}
 use Rattle.justfile_base.specs.declared.fault.Fault.TheVariants as faults
@@ -63,6 +64,7 @@ use Rattle.justfile_parse_expression.specs.declared.stop.Refusal.TheVariants.{Un
 use Rattle.justfile_parse_expression.specs.declared.stop.Stop.{Stop}
 use Rattle.justfile_parse_expression.specs.declared.stop.Stop.TheVariants as stops
 use Rattle.justfile_parse_expression.proofs.Cooked.{kind_is_due}
+use Rattle.justfile_parse.proofs.Held.{extraneous_held, keyword_held, literal_held, rule_held, unexpected_held, unknown_held, variadic_held}
 use Rattle.justfile_parse.proofs.Tables.{in_table}
 use Rattle.justfile_parse_expression.proofs.Seen.{IsEntry, Relates}
 use Rattle.justfile_parse_item.proofs.Seen.{respects, seen}
@@ -239,30 +241,43 @@ module _ (conditions : Conditions) (bound : ℕ) (within : conditions.limit ≤ 
   place_at a.no_next token is = (is.1, is.0)
   place_at (a.a_next {t = e} h) token is = (ap tok_of is ∙ ap (λ (t : SignificantToken). t.tok) h.is, subst (IsInTable table) (sym is) h.among)
 
-  error_at : (r : Refusal) (s : State) (e : CompileError) (e' : model.Refusal) → Refusals rel (refusal_at r s) e' → IsKindAt r e.kind e.token → IsNextPlace table (front s.left) e.token → IsErrorOf tokens e' e × IsInTable table e.token
-  unfolding reading.refused
-  error_at Unexpected s e e' (a.unexpected h) kind is = let x = place_at h e.token is in ((kind, x.0), x.1)
-  error_at TooDeep s e e' (a.too_deep h) kind is = let x = place_at h e.token is in ((kind, x.0), x.1)
+  -- the tokens that the error holds are in the table
+  abbrev Holds : CompileError → Type 0
+  Holds e = All (IsInTable table) (tokens_in e.kind)
 
-  literal_at : (l : LiteralRefusal) (e' : model.Refusal) → Refusals rel (literal_refusal l.error) e' → IsErrorOf tokens e' l.error × IsInTable table l.error.token
+  error_at : (r : Refusal) (s : State) (e : CompileError) (e' : model.Refusal) → Refusals rel (refusal_at r s) e' → IsKindAt r e.kind e.token → IsNextPlace table (front s.left) e.token → IsErrorOf tokens e' e × IsInTable table e.token × Holds e
+  unfolding reading.refused
+  error_at Unexpected s e e' (a.unexpected h) kind is = let x = place_at h e.token is in ((kind, x.0), x.1, unexpected_held (IsInTable table) e.kind e.token kind)
+  error_at TooDeep s e e' (a.too_deep h) kind is =
+      let x = place_at h e.token is in ((kind, x.0), x.1, subst (λ (k : CompileErrorKind). All (IsInTable table) (tokens_in k)) (sym kind) (All-nil (IsInTable table)))
+
+  literal_at : (l : LiteralRefusal) (e' : model.Refusal) → Refusals rel (literal_refusal l.error) e' → IsErrorOf tokens e' l.error × IsInTable table l.error.token × Holds l.error
   unfolding literal_refusal
-  literal_at l e' (a.not_cooked h) = ((kind_is_due l.error.kind l.is_literal, h.is), h.among)
+  literal_at l e' (a.not_cooked h) =
+      let due = kind_is_due l.error.kind l.is_literal in
+      ((due, h.is), h.among, literal_held (IsInTable table) _ l.error.kind due)
 
   -- a rule that is broken, attributes before no construct, a name after the last parameter, one of no setting, or a word that may not stand there
-  broken_at : (error : CompileError) (r : table_reader.Refusal) (e' : model.Refusal) → IsBrokenBy {Y = Pair} (Err r) error → Refusals rel r e' → IsErrorOf tokens e' error × IsInTable table error.token
-  broken_at error (reading.BreaksRule b) e' says (a.breaks h) =
-      (record { rule = b; error = says; same = same_broken rel.spot (λ t k h. h.is) h }, subst (IsInTable table) (sym says.token) h.token.among)
-  broken_at error (reading.Extraneous count opener) e' says (a.extraneous {count' = count'} same h) =
-      ((extraneous_as same error.kind says.0, ap tok_of says.1 ∙ h.is), subst (IsInTable table) (sym says.1) h.among)
+  broken_at : (error : CompileError) (r : table_reader.Refusal) (e' : model.Refusal) → IsBrokenBy {Y = Pair} (Err r) error → Refusals rel r e' → IsErrorOf tokens e' error × IsInTable table error.token × Holds error
+  broken_at error (reading.BreaksRule b) e' says (a.breaks h) = (
+    record { rule = b; error = says; same = same_broken rel.spot (λ t k h. h.is) h },
+    subst (IsInTable table) (sym says.token) h.token.among,
+    rule_held (IsInTable table) rel.spot (λ t k h. h.among) b.token h.rule error.kind says.says,
+  )
+  broken_at error (reading.Extraneous count opener) e' says (a.extraneous {count' = count'} same h) = (
+    (extraneous_as same error.kind says.0, ap tok_of says.1 ∙ h.is),
+    subst (IsInTable table) (sym says.1) h.among,
+    extraneous_held (IsInTable table) count error.kind says.0,
+  )
     where
       extraneous_as : {m n : ℕ} → m ≡ n → (kind : CompileErrorKind) → IsExtraneous m kind → IsExtraneous n kind
       extraneous_as e kind h = subst (λ (k : ℕ). IsExtraneous k kind) e h
   broken_at error (reading.AfterVariadic name) e' says (a.after_variadic h) =
-      ((subst (λ (t : Token). IsAfterVariadic t error.kind) (sym says.1) says.0, ap tok_of says.1 ∙ h.is), subst (IsInTable table) (sym says.1) h.among)
+      ((subst (λ (t : Token). IsAfterVariadic t error.kind) (sym says.1) says.0, ap tok_of says.1 ∙ h.is), subst (IsInTable table) (sym says.1) h.among, variadic_held (IsInTable table) name error.kind says.0)
   broken_at error (reading.UnknownSetting name) e' says (a.unknown_setting h) =
-      ((subst (λ (t : Token). IsUnknownSetting t error.kind) (sym says.1) says.0, ap tok_of says.1 ∙ h.is), subst (IsInTable table) (sym says.1) h.among)
+      ((subst (λ (t : Token). IsUnknownSetting t error.kind) (sym says.1) says.0, ap tok_of says.1 ∙ h.is), subst (IsInTable table) (sym says.1) h.among, unknown_held (IsInTable table) name error.kind says.0)
   broken_at error (reading.ExpectedKeyword expected found) e' says (a.expected_keyword h) =
-      ((subst (λ (t : Token). IsExpectedKeyword expected t error.kind) (sym says.1) says.0, ap tok_of says.1 ∙ h.is), subst (IsInTable table) (sym says.1) h.among)
+      ((subst (λ (t : Token). IsExpectedKeyword expected t error.kind) (sym says.1) says.0, ap tok_of says.1 ∙ h.is), subst (IsInTable table) (sym says.1) h.among, keyword_held (IsInTable table) expected found error.kind says.0 h.among)
   broken_at error (reading.Unexpected at) e' says h = absurd says
   broken_at error (reading.TooDeep at) e' says h = absurd says
   broken_at error (reading.NotCooked fault at) e' says h = absurd says
@@ -426,7 +441,7 @@ module _ (conditions : Conditions) (bound : ℕ) (within : conditions.limit ≤ 
       refused_of : (r : Refusal) (s : State) (e : CompileError) → Lost (counters_of old) (refusal_at r s) (there (counters_of old)) → IsKindAt r e.kind e.token → IsNextPlace table (front s.left) e.token → IsUnread others tokens (IsInTable table) old new (faults.Compile e)
       refused_of r s e (refused e' is h) kind at =
           let x = error_at r s e e' h kind at in
-          record { refusal = e'; read = sym (file_by (counters_of old) others tokens) ∙ ap (λ (r : Found (counters_of old)). whole r) is; error = x.0; among = x.1 }
+          record { refusal = e'; read = sym (file_by (counters_of old) others tokens) ∙ ap (λ (r : Found (counters_of old)). whole r) is; error = x.0; among = x.1; held = x.2 }
       refused_of r s e (wanting m is short) kind at = absurd (no_number r s m is)
       refused_of r s e (deeper o is loose) kind at = absurd (exact loose)
 
@@ -434,7 +449,7 @@ module _ (conditions : Conditions) (bound : ℕ) (within : conditions.limit ≤ 
       literal_of l e (refused e' is h) same =
           let x = literal_at l e' h in
           subst (λ (k : CompileError). IsUnread others tokens (IsInTable table) old new (faults.Compile k)) (sym same)
-          (record { refusal = e'; read = sym (file_by (counters_of old) others tokens) ∙ ap (λ (r : Found (counters_of old)). whole r) is; error = x.0; among = x.1 })
+          (record { refusal = e'; read = sym (file_by (counters_of old) others tokens) ∙ ap (λ (r : Found (counters_of old)). whole r) is; error = x.0; among = x.1; held = x.2 })
       literal_of l e (wanting m is short) same = absurd (no_literal l m is)
       literal_of l e (deeper o is loose) same = absurd (exact loose)
 
@@ -462,7 +477,7 @@ module _ (conditions : Conditions) (bound : ℕ) (within : conditions.limit ≤ 
           go : Lost (counters_of old) r (there (counters_of old)) → IsUnread others tokens (IsInTable table) old new (faults.Compile error)
           go (refused e' there_is h) =
               let x = broken_at error r e' says h in
-              record { refusal = e'; read = sym (file_by (counters_of old) others tokens) ∙ ap (λ (r : Found (counters_of old)). whole r) there_is; error = x.0; among = x.1 }
+              record { refusal = e'; read = sym (file_by (counters_of old) others tokens) ∙ ap (λ (r : Found (counters_of old)). whole r) there_is; error = x.0; among = x.1; held = x.2 }
           go (wanting m e short) = absurd (subst (λ (k : table_reader.Refusal). IsBrokenBy {Y = Pair} (Err k) error) e says)
           go (deeper o e loose) = absurd (exact loose)
 

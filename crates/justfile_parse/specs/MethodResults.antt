@@ -1,5 +1,6 @@
 -- What reading a table of tokens returns is what the definitions read.
-use Rattle.std.specs.Prelude.{◌≡◌, ℕ, ◌≤◌, List, Option, Some, None, Ok, Err, map}
+use Rattle.std.specs.Prelude.{◌≡◌, ℕ, ◌≤◌, List, All, Option, Some, None, Ok, Err, map}
+use Rattle.justfile_base.specs.CompileErrorKind.{tokens_in}
 use Rattle.justfile_word.specs.Numerator.{bindings_of, recipes_of}
 use Rattle.justfile_base.specs.declared.compile_error.CompileError.{CompileError}
 use Rattle.justfile_base.specs.declared.compile_error_kind.CompileErrorKind.{CompileErrorKind}
@@ -62,12 +63,13 @@ pub record IsRead (conditions : Conditions) (table : List TableEntry) (file_dept
   pub given : IsGivenItems conditions.expander (IsInTable table) file_depth import_offsets old new x.0
   pub noted : AreNotedIn table x.1
 
--- the error is that of the refusal, at a token that `IsToken` allows
+-- the error is that of the refusal, at a token that `IsToken` allows, and holds such tokens alone
 pub record IsReadError (conditions : Conditions) (tokens : List SignificantToken) (IsToken : Token → Type 0) (e : CompileError) : Type 0 where
   pub refusal : tree.Refusal
   pub read : tree.tree_of_tokens conditions tokens ≡ Err refusal
   pub error : IsErrorOf tokens refusal e
   pub among : IsToken e.token
+  pub held : All IsToken (tokens_in e.kind)
 
 -- no tree that is read under this limit or a greater one has numbers enough
 abbrev pub NeverEnough : Conditions → List SignificantToken → Numerator → Type 0

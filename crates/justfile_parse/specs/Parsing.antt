@@ -1,7 +1,7 @@
 -- What parsing answers.
 use Rattle.std.specs.Prelude.{◌≡◌, ℕ, ◌⊎◌, ◌+◌, List, map, All, None}
 use Rattle.std.specs.Str.{IsUtf8}
-use Rattle.justfile_base.specs.CompileErrorKind.{internal_message}
+use Rattle.justfile_base.specs.CompileErrorKind.{internal_message, tokens_in}
 use Rattle.justfile_base.specs.declared.compile_error.CompileError.{CompileError}
 use Rattle.justfile_word.specs.Numerator.{bindings_of, recipes_of}
 use Rattle.justfile_base.specs.declared.fault.Fault.{Fault}
@@ -50,11 +50,12 @@ pub record IsParsed (conditions : Conditions) (tokens : List Tok) (IsToken : Tok
   pub derives : FileDerives conditions (significant_tokens tokens) (tree_of ast) (features_of ast)
   pub filled : IsFilled conditions.expander IsToken file_depth import_offsets old new ast
 
--- No tree derives; the error is that of the refusal, stands at one of the tokens and is no fault of the program. Where a tree derives under
--- another limit, the error says that this one is exceeded.
+-- No tree derives; the error is that of the refusal, stands at one of the tokens, holds tokens among them alone, and is no fault of the program.
+-- Where a tree derives under another limit, the error says that this one is exceeded.
 pub record IsCompileError (conditions : Conditions) (tokens : List Tok) (IsToken : Token → Type 0) (e : CompileError) : Type 0 where
   pub derives_none : (tree : Tree) (features : List (Noted Tok)) → FileDerives conditions (significant_tokens tokens) tree features → ⊥
   pub among : IsToken e.token
+  pub held : All IsToken (tokens_in e.kind)
   pub not_internal : internal_message e.kind ≡ None
   pub refused : IsRefused conditions (significant_tokens tokens) e
   pub deep : (limit : ℕ) (tree : Tree) (features : List (Noted Tok)) (d : FileDerives (with_limit limit conditions) (significant_tokens tokens) tree features)
@@ -82,11 +83,12 @@ pub record IsTextRefused (conditions : Conditions) (src : List ℕ) (e : Compile
   pub refused : IsRefused conditions (significant_tokens tokens) e
 
 -- The text derives no tree, which the error says at a part of the text and never as a fault of the program: it is the fault of lexing,
--- which leaves the numerator as it was, or that of the refusal of the text's tokens. Where it derives a tree under another limit, the error
--- says that this one is exceeded.
+-- which leaves the numerator as it was, or that of the refusal of the text's tokens. The tokens that it holds have this path and this source.
+-- Where the text derives a tree under another limit, the error says that this one is exceeded.
 pub record IsTreeless (conditions : Conditions) (path src : List ℕ) (old new : Numerator) (e : CompileError) : Type 0 where
   pub derives_none : (tree : Tree) (features : List (Noted Tok)) → TextDerives conditions src tree features → ⊥
   pub from : IsFrom path src e.token
+  pub held : All (IsFrom path src) (tokens_in e.kind)
   pub not_internal : internal_message e.kind ≡ None
   pub cause : (IsLexicalError path src e × (new ≡ old)) ⊎ IsTextRefused conditions src e
   pub deep : (limit : ℕ) (tree : Tree) (features : List (Noted Tok)) (d : TextDerives (with_limit limit conditions) src tree features)

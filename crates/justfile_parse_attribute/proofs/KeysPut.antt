@@ -4,25 +4,24 @@ use Rattle.std.specs.BTreeMap.{insert_entry, values}
 use Rattle.std.specs.Global.{Box}
 use Rattle.std.specs.List.{All, AllByRecursion, Contains, list_any}
 use Rattle.std.specs.Map.{values_of}
-use Rattle.std.specs.Ordering.{is_eq, match_ordering}
+use Rattle.std.specs.Ordering.{match_ordering}
 use Rattle.std.specs.Str.{bytes_eq}
 use Rattle.std.specs.declared.cmp.Ordering.{Ordering}
 use Rattle.std.specs.declared.cmp.Ordering.TheVariants.{Less, Equal, Greater}
 use Rattle.std.proofs.lemmas.List.Elements.{All-contains, All-contains_itself, All-from_recursion, Contains-append_cases, Contains-append_right, Contains-push_cases, recursion_from_All}
-use Rattle.std.proofs.lemmas.Map.Text.{is_eq-slice_cmp}
 use Rattle.std.proofs.lemmas.Map.Views.{All-values-insert_entry}
 use Rattle.std.proofs.lemmas.Slice.Eq.{bytes_eq-Decides}
 use denote.Ref.{Bor}
-use Rattle.justfile_attribute_rules.specs.Keys.{AreKeyed, KeyMap, key_argument, key_arguments}
+use Rattle.justfile_attribute_rules.specs.Keys.{AreKeyed, IsPut, KeyMap, key_argument, key_arguments, key_text, text_order}
 use Rattle.justfile_attribute_rules.specs.Made.{placed_leaf, placed_leaves}
-use Rattle.justfile_base.specs.Token.{lexeme_of}
+use Rattle.justfile_attribute_rules.proofs.PutKeys.{IsKeyed, Stored, none_keyed, stays_keyed, tied}
 use Rattle.justfile_word.specs.declared.attribute_kind.AttributeKind.{AttributeKind}
 use Rattle.justfile_base.specs.declared.token.Token.{Token}
 use Rattle.justfile_model.specs.Meaning.{KeyArgument, Placed, by_key, by_position}
 use Rattle.justfile_model.specs.NewAttribute.{new_attribute}
 use Rattle.justfile_model.proofs.NewAttributeSteps.{contains_first, nothing_in}
 use Rattle.justfile_model.proofs.SameKeys.{SameKeys, attribute_same}
-use Rattle.justfile_parse_attribute.specs.ArgumentKeys.{Given, HasKeys, IsPut, are_distinct, are_keys_distinct, key_text, text_order}
+use Rattle.justfile_parse_attribute.specs.ArgumentKeys.{Given, HasKeys, are_distinct, are_keys_distinct}
 use Rattle.justfile_parse_attribute.specs.Attributes.{arguments_of, keyed_of, positional_of}
 use Rattle.justfile_parse_attribute.specs.declared.arguments.Arguments.{Arguments}
 use Rattle.justfile_parse_attribute.proofs.ArgumentLists.{both, keys_are}
@@ -112,16 +111,6 @@ module _ {X : Type 0} (text : X → List ℕ) where
 
 -- ---- a key that is put into a map
 
-abbrev Stored : Type 0
-Stored = Bor (List ℕ) × Given
-
--- a key stands by its text
-abbrev IsKeyed : Stored → Type 0
-IsKeyed e = e.0.now ≡ lexeme_of e.1.0.token
-
-tied : (s t : Bor (List ℕ)) → text_order s t ≡ Equal → s.now ≡ t.now
-tied s t h = (bytes_eq-Decides s.now t.now).0 (sym (is_eq-slice_cmp s.now t.now) ∙ ap is_eq h)
-
 module _ (text : Bor (List ℕ)) (g : Given) where
   abbrev put : List Stored → List Stored
   put es = insert_entry text_order es text g
@@ -136,15 +125,6 @@ module _ (text : Bor (List ℕ)) (g : Given) where
       go Greater later = contains_later e.1 (values_of (put es)) g later
 
   module _ (is : text.now ≡ key_text g) where
-    put_keyed : (es : List Stored) → AllByRecursion IsKeyed es → AllByRecursion IsKeyed (put es)
-    put_keyed [] h = (is, tt)
-    put_keyed (e ∷ es) h = go (text_order text e.0) refl (put_keyed es h.1)
-      where
-        go : (r : Ordering) → text_order text e.0 ≡ r → AllByRecursion IsKeyed (put es) → AllByRecursion IsKeyed (match_ordering r ((text, g) ∷ e ∷ es) ((e.0, g) ∷ es) (e ∷ put es))
-        go Less r later = (is, h)
-        go Equal r later = (sym (tied text e.0 r) ∙ is, h.1)
-        go Greater r later = (h.0, later)
-
     -- no key is lost: one that is replaced has the same text, so it is the same
     put_keeps : (all : List Given) → OneEach key_text all → Contains all g → (es : List Stored) → AllByRecursion IsKeyed es → AllByRecursion (Contains all) (values_of es)
         → AllByRecursion (Contains (values_of (put es))) (values_of es)
@@ -172,23 +152,12 @@ pub record ArePut (all left : List Given) (m : KeyMap) : Type 0 where
   pub back : AllByRecursion (Contains all) (values m)
 
 pub none_put : (all : List Given) (m : KeyMap) → m.entries ≡ [] → ArePut all all m
-unfolding AreKeyed
 none_put all m e = record {
-  keyed = rw e (All-from_recursion IsKeyed [] tt);
+  keyed = none_keyed m e;
   there = all_then (Contains all) (λ g. Contains all g ⊎ Contains (values m) g) (λ g c. inl c) all (each_in all);
   left_back = each_in all;
   back = rw e tt;
 }
-
--- a map in which each key stands by its text, with one more that does
-pub stays_keyed : (g : Given) (m n : KeyMap) → IsPut g m n → AreKeyed m → AreKeyed n
-unfolding AreKeyed
-stays_keyed g m n p h =
-    let keyed = recursion_from_All IsKeyed m.entries h in
-    subst (All IsKeyed) (sym p.entries) (All-from_recursion IsKeyed (put p.text g m.entries) (put_keyed p.text g p.is m.entries keyed))
-
-pub none_keyed : (m : KeyMap) → m.entries ≡ [] → AreKeyed m
-none_keyed m e = (none_put [] m e).keyed
 
 pub one_put : (all before front : List Given) (g : Given) (m n : KeyMap) → IsTrue (are_keys_distinct all) → ArePut all before m → before ≡ front ++ g ∷ [] → IsPut g m n → ArePut all front n
 unfolding AreKeyed are_keys_distinct
@@ -226,7 +195,6 @@ one_put all before front g m n distinct h e p =
 
 pub all_put : (all : List Given) (m : KeyMap) → ArePut all [] m → HasKeys all m
 all_put all m h = record {
-  keyed = h.keyed;
   there = All-from_recursion (Contains (values m)) all (all_then (λ g. Contains [] g ⊎ Contains (values m) g) (Contains (values m)) moved all h.there);
   back = All-from_recursion (Contains all) (values m) h.back;
 }

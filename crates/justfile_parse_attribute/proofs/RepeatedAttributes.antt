@@ -9,12 +9,14 @@ use Rattle.justfile_attribute.specs.declared.interpreter.Interpreter.{Interprete
 use Rattle.justfile_attribute_rules.specs.Made.{Makes, quoted_leaf}
 use Rattle.justfile_word.specs.declared.attribute_kind.AttributeKind.{AttributeKind}
 use Rattle.justfile_word.specs.declared.attribute_kind.AttributeKind.TheVariants as kinds
+use Rattle.justfile_base.specs.StringLiteral.{IsSameLiteral}
 use Rattle.justfile_base.specs.declared.fault.Fault.{Fault}
 use Rattle.justfile_base.specs.declared.name.Name.{Name}
 use Rattle.justfile_base.specs.declared.string_literal.StringLiteral.{StringLiteral}
 use Rattle.justfile_base.specs.declared.token.Token.{Token}
-use Rattle.justfile_model.specs.AttributeRules.{duplicate_rule, excludes, label_of}
+use Rattle.justfile_model.specs.AttributeRules.{duplicate_rule, excludes, label_of, quoted_value}
 use Rattle.justfile_model.specs.ContentKeys.{kind_of_attribute}
+use Rattle.justfile_model.specs.ContentLeaf.{LiteralValue, literal_value}
 use Rattle.justfile_model.specs.Literals.{string_of, token_of}
 use Rattle.justfile_model.specs.Meaning.{quoted_text, text_of}
 use Rattle.justfile_model.specs.NewAttribute as new
@@ -27,7 +29,8 @@ use Rattle.justfile_written.specs.Written.{uncommented}
 use Rattle.justfile_written.specs.declared.written.Written.{Written}
 use Rattle.justfile_parse_attribute.specs.AddedAttributes.{ChecksLast, IsAdded}
 use Rattle.justfile_parse_attribute.specs.Attributes.{entry_of_pair}
-use Rattle.justfile_tree.specs.LeafSight.{sees_leaves, leaf_cooked}
+use Rattle.justfile_tree.specs.Content.{literal_content}
+use Rattle.justfile_tree.specs.LeafSight.{sees_leaves, leaf_cooked, leaf_literal}
 use Rattle.justfile_tree.specs.LeafTree.{Leaf, Literal, leaf_tree_of, literal_of}
 use Rattle.justfile_tree.specs.declared.expression.Expression.{Expression}
 
@@ -53,6 +56,18 @@ label_text l = go l.expand
     go true = refl
     go false = refl
 
+-- what a literal holds
+label_value : (l : StringLiteral) → quoted_value sees_leaves (quoted_leaf l) ≡ literal_value (literal_content l)
+label_value l = go l.expand
+  where
+    go : (b : Bool) → literal_value (leaf_literal (token_of (string_of b (Literal (literal_of l))))) ≡ literal_value (literal_content l)
+    go true = refl
+    go false = refl
+
+-- a copy holds the same
+pub copied_value : (copy original : StringLiteral) → IsSameLiteral copy original → literal_value (literal_content copy) ≡ literal_value (literal_content original)
+copied_value copy original h = λ i. record { cooked = h.cooked i; expand = h.expand i; kind = h.kind i; part = h.part i }
+
 -- ---- the refusal, by the label
 
 module _ (name first : Token) where
@@ -70,11 +85,12 @@ module _ (name first : Token) where
   arg_rule a l k e = cc
 
   pub group_rule : (a : Seen) (l : StringLiteral) → (kind_of_attribute a ≡ kinds.Arg → ⊥) → label_of sees_leaves a ≡ Some (quoted_leaf l)
-      → duplicate_rule sees_leaves name a first ≡ DuplicateGroupAttribute l.expand l.token first
+      → duplicate_rule sees_leaves name a first ≡ DuplicateGroupAttribute (literal_value (literal_content l)) l.token first
   group_rule (tree.Arg rules) l k e = absurd (k refl)
   group_rule (tree.Texts kinds.Group (q ∷ qs)) l k e =
       let same : q ≡ quoted_leaf l = cc in
-      ap (λ (q : Quoted Leaf). DuplicateGroupAttribute q.expanded (sees_leaves.place q.token) first) same
+      ap (λ (q : Quoted Leaf). DuplicateGroupAttribute (quoted_value sees_leaves q) (sees_leaves.place q.token) first) same
+      ∙ ap (λ (v : LiteralValue). DuplicateGroupAttribute v l.token first) (label_value l)
   group_rule a l k e = cc
 
 -- ---- one after another

@@ -2,7 +2,8 @@
 ghost use Rattle.std.specs.Prelude.{◌≡◌, IsTrue};
 ghost use Rattle.std.specs.List.{list_any};
 ghost use Rattle.std.specs.Str.{bytes_eq};
-ghost use Rattle.justfile_parse_attribute.specs.ArgumentKeys.{are_keys_distinct, key_text};
+ghost use Rattle.justfile_attribute_rules.specs.Keys.{key_text};
+ghost use Rattle.justfile_parse_attribute.specs.ArgumentKeys.{are_keys_distinct};
 
 use justfile_base::{Name, Token};
 use justfile_parse_expression::Stop;

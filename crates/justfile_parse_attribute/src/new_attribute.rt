@@ -3,17 +3,20 @@ ghost use Rattle.std.specs.Prelude.{◌≡◌, ◌∷◌, ◌++◌, [], IfErr, I
 ghost use Rattle.std.specs.Option.{option_map};
 ghost use Rattle.justfile_attribute.specs.Attribute.{leaf_attribute_of};
 ghost use Rattle.justfile_attribute.specs.New.{IsWholeAttribute};
+ghost use Rattle.justfile_attribute_rules.specs.KeywordArguments.{keys_of};
 ghost use Rattle.justfile_attribute_rules.specs.Made.{IsRefusedBy, Makes, quoted_leaf};
 ghost use Rattle.justfile_model.specs.AttributeRules.{duplicate_rule, excludes, label_of, same_label};
+ghost use Rattle.justfile_model.specs.ContentLeaf.{literal_value};
 ghost use Rattle.justfile_model.specs.Meaning.{by_key, by_position};
 ghost use Rattle.justfile_model.specs.NewAttribute as new;
 ghost use Rattle.justfile_model.specs.NewAttribute.{check_repeated};
 ghost use Rattle.justfile_model.specs.Rules.{DuplicateArgAttribute, DuplicateGroupAttribute};
-ghost use Rattle.justfile_parse_attribute.specs.ArgumentKeys.{HasKeys, IsPut, are_keys_distinct};
+ghost use Rattle.justfile_parse_attribute.specs.ArgumentKeys.{HasKeys, are_keys_distinct};
 ghost use Rattle.justfile_base.specs.declared.fault.Fault.TheVariants.{Memory};
 ghost use Rattle.justfile_parse_attribute.specs.AddedAttributes.{Adds, ChecksLast};
 ghost use Rattle.justfile_parse_attribute.specs.Attributes.{arguments_of, entry_of_pair};
 ghost use Rattle.justfile_parse_attribute.specs.WholeAttributes.{KeepsWholePairs};
+ghost use Rattle.justfile_tree.specs.Content.{literal_content};
 ghost use Rattle.justfile_tree.specs.LeafSight.{sees_leaves};
 ghost use Rattle.justfile_written.specs.Written.{uncommented};
 
@@ -24,7 +27,6 @@ use justfile_base::{AttributeKind, CompileErrorKind, CompileResult, Fault, Name,
 use justfile_tree::Expression;
 use justfile_written::Written;
 use std::alloc::{AllocError, Global};
-use std::collections::BTreeMap;
 
 /// Makes an attribute of its arguments, and adds it to those before it.
 ///
@@ -95,28 +97,15 @@ fn keys_by_text<'src>(
     keyed: Vec<(Name<'src>, Option<Box<Expression<'src>>>)>,
 ) -> Result<KeywordArguments<'src>, AllocError>
     requires { IsTrue (are_keys_distinct keyed.items) }
-    ensures { IfOk result (λ keys. HasKeys keyed.entry.items keys) }
+    ensures { IfOk result (λ keys. HasKeys keyed.entry.items (keys_of keys)) }
 {
     let mut keyed = keyed;
-    let mut keys = BTreeMap::new(alloc);
+    let mut keys = KeywordArguments::new(alloc);
     while let Some(given) = keyed.pop() {
-        put_key(&mut keys, given)?;
+        let (name, value) = given;
+        keys.insert(name, value)?;
     }
     Ok(keys)
-}
-
-/// Puts a key among those by their texts.
-fn put_key<'src>(
-    keys: &mut KeywordArguments<'src>,
-    given: (Name<'src>, Option<Box<Expression<'src>>>),
-) -> Result<(), AllocError>
-    ensures { OnOk result (IsPut given.entry keys.old keys.new) }
-{
-    let text = given.0.lexeme();
-    match keys.insert(text, given) {
-        Ok(_before) => Ok(()),
-        Err(_failed) => Err(AllocError),
-    }
 }
 
 /// Refuses the last attribute if it may not stand after those before it.
@@ -265,13 +254,15 @@ fn repeated_argument<'src>(
 }
 
 /// The refusal of another `group` of the same name.
+#[tactic(auto, using(crate::proofs::RepeatedAttributes::copied_value))]
 fn repeated_group<'src>(
     alloc: Global,
     literal: &StringLiteral<'src>,
     name: Name<'src>,
     first: Name<'src>,
 ) -> Fault<'src>
-    ensures { IsRefusedBy (new.refuse {X = Unit {0}} (DuplicateGroupAttribute literal.now.expand literal.now.token first.entry.token) name.entry.token) result }
+    ensures { IsRefusedBy (new.refuse {X = Unit {0}} (DuplicateGroupAttribute (literal_value (literal_content literal.now)) literal.now.token first.entry.token)
+        name.entry.token) result }
 {
     match literal.clone(alloc) {
         Ok(group) => Fault::Compile(name.error(CompileErrorKind::DuplicateGroupAttribute {

@@ -1,6 +1,7 @@
 -- What is refused of attributes where the construct after them is read.
 use Rattle.std.proofs.Common.{◌≡◌, ◌∙◌, ℕ, All, Bool, true, false, ◌||◌, List, [], ◌∷◌, map, map-id, length, Option, Some, None, Ok, Err, refl, sym, ap, subst}
 use Rattle.std.proofs.lemmas.List.{length-map}
+use Rattle.std.proofs.lemmas.List.Elements.{All-cons, All-head, All-nil, All-tail}
 use Rattle.std.proofs.lemmas.Map.Views.{All-map-IsPermutation}
 use Rattle.justfile_attribute.proofs.Ordered.{kind_seen}
 use Rattle.justfile_attribute.specs.New.{IsWholeAttribute}
@@ -125,6 +126,13 @@ has_seen kind [] = refl
 has_seen kind (p ∷ ps) =
     ap (λ (b : Bool). same_attribute (kind_of p.0) kind || b) (has_seen kind ps)
     ∙ ap (λ (k : AttributeKind). same_attribute k kind || has_attribute kind (map leaf_entry_of ps)) (kind_seen p.0)
+
+-- each attribute that was read is as the parser makes it
+pub whole_pairs : (pairs : List Pair) → AreWholePairs pairs → All (λ (p : Pair). IsWholeAttribute p.0) pairs
+unfolding AreWholeAttributes
+whole_pairs [] h = All-nil (λ (p : Pair). IsWholeAttribute p.0)
+whole_pairs (p ∷ ps) h =
+    All-cons (λ (q : Pair). IsWholeAttribute q.0) p ps (All-head IsWholeAttribute p.0 (firsts ps) h) (whole_pairs ps (All-tail IsWholeAttribute p.0 (firsts ps) h))
 
 -- what the tree doesn't show of the pairs that were read, it doesn't show of the set
 pub set_whole : (pairs ordered : List Pair) → ordered ≡ in_order pair_cmp pairs → AreWholePairs pairs → AreWholeAttributes (firsts ordered)

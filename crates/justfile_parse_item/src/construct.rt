@@ -22,7 +22,7 @@ use justfile_written::Written;
 use std::alloc::Global;
 
 /// The attributes of an item of this kind, whose name or path is at this token, if it may have them.
-#[tactic(auto, using(crate::proofs::Constructs::is_allowed, crate::proofs::Constructs::is_disallowed, crate::proofs::Constructs::set_whole))]
+#[tactic(auto, using(crate::proofs::Constructs::is_allowed, crate::proofs::Constructs::is_disallowed, crate::proofs::Constructs::set_whole, crate::proofs::Constructs::whole_pairs))]
 pub(crate) fn allowed<'src>(
     alloc: Global,
     item: ItemKind,

@@ -130,7 +130,7 @@ counts (Construct entries content ∷ t) = λ k. content_counts content k + coun
 -- ---- the theorem
 
 module _ (conditions : Conditions) where
-  shape_derives : (source : List ℕ) (t : Tree) (fs : List (Noted Tok)) (h : TextDerives conditions source t fs) → ShapeDerives conditions (significant_tokens h.tokens) (shape_of t) (map (over_noted nothing) fs)
+  pub shape_derives : (source : List ℕ) (t : Tree) (fs : List (Noted Tok)) (h : TextDerives conditions source t fs) → ShapeDerives conditions (significant_tokens h.tokens) (shape_of t) (map (over_noted nothing) fs)
   shape_derives source t fs h = file_forgets conditions (significant_tokens h.tokens) (lexed_spelled source h.tokens h.lexed) t fs h.file
 
   -- a shape whose docs were taken of good items
@@ -236,7 +236,7 @@ module _ (conditions : Conditions) where
       }
 
   -- a text has one tree
-  one_text : (source : List ℕ) (t u : Tree) (fs gs : List (Noted Tok)) → TextDerives conditions source t fs → TextDerives conditions source u gs → t ≡ u
+  pub one_text : (source : List ℕ) (t u : Tree) (fs gs : List (Noted Tok)) → TextDerives conditions source t fs → TextDerives conditions source u gs → t ≡ u
   one_text source t u fs gs h q =
       let tokens = one_list source h.tokens q.tokens h.lexed q.lexed in
       (one_tree conditions (significant_tokens q.tokens) t u fs gs (subst (λ ts. FileDerives conditions (significant_tokens ts) t fs) tokens h.file) q.file).0

@@ -29,7 +29,7 @@ pub(crate) fn are_readable(word: Word, fields: &[String]) -> bool {
         Word::CanonicalUnder | Word::Line | Word::PrintsUnder | Word::RefusedUnder => {
             is_number(fields, 0)
         }
-        Word::Numbers => is_number(fields, 0) && is_number(fields, 1),
+        Word::Identifier | Word::Numbers => is_number(fields, 0) && is_number(fields, 1),
         Word::PrintsAt | Word::PrintsItem => first.parse::<Indentation>().is_ok(),
         Word::Sigils => matches!(first, "guarded" | "unguarded"),
         Word::Switch => matches!(first, "long" | "short"),

@@ -6,7 +6,8 @@ use crate::expansion::Expansion;
 use crate::fields::indentation_of;
 use crate::headers::docs;
 use crate::items::{
-    FILE_DEPTH, IMPORT_OFFSETS, WORKING_DIRECTORY, enabled, features, file, indented, unstable,
+    FILE_DEPTH, IMPORT_OFFSETS, WORKING_DIRECTORY, enabled, features, file, indented, keys,
+    unstable,
 };
 use crate::orders::orders;
 use crate::printing::{copies, prints, prints_item};
@@ -92,6 +93,7 @@ fn push_of_items(items: &[Item<'_>], answer: &mut Answer, word: Word, fields: &[
         Word::Attributes => attributes(items, answer),
         Word::Docs => docs(items, answer),
         Word::Enabled => enabled(items, answer),
+        Word::Keys => keys(items, answer),
         Word::Expands | Word::Literal | Word::Value => push_of_value(items, answer, word),
         Word::Orders => orders(items, answer),
         Word::Sets => sets(items, answer),

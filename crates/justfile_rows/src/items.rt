@@ -11,6 +11,7 @@ use justfile_syntax::expression::Expression;
 use justfile_syntax::fragment::Fragment;
 use justfile_syntax::function_definition::FunctionDefinition;
 use justfile_syntax::item::Item;
+use justfile_syntax::keyed::Keyed;
 use justfile_syntax::line::Line;
 use justfile_syntax::list_feature::ListFeature;
 use justfile_syntax::name::Name;
@@ -174,6 +175,25 @@ fn put_path(path: &Option<StringLiteral<'_>>, shown: &mut Text) {
     if let Some(literal) = path {
         shown.put(" ");
         put_literal(literal, shown);
+    }
+}
+
+/// The key of an item that is found by one, and of a recipe that of its name.
+fn push_key(item: &Item<'_>, answer: &mut Answer) {
+    match item {
+        Item::Alias(alias) => answer.push(alias.key()),
+        Item::Assignment(assignment) => answer.push(assignment.key()),
+        Item::Function(function) => answer.push(function.key()),
+        Item::Recipe(recipe) => answer.push(recipe.name.key()),
+        Item::Setting(set) => answer.push(set.key()),
+        _ => {}
+    }
+}
+
+/// The keys of the items that have some.
+pub(crate) fn keys(items: &[Item<'_>], answer: &mut Answer) {
+    for item in items {
+        push_key(item, answer);
     }
 }
 

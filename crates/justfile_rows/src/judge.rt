@@ -5,7 +5,7 @@ use crate::fields::are_readable;
 use crate::files::push_fields;
 use crate::lexing::lex;
 use crate::program::{breaks_each, formats, runs};
-use crate::texts::{class, cooks, indentation, keyword, opens, unindents, version};
+use crate::texts::{class, cooks, identifier, indentation, keyword, opens, unindents, version};
 use crate::word::Word;
 use row_notation::{Answer, field_at};
 use std::alloc::{AllocError, Global};
@@ -54,6 +54,7 @@ fn found(alloc: Global, word: Word, fields: &[String]) -> Answer {
         Word::Class => class(&mut answer, text),
         Word::Cooks => cooks(&mut answer, text),
         Word::Formats => formats(&mut answer, text),
+        Word::Identifier => identifier(&mut answer, fields),
         Word::Indentation => indentation(&mut answer, text),
         Word::Keyword => keyword(&mut answer, text),
         Word::KindOf | Word::Kinds | Word::Lexes | Word::Significant => {

@@ -11,6 +11,7 @@
 
 mod attributes;
 mod beginnings;
+mod copies;
 mod expansion;
 mod fields;
 mod files;

@@ -1,5 +1,6 @@
 //! How the values of a file are ordered.
 
+use crate::copies::copies_assignment;
 use justfile_syntax::expression::Expression;
 use justfile_syntax::item::Item;
 use row_notation::{Answer, Text};
@@ -13,6 +14,7 @@ pub(crate) fn orders(items: &[Item<'_>], answer: &mut Answer) {
         if let Item::Assignment(assignment) = item {
             push_with_next(items, answer, place.saturating_add(2), &assignment.value);
             push_with_copy(&assignment.value, answer);
+            copies_assignment(assignment, answer);
         }
     }
 }

@@ -1,5 +1,6 @@
 //! What is seen of the first recipe of a file and of the lines of its body.
 
+use crate::copies::copies_line;
 use crate::headers::{push_arguments, push_defaults, push_dependencies, push_parameters};
 use crate::items::{FILE_DEPTH, IMPORT_OFFSETS, put_marked};
 use crate::word::Word;
@@ -80,11 +81,12 @@ fn push_sigils(line: &Line<'_>, answer: &mut Answer, guards: bool) {
     }
 }
 
-/// The number of a line of a body, and what the line is.
+/// The number of a line of a body, what the line is, and whether its copies are others.
 fn push_line(line: &Line<'_>, answer: &mut Answer) {
     answer.push_number(line.number);
     answer.push_if("comment", line.is_comment());
     answer.push_if("shebang", line.is_shebang());
     answer.push_if("continuation", line.is_continuation());
     answer.push_if("empty", line.is_empty());
+    copies_line(line, answer);
 }

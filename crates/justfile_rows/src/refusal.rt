@@ -3,6 +3,8 @@
 use justfile_syntax::compile_error::CompileError;
 use justfile_syntax::compile_error_kind::CompileErrorKind;
 use justfile_syntax::fault::Fault;
+use justfile_syntax::string_kind::StringKind;
+use justfile_syntax::string_literal::StringLiteral;
 use justfile_syntax::token_kind::TokenKind;
 use row_notation::Answer;
 use std::alloc::{AllocError, Global};
@@ -31,9 +33,11 @@ fn kind_with_key(alloc: Global, kind: &CompileErrorKind<'_>) -> Result<String, A
             let at = key.token.offset;
             format!(in alloc; "ArgAttributeRequiresOption {{ key: {key}@{at} }}")
         }
-        CompileErrorKind::ArgumentCountParse { key, value } => {
+        CompileErrorKind::ArgumentCountParse { key, source, value } => {
             let at = key.token.offset;
-            format!(in alloc; "ArgumentCountParse {{ key: {key}@{at}, value: {value:?} }}")
+            format!(in alloc;
+                "ArgumentCountParse {{ key: {key}@{at}, source: {source:?}, value: {value:?} }}"
+            )
         }
         CompileErrorKind::ArgumentCountValue { key, value } => {
             let at = key.token.offset;
@@ -49,6 +53,25 @@ fn kind_with_key(alloc: Global, kind: &CompileErrorKind<'_>) -> Result<String, A
         }
         kind => format!(in alloc; "{kind:?}"),
     }
+}
+
+/// The refusal of a group that is there on this line already, with what its literal holds.
+fn kind_of_group(
+    alloc: Global,
+    first: usize,
+    group: &StringLiteral<'_>,
+) -> Result<String, AllocError> {
+    let at = group.token.offset;
+    let cooked = group.cooked.as_str();
+    let StringKind {
+        delimiter,
+        indented,
+    } = group.kind;
+    let width = if indented { "tripled" } else { "single" };
+    let part = if group.part.is_some() { " part" } else { "" };
+    format!(in alloc;
+        "DuplicateGroupAttribute {{ first: {first}, group: {group}@{at}‹{cooked}› {delimiter:?} {width}{part} }}"
+    )
 }
 
 /// A kind of error that settings and paths of files bring.
@@ -91,8 +114,7 @@ pub(crate) fn kind_of(alloc: Global, kind: &CompileErrorKind<'_>) -> Result<Stri
             )
         }
         CompileErrorKind::DuplicateGroupAttribute { first, group } => {
-            let at = group.token.offset;
-            format!(in alloc; "DuplicateGroupAttribute {{ first: {first}, group: {group}@{at} }}")
+            kind_of_group(alloc, *first, group)
         }
         CompileErrorKind::UnexpectedToken { found, .. } => {
             format!(in alloc; "UnexpectedToken {found:?}")

@@ -1,17 +1,18 @@
-//! Texts that are no justfiles: literals, versions, indentations, keywords, bytes.
+//! Texts that are no justfiles: literals, versions, indentations, keywords, bytes, characters.
 
 use crate::lexing::push_string_kind;
 use crate::refusal::push_fault;
 use justfile_syntax::byte_class::byte_class;
 use justfile_syntax::indentation::Indentation;
 use justfile_syntax::keyword::Keyword;
+use justfile_syntax::lexer::Lexer;
 use justfile_syntax::parser::cook_string;
 use justfile_syntax::string_kind::StringKind;
 use justfile_syntax::token::Token;
 use justfile_syntax::token_kind::TokenKind;
 use justfile_syntax::unindent::unindent;
 use justfile_syntax::version::Version;
-use row_notation::Answer;
+use row_notation::{Answer, Text, number_at};
 
 /// The token at which texts with bad escapes are refused.
 const LITERAL: Token<'static> = Token {
@@ -78,6 +79,32 @@ pub(crate) fn class(answer: &mut Answer, text: &str) {
         Ok(byte) => answer.push_made(format!(in answer.alloc(); "{:?}", byte_class(byte))),
         Err(_) => answer.push("none"),
     }
+}
+
+/// A character, if it is one of those that are wanted.
+fn put_wanted(wanted: &mut Text, character: char, is_wanted: bool) {
+    if is_wanted {
+        wanted.put_character(character);
+    }
+}
+
+/// Of the characters from one number up to another those that an identifier may begin with, and
+/// those that it may go on with.
+pub(crate) fn identifier(answer: &mut Answer, fields: &[String]) {
+    let mut first = Text::new(answer.alloc());
+    let mut later = Text::new(answer.alloc());
+    for number in number_at(fields, 0)..number_at(fields, 1) {
+        if let Some(character) = char::from_u32(number) {
+            put_wanted(&mut first, character, Lexer::is_identifier_start(character));
+            put_wanted(
+                &mut later,
+                character,
+                Lexer::is_identifier_continue(character),
+            );
+        }
+    }
+    answer.push_text(first);
+    answer.push_text(later)
 }
 
 /// The kind of the literal that a text begins with, or `none`: its kind, its delimiter, its token's

@@ -93,19 +93,23 @@ pub mod keyword {
 }
 
 pub mod laws {
-    pub use justfile_attribute::laws::{attributes_equal, new_attributes};
+    pub use justfile_attribute::laws::{attributes_equal, interpreters_ordered, new_attributes};
     pub use justfile_attribute_set::laws::sets_in_order;
     pub use justfile_base::laws::{
         attribute_names, indentation_texts, one_spelling, signal_names, versions_ordered,
     };
     pub use justfile_file::laws::same_numbers;
+    pub use justfile_header::laws::header_parts_equal;
+    pub use justfile_item::laws::bindings_equal;
+    pub use justfile_line::laws::{lines_equal, sigils_ordered};
     pub use justfile_literal::laws::{
         answer_for_all as literal_for_all, cooked_is_utf8, indentation_is_longest, lines_joined,
         longest_front, one_answer as one_literal, unindented_already,
     };
     pub use justfile_model::attribute_laws::{attributes_made, content_order};
     pub use justfile_model::grammar_laws::{
-        counts, expanders, needs, normal_twice, numbers_rise, printing, reads, shapes, uncommented,
+        counts, expanders, indentations, needs, normal_twice, numbers_rise, printing, reads,
+        shapes, uncommented,
     };
     pub use justfile_model::laws::{
         answer_for_all, eof_is_last, in_order, lines_start_at_column_0, offsets_rise, one_answer,
@@ -117,8 +121,9 @@ pub mod laws {
     };
     pub use justfile_round_trip::{least_need, modes_agree, reads_back};
     pub use justfile_tree::laws::{
-        cases_ordered, expressions_ordered, literals_ordered, modulepaths_ordered,
-        namepaths_ordered, names_ordered, numbers_ordered, string_kinds_ordered, tokens_ordered,
+        cases_equal, cases_ordered, errors_equal, expression_contents_ordered, expressions_ordered,
+        literals_ordered, modulepaths_ordered, namepaths_ordered, names_ordered, numbers_ordered,
+        string_kinds_ordered, tokens_ordered, words_equal,
     };
 }
 
@@ -233,7 +238,7 @@ pub mod version {
 }
 
 pub mod write_fault {
-    pub use justfile_file::WriteFault;
+    pub use justfile_file::{WriteFault, write_whole};
 }
 
 #[cfg(test)]

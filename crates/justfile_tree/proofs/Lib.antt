@@ -4,6 +4,7 @@ mod Conditionals
 pub mod ContentTies
 mod Copied
 mod Ended
+mod Equalities
 mod ExpressionRows
 mod Joined
 mod Loops

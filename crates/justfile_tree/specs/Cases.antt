@@ -1,5 +1,5 @@
 -- The orders of what has cases alone: each list has the cases in the order in which they are declared.
-use Rattle.std.specs.Prelude.{◌≡◌, Bool, List, ◌∷◌, [], true}
+use Rattle.std.specs.Prelude.{◌≡◌, ◌↔◌, Bool, List, ◌∷◌, [], true}
 use Rattle.std.specs.Cmp.{IsTotalOrder}
 use Rattle.std.specs.List.{list_any}
 use Rattle.std.specs.Ordering.{eq_by_cmp}
@@ -19,6 +19,10 @@ use Rattle.justfile_word.specs.declared.token_kind.TokenKind.{TokenKind}
 use Rattle.justfile_word.specs.declared.token_kind.TokenKind.TheVariants as kinds
 use Rattle.justfile_word.specs.declared.unstable_feature.UnstableFeature.{UnstableFeature}
 use Rattle.justfile_word.specs.declared.unstable_feature.UnstableFeature.TheVariants as features
+
+-- two values are equal exactly where they are the same
+abbrev pub IsExact : {K : Type 0} → (K → K → Bool) → Type 0
+IsExact eq = (x y : _) → (eq x y ≡ true) ↔ (x ≡ y)
 
 -- each comes before the next
 abbrev pub IsRising : {K : Type 0} → (K → K → Ordering) → List K → Type 0

@@ -3,6 +3,7 @@ pub mod Children
 pub mod Content
 pub mod ContentLaws
 pub mod Copies
+pub mod Equal
 pub mod Expression
 pub mod Leaf
 pub mod LeafLaws

@@ -1,9 +1,6 @@
 //! Keys of attributes that the parser gives to no attribute of their kind.
-ghost use Rattle.std.specs.Prelude.{OnOk};
-ghost use Rattle.justfile_attribute_rules.specs.Keys.{AreKeyed};
-ghost use Rattle.justfile_parse_attribute.specs.ArgumentKeys.{IsPut};
 
-use crate::attribute::{Attribute, AttributeKind};
+use crate::attribute::{Attribute, AttributeKind, KeywordArguments};
 use crate::compile_error::CompileError;
 use crate::compile_error_kind::CompileErrorKind;
 use crate::expression::Expression;
@@ -11,8 +8,7 @@ use crate::fault::Fault;
 use crate::name::Name;
 use crate::tests::support::{names, same, same_text};
 use crate::token::Token;
-use std::alloc::{AllocError, Global};
-use std::collections::BTreeMap;
+use std::alloc::Global;
 use std::process::Abort;
 
 /// The name of an attribute with keys after it, how many arguments it has by position, and the key
@@ -43,48 +39,11 @@ fn arguments<'src>(
     arguments
 }
 
-/// Puts a key with its value.
-fn insert_key<'src>(
-    keys: &mut BTreeMap<&'src str, (Name<'src>, Option<Box<Expression<'src>>>)>,
-    given: (Name<'src>, Option<Box<Expression<'src>>>),
-) -> Result<(), AllocError>
-    ensures { OnOk result (IsPut given.entry keys.old keys.new) }
-{
-    let text = given.0.lexeme();
-    match keys.insert(text, given) {
-        Ok(_before) => Ok(()),
-        Err(_failed) => Err(AllocError),
-    }
-}
-
-/// Puts a key without a value.
-#[tactic(auto, using(justfile_parse_attribute::proofs::KeysPut::stays_keyed))]
-fn put_key<'src>(
-    rt: &impl Abort,
-    keys: &mut BTreeMap<&'src str, (Name<'src>, Option<Box<Expression<'src>>>)>,
-    key: Name<'src>,
-)
-    requires { AreKeyed keys.old }
-    ensures { AreKeyed keys.new }
-{
-    match insert_key(keys, (key, None)) {
-        Ok(()) => {}
-        Err(_) => panic!(rt; "no memory"),
-    }
-}
-
 /// The names as keys without values.
-#[tactic(auto, using(justfile_parse_attribute::proofs::KeysPut::none_keyed))]
-fn keys<'src>(
-    rt: &impl Abort,
-    alloc: Global,
-    names: &[Name<'src>],
-) -> BTreeMap<&'src str, (Name<'src>, Option<Box<Expression<'src>>>)>
-    ensures { AreKeyed result }
-{
-    let mut keys = BTreeMap::new(alloc);
+fn keys<'src>(rt: &impl Abort, alloc: Global, names: &[Name<'src>]) -> KeywordArguments<'src> {
+    let mut keys = KeywordArguments::new(alloc);
     for name in names {
-        put_key(rt, &mut keys, *name);
+        keys.insert(*name, None).expect(rt, "no memory");
     }
     keys
 }

@@ -10,7 +10,7 @@ pub returns-in-ArgAttributeRequiresOption : goal.returns-in-ArgAttributeRequires
 returns-in-ArgAttributeRequiresOption g c = rw c.in-ArgAttributeRequiresOption.is c.write_around-in-ArgAttributeRequiresOption.ensures
 
 pub returns-in-ArgumentCountParse : goal.returns-in-ArgumentCountParse
-returns-in-ArgumentCountParse g c = rw c.in-ArgumentCountParse.is c.write_both-in-ArgumentCountParse.ensures
+returns-in-ArgumentCountParse g c = rw c.in-ArgumentCountParse.is c.write_invalid_count.ensures
 
 pub returns-in-ArgumentCountValue : goal.returns-in-ArgumentCountValue
 returns-in-ArgumentCountValue g c = rw c.in-ArgumentCountValue.is c.write_both-in-ArgumentCountValue.ensures

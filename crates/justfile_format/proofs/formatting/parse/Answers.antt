@@ -1,4 +1,5 @@
 use Rattle.justfile_format.proofs.Indented.{file_of}
+use Rattle.justfile_format.proofs.Outcomes.{lacking}
 use Rattle.justfile_format.proofs.Refused.{refusal_of}
 use Rattle.justfile_format.proofs.formatting.parse.Goals as goal
 
@@ -8,3 +9,8 @@ returns-in-Ok-clause-ok c = file_of _ _ _ _ _ _ _ c.in-Ok.ensures.parsed
 pub returns-in-Err-Compile-clause-refused : goal.returns-in-Err-Compile-clause-refused
 returns-in-Err-Compile-clause-refused c =
     refusal_of c.args.source.now _ _ c.in-Err-Compile.field-0 c.in-Err-Compile.error c.refusal.result c.utf8.source c.in-Err-Compile.ensures.no_tree c.in-Err-Compile.field-0-is c.refusal.ensures
+
+pub returns-in-Err-Numbers-clause-numbers : goal.returns-in-Err-Numbers-clause-numbers
+returns-in-Err-Numbers-clause-numbers c same =
+    lacking c.args.source.now c.new-numerator.result c.parse_source.new.numerator c.in-Err-Numbers.field-0 c.in-Err-Numbers.ensures.no_tree c.in-Err-Numbers.field-0-is
+    c.new-numerator.ensures.bindings c.new-numerator.ensures.recipes

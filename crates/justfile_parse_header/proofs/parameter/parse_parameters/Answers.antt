@@ -1,12 +1,16 @@
-use Rattle.std.proofs.Common.{List, subst}
+use Rattle.std.proofs.Common.{◌≡◌, List, map, Ok, subst}
+use Rattle.std.proofs.lemmas.Result.{err_from_is_err_and}
 use Rattle.justfile_word.specs.declared.token_kind.TokenKind.TheVariants as kinds
 use Rattle.justfile_header.specs.declared.parameter.Parameter.{Parameter}
+use Rattle.justfile_model.specs.Reading.{NoNumber}
 use Rattle.justfile_parse_expression.specs.View.{state_of}
-use Rattle.justfile_parse_header.specs.Counting.{names}
+use Rattle.justfile_parse_header.specs.Counting.{counters_of, names}
+use Rattle.justfile_parse_header.specs.HeaderTable as reader
 use Rattle.justfile_parse_header.specs.Said.{KeepsWholeParameters}
-use Rattle.justfile_parse_header.specs.Tree.{rules_of}
+use Rattle.justfile_parse_header.specs.Tree.{parameter_tree, rules_of}
 use Rattle.justfile_parse_header.proofs.Draws.{both_drawn, drawn_before}
-use Rattle.justfile_parse_header.proofs.Parameters.{both_whole, none_whole, then_whole}
+use Rattle.justfile_parse_header.proofs.Halts.{halted}
+use Rattle.justfile_parse_header.proofs.Parameters.{both_whole, last_fails, none_whole, then_whole}
 use Rattle.justfile_parse_header.proofs.parameter.parse_parameters.Goals as goal
 
 pub returns-clause-whole : goal.returns-clause-whole
@@ -27,3 +31,18 @@ returns-clause-drawn g c =
     drawn_before c.args.numerator.now c.parse_last.new.numerator kinds.Colon (names s) s2 _ c.in_ok-expect.ensures.reads
     (both_drawn c.args.numerator.now c.parse_singulars.new.numerator c.parse_last.new.numerator (names s) (names s1) (names s2) c.in_ok-parse_singulars.ensures.drawn
     c.in_ok-parse_last.ensures.drawn)
+
+pub returns-in_err-parse_last-clause-reads : goal.returns-in_err-parse_last-clause-reads
+returns-in_err-parse_last-clause-reads g c =
+    let A = g.X.Expander.answer in
+    let rules = rules_of c.args.attributes.now in
+    let first = counters_of c.args.numerator.now in
+    let s = state_of A c.args.parser.now in
+    let x : reader.Parameters × _ =
+    ((map parameter_tree c.parse_singulars.new.parameters.items, counters_of c.parse_singulars.new.numerator), state_of A c.parse_singulars.new.parser) in
+    let P : List Parameter → Type 0 = λ ps. reader.singulars rules ((map parameter_tree ps, first), s) ≡ Ok x in
+    let fails = last_fails rules first s x (subst P c.new-parameters.ensures.items c.in_ok-parse_singulars.ensures.reads) in
+    let p = err_from_is_err_and c.from_residual-in_err-parse_last.result c.from_residual-in_err-parse_last.ensures.1 in
+    rw (p.1, p.2)
+    (halted (reader.last_parameter rules x) (reader.parameters rules first s) fails c.in_err-parse_last.field-0.0 (state_of A c.parse_last.new.parser) _ _
+    (fails (NoNumber (counters_of c.parse_last.new.numerator))) c.in_err-parse_last.ensures.reads)

@@ -17,7 +17,7 @@ use Rattle.justfile_parse_expression.specs.View.{state_of}
 use Rattle.justfile_parse_expression.proofs.Rest.{file_depth_is, import_offsets_are}
 use Rattle.justfile_parse_header.specs.Counting.{counters_of, names}
 use Rattle.justfile_parse_header.specs.Tree.{header_tree}
-use Rattle.justfile_parse_item.proofs.Constructs.{set_whole}
+use Rattle.justfile_parse_item.proofs.Constructs.{set_whole, whole_pairs}
 use Rattle.justfile_parse_item.proofs.Moved.{drawn_moved, recipe_moved}
 use Rattle.justfile_parse_item.proofs.Recipes.{body_stops, exclusion_halts, header_halts, number_stops, recipe_named, recipe_read}
 use Rattle.justfile_parse_item.proofs.recipe.parse_recipe.Goals as goal
@@ -31,7 +31,7 @@ returns-in_err-header-clause-reads g c =
     let A = g.X.Expander.answer in
     let p = err_from_is_err_and c.from_residual-in_err-header.result c.from_residual-in_err-header.ensures.1 in
     rw (p.1, p.2)
-    (header_halts c.args.quiet (map entry_of_pair c.args.attributes.items) (counters_of c.args.numerator.now) (state_of A c.args.parser.now) (leaf_entries_of c.in_ok-attributes.attributes) c.in_ok-attributes.ensures.entries
+    (header_halts c.args.quiet (map entry_of_pair c.args.attributes.items) (counters_of c.args.numerator.now) (state_of A c.args.parser.now) (leaf_entries_of c.in_ok-attributes.attributes) (c.in_ok-attributes.ensures.entries (whole_pairs c.args.attributes.items c.requires))
     c.in_err-header.field-0.0 (state_of A c.parse_header.new.parser) (reading.NoNumber (counters_of c.parse_header.new.numerator)) c.in_err-header.ensures.reads)
 
 pub returns-in_err-body-clause-reads : goal.returns-in_err-body-clause-reads
@@ -39,7 +39,7 @@ returns-in_err-body-clause-reads g c =
     let A = g.X.Expander.answer in
     let p = err_from_is_err_and c.from_residual-in_err-body.result c.from_residual-in_err-body.ensures.1 in
     rw (p.1, p.2)
-    (body_stops c.args.quiet (map entry_of_pair c.args.attributes.items) (counters_of c.args.numerator.now) (state_of A c.args.parser.now) (leaf_entries_of c.in_ok-attributes.attributes) c.in_ok-attributes.ensures.entries
+    (body_stops c.args.quiet (map entry_of_pair c.args.attributes.items) (counters_of c.args.numerator.now) (state_of A c.args.parser.now) (leaf_entries_of c.in_ok-attributes.attributes) (c.in_ok-attributes.ensures.entries (whole_pairs c.args.attributes.items c.requires))
     (header_tree c.in_ok-header.header) (counters_of c.parse_header.new.numerator) (state_of A c.parse_header.new.parser) c.in_ok-header.ensures.reads
     c.in_err-body.field-0.0 (state_of A c.parse_body_after_header.new.parser) _ c.in_err-body.ensures.reads)
 
@@ -49,7 +49,7 @@ returns-in_err-check_exclusions-clause-reads g c =
     let u = state_of A c.parse_body_after_header.new.parser in
     let p = err_from_is_err_and c.from_residual-in_err-check_exclusions.result c.from_residual-in_err-check_exclusions.ensures.1 in
     rw (p.1, p.2)
-    (exclusion_halts c.args.quiet (map entry_of_pair c.args.attributes.items) (counters_of c.args.numerator.now) (state_of A c.args.parser.now) (leaf_entries_of c.in_ok-attributes.attributes) c.in_ok-attributes.ensures.entries
+    (exclusion_halts c.args.quiet (map entry_of_pair c.args.attributes.items) (counters_of c.args.numerator.now) (state_of A c.args.parser.now) (leaf_entries_of c.in_ok-attributes.attributes) (c.in_ok-attributes.ensures.entries (whole_pairs c.args.attributes.items c.requires))
     (header_tree c.in_ok-header.header) (counters_of c.parse_header.new.numerator) (state_of A c.parse_header.new.parser) c.in_ok-header.ensures.reads
     (c.in_ok-body.body.0, map line_tree c.in_ok-body.body.1.items) u c.in_ok-body.ensures.reads c.in_err-check_exclusions.field-0.0 u _ (c.in_err-check_exclusions.ensures u))
 
@@ -59,7 +59,7 @@ returns-in_err-number-clause-reads g c =
     let u = state_of A c.parse_body_after_header.new.parser in
     let p = err_from_is_err_and c.from_residual-in_err-number.result c.from_residual-in_err-number.ensures.1 in
     rw (p.1, p.2)
-    (number_stops c.args.quiet (map entry_of_pair c.args.attributes.items) (counters_of c.args.numerator.now) (state_of A c.args.parser.now) (leaf_entries_of c.in_ok-attributes.attributes) c.in_ok-attributes.ensures.entries
+    (number_stops c.args.quiet (map entry_of_pair c.args.attributes.items) (counters_of c.args.numerator.now) (state_of A c.args.parser.now) (leaf_entries_of c.in_ok-attributes.attributes) (c.in_ok-attributes.ensures.entries (whole_pairs c.args.attributes.items c.requires))
     (header_tree c.in_ok-header.header) (counters_of c.parse_header.new.numerator) (state_of A c.parse_header.new.parser) c.in_ok-header.ensures.reads
     (c.in_ok-body.body.0, map line_tree c.in_ok-body.body.1.items) u c.in_ok-body.ensures.reads (c.in_ok-check_exclusions.ensures u)
     c.in_err-number.field-0.0 u (reading.NoNumber (counters_of c.draw_recipe.new.numerator)) (c.in_err-number.ensures.reads u))
@@ -70,7 +70,7 @@ returns-clause-reads g c =
     let q = c.parse_body_after_header.new.parser in
     let u = state_of A q in
     let copied : c.in_ok-import_offsets.import_offsets.items ≡ q.import_offsets.now = search (rules, c.in_ok-import_offsets.ensures.items_if_clones_equal) in
-    recipe_read c.args.quiet (map entry_of_pair c.args.attributes.items) (counters_of c.args.numerator.now) (state_of A c.args.parser.now) (leaf_entries_of c.in_ok-attributes.attributes) c.in_ok-attributes.ensures.entries
+    recipe_read c.args.quiet (map entry_of_pair c.args.attributes.items) (counters_of c.args.numerator.now) (state_of A c.args.parser.now) (leaf_entries_of c.in_ok-attributes.attributes) (c.in_ok-attributes.ensures.entries (whole_pairs c.args.attributes.items c.requires))
     (header_tree c.in_ok-header.header) (counters_of c.parse_header.new.numerator) (state_of A c.parse_header.new.parser) c.in_ok-header.ensures.reads
     (c.in_ok-body.body.0, map line_tree c.in_ok-body.body.1.items) u c.in_ok-body.ensures.reads (c.in_ok-check_exclusions.ensures u)
     c.in_ok-number.number.0 (counters_of c.draw_recipe.new.numerator) (c.in_ok-number.ensures.reads u)

@@ -39,3 +39,6 @@ pub returns-in_err-tokens-clause-no_tree : goal.returns-in_err-tokens-clause-no_
 returns-in_err-tokens-clause-no_tree g c =
     let p = err_from_is_err_and c.from_residual.result c.from_residual.ensures.1 in
     rw (p.1, p.2) (lexical (conditions_of g.X.Expander.answer c.args.expander.now c.args.current c.args.limit) c.args.path.now c.args.src.now c.args.numerator.now c.in_err-tokens.field-0.0 c.in_err-tokens.ensures.fault)
+
+pub returns-clause-constants : goal.returns-clause-constants
+returns-clause-constants g c = c.parse.ensures.moved.constants

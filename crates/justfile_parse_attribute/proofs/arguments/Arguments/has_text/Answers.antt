@@ -1,7 +1,8 @@
 use Rattle.std.proofs.Common.{◌∙◌, List, ap}
 use Rattle.std.specs.List.{list_any}
 use Rattle.std.specs.Str.{bytes_eq}
-use Rattle.justfile_parse_attribute.specs.ArgumentKeys.{Given, key_text}
+use Rattle.justfile_attribute_rules.specs.Keys.{key_text}
+use Rattle.justfile_parse_attribute.specs.ArgumentKeys.{Given}
 use Rattle.justfile_parse_attribute.proofs.ArgumentLists.{key_among}
 use Rattle.justfile_parse_attribute.proofs.arguments.Arguments.has_text.Goals as goal
 

@@ -1,0 +1,70 @@
+-- Why a run fails, and what it leaves.
+use Rattle.std.specs.Prelude.{◌≡◌, ◌≢◌, ℕ, List, ◌++◌, Option, IfSome, String, string_bytes}
+use Rattle.std.specs.Io.KnownBytes.{Appends}
+use Rattle.std.specs.Str.{IsUtf8}
+use Rattle.justfile_word.specs.Numerator.{bindings_of, recipes_of}
+use Rattle.justfile_word.specs.declared.numerator.Numerator.{Numerator}
+use Rattle.justfile_model.specs.Conditions.{with_limit}
+use Rattle.justfile_model.specs.Features.{Noted}
+use Rattle.justfile_model.specs.Files.{NumbersSuffice}
+use Rattle.justfile_model.specs.Tok.{Tok}
+use Rattle.justfile_model.specs.Tree.{Tree}
+use Rattle.justfile_round_trip.specs.RoundTrip.{TextDerives}
+use Rattle.justfile_parse.specs.Parsing.{TextWantsNumber}
+use Rattle.justfile_format.specs.Arguments.{AsksCheck, AsksFormat}
+use Rattle.justfile_format.specs.Failure.{failure_text, status_of}
+use Rattle.justfile_format.specs.Formatting.{IsFormatted, IsPrinted, IsRefusal, IsUnprintable, conditions}
+use Rattle.justfile_format.specs.declared.failure.Failure.{Failure}
+use Rattle.justfile_format.specs.declared.failure.Failure.TheVariants.{Usage, Reading, NotUtf8, Refused, NotPrintable, Writing, Memory, Numbers}
+use Rattle.justfile_file.specs.declared.ast.Ast.{Ast}
+
+-- known bytes grow by a beginning of the text, or by the whole of it
+pub record AppendsBeginning (old new : Option (List ℕ)) (text : List ℕ) : Type 0 where
+  pub written : List ℕ
+  pub rest : List ℕ
+  pub is : text ≡ written ++ rest
+  pub appended : Appends old new written
+
+-- the file has a canonical text, and a beginning of it was written after what was written before
+pub record PrintsBeginning (ast : Ast) (old new : Option (List ℕ)) : Type 0 where
+  pub canonical : List ℕ
+  pub printed_so : IsPrinted ast canonical
+  pub written : AppendsBeginning old new canonical
+
+-- the text has a canonical text, and a beginning of it was written after what was written before
+pub record FormatsBeginning (source : List ℕ) (old new : Option (List ℕ)) : Type 0 where
+  pub canonical : List ℕ
+  pub formatted : IsFormatted source canonical
+  pub written : AppendsBeginning old new canonical
+
+-- counted up from 0, a number is wanted in the text where there is none, and no tree of it, under whatever limit of depth, has numbers enough
+pub record LacksNumbers (source : List ℕ) : Type 0 where
+  pub old : Numerator
+  pub new : Numerator
+  pub no_binding : bindings_of old ≡ 0
+  pub no_recipe : recipes_of old ≡ 0
+  pub wants : TextWantsNumber conditions source old new
+  pub never_enough : (limit : ℕ) (tree : Tree) (features : List (Noted Tok)) → TextDerives (with_limit limit conditions) source tree features
+      → NumbersSuffice 0 0 tree → ⊥
+
+-- What a failure says of the arguments, of what the reader gave, and of what the output held before and holds after. That reading failed, or that
+-- memory ran out, says nothing.
+abbrev pub IsWhy : {A : Type 0} → List (String A) → (source old new : Option (List ℕ)) → Failure → Type 0
+IsWhy arguments source old new Usage = ¬ AsksFormat arguments × ¬ AsksCheck arguments
+IsWhy arguments source old new Reading = Unit {0}
+IsWhy arguments source old new NotUtf8 = IfSome source (λ text. ¬ IsUtf8 text)
+IsWhy arguments source old new (Refused lines) = IfSome source (λ text. IsRefusal text (string_bytes lines))
+IsWhy arguments source old new NotPrintable = IfSome source IsUnprintable
+IsWhy arguments source old new Writing = AsksFormat arguments × IfSome source (λ text. FormatsBeginning text old new)
+IsWhy arguments source old new Memory = Unit {0}
+IsWhy arguments source old new Numbers = IfSome source LacksNumbers
+
+-- a failure with this status, what it says, that nothing is written to the output where no write failed, and that a beginning of its lines goes to
+-- standard error
+pub record Fails {A W : Type 0} (arguments : List (String A)) (source : Option (List ℕ)) (contents : W → Option (List ℕ)) (old new : W)
+    (errors_old errors_new : Option (List ℕ)) (status : ℕ) : Type 0 where
+  pub failure : Failure
+  pub status_is : status ≡ status_of failure
+  pub why : IsWhy arguments source (contents old) (contents new) failure
+  pub unwritten : failure ≢ Writing → new ≡ old
+  pub told : AppendsBeginning errors_old errors_new (failure_text failure)
