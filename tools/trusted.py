@@ -1,5 +1,5 @@
 #!/usr/bin/env python3
-"""Checks the tables of README under "What you have to trust", or writes their last column with --write.
+"""Checks the tables of docs/CLAIMS.md under "What you have to trust", or writes their last column with --write.
 
 What a statement rests on is found by name: from the definitions that the clauses of public calls cite, on to all that these are made
 of. Each table has a group of calls, and lists the files with what the tables before it lack. A row's last column is the number of the
@@ -12,7 +12,7 @@ from pathlib import Path
 
 TOP = Path(__file__).resolve().parent.parent
 CRATES = TOP / "crates"
-README = TOP / "README.md"
+CLAIMS = TOP / "docs/CLAIMS.md"
 WORD = re.compile(r"[^\s(){}\[\].,;:λ]+")
 
 
@@ -166,9 +166,9 @@ def checked(rows, lines, title):
 
 
 def main():
-    text = README.read_text()
-    start = text.index("### What you have to trust")
-    end = text.index("\n### ", start)
+    text = CLAIMS.read_text()
+    start = text.index("## What you have to trust")
+    end = text.index("\n## ", start)
     section, seen = text[start:end], set()
     tables = re.findall(r"(?:^\|[^\n]*\|\n)+", section, re.M)
     for group, table in zip(GROUPS, tables, strict=True):
@@ -178,7 +178,7 @@ def main():
         made = rows[:2] + checked(rows[2:], lines_by_file(units), rows[0].split("|")[1].strip())
         section = section.replace(table, "\n".join(made) + "\n")
     if "--write" in sys.argv:
-        README.write_text(text[:start] + section + text[end:])
+        CLAIMS.write_text(text[:start] + section + text[end:])
     elif section != text[start:end]:
         print("the last column is not what the definitions have: --write writes it")
         return 1
