@@ -3,5 +3,6 @@ pub mod AttributeLoops
 pub mod AttributeSteps
 mod CommentedAttributes
 pub mod KeysPut
+pub mod KnownLabels
 pub mod RepeatedAttributes
 pub mod StillWhole

@@ -5,7 +5,10 @@ mod arguments;
 mod attributes;
 mod comment;
 mod halt;
+mod labels;
 mod new_attribute;
+mod read_attributes;
+mod repeated;
 
 pub use crate::attributes::{parse_attributes, parse_separator};
 pub use crate::comment::comment_text;

@@ -22,17 +22,6 @@ pub(crate) fn find_left_level(level: Level) -> Level
     }
 }
 
-/// What stands to the right of the operators of a level.
-pub(crate) fn find_right_level(level: Level) -> Level
-    ensures is { result ≡ operators.right level }
-    ensures binary { IsTrue (is_binary level) → IsTrue (is_binary result) }
-{
-    match level {
-        Level::Compared => Level::Conjunct,
-        level => level,
-    }
-}
-
 /// The operator that a token of this kind is, if it is one.
 pub(crate) fn find_operator(kind: TokenKind) -> Option<Operator>
     ensures { result ≡ operators.operator_of kind }

@@ -1,6 +1,7 @@
 pub mod Dependencies
 pub mod Draws
 pub mod Fewer
+pub mod Firsts
 pub mod Halts
 pub mod HeaderFewer
 pub mod Headers
@@ -8,9 +9,11 @@ pub mod Least
 pub mod Notes
 pub mod Parameters
 pub mod Paths
+pub mod ReadNames
 pub mod SameOptions
 pub mod Spoken
 pub mod Stars
+pub mod TextSetLemmas
 pub mod Texts
 pub mod Undefined
 pub mod Variadics

@@ -8,7 +8,10 @@ mod namepath;
 mod number;
 mod options;
 mod parameter;
+mod read_parameters;
 mod said;
+mod spoken_names;
+mod text_sets;
 
 pub use crate::header::{Header, parse_header};
 pub use crate::namepath::parse_namepath;
