@@ -18,10 +18,7 @@ use std::alloc::Global;
 fn literal_of(value: Box<Expression<'_>>) -> Option<StringLiteral<'_>>
     ensures { option_map quoted_leaf result ≡ quoted (leaf_tree_of value.entry.value) }
 {
-    match Box::into_inner(value) {
-        Expression::StringLiteral { string_literal } => Some(string_literal),
-        _ => None,
-    }
+    Box::into_inner(value).into_string_literal()
 }
 
 /// The literal that the value of a key is.

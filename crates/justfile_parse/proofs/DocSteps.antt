@@ -1,13 +1,11 @@
 -- What the functions that take docs know of items.
-use Rattle.std.proofs.Common.{◌≡◌, ◌∙◌, ℕ, ◌+◌, ◌-◌, ◌<◌, Bool, true, false, cond, not, ◌&&◌, ◌||◌, IsTrue, All, List, [], ◌∷◌, ◌++◌, length, map, get_or, take, reverse, OnOk, Option, Some, None, is_some, is_none, Result, Ok, Err, codes, refl, sym, ap, subst, arith, string_bytes}
+use Rattle.std.proofs.Common.{◌≡◌, ◌∙◌, ℕ, ◌+◌, ◌<◌, Bool, true, false, cond, not, ◌&&◌, ◌||◌, IsTrue, List, [], ◌∷◌, ◌++◌, length, map, get_or, take, reverse, Option, Some, None, is_some, codes, refl, sym, ap, subst, arith, string_bytes}
 use Rattle.std.specs.Prelude.{String, nat_eq}
-use Rattle.std.specs.List.{slice_get, starts_with}
+use Rattle.std.specs.List.{starts_with}
 use Rattle.std.specs.Option.{option_map}
-use Rattle.std.proofs.lemmas.List.{length-map, map-append, reverse-append, take_all, take_more}
-use Rattle.std.proofs.lemmas.List.Elements.{All-from_recursion, All-get_or, All-take, recursion_from_All}
-use Rattle.std.proofs.lemmas.Option.{slice_get-get_or, slice_get_within}
+use Rattle.std.proofs.lemmas.List.{map-append, reverse-append, take_all, take_more}
+use Rattle.std.proofs.lemmas.List.Elements.{All-get_or}
 use Rattle.std.specs.Global.{Global}
-use Rattle.std.specs.List.{take-map}
 use Rattle.justfile_attribute.proofs.Ordered.{kind_seen}
 use Rattle.justfile_attribute.specs.Attribute.{leaf_attribute_of}
 use Rattle.justfile_attribute.specs.declared.attribute.Attribute.{Attribute}
@@ -22,15 +20,13 @@ use Rattle.justfile_item.specs.declared.item.Item.TheVariants as items
 use Rattle.justfile_model.specs.AttributeKinds.{same_attribute}
 use Rattle.justfile_model.specs.ContentKeys.{kind_of_attribute}
 use Rattle.justfile_base.specs.declared.token.Token.{Token}
-use Rattle.justfile_model.specs.Docs.{LineEnd, Nothing, doc_in, documented, item_with_doc, redocumented, wants_doc}
+use Rattle.justfile_model.specs.Docs.{LineEnd, doc_in, item_with_doc, redocumented, wants_doc}
 use Rattle.justfile_model.specs.Files.{says_doc}
 use Rattle.justfile_model.specs.Tree as tree
 use Rattle.justfile_model.specs.Tree.{Content, Entry}
-use Rattle.justfile_parse.specs.Docs.{LeafItem, comment_of, doc_before, doc_first, is_newline, with_doc, with_item}
-use Rattle.justfile_parse.proofs.TakenDocs.{from_first, with_items}
+use Rattle.justfile_parse.specs.Docs.{LeafItem, comment_of, doc_before, doc_first, is_newline}
 use Rattle.justfile_parse_item.specs.Tree.{item_tree}
 use Rattle.justfile_parse_item.specs.Whole.{AreWhole, IsWholeItem}
-use Rattle.justfile_parse_item.proofs.Wholes.{pushed_whole, then_whole}
 use Rattle.justfile_tree.specs.LeafTree.{Leaf}
 
 -- ---- an item among others
@@ -44,13 +40,9 @@ last_first xs n x h e =
     ap (λ (l : List Item). reverse (map item_tree l)) (take_more xs n x h ∙ ap (λ (y : Item). take n xs ++ y ∷ []) (sym e))
     ∙ ap (λ (l : List LeafItem). reverse l) (map-append item_tree (take n xs) (x ∷ [])) ∙ reverse-append (map item_tree (take n xs)) (item_tree x ∷ [])
 
-item_whole : (xs : List Item) (n : ℕ) (x : Item) → n < length xs → x ≡ get_or xs n x → AreWhole xs → IsWholeItem x
+pub item_whole : (xs : List Item) (n : ℕ) (x : Item) → n < length xs → x ≡ get_or xs n x → AreWhole xs → IsWholeItem x
 unfolding AreWhole
 item_whole xs n x h e whole = subst IsWholeItem (sym e) (All-get_or IsWholeItem xs n x h whole)
-
-pub front_whole : (n : ℕ) (xs : List Item) → AreWhole xs → AreWhole (take n xs)
-unfolding AreWhole
-front_whole n xs h = All-take IsWholeItem n xs h
 
 -- the comment that an item is begins with its sign
 pub comment_begins : (xs : List Item) (n : ℕ) (x : Item) → n < length xs → x ≡ get_or xs n x → AreWhole xs → (text : List ℕ) → comment_of (item_tree x) ≡ Some text
@@ -134,49 +126,3 @@ lacks_is set doc = ap (λ (c : Bool). not c && not (is_some doc)) (sym (pairs_sa
 pub documented_is : (entries : List (Entry Leaf Token)) (content : Content Leaf Token ℕ (Unit {0})) (doc : List ℕ) → wants_doc says_doc entries content ≡ true
     → Some (tree.Construct entries (redocumented (Some doc) content)) ≡ item_with_doc says_doc doc (tree.Construct entries content)
 documented_is entries content doc h = sym (ap (λ (b : Bool). cond b (Some (tree.Construct entries (redocumented (Some doc) content))) None) h)
-
--- ---- items that are added
-
-pub cut_whole : (old new : List Item) (n : ℕ) → new ≡ take n old → AreWhole old → AreWhole new
-cut_whole old new n e h = subst AreWhole (sym e) (front_whole n old h)
-
-pub doc_added : {E : Type 0} (result : Result (Unit {0}) E) (old cut new : List Item) (n : ℕ) (i with_this : LeafItem) (documented : Option LeafItem)
-    → Some with_this ≡ documented → n ≡ length old - 2 → cut ≡ take n old
-    → OnOk result (map item_tree new ≡ map item_tree cut ++ with_this ∷ []) → OnOk result (map item_tree new ≡ with_doc (map item_tree old) i documented)
-doc_added result old cut new n i with_this documented is count e added = go result added
-  where
-    front : map item_tree cut ≡ take (length (map item_tree old) - 2) (map item_tree old)
-    front =
-        ap (map item_tree) e ∙ sym (take-map item_tree n old)
-        ∙ ap (λ (m : ℕ). take m (map item_tree old)) (count ∙ ap (λ (m : ℕ). m - 2) (sym (length-map old item_tree)))
-
-    go : {E : Type 0} (x : Result (Unit {0}) E) → OnOk x (map item_tree new ≡ map item_tree cut ++ with_this ∷ []) → OnOk x (map item_tree new ≡ with_doc (map item_tree old) i documented)
-    go (Ok done) h = h ∙ ap (λ (l : List LeafItem). l ++ with_this ∷ []) front ∙ ap (with_doc (map item_tree old) i) is
-    go (Err failed) h = tt
-
--- ---- one item after another
-
-module _ (all left rest : List Item) (i : Item) (e : left ≡ i ∷ rest) where
-  pub next_whole : AreWhole left → IsWholeItem i × AreWhole rest
-  unfolding AreWhole
-  next_whole h =
-      let each = recursion_from_All IsWholeItem (i ∷ rest) (subst (All IsWholeItem) e h) in
-      (each.0, All-from_recursion IsWholeItem rest each.1)
-
-  -- what is left is added to the items so far
-  pub next_added : (done new : List Item) → map item_tree new ≡ with_item (map item_tree done) (item_tree i)
-      → with_items (map item_tree done) (map item_tree left) ≡ with_items [] (map item_tree all) → with_items (map item_tree new) (map item_tree rest) ≡ with_items [] (map item_tree all)
-  next_added done new added so_far =
-      ap (λ (l : List LeafItem). with_items l (map item_tree rest)) added ∙ ap (λ (l : List Item). with_items (map item_tree done) (map item_tree l)) (sym e)
-      ∙ so_far
-
-pub all_taken : (all left done : List Item) → length left ≡ 0 → with_items (map item_tree done) (map item_tree left) ≡ with_items [] (map item_tree all)
-    → map item_tree done ≡ documented says_doc Nothing (map item_tree all)
-all_taken all [] done none so_far = so_far ∙ from_first (map item_tree all)
-all_taken all (i ∷ left) done none so_far = absurd cc
-
--- the items with one more are whole, if it is
-pub whole_after : {E : Type 0} (done : Result (Unit {0}) E) (old new : List Item) (item : Item) → OnOk done (new ≡ old ++ item ∷ []) → AreWhole old → IsWholeItem item
-    → OnOk done (AreWhole new)
-whole_after (Ok _) old new item e h k = then_whole old new h (pushed_whole old new item e k)
-whole_after (Err _) old new item e h k = tt

@@ -4,6 +4,7 @@ pub mod Formats
 pub mod GivenAttributes
 pub mod GivenParts
 pub mod Held
+pub mod KeptItems
 pub mod NotInternal
 pub mod Parsed
 pub mod SeenDocs

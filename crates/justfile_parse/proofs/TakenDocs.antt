@@ -7,7 +7,7 @@ use Rattle.justfile_model.specs.Docs.{Before, LineEnd, Nothing, Other, after, co
 use Rattle.justfile_model.specs.Files.{says_doc}
 use Rattle.justfile_model.specs.Tree as tree
 use Rattle.justfile_model.specs.Tree.{Content, Entry, Comment, Construct, Newline}
-use Rattle.justfile_parse.specs.Docs.{LeafItem, doc_before, doc_first, doc_taken, with_doc, with_item}
+use Rattle.justfile_parse.specs.Docs.{LeafItem, doc_before, doc_first, doc_taken, with_doc, with_item, with_items}
 use Rattle.justfile_tree.specs.LeafTree.{Leaf}
 
 abbrev Items : Type 0
@@ -15,11 +15,6 @@ Items = List LeafItem
 
 abbrev docs_from : Before → Items → Items
 docs_from = documented says_doc
-
--- items after others, each with its doc
-abbrev pub with_items : (before items : Items) → Items
-with_items before [] = before
-with_items before (i ∷ items) = with_items (with_item before i) items
 
 -- ---- from the last item to the first
 

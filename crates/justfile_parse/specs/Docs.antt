@@ -1,10 +1,12 @@
 -- The docs of recipes, as they are taken from the first item to the last.
-use Rattle.std.specs.Prelude.{ℕ, Bool, true, false, ◌-◌, List, [], ◌∷◌, ◌++◌, length, take, Option, Some, None, reverse}
+use Rattle.std.specs.Prelude.{ℕ, Bool, true, false, ◌-◌, List, [], ◌∷◌, ◌++◌, drop, length, map, take, Option, Some, None, reverse}
 use Rattle.justfile_base.specs.declared.token.Token.{Token}
+use Rattle.justfile_item.specs.declared.item.Item.{Item}
 use Rattle.justfile_model.specs.Docs.{LineEnd, Nothing, doc_in, item_with_doc, wants_doc}
 use Rattle.justfile_model.specs.Files.{says_doc}
 use Rattle.justfile_model.specs.Tree as tree
 use Rattle.justfile_model.specs.Tree.{OrderedItem}
+use Rattle.justfile_parse_item.specs.Tree.{item_tree}
 use Rattle.justfile_tree.specs.LeafTree.{Leaf}
 
 abbrev pub LeafItem : Type 0
@@ -44,3 +46,12 @@ doc_taken i (Some doc) = item_with_doc says_doc doc i
 
 abbrev pub with_item : List LeafItem → LeafItem → List LeafItem
 with_item before i = with_doc before i (doc_taken i (doc_before before))
+
+-- items after others, each with its doc
+abbrev pub with_items : (before items : List LeafItem) → List LeafItem
+with_items before [] = before
+with_items before (i ∷ items) = with_items (with_item before i) items
+
+-- Of a list of which the first ones have their docs and those from a place on have none yet: what the docs of all make of it. What stands between the two is no item any more.
+abbrev pub taken_docs : (kept place : ℕ) → List Item → List LeafItem
+taken_docs kept place items = with_items (map item_tree (take kept items)) (map item_tree (drop place items))

@@ -1,5 +1,5 @@
 //! The docs of recipes and modules: the comments before them.
-ghost use Rattle.std.specs.Prelude.{◌≡◌, ◌∷◌, ◌++◌, ◌≤◌, ◌&&◌, [], IfOk, IsTrue, OnOk, Some, codes, map, nat_eq, not, reverse, string_bytes, true, vec_len};
+ghost use Rattle.std.specs.Prelude.{◌≡◌, ◌+◌, ◌<◌, ◌≤◌, ◌&&◌, IfOk, IsTrue, OnOk, Some, codes, map, nat_eq, not, string_bytes, true, vec_len};
 ghost use Rattle.std.specs.List.{starts_with};
 ghost use Rattle.std.specs.Option.{is_some, option_map};
 ghost use Rattle.justfile_attribute_set.specs.AttributeSet.{attributes_of};
@@ -8,15 +8,13 @@ ghost use Rattle.justfile_word.specs.declared.attribute_kind.AttributeKind.TheVa
 ghost use Rattle.justfile_model.specs.Docs.{doc_in, documented, item_with_doc};
 ghost use Rattle.justfile_model.specs.Docs as before;
 ghost use Rattle.justfile_model.specs.Files.{says_doc};
-ghost use Rattle.justfile_model.specs.Tree as tree;
-ghost use Rattle.justfile_parse.specs.Docs.{comment_of, doc_before, doc_first, is_newline, says_no_doc, with_doc, with_item};
+ghost use Rattle.justfile_parse.specs.Docs.{comment_of, doc_before, is_newline, says_no_doc, taken_docs};
 ghost use Rattle.justfile_parse_item.specs.Tree.{item_tree};
 ghost use Rattle.justfile_parse_item.specs.Whole.{AreWhole, IsWholeItem};
 
 use justfile_attribute_set::AttributeSet;
 use justfile_base::AttributeKind;
 use justfile_item::Item;
-use justfile_parse_item::push_item;
 use std::alloc::{AllocError, Global};
 
 /// The items with their docs, in place of comments.
@@ -26,58 +24,56 @@ use std::alloc::{AllocError, Global};
 /// `AllocError` if the program is out of memory.
 pub(crate) fn take_docs<'src>(
     alloc: Global,
-    items: Vec<Item<'src>>,
+    mut items: Vec<Item<'src>>,
 ) -> Result<Vec<Item<'src>>, AllocError>
     requires { AreWhole items.items }
     ensures trees { IfOk result (λ docs. map item_tree docs.items ≡ documented says_doc before.Nothing (map item_tree items.entry.items)) }
     ensures whole { IfOk result (λ docs. AreWhole docs.items) }
 {
-    let mut documented = Vec::new(alloc);
-    for item in items {
-        push_documented(alloc, &mut documented, item)?;
-    }
-    Ok(documented)
+    set_docs(alloc, &mut items)?;
+    Ok(items)
 }
 
-/// Adds an item with its doc, in place of the comment before it.
-#[tactic(auto, using(crate::proofs::DocSteps::whole_after))]
-fn push_documented<'src>(
-    alloc: Global,
-    items: &mut Vec<Item<'src>>,
-    item: Item<'src>,
-) -> Result<(), AllocError>
-    requires items { AreWhole items.old.items }
-    requires item { IsWholeItem item }
-    ensures trees { OnOk result (map item_tree items.new.items ≡ with_item (map item_tree items.old.items) (item_tree item.entry)) }
+/// Gives each item its doc, in place of the comment before it.
+fn set_docs(alloc: Global, items: &mut Vec<Item<'_>>) -> Result<(), AllocError>
+    requires { AreWhole items.old.items }
+    ensures trees { OnOk result (map item_tree items.new.items ≡ documented says_doc before.Nothing (map item_tree items.old.items)) }
     ensures whole { OnOk result (AreWhole items.new.items) }
 {
-    if !wants_doc(&item) {
-        return push_item(items, item);
+    let mut kept = 0;
+    for place in 0..items.len() {
+        kept = keep_item(alloc, items, kept, place)?;
     }
-    match find_doc(items.as_slice()) {
-        Some(doc) => push_with_doc(alloc, items, item, doc),
-        None => push_item(items, item),
-    }
+    items.truncate(kept);
+    Ok(())
 }
 
-/// Adds an item with this doc, in place of the comment and the line end before it.
-fn push_with_doc<'src>(
+/// Moves the item at a place to the first ones, which are kept, and gives it its doc in place of the
+/// comment before it. Returns how many are kept then.
+fn keep_item(
     alloc: Global,
-    items: &mut Vec<Item<'src>>,
-    mut item: Item<'src>,
-    doc: &str,
-) -> Result<(), AllocError>
-    requires two { 2 ≤ vec_len items.old }
-    requires items { AreWhole items.old.items }
-    requires item { IsWholeItem item }
-    requires wanted { says_no_doc (item_tree item) ≡ true }
-    ensures trees { OnOk result (map item_tree items.new.items
-        ≡ with_doc (map item_tree items.old.items) (item_tree item.entry) (item_with_doc says_doc doc.now (item_tree item.entry))) }
-    ensures whole { OnOk result (AreWhole items.new.items) }
+    items: &mut Vec<Item<'_>>,
+    kept: usize,
+    place: usize,
+) -> Result<usize, AllocError>
+    requires order { kept ≤ place }
+    requires within { place < vec_len items.old }
+    requires whole { AreWhole items.old.items }
+    ensures trees { IfOk result (λ count. taken_docs count (place + 1) items.new.items ≡ taken_docs kept place items.old.items) }
+    ensures order { IfOk result (λ count. count ≤ place + 1) }
+    ensures len { vec_len items.new ≡ vec_len items.old }
+    ensures whole { AreWhole items.new.items }
 {
-    set_doc(&mut item, doc.to_string(alloc)?);
-    items.truncate(items.len() - 2);
-    push_item(items, item)
+    if wants_doc(&items[place]) {
+        if let Some(doc) = find_doc(&items[..kept]) {
+            let text = doc.to_string(alloc)?;
+            set_doc(&mut items[place], text);
+            items.swap(kept - 2, place);
+            return Ok(kept - 1);
+        }
+    }
+    items.swap(kept, place);
+    Ok(kept + 1)
 }
 
 /// Sets the doc of an item that takes one.

@@ -130,7 +130,7 @@ distinct_last (x ∷ texts) t none h =
     let parts = both (not (list_any (bytes_eq x) texts)) (are_distinct texts) h in
     joined (not (list_any (bytes_eq x) (texts ++ t ∷ []))) (are_distinct (texts ++ t ∷ [])) (apart_last x t texts apart.0 parts.0) (distinct_last texts t apart.1 parts.1)
 
-any_text : (gs : List Given) (t : List ℕ) → list_any (λ x. bytes_eq x t) (map key_text gs) ≡ list_any (λ g. bytes_eq (key_text g) t) gs
+pub any_text : (gs : List Given) (t : List ℕ) → list_any (λ x. bytes_eq x t) (map key_text gs) ≡ list_any (λ g. bytes_eq (key_text g) t) gs
 any_text [] t = refl
 any_text (g ∷ gs) t = ap (λ (b : Bool). bytes_eq (key_text g) t || b) (any_text gs t)
 

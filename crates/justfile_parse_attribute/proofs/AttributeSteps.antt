@@ -24,7 +24,7 @@ use Rattle.justfile_model.specs.Tree.{Argument, Entry, bare_entry}
 use Rattle.justfile_model.proofs.AttributeReading as laws
 use Rattle.justfile_parse_attribute.specs.AttributeTable as r
 use Rattle.justfile_parse_attribute.specs.AttributeTable.{Arguments, meaning_in, meaning_kept, sight_of, then_last}
-use Rattle.justfile_parse_attribute.specs.AddedAttributes.{ChecksLast, IsAdded}
+use Rattle.justfile_parse_attribute.specs.AddedAttributes.{AddsEntry, ChecksLast, IsAdded}
 use Rattle.justfile_parse_attribute.specs.Attributes.{entry_of_pair}
 use Rattle.justfile_parse_attribute.specs.Halting.{HaltsAt, HaltsFor, IsBrokenBy}
 use Rattle.justfile_parse_expression.specs.MethodResults.{refusal_at}
@@ -187,28 +187,37 @@ module _ (pairs : List (Attribute × Written)) (name : Name) (kind : AttributeKi
   abbrev checked : tree.Attribute Leaf Token → Made Token (Entry Leaf Token)
   checked a = new.◌>>=◌ (check_repeated sees_leaves before (bare_entry name.token a)) (λ distinct. Ok (bare_entry name.token a))
 
-  -- no attribute is made of the arguments
-  pub not_made : (fault : Fault) (halt : Halt) → HaltsFor halt fault → IsRefusedBy attribute_made fault → HaltsAt halt s ⊥ (r.one_made before name.token kind all s)
+  abbrev entry_made : Made Token (Entry Leaf Token)
+  entry_made = new_entry sees_leaves before name.token kind (by_position all) (by_key all)
+
+  -- no entry is made where no attribute is
+  pub entry_refused : (fault : Fault) → IsRefusedBy attribute_made fault → IsRefusedBy entry_made fault
+  entry_refused fault h = made_first attribute_made checked fault h
+
+  -- an attribute that is made and checked is the entry's
+  pub entry_checked : (result : Result (Unit {0}) Fault) (later : List (Attribute × Written)) → IsAdded attribute_made name pairs later → ChecksLast result later
+      → AddsEntry result entry_made name pairs later
+  unfolding ChecksLast
+  entry_checked (Err fault) later h checks =
+      let e = uncommented (h.attribute, name) in
+      rw h.is_made (made_first (check_repeated sees_leaves before (entry_of_pair e)) _ fault (checks pairs e h.added))
+  entry_checked (Ok u) later h checks =
+      let e = uncommented (h.attribute, name) in
+      record { attribute = h.attribute; is_made = rw (h.is_made, checks pairs e h.added) refl; added = h.added }
+
+  -- reading halts where no entry is added, and else goes on
+  pub entry_halts : (fault : Fault) (halt : Halt) (later : List (Attribute × Written)) → AddsEntry (Err fault) entry_made name pairs later → HaltsFor halt fault
+      → HaltsAt halt s ⊥ (r.one_made before name.token kind all s)
   unfolding r.one_made
-  not_made fault halt h k = refused_halts (new.◌>>=◌ attribute_made checked) _ fault halt s h (made_first attribute_made checked fault k)
+  entry_halts fault halt later h halts = refused_halts entry_made _ fault halt s halts h
 
-  -- it is made, and may not stand there
-  pub made_refused : (later : List (Attribute × Written)) (fault : Fault) (halt : Halt) → IsAdded attribute_made name pairs later → HaltsFor halt fault
-      → ChecksLast (Err fault) later → HaltsAt halt s ⊥ (r.one_made before name.token kind all s)
-  unfolding r.one_made ChecksLast
-  made_refused later fault halt h halts checks =
-      let a = h.attribute in
-      refused_halts (new.◌>>=◌ attribute_made checked) _ fault halt s halts
-      (rw h.is_made (made_first (check_repeated sees_leaves before (entry_of_pair (uncommented (a, name)))) _ fault (checks pairs (uncommented (a, name)) h.added)))
-
-  pub made_last : (later : List (Attribute × Written)) → IsAdded attribute_made name pairs later → ChecksLast (Ok tt) later
-      → r.one_made before name.token kind all s ≡ Ok (map entry_of_pair later, s)
-  unfolding r.one_made ChecksLast
-  made_last later h checks =
+  pub entry_last : (later : List (Attribute × Written)) → AddsEntry (Ok tt) entry_made name pairs later → r.one_made before name.token kind all s ≡ Ok (map entry_of_pair later, s)
+  unfolding r.one_made
+  entry_last later h =
       let a = h.attribute in
       let P : List (Attribute × Written) → Read Entries = λ ps. Ok (map entry_of_pair ps, s) in
       let Q : Entries → Read Entries = λ es. Ok (es, s) in
-      let so_far : r.one_made before name.token kind all s ≡ Q (before ++ entry_of_pair (uncommented (a, name)) ∷ []) = rw (h.is_made, checks pairs (uncommented (a, name)) h.added) refl in
+      let so_far : r.one_made before name.token kind all s ≡ Q (before ++ entry_of_pair (uncommented (a, name)) ∷ []) = rw h.is_made refl in
       so_far ∙ ap Q (sym (map-append entry_of_pair pairs (uncommented (a, name) ∷ []))) ∙ sym (ap P h.added)
 
 -- an attribute is not read where its kind is not, or its arguments are not

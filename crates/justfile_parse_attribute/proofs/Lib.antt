@@ -1,7 +1,10 @@
 pub mod ArgumentLists
+pub mod ArgumentTexts
 pub mod AttributeLoops
 pub mod AttributeSteps
 mod CommentedAttributes
 pub mod KeysPut
+pub mod KnownLabels
 pub mod RepeatedAttributes
 pub mod StillWhole
+pub mod TextSetLemmas

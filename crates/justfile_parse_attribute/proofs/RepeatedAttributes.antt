@@ -116,7 +116,7 @@ module _ (pairs : List (Attribute × Written)) (e : Entry Leaf Token) where
 -- ---- the last one
 
 -- what is put last, and what is before it, can be told
-last_apart : {X : Type 0} (xs ys : List X) (x y : X) → xs ++ x ∷ [] ≡ ys ++ y ∷ [] → (xs ≡ ys) × (x ≡ y)
+pub last_apart : {X : Type 0} (xs ys : List X) (x y : X) → xs ++ x ∷ [] ≡ ys ++ y ∷ [] → (xs ≡ ys) × (x ≡ y)
 last_apart [] [] x y e = (refl, cc)
 last_apart [] (b ∷ []) x y e = absurd cc
 last_apart [] (b ∷ c ∷ ys) x y e = absurd cc

@@ -8,6 +8,7 @@ use Rattle.justfile_base.specs.declared.name.Name.{Name}
 use Rattle.justfile_base.specs.declared.token.Token.{Token}
 use Rattle.justfile_model.specs.NewAttribute.{Made, check_repeated}
 use Rattle.justfile_model.specs.Tree as tree
+use Rattle.justfile_model.specs.Tree.{Entry, bare_entry}
 use Rattle.justfile_parse_attribute.specs.Attributes.{entry_of_pair}
 use Rattle.justfile_tree.specs.LeafSight.{sees_leaves}
 use Rattle.justfile_tree.specs.LeafTree.{Leaf}
@@ -29,3 +30,14 @@ Adds (Err fault) made name old new = IsRefusedBy made fault
 unfoldable pub ChecksLast : Result (Unit {0}) Fault → List (Attribute × Written) → Type 0
 ChecksLast result pairs = (before : List (Attribute × Written)) (last : Attribute × Written) → pairs ≡ before ++ last ∷ []
     → Makes (λ (u : Unit {0}). u) result (check_repeated sees_leaves (map entry_of_pair before) (entry_of_pair last))
+
+-- the entry that is made is that of the attribute that comes last, with its name and without a comment
+pub record IsEntryAdded (made : Made Token (Entry Leaf Token)) (name : Name) (old new : List (Attribute × Written)) : Type 0 where
+  pub attribute : Attribute
+  pub is_made : made ≡ Ok (bare_entry name.token (leaf_attribute_of attribute))
+  pub added : new ≡ old ++ uncommented (attribute, name) ∷ []
+
+-- it is added, or refused by the same rule
+abbrev pub AddsEntry : Result (Unit {0}) Fault → Made Token (Entry Leaf Token) → Name → (old new : List (Attribute × Written)) → Type 0
+AddsEntry (Ok added) made name old new = IsEntryAdded made name old new
+AddsEntry (Err fault) made name old new = IsRefusedBy made fault

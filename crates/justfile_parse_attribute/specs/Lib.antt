@@ -4,4 +4,6 @@ pub mod AttributeTable
 pub mod Attributes
 pub mod Halting
 pub mod KeyedBounds
+pub mod Labels
+pub mod TextSets
 pub mod WholeAttributes

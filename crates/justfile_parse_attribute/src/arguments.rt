@@ -1,14 +1,15 @@
 //! The arguments of an attribute while they are read.
-ghost use Rattle.std.specs.Prelude.{◌≡◌, IsTrue};
-ghost use Rattle.std.specs.List.{list_any};
-ghost use Rattle.std.specs.Str.{bytes_eq};
-ghost use Rattle.justfile_attribute_rules.specs.Keys.{key_text};
-ghost use Rattle.justfile_parse_attribute.specs.ArgumentKeys.{are_keys_distinct};
+ghost use Rattle.std.specs.Prelude.{◌≡◌, ◌∷◌, ◌++◌, [], IsTrue, OnErr, OnOk, length, take};
+ghost use Rattle.justfile_base.specs.Token.{lexeme_of};
+ghost use Rattle.justfile_parse_attribute.specs.ArgumentKeys.{AreTexts, are_keys_distinct, prop_texts};
+ghost use Rattle.justfile_parse_attribute.specs.TextSets.{HaveSame, texts_in};
 
+use crate::text_sets::{add_text, is_among};
 use justfile_base::{Name, Token};
 use justfile_parse_expression::Stop;
 use justfile_tree::Expression;
-use std::alloc::Global;
+use std::alloc::{AllocError, Global};
+use std::collections::BTreeSet;
 
 /// The arguments that were read of an attribute. None by position stands after a key.
 #[derive(Drop)]
@@ -17,7 +18,10 @@ pub(crate) struct Arguments<'src> {
     pub(crate) positional: Vec<(Token<'src>, Box<Expression<'src>>)>,
     /// Those with keys, in their order.
     pub(crate) keyed: Vec<(Name<'src>, Option<Box<Expression<'src>>>)>,
+    /// The texts of the keys.
+    pub(crate) texts: BTreeSet<&'src str>,
     ghost distinct: { IsTrue (are_keys_distinct keyed.items) },
+    ghost named: { AreTexts keyed.items texts } by { prop_texts keyed.items texts },
 }
 
 impl<'src> Arguments<'src> {
@@ -33,13 +37,14 @@ impl<'src> Arguments<'src> {
     ghost use Rattle.justfile_tree.specs.LeafTree.{Named, leaf_tree_of};
 
     /// No arguments.
-    #[tactic(auto, unfolding(crate::specs::Attributes::arguments_of, crate::specs::ArgumentKeys::are_keys_distinct))]
+    #[tactic(auto, using(crate::proofs::ArgumentTexts::no_texts), unfolding(crate::specs::Attributes::arguments_of, crate::specs::ArgumentKeys::are_keys_distinct))]
     pub(crate) fn new(alloc: Global) -> Self
         ensures { arguments_of result ≡ [] }
     {
         Arguments {
             positional: Vec::new(alloc),
             keyed: Vec::new(alloc),
+            texts: BTreeSet::new(alloc),
         }
     }
 
@@ -52,11 +57,11 @@ impl<'src> Arguments<'src> {
     }
 
     /// Whether there is a key with this text.
-    #[tactic(auto, using(crate::proofs::ArgumentLists::key_among))]
+    #[tactic(auto, using(crate::proofs::ArgumentTexts::text_among))]
     pub(crate) fn has_text(&self, key: &str) -> bool
         ensures { result ≡ is_some (at_key sees_leaves key.now (by_key (arguments_of self.now))) }
     {
-        has_text(self.keyed.as_slice(), key)
+        is_among(&self.texts, key)
     }
 
     /// Adds an argument by position.
@@ -75,7 +80,7 @@ impl<'src> Arguments<'src> {
     }
 
     /// Adds an argument with a key that is not among them.
-    #[tactic(auto, using(crate::proofs::ArgumentLists::still_distinct))]
+    #[tactic(auto, using(crate::proofs::ArgumentTexts::kept_distinct, crate::proofs::ArgumentTexts::kept_texts))]
     pub(crate) fn push_keyed(
         &mut self,
         key: Name<'src>,
@@ -85,14 +90,36 @@ impl<'src> Arguments<'src> {
         ensures { UnlessMemory result (λ done. arguments_of self.new ≡ arguments_of self.old
             ++ reader.argument_of_key (Named key.entry.token None) (option_map (λ e. leaf_tree_of e.value) value.entry) ∷ []) }
     {
-        self.keyed.push((key, value))?;
-        Ok(())
+        let count = self.keyed.len();
+        match push_key(&mut self.keyed, &mut self.texts, key, value) {
+            Ok(()) => Ok(()),
+            Err(_failed) => {
+                self.keyed.truncate(count);
+                Err(Stop::Memory)
+            }
+        }
     }
 }
 
-/// Whether one of the keys has this text.
-fn has_text(keys: &[(Name<'_>, Option<Box<Expression<'_>>>)], text: &str) -> bool
-    ensures { result ≡ list_any (λ g. bytes_eq (key_text g) text.now) keys.now }
+/// Adds a key with its value to a list, and its text to a set.
+///
+/// # Errors
+///
+/// `AllocError` if the program is out of memory.
+#[tactic(auto, using(crate::proofs::ArgumentTexts::begins_pushed, crate::proofs::ArgumentTexts::begins_same))]
+fn push_key<'src>(
+    keyed: &mut Vec<(Name<'src>, Option<Box<Expression<'src>>>)>,
+    texts: &mut BTreeSet<&'src str>,
+    key: Name<'src>,
+    value: Option<Box<Expression<'src>>>,
+) -> Result<(), AllocError>
+    ensures pushed { OnOk result (keyed.new.items ≡ keyed.old.items ++ (key.entry, value.entry) ∷ []) }
+    ensures named { OnOk result (HaveSame
+        (texts_in texts.old ++ lexeme_of key.entry.token ∷ []) (texts_in texts.new)) }
+    ensures kept { OnErr result (texts.new.keys ≡ texts.old.keys) }
+    ensures begins { take (length keyed.old.items) keyed.new.items ≡ keyed.old.items }
 {
-    keys.iter().any(|given| given.0.lexeme() == text)
+    let text = key.lexeme();
+    keyed.push((key, value))?;
+    add_text(texts, text)
 }

@@ -16,7 +16,7 @@ ghost use Rattle.justfile_parse_expression.specs.View.{left, state_of};
 use crate::arguments::Arguments;
 use crate::comment::comment_text;
 use crate::halt::{Halt, make_halt};
-use crate::new_attribute::{check_last, push_made};
+use crate::read_attributes::ReadAttributes;
 use justfile_attribute::Attribute;
 use justfile_base::{
     AttributeKind, CompileErrorKind, Expander, Fault, Keyword, Name, Token, TokenKind,
@@ -24,7 +24,7 @@ use justfile_base::{
 use justfile_parse_expression::significant::TableEntry;
 use justfile_parse_expression::{ExpressionParser, Refusal, Stop};
 use justfile_tree::Expression;
-use justfile_written::{Written, comment_last};
+use justfile_written::Written;
 
 /// The lines of attributes before a construct, each attribute with its name and its comment.
 #[tactic(auto, using(crate::proofs::AttributeLoops::lines_end, crate::proofs::AttributeLoops::lines_go_on, crate::proofs::StillWhole::then_whole))]
@@ -36,10 +36,10 @@ pub fn parse_attributes<'src, X: Expander>(
     ensures whole { IfOk result (λ pairs. AreWholePairs pairs.items) }
     ensures progress { OnOk result (left parser.new ≤ left parser.old) }
 {
-    let mut attributes = Vec::new(parser.alloc);
+    let mut attributes = ReadAttributes::new(parser.alloc);
     'lines: loop {
         if parse_next_line(parser, &mut attributes)? {
-            return Ok(attributes);
+            return Ok(attributes.into_pairs());
         }
     }
 }
@@ -49,11 +49,11 @@ pub fn parse_attributes<'src, X: Expander>(
 #[tactic(auto, using(crate::proofs::AttributeSteps::broken_first, crate::proofs::StillWhole::same_whole), unfolding(crate::specs::AttributeTable::line_step))]
 fn parse_next_line<'src, X: Expander>(
     parser: &mut ExpressionParser<'_, 'src, X>,
-    attributes: &mut Vec<(Attribute<'src>, Written<'src>)>,
+    attributes: &mut ReadAttributes<'src>,
 ) -> Result<bool, Halt<'src>>
-    ensures reads { ReadsRuled (λ is_last. (map entry_of_pair attributes.new.items, is_last)) result (state_of X.answer parser.new)
-        (reader.line_step (map entry_of_pair attributes.old.items) (state_of X.answer parser.old)) }
-    ensures whole { OnOk result (KeepsWholePairs attributes.old.items attributes.new.items) }
+    ensures reads { ReadsRuled (λ is_last. (map entry_of_pair attributes.new.pairs.items, is_last)) result (state_of X.answer parser.new)
+        (reader.line_step (map entry_of_pair attributes.old.pairs.items) (state_of X.answer parser.old)) }
+    ensures whole { OnOk result (KeepsWholePairs attributes.old.pairs.items attributes.new.pairs.items) }
     ensures progress { OnOk result (left parser.new ≤ left parser.old) }
     ensures shrinks { IfOk result (λ is_last. is_last ≡ false → left parser.new < left parser.old) }
 {
@@ -68,11 +68,11 @@ fn parse_next_line<'src, X: Expander>(
 #[tactic(auto, using(crate::proofs::AttributeSteps::broken_first, crate::proofs::StillWhole::both_whole), unfolding(crate::specs::AttributeTable::attribute_line))]
 fn parse_attribute_line<'src, X: Expander>(
     parser: &mut ExpressionParser<'_, 'src, X>,
-    attributes: &mut Vec<(Attribute<'src>, Written<'src>)>,
+    attributes: &mut ReadAttributes<'src>,
 ) -> Result<(), Halt<'src>>
-    ensures reads { ReadsRuled (λ _. map entry_of_pair attributes.new.items) result (state_of X.answer parser.new)
-        (reader.attribute_line (map entry_of_pair attributes.old.items) (state_of X.answer parser.old)) }
-    ensures whole { OnOk result (KeepsWholePairs attributes.old.items attributes.new.items) }
+    ensures reads { ReadsRuled (λ _. map entry_of_pair attributes.new.pairs.items) result (state_of X.answer parser.new)
+        (reader.attribute_line (map entry_of_pair attributes.old.pairs.items) (state_of X.answer parser.old)) }
+    ensures whole { OnOk result (KeepsWholePairs attributes.old.pairs.items attributes.new.pairs.items) }
     ensures progress { OnOk result (left parser.new < left parser.old) }
 {
     parse_bracketed(parser, attributes)?;
@@ -82,25 +82,22 @@ fn parse_attribute_line<'src, X: Expander>(
 }
 
 /// Gives the comment after a line of attributes, if there is one, to the last of them.
-fn give_comment<'src>(
-    attributes: &mut Vec<(Attribute<'src>, Written<'src>)>,
-    comment: Option<TableEntry<'_, 'src>>,
-)
-    ensures entries { map entry_of_pair attributes.new.items ≡ reader.commented_by comment.entry (map entry_of_pair attributes.old.items) }
-    ensures whole { KeepsWholePairs attributes.old.items attributes.new.items }
+fn give_comment<'src>(attributes: &mut ReadAttributes<'src>, comment: Option<TableEntry<'_, 'src>>)
+    ensures entries { map entry_of_pair attributes.new.pairs.items ≡ reader.commented_by comment.entry (map entry_of_pair attributes.old.pairs.items) }
+    ensures whole { KeepsWholePairs attributes.old.pairs.items attributes.new.pairs.items }
 {
-    comment_last(attributes.as_mut_slice(), comment_text(comment));
+    attributes.add_comment(comment_text(comment));
 }
 
 /// The attributes of a bracket and its end, after those before it.
 #[tactic(auto, using(crate::proofs::AttributeLoops::bracket_ends, crate::proofs::AttributeLoops::bracket_goes_on, crate::proofs::StillWhole::same_whole, crate::proofs::StillWhole::both_whole))]
 fn parse_bracketed<'src, X: Expander>(
     parser: &mut ExpressionParser<'_, 'src, X>,
-    attributes: &mut Vec<(Attribute<'src>, Written<'src>)>,
+    attributes: &mut ReadAttributes<'src>,
 ) -> Result<(), Halt<'src>>
-    ensures reads { ReadsRuled (λ _. map entry_of_pair attributes.new.items) result (state_of X.answer parser.new)
-        (reader.bracketed (map entry_of_pair attributes.old.items, state_of X.answer parser.old)) }
-    ensures whole { OnOk result (KeepsWholePairs attributes.old.items attributes.new.items) }
+    ensures reads { ReadsRuled (λ _. map entry_of_pair attributes.new.pairs.items) result (state_of X.answer parser.new)
+        (reader.bracketed (map entry_of_pair attributes.old.pairs.items, state_of X.answer parser.old)) }
+    ensures whole { OnOk result (KeepsWholePairs attributes.old.pairs.items attributes.new.pairs.items) }
     ensures progress { OnOk result (left parser.new < left parser.old) }
 {
     'bracket: loop {
@@ -114,11 +111,11 @@ fn parse_bracketed<'src, X: Expander>(
 #[tactic(auto, using(crate::proofs::AttributeSteps::broken_first), unfolding(crate::specs::AttributeTable::bracket_step))]
 fn parse_next_attribute<'src, X: Expander>(
     parser: &mut ExpressionParser<'_, 'src, X>,
-    attributes: &mut Vec<(Attribute<'src>, Written<'src>)>,
+    attributes: &mut ReadAttributes<'src>,
 ) -> Result<bool, Halt<'src>>
-    ensures reads { ReadsRuled (λ is_last. (map entry_of_pair attributes.new.items, is_last)) result (state_of X.answer parser.new)
-        (reader.bracket_step (map entry_of_pair attributes.old.items) (state_of X.answer parser.old)) }
-    ensures whole { OnOk result (KeepsWholePairs attributes.old.items attributes.new.items) }
+    ensures reads { ReadsRuled (λ is_last. (map entry_of_pair attributes.new.pairs.items, is_last)) result (state_of X.answer parser.new)
+        (reader.bracket_step (map entry_of_pair attributes.old.pairs.items) (state_of X.answer parser.old)) }
+    ensures whole { OnOk result (KeepsWholePairs attributes.old.pairs.items attributes.new.pairs.items) }
     ensures progress { OnOk result (left parser.new < left parser.old) }
 {
     parse_attribute(parser, attributes)?;
@@ -188,11 +185,11 @@ fn want_line_end<X: Expander>(parser: &ExpressionParser<'_, '_, X>) {
 #[tactic(auto, using(crate::proofs::AttributeSteps::broken_first, crate::proofs::AttributeSteps::one_attribute_is))]
 fn parse_attribute<'src, X: Expander>(
     parser: &mut ExpressionParser<'_, 'src, X>,
-    attributes: &mut Vec<(Attribute<'src>, Written<'src>)>,
+    attributes: &mut ReadAttributes<'src>,
 ) -> Result<(), Halt<'src>>
-    ensures reads { ReadsRuled (λ _. map entry_of_pair attributes.new.items) result (state_of X.answer parser.new)
-        (reader.one_attribute (map entry_of_pair attributes.old.items) (state_of X.answer parser.old)) }
-    ensures whole { OnOk result (KeepsWholePairs attributes.old.items attributes.new.items) }
+    ensures reads { ReadsRuled (λ _. map entry_of_pair attributes.new.pairs.items) result (state_of X.answer parser.new)
+        (reader.one_attribute (map entry_of_pair attributes.old.pairs.items) (state_of X.answer parser.old)) }
+    ensures whole { OnOk result (KeepsWholePairs attributes.old.pairs.items attributes.new.pairs.items) }
     ensures progress { OnOk result (left parser.new < left parser.old) }
 {
     let name = parser.expect(TokenKind::Identifier)?;
@@ -222,23 +219,19 @@ fn find_attribute_kind<'run, 'src, X: Expander>(
 }
 
 /// Makes an attribute of its arguments, and adds it to those before it, if it may stand there.
-#[tactic(auto, using(crate::proofs::AttributeSteps::not_made, crate::proofs::AttributeSteps::made_refused, crate::proofs::AttributeSteps::made_last))]
+#[tactic(auto, using(crate::proofs::AttributeSteps::entry_halts, crate::proofs::AttributeSteps::entry_last))]
 fn push_attribute<'src, X: Expander>(
     parser: &ExpressionParser<'_, 'src, X>,
-    attributes: &mut Vec<(Attribute<'src>, Written<'src>)>,
+    attributes: &mut ReadAttributes<'src>,
     name: Name<'src>,
     kind: AttributeKind,
     arguments: Arguments<'src>,
 ) -> Result<(), Halt<'src>>
-    ensures reads { ReadsRuled (λ _. map entry_of_pair attributes.new.items) result (state_of X.answer parser.now)
-        (reader.one_made (map entry_of_pair attributes.old.items) name.entry.token kind (arguments_of arguments.entry) (state_of X.answer parser.now)) }
-    ensures whole { OnOk result (KeepsWholePairs attributes.old.items attributes.new.items) }
+    ensures reads { ReadsRuled (λ _. map entry_of_pair attributes.new.pairs.items) result (state_of X.answer parser.now)
+        (reader.one_made (map entry_of_pair attributes.old.pairs.items) name.entry.token kind (arguments_of arguments.entry) (state_of X.answer parser.now)) }
+    ensures whole { OnOk result (KeepsWholePairs attributes.old.pairs.items attributes.new.pairs.items) }
 {
-    match push_made(parser.alloc, attributes, name, kind, arguments) {
-        Ok(()) => {}
-        Err(fault) => return Err(make_halt(parser.alloc, fault)),
-    }
-    match check_last(parser.alloc, attributes.as_slice()) {
+    match attributes.push(parser.alloc, name, kind, arguments) {
         Ok(()) => Ok(()),
         Err(fault) => Err(make_halt(parser.alloc, fault)),
     }

@@ -5,7 +5,11 @@ mod arguments;
 mod attributes;
 mod comment;
 mod halt;
+mod labels;
 mod new_attribute;
+mod read_attributes;
+mod repeated;
+pub mod text_sets;
 
 pub use crate::attributes::{parse_attributes, parse_separator};
 pub use crate::comment::comment_text;

@@ -1,7 +1,10 @@
 pub mod Anywhere
+pub mod Branches
+pub mod Chains
 pub mod Cooked
 pub mod Elements
 pub mod Formats
+pub mod Negations
 pub mod NextKinds
 pub mod Operators
 pub mod Parts

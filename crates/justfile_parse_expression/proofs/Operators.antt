@@ -13,6 +13,7 @@ use Rattle.justfile_model.specs.declared.level.Level.{Level}
 use Rattle.justfile_model.specs.declared.level.Level.TheVariants.{Expression, Disjunct, Compared, Conjunct, Value}
 use Rattle.justfile_word.specs.declared.list_feature.ListFeature.TheVariants as features
 use Rattle.justfile_model.specs.declared.operator.Operator.{Operator}
+use Rattle.justfile_parse_expression.specs.Chains.{row}
 use Rattle.justfile_parse_expression.specs.TableReader as r
 use Rattle.justfile_parse_expression.specs.TableReader.{At, Read, ReadExpr, Refusal, State, accept, accept_word, enter, front_operator, is_within, leaves, literal, operation, operations, read, value}
 use Rattle.justfile_tree.specs.LeafTree.{Leaf}
@@ -33,7 +34,7 @@ regroup (Err e) f g = refl
 abbrev allowed : (within : Bool) → State → Refusal → Read (Unit {0})
 allowed within s e = if within then Ok (tt, s) else Err e
 
-opened_by : (within : Bool) (s : State) (e : Refusal) (f : State → ReadExpr) → (if within then f s else Err e) ≡ (allowed within s e >>= λ o. f o.1)
+pub opened_by : (within : Bool) (s : State) (e : Refusal) (f : State → ReadExpr) → (if within then f s else Err e) ≡ (allowed within s e >>= λ o. f o.1)
 opened_by true s e f = refl
 opened_by false s e f = refl
 
@@ -76,9 +77,9 @@ pub conjunct_is : (c : Bool) (s : State) → read (At Conjunct c s)
     ≡ choose {X = ReadExpr} (accept_word (codes "if") s)
     (choose {X = ReadExpr} (accept kinds.Slash s)
     (value s >>= operation Conjunct c)
-    (λ op. read (At Conjunct false op.1) >>= then_made (t.Root op.0.token.now)))
+    (λ op. row Conjunct (t.Root op.0.token.now) op.1))
     (λ w. read (r.Conditional w.0 w.1))
-unfolding expressions.conjunct_rule expressions.binary_rule operation leaves
+unfolding expressions.conjunct_rule expressions.binary_rule operation leaves row
 conjunct_is c s =
     laws.level_is leaves Conjunct c s
     ∙ choose_alike (accept_word (codes "if") s) _ _ _ _

@@ -56,6 +56,10 @@ pub bind_alike : {A B : Type 0} (found : Read A) (f g : A × State → Read B) �
 bind_alike (Ok x) f g h = h x
 bind_alike (Err e) f g h = refl
 
+pub bound : {A B C : Type 0} (found : Read A) (f : A × State → Read B) (g : B × State → Read C) → (found >>= λ x. f x >>= g) ≡ ((found >>= f) >>= g)
+bound (Ok x) f g = refl
+bound (Err e) f g = refl
+
 pub braced_is : (s : State) → braced s ≡ (expect kinds.BraceL s >>= λ o. enclosed kinds.BraceR o.1)
 unfolding expressions.braced_rule enclosed
 braced_is s = refl

@@ -1,5 +1,5 @@
 //! How expressions are read.
-ghost use Rattle.std.specs.Prelude.{◌≡◌, ◌<◌, ◌≤◌, IsTrue, false, OnOk, IfSome, IfNone, Some, None};
+ghost use Rattle.std.specs.Prelude.{◌≡◌, ◌<◌, ◌≤◌, IsTrue, false, Ok, OnOk, IfSome, IfNone, Some, None};
 ghost use Rattle.justfile_base.specs.StringKind.{kind_of};
 ghost use Rattle.justfile_base.specs.Token.{lexeme_of};
 ghost use Rattle.justfile_word.specs.declared.token_kind.TokenKind.TheVariants as kinds;
@@ -9,6 +9,8 @@ ghost use Rattle.justfile_parse_expression.specs.Formats.{IsEndedAt, IsEndedFrom
 ghost use Rattle.justfile_parse_expression.specs.Literal.{IsOf};
 ghost use Rattle.justfile_model.specs.ExpressionReader.{closed};
 ghost use Rattle.justfile_model.specs.Operators.{is_binary};
+ghost use Rattle.justfile_parse_expression.specs.Chains as chains;
+ghost use Rattle.justfile_parse_expression.specs.Chains.{branch_of, link_of, negated, row_closed, row_tree, step_of};
 ghost use Rattle.justfile_parse_expression.specs.TableReader as reader;
 ghost use Rattle.justfile_parse_expression.specs.MethodResults.{Reads, UnlessMemory};
 ghost use Rattle.justfile_tree.specs.LeafTree.{Literal, Named, format_string_tree, literal_of, leaf_tree_of, trees_of};
@@ -16,9 +18,7 @@ ghost use Rattle.justfile_model.specs.declared.level.Level.TheVariants as levels
 
 use crate::feature::find_function_feature;
 use crate::literal::find_kind;
-use crate::operator::{
-    find_feature, find_left_level, find_operator, find_right_level, is_at, make_operation,
-};
+use crate::operator::{find_feature, find_left_level, find_operator, is_at, make_operation};
 use crate::parser::{ExpressionParser, is_word};
 use crate::significant::TableEntry;
 use crate::stop::{Refusal, Stop};
@@ -28,6 +28,62 @@ use justfile_tree::{Expression, ListFeature};
 
 /// The usual limit of depth: how many expressions may be open in one another.
 pub const RECURSION_LIMIT: usize = 256;
+
+/// What an expression is made of beside its right side.
+#[derive(Drop)]
+pub(crate) enum Link<'src> {
+    Operation {
+        lhs: Box<Expression<'src>>,
+        operator: Operator,
+        token: Token<'src>,
+    },
+    /// A `/` with nothing to its left.
+    Root {
+        token: Token<'src>,
+    },
+    /// A conditional up to its other branch.
+    Branch {
+        condition: Box<Expression<'src>>,
+        then: Box<Expression<'src>>,
+    },
+}
+
+/// What comes next of a row: its last expression, or a link, after which the row goes on.
+#[derive(Drop)]
+pub(crate) enum Step<'src> {
+    Last(Box<Expression<'src>>),
+    Next(Link<'src>),
+}
+
+/// What comes next of a conditional: its end, or a branch and the `if` after it.
+#[derive(Drop)]
+pub(crate) enum Branch<'run, 'src> {
+    Last(Box<Expression<'src>>),
+    Next(Link<'src>, TableEntry<'run, 'src>),
+}
+
+/// What a link makes of its right side.
+fn make_link<'src>(link: Link<'src>, rhs: Box<Expression<'src>>) -> Expression<'src>
+    ensures { leaf_tree_of result ≡ link_of link.entry (leaf_tree_of rhs.entry.value) }
+{
+    match link {
+        Link::Operation {
+            lhs,
+            operator,
+            token,
+        } => make_operation(lhs, operator, token, rhs),
+        Link::Root { token } => Expression::Join {
+            lhs: None,
+            operator: token,
+            rhs,
+        },
+        Link::Branch { condition, then } => Expression::Conditional {
+            condition,
+            then,
+            otherwise: Some(rhs),
+        },
+    }
+}
 
 impl<'run, 'src, X: Expander> ExpressionParser<'run, 'src, X> {
     ghost use Rattle.justfile_parse_expression.specs.View.{Moves, left, state_of};
@@ -70,16 +126,145 @@ impl<'run, 'src, X: Expander> ExpressionParser<'run, 'src, X> {
         if let Some(word) = self.accept_keyword(Keyword::If) {
             return self.parse_conditional(word);
         }
-        let Some(operator) = self.accept(TokenKind::Slash) else {
+        let Some(slash) = self.accept(TokenKind::Slash) else {
             let lhs = self.parse_value()?;
             return self.parse_operation(lhs, Level::Conjunct, condition);
         };
-        let rhs = self.parse_conjunct(false)?;
-        self.box_expression(Expression::Join {
-            lhs: None,
-            operator: *operator.token,
-            rhs,
-        })
+        let token = *slash.token;
+        self.parse_row(Link::Root { token }, Level::Conjunct)
+    }
+
+    /// The right side of an operator of a level, and what its link makes of it. Operators of one level
+    /// nest to the right, so the right side is a row of any length.
+    #[cycle(expression)]
+    #[tactic(auto, using(crate::proofs::Chains::begins, crate::proofs::Chains::goes_on, crate::proofs::Chains::ends, crate::proofs::Chains::stops))]
+    #[inline(never)]
+    fn parse_row(
+        &mut self,
+        first: Link<'src>,
+        level: Level,
+    ) -> Result<Box<Expression<'src>>, Stop<'src>>
+        ensures reads { Reads (λ e. leaf_tree_of e.value) result (state_of X.answer self.new)
+            (chains.row level (link_of first.entry) (state_of X.answer self.old)) }
+        ensures progress { OnOk result (left self.new ≤ left self.old) }
+    {
+        let mut row = Vec::new(self.alloc);
+        let mut link = first;
+        'row: loop {
+            match self.parse_step(level)? {
+                Step::Last(last) => return self.join_row(row, link, last, level),
+                Step::Next(next) => {
+                    row.push(link)?;
+                    link = next;
+                }
+            }
+        }
+    }
+
+    /// What comes next of a row, after an operator of the level. Comparisons form no rows.
+    #[cycle(expression)]
+    #[tactic(auto, unfolding(crate::specs::Chains::step))]
+    fn parse_step(&mut self, level: Level) -> Result<Step<'src>, Stop<'src>>
+        ensures reads { Reads step_of result (state_of X.answer self.new)
+            (chains.step level (state_of X.answer self.old)) }
+        ensures progress { OnOk result (left self.new < left self.old) }
+    {
+        match level {
+            Level::Conjunct => self.parse_operand(),
+            Level::Value => Ok(Step::Last(self.parse_value()?)),
+            Level::Compared => Ok(Step::Last(self.parse_conjunct(false)?)),
+            Level::Expression | Level::Disjunct => {
+                self.enter(level)?;
+                let lhs = self.parse_level(find_left_level(level), false)?;
+                self.parse_link(lhs, level)
+            }
+        }
+    }
+
+    /// An operand and the operator after it, if there is one. `if` begins a conditional where `/` may
+    /// stand.
+    #[cycle(expression)]
+    #[tactic(auto, unfolding(crate::specs::Chains::operand_step))]
+    fn parse_operand(&mut self) -> Result<Step<'src>, Stop<'src>>
+        ensures reads { Reads step_of result (state_of X.answer self.new)
+            (chains.operand_step (state_of X.answer self.old)) }
+        ensures progress { OnOk result (left self.new < left self.old) }
+    {
+        if let Some(word) = self.accept_keyword(Keyword::If) {
+            return Ok(Step::Last(self.parse_conditional(word)?));
+        }
+        if let Some(slash) = self.accept(TokenKind::Slash) {
+            let token = *slash.token;
+            return Ok(Step::Next(Link::Root { token }));
+        }
+        let lhs = self.parse_value()?;
+        self.parse_link(lhs, Level::Conjunct)
+    }
+
+    /// A left side and the operator of the level after it, if there is one.
+    #[tactic(auto, unfolding(crate::specs::Chains::link, crate::specs::TableReader::leaves))]
+    fn parse_link(
+        &mut self,
+        lhs: Box<Expression<'src>>,
+        level: Level,
+    ) -> Result<Step<'src>, Stop<'src>>
+        ensures reads { Reads step_of result (state_of X.answer self.new)
+            (chains.link level (leaf_tree_of lhs.entry.value, state_of X.answer self.old)) }
+        ensures progress { OnOk result (left self.new ≤ left self.old) }
+    {
+        let Some((operator, entry)) = self.accept_operator(level) else {
+            self.wanted.add_operators(level);
+            return Ok(Step::Last(lhs));
+        };
+        let token = *entry.token;
+        self.note_if(find_feature(operator, false), token)?;
+        Ok(Step::Next(Link::Operation {
+            lhs,
+            operator,
+            token,
+        }))
+    }
+
+    /// What the links of a row make of its last expression, from the last link on. The expression that
+    /// each link is part of is closed.
+    #[tactic(auto, using(crate::proofs::Chains::row_pushed, crate::proofs::Chains::closed_pushed))]
+    fn join_row(
+        &mut self,
+        row: Vec<Link<'src>>,
+        link: Link<'src>,
+        last: Box<Expression<'src>>,
+        level: Level,
+    ) -> Result<Box<Expression<'src>>, Stop<'src>>
+        ensures reads { Reads (λ e. leaf_tree_of e.value) result (state_of X.answer self.new)
+            (Ok (
+              row_tree row.entry.items (link_of link.entry (leaf_tree_of last.entry.value)),
+              row_closed level row.entry.items (closed level (closed level (state_of X.answer self.old))),
+            )) }
+        ensures stays { OnOk result (left self.new ≡ left self.old) }
+    {
+        self.leave(level);
+        let mut whole = self.join_link(link, last, level)?;
+        let mut row = row;
+        while let Some(link) = row.pop() {
+            whole = self.join_link(link, whole, level)?;
+        }
+        Ok(whole)
+    }
+
+    /// What a link makes of its right side. The expression that it is part of is closed.
+    fn join_link(
+        &mut self,
+        link: Link<'src>,
+        rhs: Box<Expression<'src>>,
+        level: Level,
+    ) -> Result<Box<Expression<'src>>, Stop<'src>>
+        ensures tree { UnlessMemory result (λ e. leaf_tree_of e.value
+            ≡ link_of link.entry (leaf_tree_of rhs.entry.value)) }
+        ensures closed { state_of X.answer self.new ≡ closed level (state_of X.answer self.old) }
+        ensures stays { left self.new ≡ left self.old }
+    {
+        self.leave(level);
+        self.box_expression(make_link(link, rhs))
     }
 
     /// The operators of the levels from comparisons up to this one, each with its right side, after a
@@ -113,7 +298,7 @@ impl<'run, 'src, X: Expander> ExpressionParser<'run, 'src, X> {
     /// An operator of a level after its left side, and its right side; the left side alone if there is
     /// no such operator.
     #[cycle(expression)]
-    #[tactic(auto, unfolding(crate::specs::TableReader::operation, crate::specs::TableReader::leaves))]
+    #[tactic(auto, unfolding(crate::specs::TableReader::operation, crate::specs::TableReader::leaves, crate::specs::Chains::row))]
     #[inline(always)]
     fn parse_operation(
         &mut self,
@@ -132,9 +317,15 @@ impl<'run, 'src, X: Expander> ExpressionParser<'run, 'src, X> {
             return Ok(lhs);
         };
         self.note_if(find_feature(operator, condition), *entry.token)?;
-        let rhs = self.parse_level(find_right_level(level), false)?;
-        self.leave(level);
-        self.box_expression(make_operation(lhs, operator, *entry.token, rhs))
+        let token = *entry.token;
+        self.parse_row(
+            Link::Operation {
+                lhs,
+                operator,
+                token,
+            },
+            level,
+        )
     }
 
     /// An expression, and the delimiter after it.
@@ -180,7 +371,7 @@ impl<'run, 'src, X: Expander> ExpressionParser<'run, 'src, X> {
 
     /// A conditional, after its `if`.
     #[cycle(expression)]
-    #[tactic(auto, using(crate::proofs::Rules::conditional_is), unfolding(justfile_model::specs::ExpressionReader::conditional_rule, crate::specs::TableReader::leaves))]
+    #[tactic(auto, using(crate::proofs::Branches::conditional_is))]
     #[inline(never)]
     fn parse_conditional(
         &mut self,
@@ -190,35 +381,109 @@ impl<'run, 'src, X: Expander> ExpressionParser<'run, 'src, X> {
             (reader.read (reader.Conditional word.entry (state_of X.answer self.old))) }
         ensures progress { OnOk result (left self.new < left self.old) }
     {
+        match self.parse_branch(word)? {
+            Branch::Last(last) => Ok(last),
+            Branch::Next(link, next) => self.parse_branches(link, next),
+        }
+    }
+
+    /// What a branch makes of the conditional that is its other branch, after the `if` of that. There may
+    /// be any number of such branches.
+    #[cycle(expression)]
+    #[tactic(auto, using(crate::proofs::Chains::begins, crate::proofs::Branches::goes_on, crate::proofs::Branches::ends, crate::proofs::Branches::stops))]
+    #[inline(never)]
+    fn parse_branches(
+        &mut self,
+        first: Link<'src>,
+        word: TableEntry<'run, 'src>,
+    ) -> Result<Box<Expression<'src>>, Stop<'src>>
+        ensures reads { Reads (λ e. leaf_tree_of e.value) result (state_of X.answer self.new)
+            (chains.branches (link_of first.entry) word.entry (state_of X.answer self.old)) }
+        ensures progress { OnOk result (left self.new < left self.old) }
+    {
+        let mut row = Vec::new(self.alloc);
+        let mut link = first;
+        let mut word = word;
+        'branches: loop {
+            match self.parse_branch(word)? {
+                Branch::Last(last) => return self.join_row(row, link, last, Level::Conjunct),
+                Branch::Next(next, after) => {
+                    row.push(link)?;
+                    link = next;
+                    word = after;
+                }
+            }
+        }
+    }
+
+    /// What comes next of a conditional, after an `if`.
+    #[cycle(expression)]
+    #[tactic(auto, unfolding(crate::specs::Chains::branch))]
+    fn parse_branch(
+        &mut self,
+        word: TableEntry<'run, 'src>,
+    ) -> Result<Branch<'run, 'src>, Stop<'src>>
+        ensures reads { Reads branch_of result (state_of X.answer self.new)
+            (chains.branch word.entry (state_of X.answer self.old)) }
+        ensures progress { OnOk result (left self.new < left self.old) }
+    {
         let condition = self.parse_condition()?;
         let then = self.parse_braced()?;
         let Some(_else) = self.accept_keyword(Keyword::Else) else {
             self.note(ListFeature::IfWithoutElse, *word.token)?;
-            return self.box_expression(Expression::Conditional {
-                condition,
-                then,
-                otherwise: None,
-            });
+            return self.end_if(condition, then);
         };
-        let otherwise = Some(self.parse_otherwise()?);
-        self.box_expression(Expression::Conditional {
-            condition,
-            then,
-            otherwise,
-        })
+        let Some(word) = self.accept_keyword(Keyword::If) else {
+            let otherwise = self.parse_last_branch()?;
+            return self.end_else(condition, then, otherwise);
+        };
+        Ok(Branch::Next(Link::Branch { condition, then }, word))
     }
 
-    /// The other branch of a conditional, after `else`.
+    /// A conditional without another branch.
+    fn end_if(
+        &self,
+        condition: Box<Expression<'src>>,
+        then: Box<Expression<'src>>,
+    ) -> Result<Branch<'run, 'src>, Stop<'src>>
+        ensures { UnlessMemory result (λ branch. branch_of branch
+            ≡ chains.End (tree.If (leaf_tree_of condition.entry.value) (leaf_tree_of then.entry.value))) }
+    {
+        let end = self.box_expression(Expression::Conditional {
+            condition,
+            then,
+            otherwise: None,
+        })?;
+        Ok(Branch::Last(end))
+    }
+
+    /// A conditional of which the other branch stands in braces.
+    fn end_else(
+        &self,
+        condition: Box<Expression<'src>>,
+        then: Box<Expression<'src>>,
+        otherwise: Box<Expression<'src>>,
+    ) -> Result<Branch<'run, 'src>, Stop<'src>>
+        ensures { UnlessMemory result (λ branch. branch_of branch
+            ≡ chains.End (tree.IfElse (leaf_tree_of condition.entry.value) (leaf_tree_of then.entry.value)
+            (leaf_tree_of otherwise.entry.value))) }
+    {
+        let end = self.box_expression(Expression::Conditional {
+            condition,
+            then,
+            otherwise: Some(otherwise),
+        })?;
+        Ok(Branch::Last(end))
+    }
+
+    /// The other branch of a conditional, after `else`, where it stands in braces.
     #[cycle(expression)]
-    #[tactic(auto, unfolding(justfile_model::specs::ExpressionReader::otherwise_rule))]
-    fn parse_otherwise(&mut self) -> Result<Box<Expression<'src>>, Stop<'src>>
+    #[tactic(auto, unfolding(crate::specs::Chains::last_branch))]
+    fn parse_last_branch(&mut self) -> Result<Box<Expression<'src>>, Stop<'src>>
         ensures reads { Reads (λ e. leaf_tree_of e.value) result (state_of X.answer self.new)
-            (reader.otherwise (state_of X.answer self.old)) }
+            (chains.last_branch (state_of X.answer self.old)) }
         ensures progress { OnOk result (left self.new < left self.old) }
     {
-        if let Some(word) = self.accept_keyword(Keyword::If) {
-            return self.parse_conditional(word);
-        }
         let otherwise = self.parse_braced()?;
         self.expect_closed(&otherwise)?;
         Ok(otherwise)
@@ -227,17 +492,73 @@ impl<'run, 'src, X: Expander> ExpressionParser<'run, 'src, X> {
     /// What may stand on either side of an operator: `!`, or what takes no operator before it. Each of
     /// the methods after this one takes one form of it, and leaves the others to the next.
     #[cycle(expression)]
-    #[tactic(auto, using(crate::proofs::Operators::value_is))]
+    #[tactic(auto, using(crate::proofs::Negations::bare_is))]
     #[inline(never)]
     pub fn parse_value(&mut self) -> Result<Box<Expression<'src>>, Stop<'src>>
         ensures reads { Reads (λ e. leaf_tree_of e.value) result (state_of X.answer self.new) (reader.value (state_of X.answer self.old)) }
         ensures progress { OnOk result (left self.new < left self.old) }
     {
-        if let Some(bang) = self.take(TokenKind::Bang) {
+        let Some(_bang) = self.detect_if(TokenKind::Bang) else {
+            return self.parse_bare();
+        };
+        self.parse_negation()
+    }
+
+    /// A value after any number of `!`.
+    #[cycle(expression)]
+    #[tactic(auto, unfolding(crate::specs::Chains::negation))]
+    #[inline(never)]
+    fn parse_negation(&mut self) -> Result<Box<Expression<'src>>, Stop<'src>>
+        ensures reads { Reads (λ e. leaf_tree_of e.value) result (state_of X.answer self.new) (reader.value (state_of X.answer self.old)) }
+        ensures progress { OnOk result (left self.new < left self.old) }
+    {
+        let count = self.accept_bangs()?;
+        let operand = self.parse_bare()?;
+        self.negate(operand, count)
+    }
+
+    /// Takes the `!` that come next, and says how many they are.
+    #[tactic(auto, using(crate::proofs::Negations::begins, crate::proofs::Negations::goes_on, crate::proofs::Negations::ends))]
+    fn accept_bangs(&mut self) -> Result<usize, Stop<'src>>
+        ensures reads { UnlessMemory result (λ count. reader.value (state_of X.answer self.old)
+            ≡ chains.negation count (state_of X.answer self.new)) }
+        ensures progress { left self.new ≤ left self.old }
+    {
+        let most = self.count_left();
+        let mut count = 0;
+        while let Some(bang) = self.take(TokenKind::Bang) {
             self.note(ListFeature::NegationOperator, *bang.token)?;
-            let operand = self.parse_value()?;
-            return self.box_expression(Expression::Not { operand });
+            prove!(count < most);
+            count += 1;
         }
+        Ok(count)
+    }
+
+    /// A value after so many `!`.
+    fn negate(
+        &self,
+        operand: Box<Expression<'src>>,
+        count: usize,
+    ) -> Result<Box<Expression<'src>>, Stop<'src>>
+        ensures { UnlessMemory result (λ e. leaf_tree_of e.value
+            ≡ negated count (leaf_tree_of operand.entry.value)) }
+    {
+        let mut whole = operand;
+        for _bang in 0..count {
+            whole = self.box_expression(Expression::Not { operand: whole })?;
+        }
+        Ok(whole)
+    }
+
+    /// A value with no `!` before it.
+    #[cycle(expression)]
+    #[tactic(auto, unfolding(crate::specs::Chains::bare))]
+    #[inline(always)]
+    fn parse_bare(&mut self) -> Result<Box<Expression<'src>>, Stop<'src>>
+        ensures reads { Reads (λ e. leaf_tree_of e.value) result (state_of X.answer self.new)
+            (chains.bare (state_of X.answer self.old)) }
+        ensures progress { OnOk result (left self.new < left self.old) }
+    {
         match self.parse_literal()? {
             Some(literal) => Ok(literal),
             None => self.parse_format(),
@@ -549,26 +870,29 @@ impl<'run, 'src, X: Expander> ExpressionParser<'run, 'src, X> {
 fn ends_open(expression: &Expression<'_>) -> bool
     ensures { result ≡ ends_open (leaf_tree_of expression.now) }
 {
-    match expression {
-        Expression::Conditional { otherwise, .. } => match otherwise {
-            None => true,
-            Some(other) => ends_open(other),
-        },
-        Expression::And { .. }
-        | Expression::Assert { .. }
-        | Expression::Backtick { .. }
-        | Expression::Call { .. }
-        | Expression::Comparison { .. }
-        | Expression::Concatenation { .. }
-        | Expression::FormatString { .. }
-        | Expression::Group { .. }
-        | Expression::Join { .. }
-        | Expression::List { .. }
-        | Expression::ListConcatenation { .. }
-        | Expression::Not { .. }
-        | Expression::Or { .. }
-        | Expression::StringLiteral { .. }
-        | Expression::Variable { .. } => false,
+    let mut last = expression;
+    'branches: loop {
+        match last {
+            Expression::Conditional { otherwise, .. } => match otherwise {
+                None => return true,
+                Some(other) => last = &**other,
+            },
+            Expression::And { .. }
+            | Expression::Assert { .. }
+            | Expression::Backtick { .. }
+            | Expression::Call { .. }
+            | Expression::Comparison { .. }
+            | Expression::Concatenation { .. }
+            | Expression::FormatString { .. }
+            | Expression::Group { .. }
+            | Expression::Join { .. }
+            | Expression::List { .. }
+            | Expression::ListConcatenation { .. }
+            | Expression::Not { .. }
+            | Expression::Or { .. }
+            | Expression::StringLiteral { .. }
+            | Expression::Variable { .. } => return false,
+        }
     }
 }
 

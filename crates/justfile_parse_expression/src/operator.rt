@@ -1,5 +1,5 @@
 //! The operators between two expressions, and how tightly they bind.
-ghost use Rattle.std.specs.Prelude.{◌≡◌, ◌<◌, ◌≤◌, IsTrue};
+ghost use Rattle.std.specs.Prelude.{◌≡◌, ◌<◌, IsTrue};
 ghost use Rattle.justfile_model.specs.Operators as operators;
 ghost use Rattle.justfile_model.specs.Operators.{is_binary, rank};
 ghost use Rattle.justfile_tree.specs.LeafTree.{leaf_tree_of};
@@ -19,17 +19,6 @@ pub(crate) fn find_left_level(level: Level) -> Level
         Level::Disjunct => Level::Compared,
         Level::Compared => Level::Conjunct,
         Level::Conjunct | Level::Value => Level::Value,
-    }
-}
-
-/// What stands to the right of the operators of a level.
-pub(crate) fn find_right_level(level: Level) -> Level
-    ensures is { result ≡ operators.right level }
-    ensures binary { IsTrue (is_binary level) → IsTrue (is_binary result) }
-{
-    match level {
-        Level::Compared => Level::Conjunct,
-        level => level,
     }
 }
 

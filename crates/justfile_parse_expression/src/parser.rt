@@ -293,6 +293,14 @@ impl<'run, 'src, X: Expander> ExpressionParser<'run, 'src, X> {
         true
     }
 
+    /// How many tokens are left.
+    #[tactic(auto, unfolding(crate::specs::View::left))]
+    pub(crate) fn count_left(&self) -> usize
+        ensures { result ≡ left self.now }
+    {
+        self.tokens.len() - self.next
+    }
+
     /// Takes so many tokens.
     #[tactic(auto, using(crate::proofs::NextKinds::state_skip), unfolding(crate::specs::View::state_of, crate::specs::View::left))]
     pub fn skip(&mut self, count: usize)

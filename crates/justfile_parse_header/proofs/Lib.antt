@@ -1,6 +1,7 @@
 pub mod Dependencies
 pub mod Draws
 pub mod Fewer
+pub mod Firsts
 pub mod Halts
 pub mod HeaderFewer
 pub mod Headers
@@ -8,6 +9,7 @@ pub mod Least
 pub mod Notes
 pub mod Parameters
 pub mod Paths
+pub mod ReadNames
 pub mod SameOptions
 pub mod Spoken
 pub mod Stars

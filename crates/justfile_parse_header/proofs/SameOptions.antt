@@ -18,11 +18,13 @@ use Rattle.justfile_model.specs.RecipeRules.{first_character, long_options, opti
 use Rattle.justfile_model.specs.Rules.{Broken, DuplicateLongOption, DuplicateShortOption, Rule, broken_if}
 use Rattle.justfile_model.specs.Tree.{Quoted}
 use Rattle.justfile_parse_attribute.specs.Halting.{HaltsAt, HaltsFor}
+use Rattle.justfile_parse_attribute.specs.TextSets.{HaveSame}
 use Rattle.justfile_parse_attribute.specs.declared.halt.Halt.{Halt}
 use Rattle.justfile_parse_attribute.proofs.AttributeSteps.{halts_for}
+use Rattle.justfile_parse_attribute.proofs.TextSetLemmas.{same_more, same_texts}
 use Rattle.justfile_parse_expression.specs.TableReader.{Read, State}
 use Rattle.justfile_parse_header.specs.HeaderTable.{Rules}
-use Rattle.justfile_parse_header.specs.OptionRules.{long_step, longs_from, option_step, short_step, shorts_from}
+use Rattle.justfile_parse_header.specs.OptionRules.{long_step, longs_from, option_step, short_step, shorts_from, then_option}
 use Rattle.justfile_parse_header.specs.Options.{Meant, called, character_of, long_in, of_rules, short_in}
 use Rattle.justfile_parse_header.proofs.Halts.{first_halts}
 use Rattle.justfile_parse_header.proofs.Spoken.{rules_left, spoken_left}
@@ -171,6 +173,19 @@ module _ (recipe : Token) (all : List Rules) where
       unfolding short_step
       shorts_halt = halts nat_eq short_rule short_in (shorts_from recipe [] all) before left a rest is so_far
 
+-- ---- the texts before
+
+-- only which texts are among those before them counts
+repeated_same : (rule : List ℕ → Rule Token) (options : List (List ℕ × Token)) (xs ys : List (List ℕ)) → HaveSame xs ys → repeated_broken bytes_eq rule xs options ≡ repeated_broken bytes_eq rule ys options
+repeated_same rule [] xs ys h = refl
+repeated_same rule (o ∷ options) xs ys h =
+    ap (λ b. broken_if b (rule o.0) o.1 ++ repeated_broken bytes_eq rule (xs ++ o.0 ∷ []) options) (h o.0)
+    ∙ ap (λ l. broken_if (list_any (bytes_eq o.0) ys) (rule o.0) o.1 ++ l) (repeated_same rule options (xs ++ o.0 ∷ []) (ys ++ o.0 ∷ []) (same_more xs ys o.0 h))
+
+pub longs_same : (recipe : Token) (all : List Rules) (before same : List (List ℕ)) (left : List Attribute) → HaveSame before same → LongsAhead recipe all before left → LongsAhead recipe all same left
+longs_same recipe all before same left h so_far s =
+    sym (ap (λ (l : List (Broken Token)). obeying l s) (repeated_same (long_rule recipe all) (options_left long_in left) before same h)) ∙ so_far s
+
 -- ---- the steps
 
 module _ (recipe : Token) (before : List (List ℕ)) (a : Meant) (s : State) where
@@ -187,6 +202,19 @@ module _ (recipe : Token) (before : List (List ℕ)) (a : Meant) (s : State) whe
         → IsRefusedBy (new.refuse {X = Unit {0}} (DuplicateLongOption option recipe) place) fault → HaltsAt halt s ⊥ (long_step recipe before a s)
     unfolding long_step
     long_same = step_same bytes_eq (λ option. DuplicateLongOption option recipe) before (long_in a) s option place is
+
+    pub long_added : list_any (bytes_eq option) before ≡ false → long_step recipe before a s ≡ Ok (then_option before (long_in a), s)
+    long_added among = long_apart among ∙ ap (λ (o : Option (List ℕ × Token)). Ok (then_option before o, s)) is
+
+  pub long_kept : None ≡ long_in a → long_step recipe before a s ≡ Ok (then_option before (long_in a), s)
+  long_kept is = long_none is ∙ ap (λ (o : Option (List ℕ × Token)). Ok (then_option before o, s)) is
+
+module _ (before : List (List ℕ)) (found : Option (List ℕ × Token)) where
+  pub then_none : None ≡ found → HaveSame (then_option before found) before
+  then_none is = subst (λ (o : Option (List ℕ × Token)). HaveSame (then_option before o) before) is (same_texts before)
+
+  pub then_some : (option : List ℕ) (place : Token) (new : List (List ℕ)) → Some (option, place) ≡ found → HaveSame (before ++ option ∷ []) new → HaveSame (then_option before found) new
+  then_some option place new is h = subst (λ (o : Option (List ℕ × Token)). HaveSame (then_option before o) new) is h
 
 module _ (recipe : Token) (before : List ℕ) (a : Meant) (s : State) where
   pub short_none : None ≡ short_in a → short_step recipe before a s ≡ Ok (before, s)

@@ -1,7 +1,10 @@
 -- Options and parameters by the texts that name them.
-use Rattle.std.proofs.Common.{◌≡◌, ◌∙◌, ℕ, Bool, Bor, Decides, true, false, cond, nat_eq, List, [], ◌∷◌, ◌||◌, map, Option, Some, None, refl, sym, ap, string_bytes}
+use Rattle.std.proofs.Common.{◌≡◌, ◌∙◌, ℕ, suc, ◌+◌, ◌<◌, ◌≤◌, Bool, Bor, Decides, true, false, nat_eq, List, [], ◌∷◌, ◌++◌, ◌||◌, get_or, length, map, take, Option, Some, None, refl, sym, ap, subst, string_bytes, arith}
 use Rattle.std.proofs.lemmas.Bool.Decides.{Decides-eqb, same_from_decides}
+use Rattle.std.proofs.lemmas.List.{map-append, take_all}
 use Rattle.std.proofs.lemmas.Slice.Eq.{bytes_eq-Decides}
+use Rattle.std.proofs.Math.Seq.{take-suc}
+use Rattle.std.specs.BTreeSet.{BTreeSet}
 use Rattle.std.specs.List.{list_any, slice_get}
 use Rattle.std.specs.Option.{option_map}
 use Rattle.std.specs.Str.{bytes_eq, chars}
@@ -14,15 +17,17 @@ use Rattle.justfile_base.specs.declared.token.Token.{Token}
 use Rattle.justfile_header.specs.declared.parameter.Parameter.{Parameter}
 use Rattle.justfile_model.specs.Literals.{string_of}
 use Rattle.justfile_model.specs.Meaning.{first_of, text_of}
-use Rattle.justfile_model.specs.RecipeRules.{option_of, rules_for, with_text}
+use Rattle.justfile_model.specs.RecipeRules.{option_of, with_text}
 use Rattle.justfile_model.specs.Sight.{or_empty}
 use Rattle.justfile_model.specs.Tree.{OptionName}
-use Rattle.justfile_parse_header.specs.Arguments.{speaks_of}
-use Rattle.justfile_parse_header.specs.HeaderTable.{LeafParameter, Rules}
+use Rattle.justfile_parse_attribute.specs.TextSets.{HaveSame, texts_in}
+use Rattle.justfile_parse_attribute.proofs.TextSetLemmas.{same_more, same_then}
+use Rattle.justfile_parse_header.specs.Arguments.{AreNames}
+use Rattle.justfile_parse_header.specs.HeaderTable.{LeafParameter}
 use Rattle.justfile_parse_header.specs.Options.{character_of, option_in}
 use Rattle.justfile_parse_header.specs.Tree.{parameter_tree}
 use Rattle.justfile_tree.specs.LeafSight.{sees_leaves}
-use Rattle.justfile_tree.specs.LeafTree.{Leaf, Literal, Named, leaf_tree_of, literal_of}
+use Rattle.justfile_tree.specs.LeafTree.{Leaf, Literal, leaf_tree_of, literal_of}
 
 -- the text of a literal is what is kept of it
 pub text_is : (l : StringLiteral) → text_of sees_leaves (quoted_leaf l) ≡ string_bytes l.cooked
@@ -45,41 +50,51 @@ module _ {X : Type 0} (same : X → X → Bool) (decides : (x y : X) → Decides
   any_turned x [] = refl
   any_turned x (y ∷ ys) = ap (λ (b : Bool). b || list_any (λ (y : X). same y x) ys) (turned y x) ∙ ap (λ (b : Bool). same x y || b) (any_turned x ys)
 
--- the text is among the others
-pub text_among : (text : List ℕ) (texts : List (Bor (List ℕ))) → list_any (λ (t : Bor (List ℕ)). bytes_eq t.now text) texts ≡ list_any (bytes_eq text) (map (λ (t : Bor (List ℕ)). t.now) texts)
-text_among text texts =
-    any_map (λ (t : List ℕ). bytes_eq t text) (λ (t : Bor (List ℕ)). t.now) texts
-    ∙ any_turned bytes_eq bytes_eq-Decides text (map (λ (t : Bor (List ℕ)). t.now) texts)
-
 pub character_among : (c : ℕ) (others : List ℕ) → list_any (λ (d : ℕ). nat_eq d c) others ≡ list_any (nat_eq c) others
 character_among = any_turned nat_eq Decides-eqb
+
+abbrev pub is_named : List LeafParameter → (name : List ℕ) → Bool
+is_named parameters name = list_any (λ (p : LeafParameter). bytes_eq (sees_leaves.bytes p.name) name) parameters
 
 -- a parameter of this name is among them
 pub named_is : (ps : List Parameter) (name : List ℕ) → list_any (λ (p : Parameter). bytes_eq (lexeme_of p.name.token) name) ps
     ≡ list_any (λ (p : LeafParameter). bytes_eq (sees_leaves.bytes p.name) name) (map parameter_tree ps)
 named_is ps name = any_map (λ (p : LeafParameter). bytes_eq (sees_leaves.bytes p.name) name) parameter_tree ps
 
--- that an argument is one
-pub parameter_named : (ps : List Parameter) (name : StringLiteral) (text : List ℕ) → text ≡ string_bytes name.cooked → (is : Bool)
-    → list_any (λ (p : Parameter). bytes_eq (lexeme_of p.name.token) text) ps ≡ is
-    → list_any (λ (p : LeafParameter). bytes_eq (sees_leaves.bytes p.name) (text_of sees_leaves (quoted_leaf name))) (map parameter_tree ps) ≡ is
-parameter_named ps name text e is h =
-    ap (λ (t : List ℕ). list_any (λ (p : LeafParameter). bytes_eq (sees_leaves.bytes p.name) t) (map parameter_tree ps)) (text_is name ∙ sym e) ∙ sym (named_is ps text) ∙ h
+-- the names of parameters, from the first to the last
+abbrev pub names_of : List Parameter → List (List ℕ)
+names_of = map (λ (p : Parameter). lexeme_of p.name.token)
 
--- what is said of a parameter after others
-module _ (rules : List Rules) (ps : List Parameter) (name : Token) (text : List ℕ) (e : text ≡ lexeme_of name) where
-  rules_are : (is : Bool) → list_any (λ (p : Parameter). bytes_eq (lexeme_of p.name.token) text) ps ≡ is
-      → cond is None (speaks_of rules (lexeme_of name)) ≡ rules_for sees_leaves rules (map parameter_tree ps) (Named name None)
-  rules_are is h =
-      ap (λ (b : Bool). cond b None (speaks_of rules (lexeme_of name)))
-      (sym h ∙ ap (λ (t : List ℕ). list_any (λ (p : Parameter). bytes_eq (lexeme_of p.name.token) t) ps) e ∙ named_is ps (lexeme_of name))
+pub no_names : (ps : List Parameter) (names : List (List ℕ)) → names ≡ [] → HaveSame (names_of (take 0 ps)) names
+no_names ps names none = λ text. ap (list_any (bytes_eq text)) (sym none)
 
-  pub rules_none : list_any (λ (p : Parameter). bytes_eq (lexeme_of p.name.token) text) ps ≡ true → None ≡ rules_for sees_leaves rules (map parameter_tree ps) (Named name None)
-  rules_none = rules_are true
+pub one_name : (ps : List Parameter) (i : ℕ) (p : Parameter) (text : List ℕ) (old new : List (List ℕ)) → i < length ps → p ≡ get_or ps i p → text ≡ lexeme_of p.name.token
+    → HaveSame (names_of (take i ps)) old → HaveSame (old ++ text ∷ []) new → HaveSame (names_of (take (i + 1) ps)) new
+one_name ps i p text old new within item is so_far added =
+    let next : take (i + 1) ps ≡ take i ps ++ p ∷ [] = take_next ps i p within ∙ ap (λ (q : Parameter). take i ps ++ q ∷ []) (sym item) in
+    let names : names_of (take (i + 1) ps) ≡ names_of (take i ps) ++ text ∷ [] =
+    ap names_of next ∙ map-append (λ (p : Parameter). lexeme_of p.name.token) (take i ps) (p ∷ []) ∙ ap (λ t. names_of (take i ps) ++ t ∷ []) (sym is) in
+    subst (λ ns. HaveSame ns new) (sym names) (same_then _ _ _ (same_more _ _ text so_far) added)
+  where
+    take_next : (qs : List Parameter) (j : ℕ) (d : Parameter) → j < length qs → take (j + 1) qs ≡ take j qs ++ get_or qs j d ∷ []
+    take_next qs j d h = let e : j + 1 ≡ suc j = omega arith in ap (λ n. take n qs) e ∙ take-suc qs j d h
 
-  pub rules_some : list_any (λ (p : Parameter). bytes_eq (lexeme_of p.name.token) text) ps ≡ false → (other : List ℕ) → other ≡ lexeme_of name → (found : Option Rules)
-      → found ≡ speaks_of rules other → found ≡ rules_for sees_leaves rules (map parameter_tree ps) (Named name None)
-  rules_some h other same found is = is ∙ ap (speaks_of rules) same ∙ rules_are false h
+-- a parameter of this name is among them where the name is
+pub named_among : (ps : List Parameter) (name : List ℕ) → is_named (map parameter_tree ps) name ≡ list_any (bytes_eq name) (names_of ps)
+named_among ps name =
+    sym (named_is ps name)
+    ∙ any_map (λ (t : List ℕ). bytes_eq t name) (λ (p : Parameter). lexeme_of p.name.token) ps
+    ∙ any_turned bytes_eq bytes_eq-Decides name (names_of ps)
+
+pub all_names : (ps : List Parameter) (i : ℕ) (set : BTreeSet (Bor (List ℕ))) → length ps ≤ i → HaveSame (names_of (take i ps)) (texts_in set) → AreNames (map parameter_tree ps) set
+unfolding AreNames
+all_names ps i set h so_far name = named_among ps name ∙ ap (λ qs. list_any (bytes_eq name) (names_of qs)) (sym (take_all i ps h)) ∙ so_far name
+
+-- an argument that is none of them, or one
+pub outside : (parameters : List LeafParameter) (set : BTreeSet (Bor (List ℕ))) (name : StringLiteral) (text : List ℕ) → AreNames parameters set → text ≡ string_bytes name.cooked
+    → list_any (bytes_eq text) (texts_in set) ≡ is_named parameters (text_of sees_leaves (quoted_leaf name))
+unfolding AreNames
+outside parameters set name text names e = sym (names text) ∙ ap (is_named parameters) (e ∙ sym (text_is name))
 
 -- ---- what an option is called
 

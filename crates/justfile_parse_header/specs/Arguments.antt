@@ -1,7 +1,9 @@
 -- Of which parameter attributes speak.
-use Rattle.std.specs.Prelude.{ℕ, Bool, false, List, Option, Some, None, not, if◌then◌else◌}
-use Rattle.std.specs.List.{filter, find}
-use Rattle.std.specs.Option.{is_some, option_map}
+use Rattle.std.specs.Prelude.{◌≡◌, ℕ, Bool, false, List, Option, Some, None, not, if◌then◌else◌}
+use Rattle.std.specs.BTreeSet.{BTreeSet}
+use Rattle.std.specs.Coded.{Coded-set, coded_bool}
+use Rattle.std.specs.List.{filter, find, list_any}
+use Rattle.std.specs.Option.{option_map}
 use Rattle.std.specs.Str.{bytes_eq}
 use denote.Ref.{Bor}
 use Rattle.justfile_attribute.specs.Attribute.{leaf_attribute_of}
@@ -13,6 +15,7 @@ use Rattle.justfile_model.specs.RecipeRules.{is_parameter}
 use Rattle.justfile_model.specs.Tree.{Attribute, Quoted}
 pub use Rattle.justfile_parse_attribute.specs.KeyedBounds.{IsKeyed}
 unfoldable pub use Rattle.justfile_parse_attribute.specs.KeyedBounds.{AreKeyed}
+use Rattle.justfile_parse_attribute.specs.TextSets.{texts_in}
 use Rattle.justfile_parse_header.specs.HeaderTable.{LeafParameter, Rules}
 use Rattle.justfile_parse_header.specs.Options.{of_rules}
 use Rattle.justfile_tree.specs.LeafSight.{sees_leaves}
@@ -39,6 +42,14 @@ abbrev pub lesser_of : (first second : Option (Quoted Leaf)) → Option (Quoted 
 lesser_of None second = second
 lesser_of (Some q) None = Some q
 lesser_of (Some q) (Some r) = Some (lesser (text_of sees_leaves) q (Some r))
+
+-- a set has the names of these parameters
+unfoldable pub AreNames : List LeafParameter → BTreeSet (Bor (List ℕ)) → Type 0
+AreNames parameters set = (name : List ℕ) → list_any (λ (p : LeafParameter). bytes_eq (sees_leaves.bytes p.name) name) parameters ≡ list_any (bytes_eq name) (texts_in set)
+
+pub prop_names : (parameters : List LeafParameter) (set : BTreeSet (Bor (List ℕ))) → IsProp (AreNames parameters set)
+unfolding AreNames
+prop_names parameters set = hlevel (Coded-set coded_bool)
 
 -- the argument that an attribute speaks of, if it is no parameter
 abbrev pub undefined_in : List LeafParameter → Attribute Leaf Token → Option (Quoted Leaf)

@@ -4,4 +4,5 @@ pub mod HeaderTable
 pub mod OptionRules
 pub mod Options
 pub mod Said
+pub mod SpokenNames
 pub mod Tree

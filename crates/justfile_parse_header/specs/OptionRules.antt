@@ -47,3 +47,8 @@ long_step recipe before a s = option_step bytes_eq (λ option. DuplicateLongOpti
 -- its short option
 unfoldable pub short_step : (recipe : Token) (before : List ℕ) → Meant → State → Read (List ℕ)
 short_step recipe before a s = option_step nat_eq (λ option. DuplicateShortOption option recipe) before (short_in a) s
+
+-- these options, and that of an attribute after them, if it has one
+abbrev pub then_option : {X : Type 0} → (before : List X) → Option (X × Token) → List X
+then_option before None = before
+then_option before (Some option) = before ++ option.0 ∷ []

@@ -1,12 +1,8 @@
 //! Of which parameter an `arg` attribute speaks.
-ghost use Rattle.std.specs.Prelude.{◌≡◌, None, map, string_bytes};
-ghost use Rattle.std.specs.List.{list_any};
+ghost use Rattle.std.specs.Prelude.{◌≡◌, IfOk, List, None, map, string_bytes};
 ghost use Rattle.std.specs.Option.{option_map};
-ghost use Rattle.std.specs.Str.{bytes_eq};
 ghost use Rattle.justfile_attribute.specs.Attribute.{leaf_attribute_of};
 ghost use Rattle.justfile_attribute_rules.specs.Made.{IsRefusedBy, quoted_leaf};
-ghost use Rattle.justfile_attribute_set.specs.AttributeSet.{attributes_of};
-ghost use Rattle.justfile_base.specs.Token.{lexeme_of};
 ghost use Rattle.justfile_model.specs.HeaderReader.{obeying};
 ghost use Rattle.justfile_model.specs.NewAttribute as new;
 ghost use Rattle.justfile_model.specs.RecipeRules.{rules_for};
@@ -14,75 +10,40 @@ ghost use Rattle.justfile_model.specs.Rules.{UndefinedArgAttribute};
 ghost use Rattle.justfile_parse_attribute.specs.Halting.{ReadsRuled};
 ghost use Rattle.justfile_parse_expression.specs.TableReader.{State};
 ghost use Rattle.justfile_parse_header.specs.HeaderTable as reader;
-ghost use Rattle.justfile_parse_header.specs.Arguments.{AreKeyed, IsKeyedOption, is_of, least_undefined, lesser_of, said_by, speaks_of, undefined_in};
+ghost use Rattle.justfile_parse_header.specs.HeaderTable.{LeafParameter};
+ghost use Rattle.justfile_parse_header.specs.Arguments.{AreNames, IsKeyedOption, least_undefined, lesser_of, said_by, undefined_in};
+ghost use Rattle.justfile_parse_header.specs.SpokenNames.{AreFirsts};
 ghost use Rattle.justfile_parse_header.specs.Tree.{parameter_tree, rules_of};
 ghost use Rattle.justfile_tree.specs.LeafSight.{sees_leaves};
 ghost use Rattle.justfile_tree.specs.LeafTree.{Named};
 
+use crate::read_parameters::ReadParameters;
+use crate::spoken_names::{Spoken, find_first};
 use justfile_attribute::Attribute;
 use justfile_attribute_set::AttributeSet;
 use justfile_base::{CompileErrorKind, Fault, StringLiteral, Token};
 use justfile_header::Parameter;
+use justfile_parse_attribute::text_sets::{add_text, is_among};
 use justfile_parse_attribute::{Halt, make_halt};
-use std::alloc::Global;
+use std::alloc::{AllocError, Global};
+use std::collections::BTreeSet;
 
 /// What attributes say of a parameter of this name that stands after others: the first one of its
 /// name is spoken of.
 pub(crate) fn find_rules<'run, 'src>(
-    attributes: &'run AttributeSet<'src>,
-    before: &[Parameter<'src>],
+    spoken: &Spoken<'run, 'src>,
+    before: &ReadParameters<'src>,
     name: Token<'src>,
 ) -> Option<&'run Attribute<'src>>
-    requires { AreKeyed (attributes_of attributes.now) }
-    ensures rules { said_by result ≡ rules_for sees_leaves (rules_of attributes.now) (map parameter_tree before.now) (Named name.entry None) }
+    requires { AreFirsts spoken.now.firsts (rules_of spoken.now.attributes.now) }
+    ensures rules { said_by result ≡ rules_for sees_leaves (rules_of spoken.now.attributes.now)
+        (map parameter_tree before.now.list.items) (Named name.entry None) }
     ensures keyed { IsKeyedOption result }
 {
-    let attribute = find_attribute(attributes, name.lexeme())?;
-    if is_named(before, name.lexeme()) {
-        None
-    } else {
-        Some(attribute)
+    if is_among(&before.names, name.lexeme()) {
+        return None;
     }
-}
-
-/// The first attribute that speaks of a parameter of this name.
-#[tactic(auto, using(crate::proofs::Spoken::speaks_begins, crate::proofs::Spoken::speaks_later, crate::proofs::Spoken::speaks_here), unfolding(justfile_parse_attribute::specs::KeyedBounds::AreKeyed))]
-fn find_attribute<'run, 'src>(
-    attributes: &'run AttributeSet<'src>,
-    name: &str,
-) -> Option<&'run Attribute<'src>>
-    requires { AreKeyed (attributes_of attributes.now) }
-    ensures rules { said_by result ≡ speaks_of (rules_of attributes.now) name.now }
-    ensures keyed { IsKeyedOption result }
-{
-    let mut left = attributes.iter();
-    'attributes: loop {
-        let Some(attribute) = left.next() else {
-            return None;
-        };
-        if is_of(attribute, name) {
-            return Some(attribute);
-        }
-    }
-}
-
-/// Whether the attribute speaks of a parameter of this name.
-fn is_of(attribute: &Attribute<'_>, name: &str) -> bool
-    ensures { result ≡ is_of name.now (leaf_attribute_of attribute.now) }
-{
-    match attribute {
-        Attribute::Arg { name: argument, .. } => argument.cooked.as_str() == name,
-        _ => false,
-    }
-}
-
-/// Whether one of the parameters has this name.
-fn is_named(parameters: &[Parameter<'_>], name: &str) -> bool
-    ensures { result ≡ list_any (λ p. bytes_eq (lexeme_of p.name.token) name.now) parameters.now }
-{
-    parameters
-        .iter()
-        .any(|parameter| parameter.name.lexeme() == name)
+    find_first(&spoken.firsts, name.lexeme())
 }
 
 /// Refuses attributes that speak of no parameter: of their arguments the one with the least text.
@@ -94,7 +55,7 @@ pub(crate) fn check_defined<'src>(
 ) -> Result<(), Halt<'src>>
     ensures { (s : State) → ReadsRuled (λ _. tt) result s (obeying (reader.undefined (map parameter_tree parameters.now) (rules_of attributes.now)) s) }
 {
-    match find_undefined(attributes, parameters) {
+    match find_undefined(attributes, alloc, parameters)? {
         None => Ok(()),
         Some(argument) => Err(make_halt(alloc, undefined_argument(alloc, argument))),
     }
@@ -105,30 +66,49 @@ pub(crate) fn check_defined<'src>(
 #[tactic(auto, using(crate::proofs::Least::begins, crate::proofs::Least::goes_on, crate::proofs::Least::ends))]
 fn find_undefined<'run, 'src>(
     attributes: &'run AttributeSet<'src>,
+    alloc: Global,
     parameters: &[Parameter<'src>],
-) -> Option<&'run StringLiteral<'src>>
-    ensures { option_map (λ l. quoted_leaf l.now) result ≡ least_undefined (map parameter_tree parameters.now) (rules_of attributes.now) }
+) -> Result<Option<&'run StringLiteral<'src>>, AllocError>
+    ensures { IfOk result (λ found. option_map (λ l. quoted_leaf l.now) found ≡ least_undefined (map parameter_tree parameters.now) (rules_of attributes.now)) }
 {
+    let names = parameter_names(alloc, parameters)?;
     let mut found: Option<&'run StringLiteral<'src>> = None;
     let mut left = attributes.iter();
     'attributes: loop {
         let Some(attribute) = left.next() else {
-            return found;
+            return Ok(found);
         };
-        found = lesser(found, undefined(attribute, parameters));
+        found = lesser(found, undefined(attribute, &names));
     }
 }
 
-/// The argument that an attribute speaks of, if it is no parameter.
+/// The names of parameters.
+#[tactic(auto, using(crate::proofs::Texts::no_names, crate::proofs::Texts::one_name))]
+fn parameter_names<'src>(
+    alloc: Global,
+    parameters: &[Parameter<'src>],
+) -> Result<BTreeSet<&'src str>, AllocError>
+    ensures { IfOk result (λ names. AreNames (map parameter_tree parameters.now) names) }
+{
+    let mut names = BTreeSet::new(alloc);
+    for parameter in parameters {
+        add_text(&mut names, parameter.name.lexeme())?;
+    }
+    Ok(names)
+}
+
+/// The argument that an attribute speaks of, if it is none of these names of parameters.
+#[tactic(auto, using(crate::proofs::Texts::outside))]
 fn undefined<'run, 'src>(
     attribute: &'run Attribute<'src>,
-    parameters: &[Parameter<'src>],
+    names: &BTreeSet<&str>,
 ) -> Option<&'run StringLiteral<'src>>
-    ensures { option_map (λ l. quoted_leaf l.now) result ≡ undefined_in (map parameter_tree parameters.now) (leaf_attribute_of attribute.now) }
+    ensures { (parameters : List LeafParameter) → AreNames parameters names.now
+        → option_map (λ l. quoted_leaf l.now) result ≡ undefined_in parameters (leaf_attribute_of attribute.now) }
 {
     match attribute {
         Attribute::Arg { name, .. } => {
-            if is_named(parameters, name.cooked.as_str()) {
+            if is_among(names, name.cooked.as_str()) {
                 None
             } else {
                 Some(name)

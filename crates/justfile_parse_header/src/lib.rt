@@ -8,7 +8,9 @@ mod namepath;
 mod number;
 mod options;
 mod parameter;
+mod read_parameters;
 mod said;
+mod spoken_names;
 
 pub use crate::header::{Header, parse_header};
 pub use crate::namepath::parse_namepath;

@@ -1,7 +1,6 @@
 //! The options of a recipe, and what attributes say of parameters that needs the setting for lists.
-ghost use Rattle.std.specs.Prelude.{◌≡◌, [], map};
-ghost use Rattle.std.specs.List.{flat_map, list_any};
-ghost use Rattle.std.specs.Str.{bytes_eq};
+ghost use Rattle.std.specs.Prelude.{◌≡◌, [], OnOk};
+ghost use Rattle.std.specs.List.{flat_map};
 ghost use Rattle.justfile_attribute.specs.Attribute.{leaf_attribute_of};
 ghost use Rattle.justfile_attribute_rules.specs.Made.{IsRefusedBy};
 ghost use Rattle.justfile_model.specs.Features.{noted_at, rules_features};
@@ -10,21 +9,25 @@ ghost use Rattle.justfile_model.specs.NewAttribute as new;
 ghost use Rattle.justfile_model.specs.Reading.{with};
 ghost use Rattle.justfile_model.specs.Rules.{DuplicateLongOption, DuplicateShortOption};
 ghost use Rattle.justfile_parse_attribute.specs.Halting.{ReadsRuled};
+ghost use Rattle.justfile_parse_attribute.specs.TextSets.{HaveSame, texts_in};
 ghost use Rattle.justfile_parse_expression.specs.MethodResults.{UnlessMemory};
 ghost use Rattle.justfile_parse_expression.specs.TableReader.{State};
 ghost use Rattle.justfile_parse_expression.specs.View.{left, state_of};
 ghost use Rattle.justfile_parse_header.specs.HeaderTable as reader;
-ghost use Rattle.justfile_parse_header.specs.OptionRules.{bound_place_in, features_in, long_step, longs_from, short_step, shorts_from};
+ghost use Rattle.justfile_parse_header.specs.OptionRules.{bound_place_in, features_in, long_step, longs_from, short_step, shorts_from, then_option};
+ghost use Rattle.justfile_parse_header.specs.Options.{long_in};
 ghost use Rattle.justfile_parse_header.specs.Tree.{rules_of};
 
 use crate::said::{find_long, find_short_option};
 use justfile_attribute::Attribute;
 use justfile_attribute_set::AttributeSet;
 use justfile_base::{CompileErrorKind, Expander, Fault, Name, Switch, Token};
+use justfile_parse_attribute::text_sets::{add_text, is_among};
 use justfile_parse_attribute::{Halt, make_halt};
 use justfile_parse_expression::{ExpressionParser, Stop};
 use justfile_tree::ListFeature;
 use std::alloc::Global;
+use std::collections::BTreeSet;
 
 /// Notes what attributes say of parameters that needs the setting for lists.
 #[tactic(auto, using(crate::proofs::Spoken::noting_begins, crate::proofs::Spoken::noting_goes_on, crate::proofs::Spoken::noting_ends))]
@@ -135,7 +138,7 @@ fn check_longs<'run, 'src>(
 ) -> Result<(), Halt<'src>>
     ensures { (s : State) → ReadsRuled (λ _. tt) result s (obeying (longs_from recipe.entry [] (rules_of attributes.now)) s) }
 {
-    let mut before: Vec<&'run str> = Vec::new(alloc);
+    let mut before: BTreeSet<&'run str> = BTreeSet::new(alloc);
     let mut left = attributes.iter();
     'attributes: loop {
         let Some(attribute) = left.next() else {
@@ -145,32 +148,29 @@ fn check_longs<'run, 'src>(
     }
 }
 
-/// Refuses the long option of an attribute if one before it is called the same.
-#[tactic(auto, using(crate::proofs::SameOptions::long_none, crate::proofs::SameOptions::long_apart, crate::proofs::SameOptions::long_same))]
+/// Refuses the long option of an attribute if one before it is called the same, and else adds it.
+#[tactic(auto, using(crate::proofs::SameOptions::long_kept, crate::proofs::SameOptions::long_added, crate::proofs::SameOptions::long_same, crate::proofs::SameOptions::then_none, crate::proofs::SameOptions::then_some))]
 fn check_long<'run, 'src>(
     attribute: &'run Attribute<'src>,
     alloc: Global,
     recipe: Token<'src>,
-    before: &mut Vec<&'run str>,
+    before: &mut BTreeSet<&'run str>,
 ) -> Result<(), Halt<'src>>
-    ensures { (s : State) → ReadsRuled (λ _. map (λ t. t.now) before.new.items) result s
-        (long_step recipe.entry (map (λ t. t.now) before.old.items) (leaf_attribute_of attribute.now) s) }
+    ensures step { (s : State) → ReadsRuled
+        (λ _. then_option (texts_in before.old) (long_in (leaf_attribute_of attribute.now))) result s
+        (long_step recipe.entry (texts_in before.old) (leaf_attribute_of attribute.now) s) }
+    ensures added { OnOk result (HaveSame
+        (then_option (texts_in before.old) (long_in (leaf_attribute_of attribute.now)))
+        (texts_in before.new)) }
 {
     let Some((option, place)) = find_long(attribute) else {
         return Ok(());
     };
-    if is_among(before.as_slice(), option) {
+    if is_among(before, option) {
         return Err(make_halt(alloc, same_long(alloc, recipe, option, place)));
     }
-    before.push(option)?;
+    add_text(before, option)?;
     Ok(())
-}
-
-/// Whether the text is among the others.
-fn is_among(texts: &[&str], text: &str) -> bool
-    ensures { result ≡ list_any (bytes_eq text.now) (map (λ t. t.now) texts.now) }
-{
-    texts.contains(&text)
 }
 
 /// The refusal of a long option that is called as one before it.

@@ -16,11 +16,14 @@ ghost use Rattle.justfile_parse_header.specs.Arguments.{AreKeyed, said_by, IsKey
 ghost use Rattle.justfile_parse_header.specs.Counting.{HasDrawn, ReadsCounted, counters_of, names, names_after};
 ghost use Rattle.justfile_parse_header.specs.HeaderTable as reader;
 ghost use Rattle.justfile_parse_header.specs.Said.{AreWholeParameters, KeepsWholeParameters, said_broken};
+ghost use Rattle.justfile_parse_header.specs.SpokenNames.{AreFirsts};
 ghost use Rattle.justfile_parse_header.specs.Tree.{parameter_tree, rules_of, value_tree};
 
 use crate::arguments::find_rules;
 use crate::number::draw_binding;
+use crate::read_parameters::ReadParameters;
 use crate::said::{copy_said, find_bound_key, is_flag, is_multiple};
+use crate::spoken_names::{Spoken, find_firsts};
 use justfile_attribute::Attribute;
 use justfile_attribute_set::AttributeSet;
 use justfile_base::{CompileErrorKind, Expander, Fault, Name, Numerator, Token, TokenKind};
@@ -44,24 +47,31 @@ pub(crate) fn parse_parameters<'src, X: Expander>(
     ensures drawn { HasDrawn numerator.old numerator.new (names (state_of X.answer parser.old)) (names_after result (state_of X.answer parser.new)) }
     ensures progress { OnOk result (left parser.new < left parser.old) }
 {
-    let mut parameters = Vec::new(parser.alloc);
-    parse_singulars(attributes, parser, numerator, &mut parameters)?;
-    parse_last(attributes, parser, numerator, &mut parameters)?;
+    let firsts = find_firsts(attributes, parser.alloc)?;
+    let spoken = Spoken { attributes, firsts };
+    let mut parameters = ReadParameters::new(parser.alloc);
+    parse_singulars(&spoken, parser, numerator, &mut parameters)?;
+    parse_last(&spoken, parser, numerator, &mut parameters)?;
     parser.expect(TokenKind::Colon)?;
-    Ok(parameters)
+    Ok(parameters.into_list())
 }
 
 /// Parameters that take one argument, after those before them.
 fn parse_singulars<'src, X: Expander>(
-    attributes: &AttributeSet<'src>,
+    spoken: &Spoken<'_, 'src>,
     parser: &mut ExpressionParser<'_, 'src, X>,
     numerator: &mut Numerator,
-    parameters: &mut Vec<Parameter<'src>>,
+    parameters: &mut ReadParameters<'src>,
 ) -> Result<(), Halt<'src>>
-    requires { AreKeyed (attributes_of attributes.now) }
-    ensures reads { ReadsCounted (λ _. map parameter_tree parameters.new.items) result numerator.new (state_of X.answer parser.new)
-        (reader.singulars (rules_of attributes.now) ((map parameter_tree parameters.old.items, counters_of numerator.old), state_of X.answer parser.old)) }
-    ensures whole { OnOk result (KeepsWholeParameters (rules_of attributes.now) parameters.old.items parameters.new.items) }
+    requires { AreFirsts spoken.now.firsts (rules_of spoken.now.attributes.now) }
+    ensures reads { ReadsCounted (λ _. map parameter_tree parameters.new.list.items) result
+        numerator.new (state_of X.answer parser.new)
+        (reader.singulars (rules_of spoken.now.attributes.now) (
+          (map parameter_tree parameters.old.list.items, counters_of numerator.old),
+          state_of X.answer parser.old,
+        )) }
+    ensures whole { OnOk result (KeepsWholeParameters (rules_of spoken.now.attributes.now)
+        parameters.old.list.items parameters.new.list.items) }
     ensures drawn { HasDrawn numerator.old numerator.new (names (state_of X.answer parser.old)) (names_after result (state_of X.answer parser.new)) }
     ensures progress { OnOk result (left parser.new ≤ left parser.old) }
 {
@@ -70,7 +80,7 @@ fn parse_singulars<'src, X: Expander>(
             return Ok(());
         }
         parse_parameter(
-            attributes,
+            spoken,
             parser,
             numerator,
             parameters,
@@ -89,35 +99,28 @@ fn begins_parameter<X: Expander>(parser: &ExpressionParser<'_, '_, X>) -> bool
 /// The last parameter, if it takes several arguments.
 #[tactic(auto, unfolding(justfile_model::specs::HeaderReader::last_parameter))]
 fn parse_last<'src, X: Expander>(
-    attributes: &AttributeSet<'src>,
+    spoken: &Spoken<'_, 'src>,
     parser: &mut ExpressionParser<'_, 'src, X>,
     numerator: &mut Numerator,
-    parameters: &mut Vec<Parameter<'src>>,
+    parameters: &mut ReadParameters<'src>,
 ) -> Result<(), Halt<'src>>
-    requires { AreKeyed (attributes_of attributes.now) }
-    ensures reads { ReadsCounted (λ _. map parameter_tree parameters.new.items) result numerator.new (state_of X.answer parser.new)
-        (reader.last_parameter (rules_of attributes.now) ((map parameter_tree parameters.old.items, counters_of numerator.old), state_of X.answer parser.old)) }
-    ensures whole { OnOk result (KeepsWholeParameters (rules_of attributes.now) parameters.old.items parameters.new.items) }
+    requires { AreFirsts spoken.now.firsts (rules_of spoken.now.attributes.now) }
+    ensures reads { ReadsCounted (λ _. map parameter_tree parameters.new.list.items) result
+        numerator.new (state_of X.answer parser.new)
+        (reader.last_parameter (rules_of spoken.now.attributes.now) (
+          (map parameter_tree parameters.old.list.items, counters_of numerator.old),
+          state_of X.answer parser.old,
+        )) }
+    ensures whole { OnOk result (KeepsWholeParameters (rules_of spoken.now.attributes.now)
+        parameters.old.list.items parameters.new.list.items) }
     ensures drawn { HasDrawn numerator.old numerator.new (names (state_of X.answer parser.old)) (names_after result (state_of X.answer parser.new)) }
     ensures progress { OnOk result (left parser.new ≤ left parser.old) }
 {
     if let Some(_plus) = parser.accept(TokenKind::Plus) {
-        return parse_variadic(
-            attributes,
-            parser,
-            numerator,
-            parameters,
-            ParameterKind::Plus,
-        );
+        return parse_variadic(spoken, parser, numerator, parameters, ParameterKind::Plus);
     }
     if let Some(_star) = parser.accept(TokenKind::Asterisk) {
-        return parse_variadic(
-            attributes,
-            parser,
-            numerator,
-            parameters,
-            ParameterKind::Star,
-        );
+        return parse_variadic(spoken, parser, numerator, parameters, ParameterKind::Star);
     }
     Ok(())
 }
@@ -125,20 +128,25 @@ fn parse_last<'src, X: Expander>(
 /// A parameter that takes several arguments, which no name follows.
 #[tactic(auto, unfolding(justfile_model::specs::HeaderReader::variadic))]
 fn parse_variadic<'src, X: Expander>(
-    attributes: &AttributeSet<'src>,
+    spoken: &Spoken<'_, 'src>,
     parser: &mut ExpressionParser<'_, 'src, X>,
     numerator: &mut Numerator,
-    parameters: &mut Vec<Parameter<'src>>,
+    parameters: &mut ReadParameters<'src>,
     kind: ParameterKind,
 ) -> Result<(), Halt<'src>>
-    requires { AreKeyed (attributes_of attributes.now) }
-    ensures reads { ReadsCounted (λ _. map parameter_tree parameters.new.items) result numerator.new (state_of X.answer parser.new)
-        (reader.variadic (rules_of attributes.now) kind ((map parameter_tree parameters.old.items, counters_of numerator.old), state_of X.answer parser.old)) }
-    ensures whole { OnOk result (KeepsWholeParameters (rules_of attributes.now) parameters.old.items parameters.new.items) }
+    requires { AreFirsts spoken.now.firsts (rules_of spoken.now.attributes.now) }
+    ensures reads { ReadsCounted (λ _. map parameter_tree parameters.new.list.items) result
+        numerator.new (state_of X.answer parser.new)
+        (reader.variadic (rules_of spoken.now.attributes.now) kind (
+          (map parameter_tree parameters.old.list.items, counters_of numerator.old),
+          state_of X.answer parser.old,
+        )) }
+    ensures whole { OnOk result (KeepsWholeParameters (rules_of spoken.now.attributes.now)
+        parameters.old.list.items parameters.new.list.items) }
     ensures drawn { HasDrawn numerator.old numerator.new (names (state_of X.answer parser.old)) (names_after result (state_of X.answer parser.new)) }
     ensures progress { OnOk result (left parser.new < left parser.old) }
 {
-    parse_parameter(attributes, parser, numerator, parameters, kind)?;
+    parse_parameter(spoken, parser, numerator, parameters, kind)?;
     expect_no_name(parser)
 }
 
@@ -166,44 +174,53 @@ fn after_variadic<'src>(name: Token<'src>) -> Fault<'src>
 
 /// A parameter after others, exported or not.
 fn parse_parameter<'src, X: Expander>(
-    attributes: &AttributeSet<'src>,
+    spoken: &Spoken<'_, 'src>,
     parser: &mut ExpressionParser<'_, 'src, X>,
     numerator: &mut Numerator,
-    parameters: &mut Vec<Parameter<'src>>,
+    parameters: &mut ReadParameters<'src>,
     kind: ParameterKind,
 ) -> Result<(), Halt<'src>>
-    requires { AreKeyed (attributes_of attributes.now) }
-    ensures reads { ReadsCounted (λ _. map parameter_tree parameters.new.items) result numerator.new (state_of X.answer parser.new)
-        (reader.parameter (rules_of attributes.now) kind ((map parameter_tree parameters.old.items, counters_of numerator.old), state_of X.answer parser.old)) }
-    ensures whole { OnOk result (KeepsWholeParameters (rules_of attributes.now) parameters.old.items parameters.new.items) }
+    requires { AreFirsts spoken.now.firsts (rules_of spoken.now.attributes.now) }
+    ensures reads { ReadsCounted (λ _. map parameter_tree parameters.new.list.items) result
+        numerator.new (state_of X.answer parser.new)
+        (reader.parameter (rules_of spoken.now.attributes.now) kind (
+          (map parameter_tree parameters.old.list.items, counters_of numerator.old),
+          state_of X.answer parser.old,
+        )) }
+    ensures whole { OnOk result (KeepsWholeParameters (rules_of spoken.now.attributes.now)
+        parameters.old.list.items parameters.new.list.items) }
     ensures drawn { HasDrawn numerator.old numerator.new (names (state_of X.answer parser.old)) (names_after result (state_of X.answer parser.new)) }
     ensures progress { OnOk result (left parser.new < left parser.old) }
 {
     match parser.accept(TokenKind::Dollar) {
-        Some(_dollar) => parse_named(attributes, parser, numerator, parameters, kind, true),
-        None => parse_named(attributes, parser, numerator, parameters, kind, false),
+        Some(_dollar) => parse_named(spoken, parser, numerator, parameters, kind, true),
+        None => parse_named(spoken, parser, numerator, parameters, kind, false),
     }
 }
 
 /// A parameter from its name on, after others.
 fn parse_named<'src, X: Expander>(
-    attributes: &AttributeSet<'src>,
+    spoken: &Spoken<'_, 'src>,
     parser: &mut ExpressionParser<'_, 'src, X>,
     numerator: &mut Numerator,
-    parameters: &mut Vec<Parameter<'src>>,
+    parameters: &mut ReadParameters<'src>,
     kind: ParameterKind,
     export: bool,
 ) -> Result<(), Halt<'src>>
-    requires { AreKeyed (attributes_of attributes.now) }
-    ensures reads { ReadsCounted (λ _. map parameter_tree parameters.new.items) result numerator.new (state_of X.answer parser.new)
-        (reader.named_parameter (rules_of attributes.now) kind export (map parameter_tree parameters.old.items, counters_of numerator.old) (state_of X.answer parser.old)) }
-    ensures whole { OnOk result (KeepsWholeParameters (rules_of attributes.now) parameters.old.items parameters.new.items) }
+    requires { AreFirsts spoken.now.firsts (rules_of spoken.now.attributes.now) }
+    ensures reads { ReadsCounted (λ _. map parameter_tree parameters.new.list.items) result
+        numerator.new (state_of X.answer parser.new)
+        (reader.named_parameter (rules_of spoken.now.attributes.now) kind export
+        (map parameter_tree parameters.old.list.items, counters_of numerator.old)
+        (state_of X.answer parser.old)) }
+    ensures whole { OnOk result (KeepsWholeParameters (rules_of spoken.now.attributes.now)
+        parameters.old.list.items parameters.new.list.items) }
     ensures drawn { HasDrawn numerator.old numerator.new (names (state_of X.answer parser.old)) (names_after result (state_of X.answer parser.new)) }
     ensures progress { OnOk result (left parser.new < left parser.old) }
 {
     let name = parser.expect(TokenKind::Identifier)?;
     let default = parse_default(parser)?;
-    let rules = find_rules(attributes, parameters.as_slice(), *name.token);
+    let rules = find_rules(spoken, parameters, *name.token);
     check_said(rules, parser.alloc, *name.token, default.is_some(), kind)?;
     let said = copy_said(parser.alloc, rules)?;
     let number = draw_binding(numerator)?;

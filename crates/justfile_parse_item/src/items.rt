@@ -215,7 +215,7 @@ fn is_bodied(item: &Item<'_>) -> bool
 /// # Errors
 ///
 /// `AllocError` if the program is out of memory.
-pub fn push_item<'src>(items: &mut Vec<Item<'src>>, item: Item<'src>) -> Result<(), AllocError>
+fn push_item<'src>(items: &mut Vec<Item<'src>>, item: Item<'src>) -> Result<(), AllocError>
     ensures trees { OnOk result (map item_tree items.new.items ≡ map item_tree items.old.items ++ item_tree item.entry ∷ []) }
     ensures pushed { OnOk result (items.new.items ≡ items.old.items ++ item.entry ∷ []) }
 {

@@ -14,4 +14,4 @@ mod recipe;
 mod set;
 mod unexport;
 
-pub use crate::items::{parse_items, push_item};
+pub use crate::items::parse_items;

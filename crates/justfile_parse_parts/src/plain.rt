@@ -55,10 +55,7 @@ fn literal_of(value: Box<Expression<'_>>) -> Option<StringLiteral<'_>>
     ensures literal { IfSome result (λ literal. leaf_tree_of value.entry.value ≡ tree.StringLiteral literal.expand (Literal (literal_of literal))) }
     ensures none { IfNone result (quoted (leaf_tree_of value.entry.value) ≡ None) }
 {
-    match Box::into_inner(value) {
-        Expression::StringLiteral { string_literal } => Some(string_literal),
-        _ => None,
-    }
+    Box::into_inner(value).into_string_literal()
 }
 
 /// The setting that takes a plain literal, of this one.

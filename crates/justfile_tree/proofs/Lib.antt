@@ -10,6 +10,8 @@ mod Joined
 mod Loops
 mod Nodes
 mod Resolved
+mod RightSides
 mod Rows
+mod Silent
 pub mod Trees
 mod Walk

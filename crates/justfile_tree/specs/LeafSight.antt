@@ -1,9 +1,9 @@
 -- What is seen of the leaves of the parser's trees, by which attributes are ordered.
-use Rattle.std.specs.Prelude.{ℕ, Bool, false, true, List, [], Option, Some, None}
+use Rattle.std.specs.Prelude.{ℕ, false, List, [], Option, Some, None}
 use Rattle.justfile_base.specs.StringKind.{kind_of}
 use Rattle.justfile_base.specs.Token.{lexeme_of}
 use Rattle.justfile_base.specs.declared.token.Token.{Token}
-use Rattle.justfile_model.specs.ContentLeaf.{TokenContent, LiteralContent}
+use Rattle.justfile_model.specs.ContentLeaf.{LiteralContent}
 use Rattle.justfile_model.specs.Literals.{token_of}
 use Rattle.justfile_model.specs.Sight.{Sight}
 use Rattle.justfile_tree.specs.Content.{token_content}

@@ -3,6 +3,7 @@ pub mod Children
 pub mod Content
 pub mod ContentLaws
 pub mod Copies
+pub mod Ends
 pub mod Equal
 pub mod Expression
 pub mod Leaf
@@ -13,6 +14,7 @@ pub mod ListOperator
 pub mod Order
 pub mod Orders
 pub mod Resolved
+pub mod RightSides
 pub mod SeenKeys
 pub mod SinkLaws
 pub mod Text

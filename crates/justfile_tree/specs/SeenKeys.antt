@@ -3,7 +3,7 @@ use mathlib.Core.Former.{Count}
 use Rattle.std.proofs.Common.{◌≡◌, Bool, true, false, refl}
 use Rattle.justfile_base.specs.declared.string_literal.StringLiteral as literals
 use Rattle.justfile_base.specs.declared.token.Token.{Token}
-use Rattle.justfile_model.specs.ContentLeaf.{ContentLeaf, token, literal, operator, text, unseen}
+use Rattle.justfile_model.specs.ContentLeaf.{ContentLeaf, token, literal, operator}
 use Rattle.justfile_model.specs.ContentKeys.{expr_key, exprs_keys, parts_keys, literal_key}
 use Rattle.justfile_model.specs.Key.{Key, leaf, node, end, next, row, absent_key, present_key, map_key, map_keys}
 use Rattle.justfile_model.specs.Literals.{string_of}

@@ -1,5 +1,5 @@
 //! What is written side by side.
-ghost use Rattle.std.specs.Prelude.{◌≡◌, ◌++◌, OnOk, OnErr};
+ghost use Rattle.std.specs.Prelude.{◌≡◌, ◌++◌, ◌↔◌, [], IsTrue, OnOk, OnErr};
 ghost use Rattle.justfile_base.specs.StringLiteral.{literal_marks};
 ghost use Rattle.justfile_base.specs.Token.{lexeme_of};
 ghost use Rattle.justfile_tree.specs.Texts.{texts_of, text_alone, lexeme_alone, literal_texts, part_texts, texts_joined};
@@ -74,6 +74,23 @@ impl<'src> Words<'src> {
             lexeme: part.token.lexeme(),
             after,
         }
+    }
+
+    /// Whether nothing is written.
+    #[tactic(auto, using(crate::proofs::Silent::nothing_said))]
+    pub fn is_empty(&self) -> bool
+        ensures { IsTrue result ↔ (texts_joined (texts_of self.now) ≡ []) }
+    {
+        if !self.before.is_empty() {
+            return false;
+        }
+        if !self.marks.is_empty() {
+            return false;
+        }
+        if !self.lexeme.is_empty() {
+            return false;
+        }
+        self.after.is_empty()
     }
 }
 

@@ -13,7 +13,7 @@ use Rattle.justfile_parse_attribute.proofs.attributes.parse_attributes.Goals as 
 pub lines-init : goal.lines-init
 lines-init g c =
     let s = state_of g.X.Expander.answer c.args.parser.now in
-    record { ahead = omega arith; value = rw c.new-attributes.ensures.items (sym (lines_are s)); whole = rw c.new-attributes.ensures.items none_whole }
+    record { ahead = omega arith; value = rw c.new-attributes.ensures (sym (lines_are s)); whole = rw c.new-attributes.ensures none_whole }
 
 pub returns-in_err-parse_next_line-clause-reads : goal.returns-in_err-parse_next_line-clause-reads
 returns-in_err-parse_next_line-clause-reads g c =
@@ -26,5 +26,5 @@ pub returns-then-branch-clause-reads : goal.returns-then-branch-clause-reads
 returns-then-branch-clause-reads g c =
     let A = g.X.Expander.answer in
     let rest = state_of A c.parse_next_line.new.parser in
-    let found : ◌≡◌ {A = Read (Entries × Bool)} (line_step (map entry_of_pair c.lines.attributes.items) (state_of A c.lines.parser)) (Ok ((map entry_of_pair c.parse_next_line.new.attributes.items, true), rest)) = first_of (grind (arith, common_steps), search rules) in
-    lines_end _ (state_of A c.lines.parser) _ c.lines.invariant.value _ rest found
+    let found : ◌≡◌ {A = Read (Entries × Bool)} (line_step (map entry_of_pair c.lines.attributes.pairs.items) (state_of A c.lines.parser)) (Ok ((map entry_of_pair c.parse_next_line.new.attributes.pairs.items, true), rest)) = first_of (grind (arith, common_steps), search rules) in
+    rw c.into_pairs.ensures (lines_end _ (state_of A c.lines.parser) _ c.lines.invariant.value _ rest found)

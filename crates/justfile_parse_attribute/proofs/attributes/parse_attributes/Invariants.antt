@@ -8,8 +8,8 @@ use Rattle.justfile_parse_attribute.proofs.attributes.parse_attributes.Given as 
 abbrev pub invariant-lines : goal.invariant-lines
 invariant-lines g l = record {
   ahead : left l.parser ≤ left l.fn.parser;
-  value : attribute_lines_from (map entry_of_pair l.attributes.items, state_of g.X.Expander.answer l.parser) ≡ attribute_lines (state_of g.X.Expander.answer l.fn.parser);
-  whole : AreWholePairs l.attributes.items;
+  value : attribute_lines_from (map entry_of_pair l.attributes.pairs.items, state_of g.X.Expander.answer l.parser) ≡ attribute_lines (state_of g.X.Expander.answer l.fn.parser);
+  whole : AreWholePairs l.attributes.pairs.items;
 }
 
 abbrev pub decreases-lines : goal.decreases-lines

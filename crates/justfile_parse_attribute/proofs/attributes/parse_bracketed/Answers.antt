@@ -20,5 +20,5 @@ pub returns-then-branch-clause-reads : goal.returns-then-branch-clause-reads
 returns-then-branch-clause-reads g c =
     let A = g.X.Expander.answer in
     let rest = state_of A c.parse_next_attribute.new.parser in
-    let found : ◌≡◌ {A = Read (Entries × Bool)} (bracket_step (map entry_of_pair c.bracket.attributes.items) (state_of A c.bracket.parser)) (Ok ((map entry_of_pair c.parse_next_attribute.new.attributes.items, true), rest)) = first_of (grind (arith, common_steps), search rules) in
+    let found : ◌≡◌ {A = Read (Entries × Bool)} (bracket_step (map entry_of_pair c.bracket.attributes.pairs.items) (state_of A c.bracket.parser)) (Ok ((map entry_of_pair c.parse_next_attribute.new.attributes.pairs.items, true), rest)) = first_of (grind (arith, common_steps), search rules) in
     bracket_ends _ (state_of A c.bracket.parser) _ c.bracket.invariant.value _ rest found

@@ -8,8 +8,8 @@ use Rattle.justfile_parse_attribute.proofs.attributes.parse_bracketed.Given as g
 abbrev pub invariant-bracket : goal.invariant-bracket
 invariant-bracket g l = record {
   ahead : left l.parser ≤ left l.fn.parser;
-  value : bracketed (map entry_of_pair l.attributes.items, state_of g.X.Expander.answer l.parser) ≡ bracketed (map entry_of_pair l.fn.attributes.items, state_of g.X.Expander.answer l.fn.parser);
-  whole : KeepsWholePairs l.fn.attributes.items l.attributes.items;
+  value : bracketed (map entry_of_pair l.attributes.pairs.items, state_of g.X.Expander.answer l.parser) ≡ bracketed (map entry_of_pair l.fn.attributes.pairs.items, state_of g.X.Expander.answer l.fn.parser);
+  whole : KeepsWholePairs l.fn.attributes.pairs.items l.attributes.pairs.items;
 }
 
 abbrev pub decreases-bracket : goal.decreases-bracket

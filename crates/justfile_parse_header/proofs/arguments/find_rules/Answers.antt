@@ -1,14 +1,21 @@
-use Rattle.std.proofs.Common.{◌∙◌, Some, sym}
-use Rattle.justfile_parse_header.specs.Arguments.{said_by}
+use Rattle.std.proofs.Common.{◌∙◌, subst, sym}
+use Rattle.justfile_parse_header.specs.Arguments.{IsKeyedOption}
 use Rattle.justfile_parse_header.specs.Tree.{rules_of}
-use Rattle.justfile_parse_header.proofs.Texts.{rules_none, rules_some}
+use Rattle.justfile_parse_header.proofs.Firsts.{first_whole, named_before, named_first}
 use Rattle.justfile_parse_header.proofs.arguments.find_rules.Goals as goal
 
-pub returns-then-is_named-clause-rules : goal.returns-then-is_named-clause-rules
-returns-then-is_named-clause-rules c =
-    rules_none (rules_of c.args.attributes.now) c.args.before.now c.args.name c.lexeme-2.result.now c.lexeme-2.ensures (sym c.is_named.ensures ∙ c.if-is_named.true)
+pub returns-then-is_among-clause-rules : goal.returns-then-is_among-clause-rules
+returns-then-is_among-clause-rules c =
+    let before = c.args.before.now in
+    named_before (rules_of c.args.spoken.now.attributes.now) c.args.spoken.now.firsts c.requires before.list.items before.names before.named c.args.name c.lexeme.result.now c.lexeme.ensures
+    (sym c.is_among.ensures ∙ c.if-is_among.true)
 
-pub returns-else-is_named-clause-rules : goal.returns-else-is_named-clause-rules
-returns-else-is_named-clause-rules c =
-    rules_some (rules_of c.args.attributes.now) c.args.before.now c.args.name c.lexeme-2.result.now c.lexeme-2.ensures (sym c.is_named.ensures ∙ c.if-is_named.false)
-    c.lexeme.result.now c.lexeme.ensures (said_by (Some c.in_ok-attribute.attribute)) c.in_ok-attribute.ensures.rules
+pub returns-clause-rules : goal.returns-clause-rules
+returns-clause-rules c =
+    let before = c.args.before.now in
+    named_first (rules_of c.args.spoken.now.attributes.now) c.args.spoken.now.firsts c.requires before.list.items before.names before.named c.args.name c.lexeme.result.now c.lexeme.ensures
+    (sym c.is_among.ensures ∙ c.if-is_among.false) c.lexeme-2.result.now c.lexeme-2.ensures c.find_first.result c.find_first.ensures
+
+pub returns-clause-keyed : goal.returns-clause-keyed
+returns-clause-keyed c =
+    subst IsKeyedOption (sym c.find_first.ensures) (first_whole (rules_of c.args.spoken.now.attributes.now) c.args.spoken.now.firsts c.requires c.lexeme-2.result.now)

@@ -25,4 +25,4 @@ returns-in-Some-accept-clause-drawn g c =
     c.in-Some-accept.ensures.takes call.ensures.drawn)
 
 pub returns-clause-whole : goal.returns-clause-whole
-returns-clause-whole g c = same_whole (rules_of c.args.attributes.now) c.args.parameters.now.items
+returns-clause-whole g c = same_whole (rules_of c.args.spoken.now.attributes.now) c.args.parameters.now.list.items

@@ -1,7 +1,6 @@
-use Rattle.std.proofs.Common.{◌≡◌, ◌∙◌, List, map, None, refl, ap, arith}
+use Rattle.std.proofs.Common.{◌≡◌, map, None, refl, arith}
 use Rattle.std.proofs.lemmas.Result.{err_from_is_err_and}
 use Rattle.justfile_word.specs.declared.token_kind.TokenKind.TheVariants as kinds
-use Rattle.justfile_header.specs.declared.parameter.Parameter.{Parameter}
 use Rattle.justfile_model.specs.HeaderReader.{obeying}
 use Rattle.justfile_model.specs.Reading.{NoNumber}
 use Rattle.justfile_model.specs.RecipeRules.{rules_for}
@@ -24,8 +23,8 @@ use Rattle.justfile_tree.specs.LeafTree.{Named}
 pub returns-in_err-name-clause-reads : goal.returns-in_err-name-clause-reads
 returns-in_err-name-clause-reads g c =
     let A = g.X.Expander.answer in
-    let rules = rules_of c.args.attributes.now in
-    let before = c.args.parameters.now.items in
+    let rules = rules_of c.args.spoken.now.attributes.now in
+    let before = c.args.parameters.now.list.items in
     let first = c.args.numerator.now in
     let s = state_of A c.args.parser.now in
     let found = Found rules c.args.kind c.args.export before first s in
@@ -43,8 +42,8 @@ returns-in_err-name-clause-drawn g c =
 pub returns-in_err-default-clause-reads : goal.returns-in_err-default-clause-reads
 returns-in_err-default-clause-reads g c =
     let A = g.X.Expander.answer in
-    let rules = rules_of c.args.attributes.now in
-    let before = c.args.parameters.now.items in
+    let rules = rules_of c.args.spoken.now.attributes.now in
+    let before = c.args.parameters.now.list.items in
     let first = c.args.numerator.now in
     let s = state_of A c.args.parser.now in
     let found = Found rules c.args.kind c.args.export before first s in
@@ -65,8 +64,8 @@ returns-in_err-default-clause-drawn g c =
 pub returns-in_err-check_said-clause-reads : goal.returns-in_err-check_said-clause-reads
 returns-in_err-check_said-clause-reads g c =
     let A = g.X.Expander.answer in
-    let rules = rules_of c.args.attributes.now in
-    let before = c.args.parameters.now.items in
+    let rules = rules_of c.args.spoken.now.attributes.now in
+    let before = c.args.parameters.now.list.items in
     let first = c.args.numerator.now in
     let s = state_of A c.args.parser.now in
     let found = Found rules c.args.kind c.args.export before first s in
@@ -77,8 +76,7 @@ returns-in_err-check_said-clause-reads g c =
     let valued = c.in_ok-default.ensures.reads in
     let has = c.is_some.result in
     let said = said_by c.find_rules-rules.result in
-    let is : said ≡ rules_for sees_leaves rules (map parameter_tree before) (Named name.token.now None) =
-    c.find_rules-rules.ensures.rules ∙ ap (λ (ps : List Parameter). rules_for sees_leaves rules (map parameter_tree ps) (Named name.token.now None)) c.as_slice.ensures.value in
+    let is : said ≡ rules_for sees_leaves rules (map parameter_tree before) (Named name.token.now None) = c.find_rules-rules.ensures.rules in
     let broken = said_broken name.token.now has c.args.kind said in
     let p = err_from_is_err_and c.from_residual-in_err-check_said.result c.from_residual-in_err-check_said.ensures.1 in
     rw (p.1, p.2)
@@ -105,8 +103,8 @@ returns-in_err-said-clause-drawn g c =
 pub returns-in_err-number-clause-reads : goal.returns-in_err-number-clause-reads
 returns-in_err-number-clause-reads g c =
     let A = g.X.Expander.answer in
-    let rules = rules_of c.args.attributes.now in
-    let before = c.args.parameters.now.items in
+    let rules = rules_of c.args.spoken.now.attributes.now in
+    let before = c.args.parameters.now.list.items in
     let first = c.args.numerator.now in
     let s = state_of A c.args.parser.now in
     let found = Found rules c.args.kind c.args.export before first s in
@@ -117,8 +115,7 @@ returns-in_err-number-clause-reads g c =
     let valued = c.in_ok-default.ensures.reads in
     let has = c.is_some.result in
     let said = said_by c.find_rules-rules.result in
-    let is : said ≡ rules_for sees_leaves rules (map parameter_tree before) (Named name.token.now None) =
-    c.find_rules-rules.ensures.rules ∙ ap (λ (ps : List Parameter). rules_for sees_leaves rules (map parameter_tree ps) (Named name.token.now None)) c.as_slice.ensures.value in
+    let is : said ≡ rules_for sees_leaves rules (map parameter_tree before) (Named name.token.now None) = c.find_rules-rules.ensures.rules in
     let broken = said_broken name.token.now has c.args.kind said in
     let p = err_from_is_err_and c.from_residual-in_err-number.result c.from_residual-in_err-number.ensures.1 in
     let fails = number_fails rules c.args.kind c.args.export before first s name s1 named c.in_ok-default.default s2 valued has c.is_some.ensures said is (c.in_ok-check_said.ensures s2) in
@@ -140,8 +137,8 @@ returns-in_err-push-clause-reads g c =
 pub returns-in_err-push-clause-drawn : goal.returns-in_err-push-clause-drawn
 returns-in_err-push-clause-drawn g c =
     let A = g.X.Expander.answer in
-    let rules = rules_of c.args.attributes.now in
-    let before = c.args.parameters.now.items in
+    let rules = rules_of c.args.spoken.now.attributes.now in
+    let before = c.args.parameters.now.list.items in
     let first = c.args.numerator.now in
     let s = state_of A c.args.parser.now in
     let found = Found rules c.args.kind c.args.export before first s in
@@ -152,8 +149,7 @@ returns-in_err-push-clause-drawn g c =
     let valued = c.in_ok-default.ensures.reads in
     let has = c.is_some.result in
     let said = said_by c.find_rules-rules.result in
-    let is : said ≡ rules_for sees_leaves rules (map parameter_tree before) (Named name.token.now None) =
-    c.find_rules-rules.ensures.rules ∙ ap (λ (ps : List Parameter). rules_for sees_leaves rules (map parameter_tree ps) (Named name.token.now None)) c.as_slice.ensures.value in
+    let is : said ≡ rules_for sees_leaves rules (map parameter_tree before) (Named name.token.now None) = c.find_rules-rules.ensures.rules in
     let broken = said_broken name.token.now has c.args.kind said in
     let fewer = fewer_at s1 (reader.default_value s1) (value_tree c.in_ok-default.default, s2) (default_fewer s1) c.in_ok-default.ensures.reads in
     let one = name_fewer s (name, s1) c.in_ok-name.ensures.reads in
@@ -172,8 +168,8 @@ from_identifier-requires g c = c.in_ok-name.ensures.kind
 pub returns-clause-reads : goal.returns-clause-reads
 returns-clause-reads g c =
     let A = g.X.Expander.answer in
-    let rules = rules_of c.args.attributes.now in
-    let before = c.args.parameters.now.items in
+    let rules = rules_of c.args.spoken.now.attributes.now in
+    let before = c.args.parameters.now.list.items in
     let first = c.args.numerator.now in
     let s = state_of A c.args.parser.now in
     let found = Found rules c.args.kind c.args.export before first s in
@@ -184,17 +180,16 @@ returns-clause-reads g c =
     let valued = c.in_ok-default.ensures.reads in
     let has = c.is_some.result in
     let said = said_by c.find_rules-rules.result in
-    let is : said ≡ rules_for sees_leaves rules (map parameter_tree before) (Named name.token.now None) =
-    c.find_rules-rules.ensures.rules ∙ ap (λ (ps : List Parameter). rules_for sees_leaves rules (map parameter_tree ps) (Named name.token.now None)) c.as_slice.ensures.value in
+    let is : said ≡ rules_for sees_leaves rules (map parameter_tree before) (Named name.token.now None) = c.find_rules-rules.ensures.rules in
     let broken = said_broken name.token.now has c.args.kind said in
     parameter_read rules c.args.kind c.args.export before first s name s1 named c.in_ok-default.default s2 valued has c.is_some.ensures said is (c.in_ok-check_said.ensures s2) _
-    c.draw_binding.new.numerator (c.in_ok-number.ensures.reads s2) c.push.new.self.items _ c.in_ok-push.ensures.items c.from_identifier.ensures refl
+    c.draw_binding.new.numerator (c.in_ok-number.ensures.reads s2) c.push.new.self.list.items _ c.in_ok-push.ensures c.from_identifier.ensures refl
 
 pub returns-clause-drawn : goal.returns-clause-drawn
 returns-clause-drawn g c =
     let A = g.X.Expander.answer in
-    let rules = rules_of c.args.attributes.now in
-    let before = c.args.parameters.now.items in
+    let rules = rules_of c.args.spoken.now.attributes.now in
+    let before = c.args.parameters.now.list.items in
     let first = c.args.numerator.now in
     let s = state_of A c.args.parser.now in
     let found = Found rules c.args.kind c.args.export before first s in
@@ -205,8 +200,7 @@ returns-clause-drawn g c =
     let valued = c.in_ok-default.ensures.reads in
     let has = c.is_some.result in
     let said = said_by c.find_rules-rules.result in
-    let is : said ≡ rules_for sees_leaves rules (map parameter_tree before) (Named name.token.now None) =
-    c.find_rules-rules.ensures.rules ∙ ap (λ (ps : List Parameter). rules_for sees_leaves rules (map parameter_tree ps) (Named name.token.now None)) c.as_slice.ensures.value in
+    let is : said ≡ rules_for sees_leaves rules (map parameter_tree before) (Named name.token.now None) = c.find_rules-rules.ensures.rules in
     let broken = said_broken name.token.now has c.args.kind said in
     let fewer = fewer_at s1 (reader.default_value s1) (value_tree c.in_ok-default.default, s2) (default_fewer s1) c.in_ok-default.ensures.reads in
     let one = name_fewer s (name, s1) c.in_ok-name.ensures.reads in
@@ -215,8 +209,8 @@ returns-clause-drawn g c =
 pub returns-clause-whole : goal.returns-clause-whole
 returns-clause-whole g c =
     let A = g.X.Expander.answer in
-    let rules = rules_of c.args.attributes.now in
-    let before = c.args.parameters.now.items in
+    let rules = rules_of c.args.spoken.now.attributes.now in
+    let before = c.args.parameters.now.list.items in
     let first = c.args.numerator.now in
     let s = state_of A c.args.parser.now in
     let found = Found rules c.args.kind c.args.export before first s in
@@ -227,10 +221,9 @@ returns-clause-whole g c =
     let valued = c.in_ok-default.ensures.reads in
     let has = c.is_some.result in
     let said = said_by c.find_rules-rules.result in
-    let is : said ≡ rules_for sees_leaves rules (map parameter_tree before) (Named name.token.now None) =
-    c.find_rules-rules.ensures.rules ∙ ap (λ (ps : List Parameter). rules_for sees_leaves rules (map parameter_tree ps) (Named name.token.now None)) c.as_slice.ensures.value in
+    let is : said ≡ rules_for sees_leaves rules (map parameter_tree before) (Named name.token.now None) = c.find_rules-rules.ensures.rules in
     let broken = said_broken name.token.now has c.args.kind said in
     let h = c.in_ok-said.ensures in
-    pushed_whole rules before c.push.new.self.items _ c.in_ok-push.ensures.items
+    pushed_whole rules before c.push.new.self.list.items _ c.in_ok-push.ensures
     (named_whole rules (map parameter_tree before) _ said name.token.now is c.from_identifier.ensures
     (record { flag = h.flag; help = refl; long = h.long; max = h.max; min = h.min; multiple = h.multiple; short = h.short; value = h.value }))

@@ -12,8 +12,8 @@ use Rattle.justfile_parse_header.proofs.parameter.parse_parameter.Goals as goal
 pub returns-in-Some-clause-reads : goal.returns-in-Some-clause-reads
 returns-in-Some-clause-reads g c =
     let A = g.X.Expander.answer in
-    let x : reader.Parameters = (map parameter_tree c.args.parameters.now.items, counters_of c.args.numerator.now) in
-    rw (exported (rules_of c.args.attributes.now) c.args.kind x (state_of A c.args.parser.now) c.in-Some._dollar (state_of A c.accept.new.self) c.in-Some.ensures.takes)
+    let x : reader.Parameters = (map parameter_tree c.args.parameters.now.list.items, counters_of c.args.numerator.now) in
+    rw (exported (rules_of c.args.spoken.now.attributes.now) c.args.kind x (state_of A c.args.parser.now) c.in-Some._dollar (state_of A c.accept.new.self) c.in-Some.ensures.takes)
     c.parse_named.ensures.reads
 
 pub returns-in-Some-clause-drawn : goal.returns-in-Some-clause-drawn
@@ -25,8 +25,8 @@ returns-in-Some-clause-drawn g c =
 pub returns-in-None-clause-reads : goal.returns-in-None-clause-reads
 returns-in-None-clause-reads g c =
     let A = g.X.Expander.answer in
-    let rules = rules_of c.args.attributes.now in
-    let x : reader.Parameters = (map parameter_tree c.args.parameters.now.items, counters_of c.args.numerator.now) in
+    let rules = rules_of c.args.spoken.now.attributes.now in
+    let x : reader.Parameters = (map parameter_tree c.args.parameters.now.list.items, counters_of c.args.numerator.now) in
     let here =
     unexported rules c.args.kind x (state_of A c.args.parser.now) c.in-None.ensures.takes
     ∙ ap (λ (p : ExpressionParser _). reader.named_parameter rules c.args.kind false x (state_of A p)) (sym c.in-None.ensures.moves) in

@@ -1,4 +1,4 @@
-use Rattle.std.proofs.Common.{◌≡◌, List, map, Ok, subst}
+use Rattle.std.proofs.Common.{◌≡◌, List, map, Ok, arith, subst, sym}
 use Rattle.std.proofs.lemmas.Result.{err_from_is_err_and}
 use Rattle.justfile_word.specs.declared.token_kind.TokenKind.TheVariants as kinds
 use Rattle.justfile_header.specs.declared.parameter.Parameter.{Parameter}
@@ -6,21 +6,33 @@ use Rattle.justfile_model.specs.Reading.{NoNumber}
 use Rattle.justfile_parse_expression.specs.View.{state_of}
 use Rattle.justfile_parse_header.specs.Counting.{counters_of, names}
 use Rattle.justfile_parse_header.specs.HeaderTable as reader
-use Rattle.justfile_parse_header.specs.Said.{KeepsWholeParameters}
+use Rattle.justfile_parse_header.specs.Said.{AreWholeParameters, KeepsWholeParameters}
 use Rattle.justfile_parse_header.specs.Tree.{parameter_tree, rules_of}
-use Rattle.justfile_parse_header.proofs.Draws.{both_drawn, drawn_before}
+use Rattle.justfile_parse_header.proofs.Draws.{both_drawn, drawn_before, none_drawn}
 use Rattle.justfile_parse_header.proofs.Halts.{halted}
 use Rattle.justfile_parse_header.proofs.Parameters.{both_whole, last_fails, none_whole, then_whole}
 use Rattle.justfile_parse_header.proofs.parameter.parse_parameters.Goals as goal
 
+pub returns-in_err-firsts-clause-reads : goal.returns-in_err-firsts-clause-reads
+returns-in_err-firsts-clause-reads g c =
+    let p = err_from_is_err_and c.from_residual.result c.from_residual.ensures.1 in
+    rw (p.1, p.2) tt
+
+pub returns-in_err-firsts-clause-drawn : goal.returns-in_err-firsts-clause-drawn
+returns-in_err-firsts-clause-drawn g c =
+    let A = g.X.Expander.answer in
+    let p = err_from_is_err_and c.from_residual.result c.from_residual.ensures.1 in
+    rw p.1 (none_drawn c.args.numerator.now (names (state_of A c.args.parser.now)) 0 (omega arith))
+
 pub returns-clause-whole : goal.returns-clause-whole
 returns-clause-whole g c =
     let rules = rules_of c.args.attributes.now in
-    let singulars = c.parse_singulars.new.parameters.items in
-    let all = c.parse_last.new.parameters.items in
+    let singulars = c.parse_singulars.new.parameters.list.items in
+    let all = c.parse_last.new.parameters.list.items in
     let P : List Parameter → Type 0 = λ ps. KeepsWholeParameters rules ps singulars in
-    then_whole rules _ all (none_whole rules)
-    (both_whole rules _ singulars all (subst P c.new-parameters.ensures.items c.in_ok-parse_singulars.ensures.whole) c.in_ok-parse_last.ensures.whole)
+    subst (AreWholeParameters rules) (sym c.into_list.ensures)
+    (then_whole rules _ all (none_whole rules)
+    (both_whole rules _ singulars all (subst P c.new-parameters.ensures c.in_ok-parse_singulars.ensures.whole) c.in_ok-parse_last.ensures.whole))
 
 pub returns-clause-drawn : goal.returns-clause-drawn
 returns-clause-drawn g c =
@@ -39,9 +51,9 @@ returns-in_err-parse_last-clause-reads g c =
     let first = counters_of c.args.numerator.now in
     let s = state_of A c.args.parser.now in
     let x : reader.Parameters × _ =
-    ((map parameter_tree c.parse_singulars.new.parameters.items, counters_of c.parse_singulars.new.numerator), state_of A c.parse_singulars.new.parser) in
+    ((map parameter_tree c.parse_singulars.new.parameters.list.items, counters_of c.parse_singulars.new.numerator), state_of A c.parse_singulars.new.parser) in
     let P : List Parameter → Type 0 = λ ps. reader.singulars rules ((map parameter_tree ps, first), s) ≡ Ok x in
-    let fails = last_fails rules first s x (subst P c.new-parameters.ensures.items c.in_ok-parse_singulars.ensures.reads) in
+    let fails = last_fails rules first s x (subst P c.new-parameters.ensures c.in_ok-parse_singulars.ensures.reads) in
     let p = err_from_is_err_and c.from_residual-in_err-parse_last.result c.from_residual-in_err-parse_last.ensures.1 in
     rw (p.1, p.2)
     (halted (reader.last_parameter rules x) (reader.parameters rules first s) fails c.in_err-parse_last.field-0.0 (state_of A c.parse_last.new.parser) _ _

@@ -9,7 +9,7 @@ invariant-parameters g l =
     let A = g.X.Expander.answer in
     record {
       ahead : left l.parser ≤ left l.fn.parser;
-      so_far : IsReadTo (rules_of l.attributes) (state_of A l.fn.parser) (state_of A l.parser) l.fn.numerator l.numerator l.fn.parameters.items l.parameters.items;
+      so_far : IsReadTo (rules_of l.spoken.attributes.now) (state_of A l.fn.parser) (state_of A l.parser) l.fn.numerator l.numerator l.fn.parameters.list.items l.parameters.list.items;
     }
 
 abbrev pub decreases-parameters : goal.decreases-parameters

@@ -12,6 +12,9 @@ use Rattle.justfile_parse_expression.specs.MethodResults.{StopsAt}
 use Rattle.justfile_tree.specs.LeafTree.{Leaf, Literal, format_string_tree, literal_of, leaf_tree_of, trees_of}
 use Rattle.justfile_parse_expression.specs.View.{state_of}
 use Rattle.justfile_parse_expression.specs.declared.parser.ExpressionParser.{ExpressionParser}
+use Rattle.justfile_parse_expression.proofs.Branches as branching
+use Rattle.justfile_parse_expression.proofs.Chains as chains
+use Rattle.justfile_parse_expression.specs.Chains.{branches, link_of, row}
 use Rattle.justfile_parse_expression.proofs.Elements as elements
 use Rattle.justfile_parse_expression.proofs.Formats.{after_expression, after_pair, after_start}
 use Rattle.justfile_parse_expression.proofs.Parts as parts
@@ -96,3 +99,15 @@ parse_parts-returns-in_err-expression-clause-reads g t c =
     let start = lexeme_of c.args.start.token.now in
     let p = err_from_is_err_and c.from_residual.result c.from_residual.ensures.1 in
     rw (p.1, p.2) (parts.stops_at start (state_of g.X.Expander.answer c.parts.self) c.parts.parts.items c.in_err-expression.field-0.0 (state_of g.X.Expander.answer c.parse_pair.new.self) (format_parts start (state_of g.X.Expander.answer c.args.self.now)) c.parts.invariant.value c.in_err-expression.ensures.reads)
+
+pub parse_row-returns-in_err-last-clause-reads : goal.parse_row-returns-in_err-last-clause-reads
+parse_row-returns-in_err-last-clause-reads g t c =
+    let A = g.X.Expander.answer in
+    let p = err_from_is_err_and c.from_residual.result c.from_residual.ensures.1 in
+    rw (p.1, p.2) (chains.stops c.args.level (state_of A c.row.self) c.row.row.items c.row.link c.in_err-last.field-0.0 (state_of A c.parse_step.new.self) (row c.args.level (link_of c.args.first) (state_of A c.args.self.now)) c.row.invariant.value c.in_err-last.ensures.reads)
+
+pub parse_branches-returns-in_err-last-clause-reads : goal.parse_branches-returns-in_err-last-clause-reads
+parse_branches-returns-in_err-last-clause-reads g t c =
+    let A = g.X.Expander.answer in
+    let p = err_from_is_err_and c.from_residual.result c.from_residual.ensures.1 in
+    rw (p.1, p.2) (branching.stops c.branches.word (state_of A c.branches.self) c.branches.row.items c.branches.link c.in_err-last.field-0.0 (state_of A c.parse_branch.new.self) (branches (link_of c.args.first) c.args.word (state_of A c.args.self.now)) c.branches.invariant.value c.in_err-last.ensures.reads)

@@ -1,0 +1,108 @@
+#!/usr/bin/env python3
+"""Runs a formatter on long texts and on texts of twice their length: hostile.py PROGRAM FOLDER
+
+Writes the texts into the folder, one after the other. Prints a row for each: how many parts it has, its
+bytes, the status of the program, its processor time and the greatest memory that it held, and how many
+times these are of the text of twice the length. A time is the least of three runs, that of a row of
+operands of one run.
+"""
+import os
+import sys
+
+OPERANDS = 1_000_000
+ATTRIBUTES = 8_000
+BYTES = 1_000_000
+
+# What a row of operands is made of: the part that comes again and again, and the last one.
+ROWS = {
+    "+": ("b + ", "b"),
+    "++": ("b ++ ", "b"),
+    "/": ("b / ", "b"),
+    "/ before": ("/ ", "b"),
+    "&&": ("b && ", "b"),
+    "!": ("!", "b"),
+    "else if": ("if b { c } else ", "{ d }"),
+}
+
+# Where a row stands: the text before it and the text after it. A default is a value, which takes no
+# operator but `!`.
+PLACES = {
+    "assignment": ("a := ", "\n"),
+    "attribute": ("[doc(", ")]\nfoo:\n"),
+    "argument": ("foo: (a ", ")\n"),
+    "body": ("foo:\n    {{ ", " }}\n"),
+    "default": ("foo a=(", "):\n"),
+    "value of an option": ("[arg('a', long, value=", ")]\nfoo a:\n"),
+}
+
+# Texts of one part again and again, up to a size.
+PARTS = {
+    "assignments": "a := b\n",
+    "comments": "# a\n",
+    "literals": "a := 'b'\n",
+    "recipes": "a:\n",
+    "bodies": "a:\n    b {{c}}\n",
+    "blank lines": "\n",
+}
+
+
+def row_texts():
+    """Each row of operands in each place, and with its last operand left out."""
+    for name, (part, last) in ROWS.items():
+        for place, (before, after) in PLACES.items():
+            yield f"{name}, {place}", OPERANDS, lambda n: before + part * n + last + after
+        yield f"{name}, refused", OPERANDS, lambda n: "a := " + part * n + "\n"
+
+
+def attribute_texts():
+    """Attributes of one recipe."""
+    yield "groups", ATTRIBUTES, lambda n: "".join(f"[group('g{i}')]\n" for i in range(n)) + "foo:\n"
+    yield "options", ATTRIBUTES, lambda n: "".join(f"[arg('p{i}', long)]\n" for i in range(n)) + "foo " + " ".join(
+        f"p{i}" for i in range(n)
+    ) + ":\n"
+
+
+def part_texts():
+    for name, part in PARTS.items():
+        yield name, BYTES // len(part), lambda n: part * n
+
+
+def run(program, path):
+    """The status, the processor seconds and the peak of memory in KB of one run."""
+    child = os.fork()
+    if child == 0:
+        os.dup2(os.open(path, os.O_RDONLY), 0)
+        os.dup2(os.open(os.devnull, os.O_WRONLY), 1)
+        os.dup2(os.open(os.devnull, os.O_WRONLY), 2)
+        os.execv(program, [program])
+    _, status, usage = os.wait4(child, 0)
+    return os.waitstatus_to_exitcode(status), usage.ru_utime + usage.ru_stime, usage.ru_maxrss
+
+
+def measured(program, path, text, count):
+    """The bytes of a text, the status, the least seconds and the least peak of so many runs."""
+    with open(path, "w", newline="") as file:
+        file.write(text)
+    runs = [run(program, path) for _ in range(count)]
+    size = os.path.getsize(path)
+    os.remove(path)
+    return size, runs[0][0], min(seconds for _, seconds, _ in runs), min(peak for _, _, peak in runs)
+
+
+def main():
+    program, folder = sys.argv[1:]
+    os.makedirs(folder, exist_ok=True)
+    path = os.path.join(folder, "text")
+    print("| text | parts | bytes | status | seconds | MB | seconds of twice as many | MB |")
+    print("|---|---:|---:|---:|---:|---:|---:|---:|")
+    for texts, count in ((row_texts(), 1), (attribute_texts(), 3), (part_texts(), 3)):
+        for name, parts, text in texts:
+            size, status, seconds, peak = measured(program, path, text(parts), count)
+            _, twice_status, twice, twice_peak = measured(program, path, text(2 * parts), count)
+            statuses = status if status == twice_status else f"{status}, {twice_status}"
+            times = "%.3f | %.1f | %.1f times | %.1f times" % (seconds, peak / 1000, twice / seconds, twice_peak / peak)
+            print(f"| `{name}` | {parts:,} | {size:,} | {statuses} | {times} |", flush=True)
+
+
+if __name__ == "__main__":
+    main()

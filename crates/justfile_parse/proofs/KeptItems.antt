@@ -1,0 +1,158 @@
+-- Items that are moved to the first ones of a list, each with its doc.
+use Rattle.std.proofs.Common.{◌≡◌, ◌∙◌, ℕ, ◌+◌, ◌-◌, ◌<◌, ◌≤◌, ◌⊎◌, inl, inr, Bool, false, cond, All, List, [], ◌∷◌, ◌++◌, drop, length, map, get_or, set, take, Option, Some, None, reverse, refl, sym, ap, subst, arith}
+use Rattle.std.specs.List.{swap, take-map}
+use Rattle.std.proofs.Math.Nat.{eq-or-lt_of_le}
+use Rattle.std.proofs.Math.Seq.{drop-length}
+use Rattle.std.proofs.lemmas.List.{drop_more, drop-set-lt, get_or-set_same, length-map, length-reverse, length-set, length-take, length-take-le, map-append, take-append-drop, take-append-le, take-set, take-set-le, take_more_set}
+use Rattle.std.proofs.lemmas.List.Edits.{swap_is}
+use Rattle.std.proofs.lemmas.List.Elements.{All-set, All-take}
+use Rattle.std.proofs.lemmas.List.Sorted.{All-permutation, IsPermutation-swap}
+use Rattle.justfile_item.specs.declared.item.Item.{Item}
+use Rattle.justfile_model.specs.Docs.{Nothing, documented, item_with_doc, redocumented}
+use Rattle.justfile_model.specs.Files.{says_doc}
+use Rattle.justfile_model.specs.Tree as tree
+use Rattle.justfile_parse.specs.Docs.{LeafItem, doc_before, doc_first, doc_taken, says_no_doc, taken_docs, with_doc, with_item, with_items}
+use Rattle.justfile_parse.proofs.TakenDocs.{from_first}
+use Rattle.justfile_parse_item.specs.Tree.{item_tree}
+use Rattle.justfile_parse_item.specs.Whole.{AreWhole, IsWholeItem}
+
+-- ---- an element that changes places with one before it
+
+module _ {X : Type 0} (xs ys : List X) (k p : ℕ) (d : X) (order : k ≤ p) (within : p < length xs) (e : ys ≡ swap xs k p) where
+  abbrev first_set : List X
+  first_set = set xs k (get_or xs p d)
+
+  as_sets : ys ≡ set first_set p (get_or xs k d)
+  as_sets = e ∙ sym (swap_is xs k p d (omega (arith, order, within)) within)
+
+  -- it stands after those before that one
+  moved_front : take (k + 1) ys ≡ take k xs ++ get_or xs p d ∷ []
+  moved_front = ap (take (k + 1)) as_sets ∙ by (eq-or-lt_of_le order)
+    where
+      by : (k ≡ p) ⊎ (k < p) → take (k + 1) (set first_set p (get_or xs k d)) ≡ take k xs ++ get_or xs p d ∷ []
+      by (inl same) =
+          ap (λ (n : ℕ). take (k + 1) (set first_set n (get_or xs k d))) (sym same)
+          ∙ take_more_set first_set k (get_or xs k d) (omega (arith, order, within, length-set xs k (get_or xs p d)))
+          ∙ ap (λ (l : List X). l ++ get_or xs k d ∷ []) (take-set xs k (get_or xs p d))
+          ∙ ap (λ (n : ℕ). take k xs ++ get_or xs n d ∷ []) same
+      by (inr less) = take-set-le (k + 1) first_set p (get_or xs k d) (omega (arith, less)) ∙ take_more_set xs k (get_or xs p d) (omega (arith, order, within))
+
+  -- those after its old place are as before
+  moved_rest : drop (p + 1) ys ≡ drop (p + 1) xs
+  moved_rest =
+      ap (drop (p + 1)) as_sets ∙ drop-set-lt (p + 1) first_set p (get_or xs k d) (omega arith)
+      ∙ drop-set-lt (p + 1) xs k (get_or xs p d) (omega (arith, order))
+
+take_of_take : {X : Type 0} (n k : ℕ) (xs : List X) → n ≤ length (take k xs) → take n (take k xs) ≡ take n xs
+take_of_take n k xs h = sym (take-append-le n (take k xs) (drop k xs) h) ∙ ap (λ (l : List _). take n l) (take-append-drop k xs)
+
+-- all that are there are whole, in any order
+pub swapped_whole : (xs ys : List Item) (k p : ℕ) → k < length xs → p < length xs → ys ≡ swap xs k p → AreWhole xs → AreWhole ys
+unfolding AreWhole
+swapped_whole xs ys k p below within e h = All-permutation IsWholeItem xs ys (IsPermutation-swap xs ys k p below within e) h
+
+pub set_whole : (xs ys : List Item) (p : ℕ) (x : Item) → ys ≡ set xs p x → IsWholeItem x → AreWhole xs → AreWhole ys
+unfolding AreWhole
+set_whole xs ys p x e h whole = subst (All IsWholeItem) (sym e) (All-set IsWholeItem xs p x h whole)
+
+pub cut_whole : (xs ys : List Item) (n : ℕ) → ys ≡ take n xs → AreWhole xs → AreWhole ys
+unfolding AreWhole
+cut_whole xs ys n e h = subst (All IsWholeItem) (sym e) (All-take IsWholeItem n xs h)
+
+-- ---- an item that is kept
+
+-- it takes no doc that is there
+pub not_wanted : (i : LeafItem) (doc : Option (List ℕ)) → says_no_doc i ≡ false → doc_taken i doc ≡ None
+not_wanted i None h = refl
+not_wanted tree.Newline (Some doc) h = refl
+not_wanted (tree.Comment text) (Some doc) h = refl
+not_wanted (tree.Construct entries content) (Some doc) h = ap (λ (b : Bool). cond b (Some (tree.Construct entries (redocumented (Some doc) content))) None) h
+
+module _ (xs : List Item) (kept place : ℕ) (x : Item) (order : kept ≤ place) (within : place < length xs) (x_is : x ≡ get_or xs place x) where
+  abbrev before : List LeafItem
+  before = map item_tree (take kept xs)
+
+  -- the item at the place is the next of those that are left
+  next_taken : taken_docs kept place xs ≡ with_items (with_item before (item_tree x)) (map item_tree (drop (place + 1) xs))
+  next_taken =
+      ap (λ (l : List Item). with_items before (map item_tree l))
+      (drop_more xs place x within ∙ ap (λ (y : Item). y ∷ drop (place + 1) xs) (sym x_is))
+
+  -- as it is
+  pub kept_plain : (ys : List Item) → ys ≡ swap xs kept place → doc_taken (item_tree x) (doc_before before) ≡ None → taken_docs (kept + 1) (place + 1) ys ≡ taken_docs kept place xs
+  kept_plain ys e none =
+      ap (λ (l : List Item). with_items (map item_tree l) (map item_tree (drop (place + 1) ys)))
+      (moved_front xs ys kept place x order within e ∙ ap (λ (y : Item). take kept xs ++ y ∷ []) (sym x_is))
+      ∙ ap (λ (l : List Item). with_items (map item_tree (take kept xs ++ x ∷ [])) (map item_tree l)) (moved_rest xs ys kept place x order within e)
+      ∙ ap (λ (l : List LeafItem). with_items l (map item_tree (drop (place + 1) xs)))
+      (map-append item_tree (take kept xs) (x ∷ []) ∙ sym (ap (with_doc before (item_tree x)) none))
+      ∙ sym next_taken
+
+  -- with a doc, in the place of the last two
+  module _ (n m : ℕ) (two : n + 2 ≡ kept) (one : m ≡ n + 1) (y : Item) (zs ys : List Item) (zs_are : zs ≡ set xs place y) (e : ys ≡ swap zs n place) where
+    in_zs : place < length zs
+    in_zs = omega (arith, within, ap length zs_are, length-set xs place y)
+
+    front : take (n + 1) ys ≡ take n xs ++ y ∷ []
+    front =
+        moved_front zs ys n place y (omega (arith, two, order)) in_zs e
+        ∙ ap (λ (l : List Item). take n l ++ get_or l place y ∷ []) zs_are
+        ∙ ap (λ (l : List Item). l ++ get_or (set xs place y) place y ∷ []) (take-set-le n xs place y (omega (arith, two, order)))
+        ∙ ap (λ (i : Item). take n xs ++ i ∷ []) (get_or-set_same xs place y y within)
+
+    rest : drop (place + 1) ys ≡ drop (place + 1) xs
+    rest =
+        moved_rest zs ys n place y (omega (arith, two, order)) in_zs e
+        ∙ ap (λ (l : List Item). drop (place + 1) l) zs_are ∙ drop-set-lt (place + 1) xs place y (omega arith)
+
+    kept_count : length (take kept xs) ≡ n + 2
+    kept_count = length-take-le kept xs (omega (arith, order, within)) ∙ sym two
+
+    all_but_two : take (length before - 2) before ≡ map item_tree (take n xs)
+    all_but_two =
+        ap (λ (i : ℕ). take i before) (omega (arith, kept_count, length-map (take kept xs) item_tree))
+        ∙ take-map item_tree n (take kept xs)
+        ∙ ap (map item_tree) (take_of_take n kept xs (omega (arith, kept_count)))
+
+    pub documented_whole : IsWholeItem y → AreWhole xs → AreWhole ys
+    documented_whole h whole = swapped_whole zs ys n place (omega (arith, two, order, in_zs)) in_zs e (set_whole xs zs place y zs_are h whole)
+
+    pub kept_documented : doc_taken (item_tree x) (doc_before before) ≡ Some (item_tree y) → taken_docs m (place + 1) ys ≡ taken_docs kept place xs
+    kept_documented taken =
+        ap (λ (i : ℕ). taken_docs i (place + 1) ys) one
+        ∙ ap (λ (l : List Item). with_items (map item_tree l) (map item_tree (drop (place + 1) ys))) front
+        ∙ ap (λ (l : List Item). with_items (map item_tree (take n xs ++ y ∷ [])) (map item_tree l)) rest
+        ∙ ap (λ (l : List LeafItem). with_items l (map item_tree (drop (place + 1) xs)))
+        (map-append item_tree (take n xs) (y ∷ []) ∙ ap (λ (l : List LeafItem). l ++ item_tree y ∷ []) (sym all_but_two)
+        ∙ sym (ap (with_doc before (item_tree x)) taken))
+        ∙ sym next_taken
+
+-- items that end with a doc are two or more
+two_first : (items : List LeafItem) (doc : List ℕ) → doc_first items ≡ Some doc → 2 ≤ length items
+two_first [] doc h = cc
+two_first (tree.Newline ∷ []) doc h = cc
+two_first (tree.Comment text ∷ []) doc h = cc
+two_first (tree.Construct entries content ∷ []) doc h = cc
+two_first (i ∷ j ∷ others) doc h = omega arith
+
+pub two_kept : (xs : List Item) (kept : ℕ) (doc : List ℕ) → doc_before (map item_tree (take kept xs)) ≡ Some doc → 2 ≤ kept
+two_kept xs kept doc h =
+    let all = take kept xs in
+    omega (arith, two_first (reverse (map item_tree all)) doc h, length-reverse (map item_tree all), length-map all item_tree, length-take kept xs)
+
+-- the doc that is found
+pub found_taken : (i with_this : LeafItem) (found : Option (List ℕ)) (doc text : List ℕ) → found ≡ Some doc → text ≡ doc → Some with_this ≡ item_with_doc says_doc text i
+    → doc_taken i found ≡ Some with_this
+found_taken i with_this found doc text is same taken =
+    ap (doc_taken i) is ∙ ap (λ (t : List ℕ). item_with_doc says_doc t i) (sym same) ∙ sym taken
+
+pub none_taken : (i : LeafItem) (found : Option (List ℕ)) → found ≡ None → doc_taken i found ≡ None
+none_taken i found h = ap (doc_taken i) h
+
+-- ---- when none are left
+
+pub all_taken : (all now : List Item) (kept n : ℕ) → n ≡ length now → taken_docs kept n now ≡ with_items [] (map item_tree all)
+    → map item_tree (take kept now) ≡ documented says_doc Nothing (map item_tree all)
+all_taken all now kept n e so_far =
+    ap (λ (l : List Item). with_items (map item_tree (take kept now)) (map item_tree l)) (sym (ap (λ (m : ℕ). drop m now) e ∙ drop-length now))
+    ∙ so_far ∙ from_first (map item_tree all)

@@ -1,0 +1,12 @@
+use Rattle.std.proofs.Common.{◌∙◌, arith, ap, map}
+use Rattle.justfile_parse.proofs.KeptItems.{all_taken, cut_whole}
+use Rattle.justfile_parse_item.specs.Tree.{item_tree}
+use Rattle.justfile_parse.proofs.docs.set_docs.Goals as goal
+
+pub returns-clause-trees : goal.returns-clause-trees
+returns-clause-trees c =
+    ap (map item_tree) c.truncate.ensures.items
+    ∙ all_taken c.args.items.now.items c.loop-place.items.items c.loop-place.kept c.loop-place.place (omega arith) c.loop-place.invariant.trees
+
+pub returns-clause-whole : goal.returns-clause-whole
+returns-clause-whole c = cut_whole c.loop-place.items.items _ _ c.truncate.ensures.items c.loop-place.invariant.whole

@@ -1,0 +1,138 @@
+//! The attributes of an item while they are read.
+ghost use Rattle.std.specs.Prelude.{◌≡◌, OnErr, OnOk, length, map, take};
+ghost use Rattle.justfile_model.specs.Meaning.{by_key, by_position};
+ghost use Rattle.justfile_model.specs.NewAttribute.{new_entry};
+ghost use Rattle.justfile_parse_attribute.specs.AddedAttributes.{AddsEntry};
+ghost use Rattle.justfile_parse_attribute.specs.Attributes.{arguments_of, entry_of_pair};
+ghost use Rattle.justfile_parse_attribute.specs.Labels.{AreKnown, AreSame, prop_known};
+ghost use Rattle.justfile_parse_attribute.specs.WholeAttributes.{KeepsWholePairs};
+ghost use Rattle.justfile_tree.specs.LeafSight.{sees_leaves};
+ghost use Rattle.justfile_written.specs.Written.{line_commented};
+
+use crate::arguments::Arguments;
+use crate::labels::Labels;
+use crate::new_attribute::push_made;
+use crate::repeated::check_last;
+use justfile_attribute::Attribute;
+use justfile_base::{AttributeKind, CompileResult, Name};
+use justfile_written::{Written, comment_last};
+use std::alloc::Global;
+
+/// The attributes that were read, none of which excludes another, with where each label is first.
+#[derive(Drop)]
+pub(crate) struct ReadAttributes<'src> {
+    /// The attributes, each with its name and its comment.
+    pub(crate) pairs: Vec<(Attribute<'src>, Written<'src>)>,
+    pub(crate) labels: Labels,
+    ghost known: { AreKnown labels (map entry_of_pair pairs.items) } by { prop_known labels (map entry_of_pair pairs.items) },
+}
+
+impl<'src> ReadAttributes<'src> {
+    ghost use Rattle.std.specs.Prelude.{◌≡◌, [], OnOk, map};
+    ghost use Rattle.justfile_model.specs.Meaning.{by_key, by_position};
+    ghost use Rattle.justfile_model.specs.NewAttribute.{new_entry};
+    ghost use Rattle.justfile_parse_attribute.specs.AddedAttributes.{AddsEntry};
+    ghost use Rattle.justfile_parse_attribute.specs.Attributes.{arguments_of, entry_of_pair};
+    ghost use Rattle.justfile_parse_attribute.specs.WholeAttributes.{KeepsWholePairs};
+    ghost use Rattle.justfile_tree.specs.LeafSight.{sees_leaves};
+    ghost use Rattle.justfile_written.specs.Written.{line_commented};
+
+    /// No attributes.
+    #[tactic(auto, using(crate::proofs::KnownLabels::none_known))]
+    pub(crate) fn new(alloc: Global) -> Self
+        ensures { result.pairs.items ≡ [] }
+    {
+        ReadAttributes {
+            pairs: Vec::new(alloc),
+            labels: Labels::new(alloc),
+        }
+    }
+
+    /// Makes an attribute of its arguments, and adds it to those before it.
+    ///
+    /// # Errors
+    ///
+    /// `Compile` if a rule is broken; `Memory` if memory runs out.
+    #[tactic(auto, using(crate::proofs::KnownLabels::still_known))]
+    pub(crate) fn push(
+        &mut self,
+        alloc: Global,
+        name: Name<'src>,
+        kind: AttributeKind,
+        arguments: Arguments<'src>,
+    ) -> CompileResult<'src>
+        ensures added { AddsEntry result (new_entry sees_leaves (map entry_of_pair self.old.pairs.items) name.entry.token kind
+            (by_position (arguments_of arguments.entry)) (by_key (arguments_of arguments.entry))) name.entry self.old.pairs.items self.new.pairs.items }
+        ensures whole { OnOk result (KeepsWholePairs self.old.pairs.items self.new.pairs.items) }
+    {
+        let count = self.pairs.len();
+        match push_checked(
+            alloc,
+            &mut self.labels,
+            &mut self.pairs,
+            name,
+            kind,
+            arguments,
+        ) {
+            Ok(()) => Ok(()),
+            Err(fault) => {
+                self.pairs.truncate(count);
+                Err(fault)
+            }
+        }
+    }
+
+    /// Gives the comment after a line of attributes, if there is one, to the last of them.
+    #[tactic(auto, using(crate::proofs::KnownLabels::commented_known))]
+    pub(crate) fn add_comment(&mut self, comment: Option<&'src str>)
+        ensures { self.new.pairs.items ≡ line_commented comment.entry self.old.pairs.items }
+    {
+        comment_pairs(&mut self.pairs, comment);
+    }
+
+    /// The attributes, each with its name and its comment.
+    pub(crate) fn into_pairs(self) -> Vec<(Attribute<'src>, Written<'src>)>
+        ensures { result.items ≡ self.entry.pairs.items }
+    {
+        let ReadAttributes { pairs, labels: _ } = self;
+        pairs
+    }
+}
+
+/// Makes an attribute of its arguments, and adds it to those before it, whose labels are known.
+///
+/// # Errors
+///
+/// `Compile` if a rule is broken; `Memory` if memory runs out.
+#[tactic(auto, using(crate::proofs::KnownLabels::known_before, crate::proofs::AttributeSteps::entry_checked, crate::proofs::AttributeSteps::entry_refused, crate::proofs::KnownLabels::begins_added, crate::proofs::KnownLabels::begins_same, crate::proofs::KnownLabels::labels_same))]
+fn push_checked<'src>(
+    alloc: Global,
+    labels: &mut Labels,
+    pairs: &mut Vec<(Attribute<'src>, Written<'src>)>,
+    name: Name<'src>,
+    kind: AttributeKind,
+    arguments: Arguments<'src>,
+) -> CompileResult<'src>
+    requires { AreKnown labels.old (map entry_of_pair pairs.old.items) }
+    ensures added { AddsEntry result (new_entry sees_leaves (map entry_of_pair pairs.old.items) name.entry.token kind
+        (by_position (arguments_of arguments.entry)) (by_key (arguments_of arguments.entry))) name.entry pairs.old.items pairs.new.items }
+    ensures whole { OnOk result (KeepsWholePairs pairs.old.items pairs.new.items) }
+    ensures known { OnOk result (AreKnown labels.new (map entry_of_pair pairs.new.items)) }
+    ensures kept { OnErr result (AreSame labels.old labels.new) }
+    ensures begins { take (length pairs.old.items) pairs.new.items ≡ pairs.old.items }
+{
+    match push_made(alloc, pairs, name, kind, arguments) {
+        Ok(()) => check_last(alloc, labels, pairs.as_slice()),
+        Err(fault) => Err(fault),
+    }
+}
+
+/// Gives a comment, if there is one, to the last attribute.
+fn comment_pairs<'src>(
+    pairs: &mut Vec<(Attribute<'src>, Written<'src>)>,
+    comment: Option<&'src str>,
+)
+    ensures { pairs.new.items ≡ line_commented comment.entry pairs.old.items }
+{
+    comment_last(pairs.as_mut_slice(), comment);
+}

@@ -1,0 +1,247 @@
+//! Whether an attribute may stand after others of its item.
+ghost use Rattle.std.specs.Prelude.{◌≡◌, ◌∷◌, ◌++◌, [], false, None, OnErr, OnOk, map, string_bytes};
+ghost use Rattle.justfile_attribute.specs.Attribute.{leaf_attribute_of};
+ghost use Rattle.justfile_attribute_rules.specs.Made.{IsRefusedBy, Makes};
+ghost use Rattle.justfile_base.specs.declared.token.Token.{Token};
+ghost use Rattle.justfile_model.specs.AttributeKinds.{is_repeatable, same_attribute};
+ghost use Rattle.justfile_model.specs.AttributeRules.{excludes, label_of};
+ghost use Rattle.justfile_model.specs.ContentKeys.{kind_of_attribute};
+ghost use Rattle.justfile_model.specs.ContentLeaf.{literal_value};
+ghost use Rattle.justfile_model.specs.NewAttribute as new;
+ghost use Rattle.justfile_model.specs.NewAttribute.{check_repeated};
+ghost use Rattle.justfile_model.specs.Rules.{DuplicateArgAttribute, DuplicateAttribute, DuplicateGroupAttribute};
+ghost use Rattle.justfile_parse_attribute.specs.AddedAttributes.{ChecksLast};
+ghost use Rattle.justfile_parse_attribute.specs.Attributes.{entry_of_pair};
+ghost use Rattle.justfile_parse_attribute.specs.Labels.{AreKnown, AreKnownBefore, AreSame, ChecksLabel, IsLabelNoted, label_rule};
+ghost use Rattle.justfile_tree.specs.Content.{literal_content};
+ghost use Rattle.justfile_tree.specs.LeafSight.{sees_leaves};
+ghost use Rattle.justfile_word.specs.declared.attribute_kind.AttributeKind.TheVariants.{Arg};
+
+use crate::labels::{Labels, label};
+use justfile_attribute::Attribute;
+use justfile_base::{AttributeKind, CompileErrorKind, CompileResult, Fault, Name, StringLiteral};
+use justfile_written::Written;
+use std::alloc::Global;
+
+/// Refuses the last attribute if it may not stand after those before it, whose labels are known.
+/// Else its label becomes known.
+///
+/// # Errors
+///
+/// `Compile` at its name; `Memory` if memory runs out.
+#[tactic(auto, using(crate::proofs::RepeatedAttributes::checks_last, crate::proofs::RepeatedAttributes::checks_none, crate::proofs::KnownLabels::before_known, crate::proofs::KnownLabels::last_known, crate::proofs::KnownLabels::no_last))]
+pub(crate) fn check_last<'src>(
+    alloc: Global,
+    labels: &mut Labels,
+    attributes: &[(Attribute<'src>, Written<'src>)],
+) -> CompileResult<'src>
+    requires { AreKnownBefore labels.old attributes.now }
+    ensures checks { ChecksLast result attributes.now }
+    ensures known { OnOk result (AreKnown labels.new (map entry_of_pair attributes.now)) }
+    ensures kept { OnErr result (AreSame labels.old labels.new) }
+{
+    match attributes.split_last() {
+        Some((last, before)) => check_next(alloc, labels, before, &last.0, last.1),
+        None => Ok(()),
+    }
+}
+
+/// Refuses an attribute that may not stand after others, whose labels are known. Else its label
+/// becomes known.
+///
+/// # Errors
+///
+/// `Compile` at its name; `Memory` if memory runs out.
+#[tactic(auto, using(crate::proofs::KnownLabels::bare_known, crate::proofs::KnownLabels::labels_same, crate::proofs::KnownLabels::label_known, crate::proofs::KnownLabels::label_checked))]
+fn check_next<'src>(
+    alloc: Global,
+    labels: &mut Labels,
+    before: &[(Attribute<'src>, Written<'src>)],
+    attribute: &Attribute<'src>,
+    written: Written<'src>,
+) -> CompileResult<'src>
+    requires { AreKnown labels.old (map entry_of_pair before.now) }
+    ensures checks { Makes (λ _. tt) result (check_repeated sees_leaves (map entry_of_pair before.now) (entry_of_pair (attribute.now, written.entry))) }
+    ensures known { OnOk result (AreKnown labels.new (map entry_of_pair before.now ++ entry_of_pair (attribute.now, written.entry) ∷ [])) }
+    ensures kept { OnErr result (AreSame labels.old labels.new) }
+{
+    match label(attribute) {
+        None => check_kind(before, attribute, written),
+        Some(literal) => {
+            let is_arg = is_argument(attribute);
+            check_label(alloc, labels, is_arg, literal, written.name)
+        }
+    }
+}
+
+/// Refuses an `arg` or else a `group` whose label is known. Else its label becomes known.
+///
+/// # Errors
+///
+/// `Compile` at its name; `Memory` if memory runs out.
+#[tactic(auto, using(crate::proofs::KnownLabels::memory_checked))]
+fn check_label<'src>(
+    alloc: Global,
+    labels: &mut Labels,
+    is_arg: bool,
+    literal: &StringLiteral<'src>,
+    name: Name<'src>,
+) -> CompileResult<'src>
+    ensures checks { ChecksLabel is_arg literal.now name.entry.token labels.old result }
+    ensures noted { OnOk result (IsLabelNoted is_arg (string_bytes literal.now.cooked) name.entry.token.line labels.old labels.new) }
+    ensures kept { OnErr result (AreSame labels.old labels.new) }
+{
+    match find_label(alloc, labels, is_arg, literal, name) {
+        Ok(()) => {
+            labels.note(alloc, is_arg, literal.cooked.as_str(), name.line)?;
+            Ok(())
+        }
+        Err(fault) => Err(fault),
+    }
+}
+
+/// Refuses an `arg` or else a `group` whose label is known.
+///
+/// # Errors
+///
+/// `Compile` at its name; `Memory` if memory runs out.
+fn find_label<'src>(
+    alloc: Global,
+    labels: &Labels,
+    is_arg: bool,
+    literal: &StringLiteral<'src>,
+    name: Name<'src>,
+) -> CompileResult<'src>
+    ensures { ChecksLabel is_arg literal.now name.entry.token labels.now result }
+{
+    match labels.find(is_arg, literal.cooked.as_str()) {
+        None => Ok(()),
+        Some(line) => Err(repeated_label(alloc, is_arg, literal, name, line)),
+    }
+}
+
+/// The refusal of another `arg` or else `group` with the label of one on this line.
+fn repeated_label<'src>(
+    alloc: Global,
+    is_arg: bool,
+    literal: &StringLiteral<'src>,
+    name: Name<'src>,
+    line: usize,
+) -> Fault<'src>
+    ensures { (first : Token) → first.line ≡ line → IsRefusedBy (new.refuse {X = Unit {0}} (label_rule is_arg literal.now first) name.entry.token) result }
+{
+    if is_arg {
+        repeated_argument(alloc, literal, name, line)
+    } else {
+        repeated_group(alloc, literal, name, line)
+    }
+}
+
+/// The refusal of another `arg` of the argument of one on this line.
+fn repeated_argument<'src>(
+    alloc: Global,
+    argument: &StringLiteral<'src>,
+    name: Name<'src>,
+    line: usize,
+) -> Fault<'src>
+    ensures { (first : Token) → first.line ≡ line
+        → IsRefusedBy (new.refuse {X = Unit {0}} (DuplicateArgAttribute (string_bytes argument.now.cooked) first) name.entry.token) result }
+{
+    match argument.cooked.as_str().to_string(alloc) {
+        Ok(arg) => Fault::Compile(name.error(CompileErrorKind::DuplicateArgAttribute {
+            arg,
+            first: line,
+        })),
+        Err(_) => Fault::Memory,
+    }
+}
+
+/// The refusal of another `group` of the name of one on this line.
+#[tactic(auto, using(crate::proofs::RepeatedAttributes::copied_value))]
+fn repeated_group<'src>(
+    alloc: Global,
+    literal: &StringLiteral<'src>,
+    name: Name<'src>,
+    line: usize,
+) -> Fault<'src>
+    ensures { (first : Token) → first.line ≡ line
+        → IsRefusedBy (new.refuse {X = Unit {0}} (DuplicateGroupAttribute (literal_value (literal_content literal.now)) literal.now.token first) name.entry.token) result }
+{
+    match literal.clone(alloc) {
+        Ok(group) => Fault::Compile(name.error(CompileErrorKind::DuplicateGroupAttribute {
+            first: line,
+            group,
+        })),
+        Err(_) => Fault::Memory,
+    }
+}
+
+/// Whether it is an `arg`.
+#[tactic(auto, using(justfile_attribute::proofs::Ordered::kind_seen), unfolding(justfile_model::specs::AttributeKinds::same_attribute))]
+fn is_argument(attribute: &Attribute<'_>) -> bool
+    ensures { result ≡ same_attribute (kind_of_attribute (leaf_attribute_of attribute.now)) Arg }
+{
+    attribute.kind() == AttributeKind::Arg
+}
+
+/// Refuses an attribute without a label that may not stand after others.
+///
+/// # Errors
+///
+/// `Compile` at its name.
+#[tactic(auto, using(crate::proofs::KnownLabels::repeatable_checked, justfile_attribute::proofs::Ordered::kind_seen))]
+fn check_kind<'src>(
+    before: &[(Attribute<'src>, Written<'src>)],
+    attribute: &Attribute<'src>,
+    written: Written<'src>,
+) -> CompileResult<'src>
+    requires { label_of sees_leaves (leaf_attribute_of attribute.now) ≡ None }
+    ensures { Makes (λ _. tt) result (check_repeated sees_leaves (map entry_of_pair before.now) (entry_of_pair (attribute.now, written.entry))) }
+{
+    if attribute.repeatable() {
+        return Ok(());
+    }
+    check_once(before, attribute, written)
+}
+
+/// Refuses an attribute of a kind that may stand once, after one of its kind.
+///
+/// # Errors
+///
+/// `Compile` at its name.
+#[tactic(auto, using(crate::proofs::RepeatedAttributes::repeated_later, crate::proofs::RepeatedAttributes::repeated_here, crate::proofs::RepeatedAttributes::repeated_end, crate::proofs::RepeatedAttributes::other_rule))]
+fn check_once<'src>(
+    before: &[(Attribute<'src>, Written<'src>)],
+    attribute: &Attribute<'src>,
+    written: Written<'src>,
+) -> CompileResult<'src>
+    requires label { label_of sees_leaves (leaf_attribute_of attribute.now) ≡ None }
+    requires once { is_repeatable (kind_of_attribute (leaf_attribute_of attribute.now)) ≡ false }
+    ensures { Makes (λ _. tt) result (check_repeated sees_leaves (map entry_of_pair before.now) (entry_of_pair (attribute.now, written.entry))) }
+{
+    for earlier in before {
+        if is_same_kind(&earlier.0, attribute) {
+            return Err(repeated_kind(written.name, earlier.1.name));
+        }
+    }
+    Ok(())
+}
+
+/// Whether an attribute is of the kind of one that may stand once.
+#[tactic(auto, using(justfile_attribute::proofs::Ordered::kind_seen, crate::proofs::KnownLabels::excludes_kind), unfolding(justfile_model::specs::AttributeKinds::same_attribute))]
+fn is_same_kind(first: &Attribute<'_>, second: &Attribute<'_>) -> bool
+    requires { is_repeatable (kind_of_attribute (leaf_attribute_of second.now)) ≡ false }
+    ensures { result ≡ excludes sees_leaves (leaf_attribute_of first.now) (leaf_attribute_of second.now) }
+{
+    first.kind() == second.kind()
+}
+
+/// The refusal of another attribute of a kind that may stand once.
+fn repeated_kind<'src>(name: Name<'src>, first: Name<'src>) -> Fault<'src>
+    ensures { IsRefusedBy (new.refuse {X = Unit {0}} (DuplicateAttribute name.entry.token first.entry.token) name.entry.token) result }
+{
+    Fault::Compile(name.error(CompileErrorKind::DuplicateAttribute {
+        attribute: name,
+        first: first.line,
+    }))
+}

@@ -1,0 +1,80 @@
+-- Reading the branches of a conditional, as a loop does.
+use Rattle.std.proofs.Common.{◌≡◌, List, [], ◌∷◌, ◌++◌, Option, Some, None, Ok, Err, codes, refl, sym, ap, ◌∙◌}
+use Rattle.justfile_model.specs.ExpressionReader as expressions
+use Rattle.justfile_model.specs.ExpressionReader.{closed}
+use Rattle.justfile_model.specs.Reading.{◌>>=◌, choose}
+use Rattle.justfile_model.specs.Tree as t
+use Rattle.justfile_model.specs.declared.level.Level.TheVariants.{Conjunct}
+use Rattle.justfile_parse_expression.specs.Chains.{BranchTree, ElseIf, End, Tree, branch, branches, last_branch, link_of, row_closed, row_tree}
+use Rattle.justfile_parse_expression.specs.TableReader as r
+use Rattle.justfile_parse_expression.specs.TableReader.{Read, ReadExpr, Refusal, State, accept_word, braced, condition, leaves, read}
+use Rattle.justfile_parse_expression.specs.MethodResults.{StopsAt, literal_refusal, refusal_at}
+use Rattle.justfile_parse_expression.specs.declared.expression.Link.{Link}
+use Rattle.justfile_parse_expression.specs.declared.significant.TableEntry.{TableEntry}
+use Rattle.justfile_parse_expression.specs.declared.stop.Stop.{Stop}
+use Rattle.justfile_parse_expression.specs.declared.stop.Stop.TheVariants.{Refused, Literal, Memory, Numbers}
+use Rattle.justfile_parse_expression.proofs.Chains.{regroup, with_row}
+use Rattle.justfile_parse_expression.proofs.Rules as rules
+use Rattle.justfile_parse_expression.proofs.Rules.{bind_alike, bound, then_made}
+
+abbrev Taken : Type 0
+Taken = Option (TableEntry × State)
+
+-- what goes on after a branch
+abbrev pub after : BranchTree × State → ReadExpr
+after (End e, s) = Ok (e, s)
+after (ElseIf make word, s) = branches make word s
+
+end_after : (c b : Tree) (found : ReadExpr) → (found >>= then_made (t.IfElse c b)) ≡ ((found >>= λ o. Ok (End (t.IfElse c b o.0), o.1)) >>= after)
+end_after c b (Ok o) = refl
+end_after c b (Err f) = refl
+
+else_after : (c b : Tree) (o : Taken) (x : ReadExpr)
+    → (choose {X = ReadExpr} o x (λ i. read (r.Conditional i.0 i.1)) >>= then_made (t.IfElse c b))
+    ≡ (choose {X = Read BranchTree} o (x >>= λ o. Ok (End (t.IfElse c b o.0), o.1)) (λ i. Ok (ElseIf (t.IfElse c b) i.0, i.1)) >>= after)
+unfolding branches
+else_after c b None x = end_after c b x
+else_after c b (Some i) x = refl
+
+choose_after : (o : Taken) (x : ReadExpr) (y : Read BranchTree) (f : TableEntry × State → ReadExpr) (g : TableEntry × State → Read BranchTree)
+    → x ≡ (y >>= after) → ((e : TableEntry × State) → f e ≡ (g e >>= after)) → choose {X = ReadExpr} o x f ≡ (choose {X = Read BranchTree} o y g >>= after)
+choose_after None x y f g none some = none
+choose_after (Some e) x y f g none some = some e
+
+-- a conditional is a branch, and what goes on after it
+pub conditional_is : (w : TableEntry) (s : State) → read (r.Conditional w s) ≡ (branch w s >>= after)
+unfolding expressions.conditional_rule expressions.otherwise_rule branch last_branch leaves
+conditional_is w s =
+    rules.conditional_is w s
+    ∙ bind_alike (condition s) _ _ (λ c.
+    bind_alike (braced c.1) _ _ (λ b.
+    choose_after (accept_word (codes "else") b.1) _ _ _ _ refl (λ e.
+    else_after c.0 b.0 (accept_word (codes "if") e.1) (last_branch e.1)))
+    ∙ bound (braced c.1) _ after)
+    ∙ bound (condition s) _ after
+
+-- ---- the loop
+
+module _ (w : TableEntry) (s : State) (ls : List Link) (l : Link) where
+  pub goes_on : (next : Link) (word : TableEntry) (rest : State) → branch w s ≡ Ok (ElseIf (link_of next) word, rest)
+      → with_row Conjunct (ls ++ l ∷ []) (branches (link_of next) word rest) ≡ with_row Conjunct ls (branches (link_of l) w s)
+  unfolding branches
+  goes_on next word rest h =
+      let one : read (r.Conditional w s) ≡ branches (link_of next) word rest = rw (conditional_is w s, h) refl in
+      regroup Conjunct ls l (branches (link_of next) word rest) ∙ sym (ap (λ (found : ReadExpr). with_row Conjunct ls (found >>= then_made (link_of l))) one)
+
+  pub ends : (e : Tree) (rest : State) → branch w s ≡ Ok (End e, rest)
+      → with_row Conjunct ls (branches (link_of l) w s) ≡ Ok (row_tree ls (link_of l e), row_closed Conjunct ls (closed Conjunct (closed Conjunct rest)))
+  unfolding branches
+  ends e rest h = rw (conditional_is w s, h) refl
+
+  fails : (f : Refusal) → branch w s ≡ Err f → with_row Conjunct ls (branches (link_of l) w s) ≡ Err f
+  unfolding branches
+  fails f h = rw (conditional_is w s, h) refl
+
+  -- where a branch stops, the conditional does
+  pub stops : (stop : Stop) (left : State) (found : ReadExpr) → with_row Conjunct ls (branches (link_of l) w s) ≡ found → StopsAt stop left ⊥ (branch w s) → StopsAt stop left ⊥ found
+  stops (Refused refusal) left found is h = sym is ∙ fails (refusal_at refusal left) h
+  stops (Literal refused) left found is h = sym is ∙ fails (literal_refusal refused.value.error) h
+  stops Memory left found is h = tt
+  stops Numbers left found is h = absurd h

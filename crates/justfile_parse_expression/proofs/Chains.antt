@@ -1,0 +1,127 @@
+-- Reading a row, as a loop does.
+use Rattle.std.proofs.Common.{◌≡◌, false, List, [], ◌∷◌, ◌++◌, Option, Some, None, Ok, Err, refl, sym, ap, ◌∙◌, codes}
+use Rattle.justfile_word.specs.declared.token_kind.TokenKind.TheVariants as kinds
+use Rattle.justfile_model.specs.ExpressionReader as expressions
+use Rattle.justfile_model.specs.ExpressionReader.{closed, opened}
+use Rattle.justfile_model.specs.Operators.{right}
+use Rattle.justfile_model.specs.Tree as t
+use Rattle.justfile_model.specs.Reading.{◌>>=◌, choose}
+use Rattle.justfile_model.specs.declared.level.Level.{Level}
+use Rattle.justfile_model.specs.declared.level.Level.TheVariants.{Expression, Disjunct, Compared, Conjunct, Value}
+use Rattle.justfile_model.specs.declared.operator.Operator.{Operator}
+use Rattle.justfile_parse_expression.specs.Chains.{StepTree, Last, Next, Tree, link, link_by, link_of, operand_step, row, row_closed, row_tree, step}
+use Rattle.justfile_parse_expression.specs.TableReader as r
+use Rattle.justfile_parse_expression.specs.TableReader.{At, Read, ReadExpr, Refusal, State, accept, accept_operator, accept_word, enter, is_within, leaves, operation, read, value}
+use Rattle.justfile_parse_expression.specs.MethodResults.{StopsAt, literal_refusal, refusal_at}
+use Rattle.justfile_parse_expression.specs.declared.expression.Link.{Link}
+use Rattle.justfile_parse_expression.specs.declared.significant.TableEntry.{TableEntry}
+use Rattle.justfile_parse_expression.specs.declared.stop.Stop.{Stop}
+use Rattle.justfile_parse_expression.specs.declared.stop.Stop.TheVariants.{Refused, Literal, Memory, Numbers}
+use Rattle.justfile_model.proofs.ExpressionReading as laws
+use Rattle.justfile_parse_expression.proofs.Operators.{conjunct_is, opened_by}
+use Rattle.justfile_parse_expression.proofs.Rules.{bind_alike, bound}
+
+-- ---- what was read before, and what is still read
+
+abbrev pub with_row : Level → List Link → ReadExpr → ReadExpr
+with_row k ls found = found >>= λ e. Ok (row_tree ls e.0, row_closed k ls e.1)
+
+pub row_pushed : (ls : List Link) (l : Link) (e : Tree) → row_tree (ls ++ l ∷ []) e ≡ row_tree ls (link_of l e)
+row_pushed [] l e = refl
+row_pushed (x ∷ ls) l e = ap (link_of x) (row_pushed ls l e)
+
+pub closed_pushed : (k : Level) (ls : List Link) (l : Link) (s : State) → row_closed k (ls ++ l ∷ []) s ≡ row_closed k ls (closed k s)
+closed_pushed k [] l s = refl
+closed_pushed k (x ∷ ls) l s = ap (λ (s : State). closed k s) (closed_pushed k ls l s)
+
+pub regroup : (k : Level) (ls : List Link) (l : Link) (found : ReadExpr) → with_row k (ls ++ l ∷ []) found ≡ with_row k ls (found >>= λ e. Ok (link_of l e.0, closed k e.1))
+regroup k ls l (Ok x) = rw (row_pushed ls l x.0, closed_pushed k ls l x.1) refl
+regroup k ls l (Err f) = refl
+
+-- nothing is read yet
+pub begins : (k : Level) (found : ReadExpr) → with_row k [] found ≡ found
+begins k (Ok x) = refl
+begins k (Err f) = refl
+
+-- ---- a step, and what goes on after it
+
+abbrev after : Level → StepTree × State → ReadExpr
+after k (Last e, s) = Ok (e, closed k s)
+after k (Next make, s) = row k make s
+
+link_after : (k : Level) (l : Tree × State) (o : Option (Operator × TableEntry × State)) → expressions.binary_tail leaves read k false l o ≡ (link_by false l o >>= after k)
+unfolding leaves row
+link_after k l None = refl
+link_after k l (Some op) = refl
+
+operand_after : (k : Level) (found : ReadExpr) → (found >>= operation k false) ≡ ((found >>= link k) >>= after k)
+unfolding operation link
+operand_after k (Ok l) = link_after k l (accept_operator k l.1)
+operand_after k (Err f) = refl
+
+last_after : (k : Level) (found : ReadExpr) → ((s : State) → closed k s ≡ s) → found ≡ ((found >>= λ e. Ok (Last e.0, e.1)) >>= after k)
+last_after k (Ok e) h = ap (λ (s : State). Ok (e.0, s)) (sym (h e.1))
+last_after k (Err f) h = refl
+
+slash_after : (o : Option (TableEntry × State)) (x : ReadExpr) (y : Read StepTree) → x ≡ (y >>= after Conjunct)
+    → choose {X = ReadExpr} o x (λ op. row Conjunct (t.Root op.0.token.now) op.1)
+    ≡ (choose {X = Read StepTree} o y (λ op. Ok (Next (t.Root op.0.token.now), op.1)) >>= after Conjunct)
+slash_after None x y h = h
+slash_after (Some op) x y h = refl
+
+if_after : (o : Option (TableEntry × State)) (x : ReadExpr) (y : Read StepTree) → x ≡ (y >>= after Conjunct)
+    → choose {X = ReadExpr} o x (λ w. read (r.Conditional w.0 w.1))
+    ≡ (choose {X = Read StepTree} o y (λ w. read (r.Conditional w.0 w.1) >>= λ e. Ok (Last e.0, e.1)) >>= after Conjunct)
+if_after None x y h = h
+if_after (Some w) x y h = last_after Conjunct (read (r.Conditional w.0 w.1)) (λ s. refl)
+
+conjunct_after : (s : State) → read (At Conjunct false s) ≡ (operand_step s >>= after Conjunct)
+unfolding operand_step
+conjunct_after s = conjunct_is false s ∙ if_after (accept_word (codes "if") s) _ _ (slash_after (accept kinds.Slash s) _ _ (operand_after Conjunct (value s)))
+
+disjunct_after : (s : State) → read (At Disjunct false s) ≡ (step Disjunct s >>= after Disjunct)
+unfolding expressions.binary_rule operation enter step
+disjunct_after s = laws.level_is leaves Disjunct false s ∙ operand_after Disjunct (read (At Compared false s))
+
+expression_after : (s : State) → read (At Expression false s) ≡ (step Expression s >>= after Expression)
+unfolding expressions.binary_rule operation enter leaves step
+expression_after s =
+    laws.level_is leaves Expression false s
+    ∙ opened_by (is_within Expression s) (opened Expression s) _ (λ o. read (At Disjunct false o) >>= operation Expression false)
+    ∙ bind_alike (enter Expression s) _ _ (λ o. operand_after Expression (read (At Disjunct false o.1)))
+    ∙ bound (enter Expression s) (λ o. read (At Disjunct false o.1) >>= link Expression) (after Expression)
+
+-- the right side of an operator is a step, and what goes on after it
+right_is : (k : Level) (s : State) → read (At (right k) false s) ≡ (step k s >>= after k)
+unfolding step
+right_is Expression s = expression_after s
+right_is Disjunct s = disjunct_after s
+right_is Compared s = last_after Compared (read (At Conjunct false s)) (λ s. refl)
+right_is Conjunct s = conjunct_after s
+right_is Value s = laws.level_is leaves Value false s ∙ last_after Value (value s) (λ s. refl)
+
+-- ---- the loop
+
+module _ (k : Level) (s : State) (ls : List Link) (l : Link) where
+  pub goes_on : (next : Link) (rest : State) → step k s ≡ Ok (Next (link_of next), rest)
+      → with_row k (ls ++ l ∷ []) (row k (link_of next) rest) ≡ with_row k ls (row k (link_of l) s)
+  unfolding row
+  goes_on next rest h =
+      let one : read (At (right k) false s) ≡ row k (link_of next) rest = rw (right_is k s, h) refl in
+      regroup k ls l (row k (link_of next) rest) ∙ sym (ap (λ (found : ReadExpr). with_row k ls (found >>= λ e. Ok (link_of l e.0, closed k e.1))) one)
+
+  pub ends : (e : Tree) (rest : State) → step k s ≡ Ok (Last e, rest)
+      → with_row k ls (row k (link_of l) s) ≡ Ok (row_tree ls (link_of l e), row_closed k ls (closed k (closed k rest)))
+  unfolding row
+  ends e rest h = rw (right_is k s, h) refl
+
+  fails : (f : Refusal) → step k s ≡ Err f → with_row k ls (row k (link_of l) s) ≡ Err f
+  unfolding row
+  fails f h = rw (right_is k s, h) refl
+
+  -- where a step stops, the row does
+  pub stops : (stop : Stop) (left : State) (found : ReadExpr) → with_row k ls (row k (link_of l) s) ≡ found → StopsAt stop left ⊥ (step k s) → StopsAt stop left ⊥ found
+  stops (Refused refusal) left found is h = sym is ∙ fails (refusal_at refusal left) h
+  stops (Literal refused) left found is h = sym is ∙ fails (literal_refusal refused.value.error) h
+  stops Memory left found is h = tt
+  stops Numbers left found is h = absurd h

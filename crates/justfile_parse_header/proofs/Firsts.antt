@@ -1,0 +1,186 @@
+-- The first attribute that speaks of each name.
+use Rattle.std.proofs.Common.{◌≡◌, ◌∙◌, ℕ, All, Bool, Bor, true, false, cond, List, [], ◌∷◌, map, OnOk, Option, Result, Some, None, Ok, Err, refl, sym, ap, subst}
+use Rattle.std.proofs.lemmas.List.Elements.{All-head}
+use Rattle.std.proofs.lemmas.Map.Text.{btree_map_updates_str}
+use Rattle.std.proofs.lemmas.Slice.Eq.{bytes_eq-Decides}
+use Rattle.std.specs.BTreeMap.{UpdatesBy, is_at}
+use Rattle.std.specs.BTreeSet.{BTreeSet}
+use Rattle.std.specs.Cmp.Lexicographic.{slice_cmp}
+use Rattle.std.specs.List.{list_any}
+use Rattle.std.specs.Map.{lookup}
+use Rattle.std.specs.Option.{is_some, option_map, option_or}
+use Rattle.std.specs.Ordering.{nat_cmp}
+use Rattle.std.specs.Str.{bytes_eq}
+use Rattle.justfile_attribute.specs.Attribute.{leaf_attribute_of}
+use Rattle.justfile_attribute.specs.declared.attribute.Attribute.{Attribute}
+use Rattle.justfile_attribute_set.specs.Keys.{firsts}
+use Rattle.justfile_attribute_set.specs.Pairs.{Pair, leaf_entry_of}
+use Rattle.justfile_base.specs.Token.{lexeme_of}
+use Rattle.justfile_base.specs.declared.token.Token.{Token}
+use Rattle.justfile_header.specs.declared.parameter.Parameter.{Parameter}
+use Rattle.justfile_model.specs.AttributeRules.{arg_rules, rules_in}
+use Rattle.justfile_model.specs.RecipeRules.{rules_for}
+use Rattle.justfile_parse_attribute.specs.KeyedBounds.{AreKeyed, IsKeyed}
+use Rattle.justfile_parse_attribute.specs.TextSets.{texts_in}
+use Rattle.justfile_parse_header.specs.Arguments.{AreNames, IsKeyedOption, is_of, said_by, speaks_of}
+use Rattle.justfile_parse_header.specs.HeaderTable.{Rules}
+use Rattle.justfile_parse_header.specs.SpokenNames.{AreFirsts, Firsts, IsPut, IsPutAt, attribute_at, first_at}
+use Rattle.justfile_parse_header.specs.Tree.{parameter_tree}
+use Rattle.justfile_parse_header.proofs.ReadNames.{among_names}
+use Rattle.justfile_parse_header.proofs.Spoken.{keyed_rest, rules_left, speaks_begins, speaks_here, speaks_later}
+use Rattle.justfile_tree.specs.LeafSight.{sees_leaves}
+use Rattle.justfile_tree.specs.LeafTree.{Named}
+
+-- ---- one that is put
+
+or_none : {X : Type 0} (o : Option X) → o ≡ option_or o None
+or_none None = refl
+or_none (Some x) = refl
+
+-- nothing is put where another one is there
+pub taken_put : (text : List ℕ) (a : Attribute) (old : Firsts) → is_some (first_at old text) ≡ true → IsPutAt text a old old
+unfolding IsPutAt
+taken_put text a old taken name = go (bytes_eq text name) refl
+  where
+    there : (o : Option (Bor Attribute)) (put : Option Attribute) → is_some o ≡ true → option_map (λ (a : Bor Attribute). a.now) o ≡ option_or (option_map (λ (a : Bor Attribute). a.now) o) put
+    there None put e = absurd cc
+    there (Some b) put e = refl
+
+    go : (b : Bool) → bytes_eq text name ≡ b → attribute_at old name ≡ option_or (attribute_at old name) (cond b (Some a) None)
+    go true same = there (first_at old name) (Some a) (subst (λ t. is_some (first_at old t) ≡ true) ((bytes_eq-Decides text name).0 same) taken)
+    go false apart = or_none (attribute_at old name)
+
+-- one that is put where none is
+pub free_put : (text : List ℕ) (a : Bor Attribute) (old new : Firsts) → is_some (first_at old text) ≡ false
+    → UpdatesBy (λ (x y : Bor (List ℕ)). slice_cmp nat_cmp x.now y.now) (λ (k : Bor (List ℕ)). slice_cmp nat_cmp text k.now) old new (Some a) → IsPutAt text a.now old new
+unfolding IsPutAt
+free_put text a old new free updates name =
+    ap (option_map (λ (b : Bor Attribute). b.now)) (btree_map_updates_str text old new (Some a) updates name) ∙ go (bytes_eq text name) refl
+  where
+    none : (o : Option (Bor Attribute)) → is_some o ≡ false → Some a.now ≡ option_or (option_map (λ (b : Bor Attribute). b.now) o) (Some a.now)
+    none None e = refl
+    none (Some b) e = absurd cc
+
+    go : (b : Bool) → bytes_eq text name ≡ b
+        → option_map (λ (b : Bor Attribute). b.now) (cond b (Some a) (first_at old name)) ≡ option_or (attribute_at old name) (cond b (Some a.now) None)
+    go true same = none (first_at old name) (subst (λ t. is_some (first_at old t) ≡ false) ((bytes_eq-Decides text name).0 same) free)
+    go false apart = or_none (attribute_at old name)
+
+-- it is put at the name of which it speaks
+spoken_put : (text : List ℕ) (a : Attribute) (old new : Firsts) → ((name : List ℕ) → bytes_eq text name ≡ is_of name (leaf_attribute_of a)) → IsPutAt text a old new → IsPut a old new
+unfolding IsPutAt IsPut
+spoken_put text a old new same h name = h name ∙ ap (λ b. option_or (attribute_at old name) (cond b (Some a) None)) (same name)
+
+pub then_put : {E : Type 0} (text : List ℕ) (a : Attribute) (old new : Firsts) → ((name : List ℕ) → bytes_eq text name ≡ is_of name (leaf_attribute_of a))
+    → (result : Result (Unit {0}) E) → OnOk result (IsPutAt text a old new) → OnOk result (IsPut a old new)
+then_put text a old new same (Err e) h = tt
+then_put text a old new same (Ok u) h = spoken_put text a old new same h
+
+-- one that speaks of none
+pub unspoken_put : (a : Attribute) (old : Firsts) → ((name : List ℕ) → is_of name (leaf_attribute_of a) ≡ false) → IsPut a old old
+unfolding IsPut
+unspoken_put a old none name = or_none (attribute_at old name) ∙ ap (λ b. option_or (attribute_at old name) (cond b (Some a) None)) (sym (none name))
+
+-- ---- one after another
+
+-- what an attribute says, or else the rest
+abbrev said_or : Option Attribute → (rest : Option Rules) → Option Rules
+said_or None rest = rest
+said_or (Some a) rest = rules_in (leaf_attribute_of a)
+
+abbrev IsKeyedSome : Option Attribute → Type 0
+IsKeyedSome None = Unit {0}
+IsKeyedSome (Some a) = IsKeyed a
+
+said_same : (o : Option (Bor Attribute)) → said_by o ≡ said_or (option_map (λ (a : Bor Attribute). a.now) o) None
+said_same None = refl
+said_same (Some a) = refl
+
+keyed_same : (o : Option (Bor Attribute)) → IsKeyedSome (option_map (λ (a : Bor Attribute). a.now) o) → IsKeyedOption o
+keyed_same None h = h
+keyed_same (Some a) h = h
+
+-- At each name is the first attribute so far that speaks of it, and others are left.
+pub record AreFirstsBefore (rules : List Rules) (found : Firsts) (left : List Attribute) : Type 0 where
+  pub said : (name : List ℕ) → said_or (attribute_at found name) (speaks_of (rules_left left) name) ≡ speaks_of rules name
+  pub whole : (name : List ℕ) → IsKeyedSome (attribute_at found name)
+  pub keyed : AreKeyed left
+
+none_at : (found : Firsts) → found.entries ≡ [] → (name : List ℕ) → attribute_at found name ≡ None
+none_at found e name =
+    ap (λ es. option_map (λ (a : Bor Attribute). a.now) (lookup (is_at (λ (k : Bor (List ℕ)). slice_cmp nat_cmp name k.now)) es)) e
+
+pub firsts_begin : (ps : List Pair) (found : Firsts) (left : List Attribute) → found.entries ≡ [] → left ≡ firsts ps → AreKeyed left
+    → AreFirstsBefore (arg_rules (map leaf_entry_of ps)) found left
+firsts_begin ps found left none is keyed = record {
+  said = λ name. ap (λ o. said_or o (speaks_of (rules_left left) name)) (none_at found none name) ∙ speaks_begins name ps left is;
+  whole = λ name. subst IsKeyedSome (sym (none_at found none name)) tt;
+  keyed = keyed;
+}
+
+pub firsts_end : (rules : List Rules) (found : Firsts) (left : List Attribute) → left ≡ [] → AreFirstsBefore rules found left → AreFirsts found rules
+unfolding AreFirsts
+firsts_end rules found left none h name = (
+  said_same (first_at found name) ∙ sym (ap (λ l. said_or (attribute_at found name) (speaks_of (rules_left l) name)) none) ∙ h.said name,
+  keyed_same (first_at found name) (h.whole name),
+)
+
+module _ (rules : List Rules) (found : Firsts) (left : List Attribute) (a : Attribute) (rest : List Attribute) (is : left ≡ a ∷ rest)
+    (so_far : AreFirstsBefore rules found left) where
+  abbrev later : List ℕ → Option Rules
+  later name = speaks_of (rules_left rest) name
+
+  abbrev put : (is_said : Bool) → Option Attribute
+  put is_said = cond is_said (Some a) None
+
+  -- what it says comes before the rest
+  first_said : (name : List ℕ) (o : Option Attribute) → said_or (option_or o (put (is_of name (leaf_attribute_of a)))) (later name) ≡ said_or o (speaks_of (rules_left (a ∷ rest)) name)
+  first_said name (Some b) = refl
+  first_said name None = go (is_of name (leaf_attribute_of a)) refl
+    where
+      go : (b : Bool) → is_of name (leaf_attribute_of a) ≡ b → said_or (put b) (later name) ≡ speaks_of (rules_left (a ∷ rest)) name
+      go true spoken = sym (speaks_here name a rest spoken)
+      go false spoken = sym (speaks_later name a rest spoken)
+
+  first_keyed : (o : Option Attribute) (is_said : Bool) → IsKeyedSome o → IsKeyed a → IsKeyedSome (option_or o (put is_said))
+  first_keyed (Some b) is_said h k = h
+  first_keyed None true h k = k
+  first_keyed None false h k = tt
+
+  keyed_here : IsKeyed a
+  unfolding AreKeyed
+  keyed_here = All-head IsKeyed a rest (subst (λ (l : List Attribute). All IsKeyed l) is so_far.keyed)
+
+  pub firsts_go_on : (new : Firsts) → IsPut a found new → AreFirstsBefore rules new rest
+  unfolding IsPut
+  firsts_go_on new h = record {
+    said = λ name. ap (λ o. said_or o (later name)) (h name) ∙ first_said name (attribute_at found name)
+        ∙ ap (λ l. said_or (attribute_at found name) (speaks_of (rules_left l) name)) (sym is) ∙ so_far.said name;
+    whole = λ name. subst IsKeyedSome (sym (h name)) (first_keyed (attribute_at found name) (is_of name (leaf_attribute_of a)) (so_far.whole name) keyed_here);
+    keyed = keyed_rest left a rest is so_far.keyed;
+  }
+
+-- ---- the attribute of a name
+
+module _ (rules : List Rules) (found : Firsts) (are : AreFirsts found rules) where
+  pub first_whole : (name : List ℕ) → IsKeyedOption (first_at found name)
+  unfolding AreFirsts
+  first_whole name = (are name).1
+
+  module _ (ps : List Parameter) (names : BTreeSet (Bor (List ℕ))) (named : AreNames (map parameter_tree ps) names) (name : Token) (text : List ℕ) (e : text ≡ lexeme_of name) where
+    abbrev among : Bool
+    among = list_any (bytes_eq text) (texts_in names)
+
+    rules_are : (is : Bool) → among ≡ is → cond is None (speaks_of rules (lexeme_of name)) ≡ rules_for sees_leaves rules (map parameter_tree ps) (Named name None)
+    rules_are is h = ap (λ b. cond b None (speaks_of rules (lexeme_of name))) (sym (among_names ps names text name is named e h))
+
+    -- nothing is said of a name that was there before
+    pub named_before : among ≡ true → None ≡ rules_for sees_leaves rules (map parameter_tree ps) (Named name None)
+    named_before = rules_are true
+
+    -- of another one, what the first attribute says that speaks of it
+    pub named_first : among ≡ false → (other : List ℕ) → other ≡ lexeme_of name → (result : Option (Bor Attribute)) → result ≡ first_at found other
+        → said_by result ≡ rules_for sees_leaves rules (map parameter_tree ps) (Named name None)
+    unfolding AreFirsts
+    named_first h other same result is =
+        ap said_by is ∙ (are other).0 ∙ ap (speaks_of rules) same ∙ rules_are false h

@@ -1,0 +1,38 @@
+-- What attributes say of parameters, by their names.
+use Rattle.std.specs.Prelude.{◌≡◌, ℕ, List, Option, Some, None, cond}
+use Rattle.std.specs.BTreeMap.{BTreeMap, get_by}
+use Rattle.std.specs.Cmp.Lexicographic.{slice_cmp}
+use Rattle.std.specs.Option.{option_map, option_or}
+use Rattle.std.specs.Ordering.{nat_cmp}
+use Rattle.std.specs.Str.{bytes_eq}
+use denote.Ref.{Bor}
+use Rattle.justfile_attribute.specs.Attribute.{leaf_attribute_of}
+use Rattle.justfile_attribute.specs.declared.attribute.Attribute as attributes
+use Rattle.justfile_parse_header.specs.Arguments.{IsKeyedOption, is_of, said_by, speaks_of}
+use Rattle.justfile_parse_header.specs.HeaderTable.{Rules}
+
+abbrev pub Firsts : Type 0
+Firsts = BTreeMap (Bor (List ℕ)) (Bor attributes.Attribute)
+
+-- the attribute at a name
+abbrev pub first_at : Firsts → (name : List ℕ) → Option (Bor attributes.Attribute)
+first_at firsts name = get_by (λ (k : Bor (List ℕ)). slice_cmp nat_cmp name k.now) firsts
+
+-- what is there, without its place
+abbrev pub attribute_at : Firsts → (name : List ℕ) → Option attributes.Attribute
+attribute_at firsts name = option_map (λ (a : Bor attributes.Attribute). a.now) (first_at firsts name)
+
+-- At each name is the first attribute that speaks of it, whose bounds stand with their keys.
+unfoldable pub AreFirsts : Firsts → List Rules → Type 0
+AreFirsts firsts rules = (name : List ℕ)
+    → (said_by (first_at firsts name) ≡ speaks_of rules name) × IsKeyedOption (first_at firsts name)
+
+-- an attribute is put at one name, unless another one is there
+unfoldable pub IsPutAt : (text : List ℕ) → attributes.Attribute → (old new : Firsts) → Type 0
+IsPutAt text a old new = (name : List ℕ)
+    → attribute_at new name ≡ option_or (attribute_at old name) (cond (bytes_eq text name) (Some a) None)
+
+-- an attribute is put at the name of which it speaks, if it speaks of one, unless another one is there
+unfoldable pub IsPut : attributes.Attribute → (old new : Firsts) → Type 0
+IsPut a old new = (name : List ℕ)
+    → attribute_at new name ≡ option_or (attribute_at old name) (cond (is_of name (leaf_attribute_of a)) (Some a) None)
