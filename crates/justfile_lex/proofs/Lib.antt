@@ -1,4 +1,3 @@
-mod BraceLemmas
 pub mod LexerLemmas
 pub mod Pieces
 pub mod PlaceLemmas

@@ -1,7 +1,14 @@
--- The loop that goes over pieces.
-use Rattle.std.proofs.Common.{◌≡◌, ℕ, zero, suc, ◌+◌, ◌-◌, ◌<◌, ◌≤◌, Bool, true, false, ltb, List, [], ◌∷◌, length, get_or, drop, refl, sym, ap, ◌∙◌, arith, add-one, drop-cons, length-drop}
+-- Text that is read past plain bytes, and piece by piece.
+use Rattle.std.proofs.Common.{◌≡◌, ℕ, zero, suc, ◌+◌, ◌-◌, ◌<◌, ◌≤◌, Bool, true, false, cond, eqb, ltb, List, [], ◌∷◌, length, get_or, drop, refl, sym, ap, subst, ◌∙◌, arith, add-one, zero-add, drop-cons, drop-drop, length-drop}
+use Rattle.std.specs.Prelude.{◌||◌, ◌&&◌, min}
+use Rattle.std.specs.List.{prefix_len}
 use Rattle.std.proofs.lemmas.Bool.Decides.{nat_tests}
-use Rattle.justfile_model.specs.LiteralText.{pieces_len}
+use Rattle.std.proofs.lemmas.List.Sums.{prefix_len-le-length}
+use Rattle.justfile_base.specs.StringKind.{quote_of, escapes}
+use Rattle.justfile_model.specs.declared.raw_text.RawText.{RawText}
+use Rattle.justfile_model.specs.declared.raw_text.RawText.TheVariants.{Comment, Body, Literal}
+use Rattle.justfile_model.specs.LiteralText.{hides, ends, pieces_len, raw_len}
+use Rattle.justfile_lex.specs.RawTexts.{is_plain, IsPiece, IsInside}
 
 -- what is left from a place on is the byte there and the rest
 pub cell : (bs : List ℕ) (i : ℕ) → i < length bs → drop i bs ≡ get_or bs i 0 ∷ drop (i + 1) bs
@@ -13,12 +20,45 @@ lt_true n h = grind (arith, nat_tests)
 lt_false : (n : ℕ) → n ≤ 0 → ltb 0 n ≡ false
 lt_false n h = grind (arith, nat_tests)
 
-module _ (hides : List ℕ → ℕ) (ends : List ℕ → Bool) where
-  in_hidden : (n b : ℕ) (bs : List ℕ) → 0 < n → pieces_len hides ends n (b ∷ bs) ≡ suc (pieces_len hides ends (n - 1) bs)
-  unfolding pieces_len
-  in_hidden zero b bs h = absurd (omega arith)
-  in_hidden (suc n) b bs h = ap (λ k. suc (pieces_len hides ends k bs)) (omega arith)
+not_none : (n : ℕ) → eqb (suc n) 0 ≡ false
+not_none n = grind (arith, nat_tests)
 
+and_false : (t : Bool) → (t && false) ≡ false
+and_false true = refl
+and_false false = refl
+
+no_choice : (t : Bool) → cond t false false ≡ false
+no_choice true = refl
+no_choice false = refl
+
+-- a plain byte hides nothing
+plain_hides : (s : RawText) (b : ℕ) (bs : List ℕ) → is_plain s b ≡ true → hides s (b ∷ bs) ≡ 0
+plain_hides Comment b bs h = refl
+plain_hides Body b bs h =
+    let brace : eqb b 123 ≡ false = grind (arith, nat_tests) in
+    rw brace refl
+plain_hides (Literal k format) b bs h =
+    let brace : eqb b 123 ≡ false = grind (arith, nat_tests) in
+    let slash : eqb b 92 ≡ false = grind (arith, nat_tests) in
+    rw (slash, brace, and_false (escapes k.delimiter), and_false format) refl
+
+-- and begins no end
+plain_ends : (s : RawText) (b : ℕ) (bs : List ℕ) → is_plain s b ≡ true → ends s (b ∷ bs) ≡ false
+plain_ends Comment b bs h =
+    let feed : eqb b 10 ≡ false = grind (arith, nat_tests) in
+    let return : eqb b 13 ≡ false = grind (arith, nat_tests) in
+    rw (feed, return) refl
+plain_ends Body b bs h =
+    let feed : eqb b 10 ≡ false = grind (arith, nat_tests) in
+    let return : eqb b 13 ≡ false = grind (arith, nat_tests) in
+    let brace : eqb b 123 ≡ false = grind (arith, nat_tests) in
+    rw (feed, return, brace) refl
+plain_ends (Literal k format) b bs h =
+    let quote : eqb b (quote_of k.delimiter) ≡ false = grind (arith, nat_tests) in
+    let brace : eqb b 123 ≡ false = grind (arith, nat_tests) in
+    rw (quote, brace, no_choice k.indented, and_false format) refl
+
+module _ (hides : List ℕ → ℕ) (ends : List ℕ → Bool) where
   in_hiding : (b : ℕ) (bs : List ℕ) → 0 < hides (b ∷ bs) → pieces_len hides ends 0 (b ∷ bs) ≡ suc (pieces_len hides ends (hides (b ∷ bs)) bs)
   unfolding pieces_len
   in_hiding b bs h = rw (lt_true (hides (b ∷ bs)) h) refl
@@ -32,35 +72,88 @@ module _ (hides : List ℕ → ℕ) (ends : List ℕ → Bool) where
   unfolding pieces_len
   in_plain b bs h g = rw (lt_false (hides (b ∷ bs)) h) (rw g refl)
 
-  in_nothing : (n : ℕ) (bs : List ℕ) → length bs ≤ 0 → pieces_len hides ends n bs ≡ 0
+  in_nothing : (bs : List ℕ) → length bs ≤ 0 → pieces_len hides ends 0 bs ≡ 0
   unfolding pieces_len
-  in_nothing n [] h = refl
-  in_nothing n (b ∷ bs) h = absurd (omega arith)
+  in_nothing [] h = refl
+  in_nothing (b ∷ bs) h = absurd (omega arith)
 
-  -- i bytes of pieces, and n more that are hidden
-  pub record AfterPieces (bs : List ℕ) (i n : ℕ) : Type 0 where
-    pub so_far : pieces_len hides ends 0 bs ≡ i + pieces_len hides ends n (drop i bs)
+  -- past the bytes that are hidden
+  past_hidden : (n : ℕ) (bs : List ℕ) → pieces_len hides ends n bs ≡ min (length bs) n + pieces_len hides ends 0 (drop (min (length bs) n) bs)
+  unfolding pieces_len
+  past_hidden zero bs =
+      let none : min (length bs) 0 ≡ 0 = omega arith in
+      rw none (sym (zero-add (pieces_len hides ends 0 bs)))
+  past_hidden (suc n) [] =
+      let none : min 0 (suc n) ≡ 0 = omega arith in
+      rw none (sym (zero-add 0))
+  past_hidden (suc n) (b ∷ bs) =
+      let more : min (suc (length bs)) (suc n) ≡ suc (min (length bs) n) = omega arith in
+      let rest : pieces_len hides ends n bs ≡ min (length bs) n + pieces_len hides ends 0 (drop (suc (min (length bs) n)) (b ∷ bs)) = past_hidden n bs in
+      rw more (omega (arith, rest))
 
-  pub pieces_start : (bs : List ℕ) → AfterPieces bs 0 0
-  pieces_start bs = record { so_far = omega arith }
+-- past the plain bytes at the front
+past_plain : (s : RawText) (bs : List ℕ) → raw_len s bs ≡ prefix_len (is_plain s) bs + raw_len s (drop (prefix_len (is_plain s) bs) bs)
+unfolding pieces_len
+past_plain s [] = sym (zero-add (raw_len s []))
+past_plain s (b ∷ bs) = go (is_plain s b) refl (past_plain s bs)
+  where
+    go : (t : Bool) → is_plain s b ≡ t → raw_len s bs ≡ prefix_len (is_plain s) bs + raw_len s (drop (prefix_len (is_plain s) bs) bs) → raw_len s (b ∷ bs) ≡ cond t (1 + prefix_len (is_plain s) bs) 0 + raw_len s (drop (cond t (1 + prefix_len (is_plain s) bs) 0) (b ∷ bs))
+    go true e ih =
+        let one : 1 + prefix_len (is_plain s) bs ≡ suc (prefix_len (is_plain s) bs) = omega arith in
+        let rest : raw_len s bs ≡ prefix_len (is_plain s) bs + raw_len s (drop (suc (prefix_len (is_plain s) bs)) (b ∷ bs)) = ih in
+        rw one (omega (arith, in_plain (hides s) (ends s) b bs (omega (arith, plain_hides s b bs e)) (plain_ends s b bs e), rest))
+    go false e ih = sym (zero-add (raw_len s (b ∷ bs)))
 
-  pub past_hidden : (bs : List ℕ) (i n : ℕ) → AfterPieces bs i n → i < length bs → 0 < n → AfterPieces bs (i + 1) (n - 1)
-  past_hidden bs i n t l h = record { so_far = omega (arith, t.so_far, ap (pieces_len hides ends n) (cell bs i l), in_hidden n (get_or bs i 0) (drop (i + 1) bs) h) }
+pub piece_none : (s : RawText) (rest : List ℕ) → length rest ≡ 0 → IsPiece s rest 0
+piece_none s rest h = record { within = omega arith; length_is = in_nothing (hides s) (ends s) rest (omega arith) }
 
-  pub past_hiding : (bs : List ℕ) (i n : ℕ) → AfterPieces bs i 0 → i < length bs → n ≡ hides (drop i bs) → 0 < n → AfterPieces bs (i + 1) n
-  past_hiding bs i n t l e h =
-      let here : n ≡ hides (get_or bs i 0 ∷ drop (i + 1) bs) = e ∙ ap hides (cell bs i l) in
-      record { so_far = omega (arith, t.so_far, ap (pieces_len hides ends 0) (cell bs i l), in_hiding (get_or bs i 0) (drop (i + 1) bs) (omega (arith, here, h)), ap (λ k. pieces_len hides ends k (drop (i + 1) bs)) here) }
+pub piece_end : (s : RawText) (rest : List ℕ) → hides s rest ≤ 0 → ends s rest ≡ true → IsPiece s rest 0
+piece_end s rest h g = record { within = omega arith; length_is = at_end (hides s) (ends s) rest h g }
 
-  pub past_plain : (bs : List ℕ) (i n : ℕ) → AfterPieces bs i 0 → i < length bs → n ≡ hides (drop i bs) → n ≤ 0 → ends (drop i bs) ≡ false → AfterPieces bs (i + 1) 0
-  past_plain bs i n t l e h g =
-      let here : n ≡ hides (get_or bs i 0 ∷ drop (i + 1) bs) = e ∙ ap hides (cell bs i l) in
-      record { so_far = omega (arith, t.so_far, ap (pieces_len hides ends 0) (cell bs i l), in_plain (get_or bs i 0) (drop (i + 1) bs) (omega (arith, here, h)) (sym (ap ends (cell bs i l)) ∙ g)) }
+pub piece_plain : (s : RawText) (rest : List ℕ) → 0 < length rest → hides s rest ≤ 0 → ends s rest ≡ false → IsPiece s rest 1
+piece_plain s [] l h g = absurd (omega arith)
+piece_plain s (b ∷ bs) l h g = record { within = omega arith; length_is = in_plain (hides s) (ends s) b bs h g ∙ omega arith }
 
-  pub pieces_here : (bs : List ℕ) (i n : ℕ) → AfterPieces bs i 0 → n ≡ hides (drop i bs) → n ≤ 0 → ends (drop i bs) ≡ true → i ≡ pieces_len hides ends 0 bs
-  pieces_here bs i n t e h g = omega (arith, t.so_far, at_end (drop i bs) (omega (arith, e, h)) g)
+pub piece_hiding : (s : RawText) (rest : List ℕ) (n : ℕ) → 0 < length rest → n ≡ hides s rest → 0 < n → IsPiece s rest (min (length rest) (n + 1))
+piece_hiding s [] n l e h = absurd (omega arith)
+piece_hiding s (b ∷ bs) n l e h =
+    let len : min (length (b ∷ bs)) (n + 1) ≡ suc (min (length bs) n) = omega arith in
+    let some = not_none (min (length bs) n) in
+    let first = in_hiding (hides s) (ends s) b bs (omega (arith, e, h)) in
+    let hidden : raw_len s (b ∷ bs) ≡ suc (pieces_len (hides s) (ends s) n bs) = first ∙ ap (λ k. suc (pieces_len (hides s) (ends s) k bs)) (sym e) in
+    let rest : pieces_len (hides s) (ends s) n bs ≡ min (length bs) n + raw_len s (drop (suc (min (length bs) n)) (b ∷ bs)) = past_hidden (hides s) (ends s) n bs in
+    record {
+      within = omega arith;
+      length_is = rw (len, some) (omega (arith, hidden, rest));
+    }
 
-  pub pieces_all : (bs : List ℕ) (i n : ℕ) → AfterPieces bs i n → length bs ≤ i → i ≡ pieces_len hides ends 0 bs
-  pieces_all bs i n t l = omega (arith, t.so_far, in_nothing n (drop i bs) (omega (arith, length-drop i bs)))
+pub ruleset piece_cases = (piece_none, piece_end, piece_plain, piece_hiding)
 
-pub ruleset pieces_loop = (pieces_start, past_hidden, past_hiding, past_plain, pieces_here, pieces_all)
+pub inside_start : (s : RawText) (bs : List ℕ) → IsInside s bs 0
+inside_start s bs = record { within = omega arith; length_is = omega arith }
+
+-- a place after plain bytes
+pub inside_plain : (s : RawText) (bs : List ℕ) (at n : ℕ) → IsInside s bs at → n ≡ prefix_len (is_plain s) (drop at bs) → IsInside s bs (at + n)
+inside_plain s bs at n h e =
+    let le : n ≤ length (drop at bs) = omega (arith, e, prefix_len-le-length (is_plain s) (drop at bs)) in
+    let there : drop n (drop at bs) ≡ drop (at + n) bs = drop-drop n at bs in
+    record {
+      within = omega (arith, le, h.within, length-drop at bs);
+      length_is = omega (arith, h.length_is, past_plain s (drop at bs), ap (λ k. k + raw_len s (drop k (drop at bs))) (sym e), ap (raw_len s) there);
+    }
+
+-- a place after a piece
+pub inside_piece : (s : RawText) (bs : List ℕ) (at n : ℕ) → IsInside s bs at → IsPiece s (drop at bs) n → 0 < n → IsInside s bs (at + n)
+inside_piece s bs at n h p some =
+    let more : eqb n 0 ≡ false = grind (arith, nat_tests) in
+    let piece : raw_len s (drop at bs) ≡ n + raw_len s (drop n (drop at bs)) = p.length_is ∙ rw more refl in
+    record {
+      within = omega (arith, p.within, h.within, length-drop at bs);
+      length_is = omega (arith, h.length_is, piece, ap (raw_len s) (drop-drop n at bs));
+    }
+
+-- where no piece is left, the text ends
+pub inside_end : (s : RawText) (bs : List ℕ) (at n : ℕ) → IsInside s bs at → IsPiece s (drop at bs) n → n ≡ 0 → at ≡ raw_len s bs
+inside_end s bs at n h p none =
+    let piece : raw_len s (drop at bs) ≡ 0 = p.length_is ∙ rw none refl in
+    omega (arith, h.length_is, piece)

@@ -1,10 +1,11 @@
 -- The place after one more byte.
-use Rattle.std.proofs.Common.{◌≡◌, ℕ, ◌+◌, ◌-◌, ◌<◌, ◌≤◌, Bool, true, false, cond, List, [], ◌∷◌, ◌++◌, length, get_or, take, refl, sym, ap, ◌∙◌, ⊎_elim, arith, length-append}
+use Rattle.std.proofs.Common.{◌≡◌, ℕ, zero, suc, ◌+◌, ◌-◌, ◌<◌, ◌≤◌, Bool, true, false, cond, List, [], ◌∷◌, ◌++◌, length, get_or, take, drop, refl, sym, ap, subst, ◌∙◌, ⊎_elim, arith, length-append, length-drop, get_or-drop}
 use Rattle.std.specs.Prelude.{not, reverse}
 use Rattle.std.specs.List.{prefix_len, count_by}
 use Rattle.std.proofs.lemmas.Bool.{cases_lt, ne_eqb}
 use Rattle.std.proofs.lemmas.List.{take_more, take_all, length-take-le, length-take, get_or-take, reverse-append}
-use Rattle.std.proofs.lemmas.List.Sums.{count_by_more_yes, count_by_more_no}
+use Rattle.std.proofs.lemmas.Bool.Decides.{nat_tests}
+use Rattle.std.proofs.lemmas.List.Sums.{count_by_more_yes, count_by_more_no, prefix_len-le-length, prefix_len_passes}
 use Rattle.justfile_model.specs.Places.{is_newline, text_before, last_line_start, line_of_offset, column_at, IsPlace}
 
 abbrev is_other : ℕ → Bool
@@ -86,3 +87,28 @@ place_other text at line column p l other =
     (ap last_line_start (before_more text at more) ∙ start_other (text_before text at) (get_or text at 0) no))
     (λ last. same_line text at line column p l (ap (count_by is_newline) (before_same text at last)) (ap last_line_start (before_same text at last)))
     (cases_lt (at + 1) (length text))
+
+-- bytes up to the first line feed are on the same line
+not_ten : (b : ℕ) → is_other b ≡ true → b ≡ 10 → ⊥
+not_ten b h e = grind (arith, nat_tests)
+
+same_place : (text : List ℕ) (a b line c d : ℕ) → a ≡ b → c ≡ d → IsPlace text a line c → IsPlace text b line d
+same_place text a b line c d e f p = subst (λ o. IsPlace text o line d) e (subst (λ o. IsPlace text a line o) f p)
+
+line_byte : (text : List ℕ) (from n k : ℕ) → k < prefix_len is_other (take n (drop from text)) → is_other (get_or text (from + k) 0) ≡ true
+line_byte text from n k l =
+    let part = take n (drop from text) in
+    let inside : k < n = omega (arith, l, prefix_len-le-length is_other part, length-take n (drop from text)) in
+    let same : get_or part k 0 ≡ get_or text (from + k) 0 = get_or-take n (drop from text) k 0 inside ∙ get_or-drop from text k 0 in
+    subst (λ (b : ℕ). is_other b ≡ true) same (prefix_len_passes is_other part k 0 l)
+
+pub place_on_line : (text : List ℕ) (from n line column k : ℕ) → IsPlace text from line column → k ≤ prefix_len is_other (take n (drop from text)) → IsPlace text (from + k) line (column + k)
+place_on_line text from n line column zero p l = same_place text _ _ line _ _ (omega arith) (omega arith) p
+place_on_line text from n line column (suc k) p l =
+    let before = place_on_line text from n line column k p (omega (arith, l)) in
+    let inside : from + k < length text = omega (arith, l, prefix_len-le-length is_other (take n (drop from text)), length-take n (drop from text), length-drop from text) in
+    let other = line_byte text from n k (omega (arith, l)) in
+    same_place text _ _ line _ _ (omega arith) (omega arith) (place_other text (from + k) line (column + k) before inside (λ more e. not_ten _ other e))
+
+pub line_within : (text : List ℕ) (from n : ℕ) → prefix_len is_other (take n (drop from text)) ≤ n
+line_within text from n = omega (arith, prefix_len-le-length is_other (take n (drop from text)), length-take n (drop from text))

@@ -1,5 +1,6 @@
 pub mod Layouts
 pub mod Lexing
 pub mod Modes
+pub mod RawTexts
 pub mod Scanned
 pub mod WhiteRun

@@ -6,7 +6,6 @@ ghost use Rattle.justfile_model.specs.Bytes.{blank, in_word, white, line_feed, b
 use justfile_base::ByteClass;
 use justfile_base::byte_class::byte_class;
 use justfile_base::bytes::byte_at;
-use justfile_base::interpolation::{INTERPOLATION_END, INTERPOLATION_ESCAPE, INTERPOLATION_START};
 
 /// What follows the first bytes.
 pub(crate) fn skip(bytes: &[u8], count: usize) -> &[u8]
@@ -77,27 +76,24 @@ pub(crate) fn is_line_end(bytes: &[u8]) -> bool
 }
 
 /// Whether two opening braces are at the front.
-#[tactic(auto, using(crate::proofs::BraceLemmas::opening_braces))]
 pub(crate) fn is_interpolation_start(bytes: &[u8]) -> bool
     ensures { result ≡ is_interpolation_start bytes.now }
 {
-    begins_with(bytes, INTERPOLATION_START.as_bytes())
+    byte_at(bytes, 0) == b'{' && byte_at(bytes, 1) == b'{'
 }
 
 /// Whether two closing braces are at the front.
-#[tactic(auto, using(crate::proofs::BraceLemmas::closing_braces))]
 pub(crate) fn is_interpolation_end(bytes: &[u8]) -> bool
     ensures { result ≡ is_interpolation_end bytes.now }
 {
-    begins_with(bytes, INTERPOLATION_END.as_bytes())
+    byte_at(bytes, 0) == b'}' && byte_at(bytes, 1) == b'}'
 }
 
 /// Whether four opening braces are at the front, which are text.
-#[tactic(auto, using(crate::proofs::BraceLemmas::escaped_braces))]
 pub(crate) fn is_interpolation_escape(bytes: &[u8]) -> bool
     ensures { result ≡ is_interpolation_escape bytes.now }
 {
-    begins_with(bytes, INTERPOLATION_ESCAPE.as_bytes())
+    is_interpolation_start(bytes) && is_interpolation_start(skip(bytes, 2))
 }
 
 /// Whether the byte is among the bytes.

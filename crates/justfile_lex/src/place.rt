@@ -1,5 +1,6 @@
-ghost use Rattle.std.specs.Prelude.{◌+◌, ◌<◌, ◌≤◌, length};
-ghost use Rattle.justfile_model.specs.Places.{IsPlace};
+ghost use Rattle.std.specs.Prelude.{◌≡◌, ◌+◌, ◌<◌, ◌≤◌, length, not};
+ghost use Rattle.std.specs.List.{prefix_len};
+ghost use Rattle.justfile_model.specs.Places.{is_newline, IsPlace};
 
 /// A line and a column, from 0, in bytes.
 #[derive(Clone, Copy, Debug, PartialEq, Eq)]
@@ -26,6 +27,13 @@ fn after_byte(bytes: &[u8], place: Place, at: usize) -> Place
     }
 }
 
+/// How many bytes come before the first line feed.
+fn line_len(bytes: &[u8]) -> usize
+    ensures { result ≡ prefix_len (λ b. not (is_newline b)) bytes.now }
+{
+    bytes.iter().take_while(|byte| **byte != b'\n').count()
+}
+
 /// The place of `to`, from the place of `from`.
 pub(crate) fn place_after(bytes: &[u8], start: Place, from: usize, to: usize) -> Place
     requires order { from ≤ to }
@@ -33,8 +41,12 @@ pub(crate) fn place_after(bytes: &[u8], start: Place, from: usize, to: usize) ->
     requires start { IsPlace bytes.now from start.line start.column }
     ensures { IsPlace bytes.now to result.line result.column }
 {
-    let mut place = start;
-    for at in from..to {
+    let plain = line_len(&bytes[from..to]);
+    let mut place = Place {
+        line: start.line,
+        column: start.column + plain,
+    };
+    for at in from + plain..to {
         place = after_byte(bytes, place, at);
     }
     place

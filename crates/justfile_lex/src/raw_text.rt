@@ -1,7 +1,9 @@
 ghost use Rattle.std.specs.Prelude.{◌≡◌};
+ghost use Rattle.std.specs.List.{prefix_len};
 ghost use Rattle.justfile_model.specs.declared.raw_text.RawText.TheVariants.{Literal};
 ghost use Rattle.justfile_base.specs.StringKind.{quote_of};
-ghost use Rattle.justfile_model.specs.LiteralText.{is_delimiter, hides, ends, raw_len, pieces_len};
+ghost use Rattle.justfile_model.specs.LiteralText.{is_delimiter, hides, ends, raw_len};
+ghost use Rattle.justfile_lex.specs.RawTexts.{is_plain, IsPiece};
 
 use crate::bytes::{is_interpolation_escape, is_interpolation_start, is_line_end, skip};
 use justfile_base::bytes::byte_at;
@@ -76,24 +78,56 @@ fn is_at_end(text: RawText, rest: &[u8]) -> bool
     }
 }
 
+/// Whether a byte hides none after it and begins no end, whatever follows. Some others don't either,
+/// such as a tab, which a comparison alone can't tell from a line end.
+fn is_plain(text: RawText, byte: u8) -> bool
+    ensures { result ≡ is_plain text byte }
+{
+    match text {
+        RawText::Comment => byte > b'\r',
+        RawText::Body => byte > b'\r' && byte != b'{',
+        RawText::Literal { kind, .. } => {
+            byte != quote_of(kind.delimiter) && byte != b'\\' && byte != b'{'
+        }
+    }
+}
+
+/// How many plain bytes are at the front.
+fn plain_len(text: RawText, bytes: &[u8]) -> usize
+    ensures { result ≡ prefix_len (is_plain text) bytes.now }
+{
+    bytes
+        .iter()
+        .take_while(|byte| is_plain(text, **byte))
+        .count()
+}
+
+/// How many bytes the piece at the front has, and 0 where the text ends.
+#[tactic(auto, using(crate::proofs::Pieces::piece_cases))]
+fn piece_len(text: RawText, rest: &[u8]) -> usize
+    ensures { IsPiece text rest.now result }
+{
+    if rest.is_empty() {
+        return 0;
+    }
+    let hidden = hidden_len(text, rest);
+    if hidden > 0 {
+        return rest.len().min(hidden + 1);
+    }
+    if is_at_end(text, rest) { 0 } else { 1 }
+}
+
 /// How many bytes come before the first end that isn't hidden.
-#[tactic(auto, using(crate::proofs::Pieces::pieces_loop))]
 pub(crate) fn raw_len(text: RawText, bytes: &[u8]) -> usize
     ensures { result ≡ raw_len text bytes.now }
 {
-    let mut hidden: usize = 0;
-    for at in 0..bytes.len() {
-        if hidden > 0 {
-            hidden -= 1;
-        } else {
-            let rest = skip(bytes, at);
-            let more = hidden_len(text, rest);
-            if more > 0 {
-                hidden = more;
-            } else if is_at_end(text, rest) {
-                return at;
-            }
+    let mut at: usize = 0;
+    'pieces: loop {
+        at += plain_len(text, skip(bytes, at));
+        let more = piece_len(text, skip(bytes, at));
+        if more == 0 {
+            return at;
         }
+        at += more;
     }
-    bytes.len()
 }

@@ -161,6 +161,7 @@ fn scan_other<'src>(rest: &'src str) -> Scanned<'src>
 }
 
 /// The next token outside body text, by the class of its first byte.
+#[inline(always)]
 #[tactic(auto, unfolding(justfile_model::specs::Next::token_by_class))]
 fn scan_by_class<'src>(mode: &Mode<'src>, class: ByteClass, rest: &'src str) -> Scanned<'src>
     requires some { 0 < length rest.now }
@@ -191,6 +192,7 @@ fn scan_by_class<'src>(mode: &Mode<'src>, class: ByteClass, rest: &'src str) -> 
 }
 
 /// The next token outside body text.
+#[inline(always)]
 fn scan_outside_text<'src>(mode: &Mode<'src>, rest: &'src str) -> Scanned<'src>
     requires { 0 < length rest.now }
     ensures { scan_answer result ≡ token_outside_text (mode_of mode.now) rest.now }
@@ -228,6 +230,7 @@ fn scan_interpolation<'src>(mode: &Mode<'src>, rest: &'src str) -> Scanned<'src>
 }
 
 /// The next token, layout aside.
+#[inline(always)]
 #[tactic(auto, unfolding(justfile_model::specs::Next::token_within_line))]
 pub(crate) fn scan_within_line<'src>(mode: &Mode<'src>, rest: &'src str) -> Scanned<'src>
     requires { 0 < length rest.now }

@@ -1,6 +1,9 @@
-use Rattle.justfile_model.specs.LiteralText.{hides, ends}
-use Rattle.justfile_lex.proofs.Pieces.{AfterPieces}
+use Rattle.std.specs.Prelude.{length, ◌-◌}
+use Rattle.justfile_lex.specs.RawTexts.{IsInside}
 use Rattle.justfile_lex.proofs.raw_text.raw_len.Given as goal
 
-abbrev pub invariant-loop-at : goal.invariant-loop-at
-invariant-loop-at l = AfterPieces (hides l.text) (ends l.text) l.bytes l.at l.hidden
+abbrev pub invariant-pieces : goal.invariant-pieces
+invariant-pieces l = IsInside l.text l.bytes l.at
+
+abbrev pub decreases-pieces : goal.decreases-pieces
+decreases-pieces l = length l.bytes - l.at
