@@ -2,4 +2,5 @@ pub mod Formatted
 pub mod Indented
 pub mod Outcomes
 pub mod Refused
+pub mod WholeInput
 pub mod Written

@@ -14,7 +14,7 @@ use Rattle.justfile_file.specs.declared.write_fault.WriteFault.{WriteFault}
 use Rattle.justfile_parse.specs.Parsing.{HasNoTree}
 use Rattle.justfile_format.specs.Arguments.{AsksFormat}
 use Rattle.justfile_format.specs.Failure.{IfRefused}
-use Rattle.justfile_format.specs.Formatting.{Formats, IsRefusal, IsUnprintable, conditions}
+use Rattle.justfile_format.specs.Formatting.{Formats, IsFormatted, IsRefusal, IsUnprintable, conditions}
 use Rattle.justfile_format.specs.Outcome.{AppendsBeginning, FormatsBeginning, IsWhy, LacksNumbers}
 use Rattle.justfile_format.specs.declared.failure.Failure.{Failure}
 use Rattle.justfile_format.specs.declared.failure.Failure.TheVariants as failures
@@ -30,6 +30,10 @@ pub told : (old new : Option (List ℕ)) (text : List ℕ) (r : Result (Unit {0}
     → AppendsBeginning old new text
 told old new text (Ok done) h k = whole old new text h
 told old new text (Err fault) h k = part old new text k
+
+-- a beginning of the canonical text was written
+pub formatted_part : (source text : List ℕ) (old new : Option (List ℕ)) → IsFormatted source text → AppendsPart old new text → FormatsBeginning source old new
+formatted_part source text old new f h = record { canonical = text; formatted = f; written = part old new text h }
 
 -- all was written, and stays as it is
 pub unflushed : (source : List ℕ) (old mid new : Option (List ℕ)) → Formats source old mid → Keeps mid new → FormatsBeginning source old new

@@ -56,12 +56,6 @@ IsOfPrinting NotPrintable = Unit {0}
 IsOfPrinting Memory = Unit {0}
 IsOfPrinting _ = ⊥
 
--- what keeps it from being written
-abbrev pub IsOfWriting : Failure → Type 0
-IsOfWriting NotPrintable = Unit {0}
-IsOfWriting Writing = Unit {0}
-IsOfWriting _ = ⊥
-
 -- what keeps a canonical text from being written
 abbrev pub IsOfTextOrWriting : Failure → Type 0
 IsOfTextOrWriting Writing = Unit {0}

@@ -102,9 +102,3 @@ pub record IsPrinted (ast : Ast) (canonical : List ℕ) : Type 0 where
   pub indentation : List ℕ
   pub is_indented : IsIndentedBy (indentation_of (tree_of ast)) indentation
   pub is : canonical ≡ printed (shape_of (tree_of ast)) indentation
-
--- the file can be printed, and its canonical text was written after what was written before
-pub record Prints (ast : Ast) (old new : Option (List ℕ)) : Type 0 where
-  pub canonical : List ℕ
-  pub printed_so : IsPrinted ast canonical
-  pub written : Appends old new canonical

@@ -13,10 +13,9 @@ use Rattle.justfile_round_trip.specs.RoundTrip.{TextDerives}
 use Rattle.justfile_parse.specs.Parsing.{TextWantsNumber}
 use Rattle.justfile_format.specs.Arguments.{AsksCheck, AsksFormat}
 use Rattle.justfile_format.specs.Failure.{failure_text, status_of}
-use Rattle.justfile_format.specs.Formatting.{IsFormatted, IsPrinted, IsRefusal, IsUnprintable, conditions}
+use Rattle.justfile_format.specs.Formatting.{IsFormatted, IsRefusal, IsUnprintable, conditions}
 use Rattle.justfile_format.specs.declared.failure.Failure.{Failure}
 use Rattle.justfile_format.specs.declared.failure.Failure.TheVariants.{Usage, Reading, NotUtf8, Refused, NotPrintable, Writing, Memory, Numbers}
-use Rattle.justfile_file.specs.declared.ast.Ast.{Ast}
 
 -- known bytes grow by a beginning of the text, or by the whole of it
 pub record AppendsBeginning (old new : Option (List ℕ)) (text : List ℕ) : Type 0 where
@@ -24,12 +23,6 @@ pub record AppendsBeginning (old new : Option (List ℕ)) (text : List ℕ) : Ty
   pub rest : List ℕ
   pub is : text ≡ written ++ rest
   pub appended : Appends old new written
-
--- the file has a canonical text, and a beginning of it was written after what was written before
-pub record PrintsBeginning (ast : Ast) (old new : Option (List ℕ)) : Type 0 where
-  pub canonical : List ℕ
-  pub printed_so : IsPrinted ast canonical
-  pub written : AppendsBeginning old new canonical
 
 -- the text has a canonical text, and a beginning of it was written after what was written before
 pub record FormatsBeginning (source : List ℕ) (old new : Option (List ℕ)) : Type 0 where

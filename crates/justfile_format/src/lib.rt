@@ -3,6 +3,7 @@
 
 pub mod failure;
 pub mod formatting;
+mod input;
 pub mod laws;
 pub mod run;
 mod unchanged;

@@ -3,15 +3,15 @@ ghost use Rattle.std.specs.Io.KnownBytes.{IsAtEnd, Keeps};
 ghost use Rattle.std.specs.Str.{IsUtf8};
 ghost use Rattle.justfile_format.specs.declared.failure.Failure.TheVariants as failures;
 ghost use Rattle.justfile_format.specs.Arguments.{AsksCheck, AsksFormat};
-ghost use Rattle.justfile_format.specs.Failure.{IfRefused, IsOfReading};
+ghost use Rattle.justfile_format.specs.Failure.{IfRefused};
 ghost use Rattle.justfile_format.specs.Formatting.{IsFormatted, IsRefusal, IsUnprintable, Formats, Differs, HasNone};
 ghost use Rattle.justfile_format.specs.Outcome.{Fails, FormatsBeginning, LacksNumbers};
 
 use crate::failure::{Failure, report};
 use crate::formatting::{format_text, format_to};
+use crate::input::{decode, read_all};
 use std::alloc::Global;
-use std::io::{ErrorKind, Read, Write};
-use std::str;
+use std::io::{Read, Write};
 
 /// What the program was asked for.
 #[derive(Clone, Copy, Debug, PartialEq, Eq)]
@@ -43,31 +43,6 @@ impl Task {
             }
             _ => Err(Failure::Usage),
         }
-    }
-}
-
-/// Reads all that the reader gives.
-fn read_all<R: Read>(alloc: Global, reader: &mut R) -> Result<Vec<u8>, Failure>
-    ensures ok { IfOk result (λ bytes. IfSome (R.remaining reader.old) (λ source. bytes.items ≡ source)) }
-    ensures end { OnOk result (IsAtEnd (R.remaining reader.new)) }
-    ensures err { IfErr result IsOfReading }
-{
-    let mut bytes = Vec::new(alloc);
-    match reader.read_to_end(&mut bytes) {
-        Ok(_) => Ok(bytes),
-        Err(error) if error.kind() == ErrorKind::OutOfMemory => Err(Failure::Memory),
-        Err(_) => Err(Failure::Reading),
-    }
-}
-
-/// Decodes bytes as UTF-8.
-fn decode(bytes: &[u8]) -> Result<&str, Failure>
-    ensures ok { IfOk result (λ text. text.now ≡ bytes.now) }
-    ensures not_utf8 { IfErr result (λ e. (e ≡ failures.NotUtf8) × (IsUtf8 bytes.now → ⊥)) }
-{
-    match str::from_utf8(bytes) {
-        Ok(text) => Ok(text),
-        Err(_) => Err(Failure::NotUtf8),
     }
 }
 

@@ -3,9 +3,8 @@ ghost use Rattle.justfile_model.specs.Printing.{fixed_text, fragment_text};
 ghost use Rattle.justfile_line.specs.Body.{fragment_shape};
 
 use justfile_base::Token;
-use justfile_base::interpolation::{INTERPOLATION_END, INTERPOLATION_START};
 use justfile_header::copied::Copied;
-use justfile_tree::{Expression, Sink, write_expression};
+use justfile_tree::{Expression, Sink, put_piece, write_expression};
 use std::alloc::{AllocError, Global};
 use std::fmt;
 
@@ -59,22 +58,13 @@ impl Copied for Fragment<'_> {
     }
 }
 
-/// Puts two pieces of text, one after the other.
-fn put_pair<S: Sink>(first: &str, second: &str, sink: &mut S) -> Result<(), S::Fault>
-    ensures ok { OnOk result (S.took sink.old (first.now ++ second.now) sink.new) }
-    ensures err { OnErr result (S.failed sink.old (first.now ++ second.now) sink.new) }
-{
-    sink.put(first)?;
-    sink.put(second)
-}
-
 /// Puts the braces before an expression, and a space.
 #[tactic(auto, unfolding(justfile_model::specs::Printing::fixed_text))]
 fn write_interpolation_start<S: Sink>(sink: &mut S) -> Result<(), S::Fault>
     ensures ok { OnOk result (S.took sink.old (fixed_text (codes "{{ ")) sink.new) }
     ensures err { OnErr result (S.failed sink.old (fixed_text (codes "{{ ")) sink.new) }
 {
-    put_pair(INTERPOLATION_START, " ", sink)
+    put_piece("{{ ", sink)
 }
 
 /// Puts a space, and the braces after an expression.
@@ -83,7 +73,7 @@ fn write_interpolation_end<S: Sink>(sink: &mut S) -> Result<(), S::Fault>
     ensures ok { OnOk result (S.took sink.old (fixed_text (codes " }}")) sink.new) }
     ensures err { OnErr result (S.failed sink.old (fixed_text (codes " }}")) sink.new) }
 {
-    put_pair(" ", INTERPOLATION_END, sink)
+    put_piece(" }}", sink)
 }
 
 /// Puts the text of a fragment.

@@ -134,8 +134,19 @@ fn ends_in_return(text: &str) -> bool
     text.ends_with('\r')
 }
 
-/// Puts an indentation.
+/// Puts an indentation, the usual one at once.
 fn write_indentation<S: Sink>(indentation: Indentation, sink: &mut S) -> Result<(), S::Fault>
+    ensures ok { OnOk result (S.took sink.old (indentation_text indentation) sink.new) }
+    ensures err { OnErr result (S.failed sink.old (indentation_text indentation) sink.new) }
+{
+    if indentation == Indentation::default() {
+        return sink.put("    ");
+    }
+    write_blanks(indentation, sink)
+}
+
+/// Puts an indentation blank by blank.
+fn write_blanks<S: Sink>(indentation: Indentation, sink: &mut S) -> Result<(), S::Fault>
     ensures ok { OnOk result (S.took sink.old (indentation_text indentation) sink.new) }
     ensures err { OnErr result (S.failed sink.old (indentation_text indentation) sink.new) }
 {

@@ -8,6 +8,7 @@ pub mod Negations
 pub mod NextKinds
 pub mod Operators
 pub mod Parts
+pub mod QuickTests
 pub mod Rest
 pub mod Rows
 pub mod Rules

@@ -1,6 +1,6 @@
 //! The parser, and how it takes tokens.
 ghost use Rattle.std.specs.Option.{is_some};
-ghost use Rattle.std.specs.Prelude.{◌≡◌, ◌<◌, ◌≤◌, ◌+◌, drop, length, map, IsTrue, IfOk, OnOk, OnSome, IfSome};
+ghost use Rattle.std.specs.Prelude.{◌≡◌, ◌<◌, ◌≤◌, ◌+◌, ℕ, false, List, None, drop, length, map, IsTrue, IfOk, OnOk, OnSome, IfSome};
 ghost use Rattle.std.specs.List.{list_all};
 ghost use Rattle.justfile_word.specs.Keyword.{keyword_text};
 ghost use Rattle.justfile_word.specs.declared.token_kind.TokenKind.TheVariants as kinds;
@@ -178,6 +178,7 @@ impl<'run, 'src, X: Expander> ExpressionParser<'run, 'src, X> {
 
     /// Takes the next token if it is this keyword.
     #[tactic(auto, unfolding(crate::specs::TableReader::leaves, justfile_model::specs::Reading::accept_word, crate::specs::View::state_of, crate::specs::View::left))]
+    #[inline(always)]
     pub fn accept_keyword(&mut self, keyword: Keyword) -> Option<TableEntry<'run, 'src>>
         ensures takes { Takes result (state_of X.answer self.new)
             (reader.accept_word (keyword_text keyword) (state_of X.answer self.old)) }
@@ -196,6 +197,7 @@ impl<'run, 'src, X: Expander> ExpressionParser<'run, 'src, X> {
 
     /// Whether the next token is this keyword.
     #[tactic(auto, unfolding(crate::specs::TableReader::leaves, justfile_model::specs::Reading::accept_word))]
+    #[inline(always)]
     pub fn peek_keyword(&self, keyword: Keyword) -> bool
         ensures { result ≡ is_some (reader.accept_word (keyword_text keyword) (state_of X.answer self.now)) }
     {
@@ -206,13 +208,43 @@ impl<'run, 'src, X: Expander> ExpressionParser<'run, 'src, X> {
     }
 
     /// Takes the next token if it is this mark, and the string of this kind that is glued to it. The
-    /// string is returned.
-    #[tactic(auto, using(crate::proofs::Rest::marked_here, crate::proofs::Rest::marked_end, crate::proofs::Rest::sound_at), unfolding(crate::specs::View::state_of, crate::specs::View::left))]
+    /// string is returned. Few tokens stand before a string, so that is asked first.
+    #[tactic(auto, unfolding(crate::specs::View::state_of, crate::specs::View::left))]
+    #[inline(always)]
     pub(crate) fn accept_marked(
         &mut self,
         mark: Keyword,
         kind: TokenKind,
     ) -> Option<TableEntry<'run, 'src>>
+        ensures takes { Takes result (state_of X.answer self.new)
+            (reader.accept_marked (keyword_text mark) kind (state_of X.answer self.old)) }
+        ensures moves { Moves result self.old self.new }
+        ensures entry { IfSome result (λ entry. IsOf kind entry) }
+    {
+        if self.is_second(kind) {
+            return self.take_marked(mark, kind);
+        }
+        None
+    }
+
+    /// Whether the token after the next one is of this kind. If it is not, then nothing marks it.
+    #[tactic(auto, using(crate::proofs::QuickTests::unmarked, crate::proofs::Rest::marked_end), unfolding(crate::specs::View::state_of))]
+    #[inline(always)]
+    fn is_second(&self, kind: TokenKind) -> bool
+        ensures { result ≡ false → (word : List ℕ) → reader.accept_marked word kind (state_of X.answer self.now) ≡ None }
+    {
+        if self.tokens.len() - self.next < 2 {
+            return false;
+        }
+        let entry = self.tokens[self.next + 1];
+        entry.token.kind == kind
+    }
+
+    /// Takes the next token if it is this mark, and the string of this kind that is glued to it. The
+    /// string is returned.
+    #[tactic(auto, using(crate::proofs::Rest::marked_here, crate::proofs::Rest::marked_end, crate::proofs::Rest::sound_at), unfolding(crate::specs::View::state_of, crate::specs::View::left))]
+    #[inline(never)]
+    fn take_marked(&mut self, mark: Keyword, kind: TokenKind) -> Option<TableEntry<'run, 'src>>
         ensures takes { Takes result (state_of X.answer self.new)
             (reader.accept_marked (keyword_text mark) kind (state_of X.answer self.old)) }
         ensures moves { Moves result self.old self.new }
@@ -313,13 +345,18 @@ impl<'run, 'src, X: Expander> ExpressionParser<'run, 'src, X> {
     }
 }
 
-/// Whether the token is this word.
-#[tactic(auto, unfolding(justfile_model::specs::Reading::is_word, justfile_model::specs::Reading::same_kind))]
+/// Whether the token is this word. Most names have another length than the word, and that is asked first.
+#[tactic(auto, using(crate::proofs::QuickTests::unequal), unfolding(justfile_model::specs::Reading::is_word, justfile_model::specs::Reading::same_kind))]
+#[inline(always)]
 pub fn is_word(entry: TableEntry<'_, '_>, word: &str) -> bool
     ensures is { result ≡ is_word word.now (significant_of entry.entry) }
     ensures kind { IsTrue result → entry.entry.token.now.kind ≡ kinds.Identifier }
 {
-    entry.token.kind == TokenKind::Identifier && entry.token.lexeme() == word
+    if entry.token.kind != TokenKind::Identifier {
+        return false;
+    }
+    let lexeme = entry.token.lexeme();
+    lexeme.len() == word.len() && lexeme == word
 }
 
 /// Whether the token is a string of this kind, directly after a mark that is this word.

@@ -23,7 +23,7 @@ pub fn significant<'run, 'src>(
     ensures table { IfOk result (λ table. map significant_of table.items ≡ significant_tokens (map tok_of tokens.now)) }
     ensures tokens { IfOk result (λ table. map (λ entry. entry.token.now) table.items ≡ without_whitespace tokens.now) }
 {
-    let mut table = Vec::new(alloc);
+    let mut table = Vec::with_capacity(alloc, tokens.len())?;
     let mut glued = false;
     for token in tokens {
         if is_whitespace(token.kind) {

@@ -85,7 +85,8 @@ fn parse_lines<'src, X: Expander>(
             return Ok(lines);
         }
         let line = parse_body_line(parser)?;
-        lines.push(line)?;
+        lines.reserve(1)?;
+        lines.push_reserved(line);
     }
 }
 
@@ -131,7 +132,8 @@ fn parse_line_rest<'src, X: Expander>(
             return Ok(fragments);
         }
         let fragment = parse_fragment(parser)?;
-        fragments.push(fragment)?;
+        fragments.reserve(1)?;
+        fragments.push_reserved(fragment);
     }
 }
 

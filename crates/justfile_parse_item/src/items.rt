@@ -210,7 +210,7 @@ fn is_bodied(item: &Item<'_>) -> bool
     item.has_body()
 }
 
-/// Adds an item.
+/// Adds an item. Room is made first, since a push that may fail gives the item back, by a copy more.
 ///
 /// # Errors
 ///
@@ -219,14 +219,17 @@ fn push_item<'src>(items: &mut Vec<Item<'src>>, item: Item<'src>) -> Result<(), 
     ensures trees { OnOk result (map item_tree items.new.items ≡ map item_tree items.old.items ++ item_tree item.entry ∷ []) }
     ensures pushed { OnOk result (items.new.items ≡ items.old.items ++ item.entry ∷ []) }
 {
-    items.push(item)?;
+    items.reserve(1)?;
+    items.push_reserved(item);
     Ok(())
 }
 
-/// Adds the end of a line.
+/// Adds the end of a line. That is an item without fields, so no item is copied.
 fn push_newline(items: &mut Vec<Item<'_>>) -> Result<(), AllocError>
     ensures trees { OnOk result (map item_tree items.new.items ≡ map item_tree items.old.items ++ tree.Newline ∷ []) }
     ensures pushed { OnOk result (items.new.items ≡ items.old.items ++ variants.Newline ∷ []) }
 {
-    push_item(items, Item::Newline)
+    items.reserve(1)?;
+    items.push_reserved(Item::Newline);
+    Ok(())
 }

@@ -1,6 +1,6 @@
 use Rattle.std.proofs.Common.{List, ℕ, subst, arith}
 use Rattle.justfile_line.proofs.Loops.{at_err, took_equal, failed_equal}
-use Rattle.justfile_line.proofs.line.write_indentation.Goals as goal
+use Rattle.justfile_line.proofs.line.write_blanks.Goals as goal
 
 pub loop-i-preserved : goal.loop-i-preserved
 loop-i-preserved g c =
