@@ -1,7 +1,8 @@
 -- The state of the lexer.
-use Rattle.std.specs.Prelude.{◌≡◌, ℕ, ◌+◌, List, ◌∷◌, map, reverse, All, IfSome}
+use Rattle.std.specs.Prelude.{◌≡◌, ℕ, ◌+◌, ◌<◌, ◌==◌, Bool, true, false, slice_index, List, ◌∷◌, map, reverse, All, IfSome}
 use Rattle.std.specs.Str.{IsCharBoundary}
 use Rattle.justfile_word.specs.declared.token_kind.TokenKind.{TokenKind}
+use Rattle.justfile_word.specs.declared.token_kind.TokenKind.TheVariants.{Comment, Identifier, Text}
 use Rattle.justfile_lex.specs.declared.lexer.Lexer.{Lexer}
 use Rattle.justfile_base.specs.Slice.{slice_of}
 use Rattle.justfile_model.specs.Places.{IsPlace}
@@ -14,6 +15,17 @@ use Rattle.justfile_model.specs.Lexed.{end_of, IsNext, Begins}
 -- the tokens so far, the last first
 abbrev pub earlier : Lexer → List Tok
 earlier l = reverse (map tok_of l.tokens.items)
+
+-- a kind whose tokens have no line feed, and may be long
+abbrev pub is_feedless : TokenKind → Bool
+is_feedless Comment = true
+is_feedless Identifier = true
+is_feedless Text = true
+is_feedless _ = false
+
+-- no line feed is among the first bytes
+abbrev pub HasNoFeed : List ℕ → (count : ℕ) → Type 0
+HasNoFeed bs count = (i : ℕ) → i < count → (slice_index bs i == 10) ≡ false
 
 -- the place is the end of the tokens so far
 pub record IsAtEnd (l : Lexer) : Type 0 where

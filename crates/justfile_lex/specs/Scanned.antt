@@ -1,5 +1,5 @@
 -- What the scanners answer, as the definitions say it.
-use Rattle.std.specs.Prelude.{ℕ, [], ◌∷◌, Result, Ok, Err}
+use Rattle.std.specs.Prelude.{ℕ, [], ◌∷◌, Option, Some, None, Ok, Err}
 use Rattle.justfile_word.specs.declared.token_kind.TokenKind.{TokenKind}
 use Rattle.justfile_lex.specs.declared.refusal.Refusal.{Refusal as CodeRefusal}
 use Rattle.justfile_lex.specs.declared.lexical_fault.LexicalFault.{LexicalFault as CodeFault}
@@ -24,6 +24,6 @@ scan_fault faults.UnterminatedString = UnterminatedString
 abbrev pub scan_refusal : CodeRefusal → LexicalRefusal
 scan_refusal r = Here (scan_fault r.fault) r.skip r.length
 
-abbrev pub scan_answer : Result (TokenKind × ℕ) CodeRefusal → NextToken
-scan_answer (Ok x) = Ok x
-scan_answer (Err r) = Err (scan_refusal r)
+abbrev pub scan_answer : Option (TokenKind × ℕ) → CodeRefusal → NextToken
+scan_answer (Some x) refusal = Ok x
+scan_answer None refusal = Err (scan_refusal refusal)

@@ -1,4 +1,4 @@
-ghost use Rattle.std.specs.Prelude.{◌≡◌, ◌<◌, ◌&&◌, nat_eq, length, None};
+ghost use Rattle.std.specs.Prelude.{◌≡◌, ◌<◌, ◌&&◌, nat_eq, length, None, Ok};
 ghost use Rattle.std.specs.List.{starts_with};
 ghost use Rattle.justfile_model.specs.Bytes.{blank_len};
 ghost use Rattle.justfile_model.specs.Next.{end_token, blanks_or, tested_blanks, begins_blank_line, layout, at_line_start, next};
@@ -10,32 +10,33 @@ ghost use Rattle.justfile_lex.specs.WhiteRun.{IsRunOf};
 use crate::bytes::{begins_with, blank_len, is_line_end, is_mixed, skip, take_blanks};
 use crate::lexical_fault::LexicalFault;
 use crate::mode::Mode;
-use crate::refusal::{Scanned, refuse};
+use crate::refusal::{Refusal, Scanned};
 use crate::scan::scan_within_line;
 use crate::white_run::WhiteRun;
 use justfile_base::TokenKind;
 
 /// The token at the end of the text, where no interpolation is open.
-fn scan_end<'src>(mode: &Mode<'src>) -> Scanned<'src>
+fn scan_end(mode: &Mode<'_>) -> (TokenKind, usize)
     requires { (mode_of mode.now).interpolation ≡ None }
-    ensures { scan_answer result ≡ end_token (mode_of mode.now) }
+    ensures { Ok result ≡ end_token (mode_of mode.now) }
 {
     if mode.no_level() {
-        Ok((TokenKind::Eof, 0))
+        (TokenKind::Eof, 0)
     } else {
-        Ok((TokenKind::Dedent, 0))
+        (TokenKind::Dedent, 0)
     }
 }
 
 /// So many blanks, or the token that comes where there are none.
-fn scan_blanks<'src>(count: usize, mode: &Mode<'src>, rest: &'src str) -> Scanned<'src>
+#[inline(never)]
+fn scan_blanks(count: usize, mode: &Mode<'_>, rest: &str, refusal: &mut Refusal<'_>) -> Scanned
     requires { 0 < length rest.now }
-    ensures { scan_answer result ≡ blanks_or count (mode_of mode.now) rest.now }
+    ensures { scan_answer result refusal.new ≡ blanks_or count (mode_of mode.now) rest.now }
 {
     if count == 0 {
-        scan_within_line(mode, rest)
+        scan_within_line(mode, rest, refusal)
     } else {
-        Ok((TokenKind::Whitespace, count))
+        Some((TokenKind::Whitespace, count))
     }
 }
 
@@ -66,14 +67,14 @@ fn continues_body(mode: &Mode, found: &str, level: &str) -> bool
 }
 
 /// Blanks that are no level: one more level, or a fault.
-fn scan_indent<'src>(mode: &Mode<'src>, found: &'src str) -> Scanned<'src>
+fn scan_indent<'src>(mode: &Mode<'src>, found: &'src str, refusal: &mut Refusal<'src>) -> Scanned
     requires { blank_len found.now ≡ length found.now }
-    ensures { scan_answer result ≡ indent (mode_of mode.now) found.now }
+    ensures { scan_answer result refusal.new ≡ indent (mode_of mode.now) found.now }
 {
     let level = mode.level();
     let tested_blanks = take_tested_blanks(mode, found);
     if is_mixed(tested_blanks.as_bytes()) {
-        return refuse(
+        return refusal.refuse(
             LexicalFault::MixedLeadingWhitespace {
                 whitespace: tested_blanks,
             },
@@ -82,7 +83,7 @@ fn scan_indent<'src>(mode: &Mode<'src>, found: &'src str) -> Scanned<'src>
         );
     }
     if !begins_with(found.as_bytes(), level.as_bytes()) {
-        return refuse(
+        return refusal.refuse(
             LexicalFault::InconsistentLeadingWhitespace {
                 expected: level,
                 found,
@@ -91,15 +92,20 @@ fn scan_indent<'src>(mode: &Mode<'src>, found: &'src str) -> Scanned<'src>
             found.len(),
         );
     }
-    Ok((TokenKind::Indent, found.len()))
+    Some((TokenKind::Indent, found.len()))
 }
 
 /// The token at the start of a line.
 #[tactic(auto, unfolding(justfile_model::specs::Next::layout))]
-fn scan_line_start<'src>(mode: &Mode<'src>, run: &mut WhiteRun, rest: &'src str) -> Scanned<'src>
+fn scan_line_start<'src>(
+    mode: &Mode<'src>,
+    run: &mut WhiteRun,
+    rest: &'src str,
+    refusal: &mut Refusal<'src>,
+) -> Scanned
     requires some { 0 < length rest.now }
     requires run { IsRunOf rest.now run.old }
-    ensures found { scan_answer result ≡ at_line_start (mode_of mode.now) rest.now }
+    ensures found { scan_answer result refusal.new ≡ at_line_start (mode_of mode.now) rest.now }
     ensures run { IsRunOf rest.now run.new }
 {
     let bytes = rest.as_bytes();
@@ -108,24 +114,24 @@ fn scan_line_start<'src>(mode: &Mode<'src>, run: &mut WhiteRun, rest: &'src str)
     let level = mode.level();
     let after_blanks = skip(bytes, length);
     if mode.is_nested() {
-        return scan_blanks(found.len(), mode, rest);
+        return scan_blanks(found.len(), mode, rest, refusal);
     }
     if is_blank_line(after_blanks) {
         if !mode.no_level() && run.closes_levels(bytes) {
-            return Ok((TokenKind::Dedent, 0));
+            return Some((TokenKind::Dedent, 0));
         }
-        return scan_blanks(found.len(), mode, rest);
+        return scan_blanks(found.len(), mode, rest, refusal);
     }
     if found == level {
-        return scan_blanks(found.len(), mode, rest);
+        return scan_blanks(found.len(), mode, rest, refusal);
     }
     if mode.is_level(found) {
-        return Ok((TokenKind::Dedent, 0));
+        return Some((TokenKind::Dedent, 0));
     }
     if continues_body(mode, found, level) {
-        return scan_blanks(level.len(), mode, rest);
+        return scan_blanks(level.len(), mode, rest, refusal);
     }
-    scan_indent(mode, found)
+    scan_indent(mode, found, refusal)
 }
 
 /// The kind and the length of the next token.
@@ -134,17 +140,18 @@ pub(crate) fn scan_token<'src>(
     mode: &Mode<'src>,
     run: &mut WhiteRun,
     rest: &'src str,
-) -> Scanned<'src>
+    refusal: &mut Refusal<'src>,
+) -> Scanned
     requires closed { length rest.now ≡ 0 → (mode_of mode.now).interpolation ≡ None }
     requires run { IsRunOf rest.now run.old }
-    ensures found { scan_answer result ≡ next (mode_of mode.now) rest.now }
+    ensures found { scan_answer result refusal.new ≡ next (mode_of mode.now) rest.now }
     ensures run { IsRunOf rest.now run.new }
 {
     if rest.is_empty() {
-        scan_end(mode)
+        Some(scan_end(mode))
     } else if mode.line_start {
-        scan_line_start(mode, run, rest)
+        scan_line_start(mode, run, rest, refusal)
     } else {
-        scan_within_line(mode, rest)
+        scan_within_line(mode, rest, refusal)
     }
 }

@@ -7,10 +7,13 @@ ghost use Rattle.justfile_model.specs.Next.{next};
 ghost use Rattle.justfile_model.specs.Tok.{tok_of};
 ghost use Rattle.justfile_model.specs.Lexed.{Lexed, StandsAt, end_of};
 ghost use Rattle.justfile_model.specs.Answers.{IsFrom, IsLexicalError, IsLexerFault};
+ghost use Rattle.justfile_model.specs.Places.{IsPlace};
+ghost use Rattle.justfile_lex.specs.Lexing.{is_feedless};
 ghost use Rattle.justfile_lex.specs.Modes.{mode_of};
 ghost use Rattle.justfile_lex.specs.Scanned.{scan_refusal};
 
 use crate::layout;
+use crate::lexical_fault::LexicalFault;
 use crate::mode::Mode;
 use crate::place::{Place, place_after};
 use crate::refusal::Refusal;
@@ -34,8 +37,18 @@ pub struct Lexer<'src> {
     tokens: Vec<Token<'src>>,
 }
 
+/// Whether tokens of the kind have no line feed, and may be long.
+fn is_feedless(kind: TokenKind) -> bool
+    ensures { result ≡ is_feedless kind }
+{
+    matches!(
+        kind,
+        TokenKind::Comment | TokenKind::Identifier | TokenKind::Text
+    )
+}
+
 impl<'src> Lexer<'src> {
-    ghost use Rattle.justfile_lex.specs.Lexing.{earlier, IsLexing, Pushes, IsLexerToken};
+    ghost use Rattle.justfile_lex.specs.Lexing.{earlier, IsAtEnd, IsLexing, Pushes, IsLexerToken};
 
     /// What begins an interpolation.
     pub const INTERPOLATION_START: &'static str = interpolation::INTERPOLATION_START;
@@ -62,18 +75,23 @@ impl<'src> Lexer<'src> {
     {
         let mut lexer = Lexer::new(alloc, path, src);
         let mut run = WhiteRun::before(src);
+        let mut refusal = Refusal {
+            fault: LexicalFault::UnpairedCarriageReturn,
+            skip: 0,
+            length: 0,
+        };
         'tokens: loop {
             if let Some(start) = lexer.unclosed_interpolation() {
                 return Err(lexer.unterminated(start));
             }
-            match layout::scan_token(&lexer.mode, &mut run, lexer.rest()) {
-                Ok((kind, length)) => {
+            match layout::scan_token(&lexer.mode, &mut run, lexer.rest(), &mut refusal) {
+                Some((kind, length)) => {
                     lexer.push(kind, length)?;
                     if kind == TokenKind::Eof {
                         return Ok(lexer.tokens);
                     }
                 }
-                Err(refusal) => return Err(lexer.make_fault(alloc, refusal)),
+                None => return Err(lexer.make_fault(alloc, refusal)),
             }
         }
     }
@@ -208,6 +226,23 @@ impl<'src> Lexer<'src> {
         }
     }
 
+    /// The place after the next token, of this kind and length.
+    fn place_past(&self, kind: TokenKind, length: usize) -> Place
+        requires at_end { IsAtEnd self.now }
+        requires within { IsWithin self.now.src.now self.now.offset length }
+        requires found { next (mode_of self.now.mode) (drop self.now.offset self.now.src.now) ≡ Ok (kind, length) }
+        ensures { IsPlace self.now.src.now (self.now.offset + length) result.line result.column }
+    {
+        if is_feedless(kind) {
+            return Place {
+                line: self.place.line,
+                column: self.place.column + length,
+            };
+        }
+        let end = self.offset + length;
+        place_after(self.src.as_bytes(), self.place, self.offset, end)
+    }
+
     /// Adds the next token.
     fn push(&mut self, kind: TokenKind, length: usize) -> Result<(), AllocError>
         requires lexing { IsLexing self.old }
@@ -216,11 +251,11 @@ impl<'src> Lexer<'src> {
         ensures { OnOk result (Pushes self.old self.new kind length) }
     {
         let token = self.make_token(kind, length);
+        let place = self.place_past(kind, length);
         self.mode.note(token)?;
         self.tokens.push(token)?;
-        let end = self.offset + length;
-        self.place = place_after(self.src.as_bytes(), self.place, self.offset, end);
-        self.offset = end;
+        self.place = place;
+        self.offset += length;
         Ok(())
     }
 }

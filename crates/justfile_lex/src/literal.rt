@@ -8,7 +8,7 @@ use crate::bytes::{is_interpolation_end, is_interpolation_start, skip};
 use crate::lexical_fault::LexicalFault;
 use crate::mode::Mode;
 use crate::raw_text::raw_len;
-use crate::refusal::{Scanned, refuse};
+use crate::refusal::{Refusal, Scanned};
 use justfile_base::interpolation::{INTERPOLATION_END, INTERPOLATION_START};
 use justfile_base::{Delimiter, StringDelimiter, StringKind, TokenKind};
 use justfile_model::{OpenDelimiter, RawText};
@@ -33,16 +33,17 @@ fn is_backtick(delimiter: StringDelimiter) -> bool
 /// A literal or a part of a format string, of which the first bytes are known: the kind is `more`
 /// where an interpolation follows, else `whole`.
 #[tactic(auto, unfolding(justfile_model::specs::Next::literal_part))]
-fn scan_literal_part<'src>(
+fn scan_literal_part(
     kind: StringKind,
     format: bool,
     opener: usize,
     more: TokenKind,
     whole: TokenKind,
     rest: &[u8],
-) -> Scanned<'src>
+    refusal: &mut Refusal<'_>,
+) -> Scanned
     requires { opener ≤ length rest.now }
-    ensures { scan_answer result ≡ literal_part kind format opener more whole rest.now }
+    ensures { scan_answer result refusal.new ≡ literal_part kind format opener more whole rest.now }
 {
     let body = skip(rest, opener);
     let inside = raw_len(
@@ -53,18 +54,18 @@ fn scan_literal_part<'src>(
         body,
     );
     if inside == body.len() {
-        refuse(unterminated_fault(kind.delimiter), 0, opener)
+        refusal.refuse(unterminated_fault(kind.delimiter), 0, opener)
     } else if format && is_interpolation_start(skip(body, inside)) {
-        Ok((more, opener + inside + INTERPOLATION_START.len()))
+        Some((more, opener + inside + INTERPOLATION_START.len()))
     } else {
-        Ok((whole, opener + inside + kind.delimiter_len()))
+        Some((whole, opener + inside + kind.delimiter_len()))
     }
 }
 
 /// A string, a backtick, or the start of a format string.
-pub(crate) fn scan_literal<'src>(mode: &Mode<'src>, rest: &[u8]) -> Scanned<'src>
+pub(crate) fn scan_literal(mode: &Mode<'_>, rest: &[u8], refusal: &mut Refusal<'_>) -> Scanned
     requires { delimiter_len (kind_of rest.now) ≤ length rest.now }
-    ensures { scan_answer result ≡ literal_token (mode_of mode.now) rest.now }
+    ensures { scan_answer result refusal.new ≡ literal_token (mode_of mode.now) rest.now }
 {
     let kind = StringKind::of_opening(rest);
     let format = mode.after_f && !is_backtick(kind.delimiter);
@@ -75,6 +76,7 @@ pub(crate) fn scan_literal<'src>(mode: &Mode<'src>, rest: &[u8]) -> Scanned<'src
         TokenKind::FormatStringStart,
         kind.token_kind(),
         rest,
+        refusal,
     )
 }
 
@@ -91,24 +93,25 @@ fn is_same(opener: Delimiter, close: Delimiter) -> bool
 }
 
 /// A closing delimiter, which has to match the innermost open one.
-fn close_delimiter<'src>(
+fn close_delimiter(
     last: Option<OpenDelimiter>,
     delimiter: Delimiter,
     kind: TokenKind,
-) -> Scanned<'src>
-    ensures { scan_answer result ≡ closing_delimiter last delimiter kind }
+    refusal: &mut Refusal<'_>,
+) -> Scanned
+    ensures { scan_answer result refusal.new ≡ closing_delimiter last delimiter kind }
 {
     match last {
-        None => refuse(
+        None => refusal.refuse(
             LexicalFault::UnexpectedClosingDelimiter { close: delimiter },
             0,
             0,
         ),
         Some(opener) => {
             if is_same(opener.delimiter, delimiter) {
-                Ok((kind, 1))
+                Some((kind, 1))
             } else {
-                refuse(
+                refusal.refuse(
                     LexicalFault::MismatchedClosingDelimiter {
                         close: delimiter,
                         open_line: opener.line,
@@ -143,9 +146,13 @@ fn format_kind(last: Option<OpenDelimiter>) -> Option<StringKind>
 }
 
 /// A closing brace, or two that go on with a format string.
-fn scan_closing_brace<'src>(last: Option<OpenDelimiter>, rest: &[u8]) -> Scanned<'src>
+fn scan_closing_brace(
+    last: Option<OpenDelimiter>,
+    rest: &[u8],
+    refusal: &mut Refusal<'_>,
+) -> Scanned
     requires { 0 < length rest.now }
-    ensures { scan_answer result ≡ brace_by (format_kind last) last rest.now }
+    ensures { scan_answer result refusal.new ≡ brace_by (format_kind last) last rest.now }
 {
     match format_kind(last) {
         Some(kind) if is_interpolation_end(rest) => scan_literal_part(
@@ -155,19 +162,25 @@ fn scan_closing_brace<'src>(last: Option<OpenDelimiter>, rest: &[u8]) -> Scanned
             TokenKind::FormatStringContinue,
             TokenKind::FormatStringEnd,
             rest,
+            refusal,
         ),
-        _ => close_delimiter(last, Delimiter::Brace, TokenKind::BraceR),
+        _ => close_delimiter(last, Delimiter::Brace, TokenKind::BraceR, refusal),
     }
 }
 
 /// The token that begins with a closing delimiter, where this one is the innermost open.
-pub(crate) fn scan_closer<'src>(last: Option<OpenDelimiter>, byte: u8, rest: &[u8]) -> Scanned<'src>
+pub(crate) fn scan_closer(
+    last: Option<OpenDelimiter>,
+    byte: u8,
+    rest: &[u8],
+    refusal: &mut Refusal<'_>,
+) -> Scanned
     requires { 0 < length rest.now }
-    ensures { scan_answer result ≡ closing last byte rest.now }
+    ensures { scan_answer result refusal.new ≡ closing last byte rest.now }
 {
     match byte {
-        b')' => close_delimiter(last, Delimiter::Paren, TokenKind::ParenR),
-        b']' => close_delimiter(last, Delimiter::Bracket, TokenKind::BracketR),
-        _ => scan_closing_brace(last, rest),
+        b')' => close_delimiter(last, Delimiter::Paren, TokenKind::ParenR, refusal),
+        b']' => close_delimiter(last, Delimiter::Bracket, TokenKind::BracketR, refusal),
+        _ => scan_closing_brace(last, rest, refusal),
     }
 }

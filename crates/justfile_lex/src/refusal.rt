@@ -15,16 +15,26 @@ pub(crate) struct Refusal<'src> {
     pub(crate) length: usize,
 }
 
-/// The kind and the length of the next token, in bytes.
-pub(crate) type Scanned<'src> = Result<(TokenKind, usize), Refusal<'src>>;
+/// The kind and the length of the next token, in bytes. Where there is none, the refusal is written
+/// to the place for it that a scanner is passed: it is far bigger than the token, and passing it on
+/// from one scanner to another with each token would cost as much as finding the token.
+pub(crate) type Scanned = Option<(TokenKind, usize)>;
 
-/// A fault at so many bytes of the rest, after the bytes to skip.
-pub(crate) fn refuse<'src>(fault: LexicalFault<'src>, skip: usize, length: usize) -> Scanned<'src>
-    ensures { scan_answer result ≡ Err (Here (scan_fault fault.entry) skip length) }
-{
-    Err(Refusal {
-        fault,
-        skip,
-        length,
-    })
+impl<'src> Refusal<'src> {
+    /// A fault at so many bytes of the rest, after the bytes to skip.
+    pub(crate) fn refuse(
+        &mut self,
+        fault: LexicalFault<'src>,
+        skip: usize,
+        length: usize,
+    ) -> Scanned
+        ensures { scan_answer result self.new ≡ Err (Here (scan_fault fault.entry) skip length) }
+    {
+        *self = Refusal {
+            fault,
+            skip,
+            length,
+        };
+        None
+    }
 }

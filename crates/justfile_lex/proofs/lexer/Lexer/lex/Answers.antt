@@ -16,37 +16,37 @@ returns-in-Some-clause-fault c =
     subst (λ p. IsLexerFault p c.args.src.now c.unterminated.result) c.tokens.invariant.path_is
     (subst (λ s. IsLexerFault c.tokens.lexer.path.now s c.unterminated.result) c.tokens.invariant.src_is c.unterminated.ensures)
 
-pub returns-in-Err-clause-fault : goal.returns-in-Err-clause-fault
-returns-in-Err-clause-fault c =
+pub returns-in-None-clause-fault : goal.returns-in-None-clause-fault
+returns-in-None-clause-fault c =
     subst (λ p. IsLexerFault p c.args.src.now c.make_fault.result) c.tokens.invariant.path_is
     (subst (λ s. IsLexerFault c.tokens.lexer.path.now s c.make_fault.result) c.tokens.invariant.src_is c.make_fault.ensures)
 
 pub push-requires-clause-cut : goal.push-requires-clause-cut
 push-requires-clause-cut c =
     let l = c.tokens.lexer in
-    let found = ap (next (mode_of l.mode)) (sym c.rest.ensures) ∙ sym c.in-Ok.ensures.found in
+    let found = ap (next (mode_of l.mode)) (sym c.rest.ensures) ∙ sym c.in-Some-scan_token.ensures.found in
     (token_cut _ _ (subst IsUtf8 c.rest.ensures c.rest.utf8) _ _ found).0
 
 pub tokens-smaller : goal.tokens-smaller
 tokens-smaller c =
     let l = c.tokens.lexer in
-    let found = ap (next (mode_of l.mode)) (sym c.rest.ensures) ∙ sym c.in-Ok.ensures.found in
+    let found = ap (next (mode_of l.mode)) (sym c.rest.ensures) ∙ sym c.in-Some-scan_token.ensures.found in
     let cut = token_cut _ _ (subst IsUtf8 c.rest.ensures c.rest.utf8) _ _ found in
     let end = IsCharBoundary-from_rest _ _ _ c.tokens.invariant.lexing.at_end.cut.0 cut.0 in
-    let ne : c.in-Ok.kind ≢ Eof = search (rules, c.if-eq.ensures) in
-    goes_down l _ _ _ c.in_ok-push-in-Ok.ensures end.0 cut.1 ne
+    let ne : c.in-Some-scan_token.kind ≢ Eof = search (rules, c.if-eq.ensures) in
+    goes_down l _ _ _ c.in_ok-push-in-Some-scan_token.ensures end.0 cut.1 ne
 
 pub tokens-preserved : goal.tokens-preserved
 tokens-preserved c =
     let old = c.tokens.lexer in
     let new = c.push.new.self in
     let run = c.scan_token.new.run in
-    let pushes = c.in_ok-push-in-Ok.ensures in
-    let ne : c.in-Ok.kind ≢ Eof = search (rules, c.if-eq.ensures) in
-    let run_after = run_on (drop old.offset old.src.now) run c.in-Ok.length (subst (λ bs. IsRunOf bs run) c.rest.ensures c.in-Ok.ensures.run) in
-    let there = drop-drop c.in-Ok.length old.offset old.src.now ∙ (λ i. drop (sym pushes.offset_is i) (sym pushes.src_is i).now) in
+    let pushes = c.in_ok-push-in-Some-scan_token.ensures in
+    let ne : c.in-Some-scan_token.kind ≢ Eof = search (rules, c.if-eq.ensures) in
+    let run_after = run_on (drop old.offset old.src.now) run c.in-Some-scan_token.length (subst (λ bs. IsRunOf bs run) c.rest.ensures c.in-Some-scan_token.ensures.run) in
+    let there = drop-drop c.in-Some-scan_token.length old.offset old.src.now ∙ (λ i. drop (sym pushes.offset_is i) (sym pushes.src_is i).now) in
     record {
-      lexing = lexes_on old new c.in-Ok.kind c.in-Ok.length c.tokens.invariant.lexing pushes ne;
+      lexing = lexes_on old new c.in-Some-scan_token.kind c.in-Some-scan_token.length c.tokens.invariant.lexing pushes ne;
       run = subst (λ bs. IsRunOf bs run) there run_after;
       path_is = ap (λ (p : _). p.now) pushes.path_is ∙ c.tokens.invariant.path_is;
       src_is = ap (λ (s : _). s.now) pushes.src_is ∙ c.tokens.invariant.src_is;
