@@ -7,6 +7,7 @@ times these are of the text of twice the length. A time is the least of three ru
 operands of one run.
 """
 import os
+import random
 import sys
 
 OPERANDS = 1_000_000
@@ -54,12 +55,20 @@ def row_texts():
         yield f"{name}, refused", OPERANDS, lambda n: "a := " + part * n + "\n"
 
 
+def shuffled(count):
+    """The numbers below count, in an order that is the same in each run."""
+    numbers = list(range(count))
+    random.Random(1).shuffle(numbers)
+    return numbers
+
+
 def attribute_texts():
-    """Attributes of one recipe."""
-    yield "groups", ATTRIBUTES, lambda n: "".join(f"[group('g{i}')]\n" for i in range(n)) + "foo:\n"
-    yield "options", ATTRIBUTES, lambda n: "".join(f"[arg('p{i}', long)]\n" for i in range(n)) + "foo " + " ".join(
-        f"p{i}" for i in range(n)
-    ) + ":\n"
+    """Attributes of one recipe, whose names are of one length and stand in their order or in none."""
+    for place, order in (("in order", range), ("in no order", shuffled)):
+        yield f"groups, {place}", ATTRIBUTES, lambda n: "".join(f"[group('g{i:05}')]\n" for i in order(n)) + "foo:\n"
+        yield f"options, {place}", ATTRIBUTES, lambda n: "".join(
+            f"[arg('p{i:05}', long)]\n" for i in order(n)
+        ) + "foo " + " ".join(f"p{i:05}" for i in range(n)) + ":\n"
 
 
 def part_texts():
