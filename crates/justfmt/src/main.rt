@@ -4,7 +4,7 @@
 use justfile_format::failure::{self, Failure};
 use justfile_format::run::run;
 use std::env;
-use std::io::{self, BufWriter, ErrorKind};
+use std::io::{self, ErrorKind};
 use std::process::ExitCode;
 
 /// The arguments after the program's name. An argument that isn't UTF-8 makes them `?`, which is
@@ -26,25 +26,17 @@ fn arguments(rt: &HostRuntime) -> io::Result<Vec<String>> {
     Ok(arguments)
 }
 
-/// Does what the arguments ask for, over the standard streams, and answers the exit status. What is
-/// written goes through a buffer, since a file is printed in many small pieces. The buffer is taken
-/// apart in the end, so that after a write that failed no other is tried.
-fn run_on_streams(rt: &HostRuntime, arguments: &[String]) -> io::Result<u8> {
+/// Does what the arguments ask for, over the standard streams, and answers the exit status.
+fn run_on_streams(rt: &HostRuntime, arguments: &[String]) -> u8 {
     let mut reader = rt.stdin();
+    let mut writer = rt.stdout();
     let mut errors = rt.stderr();
-    let mut writer = BufWriter::new(rt.alloc(), rt.stdout())?;
-    let status = run(rt.alloc(), arguments, &mut reader, &mut writer, &mut errors);
-    let _ = writer.into_parts();
-    Ok(status)
+    run(rt.alloc(), arguments, &mut reader, &mut writer, &mut errors)
 }
 
 fn main(rt: HostRuntime) -> ExitCode {
-    let status = match arguments(&rt) {
-        Ok(arguments) => run_on_streams(&rt, &arguments),
-        Err(error) => Err(error),
-    };
-    match status {
-        Ok(status) => ExitCode::from(status),
+    match arguments(&rt) {
+        Ok(arguments) => ExitCode::from(run_on_streams(&rt, &arguments)),
         Err(_) => ExitCode::from(failure::report(&Failure::Memory, &mut rt.stderr())),
     }
 }
