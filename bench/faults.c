@@ -33,7 +33,7 @@ __attribute__((constructor)) static void begin(void) {
     call_name = at && how && mark ? getenv("FAULT_CALL") : NULL;
 }
 
-/* Counts a call, and says what becomes of it. */
+/* Counts a call, and returns whether it is refused or shortened. */
 static enum answer count(const char *name) {
     if (!call_name || strcmp(name, call_name) != 0)
         return AS_IT_IS;

@@ -1,10 +1,10 @@
 #!/bin/sh
 # Refuses each allocation, read and write of the built program justfmt in turn: faults.sh [PROGRAM]
 #
-# The program is run on a longer justfile and a short one, with --check on one and on what it is formatted
-# to, on a text that is refused and on one that can't be printed. In each run one allocation is refused, alone or with
-# all after it, or one read or write, which fails or moves one byte. Every run has to end as it does
-# where nothing fails, or with status 3 and the one line for it, having written a beginning of the text.
+# The program is run on a longer justfile and a short one, with --check on one and on its formatted text,
+# on a text that isn't a justfile and on one that can't be printed. In each run one allocation is refused,
+# alone or with all after it, or one read or write fails or moves one byte. Every run has to end as if
+# nothing failed, or with status 3 and the one line for it, having written a beginning of the text.
 # Prints a row for each kind of run, and ends with 1 if a run ended otherwise. Needs gcc.
 set -u
 top=$(cd "$(dirname "$0")/.." && pwd)
@@ -15,8 +15,8 @@ trap 'rm -rf "$work"' EXIT
 gcc -O2 -Wall -shared -fPIC -o "$work/faults.so" "$top/bench/faults.c" || exit 2
 status=0
 
-# Runs the program on a text, with an argument or without one, and keeps what it leaves behind. Its status
-# is the program's, and 124 if it did not end.
+# Runs the program on a text, with an argument or without one, and stores its output. The status is the
+# program's, or 124 if it did not end.
 run() {
     timeout 20 env "$@" >"$work/output" 2>"$work/errors" <"$work/input"
 }
@@ -26,12 +26,12 @@ is_beginning() {
     head -c "$(wc -c <"$1")" "$2" | cmp -s - "$1"
 }
 
-# Whether a run that ended with this status left behind what it does where nothing fails.
+# Whether a run that ended with this status wrote what it does if nothing fails.
 is_plain() {
     [ "$1" = "$plain" ] && cmp -s "$work/output" "$work/plain_output" && cmp -s "$work/errors" "$work/plain_errors"
 }
 
-# Whether a run that ended with this status says that it failed, by the line in the file line.
+# Whether a run that ended with this status reported that it failed, by the line in the file line.
 is_failure() {
     [ "$1" = 3 ] && cmp -s "$work/errors" "$work/line" && is_beginning "$work/output" "$work/plain_output"
 }

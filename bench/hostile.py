@@ -2,8 +2,8 @@
 """Runs a formatter on long texts and on texts of twice their length: hostile.py PROGRAM FOLDER
 
 Writes the texts into the folder, one after the other. Prints a row for each: how many parts it has, its
-bytes, the status of the program, its processor time and the greatest memory that it held, and how many
-times these are of the text of twice the length. A time is the least of three runs, that of a row of
+bytes, the status of the program, its processor time and its peak memory, and the ratios of these for the
+text of twice the length. A time is the least of three runs, that of a row of
 operands of one run.
 """
 import os
@@ -14,7 +14,7 @@ OPERANDS = 1_000_000
 ATTRIBUTES = 8_000
 BYTES = 1_000_000
 
-# What a row of operands is made of: the part that comes again and again, and the last one.
+# The parts of a row of operands: the one that is repeated, and the last one.
 ROWS = {
     "+": ("b + ", "b"),
     "++": ("b ++ ", "b"),
@@ -25,7 +25,7 @@ ROWS = {
     "else if": ("if b { c } else ", "{ d }"),
 }
 
-# Where a row stands: the text before it and the text after it. A default is a value, which takes no
+# The place of a row: the text before it and the text after it. A default is a value, which takes no
 # operator but `!`.
 PLACES = {
     "assignment": ("a := ", "\n"),
@@ -36,7 +36,7 @@ PLACES = {
     "value of an option": ("[arg('a', long, value=", ")]\nfoo a:\n"),
 }
 
-# Texts of one part again and again, up to a size.
+# Texts of one part that is repeated up to a size.
 PARTS = {
     "assignments": "a := b\n",
     "comments": "# a\n",

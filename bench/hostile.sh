@@ -1,8 +1,8 @@
 #!/bin/sh
 # Runs the formatter on texts that a hostile or a generated source can have, on a stack of 8 MB, and
-# prints for each its status, time and peak of memory, and those of a text of twice the length. Builds
-# the program justfmt unless it is given one: hostile.sh [PROGRAM]. Needs rt and python3; what it writes
-# lies in bench/out.
+# prints for each its status, time and peak memory, and those of a text of twice the length. Builds the
+# program justfmt unless one is passed: hostile.sh [PROGRAM]. Needs rt and python3; its files are in
+# bench/out.
 set -eu
 top=$(cd "$(dirname "$0")/.." && pwd)
 out="$top/bench/out"

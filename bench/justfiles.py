@@ -6,7 +6,7 @@ that size: a kind repeats its lines as long as they fit. Each is formatted witho
 """
 from texts import repeated, write
 
-# How many expressions are open at once, of the 256 that may be.
+# How many expressions are open at once, of at most 256.
 DEPTH = 250
 
 # An expression of short tokens, nearly one for each byte, with most of the operators.
@@ -23,7 +23,7 @@ NESTED = (
 
 
 def recipes(line, size):
-    """Four recipes, each a quarter of the text and with this line again and again as its body."""
+    """Four recipes, each a quarter of the text and with this line repeated as its body."""
     header = "build:\n"
     return (header + repeated(line, size // 4 - len(header) - 1) + "\n") * 4
 

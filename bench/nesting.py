@@ -1,10 +1,10 @@
 #!/usr/bin/env python3
 """Writes the rows of nesting_places.rows to standard output: nesting.py > ROWS
 
-Each form in which an expression stands in another is nested 254 to 258 times, in each place where an
-expression stands. What is expected is reckoned here: an expression is open from its mark `<` to its
-mark `>`, at most LIMIT are open in one another, and the first one that is one too many is refused, at
-its first token.
+Each form that has an expression in it is nested 254 to 258 times, in each place for an expression. The
+expected result is computed here: an expression is open from its mark `<` to its mark `>`, at most LIMIT
+may be open inside one another, and the first one that exceeds the limit is an error, at its first
+token.
 """
 import re
 
@@ -47,7 +47,7 @@ PLACES = [
 
 
 def sides(text):
-    """What stands before the E of a text, and what stands after it."""
+    """The text before the E, and the text after it."""
     return text.split("E")
 
 
@@ -56,8 +56,8 @@ def unmarked(text):
 
 
 def placed(place, form):
-    """What stands before and after an expression in a place: parentheses too, if it has to be a value
-    there and this form is none."""
+    """The text before and after an expression in a place: parentheses too, if it has to be a value
+    there and this form isn't one."""
     (text, wants_value), (_, is_value) = place, form
     before, after = sides(text)
     if wants_value and not is_value:
@@ -66,7 +66,7 @@ def placed(place, form):
 
 
 def refusal(marked):
-    """The offset and the length of the first token of the first expression that is one too many, or
+    """The offset and the length of the first token of the first expression that exceeds the limit, or
     none."""
     offset = depth = 0
     for place, mark in enumerate(marked):
@@ -90,7 +90,7 @@ def notation(text):
 
 
 def printed_as(form):
-    """The form as it is printed, with what is nested, and the same with what stands in the middle."""
+    """The form as it is printed, with what is nested, and the same with what is in the middle."""
     if form == "if <b> { <c> } else { <E> }":
         return "if b { c } else E", "{ b }"
     return form, "b"
@@ -115,7 +115,7 @@ def printed(place, form, level):
 
 
 def taken(form, level):
-    """The row of a file with all places that hold so many levels."""
+    """The row of a file with all places that allow this many levels."""
     places = [place for place in PLACES if refusal(nested(place, form, level)[0]) is None]
     if not places:
         return []
@@ -127,7 +127,7 @@ def taken(form, level):
 
 
 def refused(form, level):
-    """The rows of the places that don't hold so many levels."""
+    """The rows of the places that don't allow this many levels."""
     for place in PLACES:
         marked, written = nested(place, form, level)
         fault = refusal(marked)
@@ -136,8 +136,8 @@ def refused(form, level):
 
 
 def main():
-    print("# Each form in which an expression stands in another, nested 254 to 258 times, in each place where")
-    print("# an expression stands. Written by bench/nesting.py, which reckons what is expected.")
+    print("# Each form that has an expression in it, nested 254 to 258 times, in each place for an")
+    print("# expression. Written by bench/nesting.py, which computes the expected results.")
     for form in FORMS:
         print("\n# %s" % unmarked(form[0]).replace("E", "..").rstrip())
         for level in LEVELS:

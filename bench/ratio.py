@@ -1,7 +1,7 @@
 #!/usr/bin/env python3
 """Times two programs on the files KIND.SIZE of a folder: ratio.py LEXER FORMATTER FOLDER
 
-Both read a file as their standard input, by turns. Prints a row for each file: the bytes, the
+Both read a file as their standard input, in turn. Prints a row for each file: the bytes, the
 tokens, the least processor time of nine runs of each program, its start included, both times over
 the bytes, and how many times the lexer's time the formatter's is; and at last the greatest of these.
 """

@@ -1,8 +1,8 @@
 #!/usr/bin/env python3
 """Writes a justfile as people write them, with all constructs, for the benchmark: realistic.py PATH [SIZE]
 
-The text has at least SIZE bytes, 100000 where no size is given, and is always the same. It is formatted
-without a fault, and is not in normal form: some of its lines are laid out otherwise than they are printed.
+The text has at least SIZE bytes, 100000 if no size is passed, and is always the same. It is formatted
+without a fault, and formatting changes some of its lines.
 """
 import sys
 
@@ -148,7 +148,7 @@ def variable(choices, name, number):
 
 
 def body_line(choices, names, indent):
-    """A line of a body, 10 to 60 columns or so, which may go on in a second line."""
+    """A line of a body, 10 to 60 columns or so, which may continue in a second line."""
     noun, other, name = choices.of(NOUNS), choices.of(NOUNS), choices.of(names)
     lines = (
         "cargo build --package %s" % noun,

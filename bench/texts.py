@@ -1,10 +1,10 @@
-"""What the two generators of the benchmark share."""
+"""What the two generators of inputs share."""
 import os
 import sys
 
 
 def repeated(piece, size):
-    """The piece again and again, at most `size` bytes."""
+    """The piece repeated, at most `size` bytes."""
     return piece * (size // len(piece))
 
 

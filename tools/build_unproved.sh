@@ -3,9 +3,9 @@
 # memory: build_unproved.sh CRATE OUT
 #
 # `rt try` hands clang a module with a check before each access and each sum. This takes that module,
-# leaves the checks out, and compiles it as a program that is proved. The module has no hints such as
-# `#[inline(never)]`, so the program takes some 5 to 10 % more instructions than the proved one; compare
-# it with a build of the same kind. Never use what it builds: nothing is proved of it.
+# leaves the checks out, adds the inline hints of the sources (inline_hints.py), and compiles it as a
+# program that is proved. What it builds still differs a little from the proved program, so compare it
+# only with a build of the same kind. Never use it otherwise: nothing is proved about it.
 set -eu
 crate=$1
 program=$2
@@ -35,6 +35,7 @@ chmod +x "$work/kit/bin/rt" "$work/kit/toolchain/bin/clang"
 clang="$kit/toolchain/bin/clang --target=x86_64-unknown-linux-gnu --sysroot=$kit/toolchain --no-default-config"
 $clang -S -emit-llvm -O0 -Xclang -disable-llvm-passes -x ir "$work/module.bc" -o "$work/module.ll"
 sed -i -e '/call void @"rattle-llvm-checks::/d' -e '/call void @llvm.trap()/d' -e 's/ sanitize_address//g' "$work/module.ll"
+python3 "$top/tools/inline_hints.py" "$work/module.ll"
 $clang -march=x86-64 -ffunction-sections -fdata-sections -fPIE -O2 -c -x ir "$work/module.ll" -o "$work/module.o"
 "$kit/bin/rattle-link" --target x86_64-unknown-linux-gnu --toolchain "$kit/toolchain" -o "$program" "$work/module.o" \
     "$kit/c/libos_c.a" "$kit/c/liblibc_c.a"

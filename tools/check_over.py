@@ -2,8 +2,8 @@
 """Checks a crate of this repository over libraries that are built already: check_over.py CHECKOUT CRATE FLAG..
 
 CHECKOUT is a copy of this repository in which `rt ci` has proved the crates below, or is proving them. The
-libraries that it has built are taken as they are where their sources are the same here; the others are
-passed as sources, which costs minutes. The flags are those of `rattle check`, as `--only FUNCTION`,
+libraries that it has built are used if their sources are the same here; the others are passed as
+sources, which costs minutes. The flags are those of `rattle check`, such as `--only FUNCTION`,
 `--allow-holes`, `--jobs 2`, or `--incremental DIR`, which keeps what is checked for the next time.
 """
 import hashlib

@@ -6,7 +6,7 @@
   Where a crate is named with them, as in `NAME` of `CRATE`, they exist in that crate.
 - Each count that can be computed is as stated: rows, wrong bodies, crates, and the table of sizes.
 
-Prints what it finds, and ends with 1 if it found something. With --write it writes the table of docs/SIZES.md anew.
+Prints what it finds, and ends with 1 if it found something. With --write it rewrites the table of docs/SIZES.md.
 """
 import re
 import sys
@@ -106,7 +106,7 @@ def spans(text):
 
 
 def crate_after(rest):
-    """The crate of which a name is said to be, by what stands after the name: `NAME`, `OTHER` and `THIRD` of `CRATE`."""
+    """The crate that is named after a name, as in `NAME`, `OTHER` and `THIRD` of `CRATE`."""
     found = re.match(r"(?:(?:,| and|, and) `[^`]+`)* of `(\w+)`", rest)
     return found.group(1) if found and found.group(1) in NAMES else None
 

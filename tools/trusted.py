@@ -2,7 +2,7 @@
 """Checks the tables of docs/CLAIMS.md under "What you have to trust", or writes their last column with --write.
 
 What a statement rests on is found by name: from the definitions that the clauses of public calls cite, on to all that these are made
-of. Each table has a group of calls, and lists the files with what the tables before it lack. A row's last column is the number of the
+of. Each table is for a group of calls, and lists the files with definitions that the tables before it don't have. A row's last column is the number of the
 lines of these definitions in its files, comments aside, rounded up to ten. Files without a path are those of `justfile_model`.
 """
 import functools
@@ -29,7 +29,7 @@ class File:
         self.read_units(text)
 
     def read_units(self, text):
-        """Notes the lines of each definition, with the headers of the modules around it, and whose each constructor and field is."""
+        """Stores the lines of each definition, with the headers of the modules around it, and the definition of each constructor and field."""
         levels, headers, current = [0], [], None
         for line in text.split("\n"):
             bare = line.strip()
@@ -41,7 +41,7 @@ class File:
                 headers.pop()
             words = re.sub(r"^(?:(?:abbrev|unfoldable|pub|data|record)\s+)*", "", bare)
             if indent == levels[-1]:
-                if re.match(r"module|mutual", words):
+                if re.match(r"(?:module|mutual)(?:\s|$)", words):
                     levels.append(indent + 2)
                     headers.append(line)
                     continue
@@ -143,13 +143,13 @@ GROUPS = [
     [
         ("justfile_lex/src/lexer.rt", ["lex"]),
         ("justfile_parse/src/parse.rt", ["parse", "parse_source"]),
-        ("justfile_file/src/ast.rt", ["print", "print_to", "printable"]),
+        ("justfile_ast/src/ast.rt", ["print", "print_to", "printable"]),
     ],
 ]
 
 
 def checked(rows, lines, title):
-    """The rows of a table with their last column written anew; says which files are too many or missing."""
+    """The rows of a table with their last column rewritten; prints which files are too many or missing."""
     listed, made = set(), []
     for row in rows:
         cells = row.split("|")

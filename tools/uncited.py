@@ -1,50 +1,74 @@
 #!/usr/bin/env python3
 """Lists the definitions and lemmas that nothing cites: uncited.py
 
-These are the names declared in the files of specs/ and proofs/ that no line of the crates names, except for the lines of their own
-declaration, comments and lines that only import them. A name that is declared twice counts as cited if either is. Answers to goals
-have the names of the goals, and examples are there to be read: the files Answers.antt and Invariants.antt of proofs/, and files whose
-names end in Examples, cite but are not listed.
+A declaration of specs/ or proofs/ is cited by another declaration of its file, by a file that imports it from there, or by its path,
+as in `using(crate::proofs::Rest::marked_end)`. Lines that only import a name don't cite it, nor do comments. Answers to goals have the
+names of the goals, and examples are there to be read: the files Answers.antt and Invariants.antt of proofs/, and files whose names end
+in Examples, cite but are not listed.
 
 It only lists: a definition may still be worth keeping, for readers or as the subject of a law.
 """
 import re
 import sys
-from collections import defaultdict
 
 sys.dont_write_bytecode = True
-from trusted import CRATES, WORD, File  # noqa: E402
+from trusted import CRATES, WORD, File, imports  # noqa: E402
+
+IMPORT = re.compile(r"^\s*(?:ghost |pub |unfoldable |abbrev )*use .*$", re.M)
 
 
 def is_listed(path, name):
     """Whether a name is listed: not that of an answer, which the checker gives, nor that of an example."""
     answer = path.name in ("Answers.antt", "Invariants.antt") and "proofs" in path.parts
-    return not answer and not path.stem.endswith("Examples") and not name.startswith("infix")
+    return not answer and not path.stem.endswith("Examples") and name not in ("infixl", "infixr", "mod", "ruleset")
 
 
-def places():
-    """For each word of the crates the places that have it: a declaration, as its file and its name, or a whole file."""
-    found, declared = defaultdict(set), []
-    for path in sorted(CRATES.glob("*/*/**/*.antt")):
-        file = File(path)
-        for unit, lines in file.units.items():
-            place = (path, unit)
-            if is_listed(path, unit):
-                declared.append(place)
-            for line in lines:
-                for word in WORD.findall(re.sub(r"\s--\s.*$", "", line)):
-                    found[word].add(place)
-    for path in sorted([*CRATES.glob("*/src/**/*.rt"), *CRATES.glob("*/must-fail/*.edit")]):
-        for word in WORD.findall(re.sub(r"(?<!:)//.*$", "", path.read_text(), flags=re.M)):
-            found[word].add((path, None))
-    return found, declared
+def module(path):
+    """The path by which a file is imported."""
+    return "Rattle." + ".".join(path.relative_to(CRATES).with_suffix("").parts)
+
+
+def words(text):
+    """The words of a text, with those that are read out of an alias or a path as pairs."""
+    plain = set(WORD.findall(text))
+    plain |= {part for word in plain for part in word.split(".")}
+    return plain, set(re.findall(r"([\w-]+)\.([^\s(){}\[\],;:.]+)", text))
+
+
+def cited_by_use(text, use, comment):
+    """The pairs of a module and a name that a file cites beyond its own declarations."""
+    names, aliases = imports(text, use)
+    text = re.sub(comment, "", text, flags=re.M)
+    again = {(head, old) for head, old in names.values() if re.search(rf"^\s*(?:unfoldable )?pub use {re.escape(head)}\.\{{[^}}]*{re.escape(old)}", text, re.M)}
+    plain, dotted = words(IMPORT.sub("", text))
+    by_name = {it for new, it in names.items() if new in plain}
+    by_alias = {(aliases[alias], name) for alias, name in dotted if alias in aliases}
+    return again | by_name | by_alias
+
+
+def cited_by_path(text, crate):
+    """The pairs of a module and a name that the tactics of a source file name by paths."""
+    for head, path in re.findall(r"\b(crate|justfile_\w+)((?:::\w+)+)", text):
+        parts = path.split("::")[1:]
+        yield "Rattle." + ".".join([crate if head == "crate" else head, *parts[:-1]]), parts[-1]
 
 
 def main():
-    found, declared = places()
-    for path, name in declared:
-        if found[name] <= {(path, name)}:
-            print(f"{path.relative_to(CRATES)}: {name}")
+    cited, files = set(), [File(path) for path in sorted(CRATES.glob("*/*/**/*.antt"))]
+    for file in files:
+        cited |= cited_by_use(file.path.read_text(), r"(?:pub |unfoldable |abbrev )*use ", r"(?:^|\s)--\s.*$")
+    for path in [*CRATES.glob("*/src/**/*.rt"), *CRATES.glob("*/must-fail/*.edit")]:
+        text = path.read_text()
+        cited |= cited_by_use(text, r"ghost use ", r"(?<!:)//.*$")
+        cited |= set(cited_by_path(text, path.relative_to(CRATES).parts[0]))
+    for file in files:
+        inside = {unit: words(re.sub(r"\s--\s.*$", "", "\n".join(lines), flags=re.M))[0] for unit, lines in file.units.items()}
+        for unit in file.units:
+            owned = {unit} | {field for field, owner in file.owner.items() if owner == unit}
+            outside = any((module(file.path), name) in cited for name in owned)
+            within = any(owned & found for other, found in inside.items() if other != unit)
+            if is_listed(file.path, unit) and not outside and not within:
+                print(f"{file.path.relative_to(CRATES)}: {unit}")
     return 0
 
 

@@ -1,13 +1,13 @@
--- The tree of what is said of an argument, where each number stands apart from its key.
+-- The tree of an `arg` attribute, whose numbers and keys are separate fields.
 use Rattle.std.proofs.Common.{◌≡◌, ℕ, Option, Some, None, refl}
 use Rattle.std.specs.Global.{Box}
 use Rattle.std.specs.Option.{option_map}
-use Rattle.justfile_base.specs.declared.name.Name.{Name}
-use Rattle.justfile_base.specs.declared.string_literal.StringLiteral.{StringLiteral}
-use Rattle.justfile_base.specs.declared.token.Token.{Token}
+use Rattle.justfile_token.specs.declared.name.Name.{Name}
+use Rattle.justfile_token.specs.declared.string_literal.StringLiteral.{StringLiteral}
+use Rattle.justfile_token.specs.declared.token.Token.{Token}
 use Rattle.justfile_model.specs.Tree as tree
-use Rattle.justfile_tree.specs.LeafTree.{leaf_tree_of}
-use Rattle.justfile_tree.specs.declared.expression.Expression.{Expression}
+use Rattle.justfile_expression.specs.LeafTree.{leaf_tree_of}
+use Rattle.justfile_expression.specs.declared.expression.Expression.{Expression}
 use Rattle.justfile_attribute.specs.Attribute.{bound_by, leaf_attribute_of, literal_leaf, option_by}
 use Rattle.justfile_attribute.specs.declared.attribute.Attribute.TheVariants as attributes
 use Rattle.justfile_attribute_rules.specs.ArgumentRules.{option_of, property_of, rules_of}
@@ -23,7 +23,7 @@ option_is (Some key) literal = refl
 option_is None (Some literal) = refl
 option_is None None = refl
 
--- a number has the key that it had
+-- a number and its key, joined as they were
 module _ (key : Option Name) (number : Option ℕ) where
   bound_is : (name : StringLiteral) (bound : Option (Name × ℕ)) → key ≡ option_map (λ (p : Name × ℕ). p.0) bound → number ≡ option_map (λ (p : Name × ℕ). p.1) bound
       → bound_by leaf_tree_of literal_leaf (λ t. t) name key number ≡ option_map bound_at bound

@@ -1,4 +1,4 @@
--- Attributes are equal where their cases and their fields are.
+-- Attributes are equal exactly if their cases and fields are.
 use Rattle.std.proofs.Common.{◌≡◌, refl}
 use Rattle.justfile_model.specs.AttributeKinds.{same_attribute}
 use Rattle.justfile_attribute.specs.Equal.{attribute_eq}
@@ -6,7 +6,7 @@ use Rattle.justfile_attribute.specs.contracts.attribute.AttributePartialEq.TheIm
 use Rattle.justfile_attribute.specs.declared.attribute.Attribute.{Attribute}
 use Rattle.justfile_attribute.specs.declared.attribute.Attribute.TheVariants as attributes
 
--- the last clause has the cases that differ
+-- the last clause is for attributes of different cases
 pub same_is : (a b : Attribute) → equality.eq-value.it a b ≡ attribute_eq a b
 unfolding same_attribute
 same_is attributes.Android attributes.Android = refl

@@ -1,26 +1,26 @@
--- The printed text of an attribute: its arguments by the places where they may stand.
+-- The printed text of an attribute, from the texts of its slots.
 use Rattle.std.proofs.Common.{◌≡◌, ◌∙◌, ℕ, Bool, true, false, List, [], ◌∷◌, ◌++◌, map, Option, None, Some, codes, refl, sym, ap, append_assoc, append-nil, if◌then◌else◌}
 use Rattle.std.proofs.lemmas.List.{map-append}
 use Rattle.std.specs.List.{flat_map}
 use Rattle.std.specs.Global.{Box}
 use Rattle.std.specs.Option.{option_map}
-use Rattle.justfile_word.specs.AttributeKind.{attribute_name}
-use Rattle.justfile_word.specs.Signal.{signal_name}
-use Rattle.justfile_base.specs.StringLiteral.{format_mark, literal_text}
-use Rattle.justfile_base.specs.Token.{lexeme_of}
-use Rattle.justfile_word.specs.declared.attribute_kind.AttributeKind.{AttributeKind}
-use Rattle.justfile_word.specs.declared.attribute_kind.AttributeKind.TheVariants as kinds
-use Rattle.justfile_base.specs.declared.name.Name.{Name}
-use Rattle.justfile_word.specs.declared.signal.Signal.{Signal}
-use Rattle.justfile_base.specs.declared.string_literal.StringLiteral.{StringLiteral}
-use Rattle.justfile_base.specs.declared.token.Token.{Token}
+use Rattle.justfile_vocabulary.specs.AttributeKind.{attribute_name}
+use Rattle.justfile_vocabulary.specs.Signal.{signal_name}
+use Rattle.justfile_token.specs.StringLiteral.{format_mark, literal_text}
+use Rattle.justfile_token.specs.Token.{lexeme_of}
+use Rattle.justfile_vocabulary.specs.declared.attribute_kind.AttributeKind.{AttributeKind}
+use Rattle.justfile_vocabulary.specs.declared.attribute_kind.AttributeKind.TheVariants as kinds
+use Rattle.justfile_token.specs.declared.name.Name.{Name}
+use Rattle.justfile_vocabulary.specs.declared.signal.Signal.{Signal}
+use Rattle.justfile_token.specs.declared.string_literal.StringLiteral.{StringLiteral}
+use Rattle.justfile_token.specs.declared.token.Token.{Token}
 use Rattle.justfile_model.specs.ContentKeys.{kind_of_attribute}
 use Rattle.justfile_model.specs.Printing.{fixed_text, mark_text, argument_text, arguments_text, parenthesized_arguments, attribute_arguments, attribute_text, quoted_argument, signal_argument, option_argument, keyed_if, bare_if, number_literal}
 use Rattle.justfile_model.specs.Tok.{Tok, tok_of}
 use Rattle.justfile_model.specs.Tree as tree
 use Rattle.justfile_model.specs.Tree.{Argument, Expr, Quoted, lexeme, nothing, over_attribute, over_quoted, over_option, over_property, over_bound, over_expr}
-use Rattle.justfile_tree.specs.Expression.{expr_of, literal_tok}
-use Rattle.justfile_tree.specs.declared.expression.Expression.{Expression}
+use Rattle.justfile_expression.specs.Expression.{expr_of, literal_tok}
+use Rattle.justfile_expression.specs.declared.expression.Expression.{Expression}
 use Rattle.justfile_attribute.specs.Attribute.{attribute_of, attribute_shape, bound_by, option_by, property_by, quoted_by, script_by, single_by}
 use Rattle.justfile_attribute.specs.Print.{Slots, value_text, with_value, slots, slots_text, literal_slot, signal_slot, option_slot, property_slot, value_slot, flag_slot, number_slot, single_slots, script_slots, cache_slots}
 use Rattle.justfile_attribute.specs.declared.attribute.Attribute.{Attribute}
@@ -29,14 +29,14 @@ use Rattle.justfile_attribute.specs.declared.interpreter.Interpreter.{Interprete
 use Rattle.justfile_attribute.specs.declared.part.Value.{Value}
 use Rattle.justfile_attribute.specs.declared.part.Value.TheVariants as values
 
--- a piece, and the value after it
+-- a piece with the value after it
 pub valued : (piece : List ℕ) (v : Value) → piece ++ value_text v ≡ with_value piece v
 valued piece values.Nothing = append-nil piece
 valued piece (values.Expression e) = refl
 valued piece (values.Literal l) = refl
 valued piece (values.Number n) = refl
 
--- ---- the texts that are there, in parentheses
+-- ---- the texts of the slots, in parentheses
 
 abbrev here : Option (List ℕ) → List (List ℕ)
 here None = []
@@ -81,7 +81,7 @@ unfolding fixed_text
 parenthesized_are [] = refl
 parenthesized_are (a ∷ more) = ap (λ t. (codes "(" ++ t) ++ codes ")") (arguments_are a more)
 
--- ---- the arguments of an attribute, one place after another
+-- ---- the slots of an attribute, one after another
 
 marked : (expand : Bool) (m l : List ℕ) → mark_text expand ++ (m ++ l) ≡ ((if expand then codes "x" else []) ++ m) ++ l
 unfolding fixed_text
@@ -136,7 +136,7 @@ number_is word name key None = refl
 number_is word name None (Some n) = refl
 number_is word name (Some key) (Some n) = refl
 
--- parts one after another
+-- several parts, one after another
 module _ {X : Type 0} (f : X → List ℕ) where
   three : (a b c : List X) → map f (a ++ b ++ c) ≡ map f a ++ (map f b ++ (map f c ++ []))
   three a b c = simp (map-append, append_assoc, append-nil)
@@ -162,7 +162,7 @@ cache_is extra inputs outputs =
     three argument_text (keyed_if (codes "extra") (λ e. e) (shape extra)) (keyed_if (codes "inputs") (λ e. e) (shape inputs)) (keyed_if (codes "outputs") (λ e. e) (shape outputs))
     ∙ (λ i. value_is (codes "extra") extra i ++ (value_is (codes "inputs") inputs i ++ (value_is (codes "outputs") outputs i ++ [])))
 
--- the texts of the arguments are those that stand at the places
+-- the texts of the arguments are those of the slots that aren't empty
 texts_are : (a : Attribute) → map argument_text (attribute_arguments (attribute_shape a)) ≡ present (slots a)
 texts_are (attributes.Arg flag help property long long_key max max_key min min_key multiple name pattern short short_key value) =
     let option_shape = λ (key : Option Name) (l : Option StringLiteral). over_option {A = Tok} lexeme nothing (option_by expr_of literal_tok tok_of key l) in
@@ -201,7 +201,7 @@ kind_shape (tree.Signals signals) = refl
 kind_shape (tree.Cache extra inputs outputs) = refl
 kind_shape (tree.Arg rules) = refl
 
--- the text of an attribute is its name, and what stands at the places
+-- the text of an attribute is its name and the text of its slots
 pub text_is : (a : Attribute) → attribute_name (kind_of_attribute (attribute_of a)) ++ slots_text false (slots a) ≡ attribute_text (attribute_shape a)
 unfolding fixed_text
 text_is a =

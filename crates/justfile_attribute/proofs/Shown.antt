@@ -1,4 +1,4 @@
--- What a formatter took of a text that may not be known.
+-- What a formatter has written of a text that may be unknown.
 use Rattle.std.proofs.Common.{◌≡◌, ◌∙◌, ℕ, suc, zero, ◌+◌, ◌<◌, List, [], ◌∷◌, ◌++◌, length, get_or, drop, Option, None, Some, IfSome, Ok, codes, refl, sym, ap, append_assoc, arith}
 use Rattle.std.specs.Fmt.{DisplaysOnOk, HasWritten, IsPlainFormatter, option_append, ◌++?◌}
 use Rattle.std.specs.declared.fmt.Formatter.{Formatter}
@@ -20,11 +20,11 @@ later_left output (y ∷ xs) (suc i) x h e =
     later_left output xs i x (omega arith) e ∙ ap (λ (j : ℕ). (Some (codes ", ") ++? output x) ++? later_output output (drop j (y ∷ xs))) next
 
 module _ {W : Type 0} (gives : W → List ℕ → W → Type 0) where
-  -- the formatter took the text, if that is known
+  -- the formatter has written the text, if it is known
   abbrev pub Shown : Formatter W → Option (List ℕ) → Formatter W → Type 0
   Shown f text g = IfSome text (λ bs. IsPlainFormatter f → HasWritten gives f bs g)
 
-  -- of a text, if it is known, all but the rest is taken
+  -- the formatter has written all of the text but the rest, if it is known
   abbrev pub ShownBut : Formatter W → Formatter W → (whole rest : Option (List ℕ)) → Type 0
   ShownBut f g whole rest = (text : Option (List ℕ)) × Shown f text g × (option_append text rest ≡ whole)
 

@@ -1,14 +1,14 @@
--- The walk over the places where arguments may stand.
+-- The walk over the slots of an attribute.
 use Rattle.std.proofs.Common.{◌≡◌, ◌∙◌, ℕ, zero, suc, ◌+◌, Bool, ◌||◌, is_some, List, [], ◌∷◌, ◌++◌, drop, Option, None, Some, Result, Ok, Err, OnOk, OnErr, refl, sym, ap, subst, append_assoc, arith}
 use Rattle.std.specs.List.{slice_get}
 use Rattle.justfile_attribute.specs.Print.{Slots, closing, slot_piece, slot_text, slots_text}
 use Rattle.justfile_attribute.specs.declared.part.Part.{Part}
 
--- of a text all but this rest is put
+-- all of a text but this rest is written
 abbrev pub Walked : {S : Type 0} (took : S → List ℕ → S → Type 0) (a m : S) (whole rest : List ℕ) → Type 0
 Walked took a m whole rest = (text : List ℕ) × took a text m × (text ++ rest ≡ whole)
 
--- what holds where a call failed holds at its `Err`, and what follows where it went well
+-- what holds if a call failed holds at its `Err`, and what follows if it succeeded
 pub at_err : {T E P : Type 0} (r : Result T E) → P → OnErr r P
 at_err (Ok x) p = tt
 at_err (Err e) p = p
@@ -21,12 +21,12 @@ pub then_err : {T E P Q : Type 0} (r : Result T E) → (P → Q) → OnErr r P �
 then_err (Ok x) f p = tt
 then_err (Err e) f p = f p
 
--- an argument is there where it has a text
+-- an argument is present exactly if it has a text
 pub is_there : (p : Option Part) → is_some p ≡ is_some (slot_text p)
 is_there None = refl
 is_there (Some p) = refl
 
--- what is left at a place
+-- the text from a slot on
 left_at : (begun : Bool) (xs : Slots) (i : ℕ) (x : Option (List ℕ)) → Some x ≡ slice_get xs i
     → slots_text begun (drop i xs) ≡ slot_piece begun x ++ slots_text (begun || is_some x) (drop (i + 1) xs)
 left_at begun [] i x e = absurd cc

@@ -1,43 +1,43 @@
--- What the definitions see of an attribute.
+-- The tree of an attribute: the definitions' view of the code's type.
 use Rattle.std.specs.Prelude.{ℕ, List, [], ◌∷◌, map, Option, Some, None}
 use Rattle.std.specs.Global.{Box}
 use Rattle.std.specs.Option.{option_map}
-use Rattle.justfile_word.specs.declared.attribute_kind.AttributeKind.{AttributeKind}
-use Rattle.justfile_word.specs.declared.attribute_kind.AttributeKind.TheVariants as kinds
-use Rattle.justfile_base.specs.declared.name.Name.{Name}
-use Rattle.justfile_base.specs.declared.string_literal.StringLiteral.{StringLiteral}
-use Rattle.justfile_base.specs.declared.token.Token.{Token}
+use Rattle.justfile_vocabulary.specs.declared.attribute_kind.AttributeKind.{AttributeKind}
+use Rattle.justfile_vocabulary.specs.declared.attribute_kind.AttributeKind.TheVariants as kinds
+use Rattle.justfile_token.specs.declared.name.Name.{Name}
+use Rattle.justfile_token.specs.declared.string_literal.StringLiteral.{StringLiteral}
+use Rattle.justfile_token.specs.declared.token.Token.{Token}
 use Rattle.justfile_model.specs.Tok.{Tok, tok_of}
 use Rattle.justfile_model.specs.Tree as tree
 use Rattle.justfile_model.specs.Tree.{Expr, Quoted, OptionName, Property, Bound, lexeme, nothing, over_attribute}
-use Rattle.justfile_tree.specs.Expression.{expr_of, literal_tok}
-use Rattle.justfile_tree.specs.LeafTree.{Leaf, Literal, leaf_tree_of, literal_of}
-use Rattle.justfile_tree.specs.declared.expression.Expression.{Expression}
+use Rattle.justfile_expression.specs.Expression.{expr_of, literal_tok}
+use Rattle.justfile_expression.specs.LeafTree.{Leaf, Literal, leaf_tree_of, literal_of}
+use Rattle.justfile_expression.specs.declared.expression.Expression.{Expression}
 use Rattle.justfile_attribute.specs.declared.attribute.Attribute.{Attribute}
 use Rattle.justfile_attribute.specs.declared.attribute.Attribute.TheVariants as attributes
 use Rattle.justfile_attribute.specs.declared.interpreter.Interpreter.{Interpreter}
 
--- by the trees of expressions, what is seen of a literal, and what is kept of a token
-module _ {A B : Type 0} (expression : Expression → Expr A B) (leaf : StringLiteral → A) (spot : Token → B) where
+-- by functions for the trees of expressions, the leaves of literals, and what a tree keeps of other tokens
+module _ {A B : Type 0} (expression : Expression → Expr A B) (leaf : StringLiteral → A) (position : Token → B) where
   abbrev pub quoted_by : StringLiteral → Quoted A
   quoted_by l = record { expanded = l.expand; token = leaf l }
 
-  -- a key that stands alone names the option as the argument, whatever literal there is
+  -- the name of an option; a key without a value gives the parameter's name, whatever the literal
   abbrev pub option_by : (key : Option Name) → Option StringLiteral → OptionName A B
-  option_by (Some key) literal = tree.OwnName (spot key.token)
+  option_by (Some key) literal = tree.OwnName (position key.token)
   option_by None (Some literal) = tree.Named (quoted_by literal)
   option_by None None = tree.NoOption
 
   abbrev pub property_by : Name × Box Expression → Property A B
-  property_by p = record { key = spot p.0.token; value = expression p.1.value }
+  property_by p = record { key = position p.0.token; value = expression p.1.value }
 
-  -- a number stands with its key, or with the token of the argument's name where it has none
+  -- a number with its key, or with the token of the parameter's name if it has no key
   abbrev pub bound_by : (name : StringLiteral) → (key : Option Name) → Option ℕ → Option (Bound B)
   bound_by name key None = None
-  bound_by name (Some key) (Some number) = Some (record { key = spot key.token; number = number })
-  bound_by name None (Some number) = Some (record { key = spot name.token; number = number })
+  bound_by name (Some key) (Some number) = Some (record { key = position key.token; number = number })
+  bound_by name None (Some number) = Some (record { key = position name.token; number = number })
 
-  -- with an expression, or without
+  -- an attribute with one expression, or without arguments
   abbrev pub single_by : (kind : AttributeKind) → Option (Box Expression) → tree.Attribute A B
   single_by kind None = tree.Plain kind
   single_by kind (Some e) = tree.Single kind (expression e.value)
@@ -50,12 +50,12 @@ module _ {A B : Type 0} (expression : Expression → Expr A B) (leaf : StringLit
   attribute_by attributes.Android = tree.Plain kinds.Android
   attribute_by (attributes.Arg flag help help_property long long_key max max_key min min_key multiple name pattern short short_key value) =
       tree.Arg (record {
-        flag = option_map spot flag;
+        flag = option_map position flag;
         help = option_map property_by help_property;
         long = option_by long_key long;
         max = bound_by name max_key max;
         min = bound_by name min_key min;
-        multiple = option_map spot multiple;
+        multiple = option_map position multiple;
         name = quoted_by name;
         pattern = option_map property_by pattern;
         short = option_by short_key short;
@@ -95,7 +95,7 @@ module _ {A B : Type 0} (expression : Expression → Expr A B) (leaf : StringLit
 abbrev pub literal_leaf : StringLiteral → Leaf
 literal_leaf l = Literal (literal_of l)
 
--- the tree of an attribute, with all that the parser's trees hold
+-- the tree of an attribute with all fields of the parser's leaves
 abbrev pub leaf_attribute_of : Attribute → tree.Attribute Leaf Token
 leaf_attribute_of = attribute_by leaf_tree_of literal_leaf (λ t. t)
 
@@ -103,6 +103,6 @@ leaf_attribute_of = attribute_by leaf_tree_of literal_leaf (λ t. t)
 abbrev pub attribute_of : Attribute → tree.Attribute Tok Tok
 attribute_of = attribute_by expr_of literal_tok tok_of
 
--- the tree of an attribute without places
+-- the shape of an attribute: its tree with lexemes in place of tokens
 abbrev pub attribute_shape : Attribute → tree.Attribute (List ℕ) (Unit {0})
 attribute_shape a = over_attribute lexeme nothing (attribute_of a)

@@ -3,16 +3,16 @@ use Rattle.std.specs.Prelude.{◌≡◌, Option, Some, None, string_bytes}
 use Rattle.std.specs.Prelude.{String}
 use Rattle.std.specs.Global.{Box, Global}
 use Rattle.std.specs.List.{AllZip}
-use Rattle.justfile_base.specs.StringLiteral.{IsSameLiteral}
-use Rattle.justfile_base.specs.declared.name.Name.{Name}
-use Rattle.justfile_base.specs.declared.string_literal.StringLiteral.{StringLiteral}
-use Rattle.justfile_tree.specs.Copies.{IsSameExpression}
-use Rattle.justfile_tree.specs.declared.expression.Expression.{Expression}
+use Rattle.justfile_token.specs.StringLiteral.{IsSameLiteral}
+use Rattle.justfile_token.specs.declared.name.Name.{Name}
+use Rattle.justfile_token.specs.declared.string_literal.StringLiteral.{StringLiteral}
+use Rattle.justfile_expression.specs.Copies.{IsSameExpression}
+use Rattle.justfile_expression.specs.declared.expression.Expression.{Expression}
 use Rattle.justfile_attribute.specs.declared.attribute.Attribute.{Attribute}
 use Rattle.justfile_attribute.specs.declared.attribute.Attribute.TheVariants as attributes
 use Rattle.justfile_attribute.specs.declared.interpreter.Interpreter.{Interpreter}
 
--- a copy of what may be absent
+-- a copy of an optional value
 abbrev pub IsSameIfPresent : {X : Type 0} → (X → X → Type 0) → (copy original : Option X) → Type 0
 IsSameIfPresent R None None = Unit {0}
 IsSameIfPresent R (Some copy) (Some original) = R copy original
@@ -21,25 +21,25 @@ IsSameIfPresent R _ _ = ⊥
 abbrev pub IsSameText : (copy original : String Global) → Type 0
 IsSameText copy original = string_bytes copy ≡ string_bytes original
 
--- an expression, wherever its box lies
+-- expressions in boxes, compared by value
 abbrev pub IsSameBoxed : (copy original : Box Expression) → Type 0
 IsSameBoxed copy original = IsSameExpression copy.value original.value
 
--- a key and its value
+-- a copy of a key with its value
 abbrev pub IsSameProperty : (copy original : Name × Box Expression) → Type 0
 IsSameProperty copy original = (copy.0 ≡ original.0) × IsSameBoxed copy.1 original.1
 
--- what may be absent, out of its box
+-- an optional value, out of its box
 abbrev pub unboxed : {X : Type 0} → Option (Box X) → Option X
 unboxed None = None
 unboxed (Some x) = Some x.value
 
--- the copy of an interpreter has its command and its arguments
+-- a copy of an interpreter: its command and its arguments are copies
 pub record IsSameInterpreter (copy original : Interpreter StringLiteral) : Type 0 where
   pub command : IsSameLiteral copy.command original.command
   pub arguments : AllZip IsSameLiteral copy.arguments.items original.arguments.items
 
--- the copy of an attribute is of its case and has its fields
+-- a copy of an attribute: the same case, and all fields are the same
 abbrev pub IsSameAttribute : (copy original : Attribute) → Type 0
 IsSameAttribute attributes.Android attributes.Android = Unit {0}
 IsSameAttribute (attributes.Arg flag help property long long_key max max_key min min_key multiple name pattern short short_key value)

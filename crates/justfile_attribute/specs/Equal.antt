@@ -1,16 +1,16 @@
--- When two attributes are equal.
+-- Equality of attributes.
 use Rattle.std.specs.Prelude.{Bool, ◌&&◌}
 use Rattle.std.specs.Cmp.Lexicographic.{pointwise}
 use Rattle.std.specs.Global.{Box}
 use Rattle.std.specs.Option.{option_eq}
 use Rattle.std.specs.Bool.{nat_eq}
 use Rattle.std.specs.String.{string_eq}
-use Rattle.justfile_base.specs.declared.name.Name.{Name}
-use Rattle.justfile_word.specs.contracts.signal.SignalPartialEq.TheImpl as signals
-use Rattle.justfile_word.specs.declared.signal.Signal.{Signal}
+use Rattle.justfile_token.specs.declared.name.Name.{Name}
+use Rattle.justfile_vocabulary.specs.contracts.signal.SignalPartialEq.TheImpl as signals
+use Rattle.justfile_vocabulary.specs.declared.signal.Signal.{Signal}
 use Rattle.justfile_model.specs.AttributeKinds.{same_attribute}
-use Rattle.justfile_tree.specs.Equal.{boxed_eq, literal_eq, name_eq, token_eq}
-use Rattle.justfile_tree.specs.declared.expression.Expression.{Expression}
+use Rattle.justfile_expression.specs.Equal.{boxed_eq, literal_eq, name_eq, token_eq}
+use Rattle.justfile_expression.specs.declared.expression.Expression.{Expression}
 use Rattle.justfile_attribute.specs.InterpreterOrder.{interpreter_eq}
 use Rattle.justfile_attribute.specs.Order.{case_kind}
 use Rattle.justfile_attribute.specs.declared.attribute.Attribute.{Attribute}
@@ -19,11 +19,11 @@ use Rattle.justfile_attribute.specs.declared.attribute.Attribute.TheVariants as 
 abbrev pub signal_eq : Signal → Signal → Bool
 signal_eq = signals.eq-value.it
 
--- a key and its value
+-- equality of keys with their values
 abbrev pub property_eq : Name × Box Expression → Name × Box Expression → Bool
 property_eq p q = name_eq p.0 q.0 && boxed_eq p.1 q.1
 
--- they are of one case, and all their fields are equal, places included
+-- equality of attributes: the same case, and all fields are equal, positions included
 abbrev pub attribute_eq : Attribute → Attribute → Bool
 attribute_eq (attributes.Arg flag help property long long_key max max_key min min_key multiple name pattern short short_key value)
     (attributes.Arg flag' help' property' long' long_key' max' max_key' min' min_key' multiple' name' pattern' short' short_key' value') =

@@ -1,4 +1,4 @@
--- How interpreters compare: by their commands, and then by their arguments.
+-- The order of interpreters: by their commands, and then by their arguments.
 use Rattle.std.specs.Prelude.{Bool, ◌&&◌}
 use Rattle.std.specs.Cmp.Lexicographic.{pointwise, slice_cmp}
 use Rattle.std.specs.Ordering.{ordering_then}

@@ -1,28 +1,28 @@
--- How attributes compare by content: the keys of their fields, in the order in which they are declared, and of the parts of those.
+-- The order of attributes by content: the keys of their fields in declared order, and of the parts of the fields.
 use denote.Enum.Declared.{tag_of}
 use Rattle.std.specs.Prelude.{ℕ, Option, String, string_bytes}
 use Rattle.std.specs.Global.{Box, Global}
 use Rattle.std.specs.declared.cmp.Ordering.{Ordering}
-use Rattle.justfile_word.specs.contracts.attribute_kind.AttributeKind.{the_type}
-use Rattle.justfile_word.specs.declared.attribute_kind.AttributeKind.{AttributeKind}
-use Rattle.justfile_word.specs.declared.attribute_kind.AttributeKind.TheVariants as kinds
-use Rattle.justfile_base.specs.declared.name.Name.{Name}
-use Rattle.justfile_word.specs.declared.signal.Signal.{Signal}
-use Rattle.justfile_base.specs.declared.string_literal.StringLiteral.{StringLiteral}
-use Rattle.justfile_base.specs.declared.token.Token.{Token}
+use Rattle.justfile_vocabulary.specs.contracts.attribute_kind.AttributeKind.{the_type}
+use Rattle.justfile_vocabulary.specs.declared.attribute_kind.AttributeKind.{AttributeKind}
+use Rattle.justfile_vocabulary.specs.declared.attribute_kind.AttributeKind.TheVariants as kinds
+use Rattle.justfile_token.specs.declared.name.Name.{Name}
+use Rattle.justfile_vocabulary.specs.declared.signal.Signal.{Signal}
+use Rattle.justfile_token.specs.declared.string_literal.StringLiteral.{StringLiteral}
+use Rattle.justfile_token.specs.declared.token.Token.{Token}
 use Rattle.justfile_model.specs.ContentKeys.{expr_key}
 use Rattle.justfile_model.specs.ContentLeaf as contents
 use Rattle.justfile_model.specs.ContentLeaf.{ContentLeaf, content_cmp}
 use Rattle.justfile_model.specs.Key.{Key, Keys, leaf, node, end, next, row, keys_of, option_key, key_cmp}
-use Rattle.justfile_tree.specs.Content.{literal_content, token_content}
-use Rattle.justfile_tree.specs.LeafSight.{sees_leaves}
-use Rattle.justfile_tree.specs.LeafTree.{leaf_tree_of}
-use Rattle.justfile_tree.specs.declared.expression.Expression.{Expression}
+use Rattle.justfile_expression.specs.Content.{literal_content, token_content}
+use Rattle.justfile_expression.specs.LeafViews.{views_leaves}
+use Rattle.justfile_expression.specs.LeafTree.{leaf_tree_of}
+use Rattle.justfile_expression.specs.declared.expression.Expression.{Expression}
 use Rattle.justfile_attribute.specs.declared.attribute.Attribute.{Attribute}
 use Rattle.justfile_attribute.specs.declared.attribute.Attribute.TheVariants as attributes
 use Rattle.justfile_attribute.specs.declared.interpreter.Interpreter.{Interpreter}
 
--- how two keys compare
+-- the order of keys
 abbrev pub by_content : Key ContentLeaf → Key ContentLeaf → Ordering
 by_content = key_cmp content_cmp
 
@@ -36,9 +36,9 @@ abbrev pub literal_key : StringLiteral → Key ContentLeaf
 literal_key l = leaf (contents.literal (literal_content l))
 
 abbrev pub expression_key : Expression → Key ContentLeaf
-expression_key e = expr_key sees_leaves (leaf_tree_of e)
+expression_key e = expr_key views_leaves (leaf_tree_of e)
 
--- an expression in a box
+-- the key of an expression in a box
 abbrev pub boxed_key : Box Expression → Key ContentLeaf
 boxed_key b = expression_key b.value
 
@@ -57,7 +57,7 @@ signal_key s = leaf (contents.signal s)
 abbrev pub interpreter_key : Interpreter StringLiteral → Key ContentLeaf
 interpreter_key i = row (next (literal_key i.command) (next (row (keys_of literal_key i.arguments.items)) end))
 
--- what an attribute is, by its case
+-- the kind of an attribute, from its case
 abbrev pub case_kind : Attribute → AttributeKind
 case_kind attributes.Android = kinds.Android
 case_kind (attributes.Arg flag help property long long_key max max_key min min_key multiple name pattern short short_key value) = kinds.Arg
@@ -90,7 +90,7 @@ case_kind attributes.Unix = kinds.Unix
 case_kind attributes.Windows = kinds.Windows
 case_kind (attributes.WorkingDirectory x) = kinds.WorkingDirectory
 
--- the keys of its fields, by its case
+-- the keys of its fields in declared order
 abbrev pub case_keys : Attribute → Keys ContentLeaf
 case_keys (attributes.Arg flag help property long long_key max max_key min min_key multiple name pattern short short_key value) =
     next (option_key token_key flag) (next (option_key text_key help) (next (option_key property_key property)
@@ -115,6 +115,6 @@ case_keys _ = end
 abbrev pub content_key : Attribute → Key ContentLeaf
 content_key a = node (tag_of the_type (case_kind a)) (case_keys a)
 
--- how two attributes compare
+-- the order of attributes by content
 abbrev pub attribute_content_cmp : Attribute → Attribute → Ordering
 attribute_content_cmp a b = by_content (content_key a) (content_key b)

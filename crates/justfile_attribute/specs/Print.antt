@@ -1,17 +1,18 @@
--- The arguments of an attribute as they are printed: in their order the places where one may stand, each with its text or with none.
+-- The printed arguments of an attribute. A slot is one possible argument: its text, or none if it is absent. The slots are in the order of
+-- printing.
 use Rattle.std.specs.Prelude.{ℕ, Bool, true, false, List, [], ◌∷◌, ◌++◌, map, Option, Some, None, is_some, ◌||◌, codes}
 use Rattle.std.specs.Fmt.{decimal}
 use Rattle.std.specs.Global.{Box}
 use Rattle.std.specs.Option.{option_map}
-use Rattle.justfile_word.specs.Signal.{signal_name}
-use Rattle.justfile_base.specs.StringLiteral.{literal_text}
-use Rattle.justfile_base.specs.declared.name.Name.{Name}
-use Rattle.justfile_word.specs.declared.signal.Signal.{Signal}
-use Rattle.justfile_base.specs.declared.string_literal.StringLiteral.{StringLiteral}
-use Rattle.justfile_base.specs.declared.token.Token.{Token}
+use Rattle.justfile_vocabulary.specs.Signal.{signal_name}
+use Rattle.justfile_token.specs.StringLiteral.{literal_text}
+use Rattle.justfile_token.specs.declared.name.Name.{Name}
+use Rattle.justfile_vocabulary.specs.declared.signal.Signal.{Signal}
+use Rattle.justfile_token.specs.declared.string_literal.StringLiteral.{StringLiteral}
+use Rattle.justfile_token.specs.declared.token.Token.{Token}
 use Rattle.justfile_model.specs.Printing.{fixed_text}
-use Rattle.justfile_tree.specs.Text.{text_of}
-use Rattle.justfile_tree.specs.declared.expression.Expression.{Expression}
+use Rattle.justfile_expression.specs.Text.{text_of}
+use Rattle.justfile_expression.specs.declared.expression.Expression.{Expression}
 use Rattle.justfile_attribute.specs.declared.attribute.Attribute.{Attribute}
 use Rattle.justfile_attribute.specs.declared.attribute.Attribute.TheVariants as attributes
 use Rattle.justfile_attribute.specs.declared.interpreter.Interpreter.{Interpreter}
@@ -31,7 +32,7 @@ value_text (values.Expression e) = text_of e.now
 value_text (values.Literal l) = literal_text l.now
 value_text (values.Number n) = quoted_number n
 
--- a piece, and the value after it
+-- a piece with the value after it
 abbrev pub with_value : (piece : List ℕ) → Value → List ℕ
 with_value piece values.Nothing = piece
 with_value piece (values.Expression e) = piece ++ text_of e.now
@@ -41,14 +42,14 @@ with_value piece (values.Number n) = piece ++ quoted_number n
 abbrev pub part_text : Part → List ℕ
 part_text p = with_value p.piece.now p.value
 
--- a place as the code answers it
+-- a slot as the code returns it
 abbrev pub slot_text : Option Part → Option (List ℕ)
 slot_text = option_map part_text
 
 abbrev pub slot_of : Option (Option Part) → Option (Option (List ℕ))
 slot_of = option_map slot_text
 
--- ---- places
+-- ---- slots
 
 abbrev pub Slots : Type 0
 Slots = List (Option (List ℕ))
@@ -82,7 +83,7 @@ abbrev pub flag_slot : (bare : List ℕ) → Option Token → Option (List ℕ)
 flag_slot bare None = None
 flag_slot bare (Some t) = Some bare
 
--- a key that stands alone, or one with its literal
+-- a key without a value, or a key with its literal
 abbrev pub option_slot : (bare keyed : List ℕ) → Option Name → Option StringLiteral → Option (List ℕ)
 option_slot bare keyed (Some key) literal = Some bare
 option_slot bare keyed None (Some literal) = Some (keyed ++ literal_text literal)
@@ -106,7 +107,7 @@ arg_slots name long_key long short_key short pattern value flag multiple min max
     ∷ property_slot (codes "pattern=") pattern ∷ value_slot (codes "value=") value ∷ flag_slot (codes "flag") flag ∷ flag_slot (codes "multiple") multiple
     ∷ number_slot (codes "min=") min ∷ number_slot (codes "max=") max ∷ property_slot (codes "help=") help ∷ []
 
--- where the arguments of an attribute may stand
+-- the slots of an attribute
 abbrev pub slots : Attribute → Slots
 slots (attributes.Arg flag help property long long_key max max_key min min_key multiple name pattern short short_key value) =
     arg_slots name long_key long short_key short pattern value flag multiple min max property
@@ -123,9 +124,9 @@ slots (attributes.Timestamp value) = single_slots value
 slots (attributes.WorkingDirectory value) = positional value.value ∷ []
 slots _ = []
 
--- ---- what is printed of them
+-- ---- the printed text
 
--- what stands before an argument
+-- what is written before an argument
 abbrev pub opening : (begun : Bool) → List ℕ
 opening false = fixed_text (codes "(")
 opening true = fixed_text (codes ", ")
@@ -134,12 +135,12 @@ abbrev pub closing : (begun : Bool) → List ℕ
 closing false = []
 closing true = fixed_text (codes ")")
 
--- a text that is there, with what stands before it
+-- a slot's text with what is written before it, or nothing if the argument is absent
 abbrev pub slot_piece : (begun : Bool) → Option (List ℕ) → List ℕ
 slot_piece begun None = []
 slot_piece begun (Some text) = opening begun ++ text
 
--- the texts that are there, in parentheses; some may be printed already
+-- the texts of the slots in parentheses, or what is left of them if an argument was already printed
 abbrev pub slots_text : (begun : Bool) → Slots → List ℕ
 slots_text begun [] = closing begun
 slots_text begun (slot ∷ slots) = slot_piece begun slot ++ slots_text (begun || is_some slot) slots

@@ -1,41 +1,42 @@
 use crate::interpreter::Interpreter;
-use justfile_base::{AttributeKind, Name, Signal, StringLiteral, Token};
-use justfile_tree::Expression;
+use justfile_expression::Expression;
+use justfile_token::{Name, StringLiteral, Token};
+use justfile_vocabulary::{AttributeKind, Signal};
 use std::collections::BTreeSet;
 
-/// What stands between brackets before a construct, and says how it is to be taken.
+/// An attribute of a construct, written in brackets before it, as in `docs/LANGUAGE.md`.
 #[derive(Drop, PartialEq, Eq)]
 pub enum Attribute<'src> {
     Android,
-    /// What is said of a parameter of a recipe.
+    /// What an `arg` attribute sets for a parameter of a recipe.
     Arg {
         /// The key `flag`: the option takes no value.
         flag: Option<Token<'src>>,
-        /// The help that is worked out later: none as long as it is not evaluated.
+        /// The evaluated help text. The parser leaves it `None`.
         help: Option<String>,
-        /// The key `help` with its value.
+        /// The key `help` and its value.
         help_property: Option<(Name<'src>, Box<Expression<'src>>)>,
         /// The name of the long option.
         long: Option<StringLiteral<'src>>,
-        /// The key `long` where it has no value, and so names the option as the parameter.
+        /// The key `long` if it has no value, so that the option has the parameter's name.
         long_key: Option<Name<'src>>,
-        /// How many values are taken at most.
+        /// The most values that the parameter takes.
         max: Option<u64>,
         max_key: Option<Name<'src>>,
-        /// How many values are taken at least.
+        /// The fewest values that the parameter takes.
         min: Option<u64>,
         min_key: Option<Name<'src>>,
         /// The key `multiple`: the option may be given more than once.
         multiple: Option<Token<'src>>,
         /// The parameter's name.
         name: StringLiteral<'src>,
-        /// The key `pattern` with its value.
+        /// The key `pattern` and its value.
         pattern_property: Option<(Name<'src>, Box<Expression<'src>>)>,
         /// The name of the short option.
         short: Option<StringLiteral<'src>>,
-        /// The key `short` where it has no value, and so names the option as the parameter.
+        /// The key `short` if it has no value, so that the option has the parameter's name.
         short_key: Option<Name<'src>>,
-        /// What the parameter gets where the option is given without a value.
+        /// The parameter's value if the option is given without one.
         value: Option<Box<Expression<'src>>>,
     },
     Cache {
@@ -48,7 +49,7 @@ pub enum Attribute<'src> {
     Default,
     Doc(Option<Box<Expression<'src>>>),
     Dragonfly,
-    /// The name of a variable of the environment, and its value.
+    /// The name of an environment variable and its value.
     Env(Box<Expression<'src>>, Box<Expression<'src>>),
     ExitMessage,
     Extension(StringLiteral<'src>),
@@ -75,12 +76,29 @@ pub enum Attribute<'src> {
 
 impl<'src> Attribute<'src> {
     ghost use Rattle.std.specs.Prelude.{◌≡◌};
-    ghost use Rattle.justfile_word.specs.AttributeKind.{attribute_name};
+    ghost use Rattle.justfile_vocabulary.specs.AttributeKind.{attribute_name};
     ghost use Rattle.justfile_model.specs.AttributeKinds.{is_repeatable};
     ghost use Rattle.justfile_model.specs.ContentKeys.{kind_of_attribute};
     ghost use Rattle.justfile_attribute.specs.Attribute.{attribute_of};
 
-    /// What the attribute is.
+    /// Returns the name of the attribute's kind.
+    pub fn name(&self) -> &'static str
+        ensures { result.now ≡ attribute_name (kind_of_attribute (attribute_of self.now)) }
+    {
+        self.kind().name()
+    }
+
+    /// Whether an item may have several attributes of this kind.
+    pub fn repeatable(&self) -> bool
+        ensures { result ≡ is_repeatable (kind_of_attribute (attribute_of self.now)) }
+    {
+        matches!(
+            self.kind(),
+            AttributeKind::Arg | AttributeKind::Env | AttributeKind::Group | AttributeKind::Metadata
+        )
+    }
+
+    /// Returns the kind of the attribute.
     pub fn kind(&self) -> AttributeKind
         ensures { result ≡ kind_of_attribute (attribute_of self.now) }
     {
@@ -116,22 +134,5 @@ impl<'src> Attribute<'src> {
             Attribute::Windows => AttributeKind::Windows,
             Attribute::WorkingDirectory(_) => AttributeKind::WorkingDirectory,
         }
-    }
-
-    /// The name of what it is.
-    pub fn name(&self) -> &'static str
-        ensures { result.now ≡ attribute_name (kind_of_attribute (attribute_of self.now)) }
-    {
-        self.kind().name()
-    }
-
-    /// Whether an item may have several of its kind.
-    pub fn repeatable(&self) -> bool
-        ensures { result ≡ is_repeatable (kind_of_attribute (attribute_of self.now)) }
-    {
-        matches!(
-            self.kind(),
-            AttributeKind::Arg | AttributeKind::Env | AttributeKind::Group | AttributeKind::Metadata
-        )
     }
 }

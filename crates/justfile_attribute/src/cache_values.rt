@@ -1,6 +1,6 @@
-use justfile_tree::Expression;
+use justfile_expression::Expression;
 
-/// What `cache` says by its keys.
+/// The values of the keys of a `cache` attribute.
 #[derive(Drop)]
 pub(crate) struct CacheValues<'src> {
     pub(crate) extra: Option<Box<Expression<'src>>>,

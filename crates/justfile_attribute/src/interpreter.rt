@@ -3,23 +3,13 @@ ghost use Rattle.std.specs.Fmt.{DisplaysOnOk, ◌++?◌};
 
 use std::fmt;
 
-/// A command that runs scripts, and its arguments.
+/// A command that runs scripts, with its arguments.
 #[derive(Debug, Drop, PartialEq, Eq, PartialOrd, Ord)]
 pub struct Interpreter<T> {
     /// The program.
     pub command: T,
-    /// What it is given before the script.
+    /// The arguments before the script.
     pub arguments: Vec<T>,
-}
-
-/// Writes an argument after a comma and a space.
-fn write_later<T: fmt::Display, W: fmt::Write>(
-    argument: &T,
-    f: &mut fmt::Formatter<W>,
-) -> fmt::Result
-    ensures { DisplaysOnOk W.write_str_gives f.old result (Some (codes ", ") ++? T.output argument.now) f.new }
-{
-    write!(f, ", {argument}")
 }
 
 impl<T: fmt::Display> fmt::Display for Interpreter<T> {
@@ -34,4 +24,15 @@ impl<T: fmt::Display> fmt::Display for Interpreter<T> {
         }
         Ok(())
     }
+}
+
+/// Writes an argument with a comma and a space before it.
+fn write_later<T: fmt::Display, W: fmt::Write>(
+    argument: &T,
+    f: &mut fmt::Formatter<W>,
+) -> fmt::Result
+    ensures { DisplaysOnOk W.write_str_gives f.old result (Some (codes ", ")
+        ++? T.output argument.now) f.new }
+{
+    write!(f, ", {argument}")
 }

@@ -1,16 +1,16 @@
-//! Interpreters of texts and of expressions.
+//! Interpreters with texts and with expressions.
 ghost use Rattle.std.specs.Prelude.{IfOk};
 ghost use Rattle.std.specs.List.{AllZip};
 ghost use Rattle.justfile_attribute.specs.Copies.{IsSameText};
 ghost use Rattle.justfile_attribute.specs.Interpreters.{IsDefault, IsSameCommand, IsSameTexts};
-ghost use Rattle.justfile_tree.specs.Copies.{IsSameExpression};
+ghost use Rattle.justfile_expression.specs.Copies.{IsSameExpression};
 
 use crate::interpreter::Interpreter;
-use justfile_tree::Expression;
+use justfile_expression::Expression;
 use std::alloc::{AllocError, Global};
 
 impl Interpreter<String> {
-    /// The interpreter of scripts where none is set: `sh -eu`.
+    /// Returns the interpreter of scripts if none is set: `sh -eu`.
     pub fn default_script_interpreter(alloc: Global) -> Result<Self, AllocError>
         ensures { IfOk result IsDefault }
     {
@@ -22,7 +22,7 @@ impl Interpreter<String> {
         })
     }
 
-    /// A copy of the interpreter.
+    /// Returns a copy of the interpreter, or an error if out of memory.
     pub fn clone(&self, alloc: Global) -> Result<Self, AllocError>
         ensures { IfOk result (λ copy. IsSameTexts copy self.now) }
     {
@@ -35,7 +35,7 @@ impl Interpreter<String> {
 }
 
 impl<'src> Interpreter<Expression<'src>> {
-    /// A copy of the interpreter.
+    /// Returns a copy of the interpreter, or an error if out of memory.
     pub fn clone(&self, alloc: Global) -> Result<Self, AllocError>
         ensures { IfOk result (λ copy. IsSameCommand copy self.now) }
     {
@@ -47,7 +47,7 @@ impl<'src> Interpreter<Expression<'src>> {
     }
 }
 
-/// Copies of texts.
+/// Returns copies of texts.
 fn copy_texts(alloc: Global, texts: &[String]) -> Result<Vec<String>, AllocError>
     ensures { IfOk result (λ copies. AllZip IsSameText copies.items texts.now) }
 {
@@ -58,7 +58,7 @@ fn copy_texts(alloc: Global, texts: &[String]) -> Result<Vec<String>, AllocError
     Ok(copies)
 }
 
-/// Copies of expressions.
+/// Returns copies of expressions.
 fn copy_expressions<'src>(
     alloc: Global,
     expressions: &[Expression<'src>],

@@ -1,9 +1,9 @@
-//! Attributes: what they hold, how they compare by content, how they are made of arguments, and their text.
+//! Attributes: their types, and how they are made from arguments, compared by content, and printed.
 #![tactic(auto)]
 
 pub mod attribute;
 mod cache_values;
-mod copied;
+mod copy;
 mod interpreter;
 mod interpreters;
 pub mod laws;
@@ -17,4 +17,4 @@ pub use crate::attribute::Attribute;
 pub use crate::interpreter::Interpreter;
 pub use crate::order::attribute_content_cmp;
 pub use crate::print::write_attribute;
-pub use justfile_base::{AttributeKind, Signal};
+pub use justfile_vocabulary::{AttributeKind, Signal};

@@ -1,16 +1,16 @@
 ghost use Rattle.std.specs.Prelude.{◌≡◌, ◌≤◌, IfOk, IsTrue, [], ◌∷◌, false, true, length};
 ghost use Rattle.std.specs.Option.{option_map};
-ghost use Rattle.justfile_word.specs.declared.attribute_kind.AttributeKind.TheVariants as kinds;
-ghost use Rattle.justfile_base.specs.declared.token.Token.{Token};
+ghost use Rattle.justfile_vocabulary.specs.declared.attribute_kind.AttributeKind.TheVariants as kinds;
+ghost use Rattle.justfile_token.specs.declared.token.Token.{Token};
 ghost use Rattle.justfile_model.specs.AttributeKinds.{takes_expressions};
 ghost use Rattle.justfile_model.specs.Meaning.{first_of, texts_of};
 ghost use Rattle.justfile_model.specs.NewAttribute as new;
 ghost use Rattle.justfile_model.specs.Tree as tree;
-ghost use Rattle.justfile_tree.specs.LeafSight.{sees_leaves};
-ghost use Rattle.justfile_tree.specs.LeafTree.{leaf_tree_of};
+ghost use Rattle.justfile_expression.specs.LeafViews.{views_leaves};
+ghost use Rattle.justfile_expression.specs.LeafTree.{leaf_tree_of};
 ghost use Rattle.justfile_attribute.specs.Attribute.{leaf_attribute_of};
 ghost use Rattle.justfile_attribute.specs.Cached.{cache_of, cache_read};
-ghost use Rattle.justfile_attribute.specs.New.{IsCounted, IsWholeAttribute, continue_made, has_texts, is_plain, values_of, with_known};
+ghost use Rattle.justfile_attribute.specs.New.{IsCounted, HasDerivedAttributeFields, continue_made, has_texts, is_plain, values_of, with_known};
 ghost use Rattle.justfile_attribute_rules.specs.ArgumentRules.{AreNamed, rules_of};
 ghost use Rattle.justfile_attribute_rules.specs.Keys.{AreKeyed, IsTaken, key_arguments};
 ghost use Rattle.justfile_attribute_rules.specs.KeywordArguments.{keys_of};
@@ -23,16 +23,18 @@ use justfile_attribute_rules::{
     ArgumentRules, KeyMap, KeywordArguments, accepts_expressions, check_count, check_keys,
     read_argument_rules, signal_set, string_literals, take_value,
 };
-use justfile_base::{AttributeKind, CompileResult, Name, StringLiteral, Token};
-use justfile_tree::Expression;
+use justfile_expression::Expression;
+use justfile_token::{CompileResult, Name, StringLiteral, Token};
+use justfile_vocabulary::AttributeKind;
 use std::alloc::{AllocError, Global};
 
 impl<'src> Attribute<'src> {
-    /// The attribute of this kind with these arguments, of which those by position stand with their first tokens.
+    /// Returns the attribute of this kind with these arguments. Each positional argument comes with
+    /// its first token.
     ///
     /// # Errors
     ///
-    /// `Compile` for the first rule that is broken; `Memory` if memory runs out.
+    /// `Compile` for the first broken rule; `Memory` if out of memory.
     #[tactic(auto, using(justfile_attribute_rules::proofs::Refused::refused_first, crate::proofs::Counted::as_many), unfolding(justfile_model::specs::NewAttribute::new_attribute))]
     pub fn new(
         alloc: Global,
@@ -41,9 +43,10 @@ impl<'src> Attribute<'src> {
         arguments: Vec<(Token<'src>, Box<Expression<'src>>)>,
         keyword_arguments: KeywordArguments<'src>,
     ) -> CompileResult<'src, Self>
-        ensures made { Makes leaf_attribute_of result
-            (new.new_attribute sees_leaves name.entry.token kind (placed_leaves arguments.entry.items) (key_arguments (keys_of keyword_arguments.entry))) }
-        ensures whole { IfOk result IsWholeAttribute }
+        ensures made { Makes leaf_attribute_of result (new.new_attribute views_leaves
+            name.entry.token kind (placed_leaves arguments.entry.items)
+            (key_arguments (keys_of keyword_arguments.entry))) }
+        ensures whole { IfOk result HasDerivedAttributeFields }
     {
         let keys = keyword_arguments.into_map();
         check_count(name, kind, arguments.len())?;
@@ -55,7 +58,7 @@ impl<'src> Attribute<'src> {
     }
 }
 
-/// An attribute whose arguments by position are any expressions.
+/// Returns an attribute whose positional arguments are any expressions.
 #[tactic(auto, using(justfile_attribute_rules::proofs::Refused::refused_first))]
 fn from_expressions<'src>(
     name: Name<'src>,
@@ -66,9 +69,9 @@ fn from_expressions<'src>(
     requires keyed { AreKeyed keys }
     requires kind { takes_expressions kind ≡ true }
     requires counted { IsCounted name.token kind (length (placed_leaves arguments.items)) }
-    ensures made { Makes leaf_attribute_of result
-        (new.from_expressions sees_leaves name.entry.token kind (placed_leaves arguments.entry.items) (key_arguments keys.entry)) }
-    ensures whole { IfOk result IsWholeAttribute }
+    ensures made { Makes leaf_attribute_of result (new.from_expressions views_leaves
+        name.entry.token kind (placed_leaves arguments.entry.items) (key_arguments keys.entry)) }
+    ensures whole { IfOk result HasDerivedAttributeFields }
 {
     check_keys(name, kind, &keys)?;
     match kind {
@@ -81,12 +84,13 @@ fn from_expressions<'src>(
     }
 }
 
-/// The first argument by position, if there is one.
+/// Returns the first positional argument, if any.
 #[tactic(auto, using(crate::proofs::Counted::first_is, crate::proofs::Counted::none_first))]
 fn first<'src>(
     mut arguments: Vec<(Token<'src>, Box<Expression<'src>>)>,
 ) -> Option<Box<Expression<'src>>>
-    ensures { option_map (λ b. leaf_tree_of b.value) result ≡ first_of (values_of (placed_leaves arguments.entry.items)) }
+    ensures { option_map (λ b. leaf_tree_of b.value) result
+        ≡ first_of (values_of (placed_leaves arguments.entry.items)) }
 {
     if arguments.is_empty() {
         return None;
@@ -95,32 +99,34 @@ fn first<'src>(
     Some(value)
 }
 
-/// `working-directory`
+/// Returns a `working-directory` attribute.
 #[tactic(auto, using(crate::proofs::Counted::directory_is))]
 fn working_directory<'src>(
     mut arguments: Vec<(Token<'src>, Box<Expression<'src>>)>,
 ) -> Attribute<'src>
     requires { 1 ≤ length arguments.items }
-    ensures made { (at : Token) → leaf_attribute_of result ≡ new.new_of_expressions sees_leaves at kinds.WorkingDirectory (values_of (placed_leaves arguments.entry.items)) }
-    ensures whole { IsWholeAttribute result }
+    ensures made { (at : Token) → leaf_attribute_of result ≡ new.new_of_expressions views_leaves at
+        kinds.WorkingDirectory (values_of (placed_leaves arguments.entry.items)) }
+    ensures whole { HasDerivedAttributeFields result }
 {
     let (_first, value) = arguments.remove(0);
     Attribute::WorkingDirectory(value)
 }
 
-/// `env`
+/// Returns an `env` attribute.
 #[tactic(auto, using(crate::proofs::Counted::env_is))]
 fn env<'src>(mut arguments: Vec<(Token<'src>, Box<Expression<'src>>)>) -> Attribute<'src>
     requires { 2 ≤ length arguments.items }
-    ensures made { (at : Token) → leaf_attribute_of result ≡ new.new_of_expressions sees_leaves at kinds.Env (values_of (placed_leaves arguments.entry.items)) }
-    ensures whole { IsWholeAttribute result }
+    ensures made { (at : Token) → leaf_attribute_of result ≡ new.new_of_expressions views_leaves at
+        kinds.Env (values_of (placed_leaves arguments.entry.items)) }
+    ensures whole { HasDerivedAttributeFields result }
 {
     let (_first, value) = arguments.remove(1);
     let (_first, key) = arguments.remove(0);
     Attribute::Env(key, value)
 }
 
-/// An attribute whose arguments by position are literals.
+/// Returns an attribute whose positional arguments are literals.
 #[tactic(auto, using(justfile_attribute_rules::proofs::Refused::refused_first))]
 fn from_literals<'src>(
     alloc: Global,
@@ -132,15 +138,16 @@ fn from_literals<'src>(
     requires keyed { AreKeyed keys }
     requires kind { takes_expressions kind ≡ false }
     requires counted { IsCounted name.token kind (length (placed_leaves arguments.items)) }
-    ensures made { Makes leaf_attribute_of result
-        (new.from_literals sees_leaves name.entry.token kind (placed_leaves arguments.entry.items) (key_arguments keys.entry)) }
-    ensures whole { IfOk result IsWholeAttribute }
+    ensures made { Makes leaf_attribute_of result (new.from_literals views_leaves name.entry.token
+        kind (placed_leaves arguments.entry.items) (key_arguments keys.entry)) }
+    ensures whole { IfOk result HasDerivedAttributeFields }
 {
     let literals = string_literals(alloc, name, arguments)?;
     of_literals(alloc, name, kind, literals, &mut keys)
 }
 
-/// An attribute of literals, which are counted, by the rules of its kind. Keys that it doesn't know are refused last.
+/// Returns an attribute with these literals, whose count is right, by the rules of its kind. Keys
+/// that the kind doesn't accept are refused after all other checks.
 #[tactic(auto, using(crate::proofs::Counted::continue_known))]
 fn of_literals<'src>(
     alloc: Global,
@@ -153,9 +160,10 @@ fn of_literals<'src>(
     requires kind { takes_expressions kind ≡ false }
     requires counted { IsCounted name.token kind (length (quoted_leaves literals.items)) }
     ensures made { Makes leaf_attribute_of result
-        (with_known (new.check_keys sees_leaves name.entry.token kind (key_arguments keys.old))
-        (new.new_of_literals sees_leaves name.entry.token kind (quoted_leaves literals.entry.items) (key_arguments keys.old))) }
-    ensures whole { IfOk result IsWholeAttribute }
+        (with_known (new.check_keys views_leaves name.entry.token kind (key_arguments keys.old))
+        (new.new_of_literals views_leaves name.entry.token kind (quoted_leaves literals.entry.items)
+        (key_arguments keys.old))) }
+    ensures whole { IfOk result HasDerivedAttributeFields }
 {
     match kind {
         AttributeKind::Arg => arg(alloc, name, literals, keys),
@@ -165,7 +173,7 @@ fn of_literals<'src>(
     }
 }
 
-/// An attribute that has literals alone, or no arguments at all.
+/// Returns an attribute that has only literals, or no arguments at all.
 #[tactic(auto, using(justfile_attribute_rules::proofs::Refused::refused_first, crate::proofs::Counted::known_made))]
 fn of_texts<'src>(
     name: Name<'src>,
@@ -178,9 +186,10 @@ fn of_texts<'src>(
     requires texts { IsTrue (has_texts kind) }
     requires counted { IsCounted name.token kind (length (quoted_leaves literals.items)) }
     ensures made { Makes leaf_attribute_of result
-        (with_known (new.check_keys sees_leaves name.entry.token kind (key_arguments keys.now))
-        (new.new_of_literals sees_leaves name.entry.token kind (quoted_leaves literals.entry.items) (key_arguments keys.now))) }
-    ensures whole { IfOk result IsWholeAttribute }
+        (with_known (new.check_keys views_leaves name.entry.token kind (key_arguments keys.now))
+        (new.new_of_literals views_leaves name.entry.token kind (quoted_leaves literals.entry.items)
+        (key_arguments keys.now))) }
+    ensures whole { IfOk result HasDerivedAttributeFields }
 {
     check_keys(name, kind, keys)?;
     match kind {
@@ -192,20 +201,11 @@ fn of_texts<'src>(
     }
 }
 
-/// The first of literals of which there is one.
-#[tactic(auto, using(crate::proofs::Counted::only_is))]
-fn only(mut literals: Vec<StringLiteral<'_>>) -> StringLiteral<'_>
-    requires { length literals.items ≡ 1 }
-    ensures { quoted_leaves literals.entry.items ≡ quoted_leaf result ∷ [] }
-{
-    literals.remove(0)
-}
-
-/// An attribute that takes no arguments.
+/// Returns an attribute that takes no arguments.
 fn plain<'src>(kind: AttributeKind) -> Attribute<'src>
     requires { IsTrue (is_plain kind) }
     ensures made { leaf_attribute_of result ≡ tree.Plain kind }
-    ensures whole { IsWholeAttribute result }
+    ensures whole { HasDerivedAttributeFields result }
 {
     match kind {
         AttributeKind::Android => Attribute::Android,
@@ -230,7 +230,7 @@ fn plain<'src>(kind: AttributeKind) -> Attribute<'src>
     }
 }
 
-/// `continue`
+/// Returns a `continue` attribute.
 #[tactic(auto, using(justfile_attribute_rules::proofs::Refused::refused_first))]
 fn proceed<'src>(
     alloc: Global,
@@ -240,19 +240,21 @@ fn proceed<'src>(
 ) -> CompileResult<'src, Attribute<'src>>
     requires { AreKeyed keys.now }
     ensures made { Makes leaf_attribute_of result
-        (with_known (new.check_keys sees_leaves name.entry.token kinds.Continue (key_arguments keys.now)) (continue_made (quoted_leaves literals.entry.items))) }
-    ensures whole { IfOk result IsWholeAttribute }
+        (with_known (new.check_keys views_leaves name.entry.token kinds.Continue
+        (key_arguments keys.now)) (continue_made (quoted_leaves literals.entry.items))) }
+    ensures whole { IfOk result HasDerivedAttributeFields }
 {
     let signals = signal_set(alloc, literals)?;
     check_keys(name, AttributeKind::Continue, keys)?;
     Ok(Attribute::Continue(signals))
 }
 
-/// `script`, of a program and its arguments, or bare.
+/// Returns a `script` attribute with a program and its arguments, or without arguments.
 #[tactic(auto, using(crate::proofs::Counted::script_is))]
 fn script(mut literals: Vec<StringLiteral<'_>>) -> Attribute<'_>
-    ensures made { leaf_attribute_of result ≡ texts_of sees_leaves kinds.Script (quoted_leaves literals.entry.items) }
-    ensures whole { IsWholeAttribute result }
+    ensures made { leaf_attribute_of result
+        ≡ texts_of views_leaves kinds.Script (quoted_leaves literals.entry.items) }
+    ensures whole { HasDerivedAttributeFields result }
 {
     if literals.is_empty() {
         return Attribute::Script(None);
@@ -264,7 +266,7 @@ fn script(mut literals: Vec<StringLiteral<'_>>) -> Attribute<'_>
     }))
 }
 
-/// `cache`
+/// Returns a `cache` attribute.
 #[tactic(auto, using(crate::proofs::Cached::cache_made, crate::proofs::Cached::refused_known, crate::proofs::Cached::refused_cache))]
 fn cache<'src>(
     alloc: Global,
@@ -272,9 +274,10 @@ fn cache<'src>(
     keys: &mut KeyMap<'src>,
 ) -> CompileResult<'src, Attribute<'src>>
     requires { AreKeyed keys.old }
-    ensures made { Makes leaf_attribute_of result
-        (with_known (new.check_keys sees_leaves name.entry.token kinds.Cache (key_arguments keys.old)) (new.new_cache sees_leaves name.entry.token (key_arguments keys.old))) }
-    ensures whole { IfOk result IsWholeAttribute }
+    ensures made { Makes leaf_attribute_of result (with_known
+        (new.check_keys views_leaves name.entry.token kinds.Cache (key_arguments keys.old))
+        (new.new_cache views_leaves name.entry.token (key_arguments keys.old))) }
+    ensures whole { IfOk result HasDerivedAttributeFields }
 {
     let mut values = no_values(alloc)?;
     let known = check_keys(name, AttributeKind::Cache, keys);
@@ -287,7 +290,7 @@ fn cache<'src>(
     }
 }
 
-/// Nothing is said of a cache yet.
+/// Returns the values of a `cache` attribute without keys.
 fn no_values<'src>(alloc: Global) -> Result<Box<CacheValues<'src>>, AllocError> {
     let values = CacheValues {
         extra: None,
@@ -297,7 +300,7 @@ fn no_values<'src>(alloc: Global) -> Result<Box<CacheValues<'src>>, AllocError> 
     Ok(Box::new(alloc, values)?)
 }
 
-/// Takes the keys of `cache`, one after another.
+/// Takes the keys of `cache` out of the map, one after another, and sets the values.
 #[tactic(auto, using(justfile_attribute_rules::proofs::Refused::refused_first))]
 fn read_cache<'src>(
     name: Name<'src>,
@@ -305,14 +308,16 @@ fn read_cache<'src>(
     values: &mut CacheValues<'src>,
 ) -> CompileResult<'src>
     requires { AreKeyed keys.old }
-    ensures { Makes (λ _. cache_of values.new) result (cache_read name.entry.token (key_arguments keys.old)) }
+    ensures { Makes (λ _. cache_of values.new) result
+        (cache_read name.entry.token (key_arguments keys.old)) }
 {
     read_value(name, keys, "extra", &mut values.extra)?;
     read_value(name, keys, "inputs", &mut values.inputs)?;
     read_value(name, keys, "outputs", &mut values.outputs)
 }
 
-/// Takes one key of `cache` with its value.
+/// Takes one key of `cache` out of the map, and sets `value` to its value, or to `None` if there is
+/// no such key.
 fn read_value<'src>(
     name: Name<'src>,
     keys: &mut KeyMap<'src>,
@@ -320,7 +325,8 @@ fn read_value<'src>(
     value: &mut Option<Box<Expression<'src>>>,
 ) -> CompileResult<'src>
     requires { AreKeyed keys.old }
-    ensures read { Makes (λ _. option_map (λ b. leaf_tree_of b.value) value.new) result (new.required_at sees_leaves name.entry.token word.now (key_arguments keys.old)) }
+    ensures read { Makes (λ _. option_map (λ b. leaf_tree_of b.value) value.new) result
+        (new.required_at views_leaves name.entry.token word.now (key_arguments keys.old)) }
     ensures left { IsTaken word.now keys.old keys.new }
 {
     match take_value(name, keys, word) {
@@ -332,10 +338,10 @@ fn read_value<'src>(
     }
 }
 
-/// The attribute of what `cache` says.
+/// Returns the `cache` attribute with these values.
 fn of_values(values: Box<CacheValues<'_>>) -> Attribute<'_>
     ensures made { leaf_attribute_of result ≡ cache_of values.entry.value }
-    ensures whole { IsWholeAttribute result }
+    ensures whole { HasDerivedAttributeFields result }
 {
     let values = Box::into_inner(values);
     Attribute::Cache {
@@ -345,7 +351,7 @@ fn of_values(values: Box<CacheValues<'_>>) -> Attribute<'_>
     }
 }
 
-/// `arg`
+/// Returns an `arg` attribute.
 #[tactic(auto, using(justfile_attribute_rules::proofs::Refused::refused_first))]
 fn arg<'src>(
     alloc: Global,
@@ -355,10 +361,11 @@ fn arg<'src>(
 ) -> CompileResult<'src, Attribute<'src>>
     requires keyed { AreKeyed keys.old }
     requires counted { length literals.items ≡ 1 }
-    ensures made { Makes leaf_attribute_of result
-        (with_known (new.check_keys sees_leaves name.entry.token kinds.Arg (key_arguments keys.old))
-        (new.new_arg sees_leaves name.entry.token (quoted_leaves literals.entry.items) (key_arguments keys.old))) }
-    ensures whole { IfOk result IsWholeAttribute }
+    ensures made { Makes leaf_attribute_of result (with_known
+        (new.check_keys views_leaves name.entry.token kinds.Arg (key_arguments keys.old))
+        (new.new_arg views_leaves name.entry.token (quoted_leaves literals.entry.items)
+        (key_arguments keys.old))) }
+    ensures whole { IfOk result HasDerivedAttributeFields }
 {
     let argument = only(literals);
     let known = check_keys(name, AttributeKind::Arg, keys);
@@ -371,11 +378,20 @@ fn arg<'src>(
     }
 }
 
-/// The attribute of what is said of an argument.
+/// Returns the only literal of the vector.
+#[tactic(auto, using(crate::proofs::Counted::only_is))]
+fn only(mut literals: Vec<StringLiteral<'_>>) -> StringLiteral<'_>
+    requires { length literals.items ≡ 1 }
+    ensures { quoted_leaves literals.entry.items ≡ quoted_leaf result ∷ [] }
+{
+    literals.remove(0)
+}
+
+/// Returns the `arg` attribute with these rules.
 fn of_rules(rules: Box<ArgumentRules<'_>>) -> Attribute<'_>
     requires { AreNamed rules.value }
     ensures made { leaf_attribute_of result ≡ tree.Arg (rules_of rules.entry.value) }
-    ensures whole { IsWholeAttribute result }
+    ensures whole { HasDerivedAttributeFields result }
 {
     let rules = Box::into_inner(rules);
     let (max_key, max) = parts(rules.max);
@@ -399,7 +415,7 @@ fn of_rules(rules: Box<ArgumentRules<'_>>) -> Attribute<'_>
     }
 }
 
-/// A key and its number, each by itself.
+/// Returns a key and its number separately.
 fn parts<'src>(bound: Option<(Name<'src>, u64)>) -> (Option<Name<'src>>, Option<u64>)
     ensures key { result.0 ≡ option_map (λ p. p.0) bound.entry }
     ensures number { result.1 ≡ option_map (λ p. p.1) bound.entry }

@@ -1,10 +1,10 @@
-//! How attributes compare by what they hold, wherever they stand: by their kinds, and within a kind by
-//! their fields in declared order.
+//! The order of attributes by content: by their kinds, and within a kind by their fields in
+//! declared order, ignoring positions.
 ghost use Rattle.std.specs.Prelude.{◌≡◌};
 ghost use denote.Enum.Declared.{tag_of};
 ghost use Rattle.std.specs.Ordering.{nat_cmp};
-ghost use Rattle.justfile_word.specs.contracts.attribute_kind.AttributeKind.{the_type};
-ghost use Rattle.justfile_word.specs.declared.attribute_kind.AttributeKind.TheVariants as kinds;
+ghost use Rattle.justfile_vocabulary.specs.contracts.attribute_kind.AttributeKind.{the_type};
+ghost use Rattle.justfile_vocabulary.specs.declared.attribute_kind.AttributeKind.TheVariants as kinds;
 ghost use Rattle.justfile_model.specs.ContentLeaf.{content_cmp};
 ghost use Rattle.justfile_model.specs.Key.{keys_cmp, end, next, keys_of, option_key, row};
 ghost use Rattle.justfile_attribute.specs.Order.{attribute_content_cmp, boxed_key, by_content, case_keys, case_kind, count_key, expression_key, interpreter_key, literal_key, name_key, property_key, signal_key, text_key, token_key};
@@ -15,12 +15,13 @@ use crate::parts_order::{
     compare_bounds, compare_expressions, compare_interpreters, compare_named, compare_optional,
     compare_properties, compare_rows, compare_texts, compare_tokens,
 };
-use justfile_base::{Signal, StringLiteral};
-use justfile_tree::{Expression, literal_content_cmp};
+use justfile_expression::{Expression, literal_content_cmp};
+use justfile_token::StringLiteral;
+use justfile_vocabulary::Signal;
 use std::cmp::Ordering;
 use std::collections::BTreeSet;
 
-/// Compares two attributes by their kinds, and within a kind by what their fields hold.
+/// Compares two attributes by content: by their kinds, and within a kind by their fields.
 pub fn attribute_content_cmp<'src>(attribute: &Attribute<'src>, other: &Attribute<'src>) -> Ordering
     ensures { result ≡ attribute_content_cmp attribute.now other.now }
 {
@@ -31,14 +32,15 @@ pub fn attribute_content_cmp<'src>(attribute: &Attribute<'src>, other: &Attribut
     compare_fields(attribute, other)
 }
 
-/// Compares what two attributes are, in the order of all kinds.
+/// Compares the kinds of two attributes in the declared order of kinds.
 fn compare_kinds(attribute: &Attribute<'_>, other: &Attribute<'_>) -> Ordering
-    ensures { result ≡ nat_cmp (tag_of the_type (case_kind attribute.now)) (tag_of the_type (case_kind other.now)) }
+    ensures { result ≡ nat_cmp (tag_of the_type (case_kind attribute.now))
+        (tag_of the_type (case_kind other.now)) }
 {
     kind_place(attribute).cmp(&kind_place(other))
 }
 
-/// The place of what an attribute is among all kinds.
+/// Returns the index of an attribute's kind in the declared order, counted from 0.
 #[tactic(auto, using(crate::proofs::Ordered::place_is))]
 fn kind_place(attribute: &Attribute<'_>) -> u8
     ensures { result ≡ tag_of the_type (case_kind attribute.now) }
@@ -46,7 +48,7 @@ fn kind_place(attribute: &Attribute<'_>) -> u8
     attribute.kind() as u8
 }
 
-/// Compares the fields of two attributes of one kind.
+/// Compares the fields of two attributes of the same kind.
 fn compare_fields<'src>(attribute: &Attribute<'src>, other: &Attribute<'src>) -> Ordering
     requires { case_kind attribute.now ≡ case_kind other.now }
     ensures { result ≡ keys_cmp content_cmp (case_keys attribute.now) (case_keys other.now) }
@@ -72,7 +74,7 @@ fn compare_fields<'src>(attribute: &Attribute<'src>, other: &Attribute<'src>) ->
     }
 }
 
-/// Compares what two attributes say of parameters.
+/// Compares the fields of two `arg` attributes.
 fn compare_arg<'src>(attribute: &Attribute<'src>, other: &Attribute<'src>) -> Ordering
     requires one { kinds.Arg ≡ case_kind attribute.now }
     requires another { kinds.Arg ≡ case_kind other.now }
@@ -129,7 +131,7 @@ fn compare_arg<'src>(attribute: &Attribute<'src>, other: &Attribute<'src>) -> Or
     }
 }
 
-/// Compares what two attributes say of a cache.
+/// Compares the fields of two `cache` attributes, the first given by its fields.
 fn compare_cache<'src>(
     extra: &Option<Box<Expression<'src>>>,
     inputs: &Option<Box<Expression<'src>>>,
@@ -137,7 +139,8 @@ fn compare_cache<'src>(
     other: &Attribute<'src>,
 ) -> Ordering
     requires { kinds.Cache ≡ case_kind other.now }
-    ensures { result ≡ keys_cmp content_cmp (next (option_key boxed_key extra.now) (next (option_key boxed_key inputs.now)
+    ensures { result ≡ keys_cmp content_cmp
+        (next (option_key boxed_key extra.now) (next (option_key boxed_key inputs.now)
         (next (option_key boxed_key outputs.now) end))) (case_keys other.now) }
 {
     match other {
@@ -152,13 +155,14 @@ fn compare_cache<'src>(
     }
 }
 
-/// Compares two prompts, which may be absent.
+/// Compares two optional prompts.
 fn compare_confirm<'src>(
     prompt: &Option<Box<Expression<'src>>>,
     other: &Attribute<'src>,
 ) -> Ordering
     requires { kinds.Confirm ≡ case_kind other.now }
-    ensures { result ≡ keys_cmp content_cmp (next (option_key boxed_key prompt.now) end) (case_keys other.now) }
+    ensures { result
+        ≡ keys_cmp content_cmp (next (option_key boxed_key prompt.now) end) (case_keys other.now) }
 {
     match other {
         Attribute::Confirm(other) => compare_optional(prompt, other),
@@ -169,7 +173,8 @@ fn compare_confirm<'src>(
 /// Compares the signals of two attributes.
 fn compare_continue<'src>(signals: &BTreeSet<Signal>, other: &Attribute<'src>) -> Ordering
     requires { kinds.Continue ≡ case_kind other.now }
-    ensures { result ≡ keys_cmp content_cmp (next (row (keys_of signal_key signals.now.keys)) end) (case_keys other.now) }
+    ensures { result ≡ keys_cmp content_cmp (next (row (keys_of signal_key signals.now.keys)) end)
+        (case_keys other.now) }
 {
     match other {
         Attribute::Continue(other) => signals.cmp(other),
@@ -177,10 +182,11 @@ fn compare_continue<'src>(signals: &BTreeSet<Signal>, other: &Attribute<'src>) -
     }
 }
 
-/// Compares two docs, which may be absent.
+/// Compares two optional docs.
 fn compare_doc<'src>(doc: &Option<Box<Expression<'src>>>, other: &Attribute<'src>) -> Ordering
     requires { kinds.Doc ≡ case_kind other.now }
-    ensures { result ≡ keys_cmp content_cmp (next (option_key boxed_key doc.now) end) (case_keys other.now) }
+    ensures { result
+        ≡ keys_cmp content_cmp (next (option_key boxed_key doc.now) end) (case_keys other.now) }
 {
     match other {
         Attribute::Doc(other) => compare_optional(doc, other),
@@ -188,14 +194,16 @@ fn compare_doc<'src>(doc: &Option<Box<Expression<'src>>>, other: &Attribute<'src
     }
 }
 
-/// Compares the names and values of two variables of the environment.
+/// Compares the names and values of two environment variables.
 fn compare_env<'src>(
     name: &Expression<'src>,
     value: &Expression<'src>,
     other: &Attribute<'src>,
 ) -> Ordering
     requires { kinds.Env ≡ case_kind other.now }
-    ensures { result ≡ keys_cmp content_cmp (next (expression_key name.now) (next (expression_key value.now) end)) (case_keys other.now) }
+    ensures { result ≡ keys_cmp content_cmp
+        (next (expression_key name.now) (next (expression_key value.now) end))
+        (case_keys other.now) }
 {
     match other {
         Attribute::Env(other_name, other_value) => {
@@ -208,7 +216,8 @@ fn compare_env<'src>(
 /// Compares two extensions.
 fn compare_extension<'src>(extension: &StringLiteral<'src>, other: &Attribute<'src>) -> Ordering
     requires { kinds.Extension ≡ case_kind other.now }
-    ensures { result ≡ keys_cmp content_cmp (next (literal_key extension.now) end) (case_keys other.now) }
+    ensures { result
+        ≡ keys_cmp content_cmp (next (literal_key extension.now) end) (case_keys other.now) }
 {
     match other {
         Attribute::Extension(other) => literal_content_cmp(extension, other),
@@ -219,7 +228,8 @@ fn compare_extension<'src>(extension: &StringLiteral<'src>, other: &Attribute<'s
 /// Compares the names of two groups.
 fn compare_group<'src>(group: &StringLiteral<'src>, other: &Attribute<'src>) -> Ordering
     requires { kinds.Group ≡ case_kind other.now }
-    ensures { result ≡ keys_cmp content_cmp (next (literal_key group.now) end) (case_keys other.now) }
+    ensures { result
+        ≡ keys_cmp content_cmp (next (literal_key group.now) end) (case_keys other.now) }
 {
     match other {
         Attribute::Group(other) => literal_content_cmp(group, other),
@@ -227,10 +237,11 @@ fn compare_group<'src>(group: &StringLiteral<'src>, other: &Attribute<'src>) -> 
     }
 }
 
-/// Compares two rows of metadata.
+/// Compares two lists of metadata.
 fn compare_metadata<'src>(texts: &Vec<StringLiteral<'src>>, other: &Attribute<'src>) -> Ordering
     requires { kinds.Metadata ≡ case_kind other.now }
-    ensures { result ≡ keys_cmp content_cmp (next (row (keys_of literal_key texts.now.items)) end) (case_keys other.now) }
+    ensures { result ≡ keys_cmp content_cmp (next (row (keys_of literal_key texts.now.items)) end)
+        (case_keys other.now) }
 {
     match other {
         Attribute::Metadata(other) => compare_rows(texts, other),
@@ -238,13 +249,14 @@ fn compare_metadata<'src>(texts: &Vec<StringLiteral<'src>>, other: &Attribute<'s
     }
 }
 
-/// Compares two interpreters, which may be absent.
+/// Compares two optional interpreters.
 fn compare_script<'src>(
     interpreter: &Option<Interpreter<StringLiteral<'src>>>,
     other: &Attribute<'src>,
 ) -> Ordering
     requires { kinds.Script ≡ case_kind other.now }
-    ensures { result ≡ keys_cmp content_cmp (next (option_key interpreter_key interpreter.now) end) (case_keys other.now) }
+    ensures { result ≡ keys_cmp content_cmp (next (option_key interpreter_key interpreter.now) end)
+        (case_keys other.now) }
 {
     match other {
         Attribute::Script(other) => compare_interpreters(interpreter, other),
@@ -252,13 +264,14 @@ fn compare_script<'src>(
     }
 }
 
-/// Compares two formats of times, which may be absent.
+/// Compares two optional formats of times.
 fn compare_timestamp<'src>(
     format: &Option<Box<Expression<'src>>>,
     other: &Attribute<'src>,
 ) -> Ordering
     requires { kinds.Timestamp ≡ case_kind other.now }
-    ensures { result ≡ keys_cmp content_cmp (next (option_key boxed_key format.now) end) (case_keys other.now) }
+    ensures { result
+        ≡ keys_cmp content_cmp (next (option_key boxed_key format.now) end) (case_keys other.now) }
 {
     match other {
         Attribute::Timestamp(other) => compare_optional(format, other),
@@ -269,7 +282,8 @@ fn compare_timestamp<'src>(
 /// Compares two working directories.
 fn compare_working_directory<'src>(path: &Expression<'src>, other: &Attribute<'src>) -> Ordering
     requires { kinds.WorkingDirectory ≡ case_kind other.now }
-    ensures { result ≡ keys_cmp content_cmp (next (expression_key path.now) end) (case_keys other.now) }
+    ensures { result
+        ≡ keys_cmp content_cmp (next (expression_key path.now) end) (case_keys other.now) }
 {
     match other {
         Attribute::WorkingDirectory(other) => compare_expressions(path, other),

@@ -1,35 +1,36 @@
-//! The arguments of an attribute, one after another, as they are printed.
+//! The arguments of an attribute in the order in which they are printed.
 ghost use Rattle.std.specs.Prelude.{◌≡◌, ◌∷◌, ◌<◌, [], IsSome, map};
 ghost use Rattle.std.specs.List.{slice_get};
 ghost use Rattle.justfile_attribute.specs.Print.{arg_slots, cache_slots, flag_slot, literal_slot, number_slot, option_slot, positional, property_slot, script_slots, signal_slot, signal_text, single_slots, slot_of, slot_text, slots, value_slot};
 
 use crate::attribute::Attribute;
 use crate::interpreter::Interpreter;
-use justfile_base::{Name, Signal, StringLiteral, Token};
-use justfile_tree::Expression;
+use justfile_expression::Expression;
+use justfile_token::{Name, StringLiteral, Token};
+use justfile_vocabulary::Signal;
 use std::collections::BTreeSet;
 
-/// What is printed of an argument.
+/// The parts of an argument that are printed.
 #[derive(Clone, Copy)]
 pub struct Part<'a, 'src> {
-    /// What stands first: a key, a key and its sign, a signal in quotes, or nothing.
+    /// What is printed first: a key, a key with `=`, a signal in quotes, or nothing.
     pub piece: &'static str,
-    /// What stands after it.
+    /// What is printed after `piece`.
     pub value: Value<'a, 'src>,
 }
 
-/// What an argument is worth.
+/// The value of an argument.
 #[derive(Clone, Copy)]
 pub enum Value<'a, 'src> {
     Nothing,
     Expression(&'a Expression<'src>),
     Literal(&'a StringLiteral<'src>),
-    /// A number, which is printed in single quotes.
+    /// A number, printed in single quotes.
     Number(u64),
 }
 
-/// What stands at a place where an argument of an attribute may stand. Past the last place there is
-/// nothing at all.
+/// Returns the slot with the index `place` of an attribute, counted from 0. A slot is one possible
+/// argument: `Some(None)` if the argument is absent. Returns `None` after the last slot.
 pub fn slot<'a, 'src>(
     attribute: &'a Attribute<'src>,
     place: usize,
@@ -86,7 +87,7 @@ pub fn slot<'a, 'src>(
     }
 }
 
-/// What `arg` says of a parameter.
+/// Returns a slot of an `arg` attribute.
 fn arg_slot<'a, 'src>(
     name: &'a StringLiteral<'src>,
     long_key: &'a Option<Name<'src>>,
@@ -102,7 +103,8 @@ fn arg_slot<'a, 'src>(
     help: &'a Option<(Name<'src>, Box<Expression<'src>>)>,
     place: usize,
 ) -> Option<Option<Part<'a, 'src>>>
-    ensures slot { slot_of result ≡ slice_get (arg_slots name.now long_key.now long.now short_key.now short.now
+    ensures slot { slot_of result
+        ≡ slice_get (arg_slots name.now long_key.now long.now short_key.now short.now
         pattern.now value.now flag.now multiple.now min.now max.now help.now) place }
     ensures bounded { IsSome result → place < usize.MAX }
 {
@@ -121,7 +123,7 @@ fn arg_slot<'a, 'src>(
     }
 }
 
-/// What is said of a cache.
+/// Returns a slot of a `cache` attribute.
 fn cache_slot<'a, 'src>(
     extra: &'a Option<Box<Expression<'src>>>,
     inputs: &'a Option<Box<Expression<'src>>>,
@@ -139,7 +141,7 @@ fn cache_slot<'a, 'src>(
     }
 }
 
-/// An expression that may be absent, at the first place.
+/// Returns the only slot of an attribute whose expression is optional.
 fn single_slot<'a, 'src>(
     value: &'a Option<Box<Expression<'src>>>,
     place: usize,
@@ -153,7 +155,24 @@ fn single_slot<'a, 'src>(
     }
 }
 
-/// An expression at the first place.
+/// Returns a slot of an `env` attribute: the name or the value.
+fn env_slot<'a, 'src>(
+    key: &'a Expression<'src>,
+    value: &'a Expression<'src>,
+    place: usize,
+) -> Option<Option<Part<'a, 'src>>>
+    ensures slot { slot_of result
+        ≡ slice_get (positional key.now ∷ positional value.now ∷ []) place }
+    ensures bounded { IsSome result → place < usize.MAX }
+{
+    if place == 0 {
+        expression_slot(key, 0)
+    } else {
+        expression_slot(value, place - 1)
+    }
+}
+
+/// Returns the only slot of an attribute that has one expression.
 fn expression_slot<'a, 'src>(
     value: &'a Expression<'src>,
     place: usize,
@@ -171,55 +190,7 @@ fn expression_slot<'a, 'src>(
     }
 }
 
-/// The name or the value of a variable of the environment.
-fn env_slot<'a, 'src>(
-    key: &'a Expression<'src>,
-    value: &'a Expression<'src>,
-    place: usize,
-) -> Option<Option<Part<'a, 'src>>>
-    ensures slot { slot_of result ≡ slice_get (positional key.now ∷ positional value.now ∷ []) place }
-    ensures bounded { IsSome result → place < usize.MAX }
-{
-    if place == 0 {
-        expression_slot(key, 0)
-    } else {
-        expression_slot(value, place - 1)
-    }
-}
-
-/// A literal at the first place.
-fn literal_slot<'a, 'src>(
-    literal: &'a StringLiteral<'src>,
-    place: usize,
-) -> Option<Option<Part<'a, 'src>>>
-    ensures slot { slot_of result ≡ slice_get (literal_slot literal.now ∷ []) place }
-    ensures bounded { IsSome result → place < usize.MAX }
-{
-    if place == 0 {
-        Some(Some(Part {
-            piece: "",
-            value: Value::Literal(literal),
-        }))
-    } else {
-        None
-    }
-}
-
-/// One of a row of literals.
-fn row_slot<'a, 'src>(
-    literals: &'a Vec<StringLiteral<'src>>,
-    place: usize,
-) -> Option<Option<Part<'a, 'src>>>
-    ensures slot { slot_of result ≡ slice_get (map literal_slot literals.now.items) place }
-    ensures bounded { IsSome result → place < usize.MAX }
-{
-    match literals.get(place) {
-        None => None,
-        Some(literal) => literal_slot(literal, 0),
-    }
-}
-
-/// The command of a script, or one of its arguments.
+/// Returns a slot of a `script` attribute: the command or one of its arguments.
 fn script_slot<'a, 'src>(
     interpreter: &'a Option<Interpreter<StringLiteral<'src>>>,
     place: usize,
@@ -239,7 +210,39 @@ fn script_slot<'a, 'src>(
     }
 }
 
-/// One of the signals, in double quotes.
+/// Returns a slot of an attribute that has a list of literals.
+fn row_slot<'a, 'src>(
+    literals: &'a Vec<StringLiteral<'src>>,
+    place: usize,
+) -> Option<Option<Part<'a, 'src>>>
+    ensures slot { slot_of result ≡ slice_get (map literal_slot literals.now.items) place }
+    ensures bounded { IsSome result → place < usize.MAX }
+{
+    match literals.get(place) {
+        None => None,
+        Some(literal) => literal_slot(literal, 0),
+    }
+}
+
+/// Returns the only slot of an attribute that has one literal.
+fn literal_slot<'a, 'src>(
+    literal: &'a StringLiteral<'src>,
+    place: usize,
+) -> Option<Option<Part<'a, 'src>>>
+    ensures slot { slot_of result ≡ slice_get (literal_slot literal.now ∷ []) place }
+    ensures bounded { IsSome result → place < usize.MAX }
+{
+    if place == 0 {
+        Some(Some(Part {
+            piece: "",
+            value: Value::Literal(literal),
+        }))
+    } else {
+        None
+    }
+}
+
+/// Returns a slot of a `continue` attribute: a signal in double quotes.
 fn signal_slot<'a, 'src>(
     signals: &'a BTreeSet<Signal>,
     place: usize,
@@ -256,7 +259,7 @@ fn signal_slot<'a, 'src>(
     }
 }
 
-/// A signal in double quotes.
+/// Returns the name of a signal in double quotes.
 fn signal_piece(signal: Signal) -> &'static str
     ensures { result.now ≡ signal_text signal }
 {
@@ -267,7 +270,7 @@ fn signal_piece(signal: Signal) -> &'static str
     }
 }
 
-/// A key that stands alone, or one with its literal.
+/// Returns a key without a value, or a key with its literal.
 fn option_part<'a, 'src>(
     bare: &'static str,
     keyed: &'static str,
@@ -291,7 +294,7 @@ fn option_part<'a, 'src>(
     }
 }
 
-/// A key with the value that stands beside it.
+/// Returns a key with the value that is stored with it.
 fn property_part<'a, 'src>(
     keyed: &'static str,
     property: &'a Option<(Name<'src>, Box<Expression<'src>>)>,
@@ -307,7 +310,7 @@ fn property_part<'a, 'src>(
     }
 }
 
-/// A key with its value.
+/// Returns a key with its value.
 fn value_part<'a, 'src>(
     keyed: &'static str,
     value: &'a Option<Box<Expression<'src>>>,
@@ -323,7 +326,7 @@ fn value_part<'a, 'src>(
     }
 }
 
-/// A key alone.
+/// Returns a key without a value.
 fn flag_part<'a, 'src>(bare: &'static str, key: &'a Option<Token<'src>>) -> Option<Part<'a, 'src>>
     ensures { slot_text result ≡ flag_slot bare.now key.now }
 {
@@ -336,7 +339,7 @@ fn flag_part<'a, 'src>(bare: &'static str, key: &'a Option<Token<'src>>) -> Opti
     }
 }
 
-/// A key with its number.
+/// Returns a key with its number.
 fn number_part<'a, 'src>(keyed: &'static str, number: &'a Option<u64>) -> Option<Part<'a, 'src>>
     ensures { slot_text result ≡ number_slot keyed.now number.now }
 {

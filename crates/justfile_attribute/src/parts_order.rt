@@ -1,4 +1,4 @@
-//! How the fields of attributes compare by what they hold, wherever they stand.
+//! The order of the fields of attributes by content, ignoring positions.
 ghost use Rattle.std.specs.Prelude.{◌≡◌};
 ghost use Rattle.std.specs.Cmp.Lexicographic.{slice_cmp};
 ghost use Rattle.std.specs.Ordering.{on, ordering_then};
@@ -6,13 +6,14 @@ ghost use Rattle.justfile_model.specs.Key.{option_key};
 ghost use Rattle.justfile_attribute.specs.Order.{boxed_key, by_content, count_key, expression_key, interpreter_key, literal_key, name_key, property_key, text_key, token_key};
 
 use crate::interpreter::Interpreter;
-use justfile_base::{Name, StringLiteral, Token};
-use justfile_tree::{Expression, literal_content_cmp, token_content_cmp};
+use justfile_expression::{Expression, literal_content_cmp, token_content_cmp};
+use justfile_token::{Name, StringLiteral, Token};
 use std::cmp::Ordering;
 
-/// Compares two tokens that may be absent. An absent one comes first.
+/// Compares two optional tokens. An absent one comes first.
 pub fn compare_tokens<'src>(token: &Option<Token<'src>>, other: &Option<Token<'src>>) -> Ordering
-    ensures { result ≡ by_content (option_key token_key token.now) (option_key token_key other.now) }
+    ensures { result
+        ≡ by_content (option_key token_key token.now) (option_key token_key other.now) }
 {
     match token {
         None => match other {
@@ -26,39 +27,7 @@ pub fn compare_tokens<'src>(token: &Option<Token<'src>>, other: &Option<Token<'s
     }
 }
 
-/// Compares two names that may be absent. An absent one comes first.
-fn compare_names<'src>(name: &Option<Name<'src>>, other: &Option<Name<'src>>) -> Ordering
-    ensures { result ≡ by_content (option_key name_key name.now) (option_key name_key other.now) }
-{
-    match name {
-        None => match other {
-            None => Ordering::Equal,
-            Some(_) => Ordering::Less,
-        },
-        Some(name) => match other {
-            None => Ordering::Greater,
-            Some(other) => token_content_cmp(&name.token, &other.token),
-        },
-    }
-}
-
-/// Compares two numbers that may be absent. An absent one comes first.
-fn compare_numbers(number: &Option<u64>, other: &Option<u64>) -> Ordering
-    ensures { result ≡ by_content (option_key count_key number.now) (option_key count_key other.now) }
-{
-    match number {
-        None => match other {
-            None => Ordering::Equal,
-            Some(_) => Ordering::Less,
-        },
-        Some(number) => match other {
-            None => Ordering::Greater,
-            Some(other) => number.cmp(other),
-        },
-    }
-}
-
-/// Compares two texts that may be absent. An absent one comes first.
+/// Compares two optional texts. An absent one comes first.
 pub fn compare_texts(text: &Option<String>, other: &Option<String>) -> Ordering
     ensures { result ≡ by_content (option_key text_key text.now) (option_key text_key other.now) }
 {
@@ -74,12 +43,27 @@ pub fn compare_texts(text: &Option<String>, other: &Option<String>) -> Ordering
     }
 }
 
-/// Compares two literals that may be absent. An absent one comes first.
+/// Compares the names of two options: their literals, and then their keys without a value.
+pub fn compare_named<'src>(
+    literal: &Option<StringLiteral<'src>>,
+    key: &Option<Name<'src>>,
+    other_literal: &Option<StringLiteral<'src>>,
+    other_key: &Option<Name<'src>>,
+) -> Ordering
+    ensures { result ≡ ordering_then (by_content (option_key literal_key literal.now)
+        (option_key literal_key other_literal.now))
+        (by_content (option_key name_key key.now) (option_key name_key other_key.now)) }
+{
+    compare_literals(literal, other_literal).then(compare_names(key, other_key))
+}
+
+/// Compares two optional literals. An absent one comes first.
 fn compare_literals<'src>(
     literal: &Option<StringLiteral<'src>>,
     other: &Option<StringLiteral<'src>>,
 ) -> Ordering
-    ensures { result ≡ by_content (option_key literal_key literal.now) (option_key literal_key other.now) }
+    ensures { result
+        ≡ by_content (option_key literal_key literal.now) (option_key literal_key other.now) }
 {
     match literal {
         None => match other {
@@ -93,19 +77,6 @@ fn compare_literals<'src>(
     }
 }
 
-/// Compares what two options are called: their literals, and then the keys that stand alone.
-pub fn compare_named<'src>(
-    literal: &Option<StringLiteral<'src>>,
-    key: &Option<Name<'src>>,
-    other_literal: &Option<StringLiteral<'src>>,
-    other_key: &Option<Name<'src>>,
-) -> Ordering
-    ensures { result ≡ ordering_then (by_content (option_key literal_key literal.now) (option_key literal_key other_literal.now))
-        (by_content (option_key name_key key.now) (option_key name_key other_key.now)) }
-{
-    compare_literals(literal, other_literal).then(compare_names(key, other_key))
-}
-
 /// Compares two numbers, and then their keys.
 pub fn compare_bounds<'src>(
     number: &Option<u64>,
@@ -113,29 +84,53 @@ pub fn compare_bounds<'src>(
     other_number: &Option<u64>,
     other_key: &Option<Name<'src>>,
 ) -> Ordering
-    ensures { result ≡ ordering_then (by_content (option_key count_key number.now) (option_key count_key other_number.now))
+    ensures { result ≡ ordering_then (by_content (option_key count_key number.now)
+        (option_key count_key other_number.now))
         (by_content (option_key name_key key.now) (option_key name_key other_key.now)) }
 {
     compare_numbers(number, other_number).then(compare_names(key, other_key))
 }
 
-/// Compares two expressions.
-#[tactic(auto, using(crate::proofs::Ordered::expressions_compare))]
-pub fn compare_expressions<'src>(
-    expression: &Expression<'src>,
-    other: &Expression<'src>,
-) -> Ordering
-    ensures { result ≡ by_content (expression_key expression.now) (expression_key other.now) }
+/// Compares two optional numbers. An absent one comes first.
+fn compare_numbers(number: &Option<u64>, other: &Option<u64>) -> Ordering
+    ensures { result
+        ≡ by_content (option_key count_key number.now) (option_key count_key other.now) }
 {
-    expression.content_cmp(other)
+    match number {
+        None => match other {
+            None => Ordering::Equal,
+            Some(_) => Ordering::Less,
+        },
+        Some(number) => match other {
+            None => Ordering::Greater,
+            Some(other) => number.cmp(other),
+        },
+    }
 }
 
-/// Compares two expressions that may be absent. An absent one comes first.
+/// Compares two optional names. An absent one comes first.
+fn compare_names<'src>(name: &Option<Name<'src>>, other: &Option<Name<'src>>) -> Ordering
+    ensures { result ≡ by_content (option_key name_key name.now) (option_key name_key other.now) }
+{
+    match name {
+        None => match other {
+            None => Ordering::Equal,
+            Some(_) => Ordering::Less,
+        },
+        Some(name) => match other {
+            None => Ordering::Greater,
+            Some(other) => token_content_cmp(&name.token, &other.token),
+        },
+    }
+}
+
+/// Compares two optional expressions. An absent one comes first.
 pub fn compare_optional<'src>(
     expression: &Option<Box<Expression<'src>>>,
     other: &Option<Box<Expression<'src>>>,
 ) -> Ordering
-    ensures { result ≡ by_content (option_key boxed_key expression.now) (option_key boxed_key other.now) }
+    ensures { result
+        ≡ by_content (option_key boxed_key expression.now) (option_key boxed_key other.now) }
 {
     match expression {
         None => match other {
@@ -149,12 +144,13 @@ pub fn compare_optional<'src>(
     }
 }
 
-/// Compares two keys with their values, which may be absent. Absent ones come first.
+/// Compares two optional keys with their values. An absent one comes first.
 pub fn compare_properties<'src>(
     property: &Option<(Name<'src>, Box<Expression<'src>>)>,
     other: &Option<(Name<'src>, Box<Expression<'src>>)>,
 ) -> Ordering
-    ensures { result ≡ by_content (option_key property_key property.now) (option_key property_key other.now) }
+    ensures { result
+        ≡ by_content (option_key property_key property.now) (option_key property_key other.now) }
 {
     match property {
         None => match other {
@@ -175,12 +171,57 @@ fn compare_property<'src>(
     other_key: &Name<'src>,
     other_value: &Box<Expression<'src>>,
 ) -> Ordering
-    ensures { result ≡ by_content (property_key (key.now, value.now)) (property_key (other_key.now, other_value.now)) }
+    ensures { result ≡ by_content (property_key (key.now, value.now))
+        (property_key (other_key.now, other_value.now)) }
 {
     token_content_cmp(&key.token, &other_key.token).then(compare_expressions(value, other_value))
 }
 
-/// Compares two rows of literals from the left: one that ends comes before a longer one.
+/// Compares two expressions.
+#[tactic(auto, using(crate::proofs::Ordered::expressions_compare))]
+pub fn compare_expressions<'src>(
+    expression: &Expression<'src>,
+    other: &Expression<'src>,
+) -> Ordering
+    ensures { result ≡ by_content (expression_key expression.now) (expression_key other.now) }
+{
+    expression.content_cmp(other)
+}
+
+/// Compares two optional interpreters. An absent one comes first.
+pub fn compare_interpreters<'src>(
+    interpreter: &Option<Interpreter<StringLiteral<'src>>>,
+    other: &Option<Interpreter<StringLiteral<'src>>>,
+) -> Ordering
+    ensures { result ≡ by_content (option_key interpreter_key interpreter.now)
+        (option_key interpreter_key other.now) }
+{
+    match interpreter {
+        None => match other {
+            None => Ordering::Equal,
+            Some(_) => Ordering::Less,
+        },
+        Some(interpreter) => match other {
+            None => Ordering::Greater,
+            Some(other) => compare_commands(interpreter, other),
+        },
+    }
+}
+
+/// Compares the commands of two interpreters, and then their arguments.
+fn compare_commands<'src>(
+    interpreter: &Interpreter<StringLiteral<'src>>,
+    other: &Interpreter<StringLiteral<'src>>,
+) -> Ordering
+    ensures { result ≡ by_content (interpreter_key interpreter.now) (interpreter_key other.now) }
+{
+    literal_content_cmp(&interpreter.command, &other.command).then(compare_rows(
+        &interpreter.arguments,
+        &other.arguments,
+    ))
+}
+
+/// Compares two lists of literals from the left. A list comes before its continuations.
 pub fn compare_rows<'src>(
     literals: &Vec<StringLiteral<'src>>,
     others: &Vec<StringLiteral<'src>>,
@@ -197,36 +238,4 @@ pub fn compare_rows<'src>(
         }
     }
     literals.len().cmp(&others.len())
-}
-
-/// Compares the commands of two interpreters, and then their arguments.
-fn compare_commands<'src>(
-    interpreter: &Interpreter<StringLiteral<'src>>,
-    other: &Interpreter<StringLiteral<'src>>,
-) -> Ordering
-    ensures { result ≡ by_content (interpreter_key interpreter.now) (interpreter_key other.now) }
-{
-    literal_content_cmp(&interpreter.command, &other.command).then(compare_rows(
-        &interpreter.arguments,
-        &other.arguments,
-    ))
-}
-
-/// Compares two interpreters that may be absent. An absent one comes first.
-pub fn compare_interpreters<'src>(
-    interpreter: &Option<Interpreter<StringLiteral<'src>>>,
-    other: &Option<Interpreter<StringLiteral<'src>>>,
-) -> Ordering
-    ensures { result ≡ by_content (option_key interpreter_key interpreter.now) (option_key interpreter_key other.now) }
-{
-    match interpreter {
-        None => match other {
-            None => Ordering::Equal,
-            Some(_) => Ordering::Less,
-        },
-        Some(interpreter) => match other {
-            None => Ordering::Greater,
-            Some(other) => compare_commands(interpreter, other),
-        },
-    }
 }

@@ -1,103 +1,62 @@
-//! The text of attributes.
+//! Printing of attributes.
 ghost use Rattle.std.specs.Prelude.{◌≡◌, ◌∷◌, ◌++◌, ◌+◌, ◌<◌, [], OnOk, OnErr, false};
 ghost use Rattle.std.specs.Fmt.{decimal};
-ghost use Rattle.justfile_base.specs.StringLiteral.{literal_text};
+ghost use Rattle.justfile_token.specs.StringLiteral.{literal_text};
 ghost use Rattle.justfile_model.specs.Printing.{attribute_text};
 ghost use Rattle.justfile_attribute.specs.Attribute.{attribute_shape};
 ghost use Rattle.justfile_attribute.specs.Print.{closing, opening, part_text, quoted_number, slot_piece, slot_text, slots, slots_text, value_text};
 
 use crate::attribute::Attribute;
 use crate::part::{Part, Value, slot};
-use justfile_base::StringLiteral;
-use justfile_tree::{Sink, put_piece, write_expression};
+use justfile_expression::{Sink, put_piece, write_expression};
+use justfile_token::StringLiteral;
 use std::fmt;
 
 /// The decimal digits.
 static DIGITS: [&str; 10] = ["0", "1", "2", "3", "4", "5", "6", "7", "8", "9"];
 
-/// Puts one digit.
-fn write_digit<S: Sink>(digit: u64, sink: &mut S) -> Result<(), S::Fault>
-    requires { digit < 10 }
-    ensures ok { OnOk result (S.took sink.old ((48 + digit) ∷ []) sink.new) }
-    ensures err { OnErr result (S.failed sink.old ((48 + digit) ∷ []) sink.new) }
-{
-    sink.put(DIGITS[digit as usize])
-}
+impl fmt::Display for Attribute<'_> {
+    ghost use Rattle.std.specs.Prelude.{Some};
 
-/// Puts the digits of a number.
-fn write_decimal<S: Sink>(number: u64, sink: &mut S) -> Result<(), S::Fault>
-    ensures ok { OnOk result (S.took sink.old (decimal number) sink.new) }
-    ensures err { OnErr result (S.failed sink.old (decimal number) sink.new) }
-{
-    if number < 10 {
-        return write_digit(number, sink);
-    }
-    write_decimal(number / 10, sink)?;
-    write_digit(number % 10, sink)
-}
+    ghost output = { λ attribute. Some (attribute_text (attribute_shape attribute)) };
 
-/// Puts a literal with its marks.
-fn write_literal<S: Sink>(literal: &StringLiteral<'_>, sink: &mut S) -> Result<(), S::Fault>
-    ensures ok { OnOk result (S.took sink.old (literal_text literal.now) sink.new) }
-    ensures err { OnErr result (S.failed sink.old (literal_text literal.now) sink.new) }
-{
-    sink.put(literal.marks())?;
-    sink.put(literal.token.lexeme())
-}
-
-/// Puts a number in single quotes.
-fn write_number<S: Sink>(number: u64, sink: &mut S) -> Result<(), S::Fault>
-    ensures ok { OnOk result (S.took sink.old (quoted_number number) sink.new) }
-    ensures err { OnErr result (S.failed sink.old (quoted_number number) sink.new) }
-{
-    put_piece("'", sink)?;
-    write_decimal(number, sink)?;
-    put_piece("'", sink)
-}
-
-/// Puts what an argument is worth.
-fn write_value<S: Sink>(value: &Value<'_, '_>, sink: &mut S) -> Result<(), S::Fault>
-    ensures ok { OnOk result (S.took sink.old (value_text value.now) sink.new) }
-    ensures err { OnErr result (S.failed sink.old (value_text value.now) sink.new) }
-{
-    match value {
-        Value::Nothing => Ok(()),
-        Value::Expression(expression) => write_expression(expression, sink),
-        Value::Literal(literal) => write_literal(literal, sink),
-        Value::Number(number) => write_number(*number, sink),
+    fn fmt<W: fmt::Write>(&self, f: &mut fmt::Formatter<W>) -> fmt::Result {
+        write_attribute(self, f)
     }
 }
 
-/// Puts an argument.
-fn write_part<S: Sink>(part: &Part<'_, '_>, sink: &mut S) -> Result<(), S::Fault>
-    ensures ok { OnOk result (S.took sink.old (part_text part.now) sink.new) }
-    ensures err { OnErr result (S.failed sink.old (part_text part.now) sink.new) }
-{
-    sink.put(part.piece)?;
-    write_value(&part.value, sink)
-}
-
-/// Puts what stands before an argument.
-fn write_opening<S: Sink>(begun: bool, sink: &mut S) -> Result<(), S::Fault>
-    ensures ok { OnOk result (S.took sink.old (opening begun) sink.new) }
-    ensures err { OnErr result (S.failed sink.old (opening begun) sink.new) }
-{
-    if begun {
-        put_piece(", ", sink)
-    } else {
-        put_piece("(", sink)
+/// Writes the same text as `Display`.
+impl fmt::Debug for Attribute<'_> {
+    fn fmt<W: fmt::Write>(&self, f: &mut fmt::Formatter<W>) -> fmt::Result {
+        write_attribute(self, f)
     }
 }
 
-/// Puts what stands after the last argument.
-fn write_closing<S: Sink>(begun: bool, sink: &mut S) -> Result<(), S::Fault>
-    ensures ok { OnOk result (S.took sink.old (closing begun) sink.new) }
-    ensures err { OnErr result (S.failed sink.old (closing begun) sink.new) }
+/// Writes the text of an attribute.
+pub fn write_attribute<S: Sink>(attribute: &Attribute<'_>, sink: &mut S) -> Result<(), S::Fault>
+    ensures ok { OnOk result (S.took sink.old (attribute_text (attribute_shape attribute.now)) sink.new) }
+    ensures err { OnErr result (S.failed sink.old (attribute_text (attribute_shape attribute.now)) sink.new) }
 {
-    if begun { put_piece(")", sink) } else { Ok(()) }
+    sink.put(attribute.name())?;
+    write_arguments(attribute, sink)
 }
 
-/// Puts an argument that may be absent, with what stands before it.
+/// Writes the arguments in parentheses, or nothing if there are none.
+fn write_arguments<S: Sink>(attribute: &Attribute<'_>, sink: &mut S) -> Result<(), S::Fault>
+    ensures ok { OnOk result (S.took sink.old (slots_text false (slots attribute.now)) sink.new) }
+    ensures err { OnErr result (S.failed sink.old (slots_text false (slots attribute.now)) sink.new) }
+{
+    let mut begun = false;
+    let mut place = 0;
+    while let Some(part) = slot(attribute, place) {
+        write_slot(begun, &part, sink)?;
+        begun |= part.is_some();
+        place += 1;
+    }
+    write_closing(begun, sink)
+}
+
+/// Writes an argument with `(` or `, ` before it, or nothing if it is absent.
 fn write_slot<S: Sink>(
     begun: bool,
     slot: &Option<Part<'_, '_>>,
@@ -115,43 +74,84 @@ fn write_slot<S: Sink>(
     }
 }
 
-/// Puts the arguments in parentheses, if there are any.
-fn write_arguments<S: Sink>(attribute: &Attribute<'_>, sink: &mut S) -> Result<(), S::Fault>
-    ensures ok { OnOk result (S.took sink.old (slots_text false (slots attribute.now)) sink.new) }
-    ensures err { OnErr result (S.failed sink.old (slots_text false (slots attribute.now)) sink.new) }
+/// Writes what is before an argument: `, ` if an argument was written, and otherwise `(`.
+fn write_opening<S: Sink>(begun: bool, sink: &mut S) -> Result<(), S::Fault>
+    ensures ok { OnOk result (S.took sink.old (opening begun) sink.new) }
+    ensures err { OnErr result (S.failed sink.old (opening begun) sink.new) }
 {
-    let mut begun = false;
-    let mut place = 0;
-    while let Some(part) = slot(attribute, place) {
-        write_slot(begun, &part, sink)?;
-        begun |= part.is_some();
-        place += 1;
+    if begun {
+        put_piece(", ", sink)
+    } else {
+        put_piece("(", sink)
     }
-    write_closing(begun, sink)
 }
 
-/// Puts the text of an attribute.
-pub fn write_attribute<S: Sink>(attribute: &Attribute<'_>, sink: &mut S) -> Result<(), S::Fault>
-    ensures ok { OnOk result (S.took sink.old (attribute_text (attribute_shape attribute.now)) sink.new) }
-    ensures err { OnErr result (S.failed sink.old (attribute_text (attribute_shape attribute.now)) sink.new) }
+/// Writes an argument.
+fn write_part<S: Sink>(part: &Part<'_, '_>, sink: &mut S) -> Result<(), S::Fault>
+    ensures ok { OnOk result (S.took sink.old (part_text part.now) sink.new) }
+    ensures err { OnErr result (S.failed sink.old (part_text part.now) sink.new) }
 {
-    sink.put(attribute.name())?;
-    write_arguments(attribute, sink)
+    sink.put(part.piece)?;
+    write_value(&part.value, sink)
 }
 
-impl fmt::Display for Attribute<'_> {
-    ghost use Rattle.std.specs.Prelude.{Some};
-
-    ghost output = { λ attribute. Some (attribute_text (attribute_shape attribute)) };
-
-    fn fmt<W: fmt::Write>(&self, f: &mut fmt::Formatter<W>) -> fmt::Result {
-        write_attribute(self, f)
+/// Writes the value of an argument.
+fn write_value<S: Sink>(value: &Value<'_, '_>, sink: &mut S) -> Result<(), S::Fault>
+    ensures ok { OnOk result (S.took sink.old (value_text value.now) sink.new) }
+    ensures err { OnErr result (S.failed sink.old (value_text value.now) sink.new) }
+{
+    match value {
+        Value::Nothing => Ok(()),
+        Value::Expression(expression) => write_expression(expression, sink),
+        Value::Literal(literal) => write_literal(literal, sink),
+        Value::Number(number) => write_number(*number, sink),
     }
 }
 
-/// The text, as `Display` writes it.
-impl fmt::Debug for Attribute<'_> {
-    fn fmt<W: fmt::Write>(&self, f: &mut fmt::Formatter<W>) -> fmt::Result {
-        write_attribute(self, f)
+/// Writes a literal with its marks.
+fn write_literal<S: Sink>(literal: &StringLiteral<'_>, sink: &mut S) -> Result<(), S::Fault>
+    ensures ok { OnOk result (S.took sink.old (literal_text literal.now) sink.new) }
+    ensures err { OnErr result (S.failed sink.old (literal_text literal.now) sink.new) }
+{
+    sink.put(literal.marks())?;
+    sink.put(literal.token.lexeme())
+}
+
+/// Writes a number in single quotes.
+fn write_number<S: Sink>(number: u64, sink: &mut S) -> Result<(), S::Fault>
+    ensures ok { OnOk result (S.took sink.old (quoted_number number) sink.new) }
+    ensures err { OnErr result (S.failed sink.old (quoted_number number) sink.new) }
+{
+    put_piece("'", sink)?;
+    write_decimal(number, sink)?;
+    put_piece("'", sink)
+}
+
+/// Writes a number in decimal.
+fn write_decimal<S: Sink>(number: u64, sink: &mut S) -> Result<(), S::Fault>
+    ensures ok { OnOk result (S.took sink.old (decimal number) sink.new) }
+    ensures err { OnErr result (S.failed sink.old (decimal number) sink.new) }
+{
+    if number < 10 {
+        return write_digit(number, sink);
     }
+    write_decimal(number / 10, sink)?;
+    write_digit(number % 10, sink)
+}
+
+/// Writes one digit.
+fn write_digit<S: Sink>(digit: u64, sink: &mut S) -> Result<(), S::Fault>
+    requires { digit < 10 }
+    ensures ok { OnOk result (S.took sink.old ((48 + digit) ∷ []) sink.new) }
+    ensures err { OnErr result (S.failed sink.old ((48 + digit) ∷ []) sink.new) }
+{
+    sink.put(DIGITS[digit as usize])
+}
+
+/// Writes `)` if an argument was written.
+fn write_closing<S: Sink>(begun: bool, sink: &mut S) -> Result<(), S::Fault>
+    ensures ok { OnOk result (S.took sink.old (closing begun) sink.new) }
+    ensures err { OnErr result (S.failed sink.old (closing begun) sink.new) }
+{
+    if begun { put_piece(")", sink) } else { Ok(()) }
 }

@@ -1,29 +1,27 @@
--- What is made of a list, one element after another.
+-- Loops over a list that make one value of each element.
 use Rattle.std.proofs.Common.{◌≡◌, ◌∙◌, List, [], ◌∷◌, ◌++◌, Bool, true, false, ◌||◌, Ok, Err, refl, sym, ap}
 use Rattle.std.specs.BTreeSet.{insert_key}
 use Rattle.std.specs.Global.{Box}
 use Rattle.std.specs.List.{filter, list_any}
-use Rattle.std.proofs.lemmas.List.{append-nil, append_assoc}
+use Rattle.std.proofs.lemmas.List.{append_assoc}
 use denote.Enum.Bare.{sameb}
-use Rattle.justfile_word.specs.Signal.{signals}
-use Rattle.justfile_word.specs.contracts.signal.Signal as signal_type
-use Rattle.justfile_word.specs.contracts.signal.SignalOrd.TheImpl as signal_order
-use Rattle.justfile_word.specs.declared.signal.Signal.{Signal}
-use Rattle.justfile_word.specs.declared.signal.Signal.TheVariants.{Hangup, Interrupt, Quit}
-use Rattle.justfile_base.specs.declared.fault.Fault.{Fault}
-use Rattle.justfile_base.specs.declared.string_literal.StringLiteral.{StringLiteral}
-use Rattle.justfile_base.specs.declared.token.Token.{Token}
+use Rattle.justfile_vocabulary.specs.Signal.{signals}
+use Rattle.justfile_vocabulary.specs.contracts.signal.Signal as signal_type
+use Rattle.justfile_vocabulary.specs.contracts.signal.SignalOrd.TheImpl as signal_order
+use Rattle.justfile_vocabulary.specs.declared.signal.Signal.{Signal}
+use Rattle.justfile_vocabulary.specs.declared.signal.Signal.TheVariants.{Hangup, Interrupt, Quit}
+use Rattle.justfile_token.specs.declared.string_literal.StringLiteral.{StringLiteral}
+use Rattle.justfile_token.specs.declared.token.Token.{Token}
 use Rattle.justfile_model.specs.Meaning.{signal_set}
 use Rattle.justfile_model.specs.NewAttribute.{◌>>=◌, Made, make_all, placed_literal}
 use Rattle.justfile_model.specs.Tree.{Quoted}
-use Rattle.justfile_tree.specs.LeafSight.{sees_leaves}
-use Rattle.justfile_tree.specs.LeafTree.{Leaf}
-use Rattle.justfile_tree.specs.declared.expression.Expression.{Expression}
-use Rattle.justfile_attribute_rules.specs.Made.{IsRefusedBy, quoted_leaf, quoted_leaves, placed_leaf, placed_leaves, signal_made, signals_made}
-use Rattle.justfile_attribute_rules.proofs.Refused.{refused_first}
+use Rattle.justfile_expression.specs.LeafViews.{views_leaves}
+use Rattle.justfile_expression.specs.LeafTree.{Leaf}
+use Rattle.justfile_expression.specs.declared.expression.Expression.{Expression}
+use Rattle.justfile_attribute_rules.specs.Made.{quoted_leaf, quoted_leaves, placed_leaf, placed_leaves, signal_made, signals_made}
 
 module _ {X Y : Type 0} (f : X → Made Token Y) where
-  -- what is made of all of them, from what is made already and what is left
+  -- the result for the whole list, from the values made so far and the elements that are left
   abbrev pub goes_on : (made : List Y) → (rest : List X) → Made Token (List Y)
   goes_on made rest = make_all f rest >>= (λ ys. Ok (made ++ ys))
 
@@ -34,19 +32,12 @@ module _ {X Y : Type 0} (f : X → Made Token Y) where
       go (Ok ys) = refl
       go (Err e) = refl
 
-  pub ended : (made : List Y) → goes_on made [] ≡ Ok made
-  ended made = ap Ok (append-nil made)
-
   pub one_made : (made : List Y) (x : X) (rest : List X) (y : Y) → f x ≡ Ok y → goes_on made (x ∷ rest) ≡ goes_on (made ++ y ∷ []) rest
   one_made made x rest y e = rw e (go (make_all f rest))
     where
       go : (m : Made Token (List Y)) → ((m >>= (λ ys. Ok (y ∷ ys))) >>= (λ ys. Ok (made ++ ys))) ≡ (m >>= (λ ys. Ok ((made ++ y ∷ []) ++ ys)))
       go (Ok ys) = ap Ok (sym (append_assoc made (y ∷ []) ys))
       go (Err e) = refl
-
-  pub one_refused : (made : List Y) (x : X) (rest : List X) (fault : Fault) → IsRefusedBy (f x) fault → IsRefusedBy (goes_on made (x ∷ rest)) fault
-  one_refused made x rest fault h =
-      refused_first (make_all f (x ∷ rest)) (λ ys. Ok (made ++ ys)) fault (refused_first (f x) (λ y. make_all f rest >>= (λ ys. Ok (y ∷ ys))) fault h)
 
 -- ---- literals
 
@@ -56,20 +47,20 @@ one_last (x ∷ xs) l = ap (λ qs. quoted_leaf x ∷ qs) (one_last xs l)
 
 -- the next argument is a literal
 pub literal_turn : (at : Token) (made : List StringLiteral) (l : StringLiteral) (rest others : List (Token × Box Expression)) (p : Token × Box Expression) → rest ≡ p ∷ others
-    → placed_literal sees_leaves at (placed_leaf p) ≡ Ok (quoted_leaf l)
-    → goes_on (placed_literal sees_leaves at) (quoted_leaves made) (placed_leaves rest)
-    ≡ goes_on (placed_literal sees_leaves at) (quoted_leaves (made ++ l ∷ [])) (placed_leaves others)
+    → placed_literal views_leaves at (placed_leaf p) ≡ Ok (quoted_leaf l)
+    → goes_on (placed_literal views_leaves at) (quoted_leaves made) (placed_leaves rest)
+    ≡ goes_on (placed_literal views_leaves at) (quoted_leaves (made ++ l ∷ [])) (placed_leaves others)
 literal_turn at made l rest others p e is_literal =
-    ap (λ xs. goes_on (placed_literal sees_leaves at) (quoted_leaves made) (placed_leaves xs)) e
-    ∙ one_made (placed_literal sees_leaves at) (quoted_leaves made) (placed_leaf p) (placed_leaves others) (quoted_leaf l) is_literal
-    ∙ ap (λ qs. goes_on (placed_literal sees_leaves at) qs (placed_leaves others)) (sym (one_last made l))
+    ap (λ xs. goes_on (placed_literal views_leaves at) (quoted_leaves made) (placed_leaves xs)) e
+    ∙ one_made (placed_literal views_leaves at) (quoted_leaves made) (placed_leaf p) (placed_leaves others) (quoted_leaf l) is_literal
+    ∙ ap (λ qs. goes_on (placed_literal views_leaves at) qs (placed_leaves others)) (sym (one_last made l))
 
 -- ---- sets of signals
 
 abbrev added : List Signal → Signal → List Signal
 added = insert_key signal_order.cmp-value.it
 
--- the keys of a set, with each of these put in
+-- the keys of a set after these are added
 abbrev pub added_all : (keys given : List Signal) → List Signal
 added_all keys [] = keys
 added_all keys (s ∷ ss) = added_all (added keys s) ss
@@ -79,7 +70,7 @@ by h i q Hangup = h
 by h i q Interrupt = i
 by h i q Quit = q
 
--- these signals, in their order
+-- the signals of these three that are set, in declared order
 abbrev set_of : (hangup interrupt quit : Bool) → List Signal
 set_of h i q = filter (by h i q) signals
 
@@ -136,13 +127,13 @@ set_grows h i q (s ∷ ss) =
         go false true = refl
         go false false = refl
 
--- a set of all that are given
+-- the set of all given signals
 pub set_is : (given : List Signal) → added_all [] given ≡ signal_set given
 set_is given =
     set_grows false false false given
     ∙ sym (λ k. set_of (or_false (among given Hangup) k) (or_false (among given Interrupt) k) (or_false (among given Quit) k))
 
--- what is made of literals, from the keys of a set and the literals that are left
+-- the result for literals, from the keys of a set and the literals that are left
 abbrev pub adds_up : (keys : List Signal) (rest : List (Quoted Leaf)) → Made Token (List Signal)
 adds_up keys rest = make_all signal_made rest >>= (λ given. Ok (added_all keys given))
 

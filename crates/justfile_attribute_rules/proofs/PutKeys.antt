@@ -1,4 +1,4 @@
--- A key that is put among others by its text: each still stands by its text.
+-- A key that is inserted by its text: each entry still has the text of its key.
 use Rattle.std.proofs.Common.{◌≡◌, ◌∙◌, ℕ, List, [], ◌∷◌, refl, sym, ap, subst}
 use Rattle.std.specs.BTreeMap.{insert_entry}
 use Rattle.std.specs.List.{All, AllByRecursion}
@@ -14,7 +14,7 @@ use Rattle.justfile_attribute_rules.specs.Keys.{AreKeyed, Given, IsPut, KeyMap, 
 abbrev pub Stored : Type 0
 Stored = Bor (List ℕ) × Given
 
--- a key stands by its text
+-- the entry's text is that of its key
 abbrev pub IsKeyed : Stored → Type 0
 IsKeyed e = e.0.now ≡ key_text e.1
 

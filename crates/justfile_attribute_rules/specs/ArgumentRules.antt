@@ -1,19 +1,19 @@
--- What the definitions see of what is said of an argument.
+-- The view of the code's `ArgumentRules` in the definitions.
 use Rattle.std.specs.Prelude.{Option, Some, None}
 use Rattle.std.specs.Global.{Box}
 use Rattle.std.specs.Option.{option_map}
-use Rattle.justfile_base.specs.StringLiteral.{IsSameLiteral}
-use Rattle.justfile_base.specs.declared.name.Name.{Name}
-use Rattle.justfile_base.specs.declared.string_literal.StringLiteral.{StringLiteral}
-use Rattle.justfile_base.specs.declared.token.Token.{Token}
+use Rattle.justfile_token.specs.StringLiteral.{IsSameLiteral}
+use Rattle.justfile_token.specs.declared.name.Name.{Name}
+use Rattle.justfile_token.specs.declared.string_literal.StringLiteral.{StringLiteral}
+use Rattle.justfile_token.specs.declared.token.Token.{Token}
 use Rattle.justfile_model.specs.Tree as tree
 use Rattle.justfile_model.specs.Tree.{OptionName, Property}
-use Rattle.justfile_tree.specs.LeafTree.{Leaf, leaf_tree_of}
-use Rattle.justfile_tree.specs.declared.expression.Expression.{Expression}
+use Rattle.justfile_expression.specs.LeafTree.{Leaf, leaf_tree_of}
+use Rattle.justfile_expression.specs.declared.expression.Expression.{Expression}
 use Rattle.justfile_attribute_rules.specs.Made.{bound_at, quoted_leaf}
 use Rattle.justfile_attribute_rules.specs.declared.argument_rules.ArgumentRules.{ArgumentRules}
 
--- a key that stands alone names the option as the argument, whatever literal there is
+-- the name of an option; a key without a value gives the parameter's name, whatever the literal
 abbrev pub option_of : (key : Option Name) → Option StringLiteral → OptionName Leaf Token
 option_of (Some key) literal = tree.OwnName key.token
 option_of None (Some literal) = tree.Named (quoted_leaf literal)
@@ -36,13 +36,13 @@ rules_of r = record {
   value = option_map (λ e. leaf_tree_of e.value) r.value;
 }
 
--- an option whose key stands alone has a copy of the argument's name as its literal
+-- an option whose key has no value has a copy of the parameter's name as its literal
 abbrev pub IsNamedAs : (name : StringLiteral) → (key : Option Name) → (literal : Option StringLiteral) → Type 0
 IsNamedAs name None literal = Unit {0}
 IsNamedAs name (Some key) None = ⊥
 IsNamedAs name (Some key) (Some literal) = IsSameLiteral literal name
 
--- both options are so
+-- the same for both options
 pub record AreNamed (r : ArgumentRules) : Type 0 where
   pub long : IsNamedAs r.name r.long_key r.long
   pub short : IsNamedAs r.name r.short_key r.short

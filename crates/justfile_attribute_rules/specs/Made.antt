@@ -1,79 +1,83 @@
--- What the code makes is what the definitions make, and it refuses what they refuse.
+-- What it means that the code's result agrees with the definitions: the same value, or an error for the same broken rule.
 use Rattle.std.specs.Prelude.{◌≡◌, ℕ, Bool, not, nat_lt, List, map, codes, Option, Some, None, Result, Ok, Err, if◌then◌else◌}
 use Rattle.std.specs.Global.{Box}
-use Rattle.justfile_word.specs.Signal.{signal_named}
-use Rattle.justfile_base.specs.declared.fault.Fault.{Fault}
-use Rattle.justfile_base.specs.declared.fault.Fault.TheVariants as faults
-use Rattle.justfile_base.specs.declared.name.Name.{Name}
-use Rattle.justfile_word.specs.declared.signal.Signal.{Signal}
-use Rattle.justfile_base.specs.declared.string_literal.StringLiteral.{StringLiteral}
-use Rattle.justfile_base.specs.declared.token.Token.{Token}
+use Rattle.justfile_vocabulary.specs.Signal.{signal_named}
+use Rattle.justfile_token.specs.declared.fault.Fault.{Fault}
+use Rattle.justfile_token.specs.declared.fault.Fault.TheVariants as faults
+use Rattle.justfile_token.specs.declared.name.Name.{Name}
+use Rattle.justfile_vocabulary.specs.declared.signal.Signal.{Signal}
+use Rattle.justfile_token.specs.declared.string_literal.StringLiteral.{StringLiteral}
+use Rattle.justfile_token.specs.declared.token.Token.{Token}
 use Rattle.justfile_model.specs.Meaning.{Placed, count_of, is_count, signal_set, text_of}
-use Rattle.justfile_model.specs.NewAttribute.{◌>>=◌, Made, check, literal, make_all, or_refuse}
-use Rattle.justfile_model.specs.Rules.{ArgAttributeMinExceedsMax, ArgumentCountParse, ArgumentCountValue, InvalidSignal}
+use Rattle.justfile_model.specs.NewAttribute.{◌>>=◌, Made, check, literal, make_all, or_refuse, refuse}
+use Rattle.justfile_model.specs.Rules.{ArgAttributeMinExceedsMax, ArgumentCountParse, ArgumentCountValue, InvalidSignal, Rule}
 use Rattle.justfile_model.specs.Tree.{Bound, Expr, Quoted}
-use Rattle.justfile_tree.specs.LeafSight.{sees_leaves}
-use Rattle.justfile_tree.specs.LeafTree.{Leaf, Literal, Named, leaf_tree_of, literal_of}
-use Rattle.justfile_tree.specs.declared.expression.Expression.{Expression}
+use Rattle.justfile_expression.specs.LeafViews.{views_leaves}
+use Rattle.justfile_expression.specs.LeafTree.{Leaf, Literal, Named, leaf_tree_of, literal_of}
+use Rattle.justfile_expression.specs.declared.expression.Expression.{Expression}
 use Rattle.justfile_attribute_rules.specs.RuleErrors.{IsErrorOfRule}
 
--- The fault is the error of the rule by which nothing is made. That memory ran out says nothing.
+-- The fault is the error for the rule that the definitions find broken. Nothing is claimed if out of memory.
 abbrev pub IsRefusedBy : {Y : Type 0} → Made Token Y → Fault → Type 0
 IsRefusedBy made faults.Memory = Unit {0}
 IsRefusedBy made faults.Numbers = ⊥
 IsRefusedBy (Ok y) (faults.Compile e) = ⊥
 IsRefusedBy (Err broken) (faults.Compile e) = IsErrorOfRule broken e
 
--- What is returned, as it is seen, is what is made; or it is refused, and by the same rule.
+-- the fault is the error for this rule, broken at this token
+abbrev pub IsFaultOfRule : Rule Token → Token → Fault → Type 0
+IsFaultOfRule rule token fault = IsRefusedBy (refuse {X = Unit {0}} rule token) fault
+
+-- The result is the definitions' value, viewed by `see`, or an error for the rule that they find broken.
 abbrev pub Makes : {X Y : Type 0} → (see : X → Y) → Result X Fault → Made Token Y → Type 0
 Makes see (Ok x) made = made ≡ Ok (see x)
 Makes see (Err fault) made = IsRefusedBy made fault
 
--- a literal, as it stands in the parser's trees
+-- a literal as the parser's trees have it
 abbrev pub quoted_leaf : StringLiteral → Quoted Leaf
 quoted_leaf l = record { expanded = l.expand; token = Literal (literal_of l) }
 
 abbrev pub quoted_leaves : List StringLiteral → List (Quoted Leaf)
 quoted_leaves = map quoted_leaf
 
--- an argument by position, with its first token
+-- a positional argument with its first token
 abbrev pub placed_leaf : Token × Box Expression → Placed Leaf Token
 placed_leaf p = record { first = p.0; value = leaf_tree_of p.1.value }
 
 abbrev pub placed_leaves : List (Token × Box Expression) → List (Placed Leaf Token)
 placed_leaves = map placed_leaf
 
--- the signal that a literal names
+-- the signal that a literal names, or the broken rule
 abbrev pub signal_made : Quoted Leaf → Made Token Signal
-signal_made q = or_refuse (signal_named (text_of sees_leaves q)) (InvalidSignal (text_of sees_leaves q)) (sees_leaves.place q.token)
+signal_made q = or_refuse (signal_named (text_of views_leaves q)) (InvalidSignal (text_of views_leaves q)) (views_leaves.place q.token)
 
--- the signals that literals name, in their order
+-- the signals that literals name, as a set
 abbrev pub signals_made : List (Quoted Leaf) → Made Token (List Signal)
 signals_made texts = do
   given ← make_all signal_made texts
   Ok (signal_set given)
 
--- the least number is not above the greatest
+-- the rule that `min` isn't above `max`
 abbrev pub within : (min max : Option (Bound Token)) → Made Token (Unit {0})
 within (Some min) (Some max) = check (nat_lt max.number min.number) (ArgAttributeMinExceedsMax min.number max.number) min.key
 within _ _ = Ok tt
 
--- the number that a literal writes, of this key
+-- the number that a literal holds, or the broken rule, for an error that names `key`
 abbrev pub count_made : (key : Token) → Quoted Leaf → Made Token ℕ
 count_made key q = do
-  digits ← check (not (is_count (text_of sees_leaves q))) (ArgumentCountValue key (text_of sees_leaves q)) (sees_leaves.place q.token)
-  or_refuse (count_of (text_of sees_leaves q)) (ArgumentCountParse key (text_of sees_leaves q)) (sees_leaves.place q.token)
+  digits ← check (not (is_count (text_of views_leaves q))) (ArgumentCountValue key (text_of views_leaves q)) (views_leaves.place q.token)
+  or_refuse (count_of (text_of views_leaves q)) (ArgumentCountParse key (text_of views_leaves q)) (views_leaves.place q.token)
 
 abbrev pub bound_at : Name × ℕ → Bound Token
 bound_at p = record { key = p.0.token; number = p.1 }
 
--- the number of a key with this value
+-- the key and its number, or the broken rule
 abbrev pub bound_made : (at key : Token) → Expr Leaf Token → Made Token (Option (Bound Token))
 bound_made at key value = do
-  q ← literal sees_leaves at (Named key None) value
+  q ← literal views_leaves at (Named key None) value
   number ← count_made key q
   Ok (Some (record { key = key; number = number }))
 
--- the key of an option
+-- the text of an option's key
 abbrev pub option_word : (is_short : Bool) → List ℕ
 option_word is_short = if is_short then codes "short" else codes "long"

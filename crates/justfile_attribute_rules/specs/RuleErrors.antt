@@ -1,23 +1,23 @@
--- Which error says that a rule is broken.
+-- Which error reports which broken rule.
 use Rattle.std.specs.Prelude.{◌≡◌, ℕ, ◌+◌, ◌^◌, Option, Some, None, codes, string_bytes}
-use Rattle.justfile_base.specs.Token.{lexeme_of}
-use Rattle.justfile_base.specs.declared.compile_error.CompileError.{CompileError}
-use Rattle.justfile_base.specs.declared.compile_error_kind.CompileErrorKind.{CompileErrorKind}
-use Rattle.justfile_base.specs.declared.compile_error_kind.CompileErrorKind.TheVariants as errors
-use Rattle.justfile_word.specs.declared.switch.Switch.TheVariants as switches
-use Rattle.justfile_base.specs.declared.token.Token.{Token}
+use Rattle.justfile_token.specs.Token.{lexeme_of}
+use Rattle.justfile_token.specs.declared.compile_error.CompileError.{CompileError}
+use Rattle.justfile_token.specs.declared.compile_error_kind.CompileErrorKind.{CompileErrorKind}
+use Rattle.justfile_token.specs.declared.compile_error_kind.CompileErrorKind.TheVariants as errors
+use Rattle.justfile_vocabulary.specs.declared.switch.Switch.TheVariants as switches
+use Rattle.justfile_token.specs.declared.token.Token.{Token}
 use Rattle.justfile_model.specs.ContentLeaf.{literal_value}
 use Rattle.justfile_model.specs.Rules as rules
 use Rattle.justfile_model.specs.Rules.{Broken, Rule}
 use Rattle.justfile_model.specs.Versions.{version_numbers}
-use Rattle.justfile_tree.specs.Content.{literal_content}
+use Rattle.justfile_expression.specs.Content.{literal_content}
 
--- the greatest number stands for no bound
+-- the greatest number of arguments as the code has it, where 2^64 - 1 means no limit
 abbrev pub IsMost : Option ℕ → ℕ → Type 0
 IsMost None max = max + 1 ≡ 2 ^ 64
 IsMost (Some most) max = max ≡ most
 
--- the error says the rule, of which it stands at this token
+-- the error reports this rule, broken at this token
 abbrev pub SaysRule : (at : Token) → Rule Token → CompileErrorKind → Type 0
 SaysRule at (rules.UnknownAttribute name) (errors.UnknownAttribute attribute) = attribute.now ≡ lexeme_of name
 SaysRule at (rules.AttributeArgumentCountMismatch name found least most) (errors.AttributeArgumentCountMismatch attribute found' min max) =
@@ -63,7 +63,7 @@ SaysRule at (rules.InvalidMinimumVersion text) (errors.InvalidMinimumVersion sou
 SaysRule at (rules.MinimumVersion least running) (errors.MinimumVersion current minimum) = (version_numbers minimum ≡ least) × (version_numbers current ≡ running)
 SaysRule at rule kind = ⊥
 
--- the error is that of the broken rule
+-- the error reports the broken rule, at its token
 pub record IsErrorOfRule (broken : Broken Token) (e : CompileError) : Type 0 where
   pub token : e.token ≡ broken.token
   pub says : SaysRule broken.token broken.rule e.kind

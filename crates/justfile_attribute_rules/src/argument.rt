@@ -1,8 +1,8 @@
 ghost use Rattle.std.specs.Prelude.{◌≡◌, IfOk, OnOk, codes, string_bytes};
 ghost use Rattle.std.specs.Option.{option_map};
-ghost use Rattle.justfile_base.specs.declared.string_literal.StringLiteral.{StringLiteral};
+ghost use Rattle.justfile_token.specs.declared.string_literal.StringLiteral.{StringLiteral};
 ghost use Rattle.justfile_model.specs.NewAttribute as new;
-ghost use Rattle.justfile_tree.specs.LeafSight.{sees_leaves};
+ghost use Rattle.justfile_expression.specs.LeafViews.{views_leaves};
 ghost use Rattle.justfile_attribute_rules.specs.ArgumentRules.{AreNamed, option_of, rules_of};
 ghost use Rattle.justfile_attribute_rules.specs.Keys.{AreKeyed, IsTaken, key_arguments};
 ghost use Rattle.justfile_attribute_rules.specs.Made.{Makes, bound_at, quoted_leaf};
@@ -13,14 +13,15 @@ use crate::keys::{KeyMap, take_required};
 use crate::numbers::{check_bounds, take_bound};
 use crate::options::{OptionName, name_option, take_option};
 use crate::switches::{take_flag, take_multiple, take_value};
-use justfile_base::{CompileResult, Name, StringLiteral};
+use justfile_token::{CompileResult, Name, StringLiteral};
 use std::alloc::{AllocError, Global};
 
-/// What an `arg` says of its argument by its keys, which are taken out of the map one after another.
+/// Returns what an `arg` attribute sets for its parameter. The keys are taken out of the map one
+/// after another.
 ///
 /// # Errors
 ///
-/// `Compile` for the first rule that is broken; `Memory` if memory runs out.
+/// `Compile` for the first broken rule; `Memory` if out of memory.
 pub fn read_argument_rules<'src>(
     alloc: Global,
     name: Name<'src>,
@@ -29,7 +30,8 @@ pub fn read_argument_rules<'src>(
 ) -> CompileResult<'src, Box<ArgumentRules<'src>>>
     requires { AreKeyed keys.old }
     ensures made { Makes (λ rules. rules_of rules.value) result
-        (new.new_rules sees_leaves name.entry.token (string_bytes argument.entry.cooked) (quoted_leaf argument.entry) (key_arguments keys.old)) }
+        (new.new_rules views_leaves name.entry.token (string_bytes argument.entry.cooked)
+        (quoted_leaf argument.entry) (key_arguments keys.old)) }
     ensures named { IfOk result (λ rules. AreNamed rules.value) }
 {
     let mut rules = boxed(alloc, argument)?;
@@ -38,17 +40,18 @@ pub fn read_argument_rules<'src>(
     Ok(rules)
 }
 
-/// Nothing is said of the argument yet, in a box.
+/// Returns the defaults for a parameter, in a box.
 fn boxed<'src>(
     alloc: Global,
     argument: StringLiteral<'src>,
 ) -> Result<Box<ArgumentRules<'src>>, AllocError>
-    ensures { IfOk result (λ rules. rules_of rules.value ≡ named_only (quoted_leaf argument.entry)) }
+    ensures { IfOk result (λ rules. rules_of rules.value
+        ≡ named_only (quoted_leaf argument.entry)) }
 {
     Ok(Box::new(alloc, named(argument))?)
 }
 
-/// Nothing is said of the argument but its name.
+/// Returns the defaults for a parameter: only its name is set.
 fn named(argument: StringLiteral<'_>) -> ArgumentRules<'_>
     ensures { rules_of result ≡ named_only (quoted_leaf argument.entry) }
 {
@@ -68,7 +71,7 @@ fn named(argument: StringLiteral<'_>) -> ArgumentRules<'_>
     }
 }
 
-/// Takes all keys in their order.
+/// Takes all keys out of the map, in the order in which they are checked, and sets the rules.
 #[tactic(auto, using(crate::proofs::Refused::refused_first))]
 fn read_rules<'src>(
     alloc: Global,
@@ -77,7 +80,8 @@ fn read_rules<'src>(
     rules: &mut ArgumentRules<'src>,
 ) -> CompileResult<'src>
     requires { AreKeyed keys.old }
-    ensures { Makes (λ _. rules_of rules.new) result (rules_read name.entry.token (key_arguments keys.old) (rules_of rules.old)) }
+    ensures { Makes (λ _. rules_of rules.new) result
+        (rules_read name.entry.token (key_arguments keys.old) (rules_of rules.old)) }
 {
     read_names(alloc, name, keys, rules)?;
     read_values(name, keys, rules)?;
@@ -86,7 +90,7 @@ fn read_rules<'src>(
     read_help(name, keys, rules)
 }
 
-/// Takes `long` and `short`.
+/// Takes `long` and `short` out of the keys and sets both option names.
 #[tactic(auto, using(crate::proofs::Refused::refused_first))]
 fn read_names<'src>(
     alloc: Global,
@@ -95,7 +99,8 @@ fn read_names<'src>(
     rules: &mut ArgumentRules<'src>,
 ) -> CompileResult<'src>
     requires { AreKeyed keys.old }
-    ensures read { Makes (λ _. rules_of rules.new) result (names_read name.entry.token (key_arguments keys.old) (rules_of rules.old)) }
+    ensures read { Makes (λ _. rules_of rules.new) result
+        (names_read name.entry.token (key_arguments keys.old) (rules_of rules.old)) }
     ensures left { OnOk result (key_arguments keys.new ≡ after_names (key_arguments keys.old)) }
     ensures keyed { OnOk result (AreKeyed keys.new) }
 {
@@ -103,7 +108,7 @@ fn read_names<'src>(
     read_short(alloc, name, keys, rules)
 }
 
-/// Takes `long`.
+/// Takes `long` out of the keys and sets the name of the long option.
 #[tactic(auto, using(crate::proofs::Refused::refused_first))]
 fn read_long<'src>(
     alloc: Global,
@@ -112,7 +117,8 @@ fn read_long<'src>(
     rules: &mut ArgumentRules<'src>,
 ) -> CompileResult<'src>
     requires { AreKeyed keys.old }
-    ensures read { Makes (λ _. rules_of rules.new) result (long_of name.entry.token (at (codes "long") (key_arguments keys.old)) (rules_of rules.old)) }
+    ensures read { Makes (λ _. rules_of rules.new) result (long_of name.entry.token
+        (at (codes "long") (key_arguments keys.old)) (rules_of rules.old)) }
     ensures left { IsTaken (codes "long") keys.old keys.new }
 {
     match take_option(alloc, name, &rules.name, false, keys) {
@@ -124,16 +130,17 @@ fn read_long<'src>(
     }
 }
 
-/// Sets the name of the long option.
+/// Sets the literal or the key that names the long option.
 fn set_long<'src>(rules: &mut ArgumentRules<'src>, long: OptionName<'src>)
-    ensures { rules_of rules.new ≡ with_long (option_of long.entry.1 long.entry.0) (rules_of rules.old) }
+    ensures { rules_of rules.new
+        ≡ with_long (option_of long.entry.1 long.entry.0) (rules_of rules.old) }
 {
     let (long, long_key) = long;
     rules.long = long;
     rules.long_key = long_key;
 }
 
-/// Takes `short`.
+/// Takes `short` out of the keys and sets the name of the short option.
 #[tactic(auto, using(crate::proofs::Refused::refused_first))]
 fn read_short<'src>(
     alloc: Global,
@@ -142,7 +149,8 @@ fn read_short<'src>(
     rules: &mut ArgumentRules<'src>,
 ) -> CompileResult<'src>
     requires { AreKeyed keys.old }
-    ensures read { Makes (λ _. rules_of rules.new) result (short_of name.entry.token (at (codes "short") (key_arguments keys.old)) (rules_of rules.old)) }
+    ensures read { Makes (λ _. rules_of rules.new) result (short_of name.entry.token
+        (at (codes "short") (key_arguments keys.old)) (rules_of rules.old)) }
     ensures left { IsTaken (codes "short") keys.old keys.new }
 {
     match take_option(alloc, name, &rules.name, true, keys) {
@@ -154,16 +162,17 @@ fn read_short<'src>(
     }
 }
 
-/// Sets the name of the short option.
+/// Sets the literal or the key that names the short option.
 fn set_short<'src>(rules: &mut ArgumentRules<'src>, short: OptionName<'src>)
-    ensures { rules_of rules.new ≡ with_short (option_of short.entry.1 short.entry.0) (rules_of rules.old) }
+    ensures { rules_of rules.new
+        ≡ with_short (option_of short.entry.1 short.entry.0) (rules_of rules.old) }
 {
     let (short, short_key) = short;
     rules.short = short;
     rules.short_key = short_key;
 }
 
-/// Takes `pattern` and `value`.
+/// Takes `pattern` and `value` out of the keys and sets both.
 #[tactic(auto, using(crate::proofs::Refused::refused_first))]
 fn read_values<'src>(
     name: Name<'src>,
@@ -171,7 +180,8 @@ fn read_values<'src>(
     rules: &mut ArgumentRules<'src>,
 ) -> CompileResult<'src>
     requires { AreKeyed keys.old }
-    ensures read { Makes (λ _. rules_of rules.new) result (values_read name.entry.token (key_arguments keys.old) (rules_of rules.old)) }
+    ensures read { Makes (λ _. rules_of rules.new) result
+        (values_read name.entry.token (key_arguments keys.old) (rules_of rules.old)) }
     ensures left { OnOk result (key_arguments keys.new ≡ after_values (key_arguments keys.old)) }
     ensures keyed { OnOk result (AreKeyed keys.new) }
 {
@@ -180,7 +190,7 @@ fn read_values<'src>(
     Ok(())
 }
 
-/// Takes `flag` and `multiple`.
+/// Takes `flag` and `multiple` out of the keys and sets both.
 #[tactic(auto, using(crate::proofs::Refused::refused_first))]
 fn read_switches<'src>(
     alloc: Global,
@@ -188,7 +198,8 @@ fn read_switches<'src>(
     rules: &mut ArgumentRules<'src>,
 ) -> CompileResult<'src>
     requires { AreKeyed keys.old }
-    ensures read { Makes (λ _. rules_of rules.new) result (switches_read rules.old.name.token (key_arguments keys.old) (rules_of rules.old)) }
+    ensures read { Makes (λ _. rules_of rules.new) result
+        (switches_read rules.old.name.token (key_arguments keys.old) (rules_of rules.old)) }
     ensures left { OnOk result (key_arguments keys.new ≡ after_switches (key_arguments keys.old)) }
     ensures keyed { OnOk result (AreKeyed keys.new) }
 {
@@ -197,7 +208,7 @@ fn read_switches<'src>(
     Ok(())
 }
 
-/// Takes `max` and `min`.
+/// Takes `max` and `min` out of the keys and sets both.
 #[tactic(auto, using(crate::proofs::Refused::refused_first))]
 fn read_bounds<'src>(
     alloc: Global,
@@ -206,7 +217,8 @@ fn read_bounds<'src>(
     rules: &mut ArgumentRules<'src>,
 ) -> CompileResult<'src>
     requires { AreKeyed keys.old }
-    ensures read { Makes (λ _. rules_of rules.new) result (bounds_read name.entry.token (key_arguments keys.old) (rules_of rules.old)) }
+    ensures read { Makes (λ _. rules_of rules.new) result
+        (bounds_read name.entry.token (key_arguments keys.old) (rules_of rules.old)) }
     ensures left { OnOk result (key_arguments keys.new ≡ after_bounds (key_arguments keys.old)) }
     ensures keyed { OnOk result (AreKeyed keys.new) }
 {
@@ -217,19 +229,20 @@ fn read_bounds<'src>(
     Ok(())
 }
 
-/// Sets the numbers.
+/// Sets `min` and `max`.
 fn set_bounds<'src>(
     rules: &mut ArgumentRules<'src>,
     min: Option<(Name<'src>, u64)>,
     max: Option<(Name<'src>, u64)>,
 )
-    ensures { rules_of rules.new ≡ with_numbers (option_map bound_at min.entry) (option_map bound_at max.entry) (rules_of rules.old) }
+    ensures { rules_of rules.new ≡ with_numbers (option_map bound_at min.entry)
+        (option_map bound_at max.entry) (rules_of rules.old) }
 {
     rules.min = min;
     rules.max = max;
 }
 
-/// Takes `help`.
+/// Takes `help` out of the keys and sets it.
 #[tactic(auto, using(crate::proofs::Refused::refused_first))]
 fn read_help<'src>(
     name: Name<'src>,
@@ -237,13 +250,14 @@ fn read_help<'src>(
     rules: &mut ArgumentRules<'src>,
 ) -> CompileResult<'src>
     requires { AreKeyed keys.old }
-    ensures { Makes (λ _. rules_of rules.new) result (help_read name.entry.token (key_arguments keys.old) (rules_of rules.old)) }
+    ensures { Makes (λ _. rules_of rules.new) result
+        (help_read name.entry.token (key_arguments keys.old) (rules_of rules.old)) }
 {
     rules.help_property = take_required(name, keys, "help")?;
     Ok(())
 }
 
-/// Names the options whose keys stand alone as the argument.
+/// Sets the names of the options whose keys have no value: each is a copy of the parameter's name.
 fn name_options<'src>(alloc: Global, rules: &mut ArgumentRules<'src>) -> Result<(), AllocError>
     ensures same { rules_of rules.new ≡ rules_of rules.old }
     ensures named { OnOk result (AreNamed rules.new) }

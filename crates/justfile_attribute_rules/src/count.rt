@@ -1,13 +1,15 @@
 ghost use Rattle.std.specs.Prelude.{◌≡◌};
 ghost use Rattle.justfile_model.specs.AttributeKinds.{least_count, most_count, takes_expressions};
 ghost use Rattle.justfile_model.specs.NewAttribute as new;
-ghost use Rattle.justfile_tree.specs.LeafSight.{sees_leaves};
+ghost use Rattle.justfile_expression.specs.LeafViews.{views_leaves};
 ghost use Rattle.justfile_attribute_rules.specs.Made.{Makes};
 ghost use Rattle.justfile_attribute_rules.specs.RuleErrors.{IsMost};
 
-use justfile_base::{AttributeKind, CompileErrorKind, CompileResult, Fault, Name};
+use justfile_token::{CompileErrorKind, CompileResult, Fault, Name};
+use justfile_vocabulary::AttributeKind;
 
-/// Whether the arguments by position are any expressions, where those of other kinds are literals.
+/// Whether an attribute of this kind takes any expressions as its positional arguments. Other kinds
+/// take string literals only.
 pub fn accepts_expressions(kind: AttributeKind) -> bool
     ensures { result ≡ takes_expressions kind }
 {
@@ -21,7 +23,28 @@ pub fn accepts_expressions(kind: AttributeKind) -> bool
     )
 }
 
-/// How many arguments by position there are at least, and at most. The greatest number stands for no bound.
+/// Refuses too few or too many positional arguments.
+///
+/// # Errors
+///
+/// `Compile` at the attribute's name.
+#[tactic(auto, using(crate::proofs::Counts::more_is))]
+pub fn check_count<'src>(name: Name<'src>, kind: AttributeKind, found: usize) -> CompileResult<'src>
+    ensures { Makes (λ _. tt) result (new.check_count views_leaves name.entry.token kind found) }
+{
+    let (min, max) = argument_range(kind);
+    if found < min || max < found {
+        return Err(Fault::Compile(name.error(CompileErrorKind::AttributeArgumentCountMismatch {
+            attribute: name,
+            found,
+            min,
+            max,
+        })));
+    }
+    Ok(())
+}
+
+/// Returns the least and the greatest number of positional arguments. `usize::MAX` means no limit.
 fn argument_range(kind: AttributeKind) -> (usize, usize)
     ensures least { result.0 ≡ least_count kind }
     ensures most { IsMost (most_count kind) result.1 }
@@ -37,25 +60,4 @@ fn argument_range(kind: AttributeKind) -> (usize, usize)
         AttributeKind::Metadata => (1, usize::MAX),
         _ => (0, 0),
     }
-}
-
-/// Refuses too few or too many arguments by position.
-///
-/// # Errors
-///
-/// `Compile` at the name.
-#[tactic(auto, using(crate::proofs::Counts::more_is))]
-pub fn check_count<'src>(name: Name<'src>, kind: AttributeKind, found: usize) -> CompileResult<'src>
-    ensures { Makes (λ _. tt) result (new.check_count sees_leaves name.entry.token kind found) }
-{
-    let (min, max) = argument_range(kind);
-    if found < min || max < found {
-        return Err(Fault::Compile(name.error(CompileErrorKind::AttributeArgumentCountMismatch {
-            attribute: name,
-            found,
-            min,
-            max,
-        })));
-    }
-    Ok(())
 }

@@ -1,12 +1,12 @@
 ghost use Rattle.justfile_attribute_rules.specs.Keys.{AreKeyed, prop_keyed};
 
 use crate::keys::{KeyMap, put_key};
-use justfile_base::Name;
-use justfile_tree::Expression;
+use justfile_expression::Expression;
+use justfile_token::Name;
 use std::alloc::{AllocError, Global};
 use std::collections::BTreeMap;
 
-/// The keys that an attribute is made of, each with its value if it has one: of each text at most one.
+/// The keyword arguments of an attribute: keys with optional values, at most one of each text.
 #[derive(Drop)]
 pub struct KeywordArguments<'src> {
     keys: KeyMap<'src>,
@@ -18,7 +18,7 @@ impl<'src> KeywordArguments<'src> {
     ghost use Rattle.justfile_attribute_rules.specs.Keys.{IsPut};
     ghost use Rattle.justfile_attribute_rules.specs.KeywordArguments.{keys_of};
 
-    /// No keys.
+    /// Returns an empty set of keys.
     #[tactic(auto, using(crate::proofs::PutKeys::none_keyed))]
     pub fn new(alloc: Global) -> Self
         ensures { (keys_of result).entries ≡ [] }
@@ -28,23 +28,24 @@ impl<'src> KeywordArguments<'src> {
         }
     }
 
-    /// Puts a key with its value, or without one. It takes the place of a key with the same text.
+    /// Inserts a key with an optional value. It replaces a key with the same text.
     ///
     /// # Errors
     ///
-    /// `AllocError` if the program is out of memory.
+    /// `AllocError` if out of memory.
     pub fn insert(
         &mut self,
         name: Name<'src>,
         value: Option<Box<Expression<'src>>>,
     ) -> Result<(), AllocError>
-        ensures ok { OnOk result (IsPut (name.entry, value.entry) (keys_of self.old) (keys_of self.new)) }
+        ensures ok { OnOk result
+            (IsPut (name.entry, value.entry) (keys_of self.old) (keys_of self.new)) }
         ensures err { OnErr result ((keys_of self.new).entries ≡ (keys_of self.old).entries) }
     {
         put_key(&mut self.keys, (name, value))
     }
 
-    /// The keys by their texts.
+    /// Returns the keys by their texts.
     pub fn into_map(self) -> KeyMap<'src>
         ensures keys { result ≡ keys_of self.entry }
         ensures keyed { AreKeyed result }

@@ -1,4 +1,4 @@
-//! The rules of the arguments of an attribute: each check alone, with the error of its refusal.
+//! The rules for the arguments of attributes: each check on its own, with its error.
 #![tactic(auto)]
 
 mod argument;

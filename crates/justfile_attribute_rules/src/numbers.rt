@@ -5,25 +5,27 @@ ghost use Rattle.justfile_model.proofs.CountLaws.{is_digit_byte};
 ghost use Rattle.justfile_model.specs.Meaning as means;
 ghost use Rattle.justfile_model.specs.Meaning.{at_key};
 ghost use Rattle.justfile_model.specs.NewAttribute as new;
-ghost use Rattle.justfile_tree.specs.LeafSight.{sees_leaves};
-ghost use Rattle.justfile_tree.specs.LeafTree.{leaf_tree_of};
+ghost use Rattle.justfile_expression.specs.LeafViews.{views_leaves};
+ghost use Rattle.justfile_expression.specs.LeafTree.{leaf_tree_of};
 ghost use Rattle.justfile_attribute_rules.specs.Keys.{AreKeyed, IsTaken, key_arguments};
 ghost use Rattle.justfile_attribute_rules.specs.Made.{Makes, bound_at, bound_made, count_made, quoted_leaf, within};
 
 use crate::keys::{KeyMap, missing_value, take};
 use crate::literals::key_literal;
-use justfile_base::{CompileErrorKind, CompileResult, Fault, Name, StringLiteral};
-use justfile_tree::Expression;
+use justfile_expression::Expression;
+use justfile_token::{CompileErrorKind, CompileResult, Fault, Name, StringLiteral};
 use std::alloc::Global;
 
-/// Why digits are no number of 64 bits.
+/// The message for a number that doesn't fit into 64 bits.
 const TOO_LARGE: &str = "number too large to fit in target type";
 
-/// Takes the key of `max` or `min`, and reads its number.
+/// Removes the key `max` or `min` and returns it with its number, or `None` if there is no such
+/// key.
 ///
 /// # Errors
 ///
-/// `Compile` at the key for a value that is absent or no literal, and else at the literal; `Memory` if memory runs out.
+/// `Compile` at the key if its value is missing or isn't a literal, and at the literal if it isn't
+/// a number of 64 bits; `Memory` if out of memory.
 #[tactic(auto, using(crate::proofs::Refused::refused_first))]
 pub(crate) fn take_bound<'src>(
     alloc: Global,
@@ -33,7 +35,8 @@ pub(crate) fn take_bound<'src>(
 ) -> CompileResult<'src, Option<(Name<'src>, u64)>>
     requires { AreKeyed keys.old }
     ensures taken { Makes (option_map bound_at) result
-        (new.if_given (new.bound sees_leaves name.entry.token []) (at_key sees_leaves word.now (key_arguments keys.old))) }
+        (new.if_given (new.bound views_leaves name.entry.token [])
+        (at_key views_leaves word.now (key_arguments keys.old))) }
     ensures left { IsTaken word.now keys.old keys.new }
 {
     match take(keys, word) {
@@ -43,7 +46,7 @@ pub(crate) fn take_bound<'src>(
     }
 }
 
-/// The number that a key has as its value.
+/// Returns a key with the number that is its value.
 #[tactic(auto, using(crate::proofs::Refused::refused_first))]
 fn bound<'src>(
     alloc: Global,
@@ -51,20 +54,22 @@ fn bound<'src>(
     key: Name<'src>,
     value: Box<Expression<'src>>,
 ) -> CompileResult<'src, Option<(Name<'src>, u64)>>
-    ensures { Makes (option_map bound_at) result (bound_made name.entry.token key.entry.token (leaf_tree_of value.entry.value)) }
+    ensures { Makes (option_map bound_at) result
+        (bound_made name.entry.token key.entry.token (leaf_tree_of value.entry.value)) }
 {
     let literal = key_literal(name, key, value)?;
     let number = read_count(alloc, key, &literal)?;
     Ok(Some((key, number)))
 }
 
-/// The number that a literal writes.
+/// Returns the number that a literal holds.
 fn read_count<'src>(
     alloc: Global,
     key: Name<'src>,
     literal: &StringLiteral<'src>,
 ) -> CompileResult<'src, u64>
-    ensures { Makes (λ number. number) result (count_made key.entry.token (quoted_leaf literal.now)) }
+    ensures { Makes (λ number. number) result
+        (count_made key.entry.token (quoted_leaf literal.now)) }
 {
     let text = literal.cooked.as_str();
     if !is_count(text.as_bytes()) {
@@ -90,7 +95,7 @@ fn read_count<'src>(
     }
 }
 
-/// Whether the text is `0`, or digits of which the first is no `0`.
+/// Whether the text is `0`, or digits without a leading `0`.
 #[tactic(auto, using(justfile_model::proofs::CountLaws::is_count_by))]
 fn is_count(text: &[u8]) -> bool
     ensures { result ≡ means.is_count text.now }
@@ -98,7 +103,7 @@ fn is_count(text: &[u8]) -> bool
     !text.is_empty() && are_digits(text) && (text.len() == 1 || text[0] != b'0')
 }
 
-/// Whether each byte is a digit.
+/// Whether all bytes are digits.
 #[tactic(auto, using(justfile_model::proofs::CountLaws::digits_are_ascii))]
 fn are_digits(text: &[u8]) -> bool
     ensures { result ≡ list_all is_digit_byte text.now }
@@ -106,7 +111,7 @@ fn are_digits(text: &[u8]) -> bool
     text.iter().all(|digit| digit.is_ascii_digit())
 }
 
-/// The number that such a text writes, if it fits.
+/// Returns the number that such a text stands for, or `None` if it doesn't fit into 64 bits.
 #[tactic(auto, using(justfile_model::proofs::CountLaws::count_read))]
 fn parse_count(text: &str) -> Option<u64>
     requires { IsTrue (means.is_count text.now) }
@@ -115,16 +120,17 @@ fn parse_count(text: &str) -> Option<u64>
     text.parse().ok()
 }
 
-/// Refuses numbers of which the least is above the greatest.
+/// Refuses a `min` above `max`.
 ///
 /// # Errors
 ///
-/// `Compile` at the key of the least.
+/// `Compile` at the key `min`.
 pub(crate) fn check_bounds<'src>(
     min: Option<(Name<'src>, u64)>,
     max: Option<(Name<'src>, u64)>,
 ) -> CompileResult<'src>
-    ensures { Makes (λ _. tt) result (within (option_map bound_at min.entry) (option_map bound_at max.entry)) }
+    ensures { Makes (λ _. tt) result
+        (within (option_map bound_at min.entry) (option_map bound_at max.entry)) }
 {
     if let (Some((key, min)), Some((_, max))) = (min, max) {
         if max < min {

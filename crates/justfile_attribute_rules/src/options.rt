@@ -3,26 +3,28 @@ ghost use Rattle.std.specs.Option.{option_map};
 ghost use Rattle.std.specs.Str.{chars};
 ghost use Rattle.justfile_model.specs.Meaning.{at_key};
 ghost use Rattle.justfile_model.specs.NewAttribute as new;
-ghost use Rattle.justfile_tree.specs.LeafSight.{sees_leaves};
-ghost use Rattle.justfile_tree.specs.LeafTree.{Named, leaf_tree_of};
+ghost use Rattle.justfile_expression.specs.LeafViews.{views_leaves};
+ghost use Rattle.justfile_expression.specs.LeafTree.{Named, leaf_tree_of};
 ghost use Rattle.justfile_attribute_rules.specs.ArgumentRules.{IsNamedAs, option_of};
 ghost use Rattle.justfile_attribute_rules.specs.Keys.{AreKeyed, IsTaken, key_arguments};
 ghost use Rattle.justfile_attribute_rules.specs.Made.{Makes, option_word, quoted_leaf};
 
 use crate::keys::{KeyMap, take};
 use crate::literals::key_literal;
-use justfile_base::{CompileErrorKind, CompileResult, Fault, Name, StringLiteral};
-use justfile_tree::Expression;
+use justfile_expression::Expression;
+use justfile_token::{CompileErrorKind, CompileResult, Fault, Name, StringLiteral};
 use std::alloc::{AllocError, Global};
 
-/// The literal that names an option, or the key that names it as the argument, or none of them.
+/// The name of an option: a literal, or a key without a value that gives it the parameter's name.
+/// Both are `None` if there is no such option.
 pub(crate) type OptionName<'src> = (Option<StringLiteral<'src>>, Option<Name<'src>>);
 
-/// Takes the key of `long` or `short`, and reads the option's name.
+/// Removes the key `long` or `short` and returns the option's name.
 ///
 /// # Errors
 ///
-/// `Compile` at the key for a value that is no literal, and else at the literal; `Memory` if memory runs out.
+/// `Compile` at the key if its value isn't a literal, and at the literal if it isn't a valid name;
+/// `Memory` if out of memory.
 pub(crate) fn take_option<'src>(
     alloc: Global,
     name: Name<'src>,
@@ -32,7 +34,8 @@ pub(crate) fn take_option<'src>(
 ) -> CompileResult<'src, OptionName<'src>>
     requires { AreKeyed keys.old }
     ensures taken { Makes (λ p. option_of p.1 p.0) result
-        (new.option sees_leaves name.entry.token (string_bytes argument.now.cooked) is_short (at_key sees_leaves (option_word is_short) (key_arguments keys.old))) }
+        (new.option views_leaves name.entry.token (string_bytes argument.now.cooked) is_short
+        (at_key views_leaves (option_word is_short) (key_arguments keys.old))) }
     ensures left { IsTaken (option_word is_short) keys.old keys.new }
 {
     let word = if is_short { "short" } else { "long" };
@@ -43,7 +46,7 @@ pub(crate) fn take_option<'src>(
     }
 }
 
-/// The name of an option, as the value of its key gives it.
+/// Returns the name of an option from the value of its key.
 #[tactic(auto, using(crate::proofs::Refused::refused_first))]
 fn option_name<'src>(
     alloc: Global,
@@ -54,7 +57,8 @@ fn option_name<'src>(
     value: Box<Expression<'src>>,
 ) -> CompileResult<'src, OptionName<'src>>
     ensures { Makes (λ p. option_of p.1 p.0) result
-        (new.option_by sees_leaves name.entry.token (string_bytes argument.now.cooked) is_short (Named key.entry.token None) (Some (leaf_tree_of value.entry.value))) }
+        (new.option_by views_leaves name.entry.token (string_bytes argument.now.cooked) is_short
+        (Named key.entry.token None) (Some (leaf_tree_of value.entry.value))) }
 {
     let literal = key_literal(name, key, value)?;
     check_option_name(alloc, argument, &literal)?;
@@ -62,7 +66,7 @@ fn option_name<'src>(
     Ok((Some(literal), None))
 }
 
-/// Names an option whose key stands alone as the argument.
+/// Sets the name of an option whose key has no value to a copy of the parameter's name.
 pub(crate) fn name_option<'src>(
     alloc: Global,
     argument: &StringLiteral<'src>,
@@ -78,14 +82,15 @@ pub(crate) fn name_option<'src>(
     Ok(())
 }
 
-/// Refuses the name of an option that has a `=`, begins with a `-`, or is empty.
+/// Refuses an option name that contains `=`, begins with `-`, or is empty.
 fn check_option_name<'src>(
     alloc: Global,
     argument: &StringLiteral<'src>,
     literal: &StringLiteral<'src>,
 ) -> CompileResult<'src>
     ensures { Makes (λ _. tt) result
-        (new.check_option_name sees_leaves literal.now.token (string_bytes argument.now.cooked) (quoted_leaf literal.now) (string_bytes literal.now.cooked)) }
+        (new.check_option_name views_leaves literal.now.token (string_bytes argument.now.cooked)
+        (quoted_leaf literal.now) (string_bytes literal.now.cooked)) }
 {
     let option = literal.cooked.as_str().as_bytes();
     if option.contains(&b'=') {
@@ -113,7 +118,7 @@ fn check_option_name<'src>(
     Ok(())
 }
 
-/// Refuses the name of a short option that is more or less than one character.
+/// Refuses the name of a short option unless it is one character long.
 fn check_short<'src>(
     alloc: Global,
     argument: &StringLiteral<'src>,
@@ -121,7 +126,8 @@ fn check_short<'src>(
     literal: &StringLiteral<'src>,
 ) -> CompileResult<'src>
     ensures { Makes (λ _. tt) result
-        (new.check_short sees_leaves literal.now.token (string_bytes argument.now.cooked) is_short (quoted_leaf literal.now) (string_bytes literal.now.cooked)) }
+        (new.check_short views_leaves literal.now.token (string_bytes argument.now.cooked) is_short
+        (quoted_leaf literal.now) (string_bytes literal.now.cooked)) }
 {
     if is_short && !has_one_char(literal.cooked.as_str()) {
         let parameter = argument_text(alloc, argument)?;
@@ -139,7 +145,7 @@ fn has_one_char(text: &str) -> bool
     text.chars().count() == 1
 }
 
-/// A copy of the text of the argument.
+/// Returns a copy of the parameter's name.
 pub(crate) fn argument_text(
     alloc: Global,
     argument: &StringLiteral<'_>,

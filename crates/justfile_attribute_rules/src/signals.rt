@@ -1,11 +1,32 @@
 ghost use Rattle.std.specs.Prelude.{◌≡◌};
 ghost use Rattle.justfile_attribute_rules.specs.Made.{Makes, quoted_leaf, quoted_leaves, signal_made, signals_made};
 
-use justfile_base::{CompileErrorKind, CompileResult, Fault, Signal, StringLiteral};
+use justfile_token::{CompileErrorKind, CompileResult, Fault, StringLiteral};
+use justfile_vocabulary::Signal;
 use std::alloc::Global;
 use std::collections::BTreeSet;
 
-/// The signal that a literal names.
+/// Returns the signals that literals name.
+///
+/// # Errors
+///
+/// `Compile` at the first literal that doesn't name a signal; `Memory` if out of memory.
+pub fn signal_set<'src>(
+    alloc: Global,
+    literals: Vec<StringLiteral<'src>>,
+) -> CompileResult<'src, BTreeSet<Signal>>
+    ensures { Makes (λ signals. signals.keys) result
+        (signals_made (quoted_leaves literals.entry.items)) }
+{
+    let mut signals = BTreeSet::new(alloc);
+    for literal in literals {
+        let signal = signal(alloc, &literal)?;
+        signals.insert(signal)?;
+    }
+    Ok(signals)
+}
+
+/// Returns the signal that a literal names.
 fn signal<'src>(alloc: Global, literal: &StringLiteral<'src>) -> CompileResult<'src, Signal>
     ensures { Makes (λ signal. signal) result (signal_made (quoted_leaf literal.now)) }
 {
@@ -20,23 +41,4 @@ fn signal<'src>(alloc: Global, literal: &StringLiteral<'src>) -> CompileResult<'
             ))
         }
     }
-}
-
-/// The signals that literals name.
-///
-/// # Errors
-///
-/// `Compile` at the first literal that names none; `Memory` if memory runs out.
-pub fn signal_set<'src>(
-    alloc: Global,
-    literals: Vec<StringLiteral<'src>>,
-) -> CompileResult<'src, BTreeSet<Signal>>
-    ensures { Makes (λ signals. signals.keys) result (signals_made (quoted_leaves literals.entry.items)) }
-{
-    let mut signals = BTreeSet::new(alloc);
-    for literal in literals {
-        let signal = signal(alloc, &literal)?;
-        signals.insert(signal)?;
-    }
-    Ok(signals)
 }

@@ -3,8 +3,8 @@ ghost use Rattle.std.specs.Option.{is_some, option_map};
 ghost use Rattle.justfile_model.specs.Meaning.{at_key};
 ghost use Rattle.justfile_model.specs.NewAttribute as new;
 ghost use Rattle.justfile_model.specs.Rules as refusals;
-ghost use Rattle.justfile_tree.specs.LeafSight.{sees_leaves};
-ghost use Rattle.justfile_tree.specs.LeafTree.{leaf_tree_of};
+ghost use Rattle.justfile_expression.specs.LeafViews.{views_leaves};
+ghost use Rattle.justfile_expression.specs.LeafTree.{leaf_tree_of};
 ghost use Rattle.justfile_attribute_rules.specs.ArgumentRules.{rules_of};
 ghost use Rattle.justfile_attribute_rules.specs.Keys.{AreKeyed, IsTaken, key_argument, key_arguments};
 ghost use Rattle.justfile_attribute_rules.specs.Made.{Makes};
@@ -13,43 +13,23 @@ ghost use Rattle.justfile_attribute_rules.specs.Steps.{flag_made, multiple_made,
 use crate::argument_rules::ArgumentRules;
 use crate::keys::{KeyMap, missing_value, take};
 use crate::options::argument_text;
-use justfile_base::{CompileErrorKind, CompileResult, Fault, Name, Token};
-use justfile_tree::Expression;
+use justfile_expression::Expression;
+use justfile_token::{CompileErrorKind, CompileResult, Fault, Name, Token};
 use std::alloc::Global;
 
-/// Whether the argument is no option: neither a literal nor a key names it as one.
-fn wants_option(rules: &ArgumentRules<'_>) -> bool
-    ensures { result ≡ wants_option (rules_of rules.now) }
-{
-    rules.long_key.is_none()
-        && rules.long.is_none()
-        && rules.short_key.is_none()
-        && rules.short.is_none()
-}
-
-/// Refuses a key of an argument that is no option.
-fn check_wanted<'src>(key: Name<'src>, rules: &ArgumentRules<'src>) -> CompileResult<'src>
-    ensures { Makes (λ _. tt) result
-        (new.check (wants_option (rules_of rules.now)) (refusals.ArgAttributeRequiresOption key.entry.token) key.entry.token) }
-{
-    if wants_option(rules) {
-        return Err(Fault::Compile(key.error(CompileErrorKind::ArgAttributeRequiresOption { key })));
-    }
-    Ok(())
-}
-
-/// Takes `value`, of an option.
+/// Removes the key `value` and returns its value.
 ///
 /// # Errors
 ///
-/// `Compile` at the key.
+/// `Compile` at the key if it has no value, or if the parameter isn't an option.
 pub(crate) fn take_value<'src>(
     keys: &mut KeyMap<'src>,
     rules: &ArgumentRules<'src>,
 ) -> CompileResult<'src, Option<Box<Expression<'src>>>>
     requires { AreKeyed keys.old }
     ensures taken { Makes (option_map (λ e. leaf_tree_of e.value)) result
-        (new.if_given (value_made (rules_of rules.now)) (at_key sees_leaves (codes "value") (key_arguments keys.old))) }
+        (new.if_given (value_made (rules_of rules.now))
+        (at_key views_leaves (codes "value") (key_arguments keys.old))) }
     ensures left { IsTaken (codes "value") keys.old keys.new }
 {
     match take(keys, "value") {
@@ -62,19 +42,20 @@ pub(crate) fn take_value<'src>(
     }
 }
 
-/// Takes `flag`, of an option without a value and a pattern.
+/// Removes the key `flag` and returns its token.
 ///
 /// # Errors
 ///
-/// `Compile` at the key; `Memory` if memory runs out.
+/// `Compile` at the key if it has a value, if the parameter isn't an option, or if it has a `value`
+/// or a `pattern`; `Memory` if out of memory.
 pub(crate) fn take_flag<'src>(
     alloc: Global,
     keys: &mut KeyMap<'src>,
     rules: &ArgumentRules<'src>,
 ) -> CompileResult<'src, Option<Token<'src>>>
     requires { AreKeyed keys.old }
-    ensures taken { Makes (λ token. token) result
-        (new.if_given (flag_made (rules_of rules.now)) (at_key sees_leaves (codes "flag") (key_arguments keys.old))) }
+    ensures taken { Makes (λ token. token) result (new.if_given (flag_made (rules_of rules.now))
+        (at_key views_leaves (codes "flag") (key_arguments keys.old))) }
     ensures left { IsTaken (codes "flag") keys.old keys.new }
 {
     match take(keys, "flag") {
@@ -86,7 +67,8 @@ pub(crate) fn take_flag<'src>(
     }
 }
 
-/// Refuses `flag` with a value of its own, of no option, or beside `value` or `pattern`.
+/// Refuses a `flag` that has a value, one for a parameter that isn't an option, and one beside
+/// `value` or `pattern`.
 #[tactic(auto, using(crate::proofs::Refused::refused_first))]
 fn check_flag<'src>(
     alloc: Global,
@@ -94,7 +76,8 @@ fn check_flag<'src>(
     value: &Option<Box<Expression<'src>>>,
     rules: &ArgumentRules<'src>,
 ) -> CompileResult<'src>
-    ensures { Makes (λ _. key.entry.token) result (flag_made (rules_of rules.now) (key_argument (key.entry, value.now))) }
+    ensures { Makes (λ _. key.entry.token) result
+        (flag_made (rules_of rules.now) (key_argument (key.entry, value.now))) }
 {
     if value.is_some() {
         let parameter = argument_text(alloc, &rules.name)?;
@@ -118,18 +101,18 @@ fn check_flag<'src>(
     Ok(())
 }
 
-/// Takes `multiple`, of an option.
+/// Removes the key `multiple` and returns its token.
 ///
 /// # Errors
 ///
-/// `Compile` at the key.
+/// `Compile` at the key if it has a value, or if the parameter isn't an option.
 pub(crate) fn take_multiple<'src>(
     keys: &mut KeyMap<'src>,
     rules: &ArgumentRules<'src>,
 ) -> CompileResult<'src, Option<Token<'src>>>
     requires { AreKeyed keys.old }
-    ensures taken { Makes (λ token. token) result
-        (new.if_given (multiple_made (rules_of rules.now)) (at_key sees_leaves (codes "multiple") (key_arguments keys.old))) }
+    ensures taken { Makes (λ token. token) result (new.if_given (multiple_made (rules_of rules.now))
+        (at_key views_leaves (codes "multiple") (key_arguments keys.old))) }
     ensures left { IsTaken (codes "multiple") keys.old keys.new }
 {
     match take(keys, "multiple") {
@@ -141,13 +124,14 @@ pub(crate) fn take_multiple<'src>(
     }
 }
 
-/// Refuses `multiple` with a value, or of no option.
+/// Refuses a `multiple` that has a value, and one for a parameter that isn't an option.
 fn check_multiple<'src>(
     key: Name<'src>,
     value: &Option<Box<Expression<'src>>>,
     rules: &ArgumentRules<'src>,
 ) -> CompileResult<'src>
-    ensures { Makes (λ _. key.entry.token) result (multiple_made (rules_of rules.now) (key_argument (key.entry, value.now))) }
+    ensures { Makes (λ _. key.entry.token) result
+        (multiple_made (rules_of rules.now) (key_argument (key.entry, value.now))) }
 {
     if value.is_some() {
         return Err(Fault::Compile(key.error(CompileErrorKind::AttributeKeyTakesNoValue { key })));
@@ -156,4 +140,25 @@ fn check_multiple<'src>(
         Ok(()) => Ok(()),
         Err(fault) => Err(fault),
     }
+}
+
+/// Refuses a key if the parameter isn't an option.
+fn check_wanted<'src>(key: Name<'src>, rules: &ArgumentRules<'src>) -> CompileResult<'src>
+    ensures { Makes (λ _. tt) result (new.check (wants_option (rules_of rules.now))
+        (refusals.ArgAttributeRequiresOption key.entry.token) key.entry.token) }
+{
+    if wants_option(rules) {
+        return Err(Fault::Compile(key.error(CompileErrorKind::ArgAttributeRequiresOption { key })));
+    }
+    Ok(())
+}
+
+/// Whether the parameter isn't an option: neither a literal nor a key gives it an option name.
+fn wants_option(rules: &ArgumentRules<'_>) -> bool
+    ensures { result ≡ wants_option (rules_of rules.now) }
+{
+    rules.long_key.is_none()
+        && rules.long.is_none()
+        && rules.short_key.is_none()
+        && rules.short.is_none()
 }

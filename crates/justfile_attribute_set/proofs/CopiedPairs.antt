@@ -18,7 +18,7 @@ pair_key p = content_key p.0
 same_pair : (copy original : Pair) → IsSamePair copy original → pair_key copy ≡ pair_key original
 same_pair copy original same = same_content copy.0 original.0 same.0
 
--- copies stand in the order of what they are copies of
+-- copies are in order if their originals are
 pub copies_in_order : (copies originals : List Pair) → AllZip IsSamePair copies originals → AreInOrder attribute_content_cmp originals → AreInOrder attribute_content_cmp copies
 unfolding AreInOrder
 copies_in_order copies originals same h =

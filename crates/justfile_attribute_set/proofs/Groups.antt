@@ -1,10 +1,10 @@
--- Copies of the groups of the first pairs.
+-- Copies of the groups in the first pairs of a list.
 use Rattle.std.proofs.Common.{◌≡◌, ◌∙◌, ℕ, ◌+◌, ◌<◌, List, [], ◌∷◌, ◌++◌, Option, Some, None, length, take, get_or, refl, sym, ap, subst}
 use Rattle.std.specs.List.{AllZip, cons_option, filter_map}
 use Rattle.std.proofs.lemmas.List.{append-nil, map-append, take_more}
 use Rattle.std.proofs.lemmas.List.Elements.{AllZip-push, filter_map-append}
-use Rattle.justfile_base.specs.StringLiteral.{IsSameLiteral}
-use Rattle.justfile_base.specs.declared.string_literal.StringLiteral.{StringLiteral}
+use Rattle.justfile_token.specs.StringLiteral.{IsSameLiteral}
+use Rattle.justfile_token.specs.declared.string_literal.StringLiteral.{StringLiteral}
 use Rattle.justfile_attribute.specs.declared.attribute.Attribute.{Attribute}
 use Rattle.justfile_attribute.specs.declared.attribute.Attribute.TheVariants as attributes
 use Rattle.justfile_attribute_set.specs.Attributes.{group_of, groups_in}
@@ -21,12 +21,12 @@ groups_at all i p o h is e = ap (λ l. groups_in (firsts l)) (take_more all i p 
 abbrev pub AreCopied : (copies : List StringLiteral) → (all : List Pair) → ℕ → Type 0
 AreCopied copies all i = AllZip IsSameLiteral copies (groups_in (firsts (take i all)))
 
--- the next pair is no group
+-- the next pair isn't a group
 pub none_more : (copies : List StringLiteral) (all : List Pair) (i : ℕ) (p : Pair) → i < length all → p ≡ get_or all i p → group_of p.0 ≡ None
     → AreCopied copies all i → AreCopied copies all (i + 1)
 none_more copies all i p h is e so_far = subst (AllZip IsSameLiteral copies) (sym (groups_at all i p None h is e ∙ append-nil (groups_in (firsts (take i all))))) so_far
 
--- the next pair is one, which was copied
+-- the next pair is a group, which was copied
 pub one_more : (copies later : List StringLiteral) (all : List Pair) (i : ℕ) (p : Pair) (copy group : StringLiteral) → i < length all → p ≡ get_or all i p
     → group_of p.0 ≡ Some group → IsSameLiteral copy group → later ≡ copies ++ copy ∷ [] → AreCopied copies all i → AreCopied later all (i + 1)
 one_more copies later all i p copy group h is e same f so_far =

@@ -1,8 +1,8 @@
--- What is known of pairs with and without their comments.
+-- Properties of pairs with and without their comments.
 use Rattle.std.proofs.Common.{◌≡◌, ◌∙◌, List, [], ◌∷◌, Bool, true, false, cond, ◌||◌, map, Option, Some, None, refl, sym, ap}
 use Rattle.std.specs.List.{find, list_any}
 use Rattle.std.specs.Option.{option_map}
-use Rattle.justfile_base.specs.declared.name.Name.{Name}
+use Rattle.justfile_token.specs.declared.name.Name.{Name}
 use Rattle.justfile_model.specs.Distinct.{kept_last}
 use Rattle.justfile_model.specs.Order.{in_order}
 use Rattle.justfile_model.proofs.OrderMaps.{in_order_map}
@@ -12,7 +12,7 @@ use Rattle.justfile_attribute_set.specs.Pairs.{CommentedName, NamedPair, Pair, c
 use Rattle.justfile_written.specs.Written.{commented, uncommented}
 use Rattle.justfile_written.specs.declared.written.Written.{Written}
 
--- of elements that are the same the last ones, through a function that keeps what is the same
+-- `kept_last` commutes with a function that preserves sameness
 module _ {X Y : Type 0} (same : X → X → Bool) (same' : Y → Y → Bool) (f : X → Y) (agree : (x y : X) → same' (f x) (f y) ≡ same x y) where
   any_mapped : (x : X) (xs : List X) → list_any (same' (f x)) (map f xs) ≡ list_any (same x) xs
   any_mapped x [] = refl
@@ -27,7 +27,7 @@ module _ {X Y : Type 0} (same : X → X → Bool) (same' : Y → Y → Bool) (f 
       within true = refl
       within false = refl
 
--- in order as well
+-- and so does `in_order`
 ordered_uncommented : (pairs : List NamedPair) → in_order pair_cmp (kept_last same_attributes (map uncommented pairs)) ≡ map uncommented (in_order pair_cmp (kept_last same_attributes pairs))
 ordered_uncommented pairs =
     ap (in_order pair_cmp) (kept_mapped same_attributes same_attributes uncommented (λ p q. refl) pairs)
@@ -46,26 +46,26 @@ commented_again : (entries : List CommentedName) → map with_comment (map comme
 commented_again [] = refl
 commented_again (e ∷ es) = ap (λ l. e ∷ l) (commented_again es)
 
--- the set of pairs without comments has these pairs
+-- the pairs of a set that was made without comments
 pub pairs_in_order : (set : AttributeSet) (pairs : List NamedPair) → written_of set ≡ in_order pair_cmp (kept_last same_attributes (map uncommented pairs))
     → pairs_of set ≡ in_order pair_cmp (kept_last same_attributes pairs)
 pairs_in_order set pairs e =
     ap (map named) (e ∙ ordered_uncommented pairs) ∙ named_again (in_order pair_cmp (kept_last same_attributes pairs))
 
--- and no comment
+-- such a set has no comments
 pub none_commented : (set : AttributeSet) (pairs : List NamedPair) → written_of set ≡ in_order pair_cmp (kept_last same_attributes (map uncommented pairs))
     → written_of set ≡ map uncommented (pairs_of set)
 none_commented set pairs e =
     e ∙ ordered_uncommented pairs ∙ sym (ap (map uncommented) (pairs_in_order set pairs e))
 
--- the set of pairs with comments has them
+-- the entries of a set that was made with comments
 pub entries_in_order : (set : AttributeSet) (entries : List CommentedName)
     → written_of set ≡ in_order pair_cmp (kept_last same_attributes (map commented entries))
     → entries_with_comments set ≡ in_order commented_cmp (kept_last same_commented entries)
 entries_in_order set entries e =
     ap (map with_comment) (e ∙ ordered_commented entries) ∙ commented_again (in_order commented_cmp (kept_last same_commented entries))
 
--- the name of what is found among pairs is found among their names
+-- the name of the pair that is found is the one that is found among the names
 module _ (test : Attribute → Bool) where
   found_named : (b : Bool) (p : Pair) (o : Option Pair) → option_map named (cond b (Some p) o) ≡ cond b (Some (named p)) (option_map named o)
   found_named true p o = refl

@@ -1,10 +1,10 @@
--- Which attributes there are in a list, by their kinds.
+-- The kinds of attributes in a list.
 use Rattle.std.specs.Prelude.{Bool, ◌||◌, not, List, Option, Some, None}
 use Rattle.std.specs.List.{filter_map, list_any}
-use Rattle.justfile_word.specs.AttributeKind.{is_enabler_kind}
-use Rattle.justfile_word.specs.declared.attribute_kind.AttributeKind.{AttributeKind}
-use Rattle.justfile_word.specs.declared.attribute_kind.AttributeKind.TheVariants as kinds
-use Rattle.justfile_base.specs.declared.string_literal.StringLiteral.{StringLiteral}
+use Rattle.justfile_vocabulary.specs.AttributeKind.{is_enabler_kind}
+use Rattle.justfile_vocabulary.specs.declared.attribute_kind.AttributeKind.{AttributeKind}
+use Rattle.justfile_vocabulary.specs.declared.attribute_kind.AttributeKind.TheVariants as kinds
+use Rattle.justfile_token.specs.declared.string_literal.StringLiteral.{StringLiteral}
 use Rattle.justfile_model.specs.AttributeKinds.{same_attribute}
 use Rattle.justfile_model.specs.ContentKeys.{kind_of_attribute}
 use Rattle.justfile_attribute.specs.Attribute.{attribute_of}
@@ -20,7 +20,7 @@ is_of_kind kind a = same_attribute (kind_of a) kind
 abbrev pub has_kind : AttributeKind → List Attribute → Bool
 has_kind kind given = list_any (is_of_kind kind) given
 
--- no attribute says on which systems the item is there, or one says that it is there on this one
+-- no attribute restricts the item to some systems, or one of them names this system, which is Linux
 abbrev pub are_enabled : List Attribute → Bool
 are_enabled given = not (list_any (λ a. is_enabler_kind (kind_of a)) given) || has_kind kinds.Linux given || has_kind kinds.Unix given
 

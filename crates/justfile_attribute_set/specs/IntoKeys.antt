@@ -1,4 +1,4 @@
--- What an iterator over the firsts of pairs, by value, has left.
+-- The items that are left in an iterator over the first components of pairs, by value.
 use Rattle.std.specs.Prelude.{List}
 use Rattle.std.specs.Vec.Iter.{into_iter_items}
 use Rattle.justfile_attribute_set.specs.Keys.{firsts}

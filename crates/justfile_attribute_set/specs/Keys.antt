@@ -1,4 +1,4 @@
--- The firsts of pairs, and what an iterator over them has left.
+-- The first components of pairs, and the items that are left in an iterator over them.
 use Rattle.std.specs.Prelude.{List, map}
 use Rattle.std.specs.Slice.Iter.{iter_rest}
 use Rattle.justfile_attribute_set.specs.declared.keys.Keys.{Keys}

@@ -1,12 +1,12 @@
--- Attributes, each with the name that it was written with, and its comment if it has one.
+-- Attributes, each with the name that it was written with and an optional comment.
 use Rattle.std.specs.Prelude.{ℕ, Bool, List, Option}
 use Rattle.std.specs.Option.{option_copied}
 use Rattle.std.specs.declared.cmp.Ordering.{Ordering}
-use Rattle.justfile_base.specs.declared.name.Name.{Name}
-use Rattle.justfile_base.specs.declared.token.Token.{Token}
+use Rattle.justfile_token.specs.declared.name.Name.{Name}
+use Rattle.justfile_token.specs.declared.token.Token.{Token}
 use Rattle.justfile_model.specs.Tok.{Tok, tok_of}
 use Rattle.justfile_model.specs.Tree.{Entry}
-use Rattle.justfile_tree.specs.LeafTree.{Leaf}
+use Rattle.justfile_expression.specs.LeafTree.{Leaf}
 use Rattle.justfile_attribute.specs.Attribute.{attribute_of, leaf_attribute_of}
 use Rattle.justfile_attribute.specs.Order.{attribute_content_cmp}
 use Rattle.justfile_attribute.specs.contracts.attribute.AttributePartialEq.TheImpl as equality
@@ -14,7 +14,7 @@ use Rattle.justfile_attribute.specs.declared.attribute.Attribute.{Attribute}
 use Rattle.justfile_written.specs.Written.{Comment}
 use Rattle.justfile_written.specs.declared.written.Written.{Written}
 
--- an attribute, and where it was written
+-- an attribute with its name and its optional comment
 abbrev pub Pair : Type 0
 Pair = Attribute × Written
 
@@ -22,36 +22,36 @@ Pair = Attribute × Written
 abbrev pub NamedPair : Type 0
 NamedPair = Attribute × Name
 
--- what is left of a pair without its comment
+-- a pair without its comment
 abbrev pub named : {K : Type 0} → K × Written → K × Name
 named p = (p.0, p.1.name)
 
--- an attribute, its name, and its comment if it has one
+-- an attribute, its name, and its optional comment
 abbrev pub CommentedName : Type 0
 CommentedName = Attribute × Name × Option Comment
 
 abbrev pub with_comment : Pair → CommentedName
 with_comment p = (p.0, p.1.name, p.1.comment)
 
--- the text of the comment
+-- the text of the comment, if there is one
 abbrev pub comment_text : Written → Option (List ℕ)
 comment_text written = option_copied written.comment
 
--- a pair with all that the parser's trees hold
+-- the entry of a pair, with all fields of the parser's leaves
 abbrev pub leaf_entry_of : Pair → Entry Leaf Token
 leaf_entry_of p = record { name = p.1.name.token; attribute = leaf_attribute_of p.0; comment = comment_text p.1 }
 
 abbrev pub entry_of : Pair → Entry Tok Tok
 entry_of p = record { name = tok_of p.1.name.token; attribute = attribute_of p.0; comment = comment_text p.1 }
 
--- pairs compare by the content of their attributes
+-- the order of pairs by the content of their attributes
 abbrev pub pair_cmp : {V : Type 0} → Attribute × V → Attribute × V → Ordering
 pair_cmp p q = attribute_content_cmp p.0 q.0
 
 abbrev pub commented_cmp : CommentedName → CommentedName → Ordering
 commented_cmp d e = attribute_content_cmp d.0 e.0
 
--- `==`: the attributes are equal, with their places
+-- `==` of attributes: they are equal, positions included
 abbrev pub same : Attribute → Attribute → Bool
 same = equality.eq-value.it
 

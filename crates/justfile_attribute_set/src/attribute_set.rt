@@ -3,16 +3,16 @@ ghost use Rattle.std.specs.Cmp.{on_per};
 ghost use Rattle.std.specs.Cmp.Lexicographic.{lists_per, pointwise};
 ghost use Rattle.std.specs.List.{All, AllZip};
 ghost use Rattle.std.specs.Option.{option_and_then, option_copied, option_map};
-ghost use Rattle.justfile_base.specs.StringLiteral.{IsSameLiteral};
-ghost use Rattle.justfile_word.specs.declared.attribute_kind.AttributeKind.TheVariants as kinds;
+ghost use Rattle.justfile_token.specs.StringLiteral.{IsSameLiteral};
+ghost use Rattle.justfile_vocabulary.specs.declared.attribute_kind.AttributeKind.TheVariants as kinds;
 ghost use Rattle.justfile_model.specs.AttributeKinds.{is_allowed};
 ghost use Rattle.justfile_model.specs.AttributeRules.{first_invalid};
 ghost use Rattle.justfile_model.specs.ContentKeys.{entry_cmp};
 ghost use Rattle.justfile_model.specs.Distinct.{kept_last};
 ghost use Rattle.justfile_model.specs.Order.{in_order};
-ghost use Rattle.justfile_attribute.specs.New.{IsWholeAttribute};
+ghost use Rattle.justfile_attribute.specs.New.{HasDerivedAttributeFields};
 ghost use Rattle.justfile_attribute.specs.contracts.attribute.AttributePartialEq.TheImpl.Laws.{laws-law as attribute_per};
-ghost use Rattle.justfile_tree.specs.LeafSight.{sees_leaves};
+ghost use Rattle.justfile_expression.specs.LeafViews.{views_leaves};
 ghost use Rattle.justfile_attribute_set.specs.Pairs.{commented_cmp, leaf_entry_of, pair_cmp, same, same_attributes, same_commented};
 ghost use Rattle.justfile_attribute_set.specs.IntoNamed.{named_left};
 ghost use Rattle.justfile_written.specs.Written.{uncommented};
@@ -20,27 +20,26 @@ ghost use Rattle.justfile_attribute_set.specs.Attributes as wanted;
 ghost use Rattle.justfile_attribute_set.specs.Attributes.{are_enabled, groups_in, has_kind};
 ghost use Rattle.justfile_attribute_set.specs.Keys.{keys_left};
 
-use crate::copied::copy_pairs;
+use crate::copy::copy_pairs;
 use crate::keys::{IntoNamed, Keys};
 use crate::kinds::{first_of_kind, has_enabler, has_kind, is_here, kind_of, may_have};
 use crate::pair_set::PairSet;
 use crate::pairs::{find_key, have_same_keys, last_of_each, sort_pairs};
 use justfile_attribute::Attribute;
-use justfile_base::{
-    AttributeKind, CompileError, CompileErrorKind, ItemKind, Name, StringLiteral, Token,
-};
+use justfile_token::{CompileError, CompileErrorKind, Name, StringLiteral, Token};
+use justfile_vocabulary::{AttributeKind, ItemKind};
 use justfile_written::{Written, with_comments, without_comments};
 use std::alloc::{AllocError, Global};
 
-/// The attributes of a construct in the order of their content, each with the name that it was
-/// written with, and its comment if it has one.
+/// The attributes of a construct in the order of their content. Each has the name that it was
+/// written with and an optional comment.
 pub type AttributeSet<'src> = PairSet<Attribute<'src>, Written<'src>>;
 
 impl<'src> PairSet<Attribute<'src>, Written<'src>> {
     ghost use Rattle.justfile_attribute_set.specs.AttributeSet.{IsConstruct, IsInvalidBy, attributes_of, entries_with_comments, leaf_entries_of, pairs_of, written_of};
     ghost use Rattle.justfile_attribute_set.specs.Copies.{IsSameSet};
 
-    /// No attributes.
+    /// Returns an empty set.
     #[tactic(auto, unfolding(crate::specs::InOrder::AreInOrder))]
     pub fn new(alloc: Global) -> Self
         ensures { pairs_of result ≡ [] }
@@ -50,78 +49,82 @@ impl<'src> PairSet<Attribute<'src>, Written<'src>> {
         }
     }
 
-    /// The attributes of these pairs in the order of their content, where those that tie stay as
-    /// they stood. Of attributes that are equal, with their places, the last one is kept. None has a
-    /// comment.
+    /// Returns the set of these attributes without comments, in the order of their content. The
+    /// sort is stable. Of attributes that are equal, positions included, the last one is kept.
     ///
     /// # Errors
     ///
-    /// `AllocError` if the program is out of memory.
+    /// `AllocError` if out of memory.
     #[tactic(auto, using(crate::proofs::Named::pairs_in_order, crate::proofs::Named::none_commented))]
     pub fn from_pairs(
         alloc: Global,
         pairs: Vec<(Attribute<'src>, Name<'src>)>,
     ) -> Result<Self, AllocError>
-        ensures pairs { IfOk result (λ set. pairs_of set ≡ in_order pair_cmp (kept_last same_attributes pairs.entry.items)) }
+        ensures pairs { IfOk result (λ set. pairs_of set
+            ≡ in_order pair_cmp (kept_last same_attributes pairs.entry.items)) }
         ensures comments { IfOk result (λ set. written_of set ≡ map uncommented (pairs_of set)) }
     {
         let written = without_comments(alloc, pairs)?;
         Self::from_written(alloc, written)
     }
 
-    /// The attributes of these entries in the order of their content, where those that tie stay as
-    /// they stood: each with its name, and its comment if it has one. Of attributes that are equal,
-    /// with their places, the last one is kept.
+    /// Returns the set of these attributes with their names and optional comments, in the order of
+    /// their content. The sort is stable. Of attributes that are equal, positions included, the
+    /// last one is kept.
     ///
     /// # Errors
     ///
-    /// `AllocError` if the program is out of memory.
+    /// `AllocError` if out of memory.
     #[tactic(auto, using(crate::proofs::Named::entries_in_order))]
     pub fn from_entries(
         alloc: Global,
         entries: Vec<(Attribute<'src>, Name<'src>, Option<&'src str>)>,
     ) -> Result<Self, AllocError>
-        ensures { IfOk result (λ set. entries_with_comments set ≡ in_order commented_cmp (kept_last same_commented entries.entry.items)) }
+        ensures { IfOk result (λ set. entries_with_comments set
+            ≡ in_order commented_cmp (kept_last same_commented entries.entry.items)) }
     {
         let written = with_comments(alloc, entries)?;
         Self::from_written(alloc, written)
     }
 
-    /// The attributes of these pairs in the order of their content, of equal ones the last.
+    /// Returns the set of these attributes in the order of their content. Of equal ones the last is
+    /// kept.
     fn from_written(
         alloc: Global,
         pairs: Vec<(Attribute<'src>, Written<'src>)>,
     ) -> Result<Self, AllocError>
-        ensures { IfOk result (λ set. written_of set ≡ in_order pair_cmp (kept_last same_attributes pairs.entry.items)) }
+        ensures { IfOk result (λ set. written_of set
+            ≡ in_order pair_cmp (kept_last same_attributes pairs.entry.items)) }
     {
         let mut kept = last_of_each(alloc, pairs)?;
         sort_pairs(&mut kept)?;
         Ok(PairSet { pairs: kept })
     }
 
-    /// The attributes of pairs of which no two are equal, as those that are read, in the order of
-    /// their content: all are kept, and those that tie stay as they stood. What the parser makes is
-    /// in the order of what it means.
+    /// Returns the set of all these attributes in the order of their content. The sort is stable.
+    /// Nothing is removed: a parser's attributes are never equal, since their positions differ. If
+    /// their derived fields are right, the set is in the order of what the attributes mean.
     ///
     /// # Errors
     ///
-    /// `AllocError` if the program is out of memory.
+    /// `AllocError` if out of memory.
     #[tactic(auto, using(crate::proofs::Sorts::entries_sorted))]
-    pub fn from_read(pairs: Vec<(Attribute<'src>, Written<'src>)>) -> Result<Self, AllocError>
+    pub fn from_parsed(pairs: Vec<(Attribute<'src>, Written<'src>)>) -> Result<Self, AllocError>
         ensures pairs { IfOk result (λ set. written_of set ≡ in_order pair_cmp pairs.entry.items) }
-        ensures entries { IfOk result (λ set. All (λ p. IsWholeAttribute p.0) pairs.entry.items
-            → leaf_entries_of set ≡ in_order (entry_cmp sees_leaves) (map leaf_entry_of pairs.entry.items)) }
+        ensures entries { IfOk result
+            (λ set. All (λ p. HasDerivedAttributeFields p.0) pairs.entry.items → leaf_entries_of set
+            ≡ in_order (entry_cmp views_leaves) (map leaf_entry_of pairs.entry.items)) }
     {
         let mut pairs = pairs;
         sort_pairs(&mut pairs)?;
         Ok(PairSet { pairs })
     }
 
-    /// A copy of the set, with its comments.
+    /// Returns a copy of the set, with its comments.
     ///
     /// # Errors
     ///
-    /// `AllocError` if the program is out of memory.
+    /// `AllocError` if out of memory.
     #[tactic(auto, using(crate::proofs::CopiedPairs::copies_in_order))]
     pub fn clone(&self, alloc: Global) -> Result<Self, AllocError>
         ensures { IfOk result (λ copy. IsSameSet copy self.now) }
@@ -130,21 +133,14 @@ impl<'src> PairSet<Attribute<'src>, Written<'src>> {
         Ok(PairSet { pairs })
     }
 
-    /// How many attributes there are.
+    /// Returns the number of attributes.
     pub fn len(&self) -> usize
         ensures { result ≡ length (attributes_of self.now) }
     {
         self.pairs.len()
     }
 
-    /// Whether there is an attribute of this kind.
-    pub fn contains(&self, kind: AttributeKind) -> bool
-        ensures { result ≡ has_kind kind (attributes_of self.now) }
-    {
-        has_kind(&self.pairs, kind)
-    }
-
-    /// The first attribute of this kind.
+    /// Returns the first attribute of this kind, or `None` if there is none.
     pub fn get(&self, kind: AttributeKind) -> Option<&Attribute<'src>>
         ensures { option_copied result ≡ find (wanted.is_of_kind kind) (attributes_of self.now) }
     {
@@ -154,9 +150,10 @@ impl<'src> PairSet<Attribute<'src>, Written<'src>> {
         }
     }
 
-    /// The name that this attribute was written with.
+    /// Returns the name that this attribute was written with, or `None` if the set doesn't have it.
     pub fn name(&self, attribute: &Attribute<'src>) -> Option<Name<'src>>
-        ensures { result ≡ option_map (λ p. p.1) (find (λ p. same attribute.now p.0) (pairs_of self.now)) }
+        ensures { result
+            ≡ option_map (λ p. p.1) (find (λ p. same attribute.now p.0) (pairs_of self.now)) }
     {
         match find_key(&self.pairs, attribute) {
             Some(pair) => Some(pair.1.name),
@@ -164,10 +161,11 @@ impl<'src> PairSet<Attribute<'src>, Written<'src>> {
         }
     }
 
-    /// The comment after the line that this attribute was written on, if it was the last of its
-    /// brackets, without the white space at its end.
+    /// Returns the comment after the line on which this attribute was written, without white space
+    /// at its end. Only the last attribute in its brackets can have one.
     pub fn comment(&self, attribute: &Attribute<'src>) -> Option<&'src str>
-        ensures { result ≡ option_and_then (λ p. p.1.comment) (find (λ p. same attribute.now p.0) (written_of self.now)) }
+        ensures { result ≡ option_and_then (λ p. p.1.comment)
+            (find (λ p. same attribute.now p.0) (written_of self.now)) }
     {
         match find_key(&self.pairs, attribute) {
             Some(pair) => pair.1.comment,
@@ -175,13 +173,14 @@ impl<'src> PairSet<Attribute<'src>, Written<'src>> {
         }
     }
 
-    /// Copies of the names of the groups, in order.
+    /// Returns copies of the names of the groups, in order.
     ///
     /// # Errors
     ///
-    /// `AllocError` if the program is out of memory.
+    /// `AllocError` if out of memory.
     pub fn groups(&self, alloc: Global) -> Result<Vec<StringLiteral<'src>>, AllocError>
-        ensures { IfOk result (λ copies. AllZip IsSameLiteral copies.items (groups_in (attributes_of self.now))) }
+        ensures { IfOk result
+            (λ copies. AllZip IsSameLiteral copies.items (groups_in (attributes_of self.now))) }
     {
         let mut groups = Vec::new(alloc);
         for pair in &self.pairs {
@@ -192,14 +191,14 @@ impl<'src> PairSet<Attribute<'src>, Written<'src>> {
         Ok(groups)
     }
 
-    /// Whether there is the attribute `private`.
+    /// Whether there is an attribute `private`.
     pub fn private(&self) -> bool
         ensures { result ≡ has_kind kinds.Private (attributes_of self.now) }
     {
         self.contains(AttributeKind::Private)
     }
 
-    /// Whether the item is there on this system, which is Linux.
+    /// Whether the attributes enable the item on this system, which is Linux.
     pub fn is_enabled(&self) -> bool
         ensures { result ≡ are_enabled (attributes_of self.now) }
     {
@@ -210,40 +209,52 @@ impl<'src> PairSet<Attribute<'src>, Written<'src>> {
         )
     }
 
-    /// The attributes in their order.
+    /// Whether there is an attribute of this kind.
+    pub fn contains(&self, kind: AttributeKind) -> bool
+        ensures { result ≡ has_kind kind (attributes_of self.now) }
+    {
+        has_kind(&self.pairs, kind)
+    }
+
+    /// Returns an iterator over the attributes, in order.
     pub fn iter(&self) -> Keys<'_, Attribute<'src>, Written<'src>>
         ensures { keys_left result ≡ attributes_of self.now }
     {
         Keys::new(&self.pairs)
     }
 
-    /// The attributes in their order, each with its name.
+    /// Returns an iterator over the attributes, in order, each with its name, by value.
     pub fn into_items(self) -> IntoNamed<'src, Attribute<'src>>
         ensures { named_left result ≡ pairs_of self.entry }
     {
         IntoNamed::new(self.pairs)
     }
 
-    /// The attributes in their order, each with where it was written.
+    /// Returns the attributes in order, each with its name and its optional comment.
     pub fn written(&self) -> &[(Attribute<'src>, Written<'src>)]
         ensures { result.now ≡ written_of self.now }
     {
         &self.pairs
     }
 
-    /// Refuses what an item of this kind, with its name at this token, may not have.
+    /// Refuses attributes that an item of this kind, named by `item_token`, may not have. The rule
+    /// is `is_allowed` of the definitions.
     ///
     /// # Errors
     ///
-    /// `InvalidAttribute` at the token, with the first attribute that the item may not have.
+    /// `InvalidAttribute` at the token, with the kind of the first attribute that the item may not
+    /// have.
     pub fn ensure_valid_attributes(
         &self,
         item_kind: ItemKind,
         item_token: Token<'src>,
     ) -> Result<(), CompileError<'src>>
         requires construct { IsConstruct item_kind }
-        ensures valid { OnOk result (first_invalid sees_leaves item_kind (leaf_entries_of self.now) ≡ None) }
-        ensures invalid { IfErr result (λ e. IsInvalidBy (first_invalid sees_leaves item_kind (leaf_entries_of self.now)) item_kind item_token.entry e) }
+        ensures valid { OnOk result
+            (first_invalid views_leaves item_kind (leaf_entries_of self.now) ≡ None) }
+        ensures invalid { IfErr result
+            (λ e. IsInvalidBy (first_invalid views_leaves item_kind (leaf_entries_of self.now))
+            item_kind item_token.entry e) }
     {
         match self.first_invalid(item_kind) {
             None => Ok(()),
@@ -255,9 +266,10 @@ impl<'src> PairSet<Attribute<'src>, Written<'src>> {
         }
     }
 
-    /// The first pair whose attribute such an item may not have.
+    /// Returns the first pair whose attribute an item of this kind may not have.
     fn first_invalid(&self, item_kind: ItemKind) -> Option<&(Attribute<'src>, Written<'src>)>
-        ensures { option_copied result ≡ find (λ p. not (is_allowed item_kind (wanted.kind_of p.0))) (written_of self.now) }
+        ensures { option_copied result
+            ≡ find (λ p. not (is_allowed item_kind (wanted.kind_of p.0))) (written_of self.now) }
     {
         self.pairs
             .iter()
@@ -265,7 +277,7 @@ impl<'src> PairSet<Attribute<'src>, Written<'src>> {
     }
 }
 
-/// Sets are equal that have equal attributes, whatever their comments.
+/// Two sets are equal if their attributes are, in order. Names and comments are ignored.
 impl PartialEq for PairSet<Attribute<'_>, Written<'_>> {
     ghost use Rattle.justfile_attribute_set.specs.AttributeSet.{attributes_of};
 

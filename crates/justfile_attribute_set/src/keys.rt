@@ -3,11 +3,11 @@ ghost use Rattle.std.specs.Iterator.{YieldsFirst, YieldsFirstRef, item_count};
 ghost use Rattle.std.specs.Slice.Iter.{iter_rest};
 ghost use Rattle.std.specs.Vec.Iter.{into_iter_items};
 
-use justfile_base::Name;
+use justfile_token::Name;
 use justfile_written::Written;
 use std::{slice, vec};
 
-/// The first of each pair.
+/// An iterator over the first components of pairs.
 #[derive(Drop)]
 pub struct Keys<'set, K, V> {
     pairs: slice::Iter<'set, (K, V)>,
@@ -42,7 +42,7 @@ impl<'set, K, V> Iterator for Keys<'set, K, V> {
     }
 }
 
-/// The first of each pair, by value.
+/// An iterator over the first components of pairs, by value.
 #[derive(Drop)]
 pub struct IntoKeys<K, V> {
     pairs: vec::IntoIter<(K, V)>,
@@ -78,7 +78,7 @@ impl<K: Drop, V: Drop> Iterator for IntoKeys<K, V> {
     }
 }
 
-/// Pairs, by value, of a first and the name that it was written with.
+/// An iterator over the first components of pairs and their names, by value.
 #[derive(Drop)]
 pub struct IntoNamed<'src, K> {
     pairs: vec::IntoIter<(K, Written<'src>)>,

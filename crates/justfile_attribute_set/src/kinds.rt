@@ -1,39 +1,23 @@
-//! Attributes by their kinds.
+//! The kinds of attributes in a list.
 ghost use Rattle.std.specs.Prelude.{◌≡◌, ◌||◌, find, not};
 ghost use Rattle.std.specs.List.{list_any};
 ghost use Rattle.std.specs.Option.{option_copied};
-ghost use Rattle.justfile_word.specs.AttributeKind.{is_enabler_kind};
+ghost use Rattle.justfile_vocabulary.specs.AttributeKind.{is_enabler_kind};
 ghost use Rattle.justfile_model.specs.AttributeKinds.{is_allowed};
 ghost use Rattle.justfile_attribute_set.specs.Attributes as wanted;
 
 use justfile_attribute::Attribute;
-use justfile_base::{AttributeKind, ItemKind};
+use justfile_vocabulary::{AttributeKind, ItemKind};
 use justfile_written::Written;
 
-/// What the attribute is.
-#[tactic(auto, unfolding(crate::specs::Attributes::kind_of))]
-pub(crate) fn kind_of(attribute: &Attribute<'_>) -> AttributeKind
-    ensures { result ≡ wanted.kind_of attribute.now }
-{
-    attribute.kind()
-}
-
-/// Whether it is of this kind.
-#[tactic(auto, unfolding(justfile_model::specs::AttributeKinds::same_attribute))]
-fn is_of_kind(attribute: &Attribute<'_>, kind: AttributeKind) -> bool
-    ensures { result ≡ wanted.is_of_kind kind attribute.now }
-{
-    kind_of(attribute) == kind
-}
-
-/// Whether one of the attributes is of this kind.
+/// Whether any of the attributes is of this kind.
 pub(crate) fn has_kind(pairs: &[(Attribute<'_>, Written<'_>)], kind: AttributeKind) -> bool
     ensures { result ≡ list_any (λ p. wanted.is_of_kind kind p.0) pairs.now }
 {
     pairs.iter().any(|pair| is_of_kind(&pair.0, kind))
 }
 
-/// The first pair whose attribute is of this kind.
+/// Returns the first pair whose attribute is of this kind.
 pub(crate) fn first_of_kind<'pairs, 'src>(
     pairs: &'pairs [(Attribute<'src>, Written<'src>)],
     kind: AttributeKind,
@@ -43,22 +27,38 @@ pub(crate) fn first_of_kind<'pairs, 'src>(
     pairs.iter().find(|pair| is_of_kind(&pair.0, kind))
 }
 
-/// Whether one of the attributes says on which systems the item is there.
+/// Whether an attribute is of this kind.
+#[tactic(auto, unfolding(justfile_model::specs::AttributeKinds::same_attribute))]
+fn is_of_kind(attribute: &Attribute<'_>, kind: AttributeKind) -> bool
+    ensures { result ≡ wanted.is_of_kind kind attribute.now }
+{
+    kind_of(attribute) == kind
+}
+
+/// Whether any of the attributes restricts the item to some systems.
 pub(crate) fn has_enabler(pairs: &[(Attribute<'_>, Written<'_>)]) -> bool
     ensures { result ≡ list_any (λ p. is_enabler_kind (wanted.kind_of p.0)) pairs.now }
 {
     pairs.iter().any(|pair| kind_of(&pair.0).is_enabler())
 }
 
-/// Whether an item is there on this system, which is Linux, by whether its attributes name any
-/// system, this one, and its family.
+/// Returns the kind of an attribute.
+#[tactic(auto, unfolding(crate::specs::Attributes::kind_of))]
+pub(crate) fn kind_of(attribute: &Attribute<'_>) -> AttributeKind
+    ensures { result ≡ wanted.kind_of attribute.now }
+{
+    attribute.kind()
+}
+
+/// Whether an item is enabled on this system, which is Linux: its attributes name no system, or
+/// Linux, or Unix.
 pub(crate) fn is_here(names_any: bool, names_linux: bool, names_unix: bool) -> bool
     ensures { result ≡ (not names_any || names_linux || names_unix) }
 {
     !names_any || names_linux || names_unix
 }
 
-/// Whether an item of this kind may have attributes of that one.
+/// Whether an item of one kind may have attributes of another kind.
 pub(crate) fn may_have(item_kind: ItemKind, kind: AttributeKind) -> bool
     ensures { result ≡ is_allowed item_kind kind }
 {

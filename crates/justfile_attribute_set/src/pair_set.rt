@@ -8,17 +8,17 @@ ghost use Rattle.justfile_attribute_set.specs.Keys.{keys_left};
 use crate::keys::{IntoKeys, Keys};
 use justfile_attribute::Attribute;
 
-/// What is put in the order of its content.
+/// Values that have an order by content.
 pub trait ContentOrder {
     ghost content_cmp: { Self → Self → Ordering };
 }
 
-/// Attributes compare by their kinds, and within a kind by what they hold.
+/// Attributes compare by their kinds, and within a kind by the content of their fields.
 impl ContentOrder for Attribute<'_> {
     ghost content_cmp = { attribute_content_cmp };
 }
 
-/// Pairs in the order of the content of their firsts.
+/// Pairs in the order of the content of their first components.
 #[derive(Debug, Drop)]
 pub struct PairSet<K: ContentOrder, V> {
     pub(crate) pairs: Vec<(K, V)>,

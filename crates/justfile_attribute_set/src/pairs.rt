@@ -1,4 +1,4 @@
-//! Pairs of an attribute and where it was written: which are kept, and their order.
+//! Attributes with their names and comments: removal of equal ones, search, and order.
 ghost use Rattle.std.specs.Prelude.{◌≡◌, find, IfOk, OnOk};
 ghost use Rattle.std.specs.Cmp.Lexicographic.{pointwise};
 ghost use Rattle.std.specs.List.{list_any};
@@ -13,7 +13,8 @@ use justfile_attribute::{Attribute, attribute_content_cmp};
 use justfile_written::Written;
 use std::alloc::{AllocError, Global};
 
-/// Of pairs whose firsts are equal the last one, where it stands.
+/// Returns the pairs without those that have an equal first component after them. The order of the
+/// others stays.
 pub(crate) fn last_of_each<K: PartialEq + Drop, V: Drop>(
     alloc: Global,
     pairs: Vec<(K, V)>,
@@ -31,14 +32,14 @@ pub(crate) fn last_of_each<K: PartialEq + Drop, V: Drop>(
     Ok(kept)
 }
 
-/// Whether a pair has this first.
+/// Whether a pair has this first component.
 fn has_key<K: PartialEq, V>(pairs: &[(K, V)], key: &K) -> bool
     ensures { result ≡ list_any (λ p. K.eq key.now p.0) pairs.now }
 {
     pairs.iter().any(|pair| *key == pair.0)
 }
 
-/// The first pair with this first.
+/// Returns the first pair with this first component.
 pub(crate) fn find_key<'pairs, K: PartialEq, V>(
     pairs: &'pairs [(K, V)],
     key: &K,
@@ -48,7 +49,7 @@ pub(crate) fn find_key<'pairs, K: PartialEq, V>(
     pairs.iter().find(|pair| *key == pair.0)
 }
 
-/// Puts pairs in the order of their content. Those that tie stay as they stood.
+/// Sorts pairs by the content of their attributes. The sort is stable.
 pub(crate) fn sort_pairs<'src>(
     pairs: &mut Vec<(Attribute<'src>, Written<'src>)>,
 ) -> Result<(), AllocError>
@@ -58,7 +59,7 @@ pub(crate) fn sort_pairs<'src>(
     pairs.sort_by(|pair, other| attribute_content_cmp(&pair.0, &other.0))
 }
 
-/// Whether the firsts of these pairs are equal, one by one.
+/// Whether the first components of these pairs are equal, one by one.
 pub(crate) fn have_same_keys<K: PartialEq, V>(pairs: &[(K, V)], others: &[(K, V)]) -> bool
     ensures { result ≡ pointwise (λ p q. K.eq p.0 q.0) pairs.now others.now }
 {

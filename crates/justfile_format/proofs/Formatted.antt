@@ -1,10 +1,10 @@
--- What a text is formatted to: it is formatted to itself, and texts that are formatted alike have equal normal shapes and one indentation.
+-- The canonical text of a text: it is its own canonical text, and texts that share it have equal normal shapes and equal indentations.
 use Rattle.std.proofs.Common.{◌≡◌, ◌∙◌, ℕ, true, false, List, Option, Some, None, Result, Ok, codes, refl, sym, subst, ap, true≢false}
 use Rattle.std.specs.Prelude.{IfSome}
 use Rattle.std.specs.Option.{option_map}
 use Rattle.std.proofs.lemmas.Option.{none-some, same_Some}
-use Rattle.justfile_word.proofs.IndentationLemmas.{indentation_read}
-use Rattle.justfile_word.specs.Indentation.{IsIndentation}
+use Rattle.justfile_vocabulary.proofs.IndentationLemmas.{indentation_read}
+use Rattle.justfile_vocabulary.specs.Indentation.{IsIndentation}
 use Rattle.justfile_model.specs.Enabled.{indentation_of}
 use Rattle.justfile_model.specs.Features.{Noted}
 use Rattle.justfile_model.specs.Literals.{LiteralFault, string_text}
@@ -19,10 +19,6 @@ use Rattle.justfile_round_trip.proofs.RoundTrip.{back, one_text, shape_derives}
 use Rattle.justfile_format.specs.Formatting.{HasNone, IsFormatted, IsIndentedBy, conditions, refused, unprintable}
 
 -- ---- indentations
-
--- the literal that says the indentation, by its lexeme
-abbrev said_by : Tree → Option (List ℕ)
-said_by tree = indentation_of (shape_of tree)
 
 same_text : (r : Result (List ℕ) LiteralFault) (t u : List ℕ) → r ≡ Ok t → r ≡ Ok u → t ≡ u
 same_text r t u e f = ap within (sym e ∙ f)

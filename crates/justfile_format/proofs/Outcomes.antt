@@ -1,22 +1,18 @@
--- What a failure leaves, and why it came.
-use Rattle.std.proofs.Common.{◌≡◌, ◌≢◌, ℕ, List, [], ◌∷◌, append-nil, Option, Result, Ok, Err, codes, refl, sym, subst}
-use Rattle.std.specs.Prelude.{IfSome, OnErr, OnOk, String}
+-- What a failure leaves, and its reason.
+use Rattle.std.proofs.Common.{◌≡◌, ◌≢◌, ℕ, List, [], ◌∷◌, append-nil, Option, Result, Ok, Err, codes, sym, subst}
+use Rattle.std.specs.Prelude.{OnErr, OnOk}
 use Rattle.std.specs.Io.KnownBytes.{Appends, Keeps}
-use Rattle.std.specs.Str.{IsUtf8}
 use Rattle.std.proofs.KnownBytes.{Appends-kept}
-use Rattle.justfile_word.specs.Numerator.{bindings_of, recipes_of}
-use Rattle.justfile_word.specs.declared.numerator.Numerator.{Numerator}
-use Rattle.justfile_base.specs.declared.fault.Fault.{Fault}
-use Rattle.justfile_base.specs.declared.fault.Fault.TheVariants.{Numbers}
+use Rattle.justfile_vocabulary.specs.Numerator.{bindings_of, recipes_of}
+use Rattle.justfile_vocabulary.specs.declared.numerator.Numerator.{Numerator}
+use Rattle.justfile_token.specs.declared.fault.Fault.{Fault}
+use Rattle.justfile_token.specs.declared.fault.Fault.TheVariants.{Numbers}
 use Rattle.justfile_model.specs.Files.{NumbersSuffice}
-use Rattle.justfile_file.specs.Written.{AppendsPart}
-use Rattle.justfile_file.specs.declared.write_fault.WriteFault.{WriteFault}
+use Rattle.justfile_ast.specs.Written.{AppendsPart}
+use Rattle.justfile_ast.specs.declared.write_fault.WriteFault.{WriteFault}
 use Rattle.justfile_parse.specs.Parsing.{HasNoTree}
-use Rattle.justfile_format.specs.Arguments.{AsksFormat}
-use Rattle.justfile_format.specs.Failure.{IfRefused}
-use Rattle.justfile_format.specs.Formatting.{Formats, IsFormatted, IsRefusal, IsUnprintable, conditions}
-use Rattle.justfile_format.specs.Outcome.{AppendsBeginning, FormatsBeginning, IsWhy, LacksNumbers}
-use Rattle.justfile_format.specs.declared.failure.Failure.{Failure}
+use Rattle.justfile_format.specs.Formatting.{Formats, IsFormatted, conditions}
+use Rattle.justfile_format.specs.Outcome.{AppendsBeginning, FormatsBeginning, LacksNumbers}
 use Rattle.justfile_format.specs.declared.failure.Failure.TheVariants as failures
 
 whole : (old new : Option (List ℕ)) (text : List ℕ) → Appends old new text → AppendsBeginning old new text
@@ -57,20 +53,3 @@ lacking source old new fault none is no_binding no_recipe =
       never_enough = λ limit tree features derives enough.
           h.1 limit tree features derives (subst (λ n. NumbersSuffice n (recipes_of old) tree) (sym no_binding) (subst (λ n. NumbersSuffice 0 n tree) (sym no_recipe) enough));
     }
-
--- why a failure came that says nothing of the arguments
-pub why : {A : Type 0} (arguments : List (String A)) (source old new : Option (List ℕ)) (f : Failure)
-    → IfRefused (λ lines. IfSome source (λ text. IsRefusal text lines)) f
-    → (f ≡ failures.NotPrintable → IfSome source IsUnprintable)
-    → (f ≡ failures.NotUtf8 → IfSome source (λ text. ¬ IsUtf8 text))
-    → (f ≡ failures.Numbers → IfSome source LacksNumbers)
-    → (f ≡ failures.Writing → AsksFormat arguments × IfSome source (λ text. FormatsBeginning text old new))
-    → f ≢ failures.Usage → IsWhy arguments source old new f
-why arguments source old new failures.Usage refused unprintable not_utf8 numbers writing no_usage = absurd (no_usage refl)
-why arguments source old new failures.Reading refused unprintable not_utf8 numbers writing no_usage = tt
-why arguments source old new failures.NotUtf8 refused unprintable not_utf8 numbers writing no_usage = not_utf8 refl
-why arguments source old new (failures.Refused lines) refused unprintable not_utf8 numbers writing no_usage = refused
-why arguments source old new failures.NotPrintable refused unprintable not_utf8 numbers writing no_usage = unprintable refl
-why arguments source old new failures.Writing refused unprintable not_utf8 numbers writing no_usage = writing refl
-why arguments source old new failures.Memory refused unprintable not_utf8 numbers writing no_usage = tt
-why arguments source old new failures.Numbers refused unprintable not_utf8 numbers writing no_usage = numbers refl

@@ -1,4 +1,4 @@
--- What one more read does to what was read.
+-- What one more read adds to what was read.
 use Rattle.std.proofs.Common.{◌≡◌, ℕ, List, [], ◌++◌, Option, IfSome, take, sym, append-nil}
 use Rattle.std.specs.Io.KnownBytes.{Consumes, IsAtEnd, Keeps}
 use Rattle.std.proofs.KnownBytes.{Consumes-all, Consumes-kept, Consumes-trans}

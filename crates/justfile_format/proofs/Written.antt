@@ -1,4 +1,4 @@
--- What was written stays as it is.
+-- What was written remains when the writer is flushed.
 use Rattle.std.proofs.Common.{ℕ, List, Option}
 use Rattle.std.specs.Io.KnownBytes.{Keeps}
 use Rattle.std.proofs.KnownBytes.{Appends-kept}

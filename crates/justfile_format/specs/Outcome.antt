@@ -2,8 +2,8 @@
 use Rattle.std.specs.Prelude.{◌≡◌, ◌≢◌, ℕ, List, ◌++◌, Option, IfSome, String, string_bytes}
 use Rattle.std.specs.Io.KnownBytes.{Appends}
 use Rattle.std.specs.Str.{IsUtf8}
-use Rattle.justfile_word.specs.Numerator.{bindings_of, recipes_of}
-use Rattle.justfile_word.specs.declared.numerator.Numerator.{Numerator}
+use Rattle.justfile_vocabulary.specs.Numerator.{bindings_of, recipes_of}
+use Rattle.justfile_vocabulary.specs.declared.numerator.Numerator.{Numerator}
 use Rattle.justfile_model.specs.Conditions.{with_limit}
 use Rattle.justfile_model.specs.Features.{Noted}
 use Rattle.justfile_model.specs.Files.{NumbersSuffice}
@@ -17,20 +17,21 @@ use Rattle.justfile_format.specs.Formatting.{IsFormatted, IsRefusal, IsUnprintab
 use Rattle.justfile_format.specs.declared.failure.Failure.{Failure}
 use Rattle.justfile_format.specs.declared.failure.Failure.TheVariants.{Usage, Reading, NotUtf8, Refused, NotPrintable, Writing, Memory, Numbers}
 
--- known bytes grow by a beginning of the text, or by the whole of it
+-- If the bytes are known, the beginning of the text or all of it was appended to them.
 pub record AppendsBeginning (old new : Option (List ℕ)) (text : List ℕ) : Type 0 where
   pub written : List ℕ
   pub rest : List ℕ
   pub is : text ≡ written ++ rest
   pub appended : Appends old new written
 
--- the text has a canonical text, and a beginning of it was written after what was written before
+-- The text has a canonical text, and the beginning of it or all of it was written after what had been written before.
 pub record FormatsBeginning (source : List ℕ) (old new : Option (List ℕ)) : Type 0 where
   pub canonical : List ℕ
   pub formatted : IsFormatted source canonical
   pub written : AppendsBeginning old new canonical
 
--- counted up from 0, a number is wanted in the text where there is none, and no tree of it, under whatever limit of depth, has numbers enough
+-- Counting from 0, a number is needed in the text and there is none, and the numbers suffice for no tree that derives under any limit of
+-- depth.
 pub record LacksNumbers (source : List ℕ) : Type 0 where
   pub old : Numerator
   pub new : Numerator
@@ -40,8 +41,8 @@ pub record LacksNumbers (source : List ℕ) : Type 0 where
   pub never_enough : (limit : ℕ) (tree : Tree) (features : List (Noted Tok)) → TextDerives (with_limit limit conditions) source tree features
       → NumbersSuffice 0 0 tree → ⊥
 
--- What a failure says of the arguments, of what the reader gave, and of what the output held before and holds after. That reading failed, or that
--- memory ran out, says nothing.
+-- What a failure implies about the arguments, the input, and the output before and after. That reading failed or memory ran out implies
+-- nothing.
 abbrev pub IsWhy : {A : Type 0} → List (String A) → (source old new : Option (List ℕ)) → Failure → Type 0
 IsWhy arguments source old new Usage = ¬ AsksFormat arguments × ¬ AsksCheck arguments
 IsWhy arguments source old new Reading = Unit {0}
@@ -52,8 +53,8 @@ IsWhy arguments source old new Writing = AsksFormat arguments × IfSome source (
 IsWhy arguments source old new Memory = Unit {0}
 IsWhy arguments source old new Numbers = IfSome source LacksNumbers
 
--- a failure with this status, what it says, that nothing is written to the output where no write failed, and that a beginning of its lines goes to
--- standard error
+-- The run fails with this status and with a failure for a true reason. Nothing is written to the output unless a write failed. The
+-- beginning of the failure's lines, or all of them, is written to standard error.
 pub record Fails {A W : Type 0} (arguments : List (String A)) (source : Option (List ℕ)) (contents : W → Option (List ℕ)) (old new : W)
     (errors_old errors_new : Option (List ℕ)) (status : ℕ) : Type 0 where
   pub failure : Failure

@@ -9,17 +9,17 @@ use std::io::Write;
 /// Why nothing was formatted.
 #[derive(Debug, Drop)]
 pub enum Failure {
-    /// The arguments are not those that the program takes.
+    /// The program doesn't take these arguments.
     Usage,
-    /// Standard input could not be read.
+    /// Standard input couldn't be read.
     Reading,
-    /// What was read is not UTF-8.
+    /// The input isn't UTF-8.
     NotUtf8,
-    /// The text is no justfile, as these lines tell.
+    /// The text isn't a justfile. The lines tell why.
     Refused(String),
-    /// The printed text would not parse back.
+    /// The printed text wouldn't parse back to the same file.
     NotPrintable,
-    /// Standard output could not be written.
+    /// Standard output couldn't be written.
     Writing,
     /// Memory ran out.
     Memory,
@@ -58,7 +58,7 @@ impl From<WriteFault> for Failure {
 }
 
 impl Failure {
-    /// The exit status: 2 for a text that can't be formatted, else 3.
+    /// Returns the exit status: 2 for a text that can't be formatted, 3 for any other failure.
     pub fn status(&self) -> u8
         ensures { result ≡ status_of self.now }
     {
@@ -68,7 +68,7 @@ impl Failure {
         }
     }
 
-    /// The lines for standard error.
+    /// Returns the lines for standard error.
     fn message(&self) -> &str
         ensures { result.now ≡ failure_text self.now }
     {
@@ -85,7 +85,7 @@ impl Failure {
     }
 }
 
-/// Writes the failure's lines up to the first write that fails, and answers its status.
+/// Writes the failure's lines up to the first write that fails, and returns the exit status.
 #[tactic(auto, using(crate::proofs::Outcomes::told))]
 pub fn report<E: Write>(failure: &Failure, errors: &mut E) -> u8
     ensures status { result ≡ status_of failure.now }

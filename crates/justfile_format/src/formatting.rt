@@ -3,8 +3,8 @@ ghost use Rattle.justfile_format.specs.declared.failure.Failure.TheVariants as f
 ghost use Rattle.justfile_format.specs.Failure.{IfRefused, IsOfPrinting, IsOfText, IsOfTextOrWriting, IsRefusalFor};
 ghost use Rattle.justfile_format.specs.Outcome.{FormatsBeginning, LacksNumbers};
 ghost use Rattle.justfile_format.specs.Formatting.{Formats, IsFileOf, IsFormatted, IsIndented, IsIndentedBy, IsPrinted, IsRefusal, IsUnprintable};
-ghost use Rattle.justfile_word.specs.Indentation.{indentation_text};
-ghost use Rattle.justfile_file.specs.Ast.{ast_shape, tree_of};
+ghost use Rattle.justfile_vocabulary.specs.Indentation.{indentation_text};
+ghost use Rattle.justfile_ast.specs.Ast.{ast_shape, tree_of};
 ghost use Rattle.justfile_model.specs.Enabled.{indentation_of};
 ghost use Rattle.justfile_model.specs.Printing.{printable};
 
@@ -30,14 +30,45 @@ const CURRENT: Version = Version {
     patch: 0,
 };
 
-/// The failure that tells of an error: what it says, and the line on which it stands.
-fn refusal(alloc: Global, error: &CompileError<'_>) -> Failure
-    ensures { IsRefusalFor error.now result }
+/// Writes the canonical text of a justfile, without flushing it. Prints the text to memory first,
+/// because it consists of many small pieces, and writing a piece takes longer than copying it.
+///
+/// # Errors
+///
+/// As for `format_text`, or a write fails. Unless a write fails, nothing is written.
+#[tactic(auto, using(crate::proofs::Outcomes::formatted_part))]
+pub fn format_to<W: Write>(alloc: Global, source: &str, writer: &mut W) -> Result<(), Failure>
+    ensures ok { OnOk result (Formats source.now (W.contents writer.old) (W.contents writer.new)) }
+    ensures refused { IfErr result (IfRefused (IsRefusal source.now)) }
+    ensures unprintable { result ≡ Err failures.NotPrintable → IsUnprintable source.now }
+    ensures part { result ≡ Err failures.Writing
+        → FormatsBeginning source.now (W.contents writer.old) (W.contents writer.new) }
+    ensures numbers { result ≡ Err failures.Numbers → LacksNumbers source.now }
+    ensures unwritten { IfErr result (λ e. e ≢ failures.Writing → writer.new ≡ writer.old) }
+    ensures err { IfErr result IsOfTextOrWriting }
 {
-    match format!(in alloc; "error: {error}\n{}\n", error.token) {
-        Ok(lines) => Failure::Refused(lines),
-        Err(_) => Failure::Memory,
-    }
+    let text = format_text(alloc, source)?;
+    write_whole(text.as_bytes(), writer)?;
+    Ok(())
+}
+
+/// Returns the canonical text of a justfile. Doesn't free the tree, because the program ends soon:
+/// freeing it node by node takes an eighth of the time, while the system frees all memory at once.
+///
+/// # Errors
+///
+/// The text isn't a justfile or can't be printed, or memory or numbers run out.
+pub fn format_text(alloc: Global, source: &str) -> Result<String, Failure>
+    ensures ok { IfOk result (λ text. IsFormatted source.now (string_bytes text)) }
+    ensures refused { IfErr result (IfRefused (IsRefusal source.now)) }
+    ensures unprintable { result ≡ Err failures.NotPrintable → IsUnprintable source.now }
+    ensures numbers { result ≡ Err failures.Numbers → LacksNumbers source.now }
+    ensures err { IfErr result IsOfText }
+{
+    let mut ast = parse(alloc, source)?;
+    let text = print(alloc, &mut ast)?;
+    mem::forget(ast);
+    Ok(text)
 }
 
 /// Parses a text as the root file `justfile`.
@@ -73,7 +104,45 @@ fn parse(alloc: Global, source: &str) -> Result<Ast<'_>, Failure>
     }
 }
 
-/// The indentation of the lines of bodies: that which the file says, or four spaces.
+/// Makes the failure for an error: its message, and the excerpt of the line that it is on.
+fn refusal(alloc: Global, error: &CompileError<'_>) -> Failure
+    ensures { IsRefusalFor error.now result }
+{
+    match format!(in alloc; "error: {error}\n{}\n", error.token) {
+        Ok(lines) => Failure::Refused(lines),
+        Err(_) => Failure::Memory,
+    }
+}
+
+/// Returns the canonical text of a file, which is unchanged.
+fn print(alloc: Global, ast: &mut Ast<'_>) -> Result<String, Failure>
+    requires { IsIndented ast.old }
+    ensures ok { IfOk result (λ text. IsPrinted ast.old (string_bytes text)) }
+    ensures refused { IfErr result (IfRefused (λ _. ⊥)) }
+    ensures unprintable { result ≡ Err failures.NotPrintable
+        → printable (ast_shape ast.old) ≡ false }
+    ensures err { IfErr result IsOfPrinting }
+{
+    let indentation = printing_indentation(ast)?;
+    Ok(ast.print(alloc, indentation)?)
+}
+
+/// Returns the indentation of body lines, or `NotPrintable` if the file can't be printed.
+fn printing_indentation(ast: &Ast<'_>) -> Result<Indentation, Failure>
+    requires { IsIndented ast.now }
+    ensures printable { OnOk result (printable (ast_shape ast.now) ≡ true) }
+    ensures indented { IfOk result (λ indentation. IsIndentedBy (indentation_of (tree_of ast.now))
+        (indentation_text indentation)) }
+    ensures unprintable { IfErr result (λ e. (e ≡ failures.NotPrintable)
+        × (printable (ast_shape ast.now) ≡ false)) }
+{
+    if !ast.printable() {
+        return Err(Failure::NotPrintable);
+    }
+    Ok(indentation_for(ast))
+}
+
+/// Returns the indentation of body lines: that of the setting `indentation`, or four spaces.
 #[tactic(auto, using(crate::proofs::Indented::said, crate::proofs::Indented::unsaid))]
 fn indentation_for(ast: &Ast<'_>) -> Indentation
     requires { IsIndented ast.now }
@@ -83,63 +152,4 @@ fn indentation_for(ast: &Ast<'_>) -> Indentation
         Some(indentation) => indentation,
         None => Indentation::default(),
     }
-}
-
-/// The indentation of the lines of bodies, if the file can be printed.
-fn printing_indentation(ast: &Ast<'_>) -> Result<Indentation, Failure>
-    requires { IsIndented ast.now }
-    ensures printable { OnOk result (printable (ast_shape ast.now) ≡ true) }
-    ensures indented { IfOk result (λ indentation. IsIndentedBy (indentation_of (tree_of ast.now)) (indentation_text indentation)) }
-    ensures unprintable { IfErr result (λ e. (e ≡ failures.NotPrintable) × (printable (ast_shape ast.now) ≡ false)) }
-{
-    if !ast.printable() {
-        return Err(Failure::NotPrintable);
-    }
-    Ok(indentation_for(ast))
-}
-
-/// The canonical text of a file, which stays as it is.
-fn print(alloc: Global, ast: &mut Ast<'_>) -> Result<String, Failure>
-    requires { IsIndented ast.old }
-    ensures ok { IfOk result (λ text. IsPrinted ast.old (string_bytes text)) }
-    ensures refused { IfErr result (IfRefused (λ _. ⊥)) }
-    ensures unprintable { result ≡ Err failures.NotPrintable → printable (ast_shape ast.old) ≡ false }
-    ensures err { IfErr result IsOfPrinting }
-{
-    let indentation = printing_indentation(ast)?;
-    Ok(ast.print(alloc, indentation)?)
-}
-
-/// Formats a justfile, and answers its canonical text. The tree is left as it is, since the program
-/// ends soon: the system takes its memory back as a whole, and node by node that takes an eighth of
-/// the time.
-pub fn format_text(alloc: Global, source: &str) -> Result<String, Failure>
-    ensures ok { IfOk result (λ text. IsFormatted source.now (string_bytes text)) }
-    ensures refused { IfErr result (IfRefused (IsRefusal source.now)) }
-    ensures unprintable { result ≡ Err failures.NotPrintable → IsUnprintable source.now }
-    ensures numbers { result ≡ Err failures.Numbers → LacksNumbers source.now }
-    ensures err { IfErr result IsOfText }
-{
-    let mut ast = parse(alloc, source)?;
-    let text = print(alloc, &mut ast)?;
-    mem::forget(ast);
-    Ok(text)
-}
-
-/// Formats a justfile, and writes its canonical text, without flushing it. The text is printed to
-/// memory first, since it is many small pieces, and each write of one takes longer than a copy.
-#[tactic(auto, using(crate::proofs::Outcomes::formatted_part))]
-pub fn format_to<W: Write>(alloc: Global, source: &str, writer: &mut W) -> Result<(), Failure>
-    ensures ok { OnOk result (Formats source.now (W.contents writer.old) (W.contents writer.new)) }
-    ensures refused { IfErr result (IfRefused (IsRefusal source.now)) }
-    ensures unprintable { result ≡ Err failures.NotPrintable → IsUnprintable source.now }
-    ensures part { result ≡ Err failures.Writing
-        → FormatsBeginning source.now (W.contents writer.old) (W.contents writer.new) }
-    ensures numbers { result ≡ Err failures.Numbers → LacksNumbers source.now }
-    ensures unwritten { IfErr result (λ e. e ≢ failures.Writing → writer.new ≡ writer.old) }
-    ensures err { IfErr result IsOfTextOrWriting }
-{
-    let text = format_text(alloc, source)?;
-    write_whole(text.as_bytes(), writer)?;
-    Ok(())
 }

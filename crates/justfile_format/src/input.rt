@@ -1,4 +1,4 @@
-//! How the input is read, and decoded.
+//! Reading and decoding the input.
 ghost use Rattle.std.specs.Prelude.{◌≡◌, IfErr, IfOk, IfSome, OnOk};
 ghost use Rattle.std.specs.Io.KnownBytes.{IsAtEnd};
 ghost use Rattle.std.specs.Str.{IsUtf8};
@@ -13,12 +13,12 @@ use std::str;
 /// How many bytes are read at once.
 const CHUNK: usize = 8 * 1024;
 
-/// Reads all that the reader gives, by way of a chunk: `read_to_end` fills the room that it makes
-/// with zeros, byte by byte. A reader that never comes to its end is given up after as many reads as a
-/// number can count.
+/// Reads all bytes of the reader, through a buffer, because `read_to_end` fills its spare room with
+/// zeros, byte by byte. Fails if the reader doesn't end within `usize::MAX` reads.
 #[tactic(auto, using(crate::proofs::WholeInput::all_read, crate::proofs::WholeInput::read_more, crate::proofs::WholeInput::read_none))]
 pub(crate) fn read_all<R: Read>(alloc: Global, reader: &mut R) -> Result<Vec<u8>, Failure>
-    ensures ok { IfOk result (λ bytes. IfSome (R.remaining reader.old) (λ source. bytes.items ≡ source)) }
+    ensures ok { IfOk result
+        (λ bytes. IfSome (R.remaining reader.old) (λ source. bytes.items ≡ source)) }
     ensures end { OnOk result (IsAtEnd (R.remaining reader.new)) }
     ensures err { IfErr result IsOfReading }
 {
@@ -34,7 +34,7 @@ pub(crate) fn read_all<R: Read>(alloc: Global, reader: &mut R) -> Result<Vec<u8>
     Err(Failure::Reading)
 }
 
-/// Refuses the error of a read, unless a signal interrupted it.
+/// Returns the failure for the error of a read, unless a signal interrupted the read.
 fn check_interrupted(error: &io::Error) -> Result<(), Failure>
     ensures { IfErr result IsOfReading }
 {

@@ -1,4 +1,4 @@
-//! Laws of formatted texts, each the contract of a function that does nothing.
+//! Laws of formatted texts. Each is the contract of a function that does nothing.
 ghost use Rattle.std.specs.Prelude.{◌≡◌, ℕ, true, List};
 ghost use Rattle.justfile_model.specs.Features.{Noted};
 ghost use Rattle.justfile_model.specs.NormalShape.{normal};
@@ -8,10 +8,10 @@ ghost use Rattle.justfile_model.specs.Tree.{Tree, shape_of};
 ghost use Rattle.justfile_round_trip.specs.RoundTrip.{TextDerives};
 ghost use Rattle.justfile_format.specs.Formatting.{HasNone, IsFormatted, conditions};
 
-/// A text that derives a printable tree is formatted to one text, at the indentation that it says, and
-/// is none of those that have no canonical text. What it is formatted to is formatted to itself. Texts
-/// that are formatted alike have equal normal shapes and one indentation; and texts with equal normal
-/// shapes are formatted alike.
+/// A text that derives a printable tree has exactly one canonical text, at its own indentation, and
+/// isn't one of those without a canonical text. Formatting the canonical text returns it unchanged.
+/// Texts with the same canonical text have equal normal shapes and equal indentations; and texts
+/// with equal normal shapes have the same canonical text.
 pub fn formatted_texts()
     ensures formatted { (source : List ℕ) (tree : Tree) (features : List (Noted Tok))
         → TextDerives conditions source tree features → printable (shape_of tree) ≡ true

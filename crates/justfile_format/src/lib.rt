@@ -1,4 +1,4 @@
-//! Formats a justfile: what the program `justfmt` does with its arguments and its bytes.
+//! Formats a justfile: what the program `justfmt` does with its arguments and its input.
 #![tactic(auto)]
 
 pub mod failure;

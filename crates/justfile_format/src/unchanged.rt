@@ -1,7 +1,7 @@
 use justfile_syntax::expander::{ExpandFault, Expander};
 use std::alloc::Global;
 
-/// An expander that leaves texts as they are.
+/// An expander that leaves texts unchanged.
 #[derive(Clone, Copy, Debug)]
 pub struct Unchanged;
 

@@ -1,4 +1,4 @@
-//! What the calls answer where memory is scarce.
+//! What the calls return if memory is scarce.
 
 use crate::counts::Outcome;
 use crate::scarcity::{AMPLE, Scarcity};
@@ -15,7 +15,7 @@ use justfile_syntax::token::Token;
 use justfile_syntax::version::Version;
 use std::alloc::Global;
 
-/// Leaves the text of each `x'..'` as it is.
+/// An expander that leaves each text unchanged.
 struct Unchanged;
 
 impl Expander for Unchanged {
@@ -59,14 +59,14 @@ pub(crate) fn parse<'src>(
     )
 }
 
-/// How many numbers bindings and recipes were given.
+/// Returns how many numbers bindings and recipes were given.
 fn numbers(numerator: &mut Numerator) -> Option<(u32, u32)> {
     let Number(bindings) = numerator.next_binding()?;
     let Number(recipes) = numerator.next_recipe()?;
     Some((bindings, recipes))
 }
 
-/// What lexing answers with so much memory, where these are the tokens.
+/// Lexes the text with `size` bytes of memory, and compares the result with these tokens.
 pub(crate) fn lex_with<'src>(
     alloc: Global,
     scarcity: &mut Scarcity,
@@ -90,8 +90,8 @@ pub(crate) fn lex_with<'src>(
     }
 }
 
-/// What parsing answers with so much memory. Where it runs out, the numerator has given no more numbers
-/// than the justfile has.
+/// Parses the text with `size` bytes of memory, and checks the result. If memory runs out, the
+/// numerator may not have given more numbers than the justfile has.
 pub(crate) fn parse_with(
     alloc: Global,
     scarcity: &mut Scarcity,
@@ -112,7 +112,7 @@ pub(crate) fn parse_with(
     }
 }
 
-/// What printing answers with so much memory.
+/// Prints the file with `size` bytes of memory, and checks the result.
 pub(crate) fn print_with(
     ast: &Ast<'_>,
     alloc: Global,

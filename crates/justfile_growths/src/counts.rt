@@ -1,17 +1,17 @@
-//! What became of the calls of one kind.
+//! The outcomes of the calls of one kind.
 
-/// What a call answered.
+/// The outcome of a call.
 #[derive(Clone, Copy, PartialEq, Eq)]
 pub(crate) enum Outcome {
-    /// What it answers where there is memory.
+    /// It returned the right value.
     Plain,
-    /// That memory ran out.
+    /// It returned that memory ran out.
     Refused,
-    /// Something else.
+    /// It returned something else.
     Wrong,
 }
 
-/// How often calls were refused memory, and how often something was wrong.
+/// How many calls ran out of memory, and how many were wrong.
 #[derive(Drop)]
 pub(crate) struct Counts {
     refused: u64,
@@ -20,7 +20,7 @@ pub(crate) struct Counts {
 }
 
 impl Counts {
-    /// Of no calls.
+    /// Returns the counts of no calls.
     pub(crate) fn new() -> Self {
         Counts {
             refused: 0,
@@ -40,7 +40,7 @@ impl Counts {
         self.last = outcome;
     }
 
-    /// What there is to say of the calls, the last of which is to have had enough.
+    /// Returns what to print about the calls. The last of them should have had enough memory.
     pub(crate) fn verdict(&self) -> &'static str {
         if self.wrong > 0 {
             "an answer is wrong"

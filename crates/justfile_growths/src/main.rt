@@ -1,9 +1,10 @@
-//! Sees what lexing, parsing and printing answer where memory runs out.
+//! Checks what lexing, parsing and printing return if memory runs out.
 //!
-//! All memory that the system gives is taken in blocks that nothing is written to, but for one block
-//! of so many bytes, and a call is made with that. Its answer is that memory ran out, or the one that it
-//! has with ample memory, which the same call gives again at once. This is done for each size of that
-//! block, in steps of the least that is taken from the system's heap, until it is more than enough.
+//! The program takes all memory that the system gives, in blocks that it doesn't write to, except
+//! one block. It makes a call with that block. The call has to return that memory ran out, or what
+//! it returns with ample memory; and the same call has to succeed directly afterwards, with ample
+//! memory. This is repeated for each size of the block, in steps of the smallest unit of the
+//! system's heap, until the block is more than large enough.
 #![tactic(auto)]
 
 mod answers;
@@ -23,10 +24,10 @@ use justfile_syntax::token::Token;
 use std::alloc::{AllocError, Global};
 use std::io;
 
-/// By how many bytes the sizes of the block differ.
+/// The step between two sizes of the block, in bytes.
 const STEP: usize = 16;
 
-/// What the three calls answered.
+/// The outcomes of the three calls.
 #[derive(Drop)]
 struct Outcomes {
     lexing: Counts,
@@ -34,7 +35,7 @@ struct Outcomes {
     printing: Counts,
 }
 
-/// Makes each call with each size of a block, and then with an ample one.
+/// Makes each call with each size of the block, and then with an ample one.
 fn sweep<'src>(
     ast: &mut Ast<'src>,
     alloc: Global,
@@ -60,7 +61,7 @@ fn sweep<'src>(
     })
 }
 
-/// What the calls answer for a justfile where memory runs out.
+/// Makes the calls for a justfile with scarce memory, and returns their outcomes.
 fn run(alloc: Global, text: &str) -> Result<Outcomes, Fault<'_>> {
     let tokens = Lexer::lex(alloc, "justfile", text)?;
     match parse(alloc, &mut Numerator::new(0), text) {

@@ -1,29 +1,30 @@
-//! Memory that is scarce.
+//! Scarce memory.
 
 use std::alloc::{AllocError, Global};
 
-/// The size of the largest blocks that are taken, 64 GB.
+/// The size of the largest blocks that are taken, in bytes: 64 GB.
 const LARGEST: usize = 0x10_0000_0000;
 
-/// The size of the smallest.
+/// The size of the smallest blocks that are taken, in bytes.
 const SMALLEST: usize = 16;
 
-/// Below this size the system keeps free blocks for their own size alone, so blocks are taken of each.
+/// Below this size in bytes, the system keeps free blocks only for requests of their own size, so
+/// blocks of each size are taken.
 const FINE: usize = 1040;
 
-/// How many bytes are more than enough for each call.
+/// More bytes than any call needs.
 pub(crate) const AMPLE: usize = 0x1_8000;
 
 /// How many bytes can be given back.
 const RESERVE: usize = 0x200_0000;
 
-/// How many blocks are taken at most for good.
+/// How many blocks are taken for good at most.
 const MOST_FOR_GOOD: usize = 200_000;
 
-/// How many blocks are taken at most of what can be given back.
+/// How many blocks of the reserve are taken at most.
 const MOST_OF_RESERVE: usize = 20_000;
 
-/// Blocks that hold all memory but for what calls are to have.
+/// Blocks that occupy all memory except what the calls get.
 #[derive(Drop)]
 pub(crate) struct Scarcity {
     for_good: Vec<Vec<u8>>,
@@ -31,7 +32,7 @@ pub(crate) struct Scarcity {
 }
 
 impl Scarcity {
-    /// Takes all memory but for the reserve.
+    /// Takes all memory except the reserve.
     pub(crate) fn new(alloc: Global) -> Result<Self, AllocError> {
         let mut for_good = Vec::with_capacity(alloc, MOST_FOR_GOOD)?;
         let of_reserve = Vec::with_capacity(alloc, MOST_OF_RESERVE)?;
@@ -44,9 +45,9 @@ impl Scarcity {
         })
     }
 
-    /// Takes all of the reserve but for a block of about so many bytes, and nothing where more than
-    /// enough is to be left. A longer block is given back and its beginning taken again, since a short
-    /// one would serve for its own size alone.
+    /// Takes all of the reserve except a block of about `size` bytes, or nothing if `size` is
+    /// ample. To free that block, gives back a longer one and takes its beginning again, because a
+    /// short block would only serve requests of its own size.
     pub(crate) fn leave(&mut self, alloc: Global, size: usize) {
         if size >= AMPLE {
             return;
@@ -69,7 +70,7 @@ impl Scarcity {
     }
 }
 
-/// Takes blocks of one size, while there are some and room for them.
+/// Takes blocks of one size as long as there are some, and room for them in `blocks`.
 fn take(alloc: Global, size: usize, blocks: &mut Vec<Vec<u8>>) {
     for _ in blocks.len()..blocks.capacity() {
         match Vec::with_capacity(alloc, size) {
@@ -81,7 +82,7 @@ fn take(alloc: Global, size: usize, blocks: &mut Vec<Vec<u8>>) {
     }
 }
 
-/// Takes what memory there is, in blocks of at most so many bytes.
+/// Takes the memory that is left, in blocks of at most `largest` bytes.
 fn take_all(alloc: Global, largest: usize, blocks: &mut Vec<Vec<u8>>) {
     let mut size = largest;
     for _ in 0u32..200 {

@@ -20,7 +20,7 @@ foo: *(b *x / y)
 x := f'a{{ f\"b{{c}}\" }}d'
 ";
 
-/// What it is printed as.
+/// Its printed text.
 pub(crate) static PRINTED: &str = "\
 # use PowerShell instead of sh:
 set shell := [\"powershell.exe\", \"-c\"]
@@ -40,7 +40,7 @@ foo: *(b *x / y)
 x := f'a{{ f\"b{{ c }}\" }}d'
 ";
 
-/// How many numbers its bindings get: one parameter and one assignment.
+/// How many numbers its bindings get: those of one parameter and one assignment.
 pub(crate) const BINDINGS: u32 = 2;
 
 /// How many numbers its recipes get.

@@ -1,15 +1,15 @@
--- The texts of items, by their parts.
+-- The texts of items, from those of their parts.
 use Rattle.std.proofs.Common.{◌≡◌, Bool, true, false, List, [], ◌∷◌, ◌++◌, map, codes, Option, Some, None, refl, sym, ap, ◌∙◌, append_assoc, append-nil}
 use Rattle.std.specs.Option.{option_map}
-use Rattle.justfile_base.specs.Name.{name_text}
-use Rattle.justfile_base.specs.Namepath.{names_in, namepath_text}
-use Rattle.justfile_base.specs.Path.{path_text}
-use Rattle.justfile_base.specs.StringLiteral.{format_mark}
-use Rattle.justfile_base.specs.Token.{lexeme_of}
-use Rattle.justfile_base.specs.declared.name.Name.{Name}
-use Rattle.justfile_base.specs.declared.namepath.Namepath.{Namepath}
-use Rattle.justfile_word.specs.declared.number.Number.{Number}
-use Rattle.justfile_base.specs.declared.string_literal.StringLiteral.{StringLiteral}
+use Rattle.justfile_token.specs.Name.{name_text}
+use Rattle.justfile_token.specs.Namepath.{names_in, namepath_text}
+use Rattle.justfile_token.specs.Path.{path_text}
+use Rattle.justfile_token.specs.StringLiteral.{format_mark}
+use Rattle.justfile_token.specs.Token.{lexeme_of}
+use Rattle.justfile_token.specs.declared.name.Name.{Name}
+use Rattle.justfile_token.specs.declared.namepath.Namepath.{Namepath}
+use Rattle.justfile_vocabulary.specs.declared.number.Number.{Number}
+use Rattle.justfile_token.specs.declared.string_literal.StringLiteral.{StringLiteral}
 use Rattle.justfile_model.specs.Printing.{fixed_text, if_some, if_true, file_path_text, mark_text, setting_value_text}
 use Rattle.justfile_model.specs.Tok.{Tok}
 use Rattle.justfile_model.specs.Tree as tree
@@ -17,7 +17,7 @@ use Rattle.justfile_model.specs.Tree.{SettingValue, lexeme, nothing, over_quoted
 use Rattle.justfile_setting.specs.Print.{setting_output, value_text}
 use Rattle.justfile_setting.specs.Setting.{is_default, value_of}
 use Rattle.justfile_setting.specs.declared.setting.Setting.{Setting}
-use Rattle.justfile_header.specs.Header.{name_of}
+use Rattle.justfile_recipe_header.specs.Header.{name_of}
 use Rattle.justfile_item.specs.Item.{quoted_of}
 use Rattle.justfile_item.specs.ItemText.{alias_text_of, later_names_text, later_path_text, later_value_text, module_text_of, parameter_names_text, path_text_of}
 use Rattle.justfile_item.specs.declared.alias.Alias.{Alias}
@@ -43,11 +43,11 @@ names_some parameters first rest e = names_from first rest ∙ ap parameter_name
 pub names_none : (parameters : List (Name × Number)) → parameters ≡ [] → [] ≡ parameter_names_text parameters
 names_none parameters e = ap parameter_names_text (sym e)
 
--- the path of a file, by its marks and its token
+-- the path of a file, from its marks and its token
 pub path_parts : (relative : StringLiteral) → mark_text relative.expand ++ format_mark relative ++ lexeme_of relative.token ≡ path_text_of relative
 path_parts relative = append_assoc (mark_text relative.expand) (format_mark relative) (lexeme_of relative.token)
 
--- the path of a module, if it has one
+-- the optional path of a module
 pub later_path : (relative : Option StringLiteral)
     → later_path_text relative ≡ if_some (λ path. fixed_text (codes " ") ++ file_path_text path) (option_map (over_quoted {B = Tok} lexeme nothing) (option_map quoted_of relative))
 later_path None = refl
@@ -58,7 +58,7 @@ pub module_parts : (name : Name) (optional : Bool) (relative : Option StringLite
 module_parts name optional relative =
     ap (λ t. fixed_text (codes "mod") ++ if_true optional (fixed_text (codes "?")) ++ fixed_text (codes " ") ++ lexeme_of name.token ++ t) (later_path relative)
 
--- the value of a setting, after `:=`
+-- `:=` and the value of a setting
 later_value : (value : SettingValue Tok Tok) → is_default value ≡ false
     → fixed_text (codes " := ") ++ value_text (over_setting_value lexeme nothing value) ≡ setting_value_text (over_setting_value lexeme nothing value)
 unfolding fixed_text
@@ -76,6 +76,6 @@ no_value (tree.Interpreter command arguments) e = absurd cc
 pub value_other : (s : Setting) → is_default (value_of s) ≡ false → fixed_text (codes " := ") ++ setting_output s ≡ later_value_text s
 value_other s e = later_value (value_of s) e
 
--- the default is left out
+-- the default value isn't printed
 pub value_default : (s : Setting) → is_default (value_of s) ≡ true → [] ≡ later_value_text s
 value_default s e = no_value (value_of s) e

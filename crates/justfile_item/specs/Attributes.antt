@@ -1,9 +1,9 @@
--- What the definitions see of the attributes of a construct.
+-- The trees of the attributes of a construct, and their texts.
 use Rattle.std.specs.Prelude.{ℕ, List, [], ◌∷◌, ◌++◌, map, Option, Some, None, string_bytes}
 use Rattle.std.specs.Global.{Box}
 use Rattle.std.specs.List.{flat_map}
-use Rattle.justfile_base.specs.declared.name.Name.{Name}
-use Rattle.justfile_base.specs.declared.string_literal.StringLiteral.{StringLiteral}
+use Rattle.justfile_token.specs.declared.name.Name.{Name}
+use Rattle.justfile_token.specs.declared.string_literal.StringLiteral.{StringLiteral}
 use Rattle.justfile_model.specs.Printing.{entries_text, entry_text}
 use Rattle.justfile_model.specs.Tree.{Entry, lexeme, nothing, over_entry}
 use Rattle.justfile_attribute.specs.declared.attribute.Attribute.{Attribute}
@@ -11,26 +11,26 @@ use Rattle.justfile_attribute.specs.declared.attribute.Attribute.TheVariants as 
 use Rattle.justfile_attribute.specs.declared.interpreter.Interpreter.{Interpreter}
 use Rattle.justfile_attribute_set.specs.AttributeSet.{AttributeSet, attributes_of, entries_of, written_of}
 use Rattle.justfile_attribute_set.specs.Pairs.{Pair, entry_of}
-use Rattle.justfile_tree.specs.Expression.{expr_cooked}
-use Rattle.justfile_tree.specs.declared.expression.Expression.{Expression}
+use Rattle.justfile_expression.specs.Expression.{expr_cooked}
+use Rattle.justfile_expression.specs.declared.expression.Expression.{Expression}
 
--- attributes as entries without places
+-- the shapes of attributes: their entries with lexemes in place of tokens
 abbrev pub entry_shapes : AttributeSet → List (Entry (List ℕ) (Unit {0}))
 entry_shapes set = map (over_entry lexeme nothing) (entries_of set)
 
--- an attribute in brackets, on a line of its own with its comment
+-- an attribute in brackets and its comment, on a line of its own
 abbrev pub attribute_line : Pair → List ℕ
 attribute_line p = entry_text (over_entry lexeme nothing (entry_of p))
 
--- the lines of these
+-- the lines of attributes
 abbrev pub lines_text : List Pair → List ℕ
 lines_text pairs = entries_text (map (over_entry lexeme nothing) (map entry_of pairs))
 
--- the lines of attributes
+-- the lines of the attributes of a set
 abbrev pub attributes_text : AttributeSet → List ℕ
 attributes_text set = lines_text (written_of set)
 
--- what is seen of a part that may be missing
+-- the texts of an optional part, or none if it is absent
 abbrev pub optional : {X : Type 0} → (X → List (List ℕ)) → Option X → List (List ℕ)
 optional cooked None = []
 optional cooked (Some x) = cooked x
@@ -38,12 +38,12 @@ optional cooked (Some x) = cooked x
 abbrev pub literal_cooked : StringLiteral → List (List ℕ)
 literal_cooked l = string_bytes l.cooked ∷ []
 
--- the text of the literal that names an option; a key that stands alone has none
+-- the text of the literal that names an option; a key without a value has none
 abbrev pub option_cooked : (key : Option Name) → Option StringLiteral → List (List ℕ)
 option_cooked (Some key) literal = []
 option_cooked None literal = optional literal_cooked literal
 
--- the texts of an expression in a box
+-- the texts of the literals of an expression in a box
 abbrev pub boxed_cooked : Box Expression → List (List ℕ)
 boxed_cooked e = expr_cooked e.value
 
@@ -70,6 +70,6 @@ attribute_cooked (attributes.Timestamp value) = optional boxed_cooked value
 attribute_cooked (attributes.WorkingDirectory value) = boxed_cooked value
 attribute_cooked _ = []
 
--- the texts of the literals of attributes, in their order
+-- the texts of the literals of a set's attributes, in order
 abbrev pub set_cooked : AttributeSet → List (List ℕ)
 set_cooked set = flat_map attribute_cooked (attributes_of set)

@@ -1,16 +1,16 @@
--- Copies.
+-- Copies of items.
 use Rattle.std.specs.Prelude.{◌≡◌}
 use Rattle.std.specs.List.{AllZip}
 use Rattle.justfile_attribute.specs.Copies.{IsSameIfPresent}
 use Rattle.justfile_attribute_set.specs.Copies.{IsSameSet}
-use Rattle.justfile_base.specs.Namepath.{names_in}
-use Rattle.justfile_base.specs.StringLiteral.{IsSameLiteral}
-use Rattle.justfile_base.specs.declared.namepath.Namepath.{Namepath}
-use Rattle.justfile_header.specs.Copies.{IsSameDependency, IsSameParameter, IsSameText}
+use Rattle.justfile_token.specs.Namepath.{names_in}
+use Rattle.justfile_token.specs.StringLiteral.{IsSameLiteral}
+use Rattle.justfile_token.specs.declared.namepath.Namepath.{Namepath}
+use Rattle.justfile_recipe_header.specs.Copies.{IsSameDependency, IsSameParameter, IsSameText}
 use Rattle.justfile_line.specs.Copies.{IsSameLine}
 use Rattle.justfile_setting.specs.Copies.{IsSameSetting}
-use Rattle.justfile_tree.specs.declared.expression.Expression.{Expression}
-use Rattle.justfile_tree.specs.Copies.{IsSameExpression}
+use Rattle.justfile_expression.specs.declared.expression.Expression.{Expression}
+use Rattle.justfile_expression.specs.Copies.{IsSameExpression}
 use Rattle.justfile_item.specs.declared.alias.Alias.{Alias}
 use Rattle.justfile_item.specs.declared.binding.Binding.{Binding}
 use Rattle.justfile_item.specs.declared.function_definition.FunctionDefinition.{FunctionDefinition}
@@ -19,13 +19,13 @@ use Rattle.justfile_item.specs.declared.item.Item.TheVariants as items
 use Rattle.justfile_item.specs.declared.recipe.UnresolvedRecipe.{UnresolvedRecipe}
 use Rattle.justfile_item.specs.declared.set.Set.{Set}
 
--- the copy of an alias has its fields, and leads to the same path
+-- a copy of an alias: all fields are the same
 pub record IsSameAlias (copy original : Alias Namepath) : Type 0 where
   pub attributes : IsSameSet copy.attributes original.attributes
   pub name : copy.name ≡ original.name
   pub target : names_in copy.target ≡ names_in original.target
 
--- the copy of an assignment has its fields
+-- a copy of an assignment: all fields are the same
 pub record IsSameAssignment (copy original : Binding Expression) : Type 0 where
   pub attributes : IsSameSet copy.attributes original.attributes
   pub eager : copy.eager ≡ original.eager
@@ -37,14 +37,14 @@ pub record IsSameAssignment (copy original : Binding Expression) : Type 0 where
   pub «private» : copy.private ≡ original.private
   pub value : IsSameExpression copy.value original.value
 
--- the copy of a function has its fields
+-- a copy of a function: all fields are the same
 pub record IsSameFunction (copy original : FunctionDefinition) : Type 0 where
   pub attributes : IsSameSet copy.attributes original.attributes
   pub body : IsSameExpression copy.body.value original.body.value
   pub name : copy.name ≡ original.name
   pub parameters : copy.parameters.items ≡ original.parameters.items
 
--- the copy of a recipe has its fields, and copies of its parameters, its dependencies and its lines
+-- a copy of a recipe: all fields are the same
 pub record IsSameRecipe (copy original : UnresolvedRecipe) : Type 0 where
   pub attributes : IsSameSet copy.attributes original.attributes
   pub body : AllZip IsSameLine copy.body.items original.body.items
@@ -61,13 +61,13 @@ pub record IsSameRecipe (copy original : UnresolvedRecipe) : Type 0 where
   pub quiet : copy.quiet ≡ original.quiet
   pub shebang : copy.shebang ≡ original.shebang
 
--- the copy of a setting has its attributes, its name and a copy of its value
+-- a copy of a setting: all fields are the same
 pub record IsSameAssigned (copy original : Set) : Type 0 where
   pub attributes : IsSameSet copy.attributes original.attributes
   pub name : copy.name ≡ original.name
   pub value : IsSameSetting copy.value.value original.value.value
 
--- the copy of an item is of its case and has its fields
+-- a copy of an item: the same case, and all fields are the same
 abbrev pub IsSameItem : (copy original : Item) → Type 0
 IsSameItem (items.Alias copy) (items.Alias original) = IsSameAlias copy original
 IsSameItem (items.Assignment copy) (items.Assignment original) = IsSameAssignment copy original

@@ -1,24 +1,24 @@
--- What the definitions see of an item.
+-- The trees of items: the definitions' view of the code's types.
 use Rattle.std.specs.Prelude.{ℕ, Bool, true, List, [], ◌∷◌, ◌++◌, map, take, drop, Option, String, string_bytes}
 use Rattle.std.specs.Global.{Global}
 use Rattle.std.specs.List.{flat_map}
 use Rattle.std.specs.Option.{option_copied, option_map}
-use Rattle.justfile_base.specs.Namepath.{names_in}
-use Rattle.justfile_base.specs.declared.name.Name.{Name}
-use Rattle.justfile_base.specs.declared.namepath.Namepath.{Namepath}
-use Rattle.justfile_word.specs.declared.number.Number.{Number}
-use Rattle.justfile_base.specs.declared.string_literal.StringLiteral.{StringLiteral}
+use Rattle.justfile_token.specs.Namepath.{names_in}
+use Rattle.justfile_token.specs.declared.name.Name.{Name}
+use Rattle.justfile_token.specs.declared.namepath.Namepath.{Namepath}
+use Rattle.justfile_vocabulary.specs.declared.number.Number.{Number}
+use Rattle.justfile_token.specs.declared.string_literal.StringLiteral.{StringLiteral}
 use Rattle.justfile_model.specs.Tok.{Tok, tok_of}
 use Rattle.justfile_model.specs.Tree as tree
 use Rattle.justfile_model.specs.Tree.{AliasParts, AssignmentParts, FunctionParts, Header, ImportParts, ModuleParts, OrderedItem, Quoted, RecipeParts, SettingParts, item_shape_of, lexeme, nothing, over_alias, over_assignment, over_function, over_header, over_import, over_module, over_recipe, over_setting}
-use Rattle.justfile_tree.specs.Expression.{expr_of, expr_cooked, literal_tok}
-use Rattle.justfile_tree.specs.declared.expression.Expression.{Expression}
+use Rattle.justfile_expression.specs.Expression.{expr_of, expr_cooked, literal_tok}
+use Rattle.justfile_expression.specs.declared.expression.Expression.{Expression}
 use Rattle.justfile_attribute.specs.Attribute.{quoted_by}
 use Rattle.justfile_attribute_set.specs.AttributeSet.{attributes_of, entries_of}
 use Rattle.justfile_attribute_set.specs.Attributes.{are_enabled}
-use Rattle.justfile_header.specs.Header.{dependency_cooked, dependency_of, name_of, parameter_cooked, parameter_of}
-use Rattle.justfile_header.specs.declared.parameter.Parameter.{Parameter}
-use Rattle.justfile_header.specs.declared.unresolved_dependency.UnresolvedDependency.{UnresolvedDependency}
+use Rattle.justfile_recipe_header.specs.Header.{dependency_cooked, dependency_of, name_of, parameter_cooked, parameter_of}
+use Rattle.justfile_recipe_header.specs.declared.parameter.Parameter.{Parameter}
+use Rattle.justfile_recipe_header.specs.declared.unresolved_dependency.UnresolvedDependency.{UnresolvedDependency}
 use Rattle.justfile_setting.specs.Setting.{keyword_of, setting_cooked, value_of}
 use Rattle.justfile_line.specs.Body.{body_line_of, line_cooked}
 use Rattle.justfile_item.specs.Attributes.{literal_cooked, optional, set_cooked}
@@ -46,7 +46,7 @@ function_parameter_of p = tok_of p.0.token
 abbrev pub function_of : FunctionDefinition → FunctionParts Tok Tok
 function_of f = record { name = tok_of f.name.token; parameters = map function_parameter_of f.parameters.items; body = expr_of f.body.value }
 
--- a literal as a tree has the path of a file
+-- the path of a file as a tree has it
 abbrev pub quoted_of : StringLiteral → Quoted Tok
 quoted_of = quoted_by expr_of literal_tok tok_of
 
@@ -62,7 +62,7 @@ module_of doc name optional relative = record { doc = option_map string_bytes do
 abbrev pub setting_of : Set → SettingParts Tok Tok
 setting_of s = record { keyword = keyword_of s.value.value; name = tok_of s.name.token; value = value_of s.value.value }
 
--- the dependencies of a recipe before `&&`, or all of them
+-- the dependencies of a recipe before `&&`, or all if there is no `&&`
 abbrev pub priors_of : UnresolvedRecipe → List UnresolvedDependency
 priors_of r = take r.priors r.dependencies.items
 
@@ -97,7 +97,7 @@ item_of (items.Recipe r) = tree.Construct (entries_of r.attributes) (tree.Recipe
 item_of (items.Setting s) = tree.Construct (entries_of s.attributes) (tree.Setting (setting_of s))
 item_of (items.Unexport attributes name) = tree.Construct (entries_of attributes) (tree.Unexport (tok_of name.token))
 
--- whether an item is there on this system, as its attributes say
+-- whether an item's attributes enable it on this system
 abbrev pub is_item_enabled : Item → Bool
 is_item_enabled (items.Alias a) = are_enabled (attributes_of a.attributes)
 is_item_enabled (items.Assignment a) = are_enabled (attributes_of a.attributes)
@@ -110,39 +110,39 @@ is_item_enabled (items.Recipe r) = are_enabled (attributes_of r.attributes)
 is_item_enabled (items.Setting s) = are_enabled (attributes_of s.attributes)
 is_item_enabled (items.Unexport attributes name) = are_enabled (attributes_of attributes)
 
--- the tree of an alias without places
+-- the shape of an alias: its tree with lexemes in place of tokens
 abbrev pub alias_shape : Alias Namepath → AliasParts (List ℕ)
 alias_shape a = over_alias {B = Tok} lexeme nothing (alias_of a)
 
--- the tree of an assignment without places
+-- the shape of an assignment
 abbrev pub assignment_shape : Binding Expression → AssignmentParts (List ℕ) (Unit {0})
 assignment_shape a = over_assignment lexeme nothing (assignment_of a)
 
--- the tree of a function without places
+-- the shape of a function
 abbrev pub function_shape : FunctionDefinition → FunctionParts (List ℕ) (Unit {0})
 function_shape f = over_function lexeme nothing (function_of f)
 
--- the tree of an import without places
+-- the shape of an import
 abbrev pub import_shape : (optional : Bool) (relative : StringLiteral) → ImportParts (List ℕ)
 import_shape optional relative = over_import {B = Tok} lexeme nothing (import_of optional relative)
 
--- the tree of a module without places
+-- the shape of a module
 abbrev pub module_shape : (doc : Option (String Global)) (name : Name) (optional : Bool) (relative : Option StringLiteral) → ModuleParts (List ℕ)
 module_shape doc name optional relative = over_module {B = Tok} lexeme nothing (module_of doc name optional relative)
 
--- the tree of a setting without places
+-- the shape of a setting
 abbrev pub setting_shape : Set → SettingParts (List ℕ) (Unit {0})
 setting_shape s = over_setting lexeme nothing (setting_of s)
 
--- the tree of a recipe's header without places
+-- the shape of a recipe's header
 abbrev pub header_shape : UnresolvedRecipe → Header (List ℕ) (Unit {0}) (Unit {0})
 header_shape r = over_header lexeme nothing (λ star. star) (header_of r)
 
--- the tree of a recipe without places
+-- the shape of a recipe
 abbrev pub recipe_shape : UnresolvedRecipe → RecipeParts (List ℕ) (Unit {0}) (Unit {0}) (Unit {0})
 recipe_shape r = over_recipe lexeme nothing nothing (λ star. star) (recipe_of r)
 
--- the tree of an item without places
+-- the shape of an item
 abbrev pub item_shape : Item → OrderedItem (List ℕ) (Unit {0}) (Unit {0})
 item_shape i = item_shape_of (item_of i)
 
@@ -171,14 +171,14 @@ parameter_number p = p.number.0
 abbrev pub function_parameter_number : Name × Number → ℕ
 function_parameter_number p = p.1.0
 
--- the numbers of an item's bindings, in order: those of a recipe and of a function are their parameters
+-- the numbers of the bindings in an item, in order; for a recipe or a function, those of its parameters
 abbrev pub item_numbers : Item → List ℕ
 item_numbers (items.Assignment a) = a.number.0 ∷ []
 item_numbers (items.Function f) = map function_parameter_number f.parameters.items
 item_numbers (items.Recipe r) = map parameter_number r.parameters.items
 item_numbers _ = []
 
--- the number of an item that is a recipe
+-- the number of a recipe, or nothing for other items
 abbrev pub item_recipe_numbers : Item → List ℕ
 item_recipe_numbers (items.Recipe r) = r.number.0 ∷ []
 item_recipe_numbers _ = []

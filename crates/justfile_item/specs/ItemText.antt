@@ -1,11 +1,11 @@
--- The texts of items by their parts.
+-- The texts of items, from those of their parts.
 use Rattle.std.specs.Prelude.{ℕ, Bool, List, [], ◌++◌, map, codes, Option, None, Some}
 use Rattle.std.specs.List.{flat_map}
-use Rattle.justfile_base.specs.Token.{lexeme_of}
-use Rattle.justfile_base.specs.declared.name.Name.{Name}
-use Rattle.justfile_base.specs.declared.namepath.Namepath.{Namepath}
-use Rattle.justfile_word.specs.declared.number.Number.{Number}
-use Rattle.justfile_base.specs.declared.string_literal.StringLiteral.{StringLiteral}
+use Rattle.justfile_token.specs.Token.{lexeme_of}
+use Rattle.justfile_token.specs.declared.name.Name.{Name}
+use Rattle.justfile_token.specs.declared.namepath.Namepath.{Namepath}
+use Rattle.justfile_vocabulary.specs.declared.number.Number.{Number}
+use Rattle.justfile_token.specs.declared.string_literal.StringLiteral.{StringLiteral}
 use Rattle.justfile_model.specs.Printing as printing
 use Rattle.justfile_model.specs.Printing.{fixed_text}
 use Rattle.justfile_model.specs.Tok.{Tok}
@@ -28,7 +28,7 @@ alias_text_of a = printing.alias_text (alias_shape a)
 abbrev pub later_names_text : List (Name × Number) → List ℕ
 later_names_text parameters = flat_map (λ p. fixed_text (codes ", ") ++ lexeme_of p.0.token) parameters
 
--- the names of a function's parameters, with a comma and a space between each two
+-- the names of a function's parameters, with a comma and a space between them
 abbrev pub parameter_names_text : List (Name × Number) → List ℕ
 parameter_names_text parameters = printing.names_text (map lexeme (map function_parameter_of parameters))
 
@@ -50,7 +50,7 @@ later_path_text (Some relative) = fixed_text (codes " ") ++ path_text_of relativ
 abbrev pub module_text_of : (name : Name) (optional : Bool) (relative : Option StringLiteral) → List ℕ
 module_text_of name optional relative = printing.module_text (module_shape None name optional relative)
 
--- the value of a setting, if that is printed
+-- `:=` and the value of a setting, or nothing if it is the default value
 abbrev pub later_value_text : Setting → List ℕ
 later_value_text s = printing.setting_value_text (over_setting_value lexeme nothing (value_of s))
 
@@ -60,7 +60,7 @@ setting_text_of s = printing.setting_text (setting_shape s)
 abbrev pub unexport_text_of : Name → List ℕ
 unexport_text_of name = fixed_text (codes "unexport ") ++ lexeme_of name.token
 
--- the attributes of an item that may have some
+-- the attributes of a construct
 abbrev pub item_attributes : Item → Option AttributeSet
 item_attributes (items.Alias a) = Some a.attributes
 item_attributes (items.Assignment a) = Some a.attributes
@@ -73,13 +73,13 @@ item_attributes (items.Recipe r) = Some r.attributes
 item_attributes (items.Setting s) = Some s.attributes
 item_attributes (items.Unexport attributes name) = Some attributes
 
--- the doc that is printed of an item, as a comment on a line of its own
+-- the printed doc of an item, as a comment on a line of its own
 abbrev pub item_doc_text : Item → List ℕ
 item_doc_text (items.Module attributes doc name optional relative) = doc_text_of attributes doc
 item_doc_text (items.Recipe r) = doc_text_of r.attributes r.doc
 item_doc_text _ = []
 
--- an item without its doc and its attributes
+-- the text of an item without its doc and its attributes
 abbrev pub bare_text : Item → (indentation : List ℕ) → List ℕ
 bare_text (items.Alias a) indentation = alias_text_of a
 bare_text (items.Assignment a) indentation = printing.assignment_text (assignment_shape a)

@@ -1,13 +1,10 @@
 pub mod Assignment
-pub mod AttributeParts
 pub mod Attributes
 pub mod Copies
 pub mod Doc
 pub mod Equal
 pub mod FunctionParameter
-pub mod HeaderParts
 pub mod Indented
 pub mod Item
 pub mod ItemText
 pub mod Recipe
-pub mod SettingParts

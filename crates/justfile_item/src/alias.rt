@@ -2,32 +2,32 @@ ghost use Rattle.std.specs.Prelude.{◌≡◌, ◌&&◌, OnOk, OnErr, IfOk};
 ghost use Rattle.std.specs.Cmp.{and_per, on_per};
 ghost use Rattle.justfile_attribute_set.specs.contracts.attribute_set.PairSetAttributeWrittenPartialEq.TheImpl as sets;
 ghost use Rattle.justfile_attribute_set.specs.contracts.attribute_set.PairSetAttributeWrittenPartialEq.TheImpl.Laws.{laws-law as set_per};
-ghost use Rattle.justfile_base.specs.contracts.name.NamePartialEq.TheImpl as names;
-ghost use Rattle.justfile_base.specs.contracts.name.NamePartialEq.TheImpl.Laws.{laws-law as name_per};
+ghost use Rattle.justfile_token.specs.contracts.name.NamePartialEq.TheImpl as names;
+ghost use Rattle.justfile_token.specs.contracts.name.NamePartialEq.TheImpl.Laws.{laws-law as name_per};
 ghost use Rattle.justfile_item.specs.Copies.{IsSameAlias};
 ghost use Rattle.justfile_item.specs.ItemText.{alias_text_of};
 
 use crate::attributes::are_equal;
 use justfile_attribute_set::AttributeSet;
-use justfile_base::{Keyed, Name, Namepath};
-use justfile_header::write_namepath;
-use justfile_tree::{Sink, put_piece};
+use justfile_expression::{Sink, put_piece};
+use justfile_recipe_header::write_namepath;
+use justfile_token::{Keyed, Name, Namepath};
 use std::alloc::{AllocError, Global};
 use std::fmt;
 
-/// Another name for what it leads to: in a file, for the recipe at a path.
+/// An alias: another name for its target. In a file, the target is the path of a recipe.
 #[derive(Drop)]
 pub struct Alias<'src, T> {
-    /// The attributes before it.
+    /// The attributes.
     pub attributes: AttributeSet<'src>,
-    /// The other name.
+    /// The new name.
     pub name: Name<'src>,
-    /// What it leads to.
+    /// What the name refers to.
     pub target: T,
 }
 
 impl<'src> Alias<'src, Namepath<'src>> {
-    /// A copy of the alias.
+    /// Returns a copy of the alias, or an error if out of memory.
     pub fn clone(&self, alloc: Global) -> Result<Self, AllocError>
         ensures { IfOk result (λ copy. IsSameAlias copy self.now) }
     {
@@ -45,7 +45,7 @@ impl<'src> Alias<'src, Namepath<'src>> {
 
 /// The key of an alias is its name.
 impl<'src, T> Keyed<'src> for Alias<'src, T> {
-    ghost use Rattle.justfile_base.specs.Name.{name_text};
+    ghost use Rattle.justfile_token.specs.Name.{name_text};
 
     ghost key_text = { λ alias. name_text alias.name };
 
@@ -67,7 +67,24 @@ impl<'src, T: PartialEq> PartialEq for Alias<'src, T> {
     }
 }
 
-/// Puts the text of an alias, without its attributes.
+impl<'src> fmt::Display for Alias<'src, Namepath<'src>> {
+    ghost use Rattle.std.specs.Prelude.{Some};
+
+    ghost output = { λ alias. Some (alias_text_of alias) };
+
+    fn fmt<W: fmt::Write>(&self, f: &mut fmt::Formatter<W>) -> fmt::Result {
+        write_alias(self, f)
+    }
+}
+
+/// Writes the name.
+impl<'src, T> fmt::Debug for Alias<'src, T> {
+    fn fmt<W: fmt::Write>(&self, f: &mut fmt::Formatter<W>) -> fmt::Result {
+        f.write_str(self.name.lexeme())
+    }
+}
+
+/// Writes the text of an alias, without its attributes.
 pub(crate) fn write_alias<S: Sink>(
     alias: &Alias<'_, Namepath<'_>>,
     sink: &mut S,
@@ -80,21 +97,4 @@ pub(crate) fn write_alias<S: Sink>(
     put_piece(" := ", sink)?;
     write_namepath(&alias.target, sink)?;
     Ok(())
-}
-
-impl<'src> fmt::Display for Alias<'src, Namepath<'src>> {
-    ghost use Rattle.std.specs.Prelude.{Some};
-
-    ghost output = { λ alias. Some (alias_text_of alias) };
-
-    fn fmt<W: fmt::Write>(&self, f: &mut fmt::Formatter<W>) -> fmt::Result {
-        write_alias(self, f)
-    }
-}
-
-/// The name.
-impl<'src, T> fmt::Debug for Alias<'src, T> {
-    fn fmt<W: fmt::Write>(&self, f: &mut fmt::Formatter<W>) -> fmt::Result {
-        f.write_str(self.name.lexeme())
-    }
 }

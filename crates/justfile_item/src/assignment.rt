@@ -4,15 +4,15 @@ ghost use Rattle.justfile_item.specs.Assignment.{binding_text};
 ghost use Rattle.justfile_item.specs.Copies.{IsSameAssignment};
 
 use crate::binding::Binding;
-use justfile_tree::{Expression, Sink, put_piece, write_expression};
+use justfile_expression::{Expression, Sink, put_piece, write_expression};
 use std::alloc::{AllocError, Global};
 use std::fmt;
 
-/// An assignment: a name and the expression that it stands for.
+/// An assignment of an expression to a variable.
 pub type Assignment<'src> = Binding<'src, Expression<'src>>;
 
 impl<'src> Binding<'src, Expression<'src>> {
-    /// A copy of the assignment.
+    /// Returns a copy of the assignment, or an error if out of memory.
     pub fn clone(&self, alloc: Global) -> Result<Self, AllocError>
         ensures { IfOk result (λ copy. IsSameAssignment copy self.now) }
     {
@@ -34,15 +34,17 @@ impl<'src> Binding<'src, Expression<'src>> {
     }
 }
 
-/// Puts a word and a space before a name, if it is said.
-fn write_word<S: Sink>(said: bool, word: &str, sink: &mut S) -> Result<(), S::Fault>
-    ensures ok { OnOk result (S.took sink.old (if_true said (fixed_text word.now)) sink.new) }
-    ensures err { OnErr result (S.failed sink.old (if_true said (fixed_text word.now)) sink.new) }
-{
-    if said { put_piece(word, sink) } else { Ok(()) }
+impl<'src> fmt::Display for Binding<'src, Expression<'src>> {
+    ghost use Rattle.std.specs.Prelude.{Some};
+
+    ghost output = { λ assignment. Some (binding_text assignment) };
+
+    fn fmt<W: fmt::Write>(&self, f: &mut fmt::Formatter<W>) -> fmt::Result {
+        write_assignment(self, f)
+    }
 }
 
-/// Puts the text of an assignment, without its attributes.
+/// Writes the text of an assignment, without its attributes.
 pub(crate) fn write_assignment<S: Sink>(
     assignment: &Assignment<'_>,
     sink: &mut S,
@@ -58,12 +60,10 @@ pub(crate) fn write_assignment<S: Sink>(
     Ok(())
 }
 
-impl<'src> fmt::Display for Binding<'src, Expression<'src>> {
-    ghost use Rattle.std.specs.Prelude.{Some};
-
-    ghost output = { λ assignment. Some (binding_text assignment) };
-
-    fn fmt<W: fmt::Write>(&self, f: &mut fmt::Formatter<W>) -> fmt::Result {
-        write_assignment(self, f)
-    }
+/// Writes a keyword, with the space after it, if `said` is set.
+fn write_word<S: Sink>(said: bool, word: &str, sink: &mut S) -> Result<(), S::Fault>
+    ensures ok { OnOk result (S.took sink.old (if_true said (fixed_text word.now)) sink.new) }
+    ensures err { OnErr result (S.failed sink.old (if_true said (fixed_text word.now)) sink.new) }
+{
+    if said { put_piece(word, sink) } else { Ok(()) }
 }

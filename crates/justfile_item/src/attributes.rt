@@ -5,7 +5,7 @@ ghost use Rattle.justfile_item.specs.Attributes.{attribute_line, attributes_text
 use crate::comment::write_comment;
 use justfile_attribute::{Attribute, write_attribute};
 use justfile_attribute_set::{AttributeSet, Written};
-use justfile_tree::{Sink, put_piece};
+use justfile_expression::{Sink, put_piece};
 
 /// Whether two sets have equal attributes.
 pub(crate) fn are_equal<'src>(attributes: &AttributeSet<'src>, others: &AttributeSet<'src>) -> bool
@@ -14,22 +14,18 @@ pub(crate) fn are_equal<'src>(attributes: &AttributeSet<'src>, others: &Attribut
     *attributes == *others
 }
 
-/// Puts an attribute in brackets, on a line of its own with its comment.
-fn write_attribute_line<S: Sink>(
-    pair: &(Attribute<'_>, Written<'_>),
+/// Writes the attributes of a construct, each on a line of its own.
+pub(crate) fn write_attributes<S: Sink>(
+    attributes: &AttributeSet<'_>,
     sink: &mut S,
 ) -> Result<(), S::Fault>
-    ensures ok { OnOk result (S.took sink.old (attribute_line pair.now) sink.new) }
-    ensures err { OnErr result (S.failed sink.old (attribute_line pair.now) sink.new) }
+    ensures ok { OnOk result (S.took sink.old (attributes_text attributes.now) sink.new) }
+    ensures err { OnErr result (S.failed sink.old (attributes_text attributes.now) sink.new) }
 {
-    put_piece("[", sink)?;
-    write_attribute(&pair.0, sink)?;
-    put_piece("]", sink)?;
-    write_comment(pair.1.comment, sink)?;
-    put_piece("\n", sink)
+    write_lines(attributes.written(), sink)
 }
 
-/// Puts attributes, each on a line of its own.
+/// Writes attributes, each on a line of its own.
 fn write_lines<S: Sink>(
     pairs: &[(Attribute<'_>, Written<'_>)],
     sink: &mut S,
@@ -43,13 +39,17 @@ fn write_lines<S: Sink>(
     Ok(())
 }
 
-/// Puts the attributes of a construct, each on a line of its own.
-pub(crate) fn write_attributes<S: Sink>(
-    attributes: &AttributeSet<'_>,
+/// Writes an attribute in brackets and its comment, on a line of its own.
+fn write_attribute_line<S: Sink>(
+    pair: &(Attribute<'_>, Written<'_>),
     sink: &mut S,
 ) -> Result<(), S::Fault>
-    ensures ok { OnOk result (S.took sink.old (attributes_text attributes.now) sink.new) }
-    ensures err { OnErr result (S.failed sink.old (attributes_text attributes.now) sink.new) }
+    ensures ok { OnOk result (S.took sink.old (attribute_line pair.now) sink.new) }
+    ensures err { OnErr result (S.failed sink.old (attribute_line pair.now) sink.new) }
 {
-    write_lines(attributes.written(), sink)
+    put_piece("[", sink)?;
+    write_attribute(&pair.0, sink)?;
+    put_piece("]", sink)?;
+    write_comment(pair.1.comment, sink)?;
+    put_piece("\n", sink)
 }

@@ -3,42 +3,43 @@ ghost use Rattle.std.specs.Bool.{beq};
 ghost use Rattle.std.specs.Cmp.{and_per, bool_eq_equiv, nat_eq_equiv, on_per, partial_equiv_from_equiv};
 ghost use Rattle.justfile_attribute_set.specs.contracts.attribute_set.PairSetAttributeWrittenPartialEq.TheImpl as sets;
 ghost use Rattle.justfile_attribute_set.specs.contracts.attribute_set.PairSetAttributeWrittenPartialEq.TheImpl.Laws.{laws-law as set_per};
-ghost use Rattle.justfile_base.specs.contracts.name.NamePartialEq.TheImpl as names;
-ghost use Rattle.justfile_base.specs.contracts.name.NamePartialEq.TheImpl.Laws.{laws-law as name_per};
-ghost use Rattle.justfile_word.specs.contracts.number.NumberPartialEq.TheImpl as numbers;
-ghost use Rattle.justfile_word.specs.contracts.number.NumberPartialEq.TheImpl.Laws.{laws-law as number_per};
+ghost use Rattle.justfile_token.specs.contracts.name.NamePartialEq.TheImpl as names;
+ghost use Rattle.justfile_token.specs.contracts.name.NamePartialEq.TheImpl.Laws.{laws-law as name_per};
+ghost use Rattle.justfile_vocabulary.specs.contracts.number.NumberPartialEq.TheImpl as numbers;
+ghost use Rattle.justfile_vocabulary.specs.contracts.number.NumberPartialEq.TheImpl.Laws.{laws-law as number_per};
 
 use crate::attributes::are_equal;
 use justfile_attribute_set::AttributeSet;
-use justfile_base::{Keyed, Name, Number};
+use justfile_token::{Keyed, Name};
+use justfile_vocabulary::Number;
 use std::fmt;
 
-/// What a name stands for.
+/// A name that is bound to a value.
 #[derive(Drop)]
 pub struct Binding<'src, V> {
-    /// The attributes before it.
+    /// The attributes.
     pub attributes: AttributeSet<'src>,
-    /// Whether it is evaluated even where nothing uses it: `eager` stands before the name.
+    /// Whether it is evaluated even if nothing uses it, with `eager` before the name.
     pub eager: bool,
-    /// Whether it is an environment variable too: `export` stands before the name.
+    /// Whether it is exported as an environment variable, with `export` before the name.
     pub export: bool,
-    /// How many imports and modules lie between its file and the root.
+    /// The number of imports and modules from the root file to its file.
     pub file_depth: u32,
-    /// What the value is bound to.
+    /// The name.
     pub name: Name<'src>,
-    /// The number that no other binding of the numerator has.
+    /// The number of the binding. The numerator gives no other binding the same number.
     pub number: Number,
-    /// Whether it is built in, and stands in no file.
+    /// Whether it is predefined, and not assigned in a file.
     pub prelude: bool,
-    /// Whether lists of variables leave it out.
+    /// Whether lists of variables omit it.
     pub private: bool,
-    /// The value that is bound.
+    /// The value.
     pub value: V,
 }
 
 /// The key of a binding is its name.
 impl<'src, V> Keyed<'src> for Binding<'src, V> {
-    ghost use Rattle.justfile_base.specs.Name.{name_text};
+    ghost use Rattle.justfile_token.specs.Name.{name_text};
 
     ghost key_text = { λ binding. name_text binding.name };
 
@@ -72,7 +73,7 @@ impl<'src, V: PartialEq> PartialEq for Binding<'src, V> {
     }
 }
 
-/// The name.
+/// Writes the name.
 impl<'src, V> fmt::Debug for Binding<'src, V> {
     fn fmt<W: fmt::Write>(&self, f: &mut fmt::Formatter<W>) -> fmt::Result {
         f.write_str(self.name.lexeme())

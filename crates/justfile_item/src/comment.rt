@@ -3,9 +3,9 @@ ghost use Rattle.std.specs.Prelude.{OnOk, OnErr};
 ghost use Rattle.std.specs.Option.{option_copied};
 ghost use Rattle.justfile_model.specs.Printing.{comment_text};
 
-use justfile_tree::{Sink, put_piece};
+use justfile_expression::{Sink, put_piece};
 
-/// Puts a comment after a blank, if there is one.
+/// Writes a space and a comment, or nothing if there is none.
 pub(crate) fn write_comment<S: Sink>(comment: Option<&str>, sink: &mut S) -> Result<(), S::Fault>
     ensures ok { OnOk result (S.took sink.old (comment_text (option_copied comment.entry)) sink.new) }
     ensures err { OnErr result (S.failed sink.old (comment_text (option_copied comment.entry)) sink.new) }

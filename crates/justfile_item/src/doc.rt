@@ -1,45 +1,30 @@
-//! Docs, and the comments that they are printed as.
+//! Docs of constructs, which are printed as comments.
 ghost use Rattle.std.specs.Prelude.{◌≡◌, OnOk, OnErr, string_bytes};
 ghost use Rattle.std.specs.Option.{option_copied, option_map};
 ghost use Rattle.justfile_item.specs.Doc.{doc_text_of, shown_doc_of};
 ghost use Rattle.justfile_model.specs.Printing.{doc_comment, doc_line};
 
 use justfile_attribute_set::AttributeSet;
-use justfile_base::AttributeKind;
-use justfile_tree::{Sink, put_piece};
+use justfile_expression::{Sink, put_piece};
+use justfile_vocabulary::AttributeKind;
 
-/// The text of a doc, if there is one.
-fn text_of(doc: &Option<String>) -> Option<&str>
-    ensures { option_copied result ≡ option_map string_bytes doc.now }
+/// Writes the doc of a construct as a comment on a line of its own, unless there is an attribute
+/// `doc`.
+pub(crate) fn write_doc<S: Sink>(
+    attributes: &AttributeSet<'_>,
+    doc: &Option<String>,
+    sink: &mut S,
+) -> Result<(), S::Fault>
+    ensures ok { OnOk result (S.took sink.old (doc_text_of attributes.now doc.now) sink.new) }
+    ensures err { OnErr result (S.failed sink.old (doc_text_of attributes.now doc.now) sink.new) }
 {
-    match doc {
-        None => None,
-        Some(text) => Some(text.as_str()),
+    match shown_doc(attributes, doc) {
+        Some(doc) => write_doc_line(doc, sink),
+        None => Ok(()),
     }
 }
 
-/// Puts the comment that a doc is printed as.
-fn write_doc_comment<S: Sink>(doc: &str, sink: &mut S) -> Result<(), S::Fault>
-    ensures ok { OnOk result (S.took sink.old (doc_comment doc.now) sink.new) }
-    ensures err { OnErr result (S.failed sink.old (doc_comment doc.now) sink.new) }
-{
-    if doc.is_empty() {
-        return put_piece("#", sink);
-    }
-    put_piece("# ", sink)?;
-    sink.put(doc)
-}
-
-/// Puts a doc on a line of its own.
-fn write_doc_line<S: Sink>(doc: &str, sink: &mut S) -> Result<(), S::Fault>
-    ensures ok { OnOk result (S.took sink.old (doc_line doc.now) sink.new) }
-    ensures err { OnErr result (S.failed sink.old (doc_line doc.now) sink.new) }
-{
-    write_doc_comment(doc, sink)?;
-    put_piece("\n", sink)
-}
-
-/// The doc that is printed of a construct: none where an attribute says it.
+/// Returns the doc that is printed as a comment: none if there is an attribute `doc`.
 #[tactic(auto, using(crate::proofs::ShownDocs::shown_doc_is))]
 pub(crate) fn shown_doc<'a>(
     attributes: &AttributeSet<'_>,
@@ -54,17 +39,33 @@ pub(crate) fn shown_doc<'a>(
     }
 }
 
-/// Puts the doc of a construct on a line of its own, where no attribute says it.
-pub(crate) fn write_doc<S: Sink>(
-    attributes: &AttributeSet<'_>,
-    doc: &Option<String>,
-    sink: &mut S,
-) -> Result<(), S::Fault>
-    ensures ok { OnOk result (S.took sink.old (doc_text_of attributes.now doc.now) sink.new) }
-    ensures err { OnErr result (S.failed sink.old (doc_text_of attributes.now doc.now) sink.new) }
+/// Returns the text of an optional doc.
+fn text_of(doc: &Option<String>) -> Option<&str>
+    ensures { option_copied result ≡ option_map string_bytes doc.now }
 {
-    match shown_doc(attributes, doc) {
-        Some(doc) => write_doc_line(doc, sink),
-        None => Ok(()),
+    match doc {
+        None => None,
+        Some(text) => Some(text.as_str()),
     }
+}
+
+/// Writes a doc as a comment on a line of its own.
+fn write_doc_line<S: Sink>(doc: &str, sink: &mut S) -> Result<(), S::Fault>
+    ensures ok { OnOk result (S.took sink.old (doc_line doc.now) sink.new) }
+    ensures err { OnErr result (S.failed sink.old (doc_line doc.now) sink.new) }
+{
+    write_doc_comment(doc, sink)?;
+    put_piece("\n", sink)
+}
+
+/// Writes a doc as a comment.
+fn write_doc_comment<S: Sink>(doc: &str, sink: &mut S) -> Result<(), S::Fault>
+    ensures ok { OnOk result (S.took sink.old (doc_comment doc.now) sink.new) }
+    ensures err { OnErr result (S.failed sink.old (doc_comment doc.now) sink.new) }
+{
+    if doc.is_empty() {
+        return put_piece("#", sink);
+    }
+    put_piece("# ", sink)?;
+    sink.put(doc)
 }

@@ -1,6 +1,6 @@
 ghost use Rattle.std.specs.Prelude.{◌≡◌, OnOk, OnErr, IfOk, string_bytes};
 ghost use Rattle.std.specs.Option.{option_map};
-ghost use Rattle.justfile_word.specs.Indentation.{indentation_text};
+ghost use Rattle.justfile_vocabulary.specs.Indentation.{indentation_text};
 ghost use Rattle.justfile_model.specs.Printing.{if_some, item_text, printable_item};
 ghost use Rattle.justfile_item.specs.Attributes.{attributes_text};
 ghost use Rattle.justfile_item.specs.Copies.{IsSameItem};
@@ -18,29 +18,30 @@ use crate::path::{copy_path, write_import, write_module, write_unexport};
 use crate::recipe::{UnresolvedRecipe, write_recipe};
 use crate::set::{Set, write_set};
 use justfile_attribute_set::AttributeSet;
-use justfile_base::{Indentation, Name, Namepath, StringLiteral};
-use justfile_header::copied::copy_text;
-use justfile_tree::Sink;
+use justfile_expression::Sink;
+use justfile_recipe_header::try_clone::copy_text;
+use justfile_token::{Name, Namepath, StringLiteral};
+use justfile_vocabulary::Indentation;
 use std::alloc::{AllocError, Global};
 
-/// What stands on the lines of a file.
+/// An item of a file, as in `docs/LANGUAGE.md`.
 #[derive(Drop)]
 pub enum Item<'src> {
     Alias(Alias<'src, Namepath<'src>>),
     Assignment(Assignment<'src>),
-    /// A comment without the white space at its end.
+    /// A comment, without white space at its end.
     Comment(&'src str),
     Function(FunctionDefinition<'src>),
-    /// `import relative`, or `import? relative`, which asks for no file.
+    /// `import relative`, or `import? relative` if the file need not exist.
     Import {
         attributes: AttributeSet<'src>,
         optional: bool,
         relative: StringLiteral<'src>,
     },
-    /// `mod name`, or `mod? name`, which asks for no file, with a path or without.
+    /// `mod name`, or `mod? name` if the file need not exist, with an optional path of the file.
     Module {
         attributes: AttributeSet<'src>,
-        /// What the comment before it says of it, if there is one that does.
+        /// The doc: the text of the comment before the module, if that is its doc.
         doc: Option<String>,
         name: Name<'src>,
         optional: bool,
@@ -50,7 +51,7 @@ pub enum Item<'src> {
     Newline,
     Recipe(UnresolvedRecipe<'src>),
     Setting(Set<'src>),
-    /// A variable that recipes are not to have in their environment.
+    /// `unexport name`: a variable that is removed from the environment of recipes.
     Unexport {
         attributes: AttributeSet<'src>,
         name: Name<'src>,
@@ -61,7 +62,7 @@ impl<'src> Item<'src> {
     ghost use Rattle.justfile_model.specs.Reader.{has_body};
     ghost use Rattle.justfile_item.specs.Item.{is_item_enabled, item_of};
 
-    /// A copy of the item.
+    /// Returns a copy of the item, or an error if out of memory.
     pub fn clone(&self, alloc: Global) -> Result<Self, AllocError>
         ensures { IfOk result (λ copy. IsSameItem copy self.now) }
     {
@@ -122,7 +123,7 @@ impl<'src> Item<'src> {
         }
     }
 
-    /// Whether the item is there on this system, as its attributes say.
+    /// Whether the item's attributes enable it on this system, which is Linux.
     pub fn is_enabled(&self) -> bool
         ensures { result ≡ is_item_enabled self.now }
     {
@@ -139,9 +140,11 @@ impl<'src> Item<'src> {
         }
     }
 
-    /// The text of the item, at an indentation of the lines of bodies.
+    /// Returns the text of the item, with this indentation of body lines, or an error if out of
+    /// memory.
     pub fn print(&self, alloc: Global, indentation: Indentation) -> Result<String, AllocError>
-        ensures { IfOk result (λ printed. string_bytes printed ≡ item_text (item_shape self.now) (indentation_text indentation)) }
+        ensures { IfOk result (λ printed. string_bytes printed
+            ≡ item_text (item_shape self.now) (indentation_text indentation)) }
     {
         let mut printed = String::new(alloc);
         write_item(self, indentation, &mut printed)?;
@@ -167,7 +170,8 @@ pub fn is_printable(item: &Item<'_>) -> bool
     }
 }
 
-/// The indentation that the item sets, if it is that setting and is there on this system.
+/// Returns the indentation that the item sets, if it is the setting `indentation` and is enabled on
+/// this system.
 pub fn item_indentation(item: &Item<'_>) -> Option<Indentation>
     ensures { result ≡ option_map (λ p. p.1) (item_indentation item.now) }
 {
@@ -185,14 +189,15 @@ pub fn item_indentation(item: &Item<'_>) -> Option<Indentation>
     }
 }
 
-/// A copy of an import.
+/// Returns a copy of an import.
 fn copy_import<'src>(
     attributes: &AttributeSet<'src>,
     alloc: Global,
     optional: bool,
     relative: &StringLiteral<'src>,
 ) -> Result<Item<'src>, AllocError>
-    ensures { IfOk result (λ copy. IsSameItem copy (items.Import attributes.now optional relative.now)) }
+    ensures { IfOk result
+        (λ copy. IsSameItem copy (items.Import attributes.now optional relative.now)) }
 {
     let attributes = attributes.clone(alloc)?;
     Ok(Item::Import {
@@ -202,7 +207,7 @@ fn copy_import<'src>(
     })
 }
 
-/// A copy of a module.
+/// Returns a copy of a module.
 fn copy_module<'src>(
     attributes: &AttributeSet<'src>,
     alloc: Global,
@@ -211,7 +216,8 @@ fn copy_module<'src>(
     optional: bool,
     relative: &Option<StringLiteral<'src>>,
 ) -> Result<Item<'src>, AllocError>
-    ensures { IfOk result (λ copy. IsSameItem copy (items.Module attributes.now doc.now name.now optional relative.now)) }
+    ensures { IfOk result (λ copy. IsSameItem copy
+        (items.Module attributes.now doc.now name.now optional relative.now)) }
 {
     let doc = copy_text(alloc, doc)?;
     let relative = copy_path(alloc, relative)?;
@@ -227,7 +233,7 @@ fn copy_module<'src>(
     }
 }
 
-/// A copy of a variable that is not exported.
+/// Returns a copy of an `unexport` item.
 fn copy_unexport<'src>(
     attributes: &AttributeSet<'src>,
     alloc: Global,
@@ -244,7 +250,23 @@ fn copy_unexport<'src>(
     }
 }
 
-/// Puts the doc of an item that has one, on a line of its own, where no attribute says it.
+/// Writes the text of an item, with lines for its doc and its attributes before it.
+pub fn write_item<S: Sink>(
+    item: &Item<'_>,
+    indentation: Indentation,
+    sink: &mut S,
+) -> Result<(), S::Fault>
+    ensures ok { OnOk result (S.took sink.old (item_text (item_shape item.now) (indentation_text indentation)) sink.new) }
+    ensures err { OnErr result (S.failed sink.old (item_text (item_shape item.now) (indentation_text indentation)) sink.new) }
+{
+    write_item_doc(item, sink)?;
+    write_item_attributes(item, sink)?;
+    write_bare(item, indentation, sink)?;
+    Ok(())
+}
+
+/// Writes the doc of an item, if any, as a comment on a line of its own, unless there is an
+/// attribute `doc`.
 fn write_item_doc<S: Sink>(item: &Item<'_>, sink: &mut S) -> Result<(), S::Fault>
     ensures ok { OnOk result (S.took sink.old (item_doc_text item.now) sink.new) }
     ensures err { OnErr result (S.failed sink.old (item_doc_text item.now) sink.new) }
@@ -267,7 +289,7 @@ fn write_item_doc<S: Sink>(item: &Item<'_>, sink: &mut S) -> Result<(), S::Fault
     }
 }
 
-/// Puts the attributes of an item, each on a line of its own.
+/// Writes the attributes of an item, each on a line of its own.
 fn write_item_attributes<S: Sink>(item: &Item<'_>, sink: &mut S) -> Result<(), S::Fault>
     ensures ok { OnOk result (S.took sink.old (if_some attributes_text (item_attributes item.now)) sink.new) }
     ensures err { OnErr result (S.failed sink.old (if_some attributes_text (item_attributes item.now)) sink.new) }
@@ -285,7 +307,7 @@ fn write_item_attributes<S: Sink>(item: &Item<'_>, sink: &mut S) -> Result<(), S
     }
 }
 
-/// Puts the text of an item, without its doc and its attributes.
+/// Writes the text of an item, without its doc and its attributes.
 fn write_bare<S: Sink>(
     item: &Item<'_>,
     indentation: Indentation,
@@ -315,19 +337,4 @@ fn write_bare<S: Sink>(
         Item::Setting(set) => write_set(set, sink),
         Item::Unexport { name, .. } => write_unexport(name, sink),
     }
-}
-
-/// Puts the text of an item, after a line for its doc and for each of its attributes.
-pub fn write_item<S: Sink>(
-    item: &Item<'_>,
-    indentation: Indentation,
-    sink: &mut S,
-) -> Result<(), S::Fault>
-    ensures ok { OnOk result (S.took sink.old (item_text (item_shape item.now) (indentation_text indentation)) sink.new) }
-    ensures err { OnErr result (S.failed sink.old (item_text (item_shape item.now) (indentation_text indentation)) sink.new) }
-{
-    write_item_doc(item, sink)?;
-    write_item_attributes(item, sink)?;
-    write_bare(item, indentation, sink)?;
-    Ok(())
 }

@@ -1,4 +1,4 @@
-//! Laws of equalities, each the contract of a function that does nothing.
+//! Laws of equalities. Each is the contract of a function that does nothing.
 ghost use Rattle.std.specs.Prelude.{◌≡◌};
 ghost use Rattle.justfile_item.specs.Equal.{alias_eq, binding_eq, function_eq};
 ghost use Rattle.justfile_item.specs.declared.alias.Alias.{Alias};
@@ -9,8 +9,8 @@ use crate::alias::Alias;
 use crate::binding::Binding;
 use crate::function_definition::FunctionDefinition;
 
-/// Bindings of whatever values are equal exactly if all their fields are, and so are aliases and
-/// functions.
+/// Bindings of values of any type are equal exactly if all their fields are. The same holds for
+/// aliases and functions.
 pub fn bindings_equal<V: PartialEq>()
     ensures bindings { (a b : Binding V)
         → ⟦<Binding<'static, V> as PartialEq>⟧.eq a b ≡ binding_eq V.eq a b }

@@ -1,4 +1,4 @@
-//! Items of files, and how they print.
+//! The items of files, and how they are printed.
 #![tactic(auto)]
 
 pub mod alias;
@@ -6,7 +6,7 @@ pub mod assignment;
 mod attributes;
 pub mod binding;
 mod comment;
-mod copied;
+mod copy;
 mod doc;
 pub mod function_definition;
 pub mod item;

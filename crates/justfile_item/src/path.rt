@@ -1,15 +1,15 @@
-//! How imports and modules name files.
+//! The paths of imports and modules, and how these items are printed.
 ghost use Rattle.std.specs.Prelude.{◌++◌, OnOk, OnErr, IfOk, codes};
-ghost use Rattle.justfile_base.specs.StringLiteral.{IsSameLiteral};
+ghost use Rattle.justfile_token.specs.StringLiteral.{IsSameLiteral};
 ghost use Rattle.justfile_model.specs.Printing.{fixed_text, if_true, mark_text};
 ghost use Rattle.justfile_attribute.specs.Copies.{IsSameIfPresent};
 ghost use Rattle.justfile_item.specs.ItemText.{import_text_of, later_path_text, module_text_of, path_text_of, unexport_text_of};
 
-use justfile_base::{Name, StringLiteral};
-use justfile_tree::{Sink, put_piece};
+use justfile_expression::{Sink, put_piece};
+use justfile_token::{Name, StringLiteral};
 use std::alloc::{AllocError, Global};
 
-/// A copy of a path, if there is one.
+/// Returns a copy of an optional path.
 pub(crate) fn copy_path<'src>(
     alloc: Global,
     path: &Option<StringLiteral<'src>>,
@@ -22,56 +22,7 @@ pub(crate) fn copy_path<'src>(
     }
 }
 
-/// Puts the mark of a literal that is expanded.
-fn write_mark<S: Sink>(expanded: bool, sink: &mut S) -> Result<(), S::Fault>
-    ensures ok { OnOk result (S.took sink.old (mark_text expanded) sink.new) }
-    ensures err { OnErr result (S.failed sink.old (mark_text expanded) sink.new) }
-{
-    if expanded {
-        put_piece("x", sink)
-    } else {
-        Ok(())
-    }
-}
-
-/// Puts the path of a file.
-#[tactic(auto, using(crate::proofs::ItemTexts::path_parts))]
-fn write_path<S: Sink>(path: &StringLiteral<'_>, sink: &mut S) -> Result<(), S::Fault>
-    ensures ok { OnOk result (S.took sink.old (path_text_of path.now) sink.new) }
-    ensures err { OnErr result (S.failed sink.old (path_text_of path.now) sink.new) }
-{
-    write_mark(path.expand, sink)?;
-    sink.put(path.format_mark())?;
-    sink.put(path.token.lexeme())
-}
-
-/// Puts a path after a space, if there is one.
-fn write_later_path<S: Sink>(path: &Option<StringLiteral<'_>>, sink: &mut S) -> Result<(), S::Fault>
-    ensures ok { OnOk result (S.took sink.old (later_path_text path.now) sink.new) }
-    ensures err { OnErr result (S.failed sink.old (later_path_text path.now) sink.new) }
-{
-    match path {
-        None => Ok(()),
-        Some(path) => {
-            put_piece(" ", sink)?;
-            write_path(path, sink)
-        }
-    }
-}
-
-/// Puts the sign of what asks for no file.
-fn write_optional<S: Sink>(optional: bool, sink: &mut S) -> Result<(), S::Fault>
-    ensures ok { OnOk result (S.took sink.old (if_true optional (fixed_text (codes "?"))) sink.new) }
-    ensures err { OnErr result (S.failed sink.old (if_true optional (fixed_text (codes "?"))) sink.new) }
-{
-    if optional {
-        put_piece("?", sink)
-    } else {
-        Ok(())
-    }
-}
-
-/// Puts the text of an import, without its attributes.
+/// Writes the text of an import, without its attributes.
 pub(crate) fn write_import<S: Sink>(
     optional: bool,
     relative: &StringLiteral<'_>,
@@ -86,7 +37,7 @@ pub(crate) fn write_import<S: Sink>(
     write_path(relative, sink)
 }
 
-/// Puts the text of a module, without its doc and its attributes.
+/// Writes the text of a module, without its doc and its attributes.
 #[tactic(auto, using(crate::proofs::ItemTexts::module_parts))]
 pub(crate) fn write_module<S: Sink>(
     name: &Name<'_>,
@@ -104,7 +55,56 @@ pub(crate) fn write_module<S: Sink>(
     write_later_path(relative, sink)
 }
 
-/// Puts the text of a variable that is not exported, without its attributes.
+/// Writes the `?` of an import or a module whose file need not exist.
+fn write_optional<S: Sink>(optional: bool, sink: &mut S) -> Result<(), S::Fault>
+    ensures ok { OnOk result (S.took sink.old (if_true optional (fixed_text (codes "?"))) sink.new) }
+    ensures err { OnErr result (S.failed sink.old (if_true optional (fixed_text (codes "?"))) sink.new) }
+{
+    if optional {
+        put_piece("?", sink)
+    } else {
+        Ok(())
+    }
+}
+
+/// Writes a space and a path, or nothing if there is none.
+fn write_later_path<S: Sink>(path: &Option<StringLiteral<'_>>, sink: &mut S) -> Result<(), S::Fault>
+    ensures ok { OnOk result (S.took sink.old (later_path_text path.now) sink.new) }
+    ensures err { OnErr result (S.failed sink.old (later_path_text path.now) sink.new) }
+{
+    match path {
+        None => Ok(()),
+        Some(path) => {
+            put_piece(" ", sink)?;
+            write_path(path, sink)
+        }
+    }
+}
+
+/// Writes the path of a file.
+#[tactic(auto, using(crate::proofs::ItemTexts::path_parts))]
+fn write_path<S: Sink>(path: &StringLiteral<'_>, sink: &mut S) -> Result<(), S::Fault>
+    ensures ok { OnOk result (S.took sink.old (path_text_of path.now) sink.new) }
+    ensures err { OnErr result (S.failed sink.old (path_text_of path.now) sink.new) }
+{
+    write_mark(path.expand, sink)?;
+    sink.put(path.format_mark())?;
+    sink.put(path.token.lexeme())
+}
+
+/// Writes the mark `x` of a literal that is expanded.
+fn write_mark<S: Sink>(expanded: bool, sink: &mut S) -> Result<(), S::Fault>
+    ensures ok { OnOk result (S.took sink.old (mark_text expanded) sink.new) }
+    ensures err { OnErr result (S.failed sink.old (mark_text expanded) sink.new) }
+{
+    if expanded {
+        put_piece("x", sink)
+    } else {
+        Ok(())
+    }
+}
+
+/// Writes the text of an `unexport` item, without its attributes.
 pub(crate) fn write_unexport<S: Sink>(name: &Name<'_>, sink: &mut S) -> Result<(), S::Fault>
     ensures ok { OnOk result (S.took sink.old (unexport_text_of name.now) sink.new) }
     ensures err { OnErr result (S.failed sink.old (unexport_text_of name.now) sink.new) }

@@ -1,6 +1,6 @@
 ghost use Rattle.std.specs.Prelude.{◌≡◌, ◌++◌, OnOk, OnErr, IfOk, codes};
 ghost use Rattle.std.specs.List.{list_all};
-ghost use Rattle.justfile_word.specs.Indentation.{indentation_text};
+ghost use Rattle.justfile_vocabulary.specs.Indentation.{indentation_text};
 ghost use Rattle.justfile_model.specs.Printing.{fixed_text, header_text, if_true, line_text, body_text, printable_fragments, printable_body};
 ghost use Rattle.justfile_line.specs.Body.{fragment_shapes, line_shape, line_shapes};
 ghost use Rattle.justfile_item.specs.Copies.{IsSameRecipe};
@@ -9,64 +9,66 @@ ghost use Rattle.justfile_item.specs.Recipe.{unresolved_recipe_text};
 
 use crate::comment::write_comment;
 use justfile_attribute_set::AttributeSet;
-use justfile_base::{Indentation, Name, Number};
-use justfile_header::copied::{all_copied, copy_text};
-use justfile_header::{
+use justfile_expression::{Sink, put_piece};
+use justfile_line::{Line, is_printable, write_line};
+use justfile_recipe_header::try_clone::{clone_all, copy_text};
+use justfile_recipe_header::{
     Parameter, UnresolvedDependency, write_dependencies, write_parameters, write_subsequents,
 };
-use justfile_line::{Line, is_printable, write_line};
-use justfile_tree::{Sink, put_piece};
+use justfile_token::Name;
+use justfile_vocabulary::{Indentation, Number};
 use std::alloc::{AllocError, Global};
 use std::fmt;
 
-/// A recipe as it was read.
+/// A recipe as it was parsed. Its dependencies aren't resolved to recipes.
 #[derive(Drop)]
 pub struct UnresolvedRecipe<'src> {
-    /// The attributes before it.
+    /// The attributes.
     pub attributes: AttributeSet<'src>,
-    /// The lines of its body, without the empty ones at the end. There are none if it has no body.
+    /// The lines of the body, without empty ones at the end. Empty if the recipe has no body.
     pub body: Vec<Line<'src>>,
-    /// The comment between its header and its body, without the white space at its end. There is
-    /// none if it has no body.
+    /// The comment between the header and the body, without white space at its end. `None` if the
+    /// recipe has no body.
     pub comment: Option<&'src str>,
-    /// The recipes that run before it and after it, in order.
+    /// The dependencies: the recipes that run before this one and then those that run after it, in
+    /// order.
     pub dependencies: Vec<UnresolvedDependency<'src>>,
-    /// What the comment before it says of it, if there is one that does.
+    /// The doc: the text of the comment before the recipe, if that is its doc.
     pub doc: Option<String>,
-    /// How many imports and modules lie between its file and the root.
+    /// The number of imports and modules from the root file to its file.
     pub file_depth: u32,
-    /// The offsets of the imports that lead to its file, the outermost first.
+    /// The offsets of the imports that lead to its file, from the root file on.
     pub import_offsets: Vec<usize>,
-    /// What the recipe is called.
+    /// The name.
     pub name: Name<'src>,
-    /// The number that no other recipe of the numerator has.
+    /// The number of the recipe. The numerator gives no other recipe the same number.
     pub number: Number,
-    /// What it takes as arguments, in order.
+    /// The parameters, in order.
     pub parameters: Vec<Parameter<'src>>,
-    /// How many of the dependencies come before `&&`, or all of them if there is none.
+    /// The number of dependencies before `&&`, or of all if there is no `&&`.
     pub priors: usize,
-    /// Whether lists of recipes leave it out.
+    /// Whether lists of recipes omit it.
     pub private: bool,
-    /// Whether `@` stands before its name.
+    /// Whether there is `@` before the name.
     pub quiet: bool,
-    /// Whether a program of its own runs it: it has the attribute `script`, or its body begins with
-    /// a `#!` line.
+    /// Whether the body is run as a script: there is an attribute `script`, or the body begins with
+    /// `#!`.
     pub shebang: bool,
 }
 
 impl<'src> UnresolvedRecipe<'src> {
-    /// A copy of the recipe.
+    /// Returns a copy of the recipe, or an error if out of memory.
     pub fn clone(&self, alloc: Global) -> Result<Self, AllocError>
         ensures { IfOk result (λ copy. IsSameRecipe copy self.now) }
     {
         let attributes = self.attributes.clone(alloc)?;
-        let dependencies = all_copied(alloc, &self.dependencies)?;
-        let parameters = all_copied(alloc, &self.parameters)?;
+        let dependencies = clone_all(alloc, &self.dependencies)?;
+        let parameters = clone_all(alloc, &self.parameters)?;
         let import_offsets = self.import_offsets.clone()?;
         let doc = copy_text(alloc, &self.doc)?;
         Ok(UnresolvedRecipe {
             attributes,
-            body: all_copied(alloc, &self.body)?,
+            body: clone_all(alloc, &self.body)?,
             comment: self.comment,
             dependencies,
             doc,
@@ -82,7 +84,7 @@ impl<'src> UnresolvedRecipe<'src> {
         })
     }
 
-    /// The dependencies before `&&`, or all of them, and those after it.
+    /// Returns the dependencies before `&&`, or all if there is no `&&`, and those after it.
     #[tactic(auto, using(std::proofs::lemmas::List::take_min, std::proofs::lemmas::List::drop_min))]
     fn split_dependencies(&self) -> (&[UnresolvedDependency<'src>], &[UnresolvedDependency<'src>])
         ensures priors { result.0.now ≡ priors_of self.now }
@@ -92,7 +94,7 @@ impl<'src> UnresolvedRecipe<'src> {
         self.dependencies.split_at(count)
     }
 
-    /// Whether each line of the printed body reads back.
+    /// Whether all lines of the printed body read back.
     #[tactic(auto, using(justfile_line::proofs::Bodies::printable_lines))]
     pub(crate) fn is_printable(&self) -> bool
         ensures { result ≡ printable_body (line_shapes self.now.body.items) }
@@ -101,67 +103,22 @@ impl<'src> UnresolvedRecipe<'src> {
     }
 }
 
-/// Whether each of the lines, printed, reads back.
+/// Writes the text of the header.
+impl fmt::Debug for UnresolvedRecipe<'_> {
+    fn fmt<W: fmt::Write>(&self, f: &mut fmt::Formatter<W>) -> fmt::Result {
+        write_header(self, f)
+    }
+}
+
+/// Whether all of the lines read back once they are printed.
 fn are_printable(lines: &[Line<'_>]) -> bool
-    ensures { result ≡ list_all (λ line. printable_fragments (fragment_shapes line.fragments.items)) lines.now }
+    ensures { result
+        ≡ list_all (λ line. printable_fragments (fragment_shapes line.fragments.items)) lines.now }
 {
     lines.iter().all(|line| is_printable(line))
 }
 
-/// Puts a line of a body on a line of its own.
-fn write_next_line<S: Sink>(
-    line: &Line<'_>,
-    indentation: Indentation,
-    sink: &mut S,
-) -> Result<(), S::Fault>
-    ensures ok { OnOk result (S.took sink.old (fixed_text (codes "\n")
-        ++ line_text (indentation_text indentation) (line_shape line.now)) sink.new) }
-    ensures err { OnErr result (S.failed sink.old (fixed_text (codes "\n")
-        ++ line_text (indentation_text indentation) (line_shape line.now)) sink.new) }
-{
-    put_piece("\n", sink)?;
-    write_line(line, indentation, sink)?;
-    Ok(())
-}
-
-/// Puts the lines of a body.
-fn write_body<S: Sink>(
-    lines: &[Line<'_>],
-    indentation: Indentation,
-    sink: &mut S,
-) -> Result<(), S::Fault>
-    ensures ok { OnOk result (S.took sink.old (body_text (indentation_text indentation) (line_shapes lines.now)) sink.new) }
-    ensures err { OnErr result (S.failed sink.old (body_text (indentation_text indentation) (line_shapes lines.now)) sink.new) }
-{
-    for line in lines {
-        write_next_line(line, indentation, sink)?;
-    }
-    Ok(())
-}
-
-/// Puts what stands before the name of a recipe that is quiet.
-fn write_quiet<S: Sink>(quiet: bool, sink: &mut S) -> Result<(), S::Fault>
-    ensures ok { OnOk result (S.took sink.old (if_true quiet (fixed_text (codes "@"))) sink.new) }
-    ensures err { OnErr result (S.failed sink.old (if_true quiet (fixed_text (codes "@"))) sink.new) }
-{
-    if quiet { put_piece("@", sink) } else { Ok(()) }
-}
-
-/// Puts the header of a recipe.
-fn write_header<S: Sink>(recipe: &UnresolvedRecipe<'_>, sink: &mut S) -> Result<(), S::Fault>
-    ensures ok { OnOk result (S.took sink.old (header_text (header_shape recipe.now)) sink.new) }
-    ensures err { OnErr result (S.failed sink.old (header_text (header_shape recipe.now)) sink.new) }
-{
-    let (priors, subsequents) = recipe.split_dependencies();
-    write_quiet(recipe.quiet, sink)?;
-    sink.put(recipe.name.lexeme())?;
-    write_parameters(&recipe.parameters, sink)?;
-    put_piece(":", sink)?;
-    write_dependencies(priors, sink)?;
-    write_subsequents(subsequents, sink)
-}
-
-/// Puts the text of a recipe, without its doc and its attributes.
+/// Writes the text of a recipe, without its doc and its attributes.
 pub(crate) fn write_recipe<S: Sink>(
     recipe: &UnresolvedRecipe<'_>,
     indentation: Indentation,
@@ -176,9 +133,55 @@ pub(crate) fn write_recipe<S: Sink>(
     Ok(())
 }
 
-/// The text of the header.
-impl fmt::Debug for UnresolvedRecipe<'_> {
-    fn fmt<W: fmt::Write>(&self, f: &mut fmt::Formatter<W>) -> fmt::Result {
-        write_header(self, f)
+/// Writes the header of a recipe.
+fn write_header<S: Sink>(recipe: &UnresolvedRecipe<'_>, sink: &mut S) -> Result<(), S::Fault>
+    ensures ok { OnOk result (S.took sink.old (header_text (header_shape recipe.now)) sink.new) }
+    ensures err { OnErr result (S.failed sink.old (header_text (header_shape recipe.now)) sink.new) }
+{
+    let (priors, subsequents) = recipe.split_dependencies();
+    write_quiet(recipe.quiet, sink)?;
+    sink.put(recipe.name.lexeme())?;
+    write_parameters(&recipe.parameters, sink)?;
+    put_piece(":", sink)?;
+    write_dependencies(priors, sink)?;
+    write_subsequents(subsequents, sink)
+}
+
+/// Writes the `@` of a quiet recipe.
+fn write_quiet<S: Sink>(quiet: bool, sink: &mut S) -> Result<(), S::Fault>
+    ensures ok { OnOk result (S.took sink.old (if_true quiet (fixed_text (codes "@"))) sink.new) }
+    ensures err { OnErr result (S.failed sink.old (if_true quiet (fixed_text (codes "@"))) sink.new) }
+{
+    if quiet { put_piece("@", sink) } else { Ok(()) }
+}
+
+/// Writes the lines of a body.
+fn write_body<S: Sink>(
+    lines: &[Line<'_>],
+    indentation: Indentation,
+    sink: &mut S,
+) -> Result<(), S::Fault>
+    ensures ok { OnOk result (S.took sink.old (body_text (indentation_text indentation) (line_shapes lines.now)) sink.new) }
+    ensures err { OnErr result (S.failed sink.old (body_text (indentation_text indentation) (line_shapes lines.now)) sink.new) }
+{
+    for line in lines {
+        write_next_line(line, indentation, sink)?;
     }
+    Ok(())
+}
+
+/// Writes a line end, and then a line of a body.
+fn write_next_line<S: Sink>(
+    line: &Line<'_>,
+    indentation: Indentation,
+    sink: &mut S,
+) -> Result<(), S::Fault>
+    ensures ok { OnOk result (S.took sink.old (fixed_text (codes "\n")
+        ++ line_text (indentation_text indentation) (line_shape line.now)) sink.new) }
+    ensures err { OnErr result (S.failed sink.old (fixed_text (codes "\n")
+        ++ line_text (indentation_text indentation) (line_shape line.now)) sink.new) }
+{
+    put_piece("\n", sink)?;
+    write_line(line, indentation, sink)?;
+    Ok(())
 }

@@ -5,18 +5,19 @@ ghost use Rattle.justfile_item.specs.Copies.{IsSameAssigned};
 ghost use Rattle.justfile_item.specs.Indented.{indentation_set, set_indentation};
 ghost use Rattle.justfile_item.specs.ItemText.{later_value_text, setting_text_of};
 
-use crate::copied::boxed_made;
+use crate::copy::boxed_made;
 use justfile_attribute_set::AttributeSet;
-use justfile_base::{Indentation, Keyed, Name};
+use justfile_expression::{Sink, put_piece};
 use justfile_setting::{Setting, write_setting};
-use justfile_tree::{Sink, put_piece};
+use justfile_token::{Keyed, Name};
+use justfile_vocabulary::Indentation;
 use std::alloc::{AllocError, Global};
 use std::fmt;
 
-/// A setting as it stands in a file.
+/// A setting in a file.
 #[derive(Drop)]
 pub struct Set<'src> {
-    /// The attributes before it.
+    /// The attributes.
     pub attributes: AttributeSet<'src>,
     /// The name of the setting.
     pub name: Name<'src>,
@@ -25,7 +26,7 @@ pub struct Set<'src> {
 }
 
 impl<'src> Set<'src> {
-    /// A copy of the setting.
+    /// Returns a copy of the setting, or an error if out of memory.
     pub fn clone(&self, alloc: Global) -> Result<Self, AllocError>
         ensures { IfOk result (λ copy. IsSameAssigned copy self.now) }
     {
@@ -40,7 +41,8 @@ impl<'src> Set<'src> {
         }
     }
 
-    /// The indentation that is set, if this is that setting and is there on this system.
+    /// Returns the indentation that is set, if this is the setting `indentation` and is enabled on
+    /// this system.
     pub(crate) fn indentation(&self) -> Option<Indentation>
         ensures { result ≡ option_map (λ p. p.1) (set_indentation self.now) }
     {
@@ -52,59 +54,15 @@ impl<'src> Set<'src> {
     }
 }
 
-/// A copy of a setting, in a box of its own.
-fn copy_boxed<'src>(
-    setting: &Setting<'src>,
-    alloc: Global,
-) -> Result<Box<Setting<'src>>, AllocError>
-    ensures { IfOk result (λ copy. IsSameSetting copy.value setting.now) }
-{
-    boxed_made(alloc, setting.clone(alloc))
-}
-
-/// The indentation that a setting says.
-fn indentation_of(setting: &Setting<'_>) -> Option<Indentation>
-    ensures { result ≡ option_map (λ p. p.1) (indentation_set setting.now) }
-{
-    match setting {
-        Setting::Indentation(_, indentation) => Some(*indentation),
-        _ => None,
-    }
-}
-
 /// The key of a setting is its name.
 impl<'src> Keyed<'src> for Set<'src> {
-    ghost use Rattle.justfile_base.specs.Name.{name_text};
+    ghost use Rattle.justfile_token.specs.Name.{name_text};
 
     ghost key_text = { λ set. name_text set.name };
 
     fn key(&self) -> &'src str {
         self.name.token.lexeme()
     }
-}
-
-/// Puts the value of a setting after `:=`, unless it is the default.
-#[tactic(auto, using(crate::proofs::ItemTexts::value_default))]
-fn write_value<S: Sink>(setting: &Setting<'_>, sink: &mut S) -> Result<(), S::Fault>
-    ensures ok { OnOk result (S.took sink.old (later_value_text setting.now) sink.new) }
-    ensures err { OnErr result (S.failed sink.old (later_value_text setting.now) sink.new) }
-{
-    if setting.is_default() {
-        return Ok(());
-    }
-    put_piece(" := ", sink)?;
-    write_setting(setting, sink)?;
-    Ok(())
-}
-
-/// Puts the text of a setting, without its attributes.
-pub(crate) fn write_set<S: Sink>(set: &Set<'_>, sink: &mut S) -> Result<(), S::Fault>
-    ensures ok { OnOk result (S.took sink.old (setting_text_of set.now) sink.new) }
-    ensures err { OnErr result (S.failed sink.old (setting_text_of set.now) sink.new) }
-{
-    put_piece("set ", sink)?;
-    sink.put(set.name.lexeme())?;
-    write_value(&set.value, sink)
 }
 
 impl fmt::Display for Set<'_> {
@@ -117,9 +75,53 @@ impl fmt::Display for Set<'_> {
     }
 }
 
-/// The text, as `Display` puts it.
+/// Writes the same text as `Display`.
 impl fmt::Debug for Set<'_> {
     fn fmt<W: fmt::Write>(&self, f: &mut fmt::Formatter<W>) -> fmt::Result {
         write_set(self, f)
     }
+}
+
+/// Returns a copy of a setting in a box of its own.
+fn copy_boxed<'src>(
+    setting: &Setting<'src>,
+    alloc: Global,
+) -> Result<Box<Setting<'src>>, AllocError>
+    ensures { IfOk result (λ copy. IsSameSetting copy.value setting.now) }
+{
+    boxed_made(alloc, setting.clone(alloc))
+}
+
+/// Returns the indentation if the setting is `indentation`.
+fn indentation_of(setting: &Setting<'_>) -> Option<Indentation>
+    ensures { result ≡ option_map (λ p. p.1) (indentation_set setting.now) }
+{
+    match setting {
+        Setting::Indentation(_, indentation) => Some(*indentation),
+        _ => None,
+    }
+}
+
+/// Writes the text of a setting, without its attributes.
+pub(crate) fn write_set<S: Sink>(set: &Set<'_>, sink: &mut S) -> Result<(), S::Fault>
+    ensures ok { OnOk result (S.took sink.old (setting_text_of set.now) sink.new) }
+    ensures err { OnErr result (S.failed sink.old (setting_text_of set.now) sink.new) }
+{
+    put_piece("set ", sink)?;
+    sink.put(set.name.lexeme())?;
+    write_value(&set.value, sink)
+}
+
+/// Writes `:=` and the value of a setting, or nothing if it is the default value.
+#[tactic(auto, using(crate::proofs::ItemTexts::value_default))]
+fn write_value<S: Sink>(setting: &Setting<'_>, sink: &mut S) -> Result<(), S::Fault>
+    ensures ok { OnOk result (S.took sink.old (later_value_text setting.now) sink.new) }
+    ensures err { OnErr result (S.failed sink.old (later_value_text setting.now) sink.new) }
+{
+    if setting.is_default() {
+        return Ok(());
+    }
+    put_piece(" := ", sink)?;
+    write_setting(setting, sink)?;
+    Ok(())
 }

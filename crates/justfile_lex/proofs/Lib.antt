@@ -1,3 +1,4 @@
+pub mod FeedLemmas
 pub mod LexerLemmas
 pub mod Pieces
 pub mod PlaceLemmas

@@ -1,10 +1,10 @@
--- Text that is read past plain bytes, and piece by piece.
+-- Raw text, read over plain bytes and piece by piece.
 use Rattle.std.proofs.Common.{◌≡◌, ℕ, zero, suc, ◌+◌, ◌-◌, ◌<◌, ◌≤◌, Bool, true, false, cond, eqb, ltb, List, [], ◌∷◌, length, get_or, drop, refl, sym, ap, subst, ◌∙◌, arith, add-one, zero-add, drop-cons, drop-drop, length-drop}
 use Rattle.std.specs.Prelude.{◌||◌, ◌&&◌, min}
 use Rattle.std.specs.List.{prefix_len}
 use Rattle.std.proofs.lemmas.Bool.Decides.{nat_tests}
 use Rattle.std.proofs.lemmas.List.Sums.{prefix_len-le-length}
-use Rattle.justfile_base.specs.StringKind.{quote_of, escapes}
+use Rattle.justfile_token.specs.StringKind.{quote_of, escapes}
 use Rattle.justfile_model.specs.declared.raw_text.RawText.{RawText}
 use Rattle.justfile_model.specs.declared.raw_text.RawText.TheVariants.{Comment, Body, Literal}
 use Rattle.justfile_model.specs.LiteralText.{hides, ends, pieces_len, raw_len}
@@ -128,9 +128,6 @@ piece_hiding s (b ∷ bs) n l e h =
     }
 
 pub ruleset piece_cases = (piece_none, piece_end, piece_plain, piece_hiding)
-
-pub inside_start : (s : RawText) (bs : List ℕ) → IsInside s bs 0
-inside_start s bs = record { within = omega arith; length_is = omega arith }
 
 -- a place after plain bytes
 pub inside_plain : (s : RawText) (bs : List ℕ) (at n : ℕ) → IsInside s bs at → n ≡ prefix_len (is_plain s) (drop at bs) → IsInside s bs (at + n)

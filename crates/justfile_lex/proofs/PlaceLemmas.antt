@@ -1,11 +1,13 @@
--- The place after one more byte.
-use Rattle.std.proofs.Common.{◌≡◌, ℕ, zero, suc, ◌+◌, ◌-◌, ◌<◌, ◌≤◌, Bool, true, false, cond, List, [], ◌∷◌, ◌++◌, length, get_or, take, drop, refl, sym, ap, subst, ◌∙◌, ⊎_elim, arith, length-append, length-drop, get_or-drop}
+-- The position after one more byte.
+use Rattle.std.proofs.Common.{◌≡◌, ℕ, zero, suc, ◌+◌, ◌-◌, ◌<◌, ◌≤◌, Bool, true, false, cond, eqb, List, [], ◌∷◌, ◌++◌, length, get_or, take, drop, refl, sym, ap, subst, ◌∙◌, ⊎_elim, arith, length-append, length-drop, get_or-drop}
 use Rattle.std.specs.Prelude.{not, reverse}
 use Rattle.std.specs.List.{prefix_len, count_by}
 use Rattle.std.proofs.lemmas.Bool.{cases_lt, ne_eqb}
 use Rattle.std.proofs.lemmas.List.{take_more, take_all, length-take-le, length-take, get_or-take, reverse-append}
 use Rattle.std.proofs.lemmas.Bool.Decides.{nat_tests}
 use Rattle.std.proofs.lemmas.List.Sums.{count_by_more_yes, count_by_more_no, prefix_len-le-length, prefix_len_passes}
+use Rattle.justfile_model.proofs.CutLemmas.{ne_from}
+use Rattle.justfile_lex.specs.Lexing.{HasNoFeed}
 use Rattle.justfile_model.specs.Places.{is_newline, text_before, last_line_start, line_of_offset, column_at, IsPlace}
 
 abbrev is_other : ℕ → Bool
@@ -88,27 +90,30 @@ place_other text at line column p l other =
     (λ last. same_line text at line column p l (ap (count_by is_newline) (before_same text at last)) (ap last_line_start (before_same text at last)))
     (cases_lt (at + 1) (length text))
 
--- bytes up to the first line feed are on the same line
-not_ten : (b : ℕ) → is_other b ≡ true → b ≡ 10 → ⊥
-not_ten b h e = grind (arith, nat_tests)
-
+-- bytes without a line feed are on the same line
 same_place : (text : List ℕ) (a b line c d : ℕ) → a ≡ b → c ≡ d → IsPlace text a line c → IsPlace text b line d
 same_place text a b line c d e f p = subst (λ o. IsPlace text o line d) e (subst (λ o. IsPlace text a line o) f p)
 
-line_byte : (text : List ℕ) (from n k : ℕ) → k < prefix_len is_other (take n (drop from text)) → is_other (get_or text (from + k) 0) ≡ true
-line_byte text from n k l =
-    let part = take n (drop from text) in
-    let inside : k < n = omega (arith, l, prefix_len-le-length is_other part, length-take n (drop from text)) in
-    let same : get_or part k 0 ≡ get_or text (from + k) 0 = get_or-take n (drop from text) k 0 inside ∙ get_or-drop from text k 0 in
-    subst (λ (b : ℕ). is_other b ≡ true) same (prefix_len_passes is_other part k 0 l)
+pub place_feedless : (text : List ℕ) (from n line column : ℕ) → IsPlace text from line column → from + n ≤ length text → HasNoFeed (drop from text) n → IsPlace text (from + n) line (column + n)
+place_feedless text from zero line column p l free = same_place text _ _ line _ _ (omega arith) (omega arith) p
+place_feedless text from (suc n) line column p l free =
+    let before = place_feedless text from n line column p (omega (arith, l)) (λ i h. free i (omega (arith, h))) in
+    let no_feed : eqb (get_or text (from + n) 0) 10 ≡ false = subst (λ (b : ℕ). eqb b 10 ≡ false) (get_or-drop from text n 0) (free n (omega arith)) in
+    same_place text _ _ line _ _ (omega arith) (omega arith) (place_other text (from + n) line (column + n) before (omega (arith, l)) (λ more e. ne_from _ 10 no_feed e))
 
-pub place_on_line : (text : List ℕ) (from n line column k : ℕ) → IsPlace text from line column → k ≤ prefix_len is_other (take n (drop from text)) → IsPlace text (from + k) line (column + k)
-place_on_line text from n line column zero p l = same_place text _ _ line _ _ (omega arith) (omega arith) p
-place_on_line text from n line column (suc k) p l =
-    let before = place_on_line text from n line column k p (omega (arith, l)) in
-    let inside : from + k < length text = omega (arith, l, prefix_len-le-length is_other (take n (drop from text)), length-take n (drop from text), length-drop from text) in
-    let other = line_byte text from n k (omega (arith, l)) in
-    same_place text _ _ line _ _ (omega arith) (omega arith) (place_other text (from + k) line (column + k) before inside (λ more e. not_ten _ other e))
+-- up to the first line feed, bytes have none
+other_is : (b : ℕ) → is_other b ≡ true → eqb b 10 ≡ false
+other_is b h = grind (arith, nat_tests)
+
+line_free : (bs : List ℕ) (n : ℕ) → HasNoFeed bs (prefix_len is_other (take n bs))
+line_free bs n i l =
+    let inside : i < n = omega (arith, l, prefix_len-le-length is_other (take n bs), length-take n bs) in
+    subst (λ (b : ℕ). eqb b 10 ≡ false) (get_or-take n bs i 0 inside) (other_is _ (prefix_len_passes is_other (take n bs) i 0 l))
 
 pub line_within : (text : List ℕ) (from n : ℕ) → prefix_len is_other (take n (drop from text)) ≤ n
 line_within text from n = omega (arith, prefix_len-le-length is_other (take n (drop from text)), length-take n (drop from text))
+
+pub place_on_line : (text : List ℕ) (from n line column k : ℕ) → IsPlace text from line column → from ≤ length text → k ≡ prefix_len is_other (take n (drop from text)) → IsPlace text (from + k) line (column + k)
+place_on_line text from n line column k p l e =
+    let fits : from + k ≤ length text = omega (arith, l, e, prefix_len-le-length is_other (take n (drop from text)), length-take n (drop from text), length-drop from text) in
+    place_feedless text from k line column p fits (subst (HasNoFeed (drop from text)) (sym e) (line_free (drop from text) n))

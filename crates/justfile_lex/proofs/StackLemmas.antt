@@ -1,4 +1,4 @@
--- Stacks whose innermost part stands last in the code and first in the definitions, and runs.
+-- Stacks have the innermost element last in the code and first in the definitions; and runs of bytes.
 use Rattle.std.proofs.Common.{◌≡◌, ℕ, suc, ◌+◌, Bool, true, false, cond, eqb, List, [], ◌∷◌, length, take, refl, sym, ap, ◌∙◌, arith}
 use Rattle.std.specs.Prelude.{reverse, map, ◌||◌}
 use Rattle.std.specs.List.{list_any, prefix_len}

@@ -1,13 +1,13 @@
--- The last cases of the layout of a line.
+-- The layout token for blanks that differ from the open levels.
 use Rattle.std.specs.Prelude.{ℕ, List, length, not, nat_eq, Ok, Err, if◌then◌else◌}
 use Rattle.std.specs.List.{starts_with}
-use Rattle.justfile_word.specs.declared.token_kind.TokenKind.TheVariants.{Indent}
+use Rattle.justfile_vocabulary.specs.declared.token_kind.TokenKind.TheVariants.{Indent}
 use Rattle.justfile_model.specs.Bytes.{is_mixed}
 use Rattle.justfile_model.specs.LexicalFault.{Here, InconsistentLeadingWhitespace, MixedLeadingWhitespace}
 use Rattle.justfile_model.specs.Modes.{Mode, innermost}
 use Rattle.justfile_model.specs.Next.{NextToken, tested_blanks}
 
--- blanks that are no level and do not go on with a body
+-- blanks that aren't a level and don't continue a body
 abbrev pub indent : Mode → List ℕ → NextToken
 indent m found =
     if is_mixed (tested_blanks m found) then Err (Here (MixedLeadingWhitespace (tested_blanks m found)) 0 (length (tested_blanks m found)))

@@ -1,8 +1,8 @@
--- The code's mode. Its stacks have the innermost last.
+-- The mode of the code as a mode of the definitions. The stacks of the code have the innermost element last.
 use Rattle.std.specs.Prelude.{map, reverse, option_map, Option, None, Some}
-use Rattle.justfile_base.specs.declared.token.Token.{Token}
-use Rattle.justfile_word.specs.declared.token_kind.TokenKind.{TokenKind}
-use Rattle.justfile_word.specs.declared.token_kind.TokenKind.TheVariants.{InterpolationStart, InterpolationEnd}
+use Rattle.justfile_token.specs.declared.token.Token.{Token}
+use Rattle.justfile_vocabulary.specs.declared.token_kind.TokenKind.{TokenKind}
+use Rattle.justfile_vocabulary.specs.declared.token_kind.TokenKind.TheVariants.{InterpolationStart, InterpolationEnd}
 use Rattle.justfile_model.specs.Tok.{tok_of}
 use Rattle.justfile_model.specs.Modes.{Mode}
 use Rattle.justfile_lex.specs.declared.mode.Mode.{Mode as CodeMode}
@@ -18,7 +18,7 @@ mode_of m = record {
   after_f = m.after_f;
 }
 
--- the start of the open interpolation after the next token
+-- the start of the open interpolation after this token
 abbrev pub interpolation_start_by : TokenKind → Token → Option Token → Option Token
 interpolation_start_by InterpolationStart t before = Some t
 interpolation_start_by InterpolationEnd t before = None

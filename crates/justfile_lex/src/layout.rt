@@ -10,12 +10,33 @@ ghost use Rattle.justfile_lex.specs.WhiteRun.{IsRunOf};
 use crate::bytes::{begins_with, blank_len, is_line_end, is_mixed, skip, take_blanks};
 use crate::lexical_fault::LexicalFault;
 use crate::mode::Mode;
-use crate::refusal::{Scanned, refuse};
 use crate::scan::scan_within_line;
+use crate::scan_error::{Scanned, refuse};
 use crate::white_run::WhiteRun;
-use justfile_base::TokenKind;
+use justfile_vocabulary::TokenKind;
 
-/// The token at the end of the text, where no interpolation is open.
+/// Returns the kind and the length of the next token.
+#[tactic(auto, unfolding(justfile_model::specs::Next::next))]
+pub(crate) fn scan_token<'src>(
+    mode: &Mode<'src>,
+    run: &mut WhiteRun,
+    rest: &'src str,
+) -> Scanned<'src>
+    requires closed { length rest.now ≡ 0 → (mode_of mode.now).interpolation ≡ None }
+    requires run { IsRunOf rest.now run.old }
+    ensures found { scan_answer result ≡ next (mode_of mode.now) rest.now }
+    ensures run { IsRunOf rest.now run.new }
+{
+    if rest.is_empty() {
+        scan_end(mode)
+    } else if mode.line_start {
+        scan_line_start(mode, run, rest)
+    } else {
+        scan_within_line(mode, rest)
+    }
+}
+
+/// Returns the token at the end of the text, if no interpolation is open: a dedent or `Eof`.
 fn scan_end<'src>(mode: &Mode<'src>) -> Scanned<'src>
     requires { (mode_of mode.now).interpolation ≡ None }
     ensures { scan_answer result ≡ end_token (mode_of mode.now) }
@@ -27,74 +48,7 @@ fn scan_end<'src>(mode: &Mode<'src>) -> Scanned<'src>
     }
 }
 
-/// So many blanks, or the token that comes where there are none.
-fn scan_blanks<'src>(count: usize, mode: &Mode<'src>, rest: &'src str) -> Scanned<'src>
-    requires { 0 < length rest.now }
-    ensures { scan_answer result ≡ blanks_or count (mode_of mode.now) rest.now }
-{
-    if count == 0 {
-        scan_within_line(mode, rest)
-    } else {
-        Ok((TokenKind::Whitespace, count))
-    }
-}
-
-/// The part of the leading blanks that may not mix spaces and tabs.
-fn take_tested_blanks<'src>(mode: &Mode<'src>, found: &'src str) -> &'src str
-    requires { blank_len found.now ≡ length found.now }
-    ensures { result.now ≡ tested_blanks (mode_of mode.now) found.now }
-{
-    if mode.in_body {
-        take_blanks(found, mode.level().len().min(found.len()))
-    } else {
-        found
-    }
-}
-
-/// Whether a line end or the end of the text is at the front.
-fn is_blank_line(rest: &[u8]) -> bool
-    ensures { result ≡ begins_blank_line rest.now }
-{
-    is_line_end(rest) || rest.is_empty()
-}
-
-/// Whether a line of a body begins with the level.
-fn continues_body(mode: &Mode, found: &str, level: &str) -> bool
-    ensures { result ≡ ((mode_of mode.now).in_body && starts_with nat_eq found.now level.now) }
-{
-    mode.in_body && begins_with(found.as_bytes(), level.as_bytes())
-}
-
-/// Blanks that are no level: one more level, or a fault.
-fn scan_indent<'src>(mode: &Mode<'src>, found: &'src str) -> Scanned<'src>
-    requires { blank_len found.now ≡ length found.now }
-    ensures { scan_answer result ≡ indent (mode_of mode.now) found.now }
-{
-    let level = mode.level();
-    let tested_blanks = take_tested_blanks(mode, found);
-    if is_mixed(tested_blanks.as_bytes()) {
-        return refuse(
-            LexicalFault::MixedLeadingWhitespace {
-                whitespace: tested_blanks,
-            },
-            0,
-            tested_blanks.len(),
-        );
-    }
-    if !begins_with(found.as_bytes(), level.as_bytes()) {
-        return refuse(
-            LexicalFault::InconsistentLeadingWhitespace {
-                expected: level,
-                found,
-            },
-            0,
-            found.len(),
-        );
-    }
-    Ok((TokenKind::Indent, found.len()))
-}
-
-/// The token at the start of a line.
+/// Returns the token at the start of a line.
 #[tactic(auto, unfolding(justfile_model::specs::Next::layout))]
 fn scan_line_start<'src>(mode: &Mode<'src>, run: &mut WhiteRun, rest: &'src str) -> Scanned<'src>
     requires some { 0 < length rest.now }
@@ -128,23 +82,72 @@ fn scan_line_start<'src>(mode: &Mode<'src>, run: &mut WhiteRun, rest: &'src str)
     scan_indent(mode, found)
 }
 
-/// The kind and the length of the next token.
-#[tactic(auto, unfolding(justfile_model::specs::Next::next))]
-pub(crate) fn scan_token<'src>(
-    mode: &Mode<'src>,
-    run: &mut WhiteRun,
-    rest: &'src str,
-) -> Scanned<'src>
-    requires closed { length rest.now ≡ 0 → (mode_of mode.now).interpolation ≡ None }
-    requires run { IsRunOf rest.now run.old }
-    ensures found { scan_answer result ≡ next (mode_of mode.now) rest.now }
-    ensures run { IsRunOf rest.now run.new }
+/// Returns a run of `count` blanks, or the next token if `count` is 0.
+#[inline(always)]
+fn scan_blanks<'src>(count: usize, mode: &Mode<'src>, rest: &'src str) -> Scanned<'src>
+    requires { 0 < length rest.now }
+    ensures { scan_answer result ≡ blanks_or count (mode_of mode.now) rest.now }
 {
-    if rest.is_empty() {
-        scan_end(mode)
-    } else if mode.line_start {
-        scan_line_start(mode, run, rest)
-    } else {
+    if count == 0 {
         scan_within_line(mode, rest)
+    } else {
+        Ok((TokenKind::Whitespace, count))
+    }
+}
+
+/// Whether a line end or the end of the text is at the start.
+fn is_blank_line(rest: &[u8]) -> bool
+    ensures { result ≡ begins_blank_line rest.now }
+{
+    is_line_end(rest) || rest.is_empty()
+}
+
+/// Whether a line in a body begins with the level.
+fn continues_body(mode: &Mode, found: &str, level: &str) -> bool
+    ensures { result ≡ ((mode_of mode.now).in_body && starts_with nat_eq found.now level.now) }
+{
+    mode.in_body && begins_with(found.as_bytes(), level.as_bytes())
+}
+
+/// Returns an indent for blanks that aren't a level, or an error if they aren't deeper than the
+/// level.
+fn scan_indent<'src>(mode: &Mode<'src>, found: &'src str) -> Scanned<'src>
+    requires { blank_len found.now ≡ length found.now }
+    ensures { scan_answer result ≡ indent (mode_of mode.now) found.now }
+{
+    let level = mode.level();
+    let tested_blanks = take_tested_blanks(mode, found);
+    if is_mixed(tested_blanks.as_bytes()) {
+        return refuse(
+            LexicalFault::MixedLeadingWhitespace {
+                whitespace: tested_blanks,
+            },
+            0,
+            tested_blanks.len(),
+        );
+    }
+    if !begins_with(found.as_bytes(), level.as_bytes()) {
+        return refuse(
+            LexicalFault::InconsistentLeadingWhitespace {
+                expected: level,
+                found,
+            },
+            0,
+            found.len(),
+        );
+    }
+    Ok((TokenKind::Indent, found.len()))
+}
+
+/// Returns the leading blanks that can't mix spaces and tabs: in a body, only as many as the level
+/// has.
+fn take_tested_blanks<'src>(mode: &Mode<'src>, found: &'src str) -> &'src str
+    requires { blank_len found.now ≡ length found.now }
+    ensures { result.now ≡ tested_blanks (mode_of mode.now) found.now }
+{
+    if mode.in_body {
+        take_blanks(found, mode.level().len().min(found.len()))
+    } else {
+        found
     }
 }

@@ -1,30 +1,31 @@
 ghost use Rattle.std.specs.Prelude.{◌≡◌, ◌+◌, ◌≤◌, ◌||◌, ◌==◌, length, drop, map, Ok, Err, IfOk, OnOk, IfErr, All, MatchOption, None, Some};
 ghost use Rattle.std.specs.Str.{IsCharBoundary, IsUtf8};
 ghost use Rattle.std.specs.Char.{is_ascii_alphabetic, is_ascii_digit};
-ghost use Rattle.justfile_base.specs.Slice.{IsWithin};
-ghost use Rattle.justfile_word.specs.declared.token_kind.TokenKind.TheVariants.{Unspecified};
+ghost use Rattle.justfile_token.specs.Slice.{IsWithin};
+ghost use Rattle.justfile_vocabulary.specs.declared.token_kind.TokenKind.TheVariants.{Unspecified};
 ghost use Rattle.justfile_model.specs.Next.{next};
 ghost use Rattle.justfile_model.specs.Tok.{tok_of};
 ghost use Rattle.justfile_model.specs.Lexed.{Lexed, StandsAt, end_of};
-ghost use Rattle.justfile_model.specs.Answers.{IsFrom, IsLexicalError, IsLexerFault};
+ghost use Rattle.justfile_model.specs.LexResult.{IsFrom, IsLexicalError, IsLexerFault};
+ghost use Rattle.justfile_model.specs.Places.{IsPlace};
+ghost use Rattle.justfile_lex.specs.Lexing.{is_searched};
 ghost use Rattle.justfile_lex.specs.Modes.{mode_of};
 ghost use Rattle.justfile_lex.specs.Scanned.{scan_refusal};
 
 use crate::layout;
 use crate::mode::Mode;
 use crate::place::{Place, place_after};
-use crate::refusal::Refusal;
+use crate::scan_error::ScanError;
 use crate::white_run::WhiteRun;
-use justfile_base::{
-    CompileError, CompileErrorKind, CompileResult, Fault, Token, TokenKind, interpolation,
-};
+use justfile_token::{CompileError, CompileErrorKind, CompileResult, Fault, Token};
+use justfile_vocabulary::{TokenKind, interpolation};
 use std::alloc::{AllocError, Global};
 
-/// Cuts a text into tokens.
+/// The lexer, which cuts a text into tokens.
 #[derive(Drop)]
 pub struct Lexer<'src> {
     mode: Mode<'src>,
-    /// Where the next token begins, in bytes.
+    /// The offset of the next token, in bytes.
     offset: usize,
     path: &'src str,
     /// The line and the column of the offset.
@@ -35,22 +36,22 @@ pub struct Lexer<'src> {
 }
 
 impl<'src> Lexer<'src> {
-    ghost use Rattle.justfile_lex.specs.Lexing.{earlier, IsLexing, Pushes, IsLexerToken};
+    ghost use Rattle.justfile_lex.specs.Lexing.{earlier, IsAtEnd, IsLexing, Pushes, IsLexerToken};
 
-    /// What begins an interpolation.
+    /// Opens an interpolation.
     pub const INTERPOLATION_START: &'static str = interpolation::INTERPOLATION_START;
-    /// What ends an interpolation.
+    /// Closes an interpolation.
     pub const INTERPOLATION_END: &'static str = interpolation::INTERPOLATION_END;
-    /// What stands in text for two opening braces.
+    /// Stands for two opening braces in text.
     pub const INTERPOLATION_ESCAPE: &'static str = interpolation::INTERPOLATION_ESCAPE;
 
-    /// The tokens of a text, in order and joined to the whole text, the empty `Eof` last. Each has
-    /// this path and this source.
+    /// Returns the tokens of a text. They are in order and cover the whole text, and the last one
+    /// is the empty `Eof`. Each has this path and this source.
     ///
     /// # Errors
     ///
-    /// `Compile` if the text has a lexical fault, with the first one's kind and place; `Memory` if
-    /// memory runs out.
+    /// `Compile` with the kind and position of the first lexical fault, if there is one; `Memory`
+    /// if memory runs out.
     pub fn lex(
         alloc: Global,
         path: &'src str,
@@ -78,21 +79,21 @@ impl<'src> Lexer<'src> {
         }
     }
 
-    /// Whether an identifier may begin with the character.
-    pub fn is_identifier_start(c: char) -> bool
-        ensures { result ≡ (is_ascii_alphabetic c || c == 95) }
-    {
-        c.is_ascii_alphabetic() || c == '_'
-    }
-
-    /// Whether an identifier may go on with the character.
+    /// Whether an identifier can contain the character after its first one.
     pub fn is_identifier_continue(c: char) -> bool
         ensures { result ≡ (is_ascii_alphabetic c || c == 95 || is_ascii_digit c || c == 45) }
     {
         Self::is_identifier_start(c) || c.is_ascii_digit() || c == '-'
     }
 
-    /// The lexer at the start of a text.
+    /// Whether an identifier can begin with the character.
+    pub fn is_identifier_start(c: char) -> bool
+        ensures { result ≡ (is_ascii_alphabetic c || c == 95) }
+    {
+        c.is_ascii_alphabetic() || c == '_'
+    }
+
+    /// Returns the lexer at the start of a text.
     fn new(alloc: Global, path: &'src str, src: &'src str) -> Self
         ensures lexing { IsLexing result }
         ensures offset { result.offset ≡ 0 }
@@ -109,19 +110,14 @@ impl<'src> Lexer<'src> {
         }
     }
 
-    /// The text after the tokens so far.
-    fn rest(&self) -> &'src str
-        requires { IsCharBoundary self.now.src.now self.now.offset }
-        ensures { result.now ≡ drop self.now.offset self.now.src.now }
-    {
-        &self.src[self.offset..]
-    }
-
-    /// The start of the interpolation that is open at the end of the text.
+    /// Returns the first token of the interpolation that is open at the end of the text. `None` if
+    /// text is left or no interpolation is open.
     fn unclosed_interpolation(&self) -> Option<Token<'src>>
         requires { IsCharBoundary self.now.src.now self.now.offset }
-        ensures { MatchOption result (length (drop self.now.offset self.now.src.now) ≡ 0 → self.now.mode.interpolation ≡ None)
-            (λ t. (length (drop self.now.offset self.now.src.now) ≡ 0) × (self.now.mode.interpolation ≡ Some t)) }
+        ensures { MatchOption result (length (drop self.now.offset self.now.src.now) ≡ 0
+            → self.now.mode.interpolation ≡ None)
+            (λ t. (length (drop self.now.offset self.now.src.now) ≡ 0)
+            × (self.now.mode.interpolation ≡ Some t)) }
     {
         if self.rest().is_empty() {
             self.mode.interpolation
@@ -130,7 +126,15 @@ impl<'src> Lexer<'src> {
         }
     }
 
-    /// The fault of a text that ends in the interpolation that begins with this token.
+    /// Returns the text after the tokens so far.
+    fn rest(&self) -> &'src str
+        requires { IsCharBoundary self.now.src.now self.now.offset }
+        ensures { result.now ≡ drop self.now.offset self.now.src.now }
+    {
+        &self.src[self.offset..]
+    }
+
+    /// Returns the fault of a text that ends inside the interpolation that begins with this token.
     fn unterminated(&self, start: Token<'src>) -> Fault<'src>
         requires lexing { IsLexing self.now }
         requires at_end { length (drop self.now.offset self.now.src.now) ≡ 0 }
@@ -140,24 +144,39 @@ impl<'src> Lexer<'src> {
         Fault::Compile(CompileError::new(start, CompileErrorKind::UnterminatedInterpolation))
     }
 
-    /// A token of this kind and length at the place.
-    fn make_token(&self, kind: TokenKind, length: usize) -> Token<'src>
-        requires { IsWithin self.now.src.now self.now.offset length }
-        ensures at { IsLexerToken self.now kind length (tok_of result) }
-        ensures source { IsFrom self.now.path.now self.now.src.now result }
+    /// Returns the fault for a scan error at the current position.
+    fn make_fault(&self, alloc: Global, refusal: ScanError<'src>) -> Fault<'src>
+        requires lexing { IsLexing self.now }
+        requires utf8 { IsUtf8 self.now.src.now }
+        requires refused { next (mode_of self.now.mode) (drop self.now.offset self.now.src.now)
+            ≡ Err (scan_refusal refusal) }
+        ensures { IsLexerFault self.now.path.now self.now.src.now result }
     {
-        Token {
-            column: self.place.column,
-            kind,
-            length,
-            line: self.place.line,
-            offset: self.offset,
-            path: self.path,
-            src: self.src,
+        match self.make_error(alloc, refusal) {
+            Ok(error) => Fault::Compile(error),
+            Err(_) => Fault::Memory,
         }
     }
 
-    /// The bytes at which an error points, after the bytes to skip.
+    /// Returns the error for a scan error at the current position.
+    fn make_error(
+        &self,
+        alloc: Global,
+        refusal: ScanError<'src>,
+    ) -> Result<CompileError<'src>, AllocError>
+        requires lexing { IsLexing self.now }
+        requires utf8 { IsUtf8 self.now.src.now }
+        requires refused { next (mode_of self.now.mode) (drop self.now.offset self.now.src.now)
+            ≡ Err (scan_refusal refusal) }
+        ensures { IfOk result (IsLexicalError self.now.path.now self.now.src.now) }
+    {
+        let token = self.make_error_token(refusal.skip, refusal.length);
+        let kind = refusal.fault.into_kind(alloc)?;
+        Ok(CompileError::new(token, kind))
+    }
+
+    /// Returns the token at which an error is reported: the `length` bytes after the next `skip`
+    /// ones.
     fn make_error_token(&self, skip: usize, length: usize) -> Token<'src>
         requires lexing { IsLexing self.now }
         requires within { IsWithin self.now.src.now (self.now.offset + skip) length }
@@ -179,48 +198,74 @@ impl<'src> Lexer<'src> {
         }
     }
 
-    /// The error that a refusal is here.
-    fn make_error(
-        &self,
-        alloc: Global,
-        refusal: Refusal<'src>,
-    ) -> Result<CompileError<'src>, AllocError>
-        requires lexing { IsLexing self.now }
-        requires utf8 { IsUtf8 self.now.src.now }
-        requires refused { next (mode_of self.now.mode) (drop self.now.offset self.now.src.now) ≡ Err (scan_refusal refusal) }
-        ensures { IfOk result (IsLexicalError self.now.path.now self.now.src.now) }
-    {
-        let token = self.make_error_token(refusal.skip, refusal.length);
-        let kind = refusal.fault.into_kind(alloc)?;
-        Ok(CompileError::new(token, kind))
-    }
-
-    /// The fault that a refusal is here.
-    fn make_fault(&self, alloc: Global, refusal: Refusal<'src>) -> Fault<'src>
-        requires lexing { IsLexing self.now }
-        requires utf8 { IsUtf8 self.now.src.now }
-        requires refused { next (mode_of self.now.mode) (drop self.now.offset self.now.src.now) ≡ Err (scan_refusal refusal) }
-        ensures { IsLexerFault self.now.path.now self.now.src.now result }
-    {
-        match self.make_error(alloc, refusal) {
-            Ok(error) => Fault::Compile(error),
-            Err(_) => Fault::Memory,
-        }
-    }
-
-    /// Adds the next token.
+    /// Appends the next token and moves to its end.
     fn push(&mut self, kind: TokenKind, length: usize) -> Result<(), AllocError>
         requires lexing { IsLexing self.old }
         requires cut { IsCharBoundary (drop self.old.offset self.old.src.now) length }
-        requires found { next (mode_of self.old.mode) (drop self.old.offset self.old.src.now) ≡ Ok (kind, length) }
+        requires found { next (mode_of self.old.mode) (drop self.old.offset self.old.src.now)
+            ≡ Ok (kind, length) }
         ensures { OnOk result (Pushes self.old self.new kind length) }
     {
         let token = self.make_token(kind, length);
+        let place = self.place_past(kind, length);
         self.mode.note(token)?;
         self.tokens.push(token)?;
-        let end = self.offset + length;
-        self.place = place_after(self.src.as_bytes(), self.place, self.offset, end);
-        self.offset = end;
+        self.place = place;
+        self.offset += length;
         Ok(())
     }
+
+    /// Returns the token of this kind and length at the current position.
+    fn make_token(&self, kind: TokenKind, length: usize) -> Token<'src>
+        requires { IsWithin self.now.src.now self.now.offset length }
+        ensures at { IsLexerToken self.now kind length (tok_of result) }
+        ensures source { IsFrom self.now.path.now self.now.src.now result }
+    {
+        Token {
+            column: self.place.column,
+            kind,
+            length,
+            line: self.place.line,
+            offset: self.offset,
+            path: self.path,
+            src: self.src,
+        }
+    }
+
+    /// Returns the position after the next token, which has this kind and length.
+    fn place_past(&self, kind: TokenKind, length: usize) -> Place
+        requires at_end { IsAtEnd self.now }
+        requires within { IsWithin self.now.src.now self.now.offset length }
+        requires found { next (mode_of self.now.mode) (drop self.now.offset self.now.src.now)
+            ≡ Ok (kind, length) }
+        ensures { IsPlace self.now.src.now (self.now.offset + length) result.line result.column }
+    {
+        if is_searched(kind) {
+            let end = self.offset + length;
+            place_after(self.src.as_bytes(), self.place, self.offset, end)
+        } else {
+            Place {
+                line: self.place.line,
+                column: self.place.column + length,
+            }
+        }
+    }
+}
+
+/// Whether tokens of the kind are searched for line feeds. The other kinds have none.
+fn is_searched(kind: TokenKind) -> bool
+    ensures { result ≡ is_searched kind }
+{
+    matches!(
+        kind,
+        TokenKind::Backtick
+            | TokenKind::ByteOrderMark
+            | TokenKind::Eol
+            | TokenKind::FormatStringContinue
+            | TokenKind::FormatStringEnd
+            | TokenKind::FormatStringStart
+            | TokenKind::InterpolationStart
+            | TokenKind::StringToken
+            | TokenKind::Whitespace
+    )
 }

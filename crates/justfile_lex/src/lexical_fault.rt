@@ -2,10 +2,11 @@ ghost use Rattle.std.specs.Prelude.{◌≡◌, IfOk};
 ghost use Rattle.justfile_model.specs.LexicalFault.{lexical_fault_of};
 ghost use Rattle.justfile_lex.specs.Scanned.{scan_fault};
 
-use justfile_base::{CompileErrorKind, Delimiter};
+use justfile_token::{CompileErrorKind, Delimiter};
 use std::alloc::{AllocError, Global};
 
-/// Why no token comes next, said without memory. An interpolation without an end is found apart.
+/// Why there is no next token. It borrows the text, so it needs no memory. An interpolation without
+/// an end isn't among these, since the lexer checks for it separately.
 #[derive(Clone, Copy, Debug)]
 pub(crate) enum LexicalFault<'src> {
     EscapeEndOfFile,
@@ -42,7 +43,7 @@ pub(crate) enum LexicalFault<'src> {
 }
 
 impl<'src> LexicalFault<'src> {
-    /// The kind of the error that says so. Memory is needed for the expected characters alone.
+    /// Returns the kind of the error. Allocates only for the lists of expected characters.
     pub(crate) fn into_kind(self, alloc: Global) -> Result<CompileErrorKind<'src>, AllocError>
         ensures { IfOk result (λ kind. lexical_fault_of kind ≡ scan_fault self.entry) }
     {

@@ -1,54 +1,31 @@
-ghost use Rattle.std.specs.Prelude.{◌≡◌, ◌||◌, ◌+◌, ◌≤◌, map, not, length, ◌==◌, ◌∷◌, OnOk, None, true, false};
+ghost use Rattle.std.specs.Prelude.{◌≡◌, ◌||◌, ◌+◌, ◌≤◌, map, not, length, ◌==◌, [], ◌∷◌, OnOk, None, true, false};
 ghost use Rattle.std.specs.List.{list_any, count_by};
 ghost use Rattle.std.specs.Str.{bytes_eq};
 ghost use Rattle.justfile_model.specs.Places.{is_newline};
 ghost use Rattle.justfile_model.specs.Modes.{ends_in_newline};
 
-use justfile_base::{Delimiter, StringKind, Token, TokenKind};
 use justfile_model::OpenDelimiter;
+use justfile_token::{Delimiter, StringKind, Token};
+use justfile_vocabulary::TokenKind;
 use std::alloc::{AllocError, Global};
 
-/// What the earlier tokens say of the next.
+/// The state of the lexer after the earlier tokens, which determines the next one.
 #[derive(Drop)]
 pub(crate) struct Mode<'src> {
     /// Whether the last token is the identifier `f`.
     pub(crate) after_f: bool,
-    /// Whether a colon came since the last dedent.
+    /// Whether there was a colon after the last dedent.
     pub(crate) colon: bool,
-    /// Whether the lines are those of a body.
+    /// Whether the lines belong to a body.
     pub(crate) in_body: bool,
-    /// The start of the open interpolation.
+    /// The token that began the open interpolation.
     pub(crate) interpolation: Option<Token<'src>>,
-    /// The open levels, the innermost last.
+    /// The open levels, innermost last.
     pub(crate) levels: Vec<&'src str>,
-    /// Whether nothing of the line came yet.
+    /// Whether the next token is the first one on its line.
     pub(crate) line_start: bool,
-    /// The open delimiters, the innermost last.
+    /// The open delimiters, innermost last.
     pub(crate) openers: Vec<OpenDelimiter>,
-}
-
-/// Whether one of the texts is this one.
-fn contains(texts: &[&str], text: &str) -> bool
-    ensures { result ≡ list_any (λ t. bytes_eq t.now text.now) texts.now }
-{
-    texts.iter().any(|t| *t == text)
-}
-
-/// How many newlines there are.
-fn count_newlines(bytes: &[u8]) -> usize
-    ensures { result ≡ count_by is_newline bytes.now }
-{
-    bytes.iter().filter(|b| **b == b'\n').count()
-}
-
-/// Whether the last byte is a newline.
-fn ends_in_newline(bytes: &[u8]) -> bool
-    ensures { result ≡ ends_in_newline bytes.now }
-{
-    match bytes.last() {
-        Some(byte) => *byte == b'\n',
-        None => false,
-    }
 }
 
 impl<'src> Mode<'src> {
@@ -56,9 +33,8 @@ impl<'src> Mode<'src> {
     ghost use Rattle.justfile_model.specs.Next.{is_level};
     ghost use Rattle.justfile_model.specs.Tok.{tok_of};
     ghost use Rattle.justfile_lex.specs.Modes.{mode_of, interpolation_after};
-    ghost use Rattle.std.specs.Prelude.{[]};
 
-    /// The mode at the start of a text.
+    /// Returns the mode at the start of a text.
     pub(crate) fn new(alloc: Global) -> Self
         ensures mode { mode_of result ≡ start_mode }
         ensures interpolation { result.interpolation ≡ None }
@@ -74,7 +50,7 @@ impl<'src> Mode<'src> {
         }
     }
 
-    /// The innermost level.
+    /// Returns the innermost level, which is empty if none is open.
     pub(crate) fn level(&self) -> &'src str
         ensures { result.now ≡ innermost (mode_of self.now) }
     {
@@ -84,7 +60,7 @@ impl<'src> Mode<'src> {
         }
     }
 
-    /// The innermost open delimiter.
+    /// Returns the innermost open delimiter.
     pub(crate) fn opener(&self) -> Option<OpenDelimiter>
         ensures { result ≡ head_of (mode_of self.now).openers }
     {
@@ -92,13 +68,6 @@ impl<'src> Mode<'src> {
             Some(opener) => Some(*opener),
             None => None,
         }
-    }
-
-    /// Whether no delimiter is open.
-    pub(crate) fn nothing_open(&self) -> bool
-        ensures { result ≡ is_empty (mode_of self.now).openers }
-    {
-        self.openers.is_empty()
     }
 
     /// Whether no level is open.
@@ -115,14 +84,61 @@ impl<'src> Mode<'src> {
         !self.nothing_open() || self.interpolation.is_some()
     }
 
-    /// Whether the text is one of the levels, of which the lowest is empty.
+    /// Whether no delimiter is open.
+    pub(crate) fn nothing_open(&self) -> bool
+        ensures { result ≡ is_empty (mode_of self.now).openers }
+    {
+        self.openers.is_empty()
+    }
+
+    /// Whether the text is one of the open levels, or empty.
     pub(crate) fn is_level(&self, text: &str) -> bool
         ensures { result ≡ is_level (mode_of self.now).levels text.now }
     {
         text.is_empty() || contains(&self.levels, text)
     }
 
-    /// Opens a delimiter that stands on the line.
+    /// Updates the mode with the next token.
+    pub(crate) fn note(&mut self, token: Token<'src>) -> Result<(), AllocError>
+        requires { token.line ≤ token.offset }
+        ensures mode { OnOk result (mode_of self.new
+            ≡ mode_after token.entry.kind (tok_of token.entry) (mode_of self.old)) }
+        ensures interpolation { OnOk result (self.new.interpolation
+            ≡ interpolation_after token.entry self.old.interpolation) }
+    {
+        let line_start = self.line_start;
+        self.line_start = false;
+        self.after_f = false;
+        match token.kind {
+            TokenKind::BraceL => self.open(Delimiter::Brace, token.line)?,
+            TokenKind::BracketL => self.open(Delimiter::Bracket, token.line)?,
+            TokenKind::ParenL => self.open(Delimiter::Paren, token.line)?,
+            TokenKind::FormatStringStart => {
+                let bytes = token.lexeme().as_bytes();
+                let line = token.line + count_newlines(bytes);
+                self.open(Delimiter::FormatString(StringKind::of_opening(bytes)), line)?
+            }
+            TokenKind::BraceR
+            | TokenKind::BracketR
+            | TokenKind::ParenR
+            | TokenKind::FormatStringEnd => self.close(),
+            TokenKind::Colon => self.colon = true,
+            TokenKind::Indent => self.indent(token.lexeme())?,
+            TokenKind::Dedent => {
+                self.dedent();
+                self.line_start = line_start;
+            }
+            TokenKind::InterpolationStart => self.interpolation = Some(token),
+            TokenKind::InterpolationEnd => self.interpolation = None,
+            TokenKind::Eol => self.line_start = true,
+            TokenKind::Whitespace => self.line_start = ends_in_newline(token.lexeme().as_bytes()),
+            TokenKind::Identifier => self.after_f = is_letter_f(token.lexeme().as_bytes()),
+            _ => {}
+        }
+        Ok(())
+    }
+
+    /// Opens a delimiter whose token ends on the line.
     fn open(&mut self, delimiter: Delimiter, line: usize) -> Result<(), AllocError>
         ensures mode { OnOk result (mode_of self.new ≡ record
             (mode_of self.old) { openers = opener delimiter line ∷ (mode_of self.old).openers }) }
@@ -134,13 +150,14 @@ impl<'src> Mode<'src> {
 
     /// Closes the innermost delimiter.
     fn close(&mut self)
-        ensures mode { mode_of self.new ≡ record (mode_of self.old) { openers = tail_of (mode_of self.old).openers } }
+        ensures mode { mode_of self.new
+            ≡ record (mode_of self.old) { openers = tail_of (mode_of self.old).openers } }
         ensures interpolation { self.new.interpolation ≡ self.old.interpolation }
     {
         let _ = self.openers.pop();
     }
 
-    /// Opens a level, which is a body after a colon.
+    /// Opens a level. It is a body if there was a colon before.
     fn indent(&mut self, level: &'src str) -> Result<(), AllocError>
         ensures mode { OnOk result (mode_of self.new ≡ record
             (mode_of self.old) {
@@ -169,42 +186,35 @@ impl<'src> Mode<'src> {
         self.colon = false;
         self.in_body = false;
     }
+}
 
-    /// Takes note of the next token.
-    pub(crate) fn note(&mut self, token: Token<'src>) -> Result<(), AllocError>
-        requires { token.line ≤ token.offset }
-        ensures mode { OnOk result (mode_of self.new ≡ mode_after token.entry.kind (tok_of token.entry) (mode_of self.old)) }
-        ensures interpolation { OnOk result (self.new.interpolation ≡ interpolation_after token.entry self.old.interpolation) }
-    {
-        let line_start = self.line_start;
-        self.line_start = false;
-        self.after_f = false;
-        match token.kind {
-            TokenKind::BraceL => self.open(Delimiter::Brace, token.line)?,
-            TokenKind::BracketL => self.open(Delimiter::Bracket, token.line)?,
-            TokenKind::ParenL => self.open(Delimiter::Paren, token.line)?,
-            TokenKind::FormatStringStart => {
-                let bytes = token.lexeme().as_bytes();
-                let line = token.line + count_newlines(bytes);
-                self.open(Delimiter::FormatString(StringKind::of_opening(bytes)), line)?
-            }
-            TokenKind::BraceR
-            | TokenKind::BracketR
-            | TokenKind::ParenR
-            | TokenKind::FormatStringEnd => self.close(),
-            TokenKind::Colon => self.colon = true,
-            TokenKind::Indent => self.indent(token.lexeme())?,
-            TokenKind::Dedent => {
-                self.dedent();
-                self.line_start = line_start;
-            }
-            TokenKind::InterpolationStart => self.interpolation = Some(token),
-            TokenKind::InterpolationEnd => self.interpolation = None,
-            TokenKind::Eol => self.line_start = true,
-            TokenKind::Whitespace => self.line_start = ends_in_newline(token.lexeme().as_bytes()),
-            TokenKind::Identifier => self.after_f = token.lexeme() == "f",
-            _ => {}
-        }
-        Ok(())
+/// Whether one of the texts is this one.
+fn contains(texts: &[&str], text: &str) -> bool
+    ensures { result ≡ list_any (λ t. bytes_eq t.now text.now) texts.now }
+{
+    texts.iter().any(|t| *t == text)
+}
+
+/// Whether the text is the letter `f`.
+fn is_letter_f(text: &[u8]) -> bool
+    ensures { result ≡ bytes_eq text.now (102 ∷ []) }
+{
+    text.len() == 1 && text[0] == b'f'
+}
+
+/// Returns the number of newlines.
+fn count_newlines(bytes: &[u8]) -> usize
+    ensures { result ≡ count_by is_newline bytes.now }
+{
+    bytes.iter().filter(|b| **b == b'\n').count()
+}
+
+/// Whether the last byte is a newline.
+fn ends_in_newline(bytes: &[u8]) -> bool
+    ensures { result ≡ ends_in_newline bytes.now }
+{
+    match bytes.last() {
+        Some(byte) => *byte == b'\n',
+        None => false,
     }
 }

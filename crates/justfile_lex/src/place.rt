@@ -2,39 +2,14 @@ ghost use Rattle.std.specs.Prelude.{◌≡◌, ◌+◌, ◌<◌, ◌≤◌, leng
 ghost use Rattle.std.specs.List.{prefix_len};
 ghost use Rattle.justfile_model.specs.Places.{is_newline, IsPlace};
 
-/// A line and a column, from 0, in bytes.
+/// A line and a column, both from 0. Columns are in bytes.
 #[derive(Clone, Copy, Debug, PartialEq, Eq)]
 pub(crate) struct Place {
     pub(crate) line: usize,
     pub(crate) column: usize,
 }
 
-/// The place after the byte at `at`.
-fn after_byte(bytes: &[u8], place: Place, at: usize) -> Place
-    requires within { at < length bytes.now }
-    requires start { IsPlace bytes.now at place.line place.column }
-    ensures { IsPlace bytes.now (at + 1) result.line result.column }
-{
-    if bytes[at] == b'\n' && at + 1 < bytes.len() {
-        return Place {
-            line: place.line + 1,
-            column: 0,
-        };
-    }
-    Place {
-        line: place.line,
-        column: place.column + 1,
-    }
-}
-
-/// How many bytes come before the first line feed.
-fn line_len(bytes: &[u8]) -> usize
-    ensures { result ≡ prefix_len (λ b. not (is_newline b)) bytes.now }
-{
-    bytes.iter().take_while(|byte| **byte != b'\n').count()
-}
-
-/// The place of `to`, from the place of `from`.
+/// Returns the position of the offset `to`, from the position `start` of the offset `from`.
 pub(crate) fn place_after(bytes: &[u8], start: Place, from: usize, to: usize) -> Place
     requires order { from ≤ to }
     requires within { to ≤ length bytes.now }
@@ -50,4 +25,29 @@ pub(crate) fn place_after(bytes: &[u8], start: Place, from: usize, to: usize) ->
         place = after_byte(bytes, place, at);
     }
     place
+}
+
+/// Returns the number of bytes before the first line feed.
+fn line_len(bytes: &[u8]) -> usize
+    ensures { result ≡ prefix_len (λ b. not (is_newline b)) bytes.now }
+{
+    bytes.iter().take_while(|byte| **byte != b'\n').count()
+}
+
+/// Returns the position after the byte at `at`, which is at `place`.
+fn after_byte(bytes: &[u8], place: Place, at: usize) -> Place
+    requires within { at < length bytes.now }
+    requires start { IsPlace bytes.now at place.line place.column }
+    ensures { IsPlace bytes.now (at + 1) result.line result.column }
+{
+    if bytes[at] == b'\n' && at + 1 < bytes.len() {
+        return Place {
+            line: place.line + 1,
+            column: 0,
+        };
+    }
+    Place {
+        line: place.line,
+        column: place.column + 1,
+    }
 }

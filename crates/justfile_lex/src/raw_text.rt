@@ -1,39 +1,98 @@
 ghost use Rattle.std.specs.Prelude.{◌≡◌};
 ghost use Rattle.std.specs.List.{prefix_len};
 ghost use Rattle.justfile_model.specs.declared.raw_text.RawText.TheVariants.{Literal};
-ghost use Rattle.justfile_base.specs.StringKind.{quote_of};
+ghost use Rattle.justfile_token.specs.StringKind.{quote_of};
 ghost use Rattle.justfile_model.specs.LiteralText.{is_delimiter, hides, ends, raw_len};
 ghost use Rattle.justfile_lex.specs.RawTexts.{is_plain, IsPiece};
 
 use crate::bytes::{is_interpolation_escape, is_interpolation_start, is_line_end, skip};
-use justfile_base::bytes::byte_at;
-use justfile_base::{StringDelimiter, StringKind};
 use justfile_model::RawText;
+use justfile_token::{StringDelimiter, StringKind};
+use justfile_vocabulary::bytes::byte_at;
 
-/// The byte that the delimiter is made of.
-fn quote_of(delimiter: StringDelimiter) -> u8
-    ensures { result ≡ quote_of delimiter }
+/// Returns the number of bytes before the first end that isn't hidden.
+pub(crate) fn raw_len(text: RawText, bytes: &[u8]) -> usize
+    ensures { result ≡ raw_len text bytes.now }
 {
-    match delimiter {
-        StringDelimiter::Backtick => b'`',
-        StringDelimiter::QuoteDouble => b'"',
-        StringDelimiter::QuoteSingle => b'\'',
+    let mut at: usize = 0;
+    'pieces: loop {
+        at += plain_len(text, skip(bytes, at));
+        let more = piece_len(text, skip(bytes, at));
+        if more == 0 {
+            return at;
+        }
+        at += more;
     }
 }
 
-/// Whether the closing delimiter is at the front.
-fn is_delimiter(kind: StringKind, rest: &[u8]) -> bool
-    ensures { result ≡ is_delimiter kind rest.now }
+/// Returns the number of plain bytes at the start. Each kind of text has a loop of its own, which
+/// doesn't test the kind at each byte.
+fn plain_len(text: RawText, bytes: &[u8]) -> usize
+    ensures { result ≡ prefix_len (is_plain text) bytes.now }
 {
-    let quote = quote_of(kind.delimiter);
-    if kind.indented {
-        byte_at(rest, 0) == quote && byte_at(rest, 1) == quote && byte_at(rest, 2) == quote
-    } else {
-        byte_at(rest, 0) == quote
+    match text {
+        RawText::Comment => plain_len_of(RawText::Comment, bytes),
+        RawText::Body => plain_len_of(RawText::Body, bytes),
+        RawText::Literal { .. } => plain_len_of(text, bytes),
     }
 }
 
-/// How many bytes after the first one are hidden in a literal.
+/// Returns the number of plain bytes at the start, by a loop that is inlined for each kind of text.
+#[inline(always)]
+fn plain_len_of(text: RawText, bytes: &[u8]) -> usize
+    ensures { result ≡ prefix_len (is_plain text) bytes.now }
+{
+    bytes
+        .iter()
+        .take_while(|byte| is_plain(text, **byte))
+        .count()
+}
+
+/// Whether a byte hides nothing and doesn't begin an end, whatever follows. Some other bytes don't
+/// either, such as a tab, which is rejected here because one comparison covers all control
+/// characters up to the line ends.
+fn is_plain(text: RawText, byte: u8) -> bool
+    ensures { result ≡ is_plain text byte }
+{
+    match text {
+        RawText::Comment => byte > b'\r',
+        RawText::Body => byte > b'\r' && byte != b'{',
+        RawText::Literal { kind, .. } => {
+            byte != quote_of(kind.delimiter) && byte != b'\\' && byte != b'{'
+        }
+    }
+}
+
+/// Returns the length of the piece at the start, or 0 if the text ends there.
+#[tactic(auto, using(crate::proofs::Pieces::piece_cases))]
+fn piece_len(text: RawText, rest: &[u8]) -> usize
+    ensures { IsPiece text rest.now result }
+{
+    if rest.is_empty() {
+        return 0;
+    }
+    let hidden = hidden_len(text, rest);
+    if hidden > 0 {
+        return rest.len().min(hidden + 1);
+    }
+    if is_at_end(text, rest) { 0 } else { 1 }
+}
+
+/// Returns the number of bytes that the first one hides, so that no end is found at them.
+fn hidden_len(text: RawText, rest: &[u8]) -> usize
+    ensures { result ≡ hides text rest.now }
+{
+    match text {
+        RawText::Comment => 0,
+        RawText::Body => { if is_interpolation_escape(rest) { 3 } else { 0 } }
+        RawText::Literal {
+            kind,
+            is_format_string,
+        } => hidden_in_literal(kind, is_format_string, rest),
+    }
+}
+
+/// Returns the number of bytes that the first one hides in a literal.
 fn hidden_in_literal(kind: StringKind, format: bool, rest: &[u8]) -> usize
     ensures { result ≡ hides (Literal kind format) rest.now }
 {
@@ -50,21 +109,7 @@ fn hidden_in_literal(kind: StringKind, format: bool, rest: &[u8]) -> usize
     }
 }
 
-/// How many bytes after the first one are hidden from the search for the end.
-fn hidden_len(text: RawText, rest: &[u8]) -> usize
-    ensures { result ≡ hides text rest.now }
-{
-    match text {
-        RawText::Comment => 0,
-        RawText::Body => { if is_interpolation_escape(rest) { 3 } else { 0 } }
-        RawText::Literal {
-            kind,
-            is_format_string,
-        } => hidden_in_literal(kind, is_format_string, rest),
-    }
-}
-
-/// Whether the end of the text is at the front.
+/// Whether the end of the text is at the start.
 fn is_at_end(text: RawText, rest: &[u8]) -> bool
     ensures { result ≡ ends text rest.now }
 {
@@ -78,56 +123,25 @@ fn is_at_end(text: RawText, rest: &[u8]) -> bool
     }
 }
 
-/// Whether a byte hides none after it and begins no end, whatever follows. Some others don't either,
-/// such as a tab, which a comparison alone can't tell from a line end.
-fn is_plain(text: RawText, byte: u8) -> bool
-    ensures { result ≡ is_plain text byte }
+/// Whether the closing delimiter is at the start.
+fn is_delimiter(kind: StringKind, rest: &[u8]) -> bool
+    ensures { result ≡ is_delimiter kind rest.now }
 {
-    match text {
-        RawText::Comment => byte > b'\r',
-        RawText::Body => byte > b'\r' && byte != b'{',
-        RawText::Literal { kind, .. } => {
-            byte != quote_of(kind.delimiter) && byte != b'\\' && byte != b'{'
-        }
+    let quote = quote_of(kind.delimiter);
+    if kind.indented {
+        byte_at(rest, 0) == quote && byte_at(rest, 1) == quote && byte_at(rest, 2) == quote
+    } else {
+        byte_at(rest, 0) == quote
     }
 }
 
-/// How many plain bytes are at the front.
-fn plain_len(text: RawText, bytes: &[u8]) -> usize
-    ensures { result ≡ prefix_len (is_plain text) bytes.now }
+/// Returns the byte that the delimiter consists of.
+fn quote_of(delimiter: StringDelimiter) -> u8
+    ensures { result ≡ quote_of delimiter }
 {
-    bytes
-        .iter()
-        .take_while(|byte| is_plain(text, **byte))
-        .count()
-}
-
-/// How many bytes the piece at the front has, and 0 where the text ends.
-#[tactic(auto, using(crate::proofs::Pieces::piece_cases))]
-fn piece_len(text: RawText, rest: &[u8]) -> usize
-    ensures { IsPiece text rest.now result }
-{
-    if rest.is_empty() {
-        return 0;
-    }
-    let hidden = hidden_len(text, rest);
-    if hidden > 0 {
-        return rest.len().min(hidden + 1);
-    }
-    if is_at_end(text, rest) { 0 } else { 1 }
-}
-
-/// How many bytes come before the first end that isn't hidden.
-pub(crate) fn raw_len(text: RawText, bytes: &[u8]) -> usize
-    ensures { result ≡ raw_len text bytes.now }
-{
-    let mut at: usize = 0;
-    'pieces: loop {
-        at += plain_len(text, skip(bytes, at));
-        let more = piece_len(text, skip(bytes, at));
-        if more == 0 {
-            return at;
-        }
-        at += more;
+    match delimiter {
+        StringDelimiter::Backtick => b'`',
+        StringDelimiter::QuoteDouble => b'"',
+        StringDelimiter::QuoteSingle => b'\'',
     }
 }

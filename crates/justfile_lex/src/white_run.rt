@@ -2,23 +2,23 @@ ghost use Rattle.std.specs.Prelude.{◌≡◌, false};
 ghost use Rattle.justfile_model.specs.Bytes.{white, line_feed, closes_levels};
 
 use crate::bytes::{is_line_feed, is_white};
-use justfile_base::byte_class::byte_class;
-use justfile_base::bytes::byte_at;
+use justfile_vocabulary::byte_class::byte_class;
+use justfile_vocabulary::bytes::byte_at;
 
-/// The run of white bytes that was looked at last. Levels close before each of its blank lines or
-/// before none, so one look serves them all, and lexing stays linear in the text.
+/// The run of white bytes that was read last. Either levels close before each of its blank lines or
+/// before none, so reading it once is enough, and lexing takes linear time.
 #[derive(Clone, Copy, Debug)]
 pub(crate) struct WhiteRun {
-    /// How many bytes of the text come after it.
+    /// The number of bytes of the text after the run.
     rest_len: usize,
-    /// Whether levels close before its blank lines.
+    /// Whether levels close before the run's blank lines.
     closes: bool,
 }
 
 impl WhiteRun {
     ghost use Rattle.justfile_lex.specs.WhiteRun.{IsRunOf};
 
-    /// The empty run before a text.
+    /// Returns the empty run before a text.
     pub(crate) fn before(text: &str) -> Self
         ensures { IsRunOf text.now result }
     {
@@ -28,7 +28,20 @@ impl WhiteRun {
         }
     }
 
-    /// Reads the run at the front.
+    /// Whether the run of white bytes at the start of the rest ends in a line feed, and another
+    /// byte follows it.
+    pub(crate) fn closes_levels(&mut self, rest: &[u8]) -> bool
+        requires { IsRunOf rest.now self.old }
+        ensures answer { result ≡ closes_levels false rest.now }
+        ensures run { IsRunOf rest.now self.new }
+    {
+        if rest.len() <= self.rest_len {
+            *self = WhiteRun::read_front(rest);
+        }
+        self.closes
+    }
+
+    /// Reads the run at the start.
     #[tactic(auto, using(crate::proofs::WhiteRunLemmas::white_loop))]
     fn read_front(bytes: &[u8]) -> Self
         ensures run { IsRunOf bytes.now result }
@@ -49,18 +62,5 @@ impl WhiteRun {
             rest_len: 0,
             closes: false,
         }
-    }
-
-    /// Whether the run of white bytes at the front of the rest ends in a line feed, and another byte
-    /// follows it.
-    pub(crate) fn closes_levels(&mut self, rest: &[u8]) -> bool
-        requires { IsRunOf rest.now self.old }
-        ensures answer { result ≡ closes_levels false rest.now }
-        ensures run { IsRunOf rest.now self.new }
-    {
-        if rest.len() <= self.rest_len {
-            *self = WhiteRun::read_front(rest);
-        }
-        self.closes
     }
 }

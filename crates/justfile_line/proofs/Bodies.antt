@@ -1,4 +1,4 @@
--- The texts of bodies, by their fragments and lines, and whether they are printable.
+-- The texts of bodies, by their lines and fragments, and whether they are printable.
 use native.Mathlib.Numerals.{unary_clauses}
 use Rattle.std.proofs.Common.{slice_index, ◌==◌, ◌≡◌, ℕ, ◌-◌, Bool, true, not, ◌&&◌, List, [], ◌∷◌, ◌++◌, length, map, codes, Option, Some, None, refl, ap, ◌∙◌}
 use Rattle.std.specs.List.{flat_map, list_all, slice_get}
@@ -21,7 +21,7 @@ body_parts indentation lines =
     flat_map-map (λ l. fixed_text (codes "\n") ++ line_text indentation l) (over_line lexeme nothing nothing) (map body_line_of lines)
     ∙ flat_map-map (λ l. fixed_text (codes "\n") ++ line_text indentation (over_line lexeme nothing nothing l)) body_line_of lines
 
--- the text that a line ends with, if it ends with one, does not end in a carriage return
+-- a text at the end of a line doesn't end in a carriage return
 abbrev pub printable_end : Option (List ℕ) → Bool
 printable_end None = true
 printable_end (Some text) = not (ends_in_return text)
@@ -41,7 +41,7 @@ return_from : (b : ℕ) (text : List ℕ) → ends_in_return (b ∷ text) ≡ (s
 return_from b [] = refl
 return_from b (c ∷ text) = return_from c text
 
--- a text ends in a carriage return where its last byte is one
+-- a text ends in a carriage return exactly if its last byte is one
 pub return_last : (text : List ℕ) → ends_in_return text ≡ (slice_index text (length text - 1) == 13)
 return_last [] = refl
 return_last (b ∷ text) = simp unary_clauses (return_from b text)

@@ -1,4 +1,4 @@
--- Sigils stand in the list of their cases, and lines and fragments are equal where their fields are.
+-- Each sigil is in the list of their cases, and lines and fragments are equal exactly if their fields are.
 use Rattle.std.proofs.Common.{◌≡◌, Bool, true, List, [], ◌∷◌, ◌&&◌, ◌==◌, refl, ap}
 use Rattle.std.specs.Cmp.Lexicographic.{pointwise}
 use Rattle.std.specs.List.{list_any}

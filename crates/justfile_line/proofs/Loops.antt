@@ -1,10 +1,10 @@
--- Loops that put the elements of a list, one after another.
+-- Loops that write the elements of a list, one after another.
 use Rattle.std.proofs.Common.{◌≡◌, ℕ, Result, Ok, Err, OnErr, ◌+◌, ◌<◌, zero, suc, List, [], ◌∷◌, ◌++◌, length, take, drop, get_or, replicate, refl, sym, ap, ◌∙◌, subst, arith}
 use Rattle.std.specs.List.{flat_map}
 use Rattle.std.proofs.lemmas.List.{take_more, flat_map_more, take-append-drop, replicate_more}
 use Rattle.std.proofs.lemmas.Grind.{flat_map-append}
 
--- what holds where a call failed holds at its `Err`
+-- what holds if a call failed holds at its `Err`
 pub at_err : {T E P : Type 0} (r : Result T E) → P → OnErr r P
 at_err (Ok x) p = tt
 at_err (Err e) p = p
@@ -14,12 +14,12 @@ replicate_split u zero i h = absurd (omega arith)
 replicate_split u (suc n) zero h = (replicate n u, refl)
 replicate_split u (suc n) (suc i) h = let r = replicate_split u n i (omega arith) in (r.0, ap (λ l. u ∷ l) r.1)
 
--- of what a sink took, or failed to take
+-- for what a sink has written, and for where it failed
 module _ {S : Type 0} (took failed : S → List ℕ → S → Type 0)
     (more : (a b c : S) (xs ys : List ℕ) → took a xs b → took b ys c → took a (xs ++ ys) c)
     (later : (a b c : S) (xs ys : List ℕ) → took a xs b → failed b ys c → failed a (xs ++ ys) c)
     (before : (a b : S) (xs ys : List ℕ) → failed a xs b → failed a (xs ++ ys) b) where
-  -- the text of a list is that of its elements, and one more is put
+  -- the text of a list is that of its elements, of which one more is written
   module _ {X : Type 0} (text : List X → List ℕ) (one : X → List ℕ) (parts : (xs : List X) → text xs ≡ flat_map one xs)
       (xs : List X) (i : ℕ) (x : X) (h : i < length xs) (e : x ≡ get_or xs i x) where
     text_more : text (take i xs) ++ one x ≡ text (take (i + 1) xs)
@@ -40,7 +40,7 @@ module _ {S : Type 0} (took failed : S → List ℕ → S → Type 0)
         subst (λ (t : List ℕ). failed a t c) (ap (λ t. t ++ flat_map one (drop (i + 1) xs)) text_more ∙ text_split)
         (before a c _ _ (later a b c _ _ p q))
 
-  -- one more of equal bytes is put
+  -- one more of several equal bytes is written
   module _ (u n i : ℕ) where
     pub took_equal : (a b c : S) → took a (replicate i u) b → took b (u ∷ []) c → took a (replicate (i + 1) u) c
     took_equal a b c p q = subst (λ (t : List ℕ). took a t c) (replicate_more i u) (more a b c _ _ p q)

@@ -1,4 +1,4 @@
--- Gathering the sigils at the front of a text.
+-- The loop that collects the sigils at the front of a text.
 use Rattle.std.proofs.Common.{◌≡◌, ◌≢◌, ℕ, ◌+◌, ◌<◌, ◌≤◌, Bool, true, false, cond, List, [], ◌∷◌, ◌++◌, ◌⊎◌, inl, inr, ⊎_elim, length, take, drop, get_or, Some, None, refl, sym, ap, ◌∙◌, subst, arith, length-append, length-drop}
 use Rattle.std.specs.Prelude.{◌↔◌, map, IsTrue, AllPairs, Contains}
 use Rattle.std.specs.declared.cmp.Ordering.{Ordering}
@@ -35,7 +35,7 @@ order-exact Quiet Guard e = cc
 order-exact Quiet Infallible e = cc
 order-exact Quiet Quiet e = refl
 
--- a set has a sigil exactly if it is among its keys
+-- a set contains a sigil exactly if it is among its keys
 Contains-from_set : (set : BTreeSet Sigil) (s : Sigil) → sorted.contains order set s ≡ true → Contains set.keys s
 Contains-from_set set s found =
     let a = Any-from_list_any (is_at (order s)) set.keys found in
@@ -46,18 +46,18 @@ set_contains-from : (set : BTreeSet Sigil) (s : Sigil) → Contains set.keys s �
 set_contains-from set s among =
     list_any_at (is_at (order s)) set.keys among.0 s among.1 (subst (λ (t : Sigil). is_at (order s) t ≡ true) (sym among.2) (order-refl s))
 
--- the byte that a sigil is
+-- a byte with a sigil is the byte of that sigil
 byte_of-sigil : (guards : Bool) (byte : ℕ) (s : Sigil) → sigil_of guards byte ≡ Some s → byte ≡ byte_of s
 byte_of-sigil guards byte Guard e = grind (arith, common_steps)
 byte_of-sigil guards byte Infallible e = grind (arith, common_steps)
 byte_of-sigil guards byte Quiet e = grind (arith, common_steps)
 
--- a guard comes only with guards
+-- `?` is a sigil only with guards
 guarded_sigil : (guards : Bool) (byte : ℕ) → sigil_of guards byte ≡ Some Guard → IsTrue guards
 guarded_sigil true byte e = refl
 guarded_sigil false byte e = grind (arith, common_steps)
 
--- the sigil of a sigil's byte
+-- the sigil for the byte of a sigil
 sigil_of-byte : (guards : Bool) (s : Sigil) → (s ≡ Guard → IsTrue guards) → sigil_of guards (byte_of s) ≡ Some s
 sigil_of-byte guards Guard h = rw (h refl)
 sigil_of-byte guards Infallible h = refl
@@ -75,7 +75,7 @@ byte_of-exact Quiet Guard e = absurd (omega arith)
 byte_of-exact Quiet Infallible e = absurd (omega arith)
 byte_of-exact Quiet Quiet e = refl
 
--- the keys are the sigils that the text has before a place, and they are all different
+-- the keys are the sigils before index `i` of the text, which are all different
 pub record IsGathered (guards : Bool) (text : List ℕ) (i : ℕ) (keys : List Sigil) : Type 0 where
   pub sigils : List Sigil
   pub different : AllPairs (λ s t. s ≢ t) sigils
@@ -83,11 +83,11 @@ pub record IsGathered (guards : Bool) (text : List ℕ) (i : ℕ) (keys : List S
   pub front : map byte_of sigils ≡ take i text
   pub keys_same : (s : Sigil) → Contains keys s ↔ Contains sigils s
 
--- a sigil that is not among others differs from each of them
+-- a sigil that isn't in a list differs from each of its elements
 apart_from_new : (sigils : List Sigil) (s : Sigil) → (Contains sigils s → ⊥) → (k : ℕ) (d : Sigil) → k < length sigils → get_or sigils k d ≢ s
 apart_from_new sigils s new k d h e = new (k, h, get_or_default sigils k s d h ∙ e)
 
--- a key of a set after one was added
+-- a key of a set after one is added
 key_after : (before after : BTreeSet Sigil) (sigils : List Sigil) (s q : Sigil) (here : Bool) → is_at (order s) q ≡ here
     → sorted.contains order after q ≡ cond here true (sorted.contains order before q)
     → (Contains before.keys q → Contains sigils q) → Contains after.keys q → Contains (sigils ++ s ∷ []) q
@@ -100,7 +100,7 @@ cond-true : (b : Bool) → cond b true true ≡ true
 cond-true true = refl
 cond-true false = refl
 
--- the keys after one was added
+-- the keys of a set after one is added
 keys_after : (before after : BTreeSet Sigil) (sigils : List Sigil) (s q : Sigil)
     → sorted.contains order after q ≡ cond (is_at (order s) q) true (sorted.contains order before q)
     → Contains before.keys q ↔ Contains sigils q → Contains after.keys q ↔ Contains (sigils ++ s ∷ []) q
@@ -113,7 +113,7 @@ keys_after before after sigils s q update same =
           (Contains-push_cases sigils s q among)),
     )
 
--- one more sigil, which stood not before
+-- one more sigil, which is a new one
 pub gathered_more : (guards : Bool) (text : List ℕ) (i : ℕ) (before after : BTreeSet Sigil) (s : Sigil) → i < length text
     → sigil_of guards (get_or text i 0) ≡ Some s → sorted.contains order before s ≡ false
     → ((q : Sigil) → sorted.contains order after q ≡ cond (is_at (order s) q) true (sorted.contains order before q))
@@ -128,11 +128,11 @@ gathered_more guards text i before after s h is new update g =
       keys_same = λ q. keys_after before after g.sigils s q (update q) (g.keys_same q);
     }
 
--- the next byte is no new sigil
+-- the next byte isn't a new sigil
 abbrev pub IsStopped : Bool → List ℕ → List Sigil → Type 0
 IsStopped guards rest keys = (x : Sigil) (v : List ℕ) → rest ≡ byte_of x ∷ v → sigil_of guards (byte_of x) ≡ Some x → Contains keys x
 
--- two lists of sigils at the front of one text: the second ends within the first, or goes on after it
+-- of two lists of sigils at the front of a text, one begins with the other
 common_front : (a b : List Sigil) (r t : List ℕ) → map byte_of a ++ r ≡ map byte_of b ++ t
     → ((u : List Sigil) × (a ≡ b ++ u)) ⊎ ((x : Sigil) × (u : List Sigil) × (v : List ℕ) × (b ≡ a ++ x ∷ u) × (r ≡ byte_of x ∷ v))
 common_front a [] r t e = inl (a, refl)
@@ -145,7 +145,7 @@ common_front (x ∷ a) (y ∷ b) r t e =
     (λ w. inr (w.0, w.1, w.2, cc, w.4))
     (common_front a b r t tails)
 
--- one of different sigils is not among those before it
+-- an element of a list of different sigils isn't among those before it
 fresh_after : (a u : List Sigil) (x : Sigil) → AllPairs (λ s t. s ≢ t) (a ++ x ∷ u) → Contains a x → ⊥
 fresh_after a u x different among =
     let long = length-append a (x ∷ u) in
@@ -155,7 +155,7 @@ fresh_after a u x different among =
     (get_or_append_left a (x ∷ u) x among.0 lt ∙ among.2
     ∙ sym (sym (ap (λ (k : ℕ). get_or (a ++ x ∷ u) k x) here) ∙ get_or-append-add a (x ∷ u) 0 x))
 
--- the sigils at the front of the text do not go on where no new sigil stands
+-- the sigils at the front of the text end if the next byte isn't a new sigil
 none_after : (guards : Bool) (text : List ℕ) (i : ℕ) (keys : List Sigil) (g : IsGathered guards text i keys) → IsStopped guards (drop i text) keys
     → (sigils : List Sigil) → BeginsWithSigils guards text sigils → (x : Sigil) (u : List Sigil) (v : List ℕ)
     → sigils ≡ g.sigils ++ x ∷ u → drop i text ≡ byte_of x ∷ v → ⊥
@@ -164,7 +164,7 @@ none_after guards text i keys g stopped sigils begun x u v longer next =
     let is : sigil_of guards (byte_of x) ≡ Some x = sigil_of-byte guards x (λ e. begun.guarded (subst (λ (t : Sigil). Contains sigils t) e there)) in
     fresh_after g.sigils u x (subst (λ (l : List Sigil). AllPairs (λ s t. s ≢ t) l) longer begun.different) ((g.keys_same x).0 (stopped x v next is))
 
--- where no new sigil stands, the keys are those at the front of the text
+-- if the next byte isn't a new sigil, the keys are the sigils at the front of the text
 all_of : (guards : Bool) (text : List ℕ) (i : ℕ) (keys : List Sigil) → IsGathered guards text i keys → IsStopped guards (drop i text) keys
     → (s : Sigil) → Contains keys s ↔ IsSigilOf guards text s
 all_of guards text i keys g stopped s =
@@ -176,32 +176,32 @@ all_of guards text i keys g stopped s =
           (common_front g.sigils w.0 (drop i text) w.1.rest (sym split ∙ w.1.begins))),
     )
 
--- what is known of the keys in the end
+-- the keys at the end of the loop
 pub gathered_all : (guards : Bool) (text : List ℕ) (i : ℕ) (keys : List Sigil) → IsGathered guards text i keys → IsStopped guards (drop i text) keys
     → (result : List Sigil) → result ≡ keys → (s : Sigil) → Contains result s ↔ IsSigilOf guards text s
 gathered_all guards text i keys g stopped result e s = rw e (all_of guards text i keys g stopped s)
 
--- nothing stands after the end
+-- at the end of the text there is no next byte
 pub stopped_at_end : (guards : Bool) (text : List ℕ) (i : ℕ) (keys : List Sigil) → length text ≤ i → IsStopped guards (drop i text) keys
 stopped_at_end guards text i keys h x v next is =
     let long = length-drop i text in
     let more : length (drop i text) ≡ length v + 1 = ap length next ∙ omega arith in
     absurd (omega arith)
 
--- the byte at a place
+-- the byte at an index
 next_byte : (text rest : List ℕ) (i b : ℕ) → drop i text ≡ b ∷ rest → get_or text i 0 ≡ b
 next_byte text rest i b next =
     let z : i + 0 ≡ i = omega arith in
     sym (ap (λ (k : ℕ). get_or text k 0) z) ∙ sym (get_or-drop i text 0 0) ∙ ap (λ (l : List ℕ). get_or l 0 0) next
 
--- another byte is no new sigil
+-- a byte that isn't a sigil isn't a new one
 pub stopped_at_other : (guards : Bool) (text : List ℕ) (i : ℕ) (keys : List Sigil) → sigil_of guards (get_or text i 0) ≡ None → IsStopped guards (drop i text) keys
 stopped_at_other guards text i keys other x v next is =
     let here : get_or text i 0 ≡ byte_of x = next_byte text v i (byte_of x) next in
     let both : sigil_of guards (get_or text i 0) ≡ Some x = ap (λ (b : ℕ). sigil_of guards b) here ∙ is in
     absurd cc
 
--- a sigil that stood before is no new one
+-- a repeated sigil isn't a new one
 pub stopped_at_again : (guards : Bool) (text : List ℕ) (i : ℕ) (set : BTreeSet Sigil) (s : Sigil) → sigil_of guards (get_or text i 0) ≡ Some s
     → sorted.contains order set s ≡ true → IsStopped guards (drop i text) set.keys
 stopped_at_again guards text i set s again found x v next is =

@@ -1,11 +1,11 @@
--- What the definitions see of the lines of a body.
+-- The trees of body lines and fragments, and their texts.
 use Rattle.std.specs.Prelude.{ℕ, List, [], map}
 use Rattle.std.specs.List.{flat_map}
 use Rattle.justfile_model.specs.Tok.{Tok, tok_of}
 use Rattle.justfile_model.specs.Tree as tree
 use Rattle.justfile_model.specs.Tree.{lexeme, nothing, over_fragment, over_line}
 use Rattle.justfile_model.specs.Printing.{fragment_text}
-use Rattle.justfile_tree.specs.Expression.{expr_of, expr_cooked}
+use Rattle.justfile_expression.specs.Expression.{expr_of, expr_cooked}
 use Rattle.justfile_line.specs.declared.fragment.Fragment.{Fragment}
 use Rattle.justfile_line.specs.declared.fragment.Fragment.TheVariants.{Interpolation, Text}
 use Rattle.justfile_line.specs.declared.line.Line.{Line}
@@ -19,23 +19,23 @@ fragment_of (Text token) = tree.Text (tok_of token)
 abbrev pub body_line_of : Line → tree.BodyLine Tok Tok ℕ
 body_line_of line = tree.Line line.number (map fragment_of line.fragments.items)
 
--- the tree of a fragment without places
+-- the shape of a fragment: its tree with lexemes in place of tokens
 abbrev pub fragment_shape : Fragment → tree.Fragment (List ℕ) (Unit {0})
 fragment_shape f = over_fragment lexeme nothing (fragment_of f)
 
--- the trees of fragments without places
+-- the shapes of fragments
 abbrev pub fragment_shapes : List Fragment → List (tree.Fragment (List ℕ) (Unit {0}))
 fragment_shapes fragments = map (over_fragment lexeme nothing) (map fragment_of fragments)
 
--- what is printed of fragments
+-- the texts of fragments
 abbrev pub fragments_text : List Fragment → List ℕ
 fragments_text fragments = flat_map fragment_text (fragment_shapes fragments)
 
--- the tree of a line without places
+-- the shape of a line
 abbrev pub line_shape : Line → tree.BodyLine (List ℕ) (Unit {0}) (Unit {0})
 line_shape line = over_line lexeme nothing nothing (body_line_of line)
 
--- the trees of lines without places
+-- the shapes of lines
 abbrev pub line_shapes : List Line → List (tree.BodyLine (List ℕ) (Unit {0}) (Unit {0}))
 line_shapes lines = map (over_line lexeme nothing nothing) (map body_line_of lines)
 

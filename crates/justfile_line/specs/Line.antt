@@ -1,8 +1,8 @@
--- Questions about a line of a body.
+-- Properties of a body line.
 use Rattle.std.specs.Prelude.{◌≡◌, ℕ, ◌-◌, Bool, List, [], ◌++◌, length, Option, Some, None, IsSomeAnd, codes}
 use Rattle.std.specs.List.{slice_get}
 use Rattle.std.specs.Option.{option_and_then}
-use Rattle.justfile_base.specs.Token.{lexeme_of}
+use Rattle.justfile_token.specs.Token.{lexeme_of}
 use Rattle.justfile_line.specs.declared.fragment.Fragment.{Fragment}
 use Rattle.justfile_line.specs.declared.fragment.Fragment.TheVariants.{Interpolation, Text}
 use Rattle.justfile_line.specs.declared.line.Line.{Line}
@@ -14,11 +14,11 @@ abbrev pub text_of_fragment : Fragment → Option (List ℕ)
 text_of_fragment (Interpolation expression) = None
 text_of_fragment (Text token) = Some (lexeme_of token)
 
--- the text that a line begins with, if its first fragment is one
+-- the text at the front of a line, if its first fragment is a text
 abbrev pub first_text : Line → Option (List ℕ)
 first_text line = option_and_then text_of_fragment (slice_get line.fragments.items 0)
 
--- the text that a line ends with, if its last fragment is one
+-- the text at the end of a line, if its last fragment is a text
 abbrev pub last_text : Line → Option (List ℕ)
 last_text line = option_and_then text_of_fragment (slice_get line.fragments.items (length line.fragments.items - 1))
 
@@ -39,10 +39,10 @@ IsShebang line = BeginsWith line (codes "#!")
 abbrev pub IsContinuation : Line → Type 0
 IsContinuation line = EndsWith line (codes "\\")
 
--- no fragment
+-- it has no fragments
 abbrev pub IsEmpty : Line → Type 0
 IsEmpty line = line.fragments.items ≡ []
 
--- its first fragment is a text, and it is a sigil of that text
+-- it begins with a text, and this is a sigil of that text
 abbrev pub HasSigil : Bool → Line → Sigil → Type 0
 HasSigil guards line s = IsSomeAnd (first_text line) (λ text. IsSigilOf guards text s)

@@ -2,18 +2,18 @@ ghost use Rattle.std.specs.Prelude.{OnOk, OnErr, ◌++◌, codes};
 ghost use Rattle.justfile_model.specs.Printing.{fixed_text, fragment_text};
 ghost use Rattle.justfile_line.specs.Body.{fragment_shape};
 
-use justfile_base::Token;
-use justfile_header::copied::Copied;
-use justfile_tree::{Expression, Sink, put_piece, write_expression};
+use justfile_expression::{Expression, Sink, put_piece, write_expression};
+use justfile_recipe_header::try_clone::TryClone;
+use justfile_token::Token;
 use std::alloc::{AllocError, Global};
 use std::fmt;
 
-/// A part of a body line.
+/// A part of a line in a recipe's body.
 #[derive(Drop, PartialEq)]
 pub enum Fragment<'src> {
     /// An expression between `{{` and `}}`.
     Interpolation { expression: Expression<'src> },
-    /// Text that stands for itself.
+    /// Text without interpolations.
     Text { token: Token<'src> },
 }
 
@@ -23,7 +23,7 @@ impl<'src> Fragment<'src> {
     ghost use Rattle.justfile_line.specs.Copies.{IsSameFragment};
     ghost use Rattle.justfile_line.specs.Line.{text_of_fragment};
 
-    /// A copy of the fragment.
+    /// Returns a copy of the fragment, or an error if out of memory.
     pub fn clone(&self, alloc: Global) -> Result<Self, AllocError>
         ensures { IfOk result (λ copy. IsSameFragment copy self.now) }
     {
@@ -37,7 +37,7 @@ impl<'src> Fragment<'src> {
         }
     }
 
-    /// The text of a fragment that is one.
+    /// Returns the text if the fragment is one, and otherwise `None`.
     pub(crate) fn text(&self) -> Option<&'src str>
         ensures { option_copied result ≡ text_of_fragment self.now }
     {
@@ -48,35 +48,24 @@ impl<'src> Fragment<'src> {
     }
 }
 
-impl Copied for Fragment<'_> {
+impl TryClone for Fragment<'_> {
     ghost use Rattle.justfile_line.specs.Copies.{IsSameFragment};
 
     ghost is_copy = { IsSameFragment };
 
-    fn copied(&self, alloc: Global) -> Result<Self, AllocError> {
+    fn try_clone(&self, alloc: Global) -> Result<Self, AllocError> {
         self.clone(alloc)
     }
 }
 
-/// Puts the braces before an expression, and a space.
-#[tactic(auto, unfolding(justfile_model::specs::Printing::fixed_text))]
-fn write_interpolation_start<S: Sink>(sink: &mut S) -> Result<(), S::Fault>
-    ensures ok { OnOk result (S.took sink.old (fixed_text (codes "{{ ")) sink.new) }
-    ensures err { OnErr result (S.failed sink.old (fixed_text (codes "{{ ")) sink.new) }
-{
-    put_piece("{{ ", sink)
+/// Writes the text of the fragment, as it is printed.
+impl fmt::Debug for Fragment<'_> {
+    fn fmt<W: fmt::Write>(&self, f: &mut fmt::Formatter<W>) -> fmt::Result {
+        write_fragment(self, f)
+    }
 }
 
-/// Puts a space, and the braces after an expression.
-#[tactic(auto, unfolding(justfile_model::specs::Printing::fixed_text))]
-fn write_interpolation_end<S: Sink>(sink: &mut S) -> Result<(), S::Fault>
-    ensures ok { OnOk result (S.took sink.old (fixed_text (codes " }}")) sink.new) }
-    ensures err { OnErr result (S.failed sink.old (fixed_text (codes " }}")) sink.new) }
-{
-    put_piece(" }}", sink)
-}
-
-/// Puts the text of a fragment.
+/// Writes the text of a fragment.
 pub(crate) fn write_fragment<S: Sink>(fragment: &Fragment<'_>, sink: &mut S) -> Result<(), S::Fault>
     ensures ok { OnOk result (S.took sink.old (fragment_text (fragment_shape fragment.now)) sink.new) }
     ensures err { OnErr result (S.failed sink.old (fragment_text (fragment_shape fragment.now)) sink.new) }
@@ -91,9 +80,20 @@ pub(crate) fn write_fragment<S: Sink>(fragment: &Fragment<'_>, sink: &mut S) -> 
     }
 }
 
-/// The text, as it is printed.
-impl fmt::Debug for Fragment<'_> {
-    fn fmt<W: fmt::Write>(&self, f: &mut fmt::Formatter<W>) -> fmt::Result {
-        write_fragment(self, f)
-    }
+/// Writes `{{` and a space.
+#[tactic(auto, unfolding(justfile_model::specs::Printing::fixed_text))]
+fn write_interpolation_start<S: Sink>(sink: &mut S) -> Result<(), S::Fault>
+    ensures ok { OnOk result (S.took sink.old (fixed_text (codes "{{ ")) sink.new) }
+    ensures err { OnErr result (S.failed sink.old (fixed_text (codes "{{ ")) sink.new) }
+{
+    put_piece("{{ ", sink)
+}
+
+/// Writes a space and `}}`.
+#[tactic(auto, unfolding(justfile_model::specs::Printing::fixed_text))]
+fn write_interpolation_end<S: Sink>(sink: &mut S) -> Result<(), S::Fault>
+    ensures ok { OnOk result (S.took sink.old (fixed_text (codes " }}")) sink.new) }
+    ensures err { OnErr result (S.failed sink.old (fixed_text (codes " }}")) sink.new) }
+{
+    put_piece(" }}", sink)
 }

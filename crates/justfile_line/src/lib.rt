@@ -1,4 +1,4 @@
-//! Lines of the bodies of recipes, and how they print.
+//! Lines in the bodies of recipes, and how they are printed.
 #![tactic(auto)]
 
 pub mod fragment;

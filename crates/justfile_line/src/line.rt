@@ -1,7 +1,7 @@
 ghost use Rattle.std.specs.Prelude.{◌≡◌, ◌↔◌, OnOk, OnErr, IfOk, IsTrue};
 ghost use Rattle.std.specs.List.{Contains};
 ghost use Rattle.std.specs.Option.{option_copied};
-ghost use Rattle.justfile_word.specs.Indentation.{indentation_text};
+ghost use Rattle.justfile_vocabulary.specs.Indentation.{indentation_text};
 ghost use Rattle.justfile_model.specs.Printing.{ends_in_return, line_text, printable_fragments};
 ghost use Rattle.justfile_line.specs.Copies.{IsSameLine};
 ghost use Rattle.justfile_line.specs.Body.{fragment_shapes, fragments_text, line_shape};
@@ -10,9 +10,9 @@ ghost use Rattle.justfile_line.specs.Sigil.{IsSigilOf};
 
 use crate::fragment::{Fragment, write_fragment};
 use crate::sigil::Sigil;
-use justfile_base::Indentation;
-use justfile_header::copied::{Copied, all_copied};
-use justfile_tree::Sink;
+use justfile_expression::Sink;
+use justfile_recipe_header::try_clone::{TryClone, clone_all};
+use justfile_vocabulary::Indentation;
 use std::alloc::{AllocError, Global};
 use std::collections::BTreeSet;
 use std::fmt;
@@ -20,24 +20,24 @@ use std::fmt;
 /// A line of a recipe's body.
 #[derive(Drop, PartialEq)]
 pub struct Line<'src> {
-    /// Its texts and its expressions between braces, in order.
+    /// The texts and the interpolations, in order.
     pub fragments: Vec<Fragment<'src>>,
-    /// The line of the source that it stands on, from 0.
+    /// The number of the line in the source, counted from 0.
     pub number: usize,
 }
 
 impl<'src> Line<'src> {
-    /// A copy of the line.
+    /// Returns a copy of the line, or an error if out of memory.
     pub fn clone(&self, alloc: Global) -> Result<Self, AllocError>
         ensures { IfOk result (λ copy. IsSameLine copy self.now) }
     {
         Ok(Line {
-            fragments: all_copied(alloc, &self.fragments)?,
+            fragments: clone_all(alloc, &self.fragments)?,
             number: self.number,
         })
     }
 
-    /// Whether the line begins with a text that begins `#`.
+    /// Whether the line begins with a text that begins with `#`.
     pub fn is_comment(&self) -> bool
         ensures { IsTrue result ↔ IsComment self.now }
     {
@@ -51,23 +51,25 @@ impl<'src> Line<'src> {
         self.last().is_some_and(|text| text.ends_with('\\'))
     }
 
-    /// Whether nothing is on the line.
+    /// Whether the line has no fragments.
     pub fn is_empty(&self) -> bool
         ensures { IsTrue result ↔ IsEmpty self.now }
     {
         self.fragments.is_empty()
     }
 
-    /// Whether the line begins with a text that begins `#!`.
+    /// Whether the line begins with a text that begins with `#!`.
     pub fn is_shebang(&self) -> bool
         ensures { IsTrue result ↔ IsShebang self.now }
     {
         self.first().is_some_and(|text| text.starts_with("#!"))
     }
 
-    /// The sigils at the front of the line, each once. `?` is one only with guards.
+    /// Returns the sigils at the front of the line, each once. `?` is a sigil only if `guards` is
+    /// set.
     pub fn sigils(&self, alloc: Global, guards: bool) -> Result<BTreeSet<Sigil>, AllocError>
-        ensures { IfOk result (λ sigils. (s : Sigil) → Contains sigils.keys s ↔ HasSigil guards self.now s) }
+        ensures { IfOk result (λ sigils. (s : Sigil) → Contains sigils.keys s
+            ↔ HasSigil guards self.now s) }
     {
         match self.first() {
             Some(text) => front_sigils(alloc, text.as_bytes(), guards),
@@ -75,14 +77,16 @@ impl<'src> Line<'src> {
         }
     }
 
-    /// The text that the line begins with, if it begins with one.
+    /// Returns the text at the front of the line, or `None` if it begins with an interpolation or
+    /// is empty.
     fn first(&self) -> Option<&'src str>
         ensures { option_copied result ≡ first_text self.now }
     {
         self.fragments.first()?.text()
     }
 
-    /// The text that the line ends with, if it ends with one.
+    /// Returns the text at the end of the line, or `None` if it ends in an interpolation or is
+    /// empty.
     fn last(&self) -> Option<&'src str>
         ensures { option_copied result ≡ last_text self.now }
     {
@@ -90,17 +94,26 @@ impl<'src> Line<'src> {
     }
 }
 
-impl Copied for Line<'_> {
+impl TryClone for Line<'_> {
     ghost is_copy = { IsSameLine };
 
-    fn copied(&self, alloc: Global) -> Result<Self, AllocError> {
+    fn try_clone(&self, alloc: Global) -> Result<Self, AllocError> {
         self.clone(alloc)
     }
 }
 
-/// The sigils at the front of a text, up to another byte or one that stood before.
+/// Writes the text of the line without an indentation.
+impl fmt::Debug for Line<'_> {
+    fn fmt<W: fmt::Write>(&self, f: &mut fmt::Formatter<W>) -> fmt::Result {
+        write_fragments(&self.fragments, f)
+    }
+}
+
+/// Returns the sigils at the front of a text. They end before the first other byte and before a
+/// repeated sigil.
 fn front_sigils(alloc: Global, text: &[u8], guards: bool) -> Result<BTreeSet<Sigil>, AllocError>
-    ensures { IfOk result (λ sigils. (s : Sigil) → Contains sigils.keys s ↔ IsSigilOf guards text.now s) }
+    ensures { IfOk result (λ sigils. (s : Sigil) → Contains sigils.keys s
+        ↔ IsSigilOf guards text.now s) }
 {
     let mut sigils = BTreeSet::new(alloc);
     for &byte in text {
@@ -114,8 +127,7 @@ fn front_sigils(alloc: Global, text: &[u8], guards: bool) -> Result<BTreeSet<Sig
     Ok(sigils)
 }
 
-/// Whether the printed line reads back: its last fragment is no text that ends in a carriage
-/// return.
+/// Whether the printed line reads back: it doesn't end in a text that ends in a carriage return.
 #[tactic(auto, using(crate::proofs::Bodies::printable_last))]
 pub fn is_printable(line: &Line<'_>) -> bool
     ensures { result ≡ printable_fragments (fragment_shapes line.now.fragments.items) }
@@ -134,41 +146,7 @@ fn ends_in_return(text: &str) -> bool
     text.ends_with('\r')
 }
 
-/// Puts an indentation, the usual one at once.
-fn write_indentation<S: Sink>(indentation: Indentation, sink: &mut S) -> Result<(), S::Fault>
-    ensures ok { OnOk result (S.took sink.old (indentation_text indentation) sink.new) }
-    ensures err { OnErr result (S.failed sink.old (indentation_text indentation) sink.new) }
-{
-    if indentation == Indentation::default() {
-        return sink.put("    ");
-    }
-    write_blanks(indentation, sink)
-}
-
-/// Puts an indentation blank by blank.
-fn write_blanks<S: Sink>(indentation: Indentation, sink: &mut S) -> Result<(), S::Fault>
-    ensures ok { OnOk result (S.took sink.old (indentation_text indentation) sink.new) }
-    ensures err { OnErr result (S.failed sink.old (indentation_text indentation) sink.new) }
-{
-    let blank = indentation.blank();
-    for _i in 0..indentation.count() {
-        sink.put(blank)?;
-    }
-    Ok(())
-}
-
-/// Puts the text of fragments.
-fn write_fragments<S: Sink>(fragments: &[Fragment<'_>], sink: &mut S) -> Result<(), S::Fault>
-    ensures ok { OnOk result (S.took sink.old (fragments_text fragments.now) sink.new) }
-    ensures err { OnErr result (S.failed sink.old (fragments_text fragments.now) sink.new) }
-{
-    for fragment in fragments {
-        write_fragment(fragment, sink)?;
-    }
-    Ok(())
-}
-
-/// Puts the text of a line.
+/// Writes the text of a line.
 pub fn write_line<S: Sink>(
     line: &Line<'_>,
     indentation: Indentation,
@@ -185,9 +163,36 @@ pub fn write_line<S: Sink>(
     Ok(())
 }
 
-/// The text, without an indentation.
-impl fmt::Debug for Line<'_> {
-    fn fmt<W: fmt::Write>(&self, f: &mut fmt::Formatter<W>) -> fmt::Result {
-        write_fragments(&self.fragments, f)
+/// Writes an indentation, the default one in one piece.
+fn write_indentation<S: Sink>(indentation: Indentation, sink: &mut S) -> Result<(), S::Fault>
+    ensures ok { OnOk result (S.took sink.old (indentation_text indentation) sink.new) }
+    ensures err { OnErr result (S.failed sink.old (indentation_text indentation) sink.new) }
+{
+    if indentation == Indentation::default() {
+        return sink.put("    ");
     }
+    write_blanks(indentation, sink)
+}
+
+/// Writes an indentation, one blank at a time.
+fn write_blanks<S: Sink>(indentation: Indentation, sink: &mut S) -> Result<(), S::Fault>
+    ensures ok { OnOk result (S.took sink.old (indentation_text indentation) sink.new) }
+    ensures err { OnErr result (S.failed sink.old (indentation_text indentation) sink.new) }
+{
+    let blank = indentation.blank();
+    for _i in 0..indentation.count() {
+        sink.put(blank)?;
+    }
+    Ok(())
+}
+
+/// Writes the texts of fragments.
+fn write_fragments<S: Sink>(fragments: &[Fragment<'_>], sink: &mut S) -> Result<(), S::Fault>
+    ensures ok { OnOk result (S.took sink.old (fragments_text fragments.now) sink.new) }
+    ensures err { OnErr result (S.failed sink.old (fragments_text fragments.now) sink.new) }
+{
+    for fragment in fragments {
+        write_fragment(fragment, sink)?;
+    }
+    Ok(())
 }

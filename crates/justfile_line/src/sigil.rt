@@ -1,11 +1,11 @@
-/// A mark at the front of a body line, which says how the line is run.
+/// A mark at the front of a body line that changes how the line is run.
 #[derive(Clone, Copy, Debug, PartialEq, Eq, PartialOrd, Ord)]
 pub enum Sigil {
-    /// `?`, which is a sigil only with guards.
+    /// `?`. It is a sigil only with the setting `guards`.
     Guard,
-    /// `-`: the line may fail.
+    /// `-`: a failure of the line is ignored.
     Infallible,
-    /// `@`: a line that would be echoed is not, and the other way round.
+    /// `@`: inverts whether the line is echoed.
     Quiet,
 }
 
@@ -13,7 +13,8 @@ impl Sigil {
     ghost use Rattle.std.specs.Prelude.{◌≡◌};
     ghost use Rattle.justfile_line.specs.Sigil.{sigil_of};
 
-    /// The sigil that a byte is. `?` is one only with guards.
+    /// Returns the sigil for a byte, or `None` if it isn't one. `?` is a sigil only if `guards` is
+    /// set.
     pub(crate) fn of_byte(byte: u8, guards: bool) -> Option<Sigil>
         ensures { result ≡ sigil_of guards byte }
     {

@@ -1,4 +1,4 @@
--- A piece is read, and so is a bad one.
+-- The parser of pieces finds each piece and each bad piece.
 use Rattle.std.proofs.Common.{◌≡◌, ◌≢◌, ℕ, ◌<◌, ◌≤◌, false, cond, List, [], ◌∷◌, ◌++◌, length, take, drop, Option, Some, None, Ok, Err, refl, sym, ap, ap₂, subst, ◌∙◌, inl, inr, arith, append_assoc, codes, slice_index, nat_lt}
 use Rattle.std.specs.Prelude.{option_to_list}
 use Rattle.std.specs.Char.{IsScalar}

@@ -1,4 +1,4 @@
--- Hexadecimal digits at the front of a text of bytes, and their number.
+-- Hexadecimal digits at the start of a text of bytes, and their number.
 use Rattle.std.proofs.Common.{zero, suc, ◌≡◌, ◌≢◌, ℕ, ◌+◌, ◌^◌, ◌<◌, ◌≤◌, true, false, List, [], ◌∷◌, ◌++◌, length, get_or, take, drop, Result, Err, IsUtf8, refl, sym, ap, ap₂, subst, ◌∙◌, cond, nat_lt, add-one, arith}
 use Rattle.std.specs.Prelude.{chars, encode_utf8_all}
 use Rattle.std.specs.Char.{IsScalar, digit_value, is_ascii_hexdigit}

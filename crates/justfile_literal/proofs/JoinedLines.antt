@@ -1,4 +1,4 @@
--- What stays of lines, joined from the first to the last.
+-- Unindented lines, concatenated from the first to the last.
 use Rattle.std.proofs.Common.{◌≡◌, ℕ, false, List, [], ◌∷◌, ◌++◌, map, refl, sym, ap, ◌∙◌, append_assoc, append-nil, Bor, Result, Ok, Err}
 use Rattle.std.specs.Result.{OnOk, is_ok}
 use Rattle.std.specs.Bool.{if◌then◌else◌}

@@ -1,4 +1,4 @@
--- No longer front of a refused text is made of pieces.
+-- No longer prefix of an invalid text consists of pieces.
 use Rattle.std.proofs.Common.{◌≡◌, ℕ, ◌≤◌, List, [], ◌∷◌, ◌++◌, length, Option, Ok, Err, sym, ap, ◌∙◌, arith, append_assoc, length-append}
 use Rattle.std.specs.Prelude.{encode_utf8_all, flat_map}
 use Rattle.std.proofs.lemmas.Str.{encodes_same}

@@ -1,4 +1,4 @@
--- The lines of a text: where they are cut, and that they are the text.
+-- The lines of a text: where the text is split, and that the lines together are the text.
 use Rattle.std.proofs.Common.{◌≡◌, ℕ, suc, ◌<◌, false, List, [], ◌∷◌, ◌++◌, length, get_or, take, drop, refl, sym, ap, ◌∙◌, subst, inl, inr, arith, append_assoc, ne_eqb, length-append, length-drop, take-suc, Some, None, Option}
 use Rattle.std.specs.Prelude.{◌==◌}
 use Rattle.std.specs.List.{All, onto_first, concat}

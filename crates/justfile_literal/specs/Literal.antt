@@ -1,32 +1,32 @@
--- What is made of a token that is a literal.
+-- The results of cooking a token that is a literal.
 use Rattle.std.specs.Prelude.{◌≡◌, ℕ, ◌+◌, ◌-◌, Bool, false, ◌&&◌, nat_lt, nat_le, List, length, slice_index, Option, Some, None, Result, Ok, Err, option_map, string_bytes}
-use Rattle.justfile_base.specs.StringKind.{kind_of, delimiter_len}
-use Rattle.justfile_base.specs.Token.{lexeme_of}
-use Rattle.justfile_base.specs.declared.compile_error.CompileError.{CompileError}
-use Rattle.justfile_base.specs.declared.compile_error_kind.CompileErrorKind.{CompileErrorKind}
-use Rattle.justfile_base.specs.declared.compile_error_kind.CompileErrorKind.TheVariants as kinds
-use Rattle.justfile_base.specs.declared.fault.Fault.{Fault}
-use Rattle.justfile_base.specs.declared.fault.Fault.TheVariants.{Compile, Memory, Numbers}
-use Rattle.justfile_word.specs.declared.format_string_part.FormatStringPart.{FormatStringPart}
-use Rattle.justfile_base.specs.declared.string_kind.StringKind.{StringKind}
-use Rattle.justfile_base.specs.declared.string_literal.StringLiteral.{StringLiteral}
-use Rattle.justfile_base.specs.declared.token.Token.{Token}
+use Rattle.justfile_token.specs.StringKind.{kind_of, delimiter_len}
+use Rattle.justfile_token.specs.Token.{lexeme_of}
+use Rattle.justfile_token.specs.declared.compile_error.CompileError.{CompileError}
+use Rattle.justfile_token.specs.declared.compile_error_kind.CompileErrorKind.{CompileErrorKind}
+use Rattle.justfile_token.specs.declared.compile_error_kind.CompileErrorKind.TheVariants as kinds
+use Rattle.justfile_token.specs.declared.fault.Fault.{Fault}
+use Rattle.justfile_token.specs.declared.fault.Fault.TheVariants.{Compile, Memory, Numbers}
+use Rattle.justfile_vocabulary.specs.declared.format_string_part.FormatStringPart.{FormatStringPart}
+use Rattle.justfile_token.specs.declared.string_kind.StringKind.{StringKind}
+use Rattle.justfile_token.specs.declared.string_literal.StringLiteral.{StringLiteral}
+use Rattle.justfile_token.specs.declared.token.Token.{Token}
 use Rattle.justfile_model.specs.EscapeFault.{escape_fault_of}
 use Rattle.justfile_model.specs.Literals.{Expansions, LiteralFault, Escape, Refused, Shebang, cooked_text, string_of, front_len, end_len, format_text}
 
--- so many bytes at the two ends leave a text, with a byte of ASCII on either side of it
+-- the lexeme has `front` bytes before its text and `end` bytes after it, and the bytes next to the text are ASCII
 abbrev pub is_framed : (front end : ℕ) → List ℕ → Bool
 is_framed front end lexeme = nat_le (front + end) (length lexeme) && nat_lt (slice_index lexeme (front - 1)) 128 && nat_lt (slice_index lexeme (length lexeme - end)) 128
 
--- the delimiters leave a text between them
+-- the lexeme has a delimiter at each end
 abbrev pub is_quoted : List ℕ → Bool
 is_quoted lexeme = is_framed (delimiter_len (kind_of lexeme)) (delimiter_len (kind_of lexeme)) lexeme
 
--- the expander's answers: it has one for each text
+-- the results of an expander that has one for each text
 abbrev pub answers_by : {X : Type 0} → (X → List ℕ → Result (List ℕ) (List ℕ)) → X → Expansions
 answers_by answer expander text = Some (answer expander text)
 
--- the fault of a literal that the kind of an error says, if it says one; an expander is always asked
+-- the fault of a literal that an error kind reports, if it reports one; the expander is always called, so `Unasked` is never reported
 abbrev pub literal_fault_of : CompileErrorKind → Option LiteralFault
 literal_fault_of (kinds.ShellExpansion err) = Some (Refused (string_bytes err))
 literal_fault_of kinds.BacktickShebang = Some Shebang
@@ -35,20 +35,20 @@ literal_fault_of kind = option_map Escape (escape_fault_of kind)
 abbrev pub IsKindOf : LiteralFault → CompileErrorKind → Type 0
 IsKindOf fault kind = literal_fault_of kind ≡ Some fault
 
--- the error says why there is no text, and stands at the token
+-- The error says why the literal has no text, and is reported at the token.
 pub record IsTextError (text : Result (List ℕ) LiteralFault) (token : Token) (error : CompileError) : Type 0 where
   pub fault : LiteralFault
   pub text_is : text ≡ Err fault
   pub kind_is : IsKindOf fault error.kind
   pub token_is : error.token ≡ token
 
--- being out of memory says nothing of the text
+-- Running out of memory tells nothing about the text.
 abbrev pub IsTextFault : Result (List ℕ) LiteralFault → Token → Fault → Type 0
 IsTextFault text token (Compile error) = IsTextError text token error
 IsTextFault text token Memory = Unit {0}
 IsTextFault text token Numbers = ⊥
 
--- the token as a literal that is no part of a format string
+-- the token as a literal that isn't a part of a format string
 pub record IsStringOf (expander : Expansions) (token : Token) (expand : Bool) (literal : StringLiteral) : Type 0 where
   pub token_is : literal.token ≡ token
   pub cooked : cooked_text expander (string_of expand (lexeme_of token)) ≡ Ok (string_bytes literal.cooked)
@@ -56,7 +56,7 @@ pub record IsStringOf (expander : Expansions) (token : Token) (expand : Bool) (l
   pub kind : literal.kind ≡ kind_of (lexeme_of token)
   pub part : literal.part ≡ None
 
--- the token is this part of a format string of this kind
+-- the lexeme is this part of a format string of this kind
 abbrev pub is_part : StringKind → FormatStringPart → List ℕ → Bool
 is_part kind part = is_framed (front_len kind part) (end_len kind part)
 

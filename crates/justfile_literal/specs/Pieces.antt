@@ -1,4 +1,4 @@
--- What the readers of pieces answer, as the definitions say it.
+-- The results of the code that parses pieces, as values of the definitions.
 use Rattle.std.specs.Prelude.{ℕ, List, Option, Result, Ok, Err, chars}
 use denote.Ref.{Bor}
 use Rattle.justfile_literal.specs.declared.escape_fault.EscapeFault.{EscapeFault as CodeFault}

@@ -6,14 +6,36 @@ ghost use Rattle.justfile_literal.specs.Pieces.{piece_fault};
 
 use crate::escape::{read_piece, split_first};
 use crate::escape_fault::EscapeFault;
-use justfile_base::{CompileResult, Fault, StringKind, Token};
+use justfile_token::{CompileResult, Fault, StringKind, Token};
 use std::alloc::{AllocError, Global};
 
-/// The text with its escapes replaced.
+/// Returns the text of a literal of this kind, with its escapes replaced if its quotes are double.
 ///
 /// # Errors
 ///
-/// `Compile` at the token, for the first bad escape; `Memory` if memory runs out.
+/// `Compile` at the token for the first invalid escape, `Memory` if memory runs out.
+pub(crate) fn replace_escapes<'src>(
+    alloc: Global,
+    token: Token<'src>,
+    kind: StringKind,
+    text: String,
+) -> CompileResult<'src, String>
+    ensures ok { IfOk result (λ cooked. escaped kind (string_bytes text)
+        ≡ Ok (string_bytes cooked)) }
+    ensures err { IfErr result (IsTextFault (escaped kind (string_bytes text)) token.entry) }
+{
+    if kind.processes_escape_sequences() {
+        cook_string(alloc, token, text.as_str())
+    } else {
+        Ok(text)
+    }
+}
+
+/// Returns the text with its escapes replaced.
+///
+/// # Errors
+///
+/// `Compile` at the token for the first invalid escape, `Memory` if memory runs out.
 pub fn cook_string<'src>(
     alloc: Global,
     token: Token<'src>,
@@ -36,30 +58,10 @@ pub fn cook_string<'src>(
     Ok(cooked)
 }
 
-/// The text of a literal of this kind: in double quotes with its escapes replaced.
-///
-/// # Errors
-///
-/// `Compile` at the token, for the first bad escape; `Memory` if memory runs out.
-pub(crate) fn replace_escapes<'src>(
-    alloc: Global,
-    token: Token<'src>,
-    kind: StringKind,
-    text: String,
-) -> CompileResult<'src, String>
-    ensures ok { IfOk result (λ cooked. escaped kind (string_bytes text) ≡ Ok (string_bytes cooked)) }
-    ensures err { IfErr result (IsTextFault (escaped kind (string_bytes text)) token.entry) }
-{
-    if kind.processes_escape_sequences() {
-        cook_string(alloc, token, text.as_str())
-    } else {
-        Ok(text)
-    }
-}
-
-/// The refusal, at the token, of a text whose first bad escape has the fault.
+/// Returns the error at the token for the fault of the first invalid escape.
 fn refuse<'src>(alloc: Global, token: Token<'src>, fault: EscapeFault<'_>) -> Fault<'src>
-    ensures { (text : List ℕ) → Refused text (piece_fault fault.entry) → IsCookFault text token.entry result }
+    ensures { (text : List ℕ) → Refused text (piece_fault fault.entry)
+        → IsCookFault text token.entry result }
 {
     match fault.into_kind(alloc) {
         Ok(kind) => Fault::Compile(token.error(kind)),
@@ -67,9 +69,10 @@ fn refuse<'src>(alloc: Global, token: Token<'src>, fault: EscapeFault<'_>) -> Fa
     }
 }
 
-/// Pushes the character that a piece stands for, if there is one.
+/// Appends the character of a piece, if it has one.
 fn push_piece(cooked: &mut String, value: Option<char>) -> Result<(), AllocError>
-    ensures { OnOk result (string_bytes cooked.new ≡ string_bytes cooked.old ++ encode_utf8_all (option_to_list value)) }
+    ensures { OnOk result (string_bytes cooked.new
+        ≡ string_bytes cooked.old ++ encode_utf8_all (option_to_list value)) }
 {
     match value {
         Some(character) => cooked.push(character),

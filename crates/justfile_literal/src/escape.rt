@@ -7,37 +7,13 @@ ghost use Rattle.justfile_literal.specs.Pieces.{piece_answer};
 
 use crate::escape_fault::EscapeFault;
 
-/// The character that a piece stands for, if it stands for one, and the text after the piece.
+/// The character of a piece, if it has one, and the text after the piece.
 pub(crate) type PieceRead<'a> = Result<(Option<char>, &'a str), EscapeFault<'a>>;
 
-/// The most hexadecimal digits that an escape may have.
+/// The greatest number of hexadecimal digits in an escape.
 const MOST_DIGITS: usize = 6;
 
-/// The first character, and the text after it.
-pub(crate) fn split_first(text: &str) -> Option<(char, &str)>
-    ensures value { MatchOption result (chars text.now ≡ []) (λ x. chars text.now ≡ x.0 ∷ chars x.1.now) }
-    ensures utf8 { IfSome result (λ x. IsUtf8 x.1.now) }
-{
-    let mut characters = text.chars();
-    let character = characters.next()?;
-    Some((character, characters.as_str()))
-}
-
-/// The character that a backslash and this one name.
-fn named_character(character: char) -> Option<char>
-    ensures { result ≡ named character }
-{
-    match character {
-        'n' => Some('\n'),
-        'r' => Some('\r'),
-        't' => Some('\t'),
-        '\\' => Some('\\'),
-        '"' => Some('"'),
-        _ => None,
-    }
-}
-
-/// Reads the piece that begins with the character.
+/// Parses the piece that begins with the character.
 pub(crate) fn read_piece(character: char, rest: &str) -> PieceRead<'_>
     ensures found { piece_answer result ≡ first_escaped_piece character (chars rest.now) }
     ensures utf8 { IfOk result (λ x. IsUtf8 x.1.now) }
@@ -48,7 +24,7 @@ pub(crate) fn read_piece(character: char, rest: &str) -> PieceRead<'_>
     }
 }
 
-/// Reads the rest of an escape after its backslash.
+/// Parses the rest of an escape after its backslash.
 fn read_escape(text: &str) -> PieceRead<'_>
     ensures found { piece_answer result ≡ escape_piece (chars text.now) }
     ensures utf8 { IfOk result (λ x. IsUtf8 x.1.now) }
@@ -67,7 +43,21 @@ fn read_escape(text: &str) -> PieceRead<'_>
     }
 }
 
-/// Reads the rest of a line end whose carriage return follows a backslash.
+/// Returns the character that this one stands for after a backslash.
+fn named_character(character: char) -> Option<char>
+    ensures { result ≡ named character }
+{
+    match character {
+        'n' => Some('\n'),
+        'r' => Some('\r'),
+        't' => Some('\t'),
+        '\\' => Some('\\'),
+        '"' => Some('"'),
+        _ => None,
+    }
+}
+
+/// Parses the rest of an escaped line end after its carriage return.
 fn read_line_feed(text: &str) -> PieceRead<'_>
     ensures found { piece_answer result ≡ line_feed_piece (chars text.now) }
     ensures utf8 { IfOk result (λ x. IsUtf8 x.1.now) }
@@ -78,7 +68,7 @@ fn read_line_feed(text: &str) -> PieceRead<'_>
     }
 }
 
-/// Reads the rest of an escape after its `u`.
+/// Parses the rest of an escape after its `u`.
 fn read_unicode_escape(text: &str) -> PieceRead<'_>
     ensures found { piece_answer result ≡ unicode (chars text.now) }
     ensures utf8 { IfOk result (λ x. IsUtf8 x.1.now) }
@@ -90,7 +80,20 @@ fn read_unicode_escape(text: &str) -> PieceRead<'_>
     }
 }
 
-/// How many hexadecimal digits the text begins with, and seven where there are more.
+/// Parses the rest of an escape after its opening brace.
+fn read_digits(text: &str) -> PieceRead<'_>
+    ensures found { piece_answer result ≡ digits (chars text.now) }
+    ensures utf8 { IfOk result (λ x. IsUtf8 x.1.now) }
+{
+    let count = hex_len(text);
+    let (hex, rest) = text.split_at(count);
+    if count > MOST_DIGITS {
+        return Err(EscapeFault::UnicodeEscapeLength { hex });
+    }
+    read_closing_brace(hex, rest)
+}
+
+/// Returns the number of hexadecimal digits at the start of the text, at most seven.
 fn hex_len(text: &str) -> usize
     ensures { result ≡ hex_len (chars text.now) }
 {
@@ -104,20 +107,7 @@ fn hex_len(text: &str) -> usize
     count
 }
 
-/// Reads the rest of an escape after its opening brace.
-fn read_digits(text: &str) -> PieceRead<'_>
-    ensures found { piece_answer result ≡ digits (chars text.now) }
-    ensures utf8 { IfOk result (λ x. IsUtf8 x.1.now) }
-{
-    let count = hex_len(text);
-    let (hex, rest) = text.split_at(count);
-    if count > MOST_DIGITS {
-        return Err(EscapeFault::UnicodeEscapeLength { hex });
-    }
-    read_closing_brace(hex, rest)
-}
-
-/// Reads the rest of an escape after its digits.
+/// Parses the rest of an escape after its digits.
 fn read_closing_brace<'a>(hex: &'a str, text: &'a str) -> PieceRead<'a>
     requires { AreHex hex.now }
     ensures found { piece_answer result ≡ closing_brace hex.now (chars text.now) }
@@ -130,7 +120,18 @@ fn read_closing_brace<'a>(hex: &'a str, text: &'a str) -> PieceRead<'a>
     }
 }
 
-/// The character of the number that stands before the closing brace.
+/// Returns the first character and the text after it, or `None` for the empty text.
+pub(crate) fn split_first(text: &str) -> Option<(char, &str)>
+    ensures value { MatchOption result (chars text.now ≡ []) (λ x. chars text.now
+        ≡ x.0 ∷ chars x.1.now) }
+    ensures utf8 { IfSome result (λ x. IsUtf8 x.1.now) }
+{
+    let mut characters = text.chars();
+    let character = characters.next()?;
+    Some((character, characters.as_str()))
+}
+
+/// Returns the character with this number, and the text after the closing brace.
 fn read_number<'a>(hex: &'a str, rest: &'a str) -> PieceRead<'a>
     requires { AreHex hex.now }
     ensures found { piece_answer result ≡ number hex.now (chars rest.now) }
@@ -145,7 +146,7 @@ fn read_number<'a>(hex: &'a str, rest: &'a str) -> PieceRead<'a>
     }
 }
 
-/// The character that has this number, if there is one.
+/// Returns the character with this number, or `None` if the number isn't a code point.
 fn parse_character(hex: &str) -> Option<char>
     requires hex { AreHex hex.now }
     requires some { 0 < length hex.now }

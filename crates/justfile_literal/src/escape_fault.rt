@@ -2,30 +2,30 @@ ghost use Rattle.std.specs.Prelude.{◌≡◌, IfOk, Some};
 ghost use Rattle.justfile_model.specs.EscapeFault.{escape_fault_of};
 ghost use Rattle.justfile_literal.specs.Pieces.{piece_fault};
 
-use justfile_base::CompileErrorKind;
+use justfile_token::CompileErrorKind;
 use std::alloc::{AllocError, Global};
 
-/// Why no piece of a text comes next, said without memory.
+/// Why a piece of a text is invalid. It borrows the text, so it needs no memory.
 #[derive(Clone, Copy, Debug)]
 pub(crate) enum EscapeFault<'a> {
-    /// No escape is written with this character.
+    /// The character doesn't begin an escape.
     InvalidEscapeSequence { character: char },
-    /// The character after the digits is no closing brace.
+    /// The character after the digits isn't the closing brace.
     UnicodeEscapeCharacter { character: char },
-    /// The character stands where the opening brace has to be.
+    /// The character is in place of the opening brace.
     UnicodeEscapeDelimiter { character: char },
-    /// No digit stands between the braces.
+    /// There is no digit between the braces.
     UnicodeEscapeEmpty,
-    /// More than six digits, of which the first seven are given.
+    /// There are more than six digits, of which this holds the first seven.
     UnicodeEscapeLength { hex: &'a str },
-    /// The digits are the number of no character.
+    /// The digits aren't the code point of a character.
     UnicodeEscapeRange { hex: &'a str },
-    /// The text ends in an escape.
+    /// The text ends inside an escape.
     UnicodeEscapeUnterminated,
 }
 
 impl<'a> EscapeFault<'a> {
-    /// The kind of the error that says so. Memory is needed for digits alone.
+    /// Returns the kind of the error. Allocates only to copy digits.
     pub(crate) fn into_kind<'src>(self, alloc: Global) -> Result<CompileErrorKind<'src>, AllocError>
         ensures { IfOk result (λ kind. escape_fault_of kind ≡ Some (piece_fault self.entry)) }
     {

@@ -1,10 +1,11 @@
-//! Texts and what they stand for or why they are refused, computed by the checker.
+//! Examples of texts with escapes and indentation, checked by computation: their values, or why
+//! they are invalid.
 ghost use Rattle.std.specs.Prelude.{◌≡◌, [], ◌∷◌, codes};
 ghost use Rattle.justfile_model.specs.Cook.{Cooks, Refused};
 ghost use Rattle.justfile_model.specs.EscapeFault.{InvalidEscapeSequence, UnicodeEscapeCharacter, UnicodeEscapeDelimiter, UnicodeEscapeEmpty, UnicodeEscapeLength, UnicodeEscapeRange, UnicodeEscapeUnterminated};
 ghost use Rattle.justfile_model.specs.Unindent.{unindented};
 
-/// Each escape.
+/// All escapes.
 pub fn cooked()
     ensures empty { Cooks [] [] }
     ensures plain { Cooks (97 ∷ 195 ∷ 169 ∷ []) (97 ∷ 195 ∷ 169 ∷ []) }
@@ -17,11 +18,12 @@ pub fn cooked()
     ensures joined_crlf { Cooks (codes "a\\\r\nb") (codes "ab") }
     ensures one_digit { Cooks (codes "\\u{9}") (codes "\t") }
     ensures two_digits { Cooks (codes "\\u{41}b") (codes "Ab") }
-    ensures six_digits { Cooks (codes "\\u{00e9}\\u{10FFff}") (195 ∷ 169 ∷ 244 ∷ 143 ∷ 191 ∷ 191 ∷ []) }
+    ensures six_digits { Cooks (codes "\\u{00e9}\\u{10FFff}")
+        (195 ∷ 169 ∷ 244 ∷ 143 ∷ 191 ∷ 191 ∷ []) }
     ensures raw_braces { Cooks (codes "u{41}") (codes "u{41}") }
 {}
 
-/// Each refusal.
+/// All faults.
 pub fn refused()
     ensures unknown { Refused (codes "a\\nb\\q") (InvalidEscapeSequence 113) }
     ensures unknown_two_bytes { Refused (92 ∷ 195 ∷ 169 ∷ []) (InvalidEscapeSequence 233) }
@@ -42,19 +44,21 @@ pub fn refused()
     ensures first_decides { Refused (codes "\\q\\u{}") (InvalidEscapeSequence 113) }
 {}
 
-/// A blank first or last line goes, and the line end before the last line stays.
+/// A blank first or last line is removed, but not the line end before the last line.
 #[tactic(auto, unfolding(justfile_model::specs::Unindent::unindented))]
 pub fn outer_lines()
     ensures empty { unindented [] ≡ [] }
     ensures first { unindented (codes "\n  foo\n    bar\n") ≡ codes "foo\n  bar\n" }
     ensures last { unindented (codes "\n  a\n  ") ≡ codes "a\n" }
     ensures one_of_two { unindented (codes "  foo\n  bar\n\n") ≡ codes "foo\nbar\n" }
-    ensures both { unindented (codes "\n          hello\n          bar\n        ") ≡ codes "hello\nbar\n" }
-    ensures one_of_each { unindented (codes "\n\n          hello\n          bar\n\n        ") ≡ codes "\nhello\nbar\n\n" }
+    ensures both { unindented (codes "\n          hello\n          bar\n        ")
+        ≡ codes "hello\nbar\n" }
+    ensures one_of_each { unindented (codes "\n\n          hello\n          bar\n\n        ")
+        ≡ codes "\nhello\nbar\n\n" }
     ensures only_line { unindented (codes " \t\r\n") ≡ [] }
 {}
 
-/// Of a blank line in the middle the line end stays, and its blanks count for nothing.
+/// A blank line in the middle keeps its line end. Its blanks don't count for the indentation.
 #[tactic(auto, unfolding(justfile_model::specs::Unindent::unindented))]
 pub fn middle_lines()
     ensures shorter_and_longer { unindented (codes "  a\n    \n \r\n  b") ≡ codes "a\n\n\r\nb" }
@@ -64,7 +68,7 @@ pub fn middle_lines()
     ensures crlf { unindented (codes "  foo\r\n\r\n  bar\r\n") ≡ codes "foo\r\n\r\nbar\r\n" }
 {}
 
-/// The run of spaces and tabs that the other lines share goes.
+/// The run of spaces and tabs that the other lines share is removed.
 #[tactic(auto, unfolding(justfile_model::specs::Unindent::unindented))]
 pub fn shared_runs()
     ensures none { unindented (codes "foo\nbar\nbaz\n") ≡ codes "foo\nbar\nbaz\n" }

@@ -1,18 +1,22 @@
 ghost use Rattle.std.specs.Prelude.{◌≡◌, IfErr, IfOk, IsTrue, Ok, string_bytes};
-ghost use Rattle.justfile_base.specs.Token.{lexeme_of};
+ghost use Rattle.justfile_token.specs.Token.{lexeme_of};
 ghost use Rattle.justfile_model.specs.Literals.{between, end_len, format_text, front_len, unescaped_braces};
 ghost use Rattle.justfile_literal.specs.Literal.{IsPartOf, IsTextFault, is_part};
 
 use crate::cook::replace_escapes;
-use justfile_base::interpolation::{INTERPOLATION_END, INTERPOLATION_ESCAPE, INTERPOLATION_START};
-use justfile_base::{CompileResult, FormatStringPart, StringKind, StringLiteral, Token};
+use justfile_token::{CompileResult, StringKind, StringLiteral, Token};
+use justfile_vocabulary::FormatStringPart;
+use justfile_vocabulary::interpolation::{
+    INTERPOLATION_END, INTERPOLATION_ESCAPE, INTERPOLATION_START,
+};
 use std::alloc::{AllocError, Global};
 
-/// The literal that a part of a format string is. The kind is that of the whole format string.
+/// Returns the literal for a part of a format string. `kind` is the kind of the whole format
+/// string.
 ///
 /// # Errors
 ///
-/// `Compile` at the token, for the first bad escape; `Memory` if memory runs out.
+/// `Compile` at the token for the first invalid escape, `Memory` if memory runs out.
 pub fn format_part<'src>(
     alloc: Global,
     token: Token<'src>,
@@ -21,7 +25,8 @@ pub fn format_part<'src>(
 ) -> CompileResult<'src, StringLiteral<'src>>
     requires { IsTrue (is_part kind part (lexeme_of token)) }
     ensures ok { IfOk result (IsPartOf kind part token.entry) }
-    ensures err { IfErr result (IsTextFault (format_text kind part (lexeme_of token.entry)) token.entry) }
+    ensures err { IfErr result
+        (IsTextFault (format_text kind part (lexeme_of token.entry)) token.entry) }
 {
     Ok(StringLiteral {
         cooked: read_part_text(alloc, token, kind, part)?,
@@ -32,27 +37,32 @@ pub fn format_part<'src>(
     })
 }
 
-/// How many bytes stand before the text of the part.
-fn front_len(kind: StringKind, part: FormatStringPart) -> usize
-    ensures { result ≡ front_len kind part }
+/// Returns the text of the part, with its braces unescaped and, if the quotes are double, its
+/// escapes replaced.
+fn read_part_text<'src>(
+    alloc: Global,
+    token: Token<'src>,
+    kind: StringKind,
+    part: FormatStringPart,
+) -> CompileResult<'src, String>
+    requires { IsTrue (is_part kind part (lexeme_of token)) }
+    ensures ok { IfOk result (λ text. format_text kind part (lexeme_of token.entry)
+        ≡ Ok (string_bytes text)) }
+    ensures err { IfErr result
+        (IsTextFault (format_text kind part (lexeme_of token.entry)) token.entry) }
 {
-    match part {
-        FormatStringPart::Continue | FormatStringPart::End => INTERPOLATION_END.len(),
-        FormatStringPart::Single | FormatStringPart::Start => kind.delimiter_len(),
-    }
+    let text = unescape_braces(alloc, strip_delimiters(token.lexeme(), kind, part))?;
+    replace_escapes(alloc, token, kind, text)
 }
 
-/// How many bytes stand after the text of the part.
-fn end_len(kind: StringKind, part: FormatStringPart) -> usize
-    ensures { result ≡ end_len kind part }
+/// Returns the text with each `{{{{` replaced by `{{`, from left to right.
+fn unescape_braces(alloc: Global, text: &str) -> Result<String, AllocError>
+    ensures { IfOk result (λ unescaped. string_bytes unescaped ≡ unescaped_braces text.now) }
 {
-    match part {
-        FormatStringPart::Continue | FormatStringPart::Start => INTERPOLATION_START.len(),
-        FormatStringPart::End | FormatStringPart::Single => kind.delimiter_len(),
-    }
+    text.replace(alloc, INTERPOLATION_ESCAPE, INTERPOLATION_START)
 }
 
-/// What stands between the delimiters or the braces of interpolations.
+/// Returns the text between the delimiters of the string or the braces of interpolations.
 fn strip_delimiters(lexeme: &str, kind: StringKind, part: FormatStringPart) -> &str
     requires { IsTrue (is_part kind part lexeme.now) }
     ensures { result.now ≡ between (front_len kind part) (end_len kind part) lexeme.now }
@@ -62,24 +72,22 @@ fn strip_delimiters(lexeme: &str, kind: StringKind, part: FormatStringPart) -> &
     &lexeme[front..lexeme.len() - end]
 }
 
-/// The text with two braces for each four, from the left.
-fn unescape_braces(alloc: Global, text: &str) -> Result<String, AllocError>
-    ensures { IfOk result (λ unescaped. string_bytes unescaped ≡ unescaped_braces text.now) }
+/// Returns the number of bytes before the text of the part.
+fn front_len(kind: StringKind, part: FormatStringPart) -> usize
+    ensures { result ≡ front_len kind part }
 {
-    text.replace(alloc, INTERPOLATION_ESCAPE, INTERPOLATION_START)
+    match part {
+        FormatStringPart::Continue | FormatStringPart::End => INTERPOLATION_END.len(),
+        FormatStringPart::Single | FormatStringPart::Start => kind.delimiter_len(),
+    }
 }
 
-/// The text of the part: its braces, then in double quotes its escapes replaced.
-fn read_part_text<'src>(
-    alloc: Global,
-    token: Token<'src>,
-    kind: StringKind,
-    part: FormatStringPart,
-) -> CompileResult<'src, String>
-    requires { IsTrue (is_part kind part (lexeme_of token)) }
-    ensures ok { IfOk result (λ text. format_text kind part (lexeme_of token.entry) ≡ Ok (string_bytes text)) }
-    ensures err { IfErr result (IsTextFault (format_text kind part (lexeme_of token.entry)) token.entry) }
+/// Returns the number of bytes after the text of the part.
+fn end_len(kind: StringKind, part: FormatStringPart) -> usize
+    ensures { result ≡ end_len kind part }
 {
-    let text = unescape_braces(alloc, strip_delimiters(token.lexeme(), kind, part))?;
-    replace_escapes(alloc, token, kind, text)
+    match part {
+        FormatStringPart::Continue | FormatStringPart::Start => INTERPOLATION_START.len(),
+        FormatStringPart::End | FormatStringPart::Single => kind.delimiter_len(),
+    }
 }

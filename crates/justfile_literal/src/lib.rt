@@ -1,4 +1,4 @@
-//! The texts that literals stand for: their indentation taken off and their escapes replaced.
+//! The texts of literals, with their indentation removed and their escapes replaced.
 #![tactic(auto)]
 
 pub mod cook;

@@ -1,21 +1,21 @@
 ghost use Rattle.std.specs.Prelude.{◌≡◌, IfErr, IfOk, IsTrue, Ok, string_bytes};
-ghost use Rattle.justfile_base.specs.StringKind.{kind_of};
-ghost use Rattle.justfile_base.specs.Token.{lexeme_of};
+ghost use Rattle.justfile_token.specs.StringKind.{kind_of};
+ghost use Rattle.justfile_token.specs.Token.{lexeme_of};
 ghost use Rattle.justfile_model.specs.Literals.{Expansions, Command, between_quotes, by_answer, cooked_text, flush_text, string_of, string_text};
 ghost use Rattle.justfile_literal.specs.Literal.{IsStringOf, IsTextFault, answers_by, is_quoted};
 
 use crate::cook::replace_escapes;
 use crate::unindent::unindent;
-use justfile_base::{
+use justfile_token::{
     CompileErrorKind, CompileResult, ExpandFault, Expander, Fault, StringKind, StringLiteral, Token,
 };
 use std::alloc::{AllocError, Global};
 
-/// The literal that a string is. It is marked `x` if its text is to be expanded.
+/// Returns the literal for a string token. With the mark `x` its text is expanded.
 ///
 /// # Errors
 ///
-/// `Compile` at the token, for the first bad escape, or if the expander refuses the text;
+/// `Compile` at the token for the first invalid escape, or if the expander can't expand the text;
 /// `Memory` if memory runs out.
 pub fn string_literal<'src, X: Expander>(
     alloc: Global,
@@ -43,15 +43,15 @@ pub fn string_literal<'src, X: Expander>(
     })
 }
 
-/// The command between backticks.
+/// Returns the command between backticks.
 ///
 /// # Errors
 ///
-/// `Compile` at the token, if the command begins with `#!`; `Memory` if memory runs out.
+/// `Compile` at the token if the command begins with `#!`, `Memory` if memory runs out.
 pub fn command<'src>(alloc: Global, token: Token<'src>) -> CompileResult<'src, String>
     requires { IsTrue (is_quoted (lexeme_of token)) }
-    ensures ok { IfOk result (λ contents. (expander : Expansions) → cooked_text expander (Command (lexeme_of token.entry))
-        ≡ Ok (string_bytes contents)) }
+    ensures ok { IfOk result (λ contents. (expander : Expansions)
+        → cooked_text expander (Command (lexeme_of token.entry)) ≡ Ok (string_bytes contents)) }
     ensures err { IfErr result (λ fault. (expander : Expansions)
         → IsTextFault (cooked_text expander (Command (lexeme_of token.entry))) token.entry fault) }
 {
@@ -62,23 +62,18 @@ pub fn command<'src>(alloc: Global, token: Token<'src>) -> CompileResult<'src, S
     Ok(text)
 }
 
-/// How the literal is delimited.
-fn literal_kind(lexeme: &str) -> StringKind
-    ensures { result ≡ kind_of lexeme.now }
+/// Returns the text of a string, with its escapes replaced if the quotes are double.
+fn read_string_text<'src>(alloc: Global, token: Token<'src>) -> CompileResult<'src, String>
+    requires { IsTrue (is_quoted (lexeme_of token)) }
+    ensures ok { IfOk result (λ text. string_text (lexeme_of token.entry)
+        ≡ Ok (string_bytes text)) }
+    ensures err { IfErr result (IsTextFault (string_text (lexeme_of token.entry)) token.entry) }
 {
-    StringKind::of_opening(lexeme.as_bytes())
+    let text = read_flush_text(alloc, token.lexeme())?;
+    replace_escapes(alloc, token, literal_kind(token.lexeme()), text)
 }
 
-/// What stands between the quotes.
-fn between_quotes(lexeme: &str) -> &str
-    requires { IsTrue (is_quoted lexeme.now) }
-    ensures { result.now ≡ between_quotes lexeme.now }
-{
-    let quotes = literal_kind(lexeme).delimiter_len();
-    &lexeme[quotes..lexeme.len() - quotes]
-}
-
-/// What stands between the quotes, unindented where they are tripled.
+/// Returns the text between the quotes, unindented if the quotes are tripled.
 fn read_flush_text(alloc: Global, lexeme: &str) -> Result<String, AllocError>
     requires { IsTrue (is_quoted lexeme.now) }
     ensures { IfOk result (λ text. string_bytes text ≡ flush_text lexeme.now) }
@@ -91,25 +86,33 @@ fn read_flush_text(alloc: Global, lexeme: &str) -> Result<String, AllocError>
     }
 }
 
-/// The text of a string, its escapes replaced in double quotes.
-fn read_string_text<'src>(alloc: Global, token: Token<'src>) -> CompileResult<'src, String>
-    requires { IsTrue (is_quoted (lexeme_of token)) }
-    ensures ok { IfOk result (λ text. string_text (lexeme_of token.entry) ≡ Ok (string_bytes text)) }
-    ensures err { IfErr result (IsTextFault (string_text (lexeme_of token.entry)) token.entry) }
+/// Returns the text between the quotes.
+fn between_quotes(lexeme: &str) -> &str
+    requires { IsTrue (is_quoted lexeme.now) }
+    ensures { result.now ≡ between_quotes lexeme.now }
 {
-    let text = read_flush_text(alloc, token.lexeme())?;
-    replace_escapes(alloc, token, literal_kind(token.lexeme()), text)
+    let quotes = literal_kind(lexeme).delimiter_len();
+    &lexeme[quotes..lexeme.len() - quotes]
 }
 
-/// Expands the text. A refusal stands at the token.
+/// Returns the kind of the literal.
+fn literal_kind(lexeme: &str) -> StringKind
+    ensures { result ≡ kind_of lexeme.now }
+{
+    StringKind::of_opening(lexeme.as_bytes())
+}
+
+/// Expands the text. If that fails, the error is at the token.
 fn expand_text<'src, X: Expander>(
     alloc: Global,
     token: Token<'src>,
     text: &str,
     expander: &X,
 ) -> CompileResult<'src, String>
-    ensures ok { IfOk result (λ expanded. by_answer (answers_by X.answer expander.now text.now) ≡ Ok (string_bytes expanded)) }
-    ensures err { IfErr result (IsTextFault (by_answer (answers_by X.answer expander.now text.now)) token.entry) }
+    ensures ok { IfOk result (λ expanded. by_answer (answers_by X.answer expander.now text.now)
+        ≡ Ok (string_bytes expanded)) }
+    ensures err { IfErr result
+        (IsTextFault (by_answer (answers_by X.answer expander.now text.now)) token.entry) }
 {
     match expander.expand(alloc, text) {
         Ok(expanded) => Ok(expanded),

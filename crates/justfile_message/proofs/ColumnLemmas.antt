@@ -1,4 +1,4 @@
--- What the loops over a line's characters have so far.
+-- Invariants of the loops over the characters of a line.
 use Rattle.std.proofs.Common.{◌≡◌, ℕ, zero, suc, ◌+◌, ◌<◌, ◌≤◌, ◌^◌, ◌/◌, ◌%◌, max, if◌then◌else◌, Bool, true, List, [], ◌∷◌, ◌++◌, Option, Some, None, unwrap_or, IsUtf8, length, take, drop, get_or, sym, ap, subst, ◌∙◌, arith, append_assoc, append-nil, length-append, zero-add, suc-add}
 use Rattle.std.specs.Prelude.{chars, filter, sum_by}
 use Rattle.std.specs.Borrow.{Bor}

@@ -1,37 +1,37 @@
--- The lines of a text as they are shown, and the columns that characters take: those of a screen, where places are counted in bytes.
+-- Lines of a text as messages show them, and the screen columns of their characters. Positions are counted in bytes.
 use Rattle.std.specs.Prelude.{ℕ, ◌+◌, Bool, false, ◌&&◌, ◌==◌, nat_lt, nat_le, List, [], ◌∷◌, length, chars, codes, encode_utf8, filter, flat_map, slice_get, sum_by, unwrap_or, if◌then◌else◌}
 use Rattle.std.specs.Str.Lines.{lines}
 use Rattle.unicode_width.specs.Width.{char_width}
 
--- the line of a text with this number, from 0, without its line end; empty where the text has no such line
+-- the line with this number, from 0, without its line end; empty if the text has no such line
 abbrev pub line_at : List ℕ → ℕ → List ℕ
 line_at text number = unwrap_or (slice_get (lines text) number) []
 
--- a character as it is shown: a tab is four spaces
+-- a character as messages show it: a tab shows as four spaces
 abbrev pub shown_character : ℕ → List ℕ
 shown_character c = if c == 9 then codes "    " else encode_utf8 c
 
--- a line as it is shown
+-- a line as messages show it
 abbrev pub shown_line : List ℕ → List ℕ
 shown_line line = flat_map shown_character (chars line)
 
--- how many columns a character takes as it is shown: none where it has no width
+-- the number of columns that a character takes on the screen; 0 for a character without a width
 abbrev pub width_of : ℕ → ℕ
 width_of c = if c == 9 then 4 else unwrap_or (char_width false c) 0
 
--- each character with its place, where the first one's is given
+-- the characters, each with its byte position, if the first one is at the given position
 abbrev pub placed_from : ℕ → List ℕ → List (ℕ × ℕ)
 placed_from place [] = []
 placed_from place (c ∷ cs) = (place, c) ∷ placed_from (place + length (encode_utf8 c)) cs
 
--- a place is one of so many from the start on
+-- The position is one of the `count` positions from `start` on.
 abbrev pub is_among : ℕ → ℕ → ℕ → Bool
 is_among start count place = nat_le start place && nat_lt place (start + count)
 
--- how many columns those of the characters take whose places are among so many from the start on
+-- the number of columns of those characters whose positions are among the `count` ones from `start` on
 abbrev pub width_among : ℕ → ℕ → List (ℕ × ℕ) → ℕ
 width_among start count characters = sum_by (λ p. width_of p.1) (filter (λ p. is_among start count p.0) characters)
 
--- the same of the characters of a line
+-- the same for the characters of a line
 abbrev pub width_in : List ℕ → ℕ → ℕ → ℕ
 width_in line start count = width_among start count (placed_from 0 (chars line))

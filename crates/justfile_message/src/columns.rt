@@ -1,4 +1,4 @@
-//! The lines of a text as they are shown, and the columns that their characters take.
+//! Lines of a text as messages show them, and the screen columns of their characters.
 ghost use Rattle.std.specs.Prelude.{◌≡◌, ◌+◌, ◌<◌, ◌↔◌, IsTrue, Some, codes, length, max};
 ghost use Rattle.std.specs.Fmt.{DisplaysOnOk, decimal};
 ghost use Rattle.std.specs.List.{repeat};
@@ -7,14 +7,14 @@ ghost use Rattle.justfile_message.specs.Columns.{is_among, line_at, shown_line, 
 use std::fmt;
 use unicode_width::UnicodeWidthChar;
 
-/// What counts from 0, counted from 1.
+/// Returns the number, counted from 1, of the element with this index.
 pub fn ordinal(index: usize) -> u128
     ensures { result ≡ index + 1 }
 {
     index as u128 + 1
 }
 
-/// How many digits a number has.
+/// Returns the number of decimal digits of a number.
 pub fn digit_count(number: u128) -> usize
     ensures { result ≡ length (decimal number) }
 {
@@ -27,14 +27,15 @@ pub fn digit_count(number: u128) -> usize
     count
 }
 
-/// The line of a text with this number, from 0, without its line end; empty where there is none.
+/// Returns the line with this number, from 0, without its line end, or the empty text if there is
+/// no such line.
 pub fn line_at(text: &str, number: usize) -> &str
     ensures { result.now ≡ line_at text.now number }
 {
     text.lines().nth(number).unwrap_or("")
 }
 
-/// How many columns a character takes as it is shown.
+/// Returns the number of columns that a character takes on the screen.
 fn width_of(character: char) -> usize
     ensures { result ≡ width_of character }
 {
@@ -45,14 +46,14 @@ fn width_of(character: char) -> usize
     }
 }
 
-/// Whether a place is one of so many from the start on.
+/// Whether a byte position is one of the `count` positions from `start` on.
 fn is_among(place: usize, start: usize, count: usize) -> bool
     ensures { result ≡ is_among start count place }
 {
     start <= place && place - start < count
 }
 
-/// Whether a character that begins among these bytes of the line takes a column.
+/// Whether a character takes a column and begins in the `count` bytes of the line from `start` on.
 fn has_width(line: &str, start: usize, count: usize) -> bool
     ensures { IsTrue result ↔ (0 < width_in line.now start count) }
 {
@@ -64,7 +65,8 @@ fn has_width(line: &str, start: usize, count: usize) -> bool
     false
 }
 
-/// Writes a text once for each column of the characters that begin among these bytes of the line.
+/// Writes a text once for each column of the characters that begin in the `count` bytes of the line
+/// from `start` on.
 pub fn write_columns<W: fmt::Write>(
     line: &str,
     start: usize,
@@ -82,7 +84,7 @@ pub fn write_columns<W: fmt::Write>(
     Ok(())
 }
 
-/// Writes a line with four spaces for each tab.
+/// Writes a line, with four spaces for each tab.
 pub fn write_line<W: fmt::Write>(line: &str, f: &mut fmt::Formatter<W>) -> fmt::Result
     ensures { DisplaysOnOk W.write_str_gives f.old result (Some (shown_line line.now)) f.new }
 {
@@ -96,8 +98,8 @@ pub fn write_line<W: fmt::Write>(line: &str, f: &mut fmt::Formatter<W>) -> fmt::
     Ok(())
 }
 
-/// Writes a caret for each column of the characters that begin among these bytes of the line, and
-/// one at least.
+/// Writes a caret for each column of the characters that begin in the `count` bytes of the line
+/// from `start` on, but at least one caret.
 pub fn write_carets<W: fmt::Write>(
     line: &str,
     start: usize,

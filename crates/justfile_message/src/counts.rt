@@ -1,16 +1,16 @@
-//! How many arguments there are, and how many are taken.
+//! How many arguments were given, and how many are accepted.
 ghost use Rattle.std.specs.Prelude.{Some, codes};
 ghost use Rattle.std.specs.Fmt.{DisplaysOnOk, ◌++?◌};
 ghost use Rattle.std.specs.Range.{range_inclusive_end, range_inclusive_start};
-ghost use Rattle.justfile_word.specs.Count.{noun_text};
+ghost use Rattle.justfile_vocabulary.specs.Count.{noun_text};
 ghost use Rattle.justfile_message.specs.Parts.{arguments_text, range_text, taken_text};
-ghost use Rattle.justfile_word.specs.Text.{◌&◌};
+ghost use Rattle.justfile_vocabulary.specs.Text.{◌&◌};
 
-use justfile_word::count::Count;
+use justfile_vocabulary::Count;
 use std::fmt;
 use std::ops::RangeInclusive;
 
-/// How many arguments there are.
+/// The number of arguments that were given.
 #[derive(Clone, Copy)]
 struct Arguments(usize);
 
@@ -22,7 +22,7 @@ impl fmt::Display for Arguments {
     }
 }
 
-/// How many arguments are taken, where so many were given.
+/// How many arguments are accepted, where `found` were given.
 #[derive(Clone, Copy)]
 struct Taken {
     found: usize,
@@ -44,7 +44,7 @@ impl fmt::Display for Taken {
     }
 }
 
-/// How many arguments are taken; the greatest number is no bound.
+/// How many arguments are accepted. An end of `usize::MAX` means that there is no limit.
 #[derive(Clone, Copy)]
 struct ArgumentRange<'a>(&'a RangeInclusive<usize>);
 
@@ -63,7 +63,7 @@ impl fmt::Display for ArgumentRange<'_> {
     }
 }
 
-/// Writes that a count of arguments is not one of those that are taken.
+/// Writes that the number of arguments isn't one of those that are accepted.
 pub fn write_count_mismatch<A: fmt::Display, W: fmt::Write>(
     before: &str,
     taker: &A,
@@ -81,14 +81,15 @@ pub fn write_count_mismatch<A: fmt::Display, W: fmt::Write>(
     write!(f, "{before}{taker}` got {found} but takes {taken}")
 }
 
-/// Writes how many attributes no construct takes.
+/// Writes that attributes are before something that takes none. The message ends with the noun,
+/// without the count.
 pub fn write_extraneous<W: fmt::Write>(count: usize, f: &mut fmt::Formatter<W>) -> fmt::Result
     ensures { DisplaysOnOk W.write_str_gives f.old result (Some (codes "extraneous " & noun_text (codes "attribute") count)) f.new }
 {
     write!(f, "extraneous {}", Count::unnumbered("attribute", count))
 }
 
-/// Writes that a function is called with another number of arguments than it takes.
+/// Writes that a function is called with a number of arguments that it doesn't accept.
 pub fn write_function_mismatch<W: fmt::Write>(
     function: &str,
     arguments: usize,

@@ -1,7 +1,8 @@
-//! What messages are made of, below tokens: counts, circles, lists, and lines as they are shown.
+//! The parts of messages that don't depend on tokens: counts, cycles, lists, and lines with
+//! columns.
 #![tactic(auto)]
 
-pub mod circles;
 pub mod columns;
 pub mod counts;
+pub mod cycles;
 pub mod parts;

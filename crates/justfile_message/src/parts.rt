@@ -1,25 +1,20 @@
-//! Messages of more than a value or two.
+//! The longer messages and their parts.
 ghost use Rattle.std.specs.Prelude.{Some, codes, string_bytes};
 ghost use Rattle.std.specs.Fmt.{DisplaysOnOk, ◌++?◌};
-ghost use Rattle.justfile_word.specs.AttributeKind.{attribute_name};
-ghost use Rattle.justfile_word.specs.ItemKind.{item_kind_text};
-ghost use Rattle.justfile_word.specs.Keyword.{keyword_text};
+ghost use Rattle.justfile_vocabulary.specs.AttributeKind.{attribute_name};
+ghost use Rattle.justfile_vocabulary.specs.ItemKind.{item_kind_text};
+ghost use Rattle.justfile_vocabulary.specs.Keyword.{keyword_text};
 ghost use Rattle.justfile_message.specs.Parts.{duplicate_text, expected_characters, expected_tokens, indefinite_text, redefinition_text};
-ghost use Rattle.justfile_word.specs.Shown.{blanks_text, line_text};
-ghost use Rattle.justfile_word.specs.Text.{◌&◌};
-ghost use Rattle.justfile_word.specs.TokenKind.{kind_text};
-ghost use Rattle.justfile_word.specs.Version.{version_text};
+ghost use Rattle.justfile_vocabulary.specs.Shown.{blanks_text, line_text};
+ghost use Rattle.justfile_vocabulary.specs.Text.{◌&◌};
+ghost use Rattle.justfile_vocabulary.specs.TokenKind.{kind_text};
+ghost use Rattle.justfile_vocabulary.specs.Version.{version_text};
 
-use justfile_word::attribute_kind::AttributeKind;
-use justfile_word::item_kind::ItemKind;
-use justfile_word::keyword::Keyword;
-use justfile_word::list::List;
-use justfile_word::shown::{Blanks, LineNumber};
-use justfile_word::token_kind::TokenKind;
-use justfile_word::version::Version;
+use justfile_vocabulary::shown::{Blanks, LineNumber};
+use justfile_vocabulary::{AttributeKind, ItemKind, Keyword, List, TokenKind, Version};
 use std::fmt;
 
-/// A kind of items, with its indefinite article.
+/// An item kind with its indefinite article.
 #[derive(Clone, Copy)]
 struct Indefinite(ItemKind);
 
@@ -86,7 +81,7 @@ pub fn write_both<A: fmt::Display, B: fmt::Display, W: fmt::Write>(
     write!(f, "{before}{first}{between}{second}{after}")
 }
 
-/// Writes that what stands on one line is there again on another.
+/// Writes that something first used on one line is duplicated on another line. Lines count from 0.
 pub fn write_duplicate<A: fmt::Display, W: fmt::Write>(
     before: &str,
     value: &A,
@@ -105,7 +100,7 @@ pub fn write_duplicate<A: fmt::Display, W: fmt::Write>(
     )
 }
 
-/// Writes that a setting is set on two lines.
+/// Writes that a setting is set on two lines. Lines count from 0.
 pub fn write_duplicate_set<W: fmt::Write>(
     setting: &str,
     first: usize,
@@ -123,7 +118,7 @@ pub fn write_duplicate_set<W: fmt::Write>(
     )
 }
 
-/// Writes that two settings exclude each other.
+/// Writes that two settings are incompatible.
 pub fn write_incompatible<W: fmt::Write>(
     first: Keyword,
     first_line: usize,
@@ -141,7 +136,7 @@ pub fn write_incompatible<W: fmt::Write>(
     )
 }
 
-/// Writes that a line begins with other blanks than the line before it.
+/// Writes that a line of a body isn't indented like the lines before it.
 pub fn write_inconsistent<W: fmt::Write>(
     expected: &str,
     found: &str,
@@ -158,7 +153,7 @@ pub fn write_inconsistent<W: fmt::Write>(
     )
 }
 
-/// Writes that an item doesn't take an attribute.
+/// Writes that an item of this kind doesn't accept the attribute.
 pub fn write_invalid_attribute<W: fmt::Write>(
     item_kind: ItemKind,
     item_name: &str,
@@ -176,7 +171,7 @@ pub fn write_invalid_attribute<W: fmt::Write>(
     )
 }
 
-/// Writes that the value of a key is no number, and why.
+/// Writes that the value of a key isn't a number, and why.
 pub fn write_invalid_count<A: fmt::Display, W: fmt::Write>(
     key: &A,
     value: &String,
@@ -190,7 +185,7 @@ pub fn write_invalid_count<A: fmt::Display, W: fmt::Write>(
     write!(f, "invalid `{key}` value `{value}`: {source}")
 }
 
-/// Writes that a text is no version, and why.
+/// Writes that a text isn't a version, and why.
 pub fn write_invalid_version<W: fmt::Write>(
     version: &String,
     source: &str,
@@ -206,7 +201,7 @@ pub fn write_invalid_version<W: fmt::Write>(
     )
 }
 
-/// Writes that another version is running than the one that is wanted, or a later one.
+/// Writes that the justfile requires a later version than the current one.
 pub fn write_minimum_version<W: fmt::Write>(
     minimum: &Version,
     current: &Version,
@@ -222,7 +217,7 @@ pub fn write_minimum_version<W: fmt::Write>(
     )
 }
 
-/// Writes that a body begins with blanks of both kinds.
+/// Writes that the indentation of a body mixes tabs and spaces.
 pub fn write_mixed<W: fmt::Write>(whitespace: &str, f: &mut fmt::Formatter<W>) -> fmt::Result
     ensures { DisplaysOnOk W.write_str_gives f.old result
         (Some (codes "found a mix of tabs and spaces in leading whitespace: `" & blanks_text whitespace.now
@@ -235,7 +230,7 @@ pub fn write_mixed<W: fmt::Write>(whitespace: &str, f: &mut fmt::Formatter<W>) -
     )
 }
 
-/// Writes which characters should follow.
+/// Writes which characters are expected next.
 pub fn write_expected_character<W: fmt::Write>(
     expected: &[char],
     f: &mut fmt::Formatter<W>,
@@ -245,7 +240,7 @@ pub fn write_expected_character<W: fmt::Write>(
     write!(f, "expected character {}", List::or_ticked(expected))
 }
 
-/// Writes which characters should stand where a text ends.
+/// Writes which characters are expected where the text ends.
 pub fn write_expected_end<W: fmt::Write>(
     expected: &[char],
     f: &mut fmt::Formatter<W>,
@@ -258,7 +253,7 @@ pub fn write_expected_end<W: fmt::Write>(
     write!(f, "expected character {expected} but found end-of-file")
 }
 
-/// Writes which tokens could go on, and which one stands there.
+/// Writes which tokens are expected, and which token was found.
 pub fn write_unexpected_token<W: fmt::Write>(
     expected: &[TokenKind],
     found: TokenKind,

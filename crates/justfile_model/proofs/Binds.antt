@@ -1,4 +1,4 @@
--- Options that are taken one after the other, and lists of which nothing is left.
+-- Optional values that are computed one after another, and empty lists.
 use Rattle.std.proofs.Common.{◌≡◌, Bool, true, false, List, [], ◌∷◌, ◌++◌, Option, Some, None, is_some, refl, sym, ap, subst, ◌∙◌, true≢false}
 use Rattle.std.specs.Option.{unwrap_or}
 use Rattle.justfile_model.specs.Meaning.{◌>>=◌}

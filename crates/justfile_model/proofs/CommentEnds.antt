@@ -1,4 +1,4 @@
--- A comment ends before a line feed: its text has none, and no carriage return at its end.
+-- A comment ends before a line feed: its text has none, and doesn't end in a carriage return.
 use Rattle.std.proofs.Common.{◌≡◌, ℕ, suc, ◌<◌, ◌≤◌, Bool, true, false, cond, eqb, List, [], ◌∷◌, ◌++◌, length, get_or, refl, sym, ap, ◌∙◌, subst, arith, length-append}
 use Rattle.std.specs.Prelude.{◌&&◌, ◌||◌}
 use Rattle.std.specs.Char.{is_whitespace}

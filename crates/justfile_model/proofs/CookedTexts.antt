@@ -1,4 +1,4 @@
--- Which literals have texts, and that each has one.
+-- Which literals have texts, and that each literal has at most one.
 use Rattle.std.proofs.Common.{◌≡◌, ℕ, List, [], ◌∷◌, ◌++◌, map, Result, Ok, refl, sym, subst, ap, ◌∙◌}
 use Rattle.std.proofs.lemmas.List.{append_assoc}
 use Rattle.justfile_model.specs.Tok.{Tok}

@@ -1,4 +1,4 @@
--- Numbers as attributes have them, and what `parse` reads of their texts.
+-- Numbers in attributes, and the results of `parse` for their texts.
 use Rattle.std.proofs.Common.{◌≡◌, ◌∙◌, ℕ, ◌<◌, ◌^◌, ◌==◌, nat_lt, List, [], ◌∷◌, Bool, true, false, not, ◌&&◌, ◌||◌, length, Some, Result, Ok, Err, refl, sym, ap, subst, true≢false, arith}
 use Rattle.std.specs.Char.{digit_value, is_ascii_digit}
 use Rattle.std.specs.List.{list_all, slice_index}

@@ -1,4 +1,4 @@
--- The comment that a doc is printed as ends before the line feed that is printed after it, as the comment did that the doc was taken of.
+-- The comment as which a doc is printed ends before the line feed printed after it, like the comment from which the doc was taken.
 use Rattle.std.proofs.Common.{◌≡◌, ℕ, Bool, true, false, cond, eqb, List, [], ◌∷◌, ◌++◌, get_or, drop, Option, Some, None, refl, sym, ap, ◌∙◌, subst, arith}
 use Rattle.std.specs.List.{AllByRecursion}
 use Rattle.std.specs.Str.{IsUtf8, trim}

@@ -1,19 +1,18 @@
--- What docs do not change: what counts items without their comments and docs is the same with docs and with comments in their place; and docs
--- are taken over other leaves as they are.
+-- What docs don't change: a count of items without their comments and docs is the same with docs as with comments in their place; and docs
+-- don't depend on the projections of tokens.
 use Rattle.std.proofs.Common.{◌≡◌, ◌∙◌, ℕ, ◌+◌, Bool, true, false, cond, not, ◌&&◌, ◌||◌, List, [], ◌∷◌, ◌++◌, map, Option, Some, None, is_some, refl, sym, ap, arith}
 use Rattle.std.specs.List.{list_any}
 use Rattle.std.specs.Option.{option_map}
-use Rattle.justfile_word.specs.declared.attribute_kind.AttributeKind.{AttributeKind}
-use Rattle.justfile_word.specs.declared.attribute_kind.AttributeKind.TheVariants.{Doc}
+use Rattle.justfile_vocabulary.specs.declared.attribute_kind.AttributeKind.{AttributeKind}
+use Rattle.justfile_vocabulary.specs.declared.attribute_kind.AttributeKind.TheVariants.{Doc}
 use Rattle.justfile_model.specs.AttributeKinds.{same_attribute}
 use Rattle.justfile_model.specs.ContentKeys.{kind_of_attribute}
 use Rattle.justfile_model.specs.Docs.{Before, LineEnd, Other, comment_taken, doc_in, doc_or_comment, documented, item_with_doc, redocumented, taken, wants_doc}
-use Rattle.justfile_model.specs.Files.{bindings, content_bindings, content_literals, content_recipes, items_literals, recipes, says_doc}
-use Rattle.justfile_model.specs.Literals.{Literal}
+use Rattle.justfile_model.specs.Files.{bindings, content_bindings, content_recipes, recipes, says_doc}
 use Rattle.justfile_model.specs.Printing.{printable, printable_content, shown_doc}
-use Rattle.justfile_model.specs.Rewritten.{after_doc, docs_written}
+use Rattle.justfile_model.specs.PrintedAttributes.{after_doc, docs_written}
 use Rattle.justfile_model.specs.Tree.{Alias, Assignment, Comment, Construct, Content, Entry, Function, Import, Item, Module, Newline, OrderedItem, Recipe, Setting, Tree, Unexport, lexeme, nothing, over_content, over_entry, over_item, shape_of}
-use Rattle.justfile_model.proofs.SeesRules.{kind_over}
+use Rattle.justfile_model.proofs.SameViewRules.{kind_over}
 
 -- ---- what counts constructs
 
@@ -98,16 +97,6 @@ same_recipes (Setting parts) doc = refl
 same_recipes (Unexport name) doc = refl
 same_recipes (Recipe parts) doc = refl
 
-same_literals : {A B C S : Type 0} (content : Content A B C S) (doc : Option (List ℕ)) → content_literals (redocumented doc content) ≡ content_literals content
-same_literals (Assignment parts) doc = refl
-same_literals (Alias parts) doc = refl
-same_literals (Function parts) doc = refl
-same_literals (Import parts) doc = refl
-same_literals (Module parts) doc = refl
-same_literals (Setting parts) doc = refl
-same_literals (Unexport name) doc = refl
-same_literals (Recipe parts) doc = refl
-
 module _ {A B C S D : Type 0} where
   -- a sum over constructs of a number that docs do not change
   summed : (number : Content A B C S → ℕ) → ((content : Content A B C S) (doc : Option (List ℕ)) → number (redocumented doc content) ≡ number content)
@@ -129,15 +118,6 @@ module _ {A B C S D : Type 0} where
 
   pub recipes_count : CountsConstructs {A = A} {B = B} {C = C} {S = S} {D = D} recipes
   recipes_count = summed content_recipes same_recipes recipes (λ items. omega arith) (λ text items. omega arith) (λ attributes content items. refl)
-
-  pub literals_count : (literals_of : D → List (Literal A)) → CountsConstructs {A = A} {B = B} {C = C} {S = S} {D = D} (items_literals literals_of)
-  literals_count literals_of = record {
-    more = λ attributes content ls. literals_of attributes ++ content_literals content ++ ls;
-    newline = λ items. refl;
-    comment = λ text items. refl;
-    construct = λ attributes content items. refl;
-    doc_apart = λ attributes content doc ls. ap (λ m. literals_of attributes ++ m ++ ls) (same_literals content doc);
-  }
 
 same_printable : {B C S : Type 0} (content : Content (List ℕ) B C S) (doc : Option (List ℕ)) → printable_content (redocumented doc content) ≡ printable_content content
 same_printable (Assignment parts) doc = refl

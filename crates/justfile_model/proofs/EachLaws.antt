@@ -1,4 +1,4 @@
--- Lists and options side by side: what is found, kept and least of related lists is related.
+-- Related lists and optional values: the elements that are found, filtered or least are related.
 use Rattle.std.proofs.Common.{◌≡◌, ℕ, Bool, true, false, cond, List, ◌∷◌, map, Option, Some, is_some, refl, subst}
 use Rattle.std.specs.List.{cons_option, filter, filter_map, find}
 use Rattle.std.specs.Ordering.{is_gt}

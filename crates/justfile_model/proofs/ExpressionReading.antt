@@ -1,10 +1,10 @@
--- The reader of expressions, one rule at a time, and what it leaves.
+-- The parser of expressions, one rule at a time, and the state after it.
 use Rattle.std.proofs.Common.{◌≡◌, ℕ, ◌+◌, ◌*◌, ◌<◌, ◌≤◌, Bool, true, false, List, [], ◌∷◌, length, Option, Some, None, Ok, Err, IfOk, refl, arith, ◌∙◌, codes}
-use Rattle.justfile_word.specs.declared.token_kind.TokenKind.{TokenKind}
-use Rattle.justfile_word.specs.declared.token_kind.TokenKind.TheVariants as kinds
+use Rattle.justfile_vocabulary.specs.declared.token_kind.TokenKind.{TokenKind}
+use Rattle.justfile_vocabulary.specs.declared.token_kind.TokenKind.TheVariants as kinds
 use Rattle.justfile_model.specs.declared.level.Level.{Level}
 use Rattle.justfile_model.specs.declared.level.Level.TheVariants as levels
-use Rattle.justfile_word.specs.declared.list_feature.ListFeature.TheVariants as features
+use Rattle.justfile_vocabulary.specs.declared.list_feature.ListFeature.TheVariants as features
 use Rattle.justfile_model.specs.declared.operator.Operator.{Operator}
 use Rattle.justfile_model.specs.Expressions.{ends_open}
 use Rattle.justfile_model.specs.ExpressionReader as r
@@ -12,7 +12,7 @@ use Rattle.justfile_model.specs.ExpressionReader.{Met, Out, Place, ReadExpr, acc
 use Rattle.justfile_model.specs.Features.{noted_if}
 use Rattle.justfile_model.specs.Literals as literals
 use Rattle.justfile_model.specs.Operators.{binary, feature_of, operand, rank, right}
-use Rattle.justfile_model.specs.Reading.{◌>>=◌, Leaves, Read, State, accept, accept_marked, accept_word, expect, note, with}
+use Rattle.justfile_model.specs.ReaderState.{◌>>=◌, Leaves, Read, State, accept, accept_marked, accept_word, expect, note, with}
 use Rattle.justfile_model.specs.Recursive.{below}
 use Rattle.justfile_model.specs.Tree.{Expr}
 use Rattle.justfile_model.proofs.ReadingSteps.{ItemRest, Found, Goes, Keeps, Past, accepts, accepts_marked, accepts_word, after_test, following, bind_alike, choose_alike, cooks, either, either_goes, expects, finds, first, first_alike, found_after, from_there, goes_after, keeps, known, mapped, operators, parts_go, past, past_then, test_alike, then, then_goes, there, weaken}
@@ -71,8 +71,8 @@ module _ {R T A B S : Type 0} (leaves : Leaves R T A B S) where
         tail : (l : Expr A B × State R T B) → Past (opened k s) l.1 → (o : Met R T B) → ((op : Operator × T × State R T B) → o ≡ Some op → Past l.1 op.2) → Goes s (r.binary_tail leaves f k c l o)
         tail l p None t = closes k s l.1 p
         tail l p (Some op) t =
-            let n = with (noted_if (feature_of op.0 c) (leaves.spot op.1)) op.2 in
-            last l (λ x. binary op.0 l.0 (leaves.spot op.1) x) (f (r.At (right k) false n)) p (from_there l.1 n _ (weaken l.1 op.2 (t op refl)) (keeps n _ (h (r.At (right k) false n))))
+            let n = with (noted_if (feature_of op.0 c) (leaves.position op.1)) op.2 in
+            last l (λ x. binary op.0 l.0 (leaves.position op.1) x) (f (r.At (right k) false n)) p (from_there l.1 n _ (weaken l.1 op.2 (t op refl)) (keeps n _ (h (r.At (right k) false n))))
 
         inner : (found : ReadExpr leaves) → Goes (opened k s) found → Goes s (found >>= λ l. r.binary_tail leaves f k c l (accept_operator leaves k l.1))
         inner (Ok l) p = tail l p (accept_operator leaves k l.1) (operators leaves k l.1)
@@ -221,7 +221,7 @@ module _ {R T A B S : Type 0} (leaves : Leaves R T A B S) where
   pub element_past : (k : TokenKind) (s : State R T B) → Goes s (element_rule leaves (read leaves) k s)
   element_past = element_goes (read leaves) advances
 
-  -- ---- the calls inside are the reader
+  -- ---- the calls inside are the parser itself
 
   inside : Place R T B → (y : Place R T B) → Out leaves y
   inside x = below size (stop_expression leaves) (rule leaves) x (read leaves)
@@ -238,7 +238,7 @@ module _ {R T A B S : Type 0} (leaves : Leaves R T A B S) where
       → ((op : Operator × T × State R T B) → o ≡ Some op → 8 * length op.2.left + 4 < size x) → r.binary_tail leaves (inside x) k c l o ≡ r.binary_tail leaves (read leaves) k c l o
   tail_alike x k c l None h = refl
   tail_alike x k c l (Some op) h =
-      let next = r.At (right k) false (with (noted_if (feature_of op.0 c) (leaves.spot op.1)) op.2) in
+      let next = r.At (right k) false (with (noted_if (feature_of op.0 c) (leaves.position op.1)) op.2) in
       first_alike _ _ _ (inside_is x next (omega (arith, h op refl, few k)))
 
   module _ (k : Level) (c : Bool) (s : State R T B) (tighter : rank (operand k) < rank k) where

@@ -1,23 +1,23 @@
--- A token closes only what is open last.
+-- A token closes only the innermost thing that is open.
 use Rattle.std.proofs.Common.{zero, suc, ◌≡◌, ◌≢◌, ℕ, Bool, true, false, cond, eqb, List, [], ◌∷◌, length, get_or, drop, Option, Some, None, Ok, Err, refl, sym, ap, subst}
 use Rattle.std.specs.Prelude.{◌&&◌, not, is_some, nat_eq}
 use Rattle.std.specs.List.{starts_with}
 use Rattle.std.specs.Str.{bytes_eq}
-use Rattle.justfile_word.specs.declared.byte_class.ByteClass.{ByteClass}
-use Rattle.justfile_word.specs.declared.byte_class.ByteClass.TheVariants as classes
-use Rattle.justfile_base.specs.declared.delimiter.Delimiter.{Delimiter}
-use Rattle.justfile_base.specs.declared.delimiter.Delimiter.TheVariants.{Brace, Bracket, FormatString, Paren}
-use Rattle.justfile_base.specs.declared.string_kind.StringDelimiter.{StringDelimiter}
-use Rattle.justfile_base.specs.declared.string_kind.StringDelimiter.TheVariants as delimiters
-use Rattle.justfile_base.specs.declared.string_kind.StringKind.{StringKind}
-use Rattle.justfile_word.specs.declared.token_kind.TokenKind.{TokenKind}
-use Rattle.justfile_word.specs.declared.token_kind.TokenKind.TheVariants.{BraceR, BracketR, Dedent, FormatStringContinue, FormatStringEnd, InterpolationEnd, InterpolationStart, ParenR}
-use Rattle.justfile_word.specs.ByteClass.{class_of}
-use Rattle.justfile_base.specs.StringKind.{kind_of, token_kind_of}
+use Rattle.justfile_vocabulary.specs.declared.byte_class.ByteClass.{ByteClass}
+use Rattle.justfile_vocabulary.specs.declared.byte_class.ByteClass.TheVariants as classes
+use Rattle.justfile_token.specs.declared.delimiter.Delimiter.{Delimiter}
+use Rattle.justfile_token.specs.declared.delimiter.Delimiter.TheVariants.{Brace, Bracket, FormatString, Paren}
+use Rattle.justfile_token.specs.declared.string_kind.StringDelimiter.{StringDelimiter}
+use Rattle.justfile_token.specs.declared.string_kind.StringDelimiter.TheVariants as delimiters
+use Rattle.justfile_token.specs.declared.string_kind.StringKind.{StringKind}
+use Rattle.justfile_vocabulary.specs.declared.token_kind.TokenKind.{TokenKind}
+use Rattle.justfile_vocabulary.specs.declared.token_kind.TokenKind.TheVariants.{BraceR, BracketR, Dedent, FormatStringContinue, FormatStringEnd, InterpolationEnd, InterpolationStart, ParenR}
+use Rattle.justfile_vocabulary.specs.ByteClass.{class_of}
+use Rattle.justfile_token.specs.StringKind.{kind_of, token_kind_of}
 use Rattle.justfile_model.specs.declared.open_delimiter.OpenDelimiter.{OpenDelimiter}
 use Rattle.justfile_model.specs.declared.raw_text.RawText.TheVariants as raw_texts
 use Rattle.justfile_model.specs.Bytes.{is_interpolation_start, is_interpolation_end, is_mixed, closes_levels, first_char}
-use Rattle.justfile_model.specs.LexicalFault.{LexicalRefusal}
+use Rattle.justfile_model.specs.LexicalFault.{LexicalError}
 use Rattle.justfile_model.specs.LiteralText.{raw_len}
 use Rattle.justfile_model.specs.Modes.{Mode, head_of, innermost, innermost_of, is_empty, nested}
 use Rattle.justfile_model.specs.Next.{NextToken, at_end_by, blanks_or, body_token, brace_by, closing_delimiter, closing, escaped_line_end, fixed_token, format_kind, format_string_kind, token_by_class, token_within_line, begins_blank_line, is_level, is_same, layout, line_end_token, literal_token, literal_part, next, next_by, opening, region_by, tested_blanks, text_or, token_in_region, doubled_token}
@@ -55,7 +55,7 @@ module _ (m : Mode) (rest : List ℕ) where
   token : (k : TokenKind) (n : ℕ) → Fits m k → Finds m (Ok (k, n))
   token k n f = record { fits = f }
 
-  refused : {r : LexicalRefusal} → Finds m (Err r)
+  refused : {r : LexicalError} → Finds m (Err r)
   refused = record { fits = tt }
 
   twice_fits : (b : ℕ) (k : TokenKind) → Fits m k → Finds m (doubled_token b k rest)
@@ -75,10 +75,14 @@ module _ (m : Mode) (rest : List ℕ) where
       choose (eqb b 42) (λ _. token _ _ tt) (λ _.
       choose (eqb b 44) (λ _. token _ _ tt) (λ _.
       choose (eqb b 47) (λ _. token _ _ tt) (λ _.
-      choose (eqb b 63) (λ _. token _ _ tt) (λ _. token _ _ tt)))))))))))
+      choose (eqb b 63) (λ _. token _ _ tt) (λ _.
+      choose (eqb b 64) (λ _. token _ _ tt) (λ _. refused))))))))))))
 
-  opening_fits : (b : ℕ) → Finds m (opening b)
-  opening_fits b = choose (eqb b 40) (λ _. token _ _ tt) (λ _. choose (eqb b 91) (λ _. token _ _ tt) (λ _. token _ _ tt))
+  opening_fits : (b : ℕ) → Finds m (opening b rest)
+  opening_fits b =
+      choose (eqb b 40) (λ _. token _ _ tt) (λ _.
+      choose (eqb b 91) (λ _. token _ _ tt) (λ _.
+      choose (eqb b 123) (λ _. token _ _ tt) (λ _. refused)))
 
   part_fits : (k : StringKind) (format : Bool) (opener : ℕ) (more whole : TokenKind) → Fits m more → Fits m whole → Finds m (literal_part k format opener more whole rest)
   unfolding literal_part
@@ -120,7 +124,8 @@ module _ (m : Mode) (rest : List ℕ) where
   closing_fits : (b : ℕ) → Finds m (closing (head_of m.openers) b rest)
   closing_fits b =
       choose (eqb b 41) (λ _. close_fits m.openers Paren ParenR (λ h. h)) (λ _.
-      choose (eqb b 93) (λ _. close_fits m.openers Bracket BracketR (λ h. h)) (λ _. brace_fits m.openers refl (format_kind (head_of m.openers)) refl))
+      choose (eqb b 93) (λ _. close_fits m.openers Bracket BracketR (λ h. h)) (λ _.
+      choose (eqb b 125) (λ _. brace_fits m.openers refl (format_kind (head_of m.openers)) refl) (λ _. refused)))
 
   line_end_fits : (n : ℕ) → Finds m (line_end_token m n)
   line_end_fits n = choose (nested m) (λ _. token _ n tt) (λ _. token _ n tt)

@@ -1,14 +1,14 @@
--- A literal, or a part of a format string, is an opener, an inside, and what ends it.
+-- A literal, or a part of a format string, is an opener, an inside, and an end.
 use Rattle.std.proofs.Common.{◌≡◌, ◌≢◌, ℕ, ◌+◌, ◌<◌, Bool, true, false, cond, eqb, List, [], ◌∷◌, ◌++◌, length, take, drop, get_or, Ok, Err, refl, sym, ap, subst, ◌∙◌, arith, codes, length-drop}
 use Rattle.std.specs.Prelude.{◌↔◌, ◌||◌, ◌&&◌, replicate}
 use Rattle.std.proofs.lemmas.Bool.{and_parts}
 use Rattle.std.proofs.lemmas.Bool.Decides.{nat_tests}
 use Rattle.std.proofs.lemmas.List.{drop_at, length-append, length-take-le, take-append-drop}
-use Rattle.justfile_base.specs.declared.string_kind.StringDelimiter.{StringDelimiter}
-use Rattle.justfile_base.specs.declared.string_kind.StringDelimiter.TheVariants.{Backtick, QuoteDouble, QuoteSingle}
-use Rattle.justfile_base.specs.declared.string_kind.StringKind.{StringKind}
-use Rattle.justfile_word.specs.declared.token_kind.TokenKind.{TokenKind}
-use Rattle.justfile_base.specs.StringKind.{delimiter_len, delimiter_text, quote_of}
+use Rattle.justfile_token.specs.declared.string_kind.StringDelimiter.{StringDelimiter}
+use Rattle.justfile_token.specs.declared.string_kind.StringDelimiter.TheVariants.{Backtick, QuoteDouble, QuoteSingle}
+use Rattle.justfile_token.specs.declared.string_kind.StringKind.{StringKind}
+use Rattle.justfile_vocabulary.specs.declared.token_kind.TokenKind.{TokenKind}
+use Rattle.justfile_token.specs.StringKind.{delimiter_len, delimiter_text, quote_of}
 use Rattle.justfile_model.specs.declared.raw_text.RawText.TheVariants.{Literal}
 use Rattle.justfile_model.specs.Bytes.{is_interpolation_start}
 use Rattle.justfile_model.specs.LexicalFault.{Here}
@@ -87,13 +87,6 @@ no_delimiter k follows = by k.delimiter k.indented
     by QuoteDouble false = refl
     by QuoteSingle true = refl
     by QuoteSingle false = refl
-
-some_delimiter : (k : StringKind) → 0 < delimiter_len k
-some_delimiter k = by k.indented
-  where
-    by : (b : Bool) → 0 < cond b 3 1
-    by true = omega arith
-    by false = omega arith
 
 -- ---- the part
 

@@ -1,4 +1,4 @@
--- Lists and options that are mapped.
+-- Mapped lists and optional values.
 use Rattle.std.proofs.Common.{◌≡◌, List, [], ◌∷◌, ◌++◌, map, Option, Some, None, refl, sym, ap, ◌∙◌}
 use Rattle.std.specs.List.{flat_map}
 use Rattle.std.specs.Option.{option_map}
@@ -27,8 +27,3 @@ module _ {X Y Z W : Type 0} (f : Y → W) (g : X → Y) (h : Z → W) (k : X →
 pub flat_mapped : {X Y A B : Type 0} (f : X → List A) (g : Y → List B) (m : X → Y) (k : A → B) → ((x : X) → g (m x) ≡ map k (f x)) → (xs : List X) → flat_map g (map m xs) ≡ map k (flat_map f xs)
 flat_mapped f g m k same [] = refl
 flat_mapped f g m k same (x ∷ xs) = (λ i. same x i ++ flat_mapped f g m k same xs i) ∙ sym (map-append k (f x) (flat_map f xs))
-
--- what stands in the elements, where nothing of it is changed with them
-pub flat_kept : {X Y A : Type 0} (f : X → List A) (g : Y → List A) (m : X → Y) → ((x : X) → g (m x) ≡ f x) → (xs : List X) → flat_map g (map m xs) ≡ flat_map f xs
-flat_kept f g m same [] = refl
-flat_kept f g m same (x ∷ xs) = λ i. same x i ++ flat_kept f g m same xs i

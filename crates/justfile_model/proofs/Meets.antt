@@ -1,4 +1,4 @@
--- What is met between two places: features that are noted, and literals that have texts.
+-- What the parser collects between two states: the features that it notes, and the literals that have texts.
 use Rattle.std.proofs.Common.{◌≡◌, List, [], ◌∷◌, ◌++◌, refl, sym, ap, ◌∙◌, append_assoc, append-nil}
 use Rattle.justfile_model.specs.Tok.{Tok}
 use Rattle.justfile_model.specs.Features.{Noted}

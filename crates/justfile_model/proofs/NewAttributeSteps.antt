@@ -1,4 +1,4 @@
--- How checks one after another agree with what is meant and with the list of the rules that are broken.
+-- Checks one after another agree with the meaning and with the list of broken rules.
 use Rattle.std.proofs.Common.{◌≡◌, ◌∙◌, List, [], ◌∷◌, ◌++◌, Bool, true, false, not, map, Option, Some, None, Ok, Err, is_some, refl, sym, ap, subst, arith, true≢false}
 use Rattle.std.specs.List.{Contains, flat_map}
 use Rattle.std.proofs.lemmas.List.{append-nil, append_assoc}
@@ -14,7 +14,7 @@ abbrev pub Fits : {B X : Type 0} → (T : Type 0) → Made B X → Option X → 
 Fits T (Ok x) meaning rules = (meaning ≡ Some x) × (rules ≡ [])
 Fits T (Err r) meaning rules = T → Contains rules r
 
--- What is made is what is meant, and no rule is broken. A refusal is one of the rules that are broken, if `T` holds.
+-- What is made is the meaning, and no rule is broken. An error is one of the broken rules, if `T` holds.
 pub record Agrees {B X : Type 0} (T : Type 0) (m : Made B X) (meaning : Option X) (rules : List (Broken B)) : Type 0 where
   pub fits : Fits T m meaning rules
 

@@ -1,4 +1,4 @@
--- A token ends between two characters, and only the last one and a dedent have no bytes.
+-- A token ends between two characters, and only the last token and dedents are empty.
 use Rattle.std.proofs.Common.{zero, suc, ◌≡◌, ℕ, ◌+◌, ◌-◌, ◌<◌, ◌≤◌, Bool, true, false, cond, eqb, ltb, List, [], ◌∷◌, ◌⊎◌, inl, inr, length, get_or, take, drop, Option, Some, None, Ok, Err, refl, sym, ap, subst, ◌∙◌, ⊎_elim, arith, length-drop, get_or-drop}
 use Rattle.std.specs.Prelude.{◌||◌, ◌&&◌, not, nat_eq}
 use Rattle.std.specs.List.{starts_with}
@@ -9,24 +9,24 @@ use Rattle.std.proofs.lemmas.Bool.Decides.{nat_tests}
 use Rattle.std.proofs.lemmas.List.{length-take}
 use Rattle.std.proofs.lemmas.Slice.Eq.{bytes_eq-Decides}
 use Rattle.std.proofs.lemmas.Str.{IsCharBoundary-start, IsCharBoundary-from_rest, IsUtf8-drop}
-use Rattle.justfile_word.specs.declared.byte_class.ByteClass.{ByteClass}
-use Rattle.justfile_word.specs.declared.byte_class.ByteClass.TheVariants as classes
-use Rattle.justfile_base.specs.declared.delimiter.Delimiter.{Delimiter}
-use Rattle.justfile_base.specs.declared.delimiter.Delimiter.TheVariants.{Brace, Bracket, Paren}
-use Rattle.justfile_base.specs.declared.string_kind.StringDelimiter.{StringDelimiter}
-use Rattle.justfile_base.specs.declared.string_kind.StringDelimiter.TheVariants as delimiters
-use Rattle.justfile_base.specs.declared.string_kind.StringKind.{StringKind}
+use Rattle.justfile_vocabulary.specs.declared.byte_class.ByteClass.{ByteClass}
+use Rattle.justfile_vocabulary.specs.declared.byte_class.ByteClass.TheVariants as classes
+use Rattle.justfile_token.specs.declared.delimiter.Delimiter.{Delimiter}
+use Rattle.justfile_token.specs.declared.delimiter.Delimiter.TheVariants.{Brace, Bracket, Paren}
+use Rattle.justfile_token.specs.declared.string_kind.StringDelimiter.{StringDelimiter}
+use Rattle.justfile_token.specs.declared.string_kind.StringDelimiter.TheVariants as delimiters
+use Rattle.justfile_token.specs.declared.string_kind.StringKind.{StringKind}
 use Rattle.justfile_model.specs.declared.raw_text.RawText.TheVariants as raw_texts
-use Rattle.justfile_word.specs.declared.token_kind.TokenKind.{TokenKind}
-use Rattle.justfile_word.specs.declared.token_kind.TokenKind.TheVariants.{BraceR, BracketR, Dedent, Eof, Eol, FormatStringContinue, FormatStringEnd, ParenR, Whitespace}
-use Rattle.justfile_word.specs.ByteClass.{class_of}
+use Rattle.justfile_vocabulary.specs.declared.token_kind.TokenKind.{TokenKind}
+use Rattle.justfile_vocabulary.specs.declared.token_kind.TokenKind.TheVariants.{BraceR, BracketR, Dedent, Eof, Eol, FormatStringContinue, FormatStringEnd, ParenR, Whitespace}
+use Rattle.justfile_vocabulary.specs.ByteClass.{class_of}
 use Rattle.justfile_model.specs.Bytes.{is_blank, is_name_byte, blank_len, is_line_end, is_interpolation_start, is_interpolation_end, is_mixed, closes_levels, first_char}
-use Rattle.justfile_base.specs.StringKind.{delimiter_len, kind_of, token_kind_of}
+use Rattle.justfile_token.specs.StringKind.{delimiter_len, kind_of, token_kind_of}
 use Rattle.justfile_model.specs.LiteralText.{raw_len, is_delimiter}
 use Rattle.justfile_model.specs.Tok.{Tok}
 use Rattle.justfile_model.specs.declared.open_delimiter.OpenDelimiter.{OpenDelimiter}
 use Rattle.justfile_model.specs.Modes.{Mode, head_of, is_empty, innermost, innermost_of, nested}
-use Rattle.justfile_model.specs.LexicalFault.{LexicalFault, LexicalRefusal, Here, Unclosed}
+use Rattle.justfile_model.specs.LexicalFault.{LexicalFault, LexicalError, Here, Unclosed}
 use Rattle.justfile_model.specs.Next.{NextToken, doubled_token, fixed_token, opening, literal_part, literal_token, is_same, closing_delimiter, format_kind, brace_by, closing, line_end_token, unknown, escaped_line_end, token_by_class, token_outside_text, text_or, body_token, at_end_by, Region, InText, InInterpolation, Inline, region_by, interpolated, token_in_region, token_within_line, blanks_or, tested_blanks, is_level, begins_blank_line, layout, at_line_start, next_by, next}
 use Rattle.justfile_model.proofs.CutLemmas.{class_fact, after_byte, run_cuts, run_positive, blank_ascii, word_ascii, first_cuts, ne_from, there, past_byte, raw_cuts, raw_stops, raw_within, delimiter_is, delimiter_last, mark_last, comment_last, body_last, run_last, word_no_newline, blank_no_newline, not_newline, is_line_feed, eq_from}
 
@@ -46,7 +46,7 @@ EndsAt rest Eol n = ends_line rest n ≡ true
 EndsAt rest Whitespace n = Unit {0}
 EndsAt rest _ n = ends_line rest n ≡ false
 
-abbrev pub RefusedCuts : List ℕ → LexicalRefusal → Type 0
+abbrev pub RefusedCuts : List ℕ → LexicalError → Type 0
 RefusedCuts rest (Here p skip n) = IsCharBoundary rest skip × IsCharBoundary rest (skip + n)
 RefusedCuts rest (Unclosed t) = Unit {0}
 
@@ -83,6 +83,9 @@ module _ (m : Mode) (rest : List ℕ) where
         let some : 0 < length (drop 1 rest) = omega (arith, length-drop 1 rest, ne_from (length (drop 1 rest)) 0 more) in
         record { by_case = (b, IsCharBoundary-from_rest rest 1 _ l (first_cuts (drop 1 rest) some (IsUtf8-drop rest 1 u b))) }))
 
+    unknown_cuts : 0 < length rest → Cuts m rest (unknown rest)
+    unknown_cuts l = here_cuts _ _ start (first_cuts rest l u)
+
     fixed_cuts : 0 < length rest → IsCharBoundary rest 1 → ends_line rest 1 ≡ false → (b : ℕ) → Cuts m rest (fixed_token b rest)
     unfolding fixed_token
     fixed_cuts l one clean b =
@@ -98,7 +101,8 @@ module _ (m : Mode) (rest : List ℕ) where
         if_cuts (eqb b 42) (λ _. single _ clean) (λ _.
         if_cuts (eqb b 44) (λ _. single _ clean) (λ _.
         if_cuts (eqb b 47) (λ _. single _ clean) (λ _.
-        if_cuts (eqb b 63) (λ _. single _ clean) (λ _. single _ clean)))))))))))
+        if_cuts (eqb b 63) (λ _. single _ clean) (λ _.
+        if_cuts (eqb b 64) (λ _. single _ clean) (λ _. unknown_cuts l))))))))))))
 
     delimiter_positive : (b : Bool) → 0 < cond b 3 1
     delimiter_positive true = omega arith
@@ -172,21 +176,20 @@ module _ (m : Mode) (rest : List ℕ) where
         (λ h. part_cuts k true 2 FormatStringContinue FormatStringEnd (λ _ h. h) (λ _ h. h) (past_byte rest 1 125 2 u (and_parts (eqb (get_or rest 0 0) 125) _ h).1 refl (omega arith)) (omega arith))
         (λ _. close_cuts os Brace BraceR clean one)
 
-    closing_cuts : (os : Option OpenDelimiter) (b : ℕ) → IsCharBoundary rest 1 → ends_line rest 1 ≡ false → Cuts m rest (closing os b rest)
-    closing_cuts os b one clean =
+    closing_cuts : 0 < length rest → (os : Option OpenDelimiter) (b : ℕ) → IsCharBoundary rest 1 → ends_line rest 1 ≡ false → Cuts m rest (closing os b rest)
+    closing_cuts l os b one clean =
         if_cuts (eqb b 41) (λ _. close_cuts os Paren ParenR clean one) (λ _.
-        if_cuts (eqb b 93) (λ _. close_cuts os Bracket BracketR clean one) (λ _. brace_cuts (format_kind os) os one clean))
+        if_cuts (eqb b 93) (λ _. close_cuts os Bracket BracketR clean one) (λ _.
+        if_cuts (eqb b 125) (λ _. brace_cuts (format_kind os) os one clean) (λ _. unknown_cuts l)))
 
-    opening_cuts : (b : ℕ) → IsCharBoundary rest 1 → ends_line rest 1 ≡ false → Cuts m rest (opening b)
-    opening_cuts b one clean =
+    opening_cuts : 0 < length rest → (b : ℕ) → IsCharBoundary rest 1 → ends_line rest 1 ≡ false → Cuts m rest (opening b rest)
+    opening_cuts l b one clean =
         if_cuts (eqb b 40) (λ _. token_cuts _ 1 clean one (omega arith)) (λ _.
-        if_cuts (eqb b 91) (λ _. token_cuts _ 1 clean one (omega arith)) (λ _. token_cuts _ 1 clean one (omega arith)))
+        if_cuts (eqb b 91) (λ _. token_cuts _ 1 clean one (omega arith)) (λ _.
+        if_cuts (eqb b 123) (λ _. token_cuts _ 1 clean one (omega arith)) (λ _. unknown_cuts l)))
 
     line_end_cuts : (n : ℕ) → IsCharBoundary rest n → 0 < n → ends_line rest n ≡ true → Cuts m rest (line_end_token m n)
     line_end_cuts n b l h = if_cuts (nested m) (λ _. token_cuts Whitespace n tt b l) (λ _. token_cuts Eol n h b l)
-
-    unknown_cuts : 0 < length rest → Cuts m rest (unknown rest)
-    unknown_cuts l = here_cuts _ _ start (first_cuts rest l u)
 
     blanks_after : (n : ℕ) → IsCharBoundary rest n → 0 < n → Cuts m rest (Ok (Whitespace, n + blank_len (drop n rest)))
     blanks_after n b l =
@@ -227,8 +230,8 @@ module _ (m : Mode) (rest : List ℕ) where
         token_cuts _ _ (run_last is_name_byte word_no_newline rest _ (omega arith) some) (run_cuts is_name_byte word_ascii rest _ u (omega arith)) some
     inline_cuts l classes.IdentifierContinue e = unknown_cuts l
     inline_cuts l classes.Quote e = literal_cuts l (after_byte rest 0 1 u l (class_fact _ _ e).1 (omega arith)) (class_fact _ _ e)
-    inline_cuts l classes.Opener e = opening_cuts (get_or rest 0 0) (after_byte rest 0 1 u l (class_fact _ _ e).1 (omega arith)) (is_line_feed _ _ e)
-    inline_cuts l classes.Closer e = closing_cuts (head_of m.openers) (get_or rest 0 0) (after_byte rest 0 1 u l (class_fact _ _ e).1 (omega arith)) (is_line_feed _ _ e)
+    inline_cuts l classes.Opener e = opening_cuts l (get_or rest 0 0) (after_byte rest 0 1 u l (class_fact _ _ e).1 (omega arith)) (is_line_feed _ _ e)
+    inline_cuts l classes.Closer e = closing_cuts l (head_of m.openers) (get_or rest 0 0) (after_byte rest 0 1 u l (class_fact _ _ e).1 (omega arith)) (is_line_feed _ _ e)
     inline_cuts l classes.Fixed e = fixed_cuts l (after_byte rest 0 1 u l (class_fact _ _ e).1 (omega arith)) (is_line_feed _ _ e) (get_or rest 0 0)
     inline_cuts l classes.Lead e =
         if_cuts (eqb (first_char rest) 65279) (λ h. token_cuts _ 3 (mark_last rest u l h) (mark_cuts l h) (omega arith)) (λ _. unknown_cuts l)
@@ -337,5 +340,5 @@ next_cuts m (b ∷ bs) u = next_by_cuts m (b ∷ bs) u (omega arith) m.line_star
 pub token_cut : (m : Mode) (rest : List ℕ) → IsUtf8 rest → (k : TokenKind) (n : ℕ) → next m rest ≡ Ok (k, n) → IsCharBoundary rest n × Moves m k n × EndsAt rest k n
 token_cut m rest u k n e = subst (CutsBy m rest) e (next_cuts m rest u).by_case
 
-pub fault_cut : (m : Mode) (rest : List ℕ) → IsUtf8 rest → (r : LexicalRefusal) → next m rest ≡ Err r → RefusedCuts rest r
+pub fault_cut : (m : Mode) (rest : List ℕ) → IsUtf8 rest → (r : LexicalError) → next m rest ≡ Err r → RefusedCuts rest r
 fault_cut m rest u r e = subst (CutsBy m rest) e (next_cuts m rest u).by_case

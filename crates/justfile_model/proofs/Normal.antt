@@ -1,4 +1,4 @@
--- The normal shape is its own, has the same literals, bindings and recipes, and is printable where the shape is.
+-- Normalizing a shape twice is the same as once. It keeps the literals, the bindings, the recipes, and whether the shape is printable.
 use Rattle.std.proofs.Common.{◌≡◌, [], ◌∷◌, ◌+◌, ◌++◌, ◌&&◌, refl, sym, ap, ◌∙◌, arith}
 use Rattle.justfile_model.specs.Tree.{Comment, Construct, Newline, OrderedItem, Shape}
 use Rattle.justfile_model.specs.Files.{entries_literals, item_bindings, item_literals, item_recipes, literals, bindings, recipes}

@@ -1,4 +1,4 @@
--- Numbers that count up.
+-- Consecutive numbers.
 use Rattle.std.proofs.Common.{◌≡◌, ◌<◌, ℕ, zero, suc, ◌+◌, List, [], ◌∷◌, length, slice_index, get_or, ◌∙◌, arith}
 use Rattle.justfile_model.specs.Files.{NumbersFrom}
 

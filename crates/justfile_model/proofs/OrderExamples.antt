@@ -1,4 +1,4 @@
--- Lists of pairs of numbers in the order of their first, and those of which the last with its first number is kept.
+-- Examples of sorted lists of pairs of numbers, by the first numbers, and of lists without duplicates of the first number.
 use Rattle.std.proofs.Common.{◌≡◌, ℕ, Bool, [], ◌∷◌, ◌==◌, nat_cmp, refl}
 use Rattle.std.specs.declared.cmp.Ordering.{Ordering}
 use Rattle.justfile_model.specs.Distinct.{kept_last}

@@ -1,17 +1,16 @@
--- There is one stable sort of a list, and `in_order` is it.
+-- A list has exactly one stable sort, and `in_order` computes it.
 use Rattle.std.proofs.Common.{◌≡◌, ◌∙◌, ℕ, zero, suc, ◌<◌, ◌≤◌, List, [], ◌∷◌, ◌++◌, Bool, true, false, cond, not, ◌&&◌, length, get_or, refl, sym, ap, subst, arith, add-one, true≢false}
 use Rattle.std.specs.Borrow.{Bor}
 use Rattle.std.specs.Fn.{Called, Mut}
 use Rattle.std.specs.Ordering.{is_lt, is_gt, ordering_reverse}
-use Rattle.std.specs.List.{All, AllByRecursion, Contains, filter, flat_map, list_any}
+use Rattle.std.specs.List.{All, AllByRecursion, filter, list_any}
 use Rattle.std.specs.List.Sorted.{IsSorted, IsSortedByClosure, IsStable, IsStableByClosure, IsPermutation, ties}
 use Rattle.std.specs.Cmp.{IsTotalOrder, IsStrictWeakOrder}
 use Rattle.std.specs.declared.cmp.Ordering.{Ordering}
 use Rattle.std.specs.declared.cmp.Ordering.TheVariants.{Less, Equal, Greater}
 use Rattle.std.proofs.lemmas.Cmp.{upto, tied_itself}
 use Rattle.std.proofs.lemmas.Fn.{always_returns_same}
-use Rattle.std.proofs.lemmas.List.Elements.{filter-append}
-use Rattle.std.proofs.lemmas.List.Sorted.{All-permutation, Contains-permutation, IsPermutation-cons, IsPermutation-middle, IsPermutation-refl, IsPermutation-sym, IsPermutation-trans, length_permutation, list_any-IsPermutation, ranks_by, sorted_far}
+use Rattle.std.proofs.lemmas.List.Sorted.{All-permutation, IsPermutation-cons, IsPermutation-middle, IsPermutation-refl, IsPermutation-sym, IsPermutation-trans, list_any-IsPermutation, ranks_by, sorted_far}
 use Rattle.justfile_model.specs.Order.{IsStableSort, placed, in_order}
 
 -- ---- lists with a first element
@@ -50,28 +49,9 @@ module _ {X : Type 0} (p : X → Bool) where
   kept_first P [] w ws h e = never_empty w ws e
   kept_first P (x ∷ xs) w ws h e = kept_if P (p x) x w (filter p xs) ws h.0 (kept_first P xs w ws h.1) e
 
-  filter_if : (b : Bool) (x : X) (l : List X) → filter p (cond b (x ∷ l) l) ≡ cond b (cond (p x) (x ∷ filter p l) (filter p l)) (filter p l)
-  filter_if true x l = refl
-  filter_if false x l = refl
-
   cancel : (b : Bool) (x : X) (l m : List X) → cond b (x ∷ l) l ≡ cond b (x ∷ m) m → l ≡ m
   cancel true x l m e = same_others x x l m e
   cancel false x l m e = e
-
-if_both : {X : Type 0} (a b : Bool) (x : X) (l : List X) → cond a (cond b (x ∷ l) l) l ≡ cond b (cond a (x ∷ l) l) l
-if_both true true x l = refl
-if_both true false x l = refl
-if_both false true x l = refl
-if_both false false x l = refl
-
--- two tests, one after the other
-filter_swap : {X : Type 0} (p q : X → Bool) (xs : List X) → filter p (filter q xs) ≡ filter q (filter p xs)
-filter_swap p q [] = refl
-filter_swap p q (x ∷ xs) =
-    let l : List _ = filter p (filter q xs) in
-    filter_if p (q x) x (filter q xs) ∙ if_both (q x) (p x) x l
-    ∙ (λ i. cond (p x) (cond (q x) (x ∷ filter_swap p q xs i) (filter_swap p q xs i)) (filter_swap p q xs i))
-    ∙ sym (filter_if q (p x) x (filter p xs))
 
 module _ {X : Type 0} (R : X → X → Ordering) where
   -- nothing in the list is below x
@@ -96,23 +76,11 @@ module _ {X : Type 0} (R : X → X → Ordering) where
   in_order_permutation [] = IsPermutation-refl []
   in_order_permutation (x ∷ xs) = IsPermutation-trans _ _ _ (IsPermutation-cons x _ _ (in_order_permutation xs)) (placed_permutation x (in_order R xs))
 
-  pub in_order_length : (xs : List X) → length (in_order R xs) ≡ length xs
-  in_order_length xs = length_permutation xs (in_order R xs) (in_order_permutation xs)
-
   pub all_in_order : (P : X → Type 0) (xs : List X) → All P xs → All P (in_order R xs)
   all_in_order P xs h = All-permutation P xs (in_order R xs) (in_order_permutation xs) h
 
-  pub all_from_order : (P : X → Type 0) (xs : List X) → All P (in_order R xs) → All P xs
-  all_from_order P xs h = All-permutation P (in_order R xs) xs (IsPermutation-sym xs (in_order R xs) (in_order_permutation xs)) h
-
   pub any_in_order : (p : X → Bool) (xs : List X) → list_any p (in_order R xs) ≡ list_any p xs
   any_in_order p xs = sym (list_any-IsPermutation p xs (in_order R xs) (in_order_permutation xs))
-
-  pub contains_in_order : (xs : List X) (x : X) → Contains xs x → Contains (in_order R xs) x
-  contains_in_order xs x h = Contains-permutation xs (in_order R xs) x (in_order_permutation xs) h
-
-  pub contains_from_order : (xs : List X) (x : X) → Contains (in_order R xs) x → Contains xs x
-  contains_from_order xs x h = Contains-permutation (in_order R xs) xs x (IsPermutation-sym xs (in_order R xs) (in_order_permutation xs)) h
 
 module _ {X : Type 0} {R : X → X → Ordering} (o : IsTotalOrder R) where
   abbrev lt : X → X → Bool
@@ -260,9 +228,6 @@ module _ {X : Type 0} {R : X → X → Ordering} (o : IsTotalOrder R) where
   pub sort_is : (xs ys : List X) → IsStableSort R xs ys → ys ≡ in_order R xs
   sort_is xs ys h = sorted_is xs ys h.sorted h.stable
 
-  pub only_one : (xs ys zs : List X) → IsStableSort R xs ys → IsStableSort R xs zs → ys ≡ zs
-  only_one xs ys zs h k = sort_is xs ys h ∙ sym (sort_is xs zs k)
-
   pub sorted_stays : (xs : List X) → IsSorted R xs → in_order R xs ≡ xs
   sorted_stays xs h = sym (sorted_is xs xs h (λ x. refl))
 
@@ -271,45 +236,6 @@ module _ {X : Type 0} {R : X → X → Ordering} (o : IsTotalOrder R) where
 
   pub sorted_from_order : (xs ys : List X) → ys ≡ in_order R xs → IsSorted R ys
   sorted_from_order xs ys e = subst (IsSorted R) (sym e) (in_order_sorts xs).sorted
-
-  -- what passes a test may be put in order before or after the test
-  under_filter : (p : X → Bool) (x : X) (ys : List X) → NoneBelow R x ys → NoneBelow R x (filter p ys)
-  under_filter p x [] h = tt
-  under_filter p x (y ∷ ys) h = within (p y) (under_filter p x ys h.1)
-    where
-      within : (b : Bool) → NoneBelow R x (filter p ys) → NoneBelow R x (cond b (y ∷ filter p ys) (filter p ys))
-      within true k = (h.0, k)
-      within false k = k
-
-  ascends_filter : (p : X → Bool) (xs : List X) → Ascends R xs → Ascends R (filter p xs)
-  ascends_filter p [] h = tt
-  ascends_filter p (x ∷ xs) h = within (p x) (under_filter p x xs h.0) (ascends_filter p xs h.1)
-    where
-      within : (b : Bool) → NoneBelow R x (filter p xs) → Ascends R (filter p xs) → Ascends R (cond b (x ∷ filter p xs) (filter p xs))
-      within true u k = (u, k)
-      within false u k = k
-
-  pub filter_in_order : (p : X → Bool) (xs : List X) → filter p (in_order R xs) ≡ in_order R (filter p xs)
-  filter_in_order p xs =
-      let us : List X = in_order R xs in
-      sorted_is (filter p xs) (filter p us) (sorted_from_ascends (filter p us) (ascends_filter p us (in_order_ascends xs))) (λ x.
-      filter_swap (ties lt x) p us ∙ ap (filter p) (in_order_stable xs x) ∙ filter_swap p (ties lt x) xs)
-
-  -- parts may be put in order before the whole
-  pub parts_in_order : (xs ys : List X) → in_order R (in_order R xs ++ in_order R ys) ≡ in_order R (xs ++ ys)
-  parts_in_order xs ys =
-      let us : List X = in_order R xs in
-      let vs : List X = in_order R ys in
-      sorted_is (xs ++ ys) (in_order R (us ++ vs)) (in_order_sorts (us ++ vs)).sorted (λ x.
-      in_order_stable (us ++ vs) x ∙ filter-append (ties lt x) us vs
-      ∙ (λ i. in_order_stable xs x i ++ in_order_stable ys x i) ∙ sym (filter-append (ties lt x) xs ys))
-
-  pub groups_in_order : (groups : List (List X)) → in_order R (flat_map (in_order R) groups) ≡ in_order R (flat_map (λ group. group) groups)
-  groups_in_order [] = refl
-  groups_in_order (g ∷ gs) =
-      sym (parts_in_order (in_order R g) (flat_map (in_order R) gs))
-      ∙ (λ i. in_order R (twice_is_once g i ++ groups_in_order gs i))
-      ∙ parts_in_order g (flat_map (λ group. group) gs)
 
   -- what `Vec::sort_by` leaves, where the closure compares by R
   pub sort_by_is : {F : Type 0} {g : Mut F (Bor X × (Bor X × Unit {0})) Ordering} {f : F} (xs ys : List X)

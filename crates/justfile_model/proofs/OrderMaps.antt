@@ -1,15 +1,13 @@
--- What a list in order is related to, if the comparisons agree.
-use Rattle.std.proofs.Common.{◌≡◌, ◌∙◌, ◌+◌, List, [], ◌∷◌, Bool, true, false, cond, map, map-id, refl, sym, ap, subst, arith}
+-- Related lists have related sorted lists, if the comparisons agree.
+use Rattle.std.proofs.Common.{◌≡◌, ◌∙◌, ◌+◌, List, [], ◌∷◌, Bool, true, false, cond, map, refl, sym, ap, subst, arith}
 use Rattle.std.specs.Ordering.{is_gt, is_lt, on}
 use Rattle.std.specs.List.{All}
 use Rattle.std.specs.List.Sorted.{IsSorted}
-use Rattle.std.specs.Cmp.{IsTotalOrder}
 use Rattle.std.specs.declared.cmp.Ordering.{Ordering}
-use Rattle.std.proofs.lemmas.Cmp.{on_total}
 use Rattle.std.proofs.lemmas.List.{get_or-map, length-map}
 use Rattle.std.proofs.lemmas.List.Elements.{All-head, All-tail}
 use Rattle.justfile_model.specs.Order.{placed, in_order}
-use Rattle.justfile_model.proofs.OrderLaws.{in_order_sorts, sorted_stays, all_in_order}
+use Rattle.justfile_model.proofs.OrderLaws.{all_in_order}
 use Rattle.justfile_model.proofs.Related.{Each}
 use Rattle.justfile_model.proofs.Related.Each.{nil, cons}
 
@@ -56,11 +54,6 @@ module _ {X Y : Type 0} (R : X → X → Ordering) (S : Y → Y → Ordering) wh
     each_in_order nil = nil
     each_in_order (cons h hs) = placed_each h (each_in_order hs)
 
--- the same elements, by comparisons that agree on them
-pub in_order_agrees : {X : Type 0} (R S : X → X → Ordering) (P : X → Type 0) → ((x y : X) → P x → P y → S x y ≡ R x y)
-    → (xs : List X) → All P xs → in_order S xs ≡ in_order R xs
-in_order_agrees R S P same xs h = ap (in_order S) (sym (map-id xs)) ∙ in_order_map_where R S (λ x. x) P same xs h ∙ map-id (in_order R xs)
-
 -- ---- lists that are in order where their keys are
 
 module _ {X K : Type 0} (key : X → K) (R : K → K → Ordering) where
@@ -78,18 +71,3 @@ module _ {X K : Type 0} (key : X → K) (R : K → K → Ordering) where
       let a = sym (get_or-map key xs (k + 1) d (key d) (omega arith)) in
       let b = sym (get_or-map key xs k d (key d) (omega arith)) in
       (λ i. is_lt (R (a i) (b i))) ∙ h k (key d) z (omega arith)
-
-  pub keys_in_order : (xs : List X) → map key (in_order (on key R) xs) ≡ in_order R (map key xs)
-  keys_in_order xs = sym (in_order_map (on key R) R key (λ x y. refl) xs)
-
--- lists with the same keys have the same keys in order
-pub same_keys : {X Y K : Type 0} (f : X → K) (g : Y → K) (R : K → K → Ordering) (xs : List X) (ys : List Y)
-    → map f xs ≡ map g ys → map f (in_order (on f R) xs) ≡ map g (in_order (on g R) ys)
-same_keys f g R xs ys e = keys_in_order f R xs ∙ ap (in_order R) e ∙ sym (keys_in_order g R ys)
-
--- what has the keys of a list in order stays as it is: so what is printed in order and read again, in whatever groups
-pub keys_stay : {X Y K : Type 0} (f : X → K) (g : Y → K) {R : K → K → Ordering} → IsTotalOrder R → (xs : List X) (ys : List Y)
-    → map g ys ≡ map f (in_order (on f R) xs) → in_order (on g R) ys ≡ ys
-keys_stay f g {R} o xs ys e =
-    let sorted : IsSorted R (map f (in_order (on f R) xs)) = keys_sorted f R (in_order (on f R) xs) (in_order_sorts (on_total f o) xs).sorted in
-    sorted_stays (on_total g o) ys (sorted_from_keys g R ys (subst (IsSorted R) (sym e) sorted))

@@ -1,4 +1,4 @@
--- What derives of the parts of items takes a token or more, and has no more names than identifiers.
+-- Parts of items derive from at least one token, and have at most as many names as identifiers.
 use Rattle.std.proofs.Common.{◌≡◌, ℕ, ◌+◌, ◌≤◌, List, ◌∷◌, length, Option, arith}
 use Rattle.justfile_model.specs.Expressions.{Tokens}
 use Rattle.justfile_model.specs.Features.{Noted}
@@ -16,23 +16,18 @@ module _ {A : Type 0} (leaf : Tok → A) where
   file_path_left (g.plain kind) = next
   file_path_left (g.expanded is kind) = later next
 
-  pub names_left : {names : List A} {ts rest : Tokens} → Names leaf names ts rest → LeftOf rest ts
-  names_left (g.none kind) = next
-  names_left (g.last kind kind2) = later next
-  names_left (g.more kind kind2 ns) = later (later (names_left ns))
-
   pub names_count : {names : List A} {ts rest : Tokens} → Names leaf names ts rest → length names + identifiers rest ≤ identifiers ts
   names_count (g.none kind) = omega arith
   names_count (g.last {name = name} kind kind2) = omega (arith, counts_one name.tok.kind kind)
   names_count (g.more {name = name} kind kind2 ns) = omega (arith, counts_one name.tok.kind kind, names_count ns)
 
-module _ {A B : Type 0} (leaf : Tok → A) (spot : Tok → B) (Open : ℕ → Option SignificantToken → Type 0) where
+module _ {A B : Type 0} (leaf : Tok → A) (position : Tok → B) (MayEnter : ℕ → Option SignificantToken → Type 0) where
   -- after the name of a setting
-  pub value_left : {form : SettingForm} {value : SettingValue A B} {fs : List (Noted B)} {t : SignificantToken} {ts rest : Tokens} → ValueOf leaf spot Open form value fs ts rest
+  pub value_left : {form : SettingForm} {value : SettingValue A B} {fs : List (Noted B)} {t : SignificantToken} {ts rest : Tokens} → ValueOf leaf position MayEnter form value fs ts rest
       → LeftOf rest (t ∷ ts)
   value_left (g.bare ends) = next
   value_left (g.yes kind is) = later (later next)
   value_left (g.no kind is) = later (later next)
-  value_left (g.expression kind e) = later (later (expression_left leaf spot Open e))
-  value_left (g.plain kind e) = later (later (expression_left leaf spot Open e))
-  value_left (g.interpreter kind kind2 s) = later (later (later (sequence_left leaf spot Open s)))
+  value_left (g.expression kind e) = later (later (expression_left leaf position MayEnter e))
+  value_left (g.plain kind e) = later (later (expression_left leaf position MayEnter e))
+  value_left (g.interpreter kind kind2 s) = later (later (later (sequence_left leaf position MayEnter s)))

@@ -1,4 +1,4 @@
--- Items without docs, what holds of their comments, and what holds of each item of the normal form.
+-- Items without docs, properties of their comments, and properties of each item of the normal form.
 use Rattle.std.proofs.Common.{◌≡◌, ℕ, List, [], ◌∷◌, None}
 use Rattle.std.specs.List.{AllByRecursion}
 use Rattle.justfile_model.specs.Docs.{doc_of}

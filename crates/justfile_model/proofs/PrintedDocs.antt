@@ -1,11 +1,11 @@
--- What is printed of docs is taken as docs again, and no other comment becomes one.
+-- Printed docs become docs again, and no other comment becomes one.
 use Rattle.std.proofs.Common.{◌≡◌, ◌∙◌, ℕ, Bool, true, false, cond, not, ◌&&◌, List, [], ◌∷◌, drop, Option, Some, None, is_some, refl, sym, ap, subst, true≢false}
 use Rattle.std.specs.List.{AllByRecursion}
 use Rattle.std.specs.Str.{IsUtf8}
 use Rattle.justfile_model.specs.Docs.{Before, LineEnd, Other, comment_taken, doc_in, doc_of, doc_or_comment, documented, item_with_doc, redocumented, taken, wants_doc}
 use Rattle.justfile_model.specs.Files.{says_doc}
 use Rattle.justfile_model.specs.Printing.{doc_comment, shown_doc}
-use Rattle.justfile_model.specs.Rewritten.{after_doc, docs_written}
+use Rattle.justfile_model.specs.PrintedAttributes.{after_doc, docs_written}
 use Rattle.justfile_model.specs.Tree.{Alias, Assignment, Comment, Construct, Content, Entry, Function, Import, Module, Newline, OrderedItem, Recipe, RecipeParts, Setting, Unexport}
 use Rattle.justfile_model.proofs.Binds.{never_some, some_back}
 use Rattle.justfile_model.proofs.DocsText.{none_shown}
@@ -17,7 +17,7 @@ unsaid true doc e = absurd (true≢false (sym e))
 unsaid false None e = (refl, refl)
 unsaid false (Some doc) e = absurd (true≢false (sym e))
 
--- no attribute says the doc of a recipe that wants one, and it has none
+-- no attribute sets the doc of a recipe that can get one, and it has none
 pub wants_is : {A B C S : Type 0} (entries : List (Entry A B)) (parts : RecipeParts A B C S) → wants_doc says_doc entries (Recipe parts) ≡ true
     → (says_doc entries ≡ false) × (parts.doc ≡ None)
 wants_is entries parts e = unsaid (says_doc entries) parts.doc e

@@ -1,14 +1,14 @@
--- How the steps of a reader go, whatever its tokens are: which steps are alike, and what a step leaves.
+-- The steps of the parser for arbitrary tokens: which steps are the same, and the state after a step.
 use Rattle.std.proofs.Common.{◌≡◌, ℕ, ◌<◌, ◌≤◌, Bool, true, false, cond, List, [], ◌∷◌, length, Option, Some, None, Result, Ok, Err, IfOk, codes, refl, subst, ap, arith, ◌∙◌}
-use Rattle.justfile_word.specs.declared.token_kind.TokenKind.{TokenKind}
-use Rattle.justfile_word.specs.declared.token_kind.TokenKind.TheVariants as kinds
+use Rattle.justfile_vocabulary.specs.declared.token_kind.TokenKind.{TokenKind}
+use Rattle.justfile_vocabulary.specs.declared.token_kind.TokenKind.TheVariants as kinds
 use Rattle.justfile_model.specs.declared.level.Level.{Level}
 use Rattle.justfile_model.specs.declared.operator.Operator.{Operator}
 use Rattle.justfile_model.specs.ExpressionReader.{Met, accept_operator, backtick, by_text, cooked, found, literal, met_at, operator_by, part, whole_format_string, literal_string}
 use Rattle.justfile_model.specs.Literals as literals
 use Rattle.justfile_model.specs.Literals.{Literal, LiteralFault, cooked_text, string_of}
 use Rattle.justfile_model.specs.Operators.{is_at, operator_of}
-use Rattle.justfile_model.specs.Reading.{◌>>=◌, Leaves, Read, State, Taken, Unexpected, accept, accept_by, accept_marked, accept_word, at, choose, expect, is_word, marked_by, marks, refused, same_kind}
+use Rattle.justfile_model.specs.ReaderState.{◌>>=◌, Leaves, Read, State, Taken, Unexpected, accept, accept_by, accept_marked, accept_word, at, choose, expect, is_word, marked_by, marks, refused, same_kind}
 use Rattle.justfile_model.specs.SignificantTokens.{SignificantToken}
 use Rattle.justfile_model.specs.Tree.{Expr}
 

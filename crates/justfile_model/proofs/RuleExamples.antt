@@ -1,11 +1,11 @@
--- Examples of the rules that attributes break, computed from the definitions: each once, with the token that it is refused at.
+-- Examples of the rules that attributes break, computed from the definitions: each rule once, with the token at which it is reported.
 use Rattle.std.proofs.Common.{◌≡◌, ℕ, false, List, [], ◌∷◌, Option, Some, None, Err, codes, refl}
 use Rattle.std.specs.Str.{chars}
-use Rattle.justfile_base.specs.StringKind.{kind_of}
-use Rattle.justfile_word.specs.AttributeKind.{kind_named}
-use Rattle.justfile_word.specs.Signal.{signal_named}
-use Rattle.justfile_word.specs.declared.attribute_kind.AttributeKind.TheVariants as kinds
-use Rattle.justfile_word.specs.declared.item_kind.ItemKind.TheVariants as items
+use Rattle.justfile_token.specs.StringKind.{kind_of}
+use Rattle.justfile_vocabulary.specs.AttributeKind.{kind_named}
+use Rattle.justfile_vocabulary.specs.Signal.{signal_named}
+use Rattle.justfile_vocabulary.specs.declared.attribute_kind.AttributeKind.TheVariants as kinds
+use Rattle.justfile_vocabulary.specs.declared.item_kind.ItemKind.TheVariants as items
 use Rattle.justfile_model.specs.declared.parameter_kind.ParameterKind.{ParameterKind}
 use Rattle.justfile_model.specs.declared.parameter_kind.ParameterKind.TheVariants.{Plus, Singular}
 use Rattle.justfile_model.specs.AttributeKinds.{same_attribute}
@@ -17,7 +17,7 @@ use Rattle.justfile_model.specs.Meaning.{by_key, by_position}
 use Rattle.justfile_model.specs.NewAttribute.{Made, new_attribute}
 use Rattle.justfile_model.specs.Rules as rule
 use Rattle.justfile_model.specs.Rules.{Broken, Rule}
-use Rattle.justfile_model.specs.Sight.{Sight, content_as_read, text_under}
+use Rattle.justfile_model.specs.LeafView.{LeafView, content_as_read, text_under}
 use Rattle.justfile_model.specs.Unindent.{unindented}
 use Rattle.justfile_model.specs.Tree as tree
 use Rattle.justfile_model.specs.Tree.{Argument, Attribute, Content, Dependency, DependencyArgument, Expr, Header, Parameter, WrittenAttribute, bare_attribute, bare_recipe, assignment_of}
@@ -25,14 +25,14 @@ use Rattle.justfile_model.specs.Tree.{Argument, Attribute, Content, Dependency, 
 abbrev unasked : Expansions
 unasked text = None
 
--- a text stands for its own place, so that a refusal shows its token
-abbrev sees : Sight (List ℕ) (List ℕ)
+-- a text is its own position, so that an error shows its token
+abbrev sees : LeafView (List ℕ) (List ℕ)
 sees = record {
   bytes = λ l. l;
   place = λ l. l;
   cooked = text_under unasked (λ l. l);
   leaf_content = λ kind l. record { kind = kind; lexeme = l };
-  spot_content = λ kind spelled spot. record { kind = kind; lexeme = spelled };
+  position_content = λ kind spelled position. record { kind = kind; lexeme = spelled };
   literal_content = content_as_read (λ l. l) (text_under unasked (λ l. l)) (λ kind l. record { kind = kind; lexeme = l });
 }
 
@@ -104,7 +104,7 @@ key_twice : arg_breaks (bare (codes "long") ∷ bare (codes "long") ∷ []) ≡ 
 unfolding kind_named
 key_twice = refl
 
--- of two unknown keys the least is refused
+-- of two unknown keys the least is reported
 unknown_key : broken_by (codes "cache") (bare (codes "b") ∷ bare (codes "a") ∷ []) ≡ one (rule.UnknownAttributeKey (codes "cache") (codes "a")) (codes "a")
 unfolding kind_named
 unknown_key = refl
@@ -187,9 +187,9 @@ min_above_max : arg_breaks (keyed (codes "max") (codes "'2'") ∷ keyed (codes "
 unfolding kind_named
 min_above_max = refl
 
--- ---- which of several rules an attribute is refused by
+-- ---- which of several broken rules is reported
 
--- a value is refused before the want of an option
+-- a value is reported before a missing option
 value_first : new_arg (keyed (codes "flag") (codes "'b'") ∷ []) ≡ Err (at (rule.FlagAttributeTakesNoValue (codes "a")) (codes "flag"))
 unfolding new_attribute
 value_first = refl
@@ -255,7 +255,7 @@ recipe_of parameters = tree.Recipe (bare_recipe (headed parameters [] []) None [
 abbrev recipe : Content (List ℕ) (List ℕ) (List ℕ) (List ℕ)
 recipe = recipe_of []
 
--- the first in the order of content is refused, at the item's name
+-- the first one in content order is reported, at the item's name
 on_assignment : construct_broken current sees (plain (codes "script") ∷ plain (codes "private") ∷ labelled (codes "group") (codes "'a'") ∷ []) assignment
     ≡ one (rule.InvalidAttribute items.Assignment kinds.Group) (codes "x")
 unfolding kind_named same_attribute
@@ -274,20 +274,20 @@ arg lexeme arguments = given (codes "arg") (literal lexeme ∷ arguments)
 abbrev a_and_b : Content (List ℕ) (List ℕ) (List ℕ) (List ℕ)
 a_and_b = recipe_of (parameter Singular (codes "a") ∷ parameter Singular (codes "b") ∷ [])
 
--- of two that speak of no parameter the least text is refused, at its literal
+-- of two attributes without a parameter the one with the least text is reported, at its literal
 no_parameter : construct_broken current sees (labelled (codes "arg") (codes "'c'") ∷ labelled (codes "arg") (codes "'a'") ∷ labelled (codes "arg") (codes "'b'") ∷ [])
     (recipe_of (parameter Singular (codes "a") ∷ []))
     ≡ one (rule.UndefinedArgAttribute (codes "b")) (codes "'b'")
 unfolding kind_named same_attribute
 no_parameter = refl
 
--- content order puts `b` first, since it names its option; so the key of `a` is refused
+-- `b` is first in content order, since it names its option; so the key of `a` is reported
 long_twice : construct_broken current sees (arg (codes "'a'") (bare (codes "long") ∷ []) ∷ arg (codes "'b'") (keyed (codes "long") (codes "'a'") ∷ []) ∷ []) a_and_b
     ≡ one (rule.DuplicateLongOption (codes "a") (codes "foo")) (codes "long")
 unfolding kind_named same_attribute
 long_twice = refl
 
--- an option that is named is refused at its literal
+-- an option with a name is reported at its literal
 long_literal_twice : construct_broken current sees (arg (codes "'a'") (keyed (codes "long") (codes "'x'") ∷ []) ∷ arg (codes "'b'") (keyed (codes "long") (codes "'''x'''") ∷ []) ∷ []) a_and_b
     ≡ one (rule.DuplicateLongOption (codes "x") (codes "foo")) (codes "'''x'''")
 unfolding kind_named same_attribute unindented

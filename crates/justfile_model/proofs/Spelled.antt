@@ -1,25 +1,25 @@
--- Each token of a text whose kind has one lexeme has that one.
+-- Each token of a text whose kind has a single lexeme has that lexeme.
 use Rattle.std.proofs.Common.{◌≡◌, ◌∙◌, ℕ, zero, suc, Bool, true, false, cond, eqb, List, [], ◌∷◌, ◌++◌, length, get_or, take, drop, Option, Some, None, Ok, Err, refl, sym, ap, subst}
 use Rattle.std.specs.Prelude.{◌&&◌, not, nat_eq, reverse}
 use Rattle.std.specs.List.{AllByRecursion, starts_with}
 use Rattle.std.specs.Str.{bytes_eq}
 use Rattle.std.proofs.lemmas.Bool.Decides.{Decides-eqb}
 use Rattle.std.proofs.lemmas.List.{reverse-append, reverse-reverse}
-use Rattle.justfile_word.specs.declared.byte_class.ByteClass.{ByteClass}
-use Rattle.justfile_word.specs.declared.byte_class.ByteClass.TheVariants as classes
-use Rattle.justfile_base.specs.declared.delimiter.Delimiter.{Delimiter}
-use Rattle.justfile_base.specs.declared.delimiter.Delimiter.TheVariants.{Brace, Bracket, Paren}
-use Rattle.justfile_base.specs.declared.string_kind.StringDelimiter.{StringDelimiter}
-use Rattle.justfile_base.specs.declared.string_kind.StringDelimiter.TheVariants as delimiters
-use Rattle.justfile_base.specs.declared.string_kind.StringKind.{StringKind}
-use Rattle.justfile_word.specs.declared.token_kind.TokenKind.{TokenKind}
-use Rattle.justfile_word.specs.declared.token_kind.TokenKind.TheVariants as kinds
-use Rattle.justfile_base.specs.StringKind.{delimiter_len, kind_of, token_kind_of}
+use Rattle.justfile_vocabulary.specs.declared.byte_class.ByteClass.{ByteClass}
+use Rattle.justfile_vocabulary.specs.declared.byte_class.ByteClass.TheVariants as classes
+use Rattle.justfile_token.specs.declared.delimiter.Delimiter.{Delimiter}
+use Rattle.justfile_token.specs.declared.delimiter.Delimiter.TheVariants.{Brace, Bracket, Paren}
+use Rattle.justfile_token.specs.declared.string_kind.StringDelimiter.{StringDelimiter}
+use Rattle.justfile_token.specs.declared.string_kind.StringDelimiter.TheVariants as delimiters
+use Rattle.justfile_token.specs.declared.string_kind.StringKind.{StringKind}
+use Rattle.justfile_vocabulary.specs.declared.token_kind.TokenKind.{TokenKind}
+use Rattle.justfile_vocabulary.specs.declared.token_kind.TokenKind.TheVariants as kinds
+use Rattle.justfile_token.specs.StringKind.{delimiter_len, kind_of, token_kind_of}
 use Rattle.justfile_model.specs.declared.open_delimiter.OpenDelimiter.{OpenDelimiter}
 use Rattle.justfile_model.specs.declared.raw_text.RawText.TheVariants as raw_texts
 use Rattle.justfile_model.specs.Bytes.{is_interpolation_start, is_interpolation_end, is_mixed, closes_levels, first_char}
 use Rattle.justfile_model.specs.LiteralText.{raw_len}
-use Rattle.justfile_model.specs.LexicalFault.{LexicalRefusal}
+use Rattle.justfile_model.specs.LexicalFault.{LexicalError}
 use Rattle.justfile_model.specs.Lexed.{end_of, IsNext, Begins, Lexed}
 use Rattle.justfile_model.specs.Tok.{Tok}
 use Rattle.justfile_model.specs.SignificantTokens.{AllSpelled, is_whitespace, significant_from, significant_tokens, Spelling}
@@ -53,7 +53,7 @@ module _ (m : Mode) (rest : List ℕ) where
   any : (k : TokenKind) (n : ℕ) → Spelling k (take n rest) → Spells rest (Ok (k, n))
   any k n h = record { spells = h }
 
-  refused : {r : LexicalRefusal} → Spells rest (Err r)
+  refused : {r : LexicalError} → Spells rest (Err r)
   refused = record { spells = tt }
 
   twice_spells : (b : ℕ) (k : TokenKind) → Spelling k (take 2 rest) → Spells rest (doubled_token b k rest)
@@ -81,12 +81,14 @@ module _ (m : Mode) (rest : List ℕ) where
       if_spells (eqb b 42) (λ _. any kinds.Asterisk 1 tt) (λ _.
       if_spells (eqb b 44) (λ _. any kinds.Comma 1 tt) (λ _.
       if_spells (eqb b 47) (λ h. any kinds.Slash 1 (one_front rest 47 h refl)) (λ _.
-      if_spells (eqb b 63) (λ _. any kinds.QuestionMark 1 tt) (λ _. any kinds.At 1 tt)))))))))))
+      if_spells (eqb b 63) (λ _. any kinds.QuestionMark 1 tt) (λ _.
+      if_spells (eqb b 64) (λ _. any kinds.At 1 tt) (λ _. refused))))))))))))
 
-  opening_spells : Spells rest (opening (get_or rest 0 0))
+  opening_spells : Spells rest (opening (get_or rest 0 0) rest)
   opening_spells =
       if_spells (eqb (get_or rest 0 0) 40) (λ _. any kinds.ParenL 1 tt) (λ _.
-      if_spells (eqb (get_or rest 0 0) 91) (λ h. any kinds.BracketL 1 (one_front rest 91 h refl)) (λ _. any kinds.BraceL 1 tt))
+      if_spells (eqb (get_or rest 0 0) 91) (λ h. any kinds.BracketL 1 (one_front rest 91 h refl)) (λ _.
+      if_spells (eqb (get_or rest 0 0) 123) (λ _. any kinds.BraceL 1 tt) (λ _. refused)))
 
   -- a part of a literal may have any bytes
   part_spells : (k : StringKind) (format : Bool) (opener : ℕ) (more whole : TokenKind) → ((l : List ℕ) → Spelling more l) → ((l : List ℕ) → Spelling whole l)
@@ -121,7 +123,8 @@ module _ (m : Mode) (rest : List ℕ) where
   closing_spells : (b : ℕ) → Spells rest (closing (head_of m.openers) b rest)
   closing_spells b =
       if_spells (eqb b 41) (λ _. close_spells (head_of m.openers) Paren kinds.ParenR (λ l. tt)) (λ _.
-      if_spells (eqb b 93) (λ _. close_spells (head_of m.openers) Bracket kinds.BracketR (λ l. tt)) (λ _. brace_spells _ (head_of m.openers)))
+      if_spells (eqb b 93) (λ _. close_spells (head_of m.openers) Bracket kinds.BracketR (λ l. tt)) (λ _.
+      if_spells (eqb b 125) (λ _. brace_spells _ (head_of m.openers)) (λ _. refused)))
 
   line_end_spells : (n : ℕ) → Spells rest (line_end_token m n)
   line_end_spells n = if_spells (nested m) (λ _. any kinds.Whitespace n tt) (λ _. any kinds.Eol n tt)

@@ -1,12 +1,12 @@
--- How the steps of a reader go over significant tokens: which tokens come next.
+-- The steps of the parser over significant tokens: which tokens are next.
 use Rattle.std.proofs.Common.{◌≡◌, ℕ, Bool, true, false, ◌&&◌, cond, List, [], ◌∷◌, Option, Some, None, Result, Ok, Err, IfOk, refl, sym, subst, ap, ◌∙◌}
 use Rattle.std.specs.Str.{bytes_eq}
 use Rattle.std.proofs.lemmas.Bool.{and_parts}
 use Rattle.std.proofs.lemmas.Slice.Eq.{bytes_eq-Decides}
 use denote.Enum.Bare.{same_true, true_same}
-use Rattle.justfile_word.specs.contracts.token_kind.TokenKind.{the_type}
-use Rattle.justfile_word.specs.declared.token_kind.TokenKind.{TokenKind}
-use Rattle.justfile_word.specs.declared.token_kind.TokenKind.TheVariants as kinds
+use Rattle.justfile_vocabulary.specs.contracts.token_kind.TokenKind.{the_type}
+use Rattle.justfile_vocabulary.specs.declared.token_kind.TokenKind.{TokenKind}
+use Rattle.justfile_vocabulary.specs.declared.token_kind.TokenKind.TheVariants as kinds
 use Rattle.justfile_model.specs.declared.conditional_operator.ConditionalOperator.{ConditionalOperator}
 use Rattle.justfile_model.specs.declared.conditional_operator.ConditionalOperator.TheVariants.{Equality, Inequality, RegexMatch, RegexMismatch}
 use Rattle.justfile_model.specs.declared.level.Level.{Level}
@@ -19,21 +19,21 @@ use Rattle.justfile_model.specs.SignificantTokens.{SignificantToken}
 use Rattle.justfile_model.specs.Features.{Noted}
 use Rattle.justfile_model.specs.Conditions.{Conditions}
 use Rattle.justfile_model.specs.Expressions.{Tokens, IsKind, NotNext, IsWord, NotWord, IsMarked, NotMarked, operator_kind, NotCompared, NotJoined}
-use Rattle.justfile_model.specs.Reading.{Unexpected, ◌>>=◌, at, refused, same_kind, accept_by, accept, is_word, accept_word, marked_by, marks, accept_marked, choose, expect, begin_with, next_are}
+use Rattle.justfile_model.specs.ReaderState.{Unexpected, ◌>>=◌, at, refused, same_kind, accept_by, accept, is_word, accept_word, marked_by, marks, accept_marked, choose, expect, begin_with, next_are}
 use Rattle.justfile_model.specs.ExpressionReader as r
 use Rattle.justfile_model.specs.ExpressionReader.{accept_operator, met_at, operator_by}
-use Rattle.justfile_model.specs.TreeReader.{Refusal, State, Taken, token_leaves}
+use Rattle.justfile_model.specs.TreeReader.{ReadError, State, Taken, token_leaves}
 
 -- in this run at this depth, these tokens are left, and these features were noted
 abbrev pub input : Conditions → ℕ → Tokens → List (Noted Tok) → State
 input conditions depth tokens noted = record { run = conditions; depth = depth; left = tokens; noted = noted }
 
 -- what holds of each outcome of a step holds of the whole
-pub after_bind : {A B : Type 0} (r : Result A Refusal) (f : A → Result B Refusal) (P : Result B Refusal → Type 0) → ((e : Refusal) → P (Err e)) → ((x : A) → r ≡ Ok x → P (f x)) → P (r >>= f)
+pub after_bind : {A B : Type 0} (r : Result A ReadError) (f : A → Result B ReadError) (P : Result B ReadError → Type 0) → ((e : ReadError) → P (Err e)) → ((x : A) → r ≡ Ok x → P (f x)) → P (r >>= f)
 after_bind (Ok x) f P fails goes = goes x refl
 after_bind (Err e) f P fails goes = fails e
 
-pub weaken : {A : Type 0} (found : Result A Refusal) (Q R : A → Type 0) → ((x : A) → Q x → R x) → IfOk found Q → IfOk found R
+pub weaken : {A : Type 0} (found : Result A ReadError) (Q R : A → Type 0) → ((x : A) → Q x → R x) → IfOk found Q → IfOk found R
 weaken (Ok x) Q R f h = f x h
 weaken (Err e) Q R f h = tt
 
@@ -195,7 +195,7 @@ unfolding expect
 expect_taken kind t ts C d ns e = rw (accept_taken kind t ts C d ns e) refl
 
 -- where the token is the one that is expected, it is read
-pub after_expect : {B : Type 0} (kind : TokenKind) (s : State) (f : SignificantToken × State → Result B Refusal) (P : Result B Refusal → Type 0) → ((e : Refusal) → P (Err e)) → ((t : SignificantToken) (rest : Tokens) → s.left ≡ t ∷ rest → IsKind kind t → P (f (t, at s rest))) → P (expect token_leaves kind s >>= f)
+pub after_expect : {B : Type 0} (kind : TokenKind) (s : State) (f : SignificantToken × State → Result B ReadError) (P : Result B ReadError → Type 0) → ((e : ReadError) → P (Err e)) → ((t : SignificantToken) (rest : Tokens) → s.left ≡ t ∷ rest → IsKind kind t → P (f (t, at s rest))) → P (expect token_leaves kind s >>= f)
 unfolding expect
 after_expect kind s f P fails goes = after_accept kind s (λ o. P (choose o (Err (refused Unexpected s)) (λ x. Ok x) >>= f)) (λ not. fails _) goes
 

@@ -1,4 +1,4 @@
--- The doc that is taken of a comment has no white space at its ends, so it is taken again of the comment that it is printed as.
+-- The doc of a comment has no white space at its ends, so the comment as which it is printed has the same doc.
 use Rattle.std.proofs.Common.{◌≡◌, ℕ, suc, Bool, true, false, cond, eqb, List, [], ◌∷◌, ◌++◌, length, get_or, drop, Option, Some, None, refl, sym, ap, ◌∙◌, subst, arith}
 use Rattle.std.specs.Prelude.{◌&&◌}
 use Rattle.std.specs.Char.{is_whitespace}
@@ -21,13 +21,13 @@ stays c cs P f g = by (is_whitespace c && eqb (length (drop_trailing_whitespace 
     by false e = g e
 
 -- what stood before the white space that was dropped
-pub record Kept (cs ds : List ℕ) : Type 0 where
+pub record TrimmedTo (cs ds : List ℕ) : Type 0 where
   pub dropped : List ℕ
   pub is : cs ≡ ds ++ dropped
 
-pub kept : (cs : List ℕ) → Kept cs (drop_trailing_whitespace cs)
+pub kept : (cs : List ℕ) → TrimmedTo cs (drop_trailing_whitespace cs)
 kept [] = record { dropped = []; is = refl }
-kept (c ∷ cs) = stays c cs (Kept (c ∷ cs)) (record { dropped = c ∷ cs; is = refl }) (λ e. record { dropped = (kept cs).dropped; is = ap (λ l. c ∷ l) (kept cs).is })
+kept (c ∷ cs) = stays c cs (TrimmedTo (c ∷ cs)) (record { dropped = c ∷ cs; is = refl }) (λ e. record { dropped = (kept cs).dropped; is = ap (λ l. c ∷ l) (kept cs).is })
 
 pub kept_scalars : (cs : List ℕ) → scalars cs ≡ true → scalars (drop_trailing_whitespace cs) ≡ true
 kept_scalars [] h = refl

@@ -48,19 +48,6 @@ module _ {X : Type 0} {R : X → Type 0} (size : X → ℕ) (stop : (x : X) → 
       λ y. below_alike x (turns size stop rule (size x)) (recursive size stop rule) (λ z lt. turns_alike (size x) (suc (size z)) z lt (omega arith)) y (nat_lt (size y) (size x)) refl in
       λ i. rule (λ y. same y i) x
 
-  -- one step of a function, in which each call at a smaller size is that function
-  pub record Unfolded (f : (x : X) → R x) (x : X) : Type 0 where
-    pub inside : (y : X) → R y
-    pub is : f x ≡ rule inside x
-    pub inside_is : (y : X) → size y < size x → inside y ≡ f y
-
-  pub unfolded : (x : X) → Unfolded (recursive size stop rule) x
-  unfolded x = record {
-    inside = below size stop rule x (recursive size stop rule);
-    is = recursive_is x;
-    inside_is = λ y h. below_smaller x (recursive size stop rule) y h;
-  }
-
 -- Two recursions side by side: where related arguments have the same size, and the rules keep what is related, the answers are related.
 module _ {X Y : Type 0} {R : X → Type 0} {S : Y → Type 0} (size : X → ℕ) (stop : (x : X) → R x) (rule : ((y : X) → R y) → (x : X) → R x)
     (size' : Y → ℕ) (stop' : (y : Y) → S y) (rule' : ((y : Y) → S y) → (x : Y) → S x)

@@ -1,4 +1,4 @@
--- What replaces nothing changes nothing.
+-- Mapping with the identity changes nothing.
 use Rattle.std.proofs.Common.{◌≡◌, List, map, refl, ap}
 use Rattle.std.specs.Option.{option_map}
 use Rattle.justfile_model.specs.Tree as tree

@@ -1,4 +1,4 @@
--- Where no attribute and no recipe has a comment, the printed text is that in which none is printed.
+-- If no attribute and no recipe has a comment, the printed text is the one that ignores comments.
 use Rattle.std.proofs.Common.{◌≡◌, ◌∙◌, ℕ, List, [], ◌∷◌, ◌++◌, None, append-nil, append_assoc, codes, refl, ap}
 use Rattle.justfile_model.specs.NormalShape.{after_newline, normal, normal_rest}
 use Rattle.justfile_model.specs.Printing.{attribute_text, body_text, comment_text, content_text, doc_line, entries_text, entry_text, fixed_text, header_text, if_some, item_end, item_text, shown_doc, text}

@@ -1,14 +1,14 @@
--- What each kind of attribute takes, and on which items it may stand.
+-- The arguments that each kind of attribute takes, and the items that can have it.
 use Rattle.std.specs.Prelude.{ℕ, Bool, true, false, ◌||◌, List, [], ◌∷◌, Option, Some, None, codes}
 use denote.Enum.Bare.{sameb}
-use Rattle.justfile_word.specs.AttributeKind.{is_enabler_kind, kind_named, takes_keys}
-use Rattle.justfile_word.specs.contracts.attribute_kind.AttributeKind.{the_type}
-use Rattle.justfile_word.specs.declared.attribute_kind.AttributeKind.{AttributeKind}
-use Rattle.justfile_word.specs.declared.attribute_kind.AttributeKind.TheVariants.{Arg, Cache, Confirm, Continue, Doc, Env, Extension, Group, Metadata, Private, Script, Timestamp, WorkingDirectory}
-use Rattle.justfile_word.specs.declared.item_kind.ItemKind.{ItemKind}
-use Rattle.justfile_word.specs.declared.item_kind.ItemKind.TheVariants as items
+use Rattle.justfile_vocabulary.specs.AttributeKind.{is_enabler_kind, kind_named, takes_keys}
+use Rattle.justfile_vocabulary.specs.contracts.attribute_kind.AttributeKind.{the_type}
+use Rattle.justfile_vocabulary.specs.declared.attribute_kind.AttributeKind.{AttributeKind}
+use Rattle.justfile_vocabulary.specs.declared.attribute_kind.AttributeKind.TheVariants.{Arg, Cache, Confirm, Continue, Doc, Env, Extension, Group, Metadata, Private, Script, Timestamp, WorkingDirectory}
+use Rattle.justfile_vocabulary.specs.declared.item_kind.ItemKind.{ItemKind}
+use Rattle.justfile_vocabulary.specs.declared.item_kind.ItemKind.TheVariants as items
 
--- `==` on kinds
+-- equality of kinds
 unfoldable pub same_attribute : AttributeKind → AttributeKind → Bool
 same_attribute = sameb the_type
 
@@ -16,18 +16,18 @@ abbrev pub named_takes_keys : Option AttributeKind → Bool
 named_takes_keys None = false
 named_takes_keys (Some kind) = takes_keys kind
 
--- the arguments of an attribute of this name may have keys
+-- attributes with this name take arguments by key
 abbrev pub name_takes_keys : List ℕ → Bool
 name_takes_keys name = named_takes_keys (kind_named name)
 
--- the keys that an attribute knows
+-- the keys that attributes of this kind can have
 abbrev pub known_keys : AttributeKind → List (List ℕ)
 known_keys Arg =
     codes "long" ∷ codes "short" ∷ codes "pattern" ∷ codes "value" ∷ codes "flag" ∷ codes "multiple" ∷ codes "max" ∷ codes "min" ∷ codes "help" ∷ []
 known_keys Cache = codes "extra" ∷ codes "inputs" ∷ codes "outputs" ∷ []
 known_keys _ = []
 
--- its arguments by position are any expressions, where those of the others are literals
+-- the positional arguments are arbitrary expressions; those of the other kinds are literals
 abbrev pub takes_expressions : AttributeKind → Bool
 takes_expressions Confirm = true
 takes_expressions Doc = true
@@ -36,7 +36,7 @@ takes_expressions Timestamp = true
 takes_expressions WorkingDirectory = true
 takes_expressions _ = false
 
--- how many arguments it takes by position at least
+-- the least number of positional arguments
 abbrev pub least_count : AttributeKind → ℕ
 least_count Arg = 1
 least_count Env = 2
@@ -46,7 +46,7 @@ least_count Metadata = 1
 least_count WorkingDirectory = 1
 least_count _ = 0
 
--- and at most, if there is a bound
+-- the greatest number of positional arguments, if there is a limit
 abbrev pub most_count : AttributeKind → Option ℕ
 most_count Arg = Some 1
 most_count Confirm = Some 1
@@ -61,7 +61,7 @@ most_count Timestamp = Some 1
 most_count WorkingDirectory = Some 1
 most_count _ = Some 0
 
--- an item may have more than one of this kind
+-- an item can have several attributes of this kind
 abbrev pub is_repeatable : AttributeKind → Bool
 is_repeatable Arg = true
 is_repeatable Env = true
@@ -73,14 +73,14 @@ abbrev pub is_private_kind : AttributeKind → Bool
 is_private_kind Private = true
 is_private_kind _ = false
 
--- what modules may have beside enablers
+-- the kinds that a module can have besides those that enable it on a system
 abbrev pub is_module_kind : AttributeKind → Bool
 is_module_kind Doc = true
 is_module_kind Group = true
 is_module_kind Private = true
 is_module_kind _ = false
 
--- an item of this kind may have an attribute of that one
+-- an item of this kind can have attributes of that kind
 abbrev pub is_allowed : ItemKind → AttributeKind → Bool
 is_allowed items.Alias kind = is_enabler_kind kind || is_private_kind kind
 is_allowed items.Assignment kind = is_enabler_kind kind || is_private_kind kind

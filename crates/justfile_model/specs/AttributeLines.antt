@@ -1,7 +1,7 @@
--- The grammar of attributes, as `Grammar` has that of items: which significant tokens are which written attributes.
+-- The grammar of attributes: which significant tokens are which written attributes. `Grammar` is the same for items.
 use Rattle.std.specs.Prelude.{◌≡◌, ℕ, Bool, true, false, List, [], ◌∷◌, ◌++◌, Option, Some, None, codes}
 use Rattle.std.specs.Str.{trim_end}
-use Rattle.justfile_word.specs.declared.token_kind.TokenKind.TheVariants as kinds
+use Rattle.justfile_vocabulary.specs.declared.token_kind.TokenKind.TheVariants as kinds
 use Rattle.justfile_model.specs.AttributeKinds.{name_takes_keys}
 use Rattle.justfile_model.specs.Expressions.{Tokens, IsKind, NotNext, IsMarked, Expression}
 use Rattle.justfile_model.specs.Features.{Noted}
@@ -10,25 +10,25 @@ use Rattle.justfile_model.specs.Tok.{Tok}
 use Rattle.justfile_model.specs.Tree as tree
 use Rattle.justfile_model.specs.Tree.{Argument, Expr, WrittenAttribute, bare_attribute, commented_line}
 
--- the next token is a name that marks no string
+-- The next token is a name, and doesn't mark a string after it.
 abbrev pub IsKey : Tokens → Type 0
 IsKey [] = ⊥
 IsKey (t ∷ []) = IsKind kinds.Identifier t
 IsKey (t ∷ u ∷ ts) = IsKind kinds.Identifier t × (IsMarked (codes "x") kinds.StringToken t u → ⊥)
 
-module _ {A B : Type 0} (leaf : Tok → A) (spot : Tok → B) (Open : ℕ → Option SignificantToken → Type 0) where
-  -- an argument of an attribute that takes keys or not; where it does, a name that begins one is a key
+module _ {A B : Type 0} (leaf : Tok → A) (position : Tok → B) (MayEnter : ℕ → Option SignificantToken → Type 0) where
+  -- An argument of an attribute. If the attribute takes keys, a name at the start of an argument is a key.
   pub data ArgumentOf : (keys : Bool) → Argument A B → List (Noted B) → Tokens → Tokens → Type 0 where
     positional : {keys : Bool} {e : Expr A B} {fs : List (Noted B)} {first : SignificantToken} {tokens rest : Tokens}
-        → (keys ≡ true → IsKey (first ∷ tokens) → ⊥) → Expression leaf spot Open false 0 e fs (first ∷ tokens) rest
-        → ArgumentOf keys (tree.Positional (spot first.tok) e) fs (first ∷ tokens) rest
+        → (keys ≡ true → IsKey (first ∷ tokens) → ⊥) → Expression leaf position MayEnter false 0 e fs (first ∷ tokens) rest
+        → ArgumentOf keys (tree.Positional (position first.tok) e) fs (first ∷ tokens) rest
     bare : {key : SignificantToken} {rest : Tokens} → IsKey (key ∷ rest) → NotNext kinds.Equals rest
         → ArgumentOf true (tree.Bare (leaf key.tok)) [] (key ∷ rest) rest
     keyed : {e : Expr A B} {fs : List (Noted B)} {key equals : SignificantToken} {tokens rest : Tokens} → IsKind kinds.Identifier key
-        → IsKind kinds.Equals equals → Expression leaf spot Open false 0 e fs tokens rest
+        → IsKind kinds.Equals equals → Expression leaf position MayEnter false 0 e fs tokens rest
         → ArgumentOf true (tree.Keyed (leaf key.tok) e) fs (key ∷ equals ∷ tokens) rest
 
-  -- arguments up to the closing parenthesis and with it; a comma may stand before it
+  -- Arguments up to and including the closing parenthesis. A trailing comma is allowed.
   pub data Arguments : (keys : Bool) → List (Argument A B) → List (Noted B) → Tokens → Tokens → Type 0 where
     none : {keys : Bool} {closer : SignificantToken} {rest : Tokens} → IsKind kinds.ParenR closer
         → Arguments keys [] [] (closer ∷ rest) rest
@@ -39,18 +39,18 @@ module _ {A B : Type 0} (leaf : Tok → A) (spot : Tok → B) (Open : ℕ → Op
         → ArgumentOf keys a fs tokens (comma ∷ next) → IsKind kinds.Comma comma → Arguments keys others gs next rest
         → Arguments keys (a ∷ others) (fs ++ gs) tokens rest
 
-  -- an attribute, without a comment: a name, a name with a colon and an expression, or a name with arguments in parentheses
+  -- An attribute without its comment: a name, a name with a colon and an expression, or a name with arguments in parentheses.
   pub data AttributeOf : WrittenAttribute A B → List (Noted B) → Tokens → Tokens → Type 0 where
     plain : {name : SignificantToken} {rest : Tokens} → IsKind kinds.Identifier name → NotNext kinds.Colon rest → NotNext kinds.ParenL rest
         → AttributeOf (bare_attribute (leaf name.tok) []) [] (name ∷ rest) rest
     short : {e : Expr A B} {fs : List (Noted B)} {name colon first : SignificantToken} {tokens rest : Tokens} → IsKind kinds.Identifier name
-        → IsKind kinds.Colon colon → Expression leaf spot Open false 0 e fs (first ∷ tokens) rest
-        → AttributeOf (bare_attribute (leaf name.tok) (tree.Positional (spot first.tok) e ∷ [])) fs (name ∷ colon ∷ first ∷ tokens) rest
+        → IsKind kinds.Colon colon → Expression leaf position MayEnter false 0 e fs (first ∷ tokens) rest
+        → AttributeOf (bare_attribute (leaf name.tok) (tree.Positional (position first.tok) e ∷ [])) fs (name ∷ colon ∷ first ∷ tokens) rest
     long : {arguments : List (Argument A B)} {fs : List (Noted B)} {name opener : SignificantToken} {tokens rest : Tokens} → IsKind kinds.Identifier name
         → IsKind kinds.ParenL opener → Arguments (name_takes_keys name.tok.lexeme) arguments fs tokens rest
         → AttributeOf (bare_attribute (leaf name.tok) arguments) fs (name ∷ opener ∷ tokens) rest
 
-  -- attributes with commas between them, up to the closing bracket and with it
+  -- Attributes separated by commas, up to and including the closing bracket.
   pub data Bracketed : List (WrittenAttribute A B) → List (Noted B) → Tokens → Tokens → Type 0 where
     last : {w : WrittenAttribute A B} {fs : List (Noted B)} {closer : SignificantToken} {tokens rest : Tokens} → AttributeOf w fs tokens (closer ∷ rest)
         → IsKind kinds.BracketR closer
@@ -59,14 +59,14 @@ module _ {A B : Type 0} (leaf : Tok → A) (spot : Tok → B) (Open : ℕ → Op
         → AttributeOf w fs tokens (comma ∷ next) → IsKind kinds.Comma comma → Bracketed ws gs next rest
         → Bracketed (w ∷ ws) (fs ++ gs) tokens rest
 
-  -- What ends a line of attributes: a comment may stand before the line's end. Its text is without the white space at its end.
+  -- The end of a line of attributes, with an optional comment. The comment's text has no trailing white space.
   pub data AttributesEnd : (comment : Option (List ℕ)) → Tokens → Tokens → Type 0 where
     bare : {newline : SignificantToken} {rest : Tokens} → IsKind kinds.Eol newline
         → AttributesEnd None (newline ∷ rest) rest
     commented : {comment newline : SignificantToken} {rest : Tokens} → IsKind kinds.Comment comment → IsKind kinds.Eol newline
         → AttributesEnd (Some (trim_end comment.tok.lexeme)) (comment ∷ newline ∷ rest) rest
 
-  -- The lines of attributes before a construct, none or more. A comment after a line is that of its last attribute.
+  -- The lines of attributes before a construct. The comment at the end of a line belongs to the last attribute of the line.
   pub data AttributeLines : List (WrittenAttribute A B) → List (Noted B) → Tokens → Tokens → Type 0 where
     none : {rest : Tokens} → NotNext kinds.BracketL rest
         → AttributeLines [] [] rest rest

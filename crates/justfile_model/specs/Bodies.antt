@@ -1,10 +1,10 @@
--- Which places are in a body, by the tokens before them in order of reading.
+-- The positions in a body, by the tokens before them in source order.
 use Rattle.std.specs.Prelude.{◌≡◌, ◌≢◌, List, ◌∷◌, ◌++◌}
 use Rattle.std.specs.List.{All}
-use Rattle.justfile_word.specs.declared.token_kind.TokenKind.TheVariants.{Colon, Dedent, Indent}
+use Rattle.justfile_vocabulary.specs.declared.token_kind.TokenKind.TheVariants.{Colon, Dedent, Indent}
 use Rattle.justfile_model.specs.Tok.{Tok}
 
--- a colon came, and no dedent after it
+-- There is a colon and no dedent after it.
 pub record IsAfterColon (tokens : List Tok) : Type 0 where
   pub before : List Tok
   pub colon : Tok
@@ -13,7 +13,7 @@ pub record IsAfterColon (tokens : List Tok) : Type 0 where
   pub is_colon : colon.kind ≡ Colon
   pub no_dedent : All (λ t. t.kind ≢ Dedent) since
 
--- an indent came after a colon with no dedent between them, and no dedent after the indent
+-- There is an indent after a colon with no dedent between them, and no dedent after the indent.
 pub record IsInBody (tokens : List Tok) : Type 0 where
   pub before : List Tok
   pub indent : Tok

@@ -1,16 +1,17 @@
--- Bytes by class, and runs of bytes. A place past the end of a text reads as 0.
+-- Classes of bytes, and runs of bytes. A byte past the end of a text counts as 0.
 use Rattle.std.specs.Prelude.{ℕ, Bool, true, false, ◌&&◌, ◌||◌, ◌==◌, List, [], ◌∷◌, drop, slice_index, if◌then◌else◌, chars}
 use Rattle.std.specs.List.{prefix_len, list_any}
-use Rattle.justfile_word.specs.ByteClass.{class_of}
-use Rattle.justfile_word.specs.declared.byte_class.ByteClass.{ByteClass}
-use Rattle.justfile_word.specs.declared.byte_class.ByteClass.TheVariants.{Blank, LineFeed, CarriageReturn, IdentifierStart, IdentifierContinue}
+use Rattle.justfile_vocabulary.specs.ByteClass.{class_of}
+use Rattle.justfile_vocabulary.specs.declared.byte_class.ByteClass.{ByteClass}
+use Rattle.justfile_vocabulary.specs.declared.byte_class.ByteClass.TheVariants.{Blank, LineFeed, CarriageReturn, IdentifierStart, IdentifierContinue}
+use Rattle.justfile_vocabulary.specs.ByteNames as byte
 
 -- a space or a tab
 abbrev pub blank : ByteClass → Bool
 blank Blank = true
 blank _ = false
 
--- what a name may have after its first byte
+-- a byte that a name can contain after its first byte
 abbrev pub in_word : ByteClass → Bool
 in_word IdentifierStart = true
 in_word IdentifierContinue = true
@@ -23,12 +24,12 @@ white CarriageReturn = true
 white LineFeed = true
 white _ = false
 
--- LF, alone or after a CR
+-- a line feed, alone or after a carriage return
 abbrev pub line_feed : ByteClass → Bool
 line_feed LineFeed = true
 line_feed _ = false
 
--- a space or a tab, by the class of the byte
+-- the byte is a space or a tab
 abbrev pub is_blank : ℕ → Bool
 is_blank b = blank (class_of b)
 
@@ -36,36 +37,36 @@ is_blank b = blank (class_of b)
 abbrev pub is_name_byte : ℕ → Bool
 is_name_byte b = in_word (class_of b)
 
--- how many blanks are at the front
+-- the number of blanks at the start
 abbrev pub blank_len : List ℕ → ℕ
 blank_len = prefix_len is_blank
 
--- how many bytes of a name are at the front
+-- the number of bytes at the start that a name can contain
 abbrev pub word_len : List ℕ → ℕ
 word_len = prefix_len is_name_byte
 
--- a line end is at the front: LF, or CR and LF
+-- a line end is at the start: a line feed, or a carriage return and a line feed
 abbrev pub is_line_end : List ℕ → Bool
-is_line_end bs = slice_index bs 0 == 10 || slice_index bs 0 == 13 && slice_index bs 1 == 10
+is_line_end bs = slice_index bs 0 == byte.line_feed || slice_index bs 0 == byte.carriage_return && slice_index bs 1 == byte.line_feed
 
--- `{{` is at the front
+-- `{{` is at the start
 abbrev pub is_interpolation_start : List ℕ → Bool
-is_interpolation_start bs = slice_index bs 0 == 123 && slice_index bs 1 == 123
+is_interpolation_start bs = slice_index bs 0 == byte.brace_left && slice_index bs 1 == byte.brace_left
 
--- `}}` is at the front
+-- `}}` is at the start
 abbrev pub is_interpolation_end : List ℕ → Bool
-is_interpolation_end bs = slice_index bs 0 == 125 && slice_index bs 1 == 125
+is_interpolation_end bs = slice_index bs 0 == byte.brace_right && slice_index bs 1 == byte.brace_right
 
--- `{{{{` is at the front, which is text wherever `{{` would end it
+-- `{{{{` is at the start, which is text in places where `{{` isn't
 abbrev pub is_interpolation_escape : List ℕ → Bool
 is_interpolation_escape bs = is_interpolation_start bs && is_interpolation_start (drop 2 bs)
 
--- a space and a tab are among the bytes
+-- there are both a space and a tab among the bytes
 abbrev pub is_mixed : List ℕ → Bool
-is_mixed bs = list_any (λ b. b == 32) bs && list_any (λ b. b == 9) bs
+is_mixed bs = list_any (λ b. b == byte.space) bs && list_any (λ b. b == byte.tab) bs
 
--- the longest run of white bytes at the front ends in a line feed, and another byte follows it; an empty run ends in one
--- where the flag says that the byte before it was one
+-- The longest run of white bytes at the start ends in a line feed, and another byte follows it. The flag says whether the byte before the
+-- text was a line feed, which matters for an empty run.
 unfoldable pub closes_levels : Bool → List ℕ → Bool
 closes_levels last [] = false
 closes_levels last (b ∷ bs) = if white (class_of b) then closes_levels (line_feed (class_of b)) bs else last

@@ -1,4 +1,4 @@
--- The signs of comparisons.
+-- The symbols of the comparison operators.
 use Rattle.std.specs.Prelude.{ℕ, List, codes}
 use Rattle.justfile_model.specs.declared.conditional_operator.ConditionalOperator.{ConditionalOperator}
 use Rattle.justfile_model.specs.declared.conditional_operator.ConditionalOperator.TheVariants.{Equality, Inequality, RegexMatch, RegexMismatch}

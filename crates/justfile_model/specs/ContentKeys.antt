@@ -1,14 +1,14 @@
--- The keys by which expressions and attributes are ordered: the cases in declared order, and then the fields in declared order. A token is its
--- kind and its lexeme, wherever it stands; the number of a variable is not looked at.
+-- The keys by which expressions and attributes are ordered: first by case in declaration order, then by the fields in declaration order. A
+-- token counts by its kind and lexeme, regardless of its position. The number of a variable is ignored.
 use Rattle.std.specs.Prelude.{ℕ, Bool, true, false, List, ◌∷◌, Option, codes}
 use denote.Enum.Declared.{tag_of}
 use Rattle.std.specs.List.{list_any}
 use Rattle.std.specs.declared.cmp.Ordering.{Ordering}
-use Rattle.justfile_word.specs.contracts.attribute_kind.AttributeKind as attribute_kinds
-use Rattle.justfile_word.specs.declared.attribute_kind.AttributeKind.{AttributeKind}
-use Rattle.justfile_word.specs.declared.attribute_kind.AttributeKind.TheVariants as attributes
-use Rattle.justfile_word.specs.declared.token_kind.TokenKind.{TokenKind}
-use Rattle.justfile_word.specs.declared.token_kind.TokenKind.TheVariants as kinds
+use Rattle.justfile_vocabulary.specs.contracts.attribute_kind.AttributeKind as attribute_kinds
+use Rattle.justfile_vocabulary.specs.declared.attribute_kind.AttributeKind.{AttributeKind}
+use Rattle.justfile_vocabulary.specs.declared.attribute_kind.AttributeKind.TheVariants as attributes
+use Rattle.justfile_vocabulary.specs.declared.token_kind.TokenKind.{TokenKind}
+use Rattle.justfile_vocabulary.specs.declared.token_kind.TokenKind.TheVariants as kinds
 use Rattle.justfile_model.specs.AttributeKinds.{same_attribute}
 use Rattle.justfile_model.specs.ConditionalOperator.{operator_sign}
 use Rattle.justfile_model.specs.ContentLeaf.{ContentLeaf, token, literal, operator, text, count, signal, unseen, content_cmp}
@@ -16,7 +16,7 @@ use Rattle.justfile_model.specs.Expressions.{operator_kind}
 use Rattle.justfile_model.specs.Key.{Key, Keys, leaf, node, end, next, row, keys_of, absent_key, present_key, option_key, key_cmp}
 use Rattle.justfile_model.specs.Literals as literals
 use Rattle.justfile_model.specs.Literals.{Literal, string_of}
-use Rattle.justfile_model.specs.Sight.{Sight, or_empty}
+use Rattle.justfile_model.specs.LeafView.{LeafView, or_empty}
 use Rattle.justfile_model.specs.Tree as tree
 use Rattle.justfile_model.specs.Tree.{Expr, Exprs, Parts, Quoted, OptionName, Property, Bound, ArgumentRules, Attribute, Entry}
 
@@ -29,42 +29,42 @@ kind_of_attribute (tree.Signals given) = attributes.Continue
 kind_of_attribute (tree.Cache extra inputs outputs) = attributes.Cache
 kind_of_attribute (tree.Arg rules) = attributes.Arg
 
--- an attribute of this kind is among them
+-- one of the attributes has this kind
 abbrev pub has_attribute : {A B : Type 0} → AttributeKind → List (Entry A B) → Bool
 has_attribute kind entries = list_any (λ (e : Entry _ _). same_attribute (kind_of_attribute e.attribute) kind) entries
 
-module _ {A B : Type 0} (sight : Sight A B) where
+module _ {A B : Type 0} (view : LeafView A B) where
   abbrev pub name_key : A → Key ContentLeaf
-  name_key name = leaf (token (sight.leaf_content kinds.Identifier name))
+  name_key name = leaf (token (view.leaf_content kinds.Identifier name))
 
-  -- a token of which the grammar fixes the kind and the lexeme
-  abbrev pub spot_key : TokenKind → List ℕ → B → Key ContentLeaf
-  spot_key kind spelled spot = leaf (token (sight.spot_content kind spelled spot))
+  -- the key of a token whose kind and lexeme are determined by the grammar
+  abbrev pub position_key : TokenKind → List ℕ → B → Key ContentLeaf
+  position_key kind spelled position = leaf (token (view.position_content kind spelled position))
 
   abbrev pub literal_key : Literal A → Key ContentLeaf
-  literal_key l = leaf (literal (sight.literal_content l))
+  literal_key l = leaf (literal (view.literal_content l))
 
   abbrev mutual
     pub expr_key : Expr A B → Key ContentLeaf
     expr_key (tree.And l r) = node 0 (next (expr_key l) (next (expr_key r) end))
-    expr_key (tree.Assert name c) = node 1 (next (expr_key c) (next absent_key (next (spot_key kinds.Identifier (codes "assert") name) end)))
+    expr_key (tree.Assert name c) = node 1 (next (expr_key c) (next absent_key (next (position_key kinds.Identifier (codes "assert") name) end)))
     expr_key (tree.AssertMessage name c m) =
-        node 1 (next (expr_key c) (next (present_key (expr_key m)) (next (spot_key kinds.Identifier (codes "assert") name) end)))
+        node 1 (next (expr_key c) (next (present_key (expr_key m)) (next (position_key kinds.Identifier (codes "assert") name) end)))
     expr_key (tree.Backtick command) =
-        node 2 (next (leaf (text (or_empty (sight.cooked (literals.Command command))))) (next (leaf (token (sight.leaf_content kinds.Backtick command))) end))
+        node 2 (next (leaf (text (or_empty (view.cooked (literals.Command command))))) (next (leaf (token (view.leaf_content kinds.Backtick command))) end))
     expr_key (tree.Call name arguments) = node 3 (next (name_key name) (next (row (exprs_keys arguments)) end))
-    expr_key (tree.Comparison l o spot r) =
-        node 4 (next (expr_key l) (next (leaf (operator o)) (next (expr_key r) (next (spot_key (operator_kind o) (operator_sign o) spot) end))))
-    expr_key (tree.Concatenation l spot r) = node 5 (next (expr_key l) (next (spot_key kinds.Plus (codes "+") spot) (next (expr_key r) end)))
+    expr_key (tree.Comparison l o position r) =
+        node 4 (next (expr_key l) (next (leaf (operator o)) (next (expr_key r) (next (position_key (operator_kind o) (operator_sign o) position) end))))
+    expr_key (tree.Concatenation l position r) = node 5 (next (expr_key l) (next (position_key kinds.Plus (codes "+") position) (next (expr_key r) end)))
     expr_key (tree.If c b) = node 6 (next (expr_key c) (next (expr_key b) (next absent_key end)))
     expr_key (tree.IfElse c b o) = node 6 (next (expr_key c) (next (expr_key b) (next (present_key (expr_key o)) end)))
     expr_key (tree.FormatLiteral l) = node 7 (next (literal_key (literals.Single l)) (next (row end) end))
     expr_key (tree.FormatString start e parts) = node 7 (next (literal_key (literals.Start start)) (next (row (parts_keys start (expr_key e) parts)) end))
     expr_key (tree.Group e) = node 8 (next (expr_key e) end)
-    expr_key (tree.Root spot r) = node 9 (next absent_key (next (spot_key kinds.Slash (codes "/") spot) (next (expr_key r) end)))
-    expr_key (tree.Join l spot r) = node 9 (next (present_key (expr_key l)) (next (spot_key kinds.Slash (codes "/") spot) (next (expr_key r) end)))
-    expr_key (tree.ListOf opener elements) = node 10 (next (row (exprs_keys elements)) (next (spot_key kinds.BracketL (codes "[") opener) end))
-    expr_key (tree.ListConcatenation l spot r) = node 11 (next (expr_key l) (next (spot_key kinds.PlusPlus (codes "++") spot) (next (expr_key r) end)))
+    expr_key (tree.Root position r) = node 9 (next absent_key (next (position_key kinds.Slash (codes "/") position) (next (expr_key r) end)))
+    expr_key (tree.Join l position r) = node 9 (next (present_key (expr_key l)) (next (position_key kinds.Slash (codes "/") position) (next (expr_key r) end)))
+    expr_key (tree.ListOf opener elements) = node 10 (next (row (exprs_keys elements)) (next (position_key kinds.BracketL (codes "[") opener) end))
+    expr_key (tree.ListConcatenation l position r) = node 11 (next (expr_key l) (next (position_key kinds.PlusPlus (codes "++") position) (next (expr_key r) end)))
     expr_key (tree.Not e) = node 12 (next (expr_key e) end)
     expr_key (tree.Or l r) = node 13 (next (expr_key l) (next (expr_key r) end))
     expr_key (tree.StringLiteral expanded l) = node 14 (next (literal_key (string_of expanded l)) end)
@@ -74,7 +74,7 @@ module _ {A B : Type 0} (sight : Sight A B) where
     exprs_keys tree.none = end
     exprs_keys (tree.more e others) = next (expr_key e) (exprs_keys others)
 
-    -- an expression of a format string, by its key, and the part after it, and so on
+    -- the keys of the parts of a format string: each is an expression and the literal part after it
     pub parts_keys : (start : A) → Key ContentLeaf → Parts A B → Keys ContentLeaf
     parts_keys start e (tree.Last part) = next (row (next e (next (literal_key (literals.End start part)) end))) end
     parts_keys start e (tree.Continue part f parts) =
@@ -83,17 +83,17 @@ module _ {A B : Type 0} (sight : Sight A B) where
   abbrev pub quoted_key : Quoted A → Key ContentLeaf
   quoted_key q = literal_key (string_of q.expanded q.token)
 
-  -- the literal that an option is named by, which is the argument's own where the key has no value
+  -- the key of an option's name, which is the argument's name if the key has no value
   abbrev pub option_name_key : (argument : Quoted A) → OptionName A B → Key ContentLeaf
   option_name_key argument tree.NoOption = absent_key
   option_name_key argument (tree.OwnName key) = present_key (quoted_key argument)
   option_name_key argument (tree.Named name) = present_key (quoted_key name)
 
-  -- a key of this name
+  -- the key of an attribute's key with this name
   abbrev pub word_key : List ℕ → B → Key ContentLeaf
-  word_key word key = spot_key kinds.Identifier word key
+  word_key word key = position_key kinds.Identifier word key
 
-  -- the key that has no value
+  -- the key of an attribute's key without a value
   abbrev pub own_name_key : (word : List ℕ) → OptionName A B → Key ContentLeaf
   own_name_key word (tree.OwnName key) = present_key (word_key word key)
   own_name_key word _ = absent_key
@@ -107,7 +107,7 @@ module _ {A B : Type 0} (sight : Sight A B) where
   abbrev pub bound_word_key : (word : List ℕ) → Option (Bound B) → Key ContentLeaf
   bound_word_key word = option_key (λ (b : Bound B). word_key word b.key)
 
-  -- the second field, the help that is worked out later, is always absent
+  -- The second field, the help text that is evaluated later, is always absent.
   abbrev pub rules_keys : ArgumentRules A B → Keys ContentLeaf
   rules_keys a =
       next (option_key (word_key (codes "flag")) a.flag) (next absent_key (next (option_key (property_key (codes "help")) a.help)
@@ -117,13 +117,13 @@ module _ {A B : Type 0} (sight : Sight A B) where
       (next (option_key (word_key (codes "multiple")) a.multiple) (next (quoted_key a.name) (next (option_key (property_key (codes "pattern")) a.pattern)
       (next (option_name_key a.name a.short) (next (own_name_key (codes "short") a.short) (next (option_key expr_key a.value) end))))))))))))))
 
-  -- literals as a list; those of `script` are a command and its arguments
+  -- the keys of literals; those of `script` are a command and its arguments
   abbrev pub texts_keys : AttributeKind → List (Quoted A) → Keys ContentLeaf
   texts_keys attributes.Script (command ∷ arguments) = next (present_key (row (next (quoted_key command) (next (row (keys_of quoted_key arguments)) end)))) end
   texts_keys attributes.Metadata texts = next (row (keys_of quoted_key texts)) end
   texts_keys _ texts = keys_of quoted_key texts
 
-  -- kinds whose one expression may be absent
+  -- the kinds with an optional expression
   abbrev pub is_optional : AttributeKind → Bool
   is_optional attributes.Confirm = true
   is_optional attributes.Doc = true
@@ -151,6 +151,6 @@ module _ {A B : Type 0} (sight : Sight A B) where
   abbrev pub attribute_key : Attribute A B → Key ContentLeaf
   attribute_key a = node (tag_of attribute_kinds.the_type (kind_of_attribute a)) (attribute_keys a)
 
-  -- how two attributes of an item compare by content; the places of their names are not looked at
+  -- the order of two attributes of an item by content, regardless of their positions
   abbrev pub entry_cmp : Entry A B → Entry A B → Ordering
   entry_cmp d e = key_cmp content_cmp (attribute_key d.attribute) (attribute_key e.attribute)

@@ -1,17 +1,17 @@
--- The leaves of keys that say what a value holds, wherever it stands: a token is its kind and its lexeme.
+-- The leaves of content keys, which compare values regardless of their positions: a token counts by its kind and lexeme.
 use Rattle.std.specs.Prelude.{ℕ, Bool, List, Option}
 use Rattle.std.specs.Option.{option_cmp}
 use Rattle.std.specs.Ordering.{ordering_then, bool_cmp, nat_cmp}
 use Rattle.std.specs.Cmp.Lexicographic.{slice_cmp}
 use Rattle.std.specs.declared.cmp.Ordering.{Ordering}
-use Rattle.justfile_word.specs.declared.format_string_part.FormatStringPart.{FormatStringPart}
-use Rattle.justfile_word.specs.declared.signal.Signal.{Signal}
-use Rattle.justfile_base.specs.declared.string_kind.StringKind.{StringKind}
-use Rattle.justfile_word.specs.declared.token_kind.TokenKind.{TokenKind}
-use Rattle.justfile_word.specs.contracts.format_string_part.FormatStringPartOrd.TheImpl as places
-use Rattle.justfile_word.specs.contracts.signal.SignalOrd.TheImpl as signals
-use Rattle.justfile_base.specs.contracts.string_kind.StringDelimiterOrd.TheImpl as delimiters
-use Rattle.justfile_word.specs.contracts.token_kind.TokenKindOrd.TheImpl as kinds
+use Rattle.justfile_vocabulary.specs.declared.format_string_part.FormatStringPart.{FormatStringPart}
+use Rattle.justfile_vocabulary.specs.declared.signal.Signal.{Signal}
+use Rattle.justfile_token.specs.declared.string_kind.StringKind.{StringKind}
+use Rattle.justfile_vocabulary.specs.declared.token_kind.TokenKind.{TokenKind}
+use Rattle.justfile_vocabulary.specs.contracts.format_string_part.FormatStringPartOrd.TheImpl as places
+use Rattle.justfile_vocabulary.specs.contracts.signal.SignalOrd.TheImpl as signals
+use Rattle.justfile_token.specs.contracts.string_kind.StringDelimiterOrd.TheImpl as delimiters
+use Rattle.justfile_vocabulary.specs.contracts.token_kind.TokenKindOrd.TheImpl as kinds
 use Rattle.justfile_model.specs.declared.conditional_operator.ConditionalOperator.{ConditionalOperator}
 use Rattle.justfile_model.specs.contracts.conditional_operator.ConditionalOperatorOrd.TheImpl as operators
 
@@ -26,7 +26,7 @@ pub record LiteralContent : Type 0 where
   pub part : Option FormatStringPart
   pub token : TokenContent
 
--- what a literal holds beside its token
+-- the fields of a literal other than its token
 pub record LiteralValue : Type 0 where
   pub cooked : List ℕ
   pub expand : Bool
@@ -36,18 +36,18 @@ pub record LiteralValue : Type 0 where
 abbrev pub literal_value : LiteralContent → LiteralValue
 literal_value l = record { cooked = l.cooked; expand = l.expand; kind = l.kind; part = l.part }
 
--- texts by their bytes
+-- texts are ordered by their bytes
 abbrev pub text_cmp : List ℕ → List ℕ → Ordering
 text_cmp xs ys = slice_cmp nat_cmp xs ys
 
--- tokens by their kinds as those are declared, and then by their lexemes, byte by byte
+-- tokens are ordered by kind, in declaration order, and then by lexeme
 abbrev pub token_content_cmp : TokenContent → TokenContent → Ordering
 token_content_cmp s t = ordering_then (kinds.cmp-value.it s.kind t.kind) (text_cmp s.lexeme t.lexeme)
 
 abbrev pub string_kind_cmp : StringKind → StringKind → Ordering
 string_kind_cmp k l = ordering_then (delimiters.cmp-value.it k.delimiter l.delimiter) (bool_cmp k.indented l.indented)
 
--- literals by all fields, in the order in which they are declared
+-- literals are ordered by their fields, in declaration order
 abbrev pub literal_content_cmp : LiteralContent → LiteralContent → Ordering
 literal_content_cmp k l =
     ordering_then (text_cmp k.cooked l.cooked)
@@ -63,10 +63,10 @@ pub data ContentLeaf : Type 0 where
   text : List ℕ → ContentLeaf
   count : ℕ → ContentLeaf
   signal : Signal → ContentLeaf
-  -- what is not looked at
+  -- a field that is ignored
   unseen : ContentLeaf
 
--- the place of its kind of leaf
+-- the number of the leaf's case
 abbrev pub leaf_place : ContentLeaf → ℕ
 leaf_place (token t) = 0
 leaf_place (literal l) = 1

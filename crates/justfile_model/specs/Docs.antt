@@ -1,11 +1,12 @@
--- Which comments are docs: the one before a recipe or a module, where nothing or a line end stands before it, and one line end after it.
+-- Doc comments: a comment directly before a recipe or a module, at the start of the file or after a line end, with a single line end after
+-- it.
 use Rattle.std.specs.Prelude.{ℕ, Bool, true, false, ◌&&◌, not, List, [], ◌∷◌, drop, Option, Some, None, codes, nat_eq, if◌then◌else◌}
 use Rattle.std.specs.List.{starts_with}
 use Rattle.std.specs.Option.{is_some}
 use Rattle.std.specs.Str.{trim}
 use Rattle.justfile_model.specs.Tree.{Content, Alias, Assignment, Function, Import, Module, Recipe, Setting, Unexport, Item, Comment, Construct, Newline}
 
--- what stands before an item
+-- what is before an item
 pub data Before : Type 0 where
   Nothing : Before
   LineEnd : Before
@@ -16,13 +17,13 @@ abbrev pub some_text : List ℕ → Option (List ℕ)
 some_text [] = None
 some_text (b ∷ bs) = Some (b ∷ bs)
 
--- the doc that a comment is: what follows `#` without the white space around it; `#!` at the start of a file begins none
+-- the doc text of a comment: the text after `#`, without surrounding white space; a `#!` line at the start of a file has none
 abbrev pub doc_in : Before → (comment : List ℕ) → Option (List ℕ)
 doc_in Nothing comment = if starts_with nat_eq comment (codes "#!") then None else some_text (trim (drop 1 comment))
 doc_in LineEnd comment = some_text (trim (drop 1 comment))
 doc_in Other comment = None
 
--- the doc of a construct, if it has one
+-- the doc of a construct
 abbrev pub doc_of : {A B C S : Type 0} → Content A B C S → Option (List ℕ)
 doc_of (Alias parts) = None
 doc_of (Assignment parts) = None
@@ -33,7 +34,7 @@ doc_of (Recipe parts) = parts.doc
 doc_of (Setting parts) = None
 doc_of (Unexport name) = None
 
--- the construct with another doc, or with none
+-- the construct with this doc instead of its own
 abbrev pub redocumented : {A B C S : Type 0} → Option (List ℕ) → Content A B C S → Content A B C S
 redocumented doc (Alias parts) = Alias parts
 redocumented doc (Assignment parts) = Assignment parts
@@ -44,7 +45,7 @@ redocumented doc (Recipe parts) = Recipe (record { doc = doc; header = parts.hea
 redocumented doc (Setting parts) = Setting parts
 redocumented doc (Unexport name) = Unexport name
 
--- a construct may have a doc
+-- constructs of this kind can have a doc
 abbrev pub takes_doc : {A B C S : Type 0} → Content A B C S → Bool
 takes_doc (Alias parts) = false
 takes_doc (Assignment parts) = false
@@ -60,32 +61,32 @@ module _ {A B C S D : Type 0} (has_doc : D → Bool) where
   after Newline = LineEnd
   after i = Other
 
-  -- no attribute says a doc, and there is none yet
+  -- The construct can get a doc from a comment: it can have one, has none yet, and none of its attributes sets one.
   abbrev pub wants_doc : D → Content A B C S → Bool
   wants_doc attributes content = takes_doc content && not (has_doc attributes) && not (is_some (doc_of content))
 
-  -- an item with this doc; none where it takes no doc
+  -- the item with this doc, if it can get one
   abbrev pub item_with_doc : List ℕ → Item A B C S D → Option (Item A B C S D)
   item_with_doc doc (Construct attributes content) =
       if wants_doc attributes content then Some (Construct attributes (redocumented (Some doc) content)) else None
   item_with_doc doc i = None
 
-  -- an item with its doc, or the comment as it stood before the item
+  -- the item with its doc, or the comment and the item if it can't get the doc
   abbrev pub doc_or_comment : (comment : List ℕ) → Item A B C S D → List (Item A B C S D) → Option (Item A B C S D) → List (Item A B C S D)
   doc_or_comment comment i items None = Comment comment ∷ Newline ∷ i ∷ items
   doc_or_comment comment i items (Some documented) = documented ∷ items
 
-  -- a comment and a line end before an item
+  -- a comment and a line end before an item, where the comment becomes the item's doc if possible
   abbrev pub comment_taken : (comment : List ℕ) → Item A B C S D → List (Item A B C S D) → Option (List ℕ) → List (Item A B C S D)
   comment_taken comment i items None = Comment comment ∷ Newline ∷ i ∷ items
   comment_taken comment i items (Some doc) = doc_or_comment comment i items (item_with_doc doc i)
 
-  -- an item before others whose docs are taken
+  -- an item before others, where it becomes the doc of the next item if possible
   abbrev pub taken : Before → Item A B C S D → List (Item A B C S D) → List (Item A B C S D)
   taken before (Comment comment) (Newline ∷ i ∷ items) = comment_taken comment i items (doc_in before comment)
   taken before i items = i ∷ items
 
-  -- items with their docs, in place of comments
+  -- the items, where doc comments have become docs
   abbrev pub documented : Before → List (Item A B C S D) → List (Item A B C S D)
   documented before [] = []
   documented before (i ∷ items) = taken before i (documented (after i) items)

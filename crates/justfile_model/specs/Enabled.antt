@@ -1,15 +1,15 @@
--- Which items are there on this system, which is Linux, and how a file says that it is indented.
+-- The items that are enabled on the current system, which is Linux, and the indentation that a file sets.
 use Rattle.std.specs.Prelude.{Bool, true, false, ◌||◌, not, List, [], ◌∷◌, Option, Some, None, if◌then◌else◌}
 use Rattle.std.specs.List.{list_any}
-use Rattle.justfile_word.specs.AttributeKind.{is_enabler_kind}
-use Rattle.justfile_word.specs.declared.attribute_kind.AttributeKind.TheVariants.{Linux, Unix}
-use Rattle.justfile_word.specs.declared.keyword.Keyword.{Keyword}
-use Rattle.justfile_word.specs.declared.keyword.Keyword.TheVariants as words
+use Rattle.justfile_vocabulary.specs.AttributeKind.{is_enabler_kind}
+use Rattle.justfile_vocabulary.specs.declared.attribute_kind.AttributeKind.TheVariants.{Linux, Unix}
+use Rattle.justfile_vocabulary.specs.declared.keyword.Keyword.{Keyword}
+use Rattle.justfile_vocabulary.specs.declared.keyword.Keyword.TheVariants as words
 use Rattle.justfile_model.specs.ContentKeys.{has_attribute, kind_of_attribute}
 use Rattle.justfile_model.specs.RecipeRules.{or_else}
 use Rattle.justfile_model.specs.Tree.{Content, Comment, Construct, Entry, Newline, OrderedItem, Setting, SettingValue, StringLiteral, Value}
 
--- no attribute names a system, or one names this one
+-- no attribute names a system, or one names the current system
 abbrev pub is_enabled : {A B : Type 0} → List (Entry A B) → Bool
 is_enabled entries = not (list_any (λ (e : Entry _ _). is_enabler_kind (kind_of_attribute e.attribute)) entries) || has_attribute Linux entries || has_attribute Unix entries
 
@@ -22,7 +22,7 @@ abbrev pub indentation_in : {A B C S : Type 0} → Content A B C S → Option A
 indentation_in (Setting parts) = indentation_literal parts.keyword parts.value
 indentation_in content = None
 
--- the literal by which a file is indented: that of the first of these settings that is there
+-- the literal that sets the indentation of a file: that of the first enabled setting `indentation`
 abbrev pub indentation_of : {A B C : Type 0} → List (OrderedItem A B C) → Option A
 indentation_of [] = None
 indentation_of (Newline ∷ items) = indentation_of items

@@ -1,9 +1,9 @@
--- Why a text with escapes is refused.
+-- Why escapes in a text are invalid.
 use Rattle.std.specs.Prelude.{ℕ, List, Option, Some, None, string_bytes}
-use Rattle.justfile_base.specs.declared.compile_error_kind.CompileErrorKind.{CompileErrorKind}
-use Rattle.justfile_base.specs.declared.compile_error_kind.CompileErrorKind.TheVariants as kinds
+use Rattle.justfile_token.specs.declared.compile_error_kind.CompileErrorKind.{CompileErrorKind}
+use Rattle.justfile_token.specs.declared.compile_error_kind.CompileErrorKind.TheVariants as kinds
 
--- the faults of escapes, with what their messages say; a character is its number
+-- the faults of escapes, with the data for their messages; a character is its code point
 pub data EscapeFault : Type 0 where
   InvalidEscapeSequence : (character : ℕ) → EscapeFault
   UnicodeEscapeCharacter : (character : ℕ) → EscapeFault
@@ -13,7 +13,7 @@ pub data EscapeFault : Type 0 where
   UnicodeEscapeRange : (hex : List ℕ) → EscapeFault
   UnicodeEscapeUnterminated : EscapeFault
 
--- the fault that an error's kind is, if it is one of escapes
+-- the fault of an error kind, if it is a fault of escapes
 abbrev pub escape_fault_of : CompileErrorKind → Option EscapeFault
 escape_fault_of (kinds.InvalidEscapeSequence character) = Some (InvalidEscapeSequence character)
 escape_fault_of (kinds.UnicodeEscapeCharacter character) = Some (UnicodeEscapeCharacter character)

@@ -1,37 +1,37 @@
--- What of an expression needs the setting for lists.
+-- The features of expressions and attributes that require the setting `lists`.
 use Rattle.std.specs.Prelude.{ℕ, Bool, true, false, List, [], ◌∷◌, ◌++◌, map, Option, Some, None, codes, if◌then◌else◌}
 use Rattle.std.specs.Option.{option_map}
 use Rattle.std.specs.Str.{bytes_eq}
-use Rattle.justfile_word.specs.declared.list_feature.ListFeature.{ListFeature}
-use Rattle.justfile_word.specs.declared.list_feature.ListFeature.TheVariants as features
+use Rattle.justfile_vocabulary.specs.declared.list_feature.ListFeature.{ListFeature}
+use Rattle.justfile_vocabulary.specs.declared.list_feature.ListFeature.TheVariants as features
 use Rattle.justfile_model.specs.Tree.{ArgumentRules, Bound, Comparison, Expr}
 
--- a feature, and what is kept of the token that it is noted at
+-- a feature, and the projection of the token at which it is noted
 abbrev pub Noted : Type 0 → Type 0
 Noted B = ListFeature × B
 
--- what is kept of the token replaced
+-- the feature with another projection of its token
 abbrev pub over_noted : {B D : Type 0} → (B → D) → Noted B → Noted D
 over_noted g n = (n.0, g n.1)
 
--- the features of a construct: those of its attributes, and those of what follows them
+-- the features of a construct: those of its attributes, and those of the rest
 pub record ConstructFeatures (B : Type 0) : Type 0 where
   pub attributes : List (Noted B)
   pub content : List (Noted B)
 
--- what is kept of their tokens replaced
+-- the features with another projection of their tokens
 abbrev pub over_features : {B D : Type 0} → (B → D) → ConstructFeatures B → ConstructFeatures D
 over_features g f = record { attributes = map (over_noted g) f.attributes; content = map (over_noted g) f.content }
 
 abbrev pub noted : {B : Type 0} → ListFeature → B → List (Noted B)
 noted feature at = (feature, at) ∷ []
 
--- the operator of a comparison, but for the one that a condition begins with
+-- a comparison, unless it is the first one in a condition
 abbrev pub compared : {B : Type 0} → (condition : Bool) → B → List (Noted B)
 compared true at = []
 compared false at = noted features.ComparisonOperator at
 
--- the feature that a function is
+-- the feature of calling the function with this name
 abbrev pub function_feature : (name : List ℕ) → Option ListFeature
 function_feature name =
     if bytes_eq name (codes "bool") then Some features.BoolFunction
@@ -46,29 +46,29 @@ abbrev pub noted_if : {B : Type 0} → Option ListFeature → B → List (Noted 
 noted_if None at = []
 noted_if (Some feature) at = noted feature at
 
--- a feature at a key that may be missing
+-- a feature at an optional key
 abbrev pub noted_at : {B : Type 0} → ListFeature → Option B → List (Noted B)
 noted_at feature None = []
 noted_at feature (Some at) = noted feature at
 
--- the key of a number that may be missing
+-- the position of the key of an optional bound
 abbrev pub bound_place : {B : Type 0} → Option (Bound B) → Option B
 bound_place bound = option_map (λ (b : Bound _). b.key) bound
 
--- the feature that a condition is, if it is no comparison
+-- the feature of a condition that isn't a comparison
 abbrev pub uncompared_feature : {A B : Type 0} → Expr A B → Option ListFeature
 uncompared_feature (Comparison l operator token r) = None
 uncompared_feature _ = Some features.NonComparisonCondition
 
--- a condition that is no comparison, noted at its first token
+-- a condition that isn't a comparison, noted at its first token
 abbrev pub uncompared : {A B : Type 0} → Expr A B → B → List (Noted B)
 uncompared e at = noted_if (uncompared_feature e) at
 
--- a call, noted at its name
+-- a call of a function, noted at its name
 abbrev pub called : {B : Type 0} → (name : List ℕ) → B → List (Noted B)
 called name at = noted_if (function_feature name) at
 
--- what `arg` says that only lists allow, each at its key
+-- the features of an `arg` attribute, each noted at its key
 abbrev pub rules_features : {A B : Type 0} → ArgumentRules A B → List (Noted B)
 rules_features a =
     noted_at features.Flag a.flag ++ noted_at features.Multiple a.multiple ++ noted_at features.ArgMax (bound_place a.max)

@@ -1,16 +1,16 @@
--- What a file derives.
+-- The derivation of files.
 use Rattle.std.specs.Prelude.{◌≡◌, ℕ, Bool, ◌+◌, ◌-◌, ◌^◌, ◌≤◌, List, [], ◌∷◌, ◌++◌, map, length, Option, Some, None}
 use Rattle.std.specs.List.{flat_map}
 use Rattle.std.specs.Option.{option_map}
-use Rattle.justfile_word.specs.declared.attribute_kind.AttributeKind.TheVariants.{Doc}
+use Rattle.justfile_vocabulary.specs.declared.attribute_kind.AttributeKind.TheVariants.{Doc}
 use Rattle.justfile_model.specs.SignificantTokens.{SignificantToken}
 use Rattle.justfile_model.specs.Tree.{Expr, Or, And, Comparison, Concatenation, ListConcatenation, Join, Root, If, IfElse, Not, StringLiteral, FormatLiteral, FormatString, Backtick, Assert, AssertMessage, Variable, Call, Group, ListOf, Exprs, none, more, Parts, Last, Continue, Fragment, Text, Interpolation, BodyLine, Line, Quoted, Argument, Positional, Bare, Keyed, WrittenAttribute, OptionName, NoOption, OwnName, Named, ArgumentRules, Attribute, Plain, Single, Texts, Env, Signals, Cache, Arg, Entry, Parameter, Dependency, Header, SettingValue, Truth, Value, Interpreter, Content, Alias, Assignment, Function, Import, Module, Recipe, Setting, Unexport, Item, Newline, Comment, Construct, WrittenItem, OrderedItem, WrittenTree, WrittenShape, Tree, Shape, starless, lexeme, nothing, itself, line_of}
 use Rattle.justfile_model.specs.Tok.{Tok}
 use Rattle.justfile_model.specs.Features.{ConstructFeatures, Noted, rules_features}
 use Rattle.justfile_model.specs.Docs.{Nothing, documented}
 use Rattle.justfile_model.specs.Conditions.{Conditions, VersionNumbers}
-use Rattle.justfile_model.specs.Expressions.{Free, Under}
-use Rattle.justfile_model.specs.Grammar.{File, Kept}
+use Rattle.justfile_model.specs.Expressions.{AnyDepth, BelowLimit}
+use Rattle.justfile_model.specs.Grammar.{File, TokenProjection}
 use Rattle.justfile_model.specs.Literals as literal
 use Rattle.justfile_model.specs.Literals.{Literal, over_literal, AreCookedTexts}
 use Rattle.justfile_model.specs.AttributeRules.{arg_rules, of_some}
@@ -18,10 +18,10 @@ use Rattle.justfile_model.specs.ConstructRules.{construct_broken}
 use Rattle.justfile_model.specs.ContentKeys.{has_attribute}
 use Rattle.justfile_model.specs.Meaning.{entries_of}
 use Rattle.justfile_model.specs.Rules.{Broken}
-use Rattle.justfile_model.specs.Sight.{Sight, sees_lexemes, sees_tokens}
+use Rattle.justfile_model.specs.LeafView.{LeafView, views_lexemes, views_tokens}
 
 abbrev mutual
-  -- the literals of an expression, in order
+  -- the literals of an expression, in source order
   pub expr_literals : {A B : Type 0} → Expr A B → List (Literal A)
   expr_literals (Or l r) = expr_literals l ++ expr_literals r
   expr_literals (And l r) = expr_literals l ++ expr_literals r
@@ -48,7 +48,7 @@ abbrev mutual
   exprs_literals none = []
   exprs_literals (more e others) = expr_literals e ++ exprs_literals others
 
-  -- the literals after an expression of a format string that begins with `start`
+  -- the literals of a format string after one of its expressions, where `start` is the string's first part
   pub parts_literals : {A B : Type 0} → (start : A) → Parts A B → List (Literal A)
   parts_literals start (Last token) = literal.End start token ∷ []
   parts_literals start (Continue token e parts) = literal.Continue start token ∷ expr_literals e ++ parts_literals start parts
@@ -62,7 +62,7 @@ abbrev pub body_literals : {A B C : Type 0} → List (BodyLine A B C) → List (
 body_literals [] = []
 body_literals (Line number fragments ∷ lines) = fragments_literals fragments ++ body_literals lines
 
--- the literals of a part that may be missing
+-- the literals of an optional part
 abbrev pub optional_literals : {X A : Type 0} → (X → List (Literal A)) → Option X → List (Literal A)
 optional_literals f None = []
 optional_literals f (Some x) = f x
@@ -72,20 +72,20 @@ argument_literals (Positional first value) = expr_literals value
 argument_literals (Bare key) = []
 argument_literals (Keyed key value) = expr_literals value
 
--- the literals of attributes as they are written
+-- the literals of written attributes
 abbrev pub written_literals : {A B : Type 0} → List (WrittenAttribute A B) → List (Literal A)
 written_literals ws = flat_map (λ w. flat_map argument_literals w.arguments) ws
 
 abbrev pub quoted_literals : {A : Type 0} → Quoted A → List (Literal A)
 quoted_literals q = literal.string_of q.expanded q.token ∷ []
 
--- the literal that names an option; a key without a value has none of its own
+-- the literal that names an option; a key without a value has none
 abbrev pub option_literals : {A B : Type 0} → OptionName A B → List (Literal A)
 option_literals NoOption = []
 option_literals (OwnName key) = []
 option_literals (Named name) = quoted_literals name
 
--- in the order of printing
+-- the literals of an `arg` attribute, in printed order
 abbrev pub rules_literals : {A B : Type 0} → ArgumentRules A B → List (Literal A)
 rules_literals a =
     quoted_literals a.name ++ option_literals a.long ++ option_literals a.short ++ optional_literals (λ p. expr_literals p.value) a.pattern
@@ -101,7 +101,7 @@ attribute_literals (Cache extra inputs outputs) =
     optional_literals expr_literals extra ++ optional_literals expr_literals inputs ++ optional_literals expr_literals outputs
 attribute_literals (Arg rules) = rules_literals rules
 
--- the literals that stand in attributes by what they mean; those that became a number or a signal do not
+-- the literals in the meaning of attributes, which doesn't contain those that were converted to numbers or signals
 abbrev pub entries_literals : {A B : Type 0} → List (Entry A B) → List (Literal A)
 entries_literals entries = flat_map (λ e. attribute_literals e.attribute) entries
 
@@ -129,7 +129,7 @@ content_literals (Recipe parts) = header_literals parts.header ++ body_literals 
 content_literals (Setting parts) = setting_literals parts.value
 content_literals (Unexport name) = []
 
--- the literals of items, where `literals_of` gives those of attributes
+-- the literals of items, where `literals_of` gives those of their attributes
 module _ {A B C S D : Type 0} (literals_of : D → List (Literal A)) where
   abbrev pub item_literals : Item A B C S D → List (Literal A)
   item_literals Newline = []
@@ -140,15 +140,15 @@ module _ {A B C S D : Type 0} (literals_of : D → List (Literal A)) where
   items_literals [] = []
   items_literals (i ∷ items) = item_literals i ++ items_literals items
 
--- the literals of a written tree, in the order of reading
+-- the literals of a written tree, in source order
 abbrev pub all_literals : {A B C S : Type 0} → List (WrittenItem A B C S) → List (Literal A)
 all_literals = items_literals written_literals
 
--- the literals that stand in a tree, in its order
+-- the literals of a tree, in its order
 abbrev pub literals : {A B C : Type 0} → List (OrderedItem A B C) → List (Literal A)
 literals = items_literals entries_literals
 
--- how many numbers of bindings a construct takes
+-- the number of bindings of a construct
 abbrev pub content_bindings : {A B C S : Type 0} → Content A B C S → ℕ
 content_bindings (Alias parts) = 0
 content_bindings (Assignment parts) = 1
@@ -168,7 +168,7 @@ abbrev pub bindings : {A B C S D : Type 0} → List (Item A B C S D) → ℕ
 bindings [] = 0
 bindings (i ∷ items) = item_bindings i + bindings items
 
--- how many numbers of recipes a construct takes
+-- the number of recipes of a construct
 abbrev pub content_recipes : {A B C S : Type 0} → Content A B C S → ℕ
 content_recipes (Alias parts) = 0
 content_recipes (Assignment parts) = 0
@@ -188,32 +188,32 @@ abbrev pub recipes : {A B C S D : Type 0} → List (Item A B C S D) → ℕ
 recipes [] = 0
 recipes (i ∷ items) = item_recipes i + recipes items
 
--- numbers that count up from the first
+-- The numbers are consecutive, beginning with the first.
 abbrev pub NumbersFrom : ℕ → List ℕ → Type 0
 NumbersFrom first [] = Unit {0}
 NumbersFrom first (n ∷ ns) = (n ≡ first) × NumbersFrom (first + 1) ns
 
--- the numbers suffice, where the counters of bindings and of recipes stand there
+-- The counters of bindings and recipes, at these values, have enough numbers left for the items.
 pub record NumbersSuffice {A B C S D : Type 0} (binding recipe : ℕ) (items : List (Item A B C S D)) : Type 0 where
   pub bindings_suffice : binding + bindings items ≤ 2 ^ 32 - 1
   pub recipes_suffice : recipe + recipes items ≤ 2 ^ 32 - 1
 
--- an item with what its attributes mean
+-- the construct with these attributes, if they have a meaning
 abbrev pub with_entries : {A B C S : Type 0} → Content A B C S → Option (List (Entry A B)) → Option (OrderedItem A B C)
 with_entries content None = None
 with_entries content (Some entries) = Some (Construct entries (starless content))
 
--- an item before others, if it is there and they are
+-- the item followed by the others, if both exist
 abbrev pub if_both : {X : Type 0} → Option X → Option (List X) → Option (List X)
 if_both None others = None
 if_both (Some x) None = None
 if_both (Some x) (Some xs) = Some (x ∷ xs)
 
--- an attribute says the doc
+-- an attribute sets the doc
 abbrev pub says_doc : {A B : Type 0} → List (Entry A B) → Bool
 says_doc entries = has_attribute Doc entries
 
--- what a construct's attributes note at the name of a recipe
+-- the features of a construct's attributes that are noted at a recipe's name
 abbrev pub entries_features : {A B C S : Type 0} → Content A B C S → List (Entry A B) → List (Noted B)
 entries_features (Alias parts) entries = []
 entries_features (Assignment parts) entries = []
@@ -224,12 +224,12 @@ entries_features (Recipe parts) entries = flat_map rules_features (arg_rules ent
 entries_features (Setting parts) entries = []
 entries_features (Unexport name) entries = []
 
-module _ {A B C S : Type 0} (sight : Sight A B) where
+module _ {A B C S : Type 0} (view : LeafView A B) where
   -- the features of a construct, in the order in which they are noted
   abbrev pub construct_features : List (WrittenAttribute A B) → Content A B C S → ConstructFeatures B → List (Noted B)
-  construct_features ws content f = f.attributes ++ of_some (entries_features content) (entries_of sight ws) ++ f.content
+  construct_features ws content f = f.attributes ++ of_some (entries_features content) (entries_of view ws) ++ f.content
 
-  -- the features of a file, by those of its constructs
+  -- the features of a file, from those of its constructs
   abbrev pub all_features : List (WrittenItem A B C S) → List (ConstructFeatures B) → List (Noted B)
   all_features [] fs = []
   all_features (Newline ∷ items) fs = all_features items fs
@@ -240,62 +240,62 @@ module _ {A B C S : Type 0} (sight : Sight A B) where
   abbrev pub ordered_item : WrittenItem A B C S → Option (OrderedItem A B C)
   ordered_item Newline = Some Newline
   ordered_item (Comment text) = Some (Comment text)
-  ordered_item (Construct ws content) = with_entries content (entries_of sight ws)
+  ordered_item (Construct ws content) = with_entries content (entries_of view ws)
 
-  -- a written tree with what its attributes mean, whose docs are comments still
+  -- a written tree with the meaning of its attributes, before doc comments have become docs
   abbrev pub undocumented : List (WrittenItem A B C S) → Option (List (OrderedItem A B C))
   undocumented [] = Some []
   undocumented (i ∷ items) = if_both (ordered_item i) (undocumented items)
 
-  -- a written tree with what its attributes mean, and with its docs
+  -- a written tree with the meaning of its attributes and with its docs
   abbrev pub ordered : List (WrittenItem A B C S) → Option (List (OrderedItem A B C))
   ordered items = option_map (documented says_doc Nothing) (undocumented items)
 
--- where this is the running version
-module _ {A B C : Type 0} (current : VersionNumbers) (sight : Sight A B) where
+-- `current` is the current version
+module _ {A B C : Type 0} (current : VersionNumbers) (view : LeafView A B) where
   abbrev pub item_broken : WrittenItem A B C B → List (Broken B)
   item_broken Newline = []
   item_broken (Comment text) = []
-  item_broken (Construct ws content) = construct_broken current sight ws content
+  item_broken (Construct ws content) = construct_broken current view ws content
 
-  -- all rules that written items break, each at what is kept of its token
+  -- all rules that written items break
   abbrev pub broken : List (WrittenItem A B C B) → List (Broken B)
   broken items = flat_map item_broken items
 
--- a written tree keeps tokens, and the lines on which bodies' lines begin
-abbrev pub keeps_tokens : Kept Tok Tok ℕ Tok
-keeps_tokens = record { leaf = itself; spot = itself; number = line_of; star = itself }
+-- a written tree keeps tokens at its leaves, and line numbers for the lines of bodies
+abbrev pub to_tokens : TokenProjection Tok Tok ℕ Tok
+to_tokens = record { leaf = itself; position = itself; number = line_of; star = itself }
 
--- a written shape keeps lexemes
-abbrev pub keeps_lexemes : Kept (List ℕ) (Unit {0}) (Unit {0}) (Unit {0})
-keeps_lexemes = record { leaf = lexeme; spot = nothing; number = nothing; star = nothing }
+-- a written shape keeps lexemes only
+abbrev pub to_lexemes : TokenProjection (List ℕ) (Unit {0}) (Unit {0}) (Unit {0})
+to_lexemes = record { leaf = lexeme; position = nothing; number = nothing; star = nothing }
 
--- the grammar alone: no limit of depth, any text in a literal, and no other rule
+-- The grammar alone: no depth limit, arbitrary texts in literals, and no other rules.
 abbrev pub FileTree : List SignificantToken → WrittenTree → List (ConstructFeatures Tok) → Type 0
-FileTree tokens written features = File keeps_tokens Free written features tokens
+FileTree tokens written features = File to_tokens AnyDepth written features tokens
 
--- a written tree under the conditions: its literals have texts, and no rule is broken
+-- The written tree obeys the conditions: its literals have texts, and it breaks no rule.
 pub record Obeys (conditions : Conditions) (written : WrittenTree) : Type 0 where
   pub cooked : List (List ℕ)
   pub cooks : AreCookedTexts conditions.expander (map (over_literal lexeme) (all_literals written)) cooked
-  pub unbroken : broken conditions.current (sees_tokens conditions.expander) written ≡ []
+  pub unbroken : broken conditions.current (views_tokens conditions.expander) written ≡ []
 
--- the tree of a file's tokens, and its features
+-- The tokens of a file derive the tree with these features.
 pub record FileDerives (conditions : Conditions) (tokens : List SignificantToken) (tree : Tree) (features : List (Noted Tok)) : Type 0 where
   pub written : WrittenTree
   pub by_construct : List (ConstructFeatures Tok)
-  pub derives : File keeps_tokens (Under conditions.limit) written by_construct tokens
-  pub features_are : features ≡ all_features (sees_tokens conditions.expander) written by_construct
+  pub derives : File to_tokens (BelowLimit conditions.limit) written by_construct tokens
+  pub features_are : features ≡ all_features (views_tokens conditions.expander) written by_construct
   pub obeys : Obeys conditions written
-  pub ordered_is : ordered (sees_tokens conditions.expander) written ≡ Some tree
+  pub ordered_is : ordered (views_tokens conditions.expander) written ≡ Some tree
 
--- a shape of a file's tokens, and its features
+-- The tokens of a file derive the shape with these features.
 pub record ShapeDerives (conditions : Conditions) (tokens : List SignificantToken) (shape : Shape) (features : List (Noted (Unit {0}))) : Type 0 where
   pub written : WrittenShape
   pub by_construct : List (ConstructFeatures (Unit {0}))
-  pub derives : File keeps_lexemes (Under conditions.limit) written by_construct tokens
-  pub features_are : features ≡ all_features (sees_lexemes conditions.expander) written by_construct
+  pub derives : File to_lexemes (BelowLimit conditions.limit) written by_construct tokens
+  pub features_are : features ≡ all_features (views_lexemes conditions.expander) written by_construct
   pub cooked : List (List ℕ)
   pub cooks : AreCookedTexts conditions.expander (all_literals written) cooked
-  pub unbroken : broken conditions.current (sees_lexemes conditions.expander) written ≡ []
-  pub ordered_is : ordered (sees_lexemes conditions.expander) written ≡ Some shape
+  pub unbroken : broken conditions.current (views_lexemes conditions.expander) written ≡ []
+  pub ordered_is : ordered (views_lexemes conditions.expander) written ≡ Some shape

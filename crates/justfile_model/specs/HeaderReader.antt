@@ -1,30 +1,30 @@
--- Reading the headers of recipes from left to right, up to the first refusal, and the numbers that their parameters get.
+-- Parses the headers of recipes from left to right, up to the first error, and numbers their parameters.
 use Rattle.std.specs.Prelude.{ℕ, ◌+◌, Bool, true, false, ◌||◌, List, [], ◌∷◌, ◌++◌, length, map, Option, Some, None, Ok, Err, if◌then◌else◌}
 use Rattle.std.specs.List.{flat_map}
 use Rattle.std.specs.Option.{option_map}
 use Rattle.justfile_model.specs.declared.parameter_kind.ParameterKind.{ParameterKind}
 use Rattle.justfile_model.specs.declared.parameter_kind.ParameterKind.TheVariants.{Plus, Singular, Star}
-use Rattle.justfile_word.specs.declared.token_kind.TokenKind.TheVariants as kinds
+use Rattle.justfile_vocabulary.specs.declared.token_kind.TokenKind.TheVariants as kinds
 use Rattle.justfile_model.specs.declared.level.Level.TheVariants.{Expression}
 use Rattle.justfile_model.specs.AttributeRules.{arg_rules}
 use Rattle.justfile_model.specs.ExpressionReader as expressions
 use Rattle.justfile_model.specs.Features.{rules_features}
-use Rattle.justfile_model.specs.Reading.{◌>>=◌, AfterVariadic, BreaksRule, Counters, Leaves, NoNumber, Read, State, Unexpected, accept, accepted, choose, expect, next_are, prepend, refused, with}
+use Rattle.justfile_model.specs.ReaderState.{◌>>=◌, AfterVariadic, BreaksRule, Counters, Leaves, NoNumber, Read, State, Unexpected, accept, accepted, choose, expect, next_are, prepend, refused, with}
 use Rattle.justfile_model.specs.RecipeRules.{misplaced_broken, options_broken, parameter_broken, rules_for, second_broken, stars, undefined_broken}
 use Rattle.justfile_model.specs.Recursive.{recursive}
 use Rattle.justfile_model.specs.Rules.{Broken}
-use Rattle.justfile_model.specs.Sight.{Sight}
+use Rattle.justfile_model.specs.LeafView.{LeafView}
 use Rattle.justfile_model.specs.Tree.{ArgumentRules, Dependency, DependencyArgument, Expr, Parameter, over_dependency_argument}
 
 abbrev pub with_bindings : ℕ → Counters → Counters
 with_bindings bindings n = record { bindings = bindings; constants = n.constants; recipes = n.recipes }
 
--- the first of the rules that are broken is refused
+-- The first of these broken rules, if there is one, is the error.
 abbrev pub obeying : {R T B : Type 0} → List (Broken B) → State R T B → Read R T B (Unit {0})
 obeying [] s = Ok (tt, s)
 obeying (b ∷ bs) s = Err (BreaksRule b)
 
--- the header of a recipe without its `@`, and the token of its name
+-- the header of a recipe without its `@`, with the token of its name
 pub record ReadHeader (T A B S : Type 0) : Type 0 where
   pub name : T
   pub parameters : List (Parameter A B)
@@ -35,9 +35,9 @@ module _ {R T A B S : Type 0} (leaves : Leaves R T A B S) where
   abbrev pub expression : State R T B → Read R T B (Expr A B)
   expression s = expressions.read leaves (expressions.At Expression false s)
 
-  -- the next number of a binding
-  unfoldable pub draw_binding : Counters → State R T B → Read R T B (ℕ × Counters)
-  draw_binding n s = if leaves.has_number n.bindings then Ok ((n.bindings, with_bindings (n.bindings + 1) n), s) else Err (NoNumber n)
+  -- the number of the next binding
+  unfoldable pub next_binding_number : Counters → State R T B → Read R T B (ℕ × Counters)
+  next_binding_number n s = if leaves.has_number n.bindings then Ok ((n.bindings, with_bindings (n.bindings + 1) n), s) else Err (NoNumber n)
 
   -- ---- paths
 
@@ -50,7 +50,7 @@ module _ {R T A B S : Type 0} (leaves : Leaves R T A B S) where
         name ← expect leaves kinds.Identifier colons.1
         prepend (leaves.name name.0 ∷ []) (read name.1))
 
-  -- the names of a path after its first one
+  -- the names of a path after the first one
   unfoldable pub path_rest : State R T B → Read R T B (List A)
   path_rest = recursive (λ s. length s.left) no_names path_rest_rule
 
@@ -66,18 +66,18 @@ module _ {R T A B S : Type 0} (leaves : Leaves R T A B S) where
     e ← expression s
     Ok (record { star = None; value = e.0 }, e.1)
 
-  -- an argument after its star, and after others: a second star is refused
+  -- an argument after its star; a second star among the arguments of a dependency is an error
   unfoldable pub starred_argument : (before : List (DependencyArgument A B T)) (star : T) → State R T B → Read R T B (DependencyArgument A B T)
   starred_argument before star s = do
-    checked ← obeying (second_broken (map leaves.spot (stars before ++ star ∷ []))) s
+    checked ← obeying (second_broken (map leaves.position (stars before ++ star ∷ []))) s
     e ← expressions.value leaves checked.1
     Ok (record { star = Some star; value = e.0 }, e.1)
 
-  -- an argument of a dependency, after others
+  -- an argument of a dependency, after the earlier ones
   unfoldable pub dependency_argument : (before : List (DependencyArgument A B T)) → State R T B → Read R T B (DependencyArgument A B T)
   dependency_argument before s = choose (accept leaves kinds.Asterisk s) (plain_argument s) (λ star. starred_argument before star.0 star.1)
 
-  -- the arguments that were read, and where reading stands
+  -- the arguments so far, and the state after them
   abbrev pub DependencyPlace : Type 0
   DependencyPlace = List (DependencyArgument A B T) × State R T B
 
@@ -92,22 +92,22 @@ module _ {R T A B S : Type 0} (leaves : Leaves R T A B S) where
         read (x.0 ++ a.0 ∷ [], a.1))
       (λ closer. Ok (x.0, closer.1))
 
-  -- arguments after those that were read, up to the closing parenthesis and with it
+  -- the arguments after those so far, up to and including the closing parenthesis
   unfoldable pub dependency_arguments : DependencyPlace → Read R T B (List (DependencyArgument A B T))
   dependency_arguments = recursive (λ x. length x.1.left) no_dependency_arguments dependency_arguments_rule
 
-  -- what is kept of a dependency, with a star before it or without
+  -- the dependency with these names and arguments, and with the projections of its stars
   abbrev pub dependency_of : Option T → List A → List (DependencyArgument A B T) → Dependency A B S
   dependency_of star names arguments =
       record { star = option_map leaves.star star; path = names; arguments = map (over_dependency_argument (λ x. x) (λ x. x) leaves.star) arguments }
 
-  -- a path and arguments in parentheses, after a star or not
+  -- a path and arguments in parentheses, after an optional star
   unfoldable pub parenthesized : (star : Option T) → State R T B → Read R T B (Dependency A B S)
   parenthesized star s = do
     opener ← expect leaves kinds.ParenL s
     names ← path opener.1
     arguments ← dependency_arguments ([], names.1)
-    checked ← obeying (misplaced_broken (option_map leaves.spot star) (map leaves.spot (stars arguments.0))) arguments.1
+    checked ← obeying (misplaced_broken (option_map leaves.position star) (map leaves.position (stars arguments.0))) arguments.1
     Ok (dependency_of star names.0 arguments.0, checked.1)
 
   unfoldable pub bare_dependency : State R T B → Read R T B (Dependency A B S)
@@ -120,7 +120,7 @@ module _ {R T A B S : Type 0} (leaves : Leaves R T A B S) where
       if next_are leaves (kinds.Identifier ∷ []) s then bare_dependency s
       else choose (accept leaves kinds.Asterisk s) (parenthesized None s) (λ star. parenthesized (Some star.0) star.1)
 
-  -- a dependency begins with the next token
+  -- the next token begins a dependency
   abbrev pub begins_dependency : State R T B → Bool
   begins_dependency s = next_are leaves (kinds.Identifier ∷ []) s || next_are leaves (kinds.Asterisk ∷ []) s || next_are leaves (kinds.ParenL ∷ []) s
 
@@ -134,7 +134,7 @@ module _ {R T A B S : Type 0} (leaves : Leaves R T A B S) where
         prepend (d.0 ∷ []) (read d.1))
       else Ok ([], s)
 
-  -- dependencies up to what begins none
+  -- dependencies, as long as the next token begins one
   unfoldable pub dependencies : State R T B → Read R T B (List (Dependency A B S))
   dependencies = recursive (λ s. length s.left) no_dependencies dependencies_rule
 
@@ -142,13 +142,13 @@ module _ {R T A B S : Type 0} (leaves : Leaves R T A B S) where
   some_dependency ([], s) = Err (refused Unexpected s)
   some_dependency (d ∷ ds, s) = Ok (d ∷ ds, s)
 
-  -- the dependencies after `&&`, one at least, if it comes next
+  -- the dependencies after `&&`, at least one, if `&&` is next
   unfoldable pub subsequents : State R T B → Read R T B (List (Dependency A B S))
   subsequents s = choose (accept leaves kinds.AmpersandAmpersand s) (Ok ([], s)) (λ operator. dependencies operator.1 >>= some_dependency)
 
   -- ---- parameters
 
-  -- the value that a parameter has by default, if `=` comes next
+  -- the default value of a parameter, if `=` is next
   unfoldable pub default_value : State R T B → Read R T B (Option (Expr A B))
   default_value s =
       choose (accept leaves kinds.Equals s) (Ok (None, s)) (λ equals. do
@@ -162,33 +162,33 @@ module _ {R T A B S : Type 0} (leaves : Leaves R T A B S) where
   abbrev pub begins_parameter : State R T B → Bool
   begins_parameter s = next_are leaves (kinds.Identifier ∷ []) s || next_are leaves (kinds.Dollar ∷ []) s
 
-  -- no name follows a parameter that takes several arguments
+  -- A name after a variadic parameter is an error.
   unfoldable pub nothing_after : State R T B → Read R T B (Unit {0})
-  nothing_after s = choose (accept leaves kinds.Identifier s) (Ok (tt, s)) (λ name. Err (AfterVariadic (leaves.spot name.0)))
+  nothing_after s = choose (accept leaves kinds.Identifier s) (Ok (tt, s)) (λ name. Err (AfterVariadic (leaves.position name.0)))
 
-  module _ (sight : R → Sight A B) (rules : List (ArgumentRules A B)) where
-    -- the parameters that were read, and where reading stands
+  module _ (view : R → LeafView A B) (rules : List (ArgumentRules A B)) where
+    -- the parameters so far, and the counters
     abbrev pub Parameters : Type 0
     Parameters = List (Parameter A B) × Counters
 
     abbrev pub ParameterPlace : Type 0
     ParameterPlace = Parameters × State R T B
 
-    -- a parameter with its number, after others
+    -- the parameters with a new one that has this number
     abbrev pub numbered : ParameterKind → (export : Bool) → (before : List (Parameter A B)) → T → Option (Expr A B) → (ℕ × Counters) × State R T B → Read R T B Parameters
     numbered kind export before name default x =
-        Ok ((before ++ parameter_of kind export (leaves.parameter x.1.run name (rules_for (sight x.1.run) rules before (leaves.name name)) x.0.0) default ∷ [], x.0.1), x.1)
+        Ok ((before ++ parameter_of kind export (leaves.parameter x.1.run name (rules_for (view x.1.run) rules before (leaves.name name)) x.0.0) default ∷ [], x.0.1), x.1)
 
-    -- a parameter after `$`, or where none stands, and after others
+    -- a parameter after its optional `$`, added to those before it
     unfoldable pub named_parameter : ParameterKind → (export : Bool) → Parameters → State R T B → Read R T B Parameters
     named_parameter kind export x s = do
       name ← expect leaves kinds.Identifier s
       default ← default_value name.1
-      checked ← obeying (parameter_broken (sight default.1.run) rules x.0 (parameter_of kind export (leaves.name name.0) default.0)) default.1
-      number ← draw_binding x.1 checked.1
+      checked ← obeying (parameter_broken (view default.1.run) rules x.0 (parameter_of kind export (leaves.name name.0) default.0)) default.1
+      number ← next_binding_number x.1 checked.1
       numbered kind export x.0 name.0 default.0 number
 
-    -- the parameters with one more
+    -- a parameter, added to those before it
     unfoldable pub parameter : ParameterKind → ParameterPlace → Read R T B Parameters
     parameter kind x = named_parameter kind (accepted leaves kinds.Dollar x.1).0 x.0 (accepted leaves kinds.Dollar x.1).1
 
@@ -202,18 +202,18 @@ module _ {R T A B S : Type 0} (leaves : Leaves R T A B S) where
           read p)
         else Ok x
 
-    -- parameters that take one argument, after those that were read
+    -- the parameters that take one argument, added to those before them
     unfoldable pub singulars : ParameterPlace → Read R T B Parameters
     singulars = recursive (λ x. length x.1.left) no_parameters singulars_rule
 
-    -- the last parameter, which takes several arguments
+    -- the last parameter, which is variadic
     unfoldable pub variadic : ParameterKind → ParameterPlace → Read R T B Parameters
     variadic kind x = do
       p ← parameter kind x
       end ← nothing_after p.1
       Ok (p.0, end.1)
 
-    -- the last parameter, if it takes several arguments
+    -- the last parameter, if it is variadic
     unfoldable pub last_parameter : ParameterPlace → Read R T B Parameters
     last_parameter x =
         choose (accept leaves kinds.Plus x.1)
@@ -228,9 +228,9 @@ module _ {R T A B S : Type 0} (leaves : Leaves R T A B S) where
       colon ← expect leaves kinds.Colon all.1
       Ok (all.0, colon.1)
 
-    -- what is noted at the name of a recipe, whose options are called differently
+    -- at the name of a recipe: notes the features of its `arg` attributes, and checks that its options have different names
     unfoldable pub distinct_options : (name : T) → State R T B → Read R T B (Unit {0})
-    distinct_options name s = obeying (options_broken (sight s.run) (leaves.spot name) rules) (with (flat_map rules_features rules) s)
+    distinct_options name s = obeying (options_broken (view s.run) (leaves.position name) rules) (with (flat_map rules_features rules) s)
 
     abbrev pub header_of : (name : T) → List (Parameter A B) → List (Dependency A B S) → List (Dependency A B S) → ReadHeader T A B S
     header_of name parameters priors subsequents = record { name = name; parameters = parameters; priors = priors; subsequents = subsequents }
@@ -241,7 +241,7 @@ module _ {R T A B S : Type 0} (leaves : Leaves R T A B S) where
       name ← expect leaves kinds.Identifier s
       options ← distinct_options name.0 name.1
       ps ← parameters n options.1
-      checked ← obeying (undefined_broken (sight ps.1.run) ps.0.0 rules) ps.1
+      checked ← obeying (undefined_broken (view ps.1.run) ps.0.0 rules) ps.1
       priors ← dependencies checked.1
       others ← subsequents priors.1
       Ok ((header_of name.0 ps.0.0 priors.0 others.0, ps.0.1), others.1)

@@ -1,15 +1,15 @@
--- The grammar of the headers of recipes, as `Grammar` has that of items: which significant tokens are which header.
+-- The grammar of recipe headers: which significant tokens are which header. `Grammar` is the same for items.
 use Rattle.std.specs.Prelude.{ℕ, Bool, true, false, List, [], ◌∷◌, ◌++◌, Option, Some, None}
 use Rattle.justfile_model.specs.declared.parameter_kind.ParameterKind.{ParameterKind}
 use Rattle.justfile_model.specs.declared.parameter_kind.ParameterKind.TheVariants.{Plus, Singular, Star}
-use Rattle.justfile_word.specs.declared.token_kind.TokenKind.TheVariants as kinds
+use Rattle.justfile_vocabulary.specs.declared.token_kind.TokenKind.TheVariants as kinds
 use Rattle.justfile_model.specs.Expressions.{Tokens, IsKind, NotNext, Expression, Value}
 use Rattle.justfile_model.specs.Features.{Noted}
 use Rattle.justfile_model.specs.SignificantTokens.{SignificantToken}
 use Rattle.justfile_model.specs.Tok.{Tok}
 use Rattle.justfile_model.specs.Tree.{Dependency, DependencyArgument, Expr, Header, Parameter}
 
--- the names of a path after its first one
+-- the names of a path after the first one
 module _ {A : Type 0} (leaf : Tok → A) where
   pub data PathRest : List A → Tokens → Tokens → Type 0 where
     last : {rest : Tokens} → NotNext kinds.ColonColon rest
@@ -18,21 +18,21 @@ module _ {A : Type 0} (leaf : Tok → A) where
         → PathRest names tokens rest
         → PathRest (leaf name.tok ∷ names) (colons ∷ name ∷ tokens) rest
 
-  -- names with two colons between each two
+  -- names separated by two colons
   pub data PathOf : List A → Tokens → Tokens → Type 0 where
     path : {names : List A} {name : SignificantToken} {tokens rest : Tokens} → IsKind kinds.Identifier name → PathRest names tokens rest
         → PathOf (leaf name.tok ∷ names) (name ∷ tokens) rest
 
-module _ {A B : Type 0} (leaf : Tok → A) (spot : Tok → B) (Open : ℕ → Option SignificantToken → Type 0) where
-  -- a name, with `=` and the value that it has by default, or without
+module _ {A B : Type 0} (leaf : Tok → A) (position : Tok → B) (MayEnter : ℕ → Option SignificantToken → Type 0) where
+  -- a name with an optional default value
   pub data NamedParameter : ParameterKind → (export : Bool) → Parameter A B → List (Noted B) → Tokens → Tokens → Type 0 where
     required : {kind : ParameterKind} {export : Bool} {name : SignificantToken} {rest : Tokens} → IsKind kinds.Identifier name → NotNext kinds.Equals rest
         → NamedParameter kind export (record { kind = kind; export = export; name = leaf name.tok; default = None }) [] (name ∷ rest) rest
     optional : {kind : ParameterKind} {export : Bool} {e : Expr A B} {fs : List (Noted B)} {name equals : SignificantToken} {tokens rest : Tokens}
-        → IsKind kinds.Identifier name → IsKind kinds.Equals equals → Value leaf spot Open 0 e fs tokens rest
+        → IsKind kinds.Identifier name → IsKind kinds.Equals equals → Value leaf position MayEnter 0 e fs tokens rest
         → NamedParameter kind export (record { kind = kind; export = export; name = leaf name.tok; default = Some e }) fs (name ∷ equals ∷ tokens) rest
 
-  -- a parameter, exported or not
+  -- a parameter, which can be exported
   pub data ParameterOf : ParameterKind → Parameter A B → List (Noted B) → Tokens → Tokens → Type 0 where
     exported : {kind : ParameterKind} {p : Parameter A B} {fs : List (Noted B)} {dollar : SignificantToken} {tokens rest : Tokens} → IsKind kinds.Dollar dollar
         → NamedParameter kind true p fs tokens rest
@@ -40,7 +40,7 @@ module _ {A B : Type 0} (leaf : Tok → A) (spot : Tok → B) (Open : ℕ → Op
     unexported : {kind : ParameterKind} {p : Parameter A B} {fs : List (Noted B)} {tokens rest : Tokens} → NamedParameter kind false p fs tokens rest
         → ParameterOf kind p fs tokens rest
 
-  -- the parameters of a recipe, and the colon after them; the last one may take several arguments
+  -- the parameters of a recipe, and the colon after them; the last one can be variadic
   pub data Parameters : List (Parameter A B) → List (Noted B) → Tokens → Tokens → Type 0 where
     none : {colon : SignificantToken} {rest : Tokens} → IsKind kinds.Colon colon
         → Parameters [] [] (colon ∷ rest) rest
@@ -54,19 +54,19 @@ module _ {A B : Type 0} (leaf : Tok → A) (spot : Tok → B) (Open : ℕ → Op
         → ParameterOf Star p fs tokens (colon ∷ rest) → IsKind kinds.Colon colon
         → Parameters (p ∷ []) fs (prefix ∷ tokens) rest
 
-module _ {A B S : Type 0} (leaf : Tok → A) (spot : Tok → B) (star : Tok → S) (Open : ℕ → Option SignificantToken → Type 0) where
-  -- The arguments of a dependency stand side by side, up to the closing parenthesis and with it. A starred one is a value.
+module _ {A B S : Type 0} (leaf : Tok → A) (position : Tok → B) (star : Tok → S) (MayEnter : ℕ → Option SignificantToken → Type 0) where
+  -- the arguments of a dependency, which have no separators, up to and including the closing parenthesis; a starred one is a value
   pub data DependencyArguments : List (DependencyArgument A B S) → List (Noted B) → Tokens → Tokens → Type 0 where
     none : {closer : SignificantToken} {rest : Tokens} → IsKind kinds.ParenR closer
         → DependencyArguments [] [] (closer ∷ rest) rest
     plain : {e : Expr A B} {others : List (DependencyArgument A B S)} {fs gs : List (Noted B)} {tokens next rest : Tokens}
-        → Expression leaf spot Open false 0 e fs tokens next → DependencyArguments others gs next rest
+        → Expression leaf position MayEnter false 0 e fs tokens next → DependencyArguments others gs next rest
         → DependencyArguments (record { star = None; value = e } ∷ others) (fs ++ gs) tokens rest
     starred : {e : Expr A B} {others : List (DependencyArgument A B S)} {fs gs : List (Noted B)} {mark : SignificantToken} {tokens next rest : Tokens}
-        → IsKind kinds.Asterisk mark → Value leaf spot Open 0 e fs tokens next → DependencyArguments others gs next rest
+        → IsKind kinds.Asterisk mark → Value leaf position MayEnter 0 e fs tokens next → DependencyArguments others gs next rest
         → DependencyArguments (record { star = Some (star mark.tok); value = e } ∷ others) (fs ++ gs) (mark ∷ tokens) rest
 
-  -- a path alone, or a path and arguments in parentheses, with a star before them or not
+  -- a path alone, or a path with arguments in parentheses, after an optional star
   pub data DependencyOf : Dependency A B S → List (Noted B) → Tokens → Tokens → Type 0 where
     bare : {names : List A} {tokens rest : Tokens} → PathOf leaf names tokens rest
         → DependencyOf (record { star = None; path = names; arguments = [] }) [] tokens rest
@@ -77,7 +77,7 @@ module _ {A B S : Type 0} (leaf : Tok → A) (spot : Tok → B) (star : Tok → 
         → IsKind kinds.Asterisk mark → IsKind kinds.ParenL opener → PathOf leaf names tokens next → DependencyArguments arguments fs next rest
         → DependencyOf (record { star = Some (star mark.tok); path = names; arguments = arguments }) fs (mark ∷ opener ∷ tokens) rest
 
-  -- dependencies up to what begins none
+  -- dependencies, as long as the next token begins one
   pub data Dependencies : List (Dependency A B S) → List (Noted B) → Tokens → Tokens → Type 0 where
     none : {rest : Tokens} → NotNext kinds.Identifier rest → NotNext kinds.Asterisk rest → NotNext kinds.ParenL rest
         → Dependencies [] [] rest rest
@@ -85,7 +85,7 @@ module _ {A B S : Type 0} (leaf : Tok → A) (spot : Tok → B) (star : Tok → 
         → Dependencies ds gs next rest
         → Dependencies (d ∷ ds) (fs ++ gs) tokens rest
 
-  -- those before `&&`, and those after it, of which there is one at least
+  -- the dependencies before `&&`, and those after it, at least one
   pub data AllDependencies : (priors subsequents : List (Dependency A B S)) → List (Noted B) → Tokens → Tokens → Type 0 where
     priors : {ds : List (Dependency A B S)} {fs : List (Noted B)} {tokens rest : Tokens} → Dependencies ds fs tokens rest → NotNext kinds.AmpersandAmpersand rest
         → AllDependencies ds [] fs tokens rest
@@ -93,13 +93,13 @@ module _ {A B S : Type 0} (leaf : Tok → A) (spot : Tok → B) (star : Tok → 
         → Dependencies ds fs tokens (operator ∷ next) → IsKind kinds.AmpersandAmpersand operator → Dependencies (d ∷ others) gs next rest
         → AllDependencies ds (d ∷ others) (fs ++ gs) tokens rest
 
-  -- from the name of a recipe to the end of its header
+  -- a header from the name of the recipe to the end
   pub data NamedHeader : (quiet : Bool) → Header A B S → List (Noted B) → Tokens → Tokens → Type 0 where
     header : {quiet : Bool} {ps : List (Parameter A B)} {ds ss : List (Dependency A B S)} {fs gs : List (Noted B)} {name : SignificantToken} {tokens next rest : Tokens}
-        → IsKind kinds.Identifier name → Parameters leaf spot Open ps fs tokens next → AllDependencies ds ss gs next rest
+        → IsKind kinds.Identifier name → Parameters leaf position MayEnter ps fs tokens next → AllDependencies ds ss gs next rest
         → NamedHeader quiet (record { quiet = quiet; name = leaf name.tok; parameters = ps; priors = ds; subsequents = ss }) (fs ++ gs) (name ∷ tokens) rest
 
-  -- a header, with `@` before it or without
+  -- a header with an optional `@`
   pub data HeaderOf : Header A B S → List (Noted B) → Tokens → Tokens → Type 0 where
     quiet : {h : Header A B S} {fs : List (Noted B)} {at : SignificantToken} {tokens rest : Tokens} → IsKind kinds.At at → NamedHeader true h fs tokens rest
         → HeaderOf h fs (at ∷ tokens) rest

@@ -1,4 +1,4 @@
--- What values of many cases are compared by: a key is a label with parts that are keys, or a leaf.
+-- Keys by which values of several cases are compared: a key is a leaf, or a label with keys as its parts.
 use Rattle.std.specs.Prelude.{ℕ, List, [], ◌∷◌, Option, Some, None}
 use Rattle.std.specs.Ordering.{ordering_then, nat_cmp}
 use Rattle.std.specs.declared.cmp.Ordering.{Ordering}
@@ -13,7 +13,7 @@ mutual
     end : Keys L
     next : (first : Key L) (others : Keys L) → Keys L
 
--- leaves as they compare; nodes by label, and then by the parts from the left, where an end comes before another part
+-- leaves compare by `leaf_cmp`; nodes compare by label and then by their parts, where a shorter list is less
 module _ {L : Type 0} (leaf_cmp : L → L → Ordering) where
   abbrev mutual
     pub key_cmp : Key L → Key L → Ordering
@@ -28,7 +28,7 @@ module _ {L : Type 0} (leaf_cmp : L → L → Ordering) where
     keys_cmp (next k ks) end = Greater
     keys_cmp (next k ks) (next l ls) = ordering_then (key_cmp k l) (keys_cmp ks ls)
 
--- a key whose leaves are mapped
+-- a key with its leaves mapped by `f`
 module _ {L M : Type 0} (f : L → M) where
   abbrev mutual
     pub map_key : Key L → Key M
@@ -43,23 +43,23 @@ abbrev pub label : {L : Type 0} → Key L → ℕ
 label (leaf a) = 0
 label (node n ks) = n
 
--- a row of keys of one kind, as a part
+-- a list of keys as a single key
 abbrev pub row : {L : Type 0} → Keys L → Key L
 row ks = node 0 ks
 
--- the keys of the items of a list
+-- the keys of the elements of a list
 abbrev pub keys_of : {X L : Type 0} → (X → Key L) → List X → Keys L
 keys_of key_of [] = end
 keys_of key_of (x ∷ xs) = next (key_of x) (keys_of key_of xs)
 
--- the key of what may be absent: none comes before some
+-- the key of an absent value, which is less than that of any present value
 abbrev pub absent_key : {L : Type 0} → Key L
 absent_key = node 0 end
 
 abbrev pub present_key : {L : Type 0} → Key L → Key L
 present_key k = node 1 (next k end)
 
--- the key of what may be absent
+-- the key of an optional value
 abbrev pub option_key : {L X : Type 0} → (X → Key L) → Option X → Key L
 option_key key_of None = absent_key
 option_key key_of (Some x) = present_key (key_of x)

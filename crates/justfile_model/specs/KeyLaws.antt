@@ -1,29 +1,26 @@
--- Keys are in a total order if their leaves are.
+-- The order of keys is total if the order of their leaves is.
 use Rattle.std.proofs.Common.{◌≡◌, ◌∙◌, ℕ, refl, sym, ap}
 use mathlib.Core.Bool.{true≢false}
 use Rattle.std.specs.Cmp.{IsTotalOrder, nat_cmp_total, then_flip}
-use Rattle.std.specs.Ordering.{ordering_then, ordering_reverse, nat_cmp, is_lt, is_eq, is_gt}
+use Rattle.std.specs.Ordering.{ordering_then, ordering_reverse, nat_cmp, is_lt, is_gt}
 use Rattle.std.specs.declared.cmp.Ordering.{Ordering}
 use Rattle.std.specs.declared.cmp.Ordering.TheVariants.{Less, Equal, Greater}
 use Rattle.justfile_model.specs.Key.{Key, Keys, leaf, node, end, next, key_cmp, keys_cmp, map_key, map_keys}
 
--- ---- one comparison and then another
+-- ---- one comparison followed by another
 
 pub then_end : (o : Ordering) → ordering_then o Equal ≡ o
 then_end Less = refl
 then_end Equal = refl
 then_end Greater = refl
 
--- ---- a tie of one comparison and then another
+-- ---- a tie of one comparison followed by another
 
 pub less_not_equal : {P : Type 0} → Less ≡ Equal → P
 less_not_equal e = absurd (true≢false (ap is_lt e))
 
 pub greater_not_equal : {P : Type 0} → Greater ≡ Equal → P
 greater_not_equal e = absurd (true≢false (ap is_gt e))
-
-equal_not_less : {P : Type 0} → Equal ≡ Less → P
-equal_not_less e = absurd (true≢false (ap is_eq e))
 
 greater_not_less : {P : Type 0} → Greater ≡ Less → P
 greater_not_less e = absurd (true≢false (ap is_gt e))
@@ -36,7 +33,7 @@ then_equal Greater b e = greater_not_equal e
 back_equal : (a b : Ordering) → a ≡ ordering_reverse b → b ≡ Equal → a ≡ Equal
 back_equal a b e f = e ∙ ap ordering_reverse f
 
--- a compares x to y, b compares y to z and c compares x to z; p, q and s are what comes after
+-- `a` compares x to y, `b` compares y to z and `c` compares x to z; `p`, `q` and `s` are the comparisons that break ties
 chain : (a b c p q s : Ordering) → (a ≡ Less → b ≡ Less → c ≡ Less) → (a ≡ Equal → c ≡ b) → (b ≡ Equal → c ≡ a) → (p ≡ Less → q ≡ Less → s ≡ Less)
     → ordering_then a p ≡ Less → ordering_then b q ≡ Less → ordering_then c s ≡ Less
 chain Less Less c p q s t l r f h k = ap (λ o. ordering_then o s) (t refl refl)
@@ -117,7 +114,7 @@ module _ {L : Type 0} {leaf_cmp : L → L → Ordering} (leaf_total : IsTotalOrd
   pub key_total : IsTotalOrder (key_cmp leaf_cmp)
   key_total = record { antisymm = key_antisymm; trans = key_trans; congr = key_congr }
 
--- ---- mapped keys compare as their leaves do when they are mapped
+-- ---- mapped keys compare like their mapped leaves
 
 module _ {L M : Type 0} (leaf_cmp : M → M → Ordering) (f : L → M) where
   mutual

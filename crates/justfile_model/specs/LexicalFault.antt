@@ -1,11 +1,11 @@
--- Why no token comes next.
+-- Why a text has no next token.
 use Rattle.std.specs.Prelude.{ℕ, List}
-use Rattle.justfile_base.specs.declared.delimiter.Delimiter.{Delimiter}
-use Rattle.justfile_base.specs.declared.compile_error_kind.CompileErrorKind.{CompileErrorKind}
-use Rattle.justfile_base.specs.declared.compile_error_kind.CompileErrorKind.TheVariants as kinds
+use Rattle.justfile_token.specs.declared.delimiter.Delimiter.{Delimiter}
+use Rattle.justfile_token.specs.declared.compile_error_kind.CompileErrorKind.{CompileErrorKind}
+use Rattle.justfile_token.specs.declared.compile_error_kind.CompileErrorKind.TheVariants as kinds
 use Rattle.justfile_model.specs.Tok.{Tok}
 
--- the faults of lexing, with what their messages say; a character is its number
+-- the faults of lexing, with the data for their messages; a character is its code point
 pub data LexicalFault : Type 0 where
   EscapeEndOfFile : LexicalFault
   InconsistentLeadingWhitespace : (expected found : List ℕ) → LexicalFault
@@ -20,10 +20,10 @@ pub data LexicalFault : Type 0 where
   UnterminatedBacktick : LexicalFault
   UnterminatedInterpolation : LexicalFault
   UnterminatedString : LexicalFault
-  -- a fault of another layer, which no text has
+  -- a fault that isn't lexical, which no text has
   NotLexical : LexicalFault
 
--- the fault that an error of the code is
+-- the fault of an error kind
 abbrev pub lexical_fault_of : CompileErrorKind → LexicalFault
 lexical_fault_of kinds.EscapeEndOfFile = EscapeEndOfFile
 lexical_fault_of (kinds.InconsistentLeadingWhitespace expected found) = InconsistentLeadingWhitespace expected.now found.now
@@ -40,9 +40,9 @@ lexical_fault_of kinds.UnterminatedInterpolation = UnterminatedInterpolation
 lexical_fault_of kinds.UnterminatedString = UnterminatedString
 lexical_fault_of _ = NotLexical
 
--- a fault, and where it points to
-pub data LexicalRefusal : Type 0 where
-  -- a fault, whose span begins so many bytes after the earlier tokens and is so many bytes long
-  Here : (fault : LexicalFault) (skip span : ℕ) → LexicalRefusal
-  -- the interpolation that begins with this token has no end
-  Unclosed : Tok → LexicalRefusal
+-- a fault and its position
+pub data LexicalError : Type 0 where
+  -- a fault in the `span` bytes that begin `skip` bytes after the end of the earlier tokens
+  Here : (fault : LexicalFault) (skip span : ℕ) → LexicalError
+  -- the interpolation that begins with this token isn't terminated
+  Unclosed : Tok → LexicalError

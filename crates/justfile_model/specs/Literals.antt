@@ -1,32 +1,32 @@
--- The texts that literals stand for.
+-- The texts of literals.
 use Rattle.std.specs.Prelude.{◌≡◌, ℕ, zero, suc, ◌-◌, ◌+◌, ◌⊎◌, Bool, true, false, List, [], ◌∷◌, ◌++◌, length, take, drop, if◌then◌else◌, Option, Some, None, Result, Ok, Err, codes}
 use Rattle.std.specs.List.{starts_with}
 use Rattle.std.specs.Prelude.{nat_eq}
-use Rattle.justfile_word.specs.declared.format_string_part.FormatStringPart.{FormatStringPart}
-use Rattle.justfile_word.specs.declared.format_string_part.FormatStringPart.TheVariants as parts
-use Rattle.justfile_base.specs.declared.string_kind.StringKind.{StringKind}
-use Rattle.justfile_base.specs.StringKind.{kind_of, delimiter_len, escapes}
+use Rattle.justfile_vocabulary.specs.declared.format_string_part.FormatStringPart.{FormatStringPart}
+use Rattle.justfile_vocabulary.specs.declared.format_string_part.FormatStringPart.TheVariants as parts
+use Rattle.justfile_token.specs.declared.string_kind.StringKind.{StringKind}
+use Rattle.justfile_token.specs.StringKind.{kind_of, delimiter_len, escapes}
 use Rattle.justfile_model.specs.Bytes.{is_interpolation_escape}
 use Rattle.justfile_model.specs.Unindent.{unindented}
 use Rattle.justfile_model.specs.EscapeFault.{EscapeFault}
 use Rattle.justfile_model.specs.FirstPiece as pieces
 
--- a literal, by how it gets its text, and what is kept of its token
+-- a literal, by how its text is cooked, with the projection of its token
 pub data Literal (A : Type 0) : Type 0 where
   -- a string
   Plain : (token : A) → Literal A
-  -- a string that is marked `x`: its text is expanded
+  -- a string with the mark `x`, whose text is expanded
   Expanded : (token : A) → Literal A
   -- a command between backticks
   Command : (token : A) → Literal A
-  -- a format string with nothing to fill in
+  -- a format string without interpolations
   Single : (token : A) → Literal A
-  -- the parts of a format string; each knows how that starts
+  -- the parts of a format string with interpolations; each one contains the first part, which has the delimiter
   Start : (token : A) → Literal A
   Continue : (start token : A) → Literal A
   End : (start token : A) → Literal A
 
--- the string, which is marked `x` or not
+-- a string, with or without the mark `x`
 abbrev pub string_of : {A : Type 0} → (expanded : Bool) → A → Literal A
 string_of true token = Expanded token
 string_of false token = Plain token
@@ -40,7 +40,7 @@ over_literal f (Start token) = Start (f token)
 over_literal f (Continue start token) = Continue (f start) (f token)
 over_literal f (End start token) = End (f start) (f token)
 
--- what is kept of the token that has the text
+-- the projection of the token with the text
 abbrev pub token_of : {A : Type 0} → Literal A → A
 token_of (Plain token) = token
 token_of (Expanded token) = token
@@ -52,32 +52,32 @@ token_of (End start token) = token
 
 -- why a literal has no text
 pub data LiteralFault : Type 0 where
-  -- an escape that is none
+  -- an invalid escape
   Escape : EscapeFault → LiteralFault
-  -- the expander refuses its text, for this reason
+  -- the expander has no expansion of the text, for this reason
   Refused : (reason : List ℕ) → LiteralFault
-  -- the expander was not asked
+  -- the expander wasn't called
   Unasked : LiteralFault
-  -- a command that begins with `#!`
+  -- a command begins with `#!`
   Shebang : LiteralFault
 
--- what an expander answers for a text: the expanded text, or the text of its refusal; none for a text that it was not asked for
+-- the results of an expander: for each text the expansion, the reason why there is none, or nothing if the expander wasn't called
 abbrev pub Expansions : Type 0
 Expansions = List ℕ → Option (Result (List ℕ) (List ℕ))
 
--- the one answers what the other does, or not at all
+-- Wherever the first expander has a result, the second has the same one.
 abbrev pub Within : Expansions → Expansions → Type 0
 Within some all = (text : List ℕ) → (some text ≡ None) ⊎ (some text ≡ all text)
 
--- what stands between so many bytes at the front and so many at the end
+-- the bytes of a text without the first `front` and the last `end` ones
 abbrev pub between : (front end : ℕ) → List ℕ → List ℕ
 between front end lexeme = take (length lexeme - (front + end)) (drop front lexeme)
 
--- what stands between the quotes
+-- the text between the quotes
 abbrev pub between_quotes : List ℕ → List ℕ
 between_quotes lexeme = between (delimiter_len (kind_of lexeme)) (delimiter_len (kind_of lexeme)) lexeme
 
--- what stands between the quotes, unindented where they are tripled
+-- the text between the quotes, unindented if the quotes are tripled
 abbrev pub flush_text : List ℕ → List ℕ
 flush_text lexeme = if (kind_of lexeme).indented then unindented (between_quotes lexeme) else between_quotes lexeme
 
@@ -85,35 +85,35 @@ abbrev pub by_escapes : Result (List ℕ) EscapeFault → Result (List ℕ) Lite
 by_escapes (Ok text) = Ok text
 by_escapes (Err e) = Err (Escape e)
 
--- a text with its escapes replaced, if its quotes are double
+-- the text with its escapes replaced, if the quotes are double
 abbrev pub escaped : StringKind → List ℕ → Result (List ℕ) LiteralFault
 escaped kind text = if escapes kind.delimiter then by_escapes (pieces.cooked_from_left text) else Ok text
 
 abbrev pub string_text : List ℕ → Result (List ℕ) LiteralFault
 string_text lexeme = escaped (kind_of lexeme) (flush_text lexeme)
 
--- a text without so many bytes at its front, with `{{` for each `{{{{` from the left
+-- a text without its first bytes, with each `{{{{` replaced by `{{` from left to right
 abbrev pub unescaped_from : ℕ → List ℕ → List ℕ
 unescaped_from skipped [] = []
 unescaped_from (suc skipped) (b ∷ bs) = unescaped_from skipped bs
 unescaped_from zero (b ∷ bs) = if is_interpolation_escape (b ∷ bs) then codes "{{" ++ unescaped_from 3 bs else b ∷ unescaped_from zero bs
 
--- four braces, from the left, are two
+-- the text with each `{{{{` replaced by `{{` from left to right
 abbrev pub unescaped_braces : List ℕ → List ℕ
 unescaped_braces = unescaped_from 0
 
--- a part of a format string is never unindented
+-- the text of a part of a format string, which isn't unindented
 abbrev pub part_text : StringKind → List ℕ → Result (List ℕ) LiteralFault
 part_text kind text = escaped kind (unescaped_braces text)
 
--- how many bytes stand before the text of a part: the string's delimiter, or `}}`
+-- the number of bytes before the text of a part: those of the string's delimiter, or of `}}`
 abbrev pub front_len : StringKind → FormatStringPart → ℕ
 front_len kind parts.Continue = 2
 front_len kind parts.End = 2
 front_len kind parts.Single = delimiter_len kind
 front_len kind parts.Start = delimiter_len kind
 
--- how many bytes stand after the text of a part: the string's delimiter, or `{{`
+-- the number of bytes after the text of a part: those of the string's delimiter, or of `{{`
 abbrev pub end_len : StringKind → FormatStringPart → ℕ
 end_len kind parts.Continue = 2
 end_len kind parts.End = delimiter_len kind
@@ -129,7 +129,7 @@ by_answer None = Err Unasked
 by_answer (Some (Ok text)) = Ok text
 by_answer (Some (Err reason)) = Err (Refused reason)
 
--- what the expander makes of a text
+-- the expansion of a text
 abbrev pub expanded_text : Expansions → Result (List ℕ) LiteralFault → Result (List ℕ) LiteralFault
 expanded_text expander (Ok text) = by_answer (expander text)
 expanded_text expander (Err fault) = Err fault

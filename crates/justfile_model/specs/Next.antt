@@ -1,30 +1,35 @@
--- The next token, from the mode and the rest of the text.
+-- The next token, from the mode and the remaining text.
 use Rattle.std.specs.Prelude.{ℕ, zero, suc, ◌+◌, Bool, true, false, not, ◌||◌, ◌&&◌, ◌==◌, nat_eq, List, [], ◌∷◌, length, take, drop, slice_index, if◌then◌else◌, Option, Some, None, Result, Ok, Err}
 use Rattle.std.specs.List.{list_any, starts_with}
 use Rattle.std.specs.Char.{len_utf8}
 use Rattle.std.specs.Str.{bytes_eq}
-use Rattle.justfile_word.specs.declared.byte_class.ByteClass.{ByteClass}
-use Rattle.justfile_word.specs.declared.byte_class.ByteClass.TheVariants as classes
-use Rattle.justfile_base.specs.declared.delimiter.Delimiter.{Delimiter}
-use Rattle.justfile_base.specs.declared.delimiter.Delimiter.TheVariants.{Brace, Bracket, FormatString, Paren}
-use Rattle.justfile_base.specs.declared.string_kind.StringDelimiter.{StringDelimiter}
-use Rattle.justfile_base.specs.declared.string_kind.StringDelimiter.TheVariants as delimiters
-use Rattle.justfile_base.specs.declared.string_kind.StringKind.{StringKind}
+use Rattle.justfile_vocabulary.specs.declared.byte_class.ByteClass.{ByteClass}
+use Rattle.justfile_vocabulary.specs.declared.byte_class.ByteClass.TheVariants as classes
+use Rattle.justfile_token.specs.declared.delimiter.Delimiter.{Delimiter}
+use Rattle.justfile_token.specs.declared.delimiter.Delimiter.TheVariants.{Brace, Bracket, FormatString, Paren}
+use Rattle.justfile_token.specs.declared.string_kind.StringDelimiter.{StringDelimiter}
+use Rattle.justfile_token.specs.declared.string_kind.StringDelimiter.TheVariants as delimiters
+use Rattle.justfile_token.specs.declared.string_kind.StringKind.{StringKind}
 use Rattle.justfile_model.specs.declared.raw_text.RawText.TheVariants as raw_texts
-use Rattle.justfile_word.specs.declared.token_kind.TokenKind.{TokenKind}
-use Rattle.justfile_word.specs.declared.token_kind.TokenKind.TheVariants.{AmpersandAmpersand, Asterisk, At, BangEquals, BangTilde, Bang, BarBar, BraceL, BraceR, BracketL, BracketR, ByteOrderMark, Colon, ColonColon, ColonEquals, Comma, Comment, Dedent, Dollar, Eof, Eol, Equals, EqualsEquals, EqualsTilde, FormatStringContinue, FormatStringEnd, FormatStringStart, Identifier, Indent, InterpolationEnd, InterpolationStart, ParenL, ParenR, Plus, PlusPlus, QuestionMark, Slash, Text, Whitespace}
-use Rattle.justfile_word.specs.ByteClass.{class_of}
+use Rattle.justfile_vocabulary.specs.declared.token_kind.TokenKind.{TokenKind}
+use Rattle.justfile_vocabulary.specs.declared.token_kind.TokenKind.TheVariants.{AmpersandAmpersand, Asterisk, At, BangEquals, BangTilde, Bang, BarBar, BraceL, BraceR, BracketL, BracketR, ByteOrderMark, Colon, ColonColon, ColonEquals, Comma, Comment, Dedent, Dollar, Eof, Eol, Equals, EqualsEquals, EqualsTilde, FormatStringContinue, FormatStringEnd, FormatStringStart, Identifier, Indent, InterpolationEnd, InterpolationStart, ParenL, ParenR, Plus, PlusPlus, QuestionMark, Slash, Text, Whitespace}
+use Rattle.justfile_vocabulary.specs.ByteClass.{class_of}
 use Rattle.justfile_model.specs.Bytes.{blank_len, word_len, is_line_end, is_interpolation_start, is_interpolation_end, is_mixed, closes_levels, first_char}
-use Rattle.justfile_base.specs.StringKind.{delimiter_len, kind_of, token_kind_of}
+use Rattle.justfile_token.specs.StringKind.{delimiter_len, kind_of, token_kind_of}
 use Rattle.justfile_model.specs.LiteralText.{raw_len}
 use Rattle.justfile_model.specs.Tok.{Tok}
 use Rattle.justfile_model.specs.declared.open_delimiter.OpenDelimiter.{OpenDelimiter}
 use Rattle.justfile_model.specs.Modes.{Mode, head_of, is_empty, innermost, nested}
-use Rattle.justfile_model.specs.LexicalFault.{LexicalFault, EscapeEndOfFile, InconsistentLeadingWhitespace, InvalidEscapeSequence, MismatchedClosingDelimiter, MixedLeadingWhitespace, UnexpectedCharacter, UnexpectedClosingDelimiter, UnexpectedEndOfToken, UnknownStartOfToken, UnpairedCarriageReturn, UnterminatedBacktick, UnterminatedString, LexicalRefusal, Here, Unclosed}
+use Rattle.justfile_model.specs.LexicalFault.{LexicalFault, EscapeEndOfFile, InconsistentLeadingWhitespace, InvalidEscapeSequence, MismatchedClosingDelimiter, MixedLeadingWhitespace, UnexpectedCharacter, UnexpectedClosingDelimiter, UnexpectedEndOfToken, UnknownStartOfToken, UnpairedCarriageReturn, UnterminatedBacktick, UnterminatedString, LexicalError, Here, Unclosed}
+use Rattle.justfile_vocabulary.specs.ByteNames as byte
 
--- the kind of the next token and its length in bytes, or why there is none
+-- the kind and the length in bytes of the next token, or why there is none
 abbrev pub NextToken : Type 0
-NextToken = Result (TokenKind × ℕ) LexicalRefusal
+NextToken = Result (TokenKind × ℕ) LexicalError
+
+-- a character that begins no token
+abbrev pub unknown : List ℕ → NextToken
+unknown rest = Err (Here (UnknownStartOfToken (first_char rest)) 0 (len_utf8 (first_char rest)))
 
 -- Fixed tokens, by the first byte and the second.
 -- a token of one byte
@@ -35,7 +40,7 @@ one_byte kind = Ok (kind, 1)
 abbrev pub two_bytes : TokenKind → NextToken
 two_bytes kind = Ok (kind, 2)
 
--- a byte that has to come twice: where another character follows, or the text ends, it is refused there
+-- two equal bytes; another character in place of the second, or the end of the text, is an error there
 abbrev pub doubled_token : ℕ → TokenKind → List ℕ → NextToken
 doubled_token b kind rest =
     if slice_index rest 1 == b then two_bytes kind
@@ -46,25 +51,30 @@ doubled_token b kind rest =
 unfoldable pub fixed_token : ℕ → List ℕ → NextToken
 fixed_token b rest =
     let c = slice_index rest 1 in
-    if b == 33 then (if c == 61 then two_bytes BangEquals else if c == 126 then two_bytes BangTilde else one_byte Bang)
-    else if b == 38 then doubled_token 38 AmpersandAmpersand rest
-    else if b == 124 then doubled_token 124 BarBar rest
-    else if b == 43 then (if c == 43 then two_bytes PlusPlus else one_byte Plus)
-    else if b == 61 then (if c == 61 then two_bytes EqualsEquals else if c == 126 then two_bytes EqualsTilde else one_byte Equals)
-    else if b == 58 then (if c == 61 then two_bytes ColonEquals else if c == 58 then two_bytes ColonColon else one_byte Colon)
-    else if b == 36 then one_byte Dollar
-    else if b == 42 then one_byte Asterisk
-    else if b == 44 then one_byte Comma
-    else if b == 47 then one_byte Slash
-    else if b == 63 then one_byte QuestionMark
-    else one_byte At
+    if b == byte.bang then (if c == byte.equals then two_bytes BangEquals else if c == byte.tilde then two_bytes BangTilde else one_byte Bang)
+    else if b == byte.ampersand then doubled_token byte.ampersand AmpersandAmpersand rest
+    else if b == byte.bar then doubled_token byte.bar BarBar rest
+    else if b == byte.plus then (if c == byte.plus then two_bytes PlusPlus else one_byte Plus)
+    else if b == byte.equals then (if c == byte.equals then two_bytes EqualsEquals else if c == byte.tilde then two_bytes EqualsTilde else one_byte Equals)
+    else if b == byte.colon then (if c == byte.equals then two_bytes ColonEquals else if c == byte.colon then two_bytes ColonColon else one_byte Colon)
+    else if b == byte.dollar then one_byte Dollar
+    else if b == byte.asterisk then one_byte Asterisk
+    else if b == byte.comma then one_byte Comma
+    else if b == byte.slash then one_byte Slash
+    else if b == byte.question_mark then one_byte QuestionMark
+    else if b == byte.at then one_byte At
+    else unknown rest
 
 -- an opening delimiter
-abbrev pub opening : ℕ → NextToken
-opening b = if b == 40 then one_byte ParenL else if b == 91 then one_byte BracketL else one_byte BraceL
+abbrev pub opening : ℕ → List ℕ → NextToken
+opening b rest =
+    if b == byte.paren_left then one_byte ParenL
+    else if b == byte.bracket_left then one_byte BracketL
+    else if b == byte.brace_left then one_byte BraceL
+    else unknown rest
 
 -- Literals.
--- the fault of a literal without an end
+-- the fault of a literal that isn't terminated
 abbrev pub unterminated : StringDelimiter → LexicalFault
 unterminated delimiters.Backtick = UnterminatedBacktick
 unterminated _ = UnterminatedString
@@ -74,48 +84,48 @@ abbrev pub is_backtick : StringDelimiter → Bool
 is_backtick delimiters.Backtick = true
 is_backtick _ = false
 
--- a literal, or a part of a format string, whose opener is so many bytes long and whose inside is so many: it has no end,
--- or it ends with `{{` and more follows, or with the delimiter
+-- A literal, or a part of a format string, with an opener and an inside of these lengths. It isn't terminated, or it ends with `{{` and
+-- another part follows, or with the delimiter.
 abbrev pub literal_part_by : StringKind → (format : Bool) → (opener inside : ℕ) → (more whole : TokenKind) → List ℕ → NextToken
 literal_part_by k format opener inside more whole rest =
     if inside == length (drop opener rest) then Err (Here (unterminated k.delimiter) 0 opener)
     else if format && is_interpolation_start (drop inside (drop opener rest)) then Ok (more, opener + inside + 2)
     else Ok (whole, opener + inside + delimiter_len k)
 
--- a literal, or a part of a format string, with the inside read up to its first end
+-- the same, where the inside is the text up to its first end
 unfoldable pub literal_part : StringKind → (format : Bool) → (opener : ℕ) → (more whole : TokenKind) → List ℕ → NextToken
 literal_part k format opener more whole rest = literal_part_by k format opener (raw_len (raw_texts.Literal k format) (drop opener rest)) more whole rest
 
--- a literal; right after the identifier `f` quotes open a format string, and a backtick never does
+-- a literal; directly after the identifier `f`, quotes begin a format string, and a backtick doesn't
 abbrev pub literal_token : Mode → List ℕ → NextToken
 literal_token m rest =
     let k = kind_of rest in
     literal_part k (m.after_f && not (is_backtick k.delimiter)) (delimiter_len k) FormatStringStart (token_kind_of k.delimiter) rest
 
--- Closing delimiters: one has to match the innermost open one.
--- two delimiters are the same; a format string has no closing one
+-- Closing delimiters, which have to match the innermost open one.
+-- the delimiters are the same; a format string has no closing delimiter
 abbrev pub is_same : Delimiter → Delimiter → Bool
 is_same Brace Brace = true
 is_same Bracket Bracket = true
 is_same Paren Paren = true
 is_same _ _ = false
 
--- a closing delimiter, where this is the innermost open one
+-- a closing delimiter, by the innermost open one
 abbrev pub closing_delimiter : Option OpenDelimiter → Delimiter → TokenKind → NextToken
 closing_delimiter None delimiter kind = Err (Here (UnexpectedClosingDelimiter delimiter) 0 0)
 closing_delimiter (Some o) delimiter kind = if is_same o.delimiter delimiter then one_byte kind else Err (Here (MismatchedClosingDelimiter delimiter o.line o.delimiter) 0 0)
 
--- the kind of literal of a format string
+-- the kind of a format string's literal
 abbrev pub format_string_kind : Delimiter → Option StringKind
 format_string_kind (FormatString k) = Some k
 format_string_kind _ = None
 
--- the kind of literal of the innermost open delimiter, if it is a format string
+-- the kind of the literal, if the innermost open delimiter is a format string
 abbrev pub format_kind : Option OpenDelimiter → Option StringKind
 format_kind None = None
 format_kind (Some o) = format_string_kind o.delimiter
 
--- a closing brace; `}}` goes on with the innermost format string
+-- a closing brace, or `}}`, after which the innermost format string continues
 abbrev pub brace_by : Option StringKind → Option OpenDelimiter → List ℕ → NextToken
 brace_by None last rest = closing_delimiter last Brace BraceR
 brace_by (Some k) last rest = if is_interpolation_end rest then literal_part k true 2 FormatStringContinue FormatStringEnd rest else closing_delimiter last Brace BraceR
@@ -123,70 +133,68 @@ brace_by (Some k) last rest = if is_interpolation_end rest then literal_part k t
 -- `)`, `]` or `}`
 abbrev pub closing : Option OpenDelimiter → ℕ → List ℕ → NextToken
 closing last b rest =
-    if b == 41 then closing_delimiter last Paren ParenR
-    else if b == 93 then closing_delimiter last Bracket BracketR
-    else brace_by (format_kind last) last rest
+    if b == byte.paren_right then closing_delimiter last Paren ParenR
+    else if b == byte.bracket_right then closing_delimiter last Bracket BracketR
+    else if b == byte.brace_right then brace_by (format_kind last) last rest
+    else unknown rest
 
--- a line end of so many bytes: whitespace while a delimiter or an interpolation is open
+-- a line end of this many bytes, which is whitespace while a delimiter or an interpolation is open
 abbrev pub line_end_token : Mode → ℕ → NextToken
 line_end_token m n = if nested m then Ok (Whitespace, n) else Ok (Eol, n)
 
--- a character that begins no token
-abbrev pub unknown : List ℕ → NextToken
-unknown rest = Err (Here (UnknownStartOfToken (first_char rest)) 0 (len_utf8 (first_char rest)))
-
--- a backslash, which only a line end may follow: it is whitespace with the blanks after the line end
+-- a backslash, which must be followed by a line end; both are whitespace, together with the blanks after them
 abbrev pub escaped_line_end : List ℕ → NextToken
 escaped_line_end rest =
     let c = slice_index rest 1 in
-    if c == 10 then Ok (Whitespace, 2 + blank_len (drop 2 rest))
-    else if c == 13 then (if slice_index rest 2 == 10 then Ok (Whitespace, 3 + blank_len (drop 3 rest)) else Err (Here UnpairedCarriageReturn 0 2))
+    if c == byte.line_feed then Ok (Whitespace, 2 + blank_len (drop 2 rest))
+    else if c == byte.carriage_return then (if slice_index rest 2 == byte.line_feed then Ok (Whitespace, 3 + blank_len (drop 3 rest)) else Err (Here UnpairedCarriageReturn 0 2))
     else if length (drop 1 rest) == 0 then Err (Here EscapeEndOfFile 0 1)
     else Err (Here (InvalidEscapeSequence (first_char (drop 1 rest))) 0 1)
 
--- the first byte of a character beyond ASCII: the byte order mark alone begins a token
+-- a character that isn't ASCII; only the byte order mark is a token
 abbrev pub multibyte_token : List ℕ → NextToken
 multibyte_token rest = if first_char rest == 65279 then Ok (ByteOrderMark, 3) else unknown rest
 
--- a comment, a backslash, or what begins no token
+-- a comment, a backslash, or a character that doesn't begin a token
 abbrev pub other_token : List ℕ → NextToken
 other_token rest =
-    if slice_index rest 0 == 35 then Ok (Comment, raw_len raw_texts.Comment rest)
-    else if slice_index rest 0 == 92 then escaped_line_end rest
+    if slice_index rest 0 == byte.number_sign then Ok (Comment, raw_len raw_texts.Comment rest)
+    else if slice_index rest 0 == byte.backslash then escaped_line_end rest
     else unknown rest
 
--- the token at the front, outside body text, by the class of the first byte
+-- the token at the start, outside of body text, by the class of the first byte
 unfoldable pub token_by_class : Mode → ByteClass → List ℕ → NextToken
 token_by_class m classes.Blank rest = Ok (Whitespace, blank_len rest)
 token_by_class m classes.LineFeed rest = line_end_token m 1
-token_by_class m classes.CarriageReturn rest = if slice_index rest 1 == 10 then line_end_token m 2 else Err (Here UnpairedCarriageReturn 0 1)
+token_by_class m classes.CarriageReturn rest = if slice_index rest 1 == byte.line_feed then line_end_token m 2 else Err (Here UnpairedCarriageReturn 0 1)
 token_by_class m classes.IdentifierStart rest = Ok (Identifier, word_len rest)
 token_by_class m classes.IdentifierContinue rest = unknown rest
 token_by_class m classes.Quote rest = literal_token m rest
-token_by_class m classes.Opener rest = opening (slice_index rest 0)
+token_by_class m classes.Opener rest = opening (slice_index rest 0) rest
 token_by_class m classes.Closer rest = closing (head_of m.openers) (slice_index rest 0) rest
 token_by_class m classes.Fixed rest = fixed_token (slice_index rest 0) rest
 token_by_class m classes.Lead rest = multibyte_token rest
 token_by_class m classes.Other rest = other_token rest
 
--- the token at the front of the rest, outside body text
+-- the token at the start, outside of body text
 abbrev pub token_outside_text : Mode → List ℕ → NextToken
 token_outside_text m rest = token_by_class m (class_of (slice_index rest 0)) rest
 
--- in a body: so many bytes of text, or, where there are none, the line end or `{{` that begins with this byte
+-- in a body: this many bytes of text, or if there are none, the line end or `{{` that begins with this byte; text ends before
+-- nothing else, so a byte that begins no line end begins `{{`
 abbrev pub text_or : ℕ → ℕ → NextToken
-text_or zero b = if b == 10 then Ok (Eol, 1) else if b == 13 then Ok (Eol, 2) else Ok (InterpolationStart, 2)
+text_or zero b = if b == byte.line_feed then Ok (Eol, 1) else if b == byte.carriage_return then Ok (Eol, 2) else Ok (InterpolationStart, 2)
 text_or (suc n) b = Ok (Text, suc n)
 
--- the token at the front of the rest of a body's line
+-- the token at the start, in the text of a body line
 unfoldable pub body_token : List ℕ → NextToken
 body_token rest = text_or (raw_len raw_texts.Body rest) (slice_index rest 0)
 
--- at the end of the text each level is closed, then comes Eof
+-- at the end of the text: a dedent for each open level, then `Eof`
 abbrev pub levels_end : List (List ℕ) → NextToken
 levels_end levels = if is_empty levels then Ok (Eof, 0) else Ok (Dedent, 0)
 
--- an open interpolation is refused first; open delimiters are not
+-- at the end of the text an open interpolation is an error; open delimiters aren't
 abbrev pub at_end_by : Option Tok → List (List ℕ) → NextToken
 at_end_by (Some t) levels = Err (Unclosed t)
 at_end_by None levels = levels_end levels
@@ -195,54 +203,53 @@ at_end_by None levels = levels_end levels
 abbrev pub end_token : Mode → NextToken
 end_token m = at_end_by m.interpolation m.levels
 
--- Where no layout token is asked for: in the text of a body, in an interpolation, or elsewhere.
+-- The regions of a line: the text of a body, an interpolation, or anything else.
 pub data Region : Type 0 where
   InText : Region
   InInterpolation : Region
   Inline : Region
 
--- an interpolation comes before the body that it is in
+-- the region by `in_body` and the open interpolation, which takes precedence
 abbrev pub region_by : Bool → Option Tok → Region
 region_by in_body (Some t) = InInterpolation
 region_by true None = InText
 region_by false None = Inline
 
--- in an interpolation: `}}` ends it where no delimiter is open
+-- in an interpolation: `}}` ends it if no delimiter is open
 abbrev pub interpolated : Mode → List ℕ → NextToken
 interpolated m rest = if is_empty m.openers && is_interpolation_end rest then Ok (InterpolationEnd, 2) else token_outside_text m rest
 
--- the next token of a place
+-- the next token in this region
 abbrev pub token_in_region : Region → Mode → List ℕ → NextToken
 token_in_region InText m rest = body_token rest
 token_in_region InInterpolation m rest = interpolated m rest
 token_in_region Inline m rest = token_outside_text m rest
 
--- the next token where no layout token is asked for
+-- the next token after the layout tokens
 unfoldable pub token_within_line : Mode → List ℕ → NextToken
 token_within_line m rest = token_in_region (region_by m.in_body m.interpolation) m rest
 
 -- Layout.
--- so many blanks as whitespace, or, where there are none, the token that follows
+-- a whitespace token of this many blanks, or the next token if there are none
 abbrev pub blanks_or : ℕ → Mode → List ℕ → NextToken
 blanks_or zero m rest = token_within_line m rest
 blanks_or (suc n) m rest = Ok (Whitespace, suc n)
 
--- the leading blanks that may not mix spaces and tabs: in a body the first ones, as many as the level has, else all
+-- the leading blanks that can't mix spaces and tabs: in a body the first ones, as many as the level has, and otherwise all of them
 abbrev pub tested_blanks : Mode → List ℕ → List ℕ
 tested_blanks m found = if m.in_body then take (length (innermost m)) found else found
 
--- the blanks are an open level, or the empty one
+-- the blanks are those of an open level, or none
 abbrev pub is_level : List (List ℕ) → List ℕ → Bool
 is_level levels found = is_empty found || list_any (λ l. bytes_eq l found) levels
 
--- the line is blank: after its blanks comes a line end or the end of the text
+-- the line is blank: after its blanks there is a line end or the end of the text
 abbrev pub begins_blank_line : List ℕ → Bool
 begins_blank_line following = is_line_end following || is_empty following
 
--- The run of blanks that is found at column 0, and what follows it. The first of these that fits: a delimiter or an
--- interpolation is open; the line is blank, and levels may close; the blanks are the current level; they are another open
--- level, so that one closes; in a body they go on after the level; they mix spaces and tabs; they don't begin with the
--- level; they are a new level.
+-- The token at column 0, from the blanks found there and the text after them, by the first case that applies: a delimiter or an
+-- interpolation is open; the line is blank, and levels may close; the blanks are the current level; they are another open level, so the
+-- current one closes; in a body they begin with the level; they mix spaces and tabs; they don't begin with the level; they are a new level.
 unfoldable pub layout : Mode → (found following rest : List ℕ) → NextToken
 layout m found following rest =
     if nested m then blanks_or (length found) m rest
@@ -258,7 +265,7 @@ layout m found following rest =
 abbrev pub at_line_start : Mode → List ℕ → NextToken
 at_line_start m rest = layout m (take (blank_len rest) rest) (drop (blank_len rest) rest) rest
 
--- the next token where text is left
+-- the next token, if the text doesn't end here
 abbrev pub next_by : Bool → Mode → List ℕ → NextToken
 next_by true m rest = at_line_start m rest
 next_by false m rest = token_within_line m rest

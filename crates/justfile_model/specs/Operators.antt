@@ -1,12 +1,12 @@
--- The operators between two expressions, and how tightly they bind.
+-- The operators between two expressions, and their precedence.
 use Rattle.std.specs.Prelude.{ℕ, Bool, true, false, Option, Some, None}
-use Rattle.justfile_word.specs.declared.token_kind.TokenKind.{TokenKind}
-use Rattle.justfile_word.specs.declared.token_kind.TokenKind.TheVariants as kinds
+use Rattle.justfile_vocabulary.specs.declared.token_kind.TokenKind.{TokenKind}
+use Rattle.justfile_vocabulary.specs.declared.token_kind.TokenKind.TheVariants as kinds
 use Rattle.justfile_model.specs.declared.conditional_operator.ConditionalOperator.TheVariants.{Equality, Inequality, RegexMatch, RegexMismatch}
 use Rattle.justfile_model.specs.declared.level.Level.{Level}
 use Rattle.justfile_model.specs.declared.level.Level.TheVariants.{Expression, Disjunct, Compared, Conjunct, Value}
-use Rattle.justfile_word.specs.declared.list_feature.ListFeature.{ListFeature}
-use Rattle.justfile_word.specs.declared.list_feature.ListFeature.TheVariants as features
+use Rattle.justfile_vocabulary.specs.declared.list_feature.ListFeature.{ListFeature}
+use Rattle.justfile_vocabulary.specs.declared.list_feature.ListFeature.TheVariants as features
 use Rattle.justfile_model.specs.declared.operator.Operator.{Operator}
 use Rattle.justfile_model.specs.declared.operator.Operator.TheVariants.{Or, And, Compare, Join, ListConcatenation, Concatenation}
 use Rattle.justfile_model.specs.Tree as tree
@@ -19,12 +19,12 @@ rank Compared = 2
 rank Conjunct = 1
 rank Value = 0
 
--- a value has no operators
+-- the level has binary operators
 abbrev pub is_binary : Level → Bool
 is_binary Value = false
 is_binary _ = true
 
--- what stands to the left of a level's operators
+-- the level of the left operand
 abbrev pub operand : Level → Level
 operand Expression = Disjunct
 operand Disjunct = Compared
@@ -32,12 +32,12 @@ operand Compared = Conjunct
 operand Conjunct = Value
 operand Value = Value
 
--- what stands to the right of a level's operators: the level itself, but after a comparison a conjunct
+-- the level of the right operand: the same level, or conjuncts after a comparison
 abbrev pub right : Level → Level
 right Compared = Conjunct
 right level = level
 
--- the operator between two expressions that a token is
+-- the binary operator of a token kind
 abbrev pub operator_of : TokenKind → Option Operator
 operator_of kinds.BarBar = Some Or
 operator_of kinds.AmpersandAmpersand = Some And
@@ -59,7 +59,7 @@ is_at Conjunct ListConcatenation = true
 is_at Conjunct Concatenation = true
 is_at _ _ = false
 
--- the feature that an operator is; the comparison that a condition begins with is none
+-- the feature of an operator; the first comparison in a condition has none
 abbrev pub feature_of : Operator → (condition : Bool) → Option ListFeature
 feature_of Or condition = Some features.LogicalOperator
 feature_of And condition = Some features.LogicalOperator

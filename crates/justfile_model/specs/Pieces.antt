@@ -1,37 +1,37 @@
--- Text that is read up to its first end, told by its pieces: comments, the text of a body's line, and the inside of literals.
+-- Text that is read up to its first end, as a sequence of pieces: comments, the text of body lines, and the inside of literals.
 use Rattle.std.specs.Prelude.{◌≡◌, ◌≢◌, ℕ, ◌+◌, IsTrue, List, [], ◌∷◌, ◌++◌, take}
 use Rattle.std.specs.List.{concat}
 use Rattle.justfile_model.specs.declared.raw_text.RawText.{RawText}
 use Rattle.justfile_model.specs.LiteralText.{hides, ends}
 
--- the piece that a text begins with: its first byte, and the bytes after it that this one hides
+-- the first piece of a text: its first byte, and the bytes hidden by it
 abbrev pub first_piece : RawText → List ℕ → List ℕ
 first_piece s text = take (1 + hides s text) text
 
--- pieces, one after another, and then what follows them
+-- the pieces follow one another, and then this text follows
 abbrev pub ArePieces : RawText → (pieces : List (List ℕ)) → (follows : List ℕ) → Type 0
 ArePieces s [] follows = Unit {0}
 ArePieces s (piece ∷ pieces) follows =
     (piece ≢ []) × (piece ≡ first_piece s (piece ++ (concat pieces ++ follows))) × ArePieces s pieces follows
 
--- a place between pieces: what comes before it is pieces, joined
+-- A position between pieces: the text before it consists of pieces.
 pub record IsBetweenPieces (s : RawText) (before follows : List ℕ) : Type 0 where
   pub pieces : List (List ℕ)
   pub joined : before ≡ concat pieces
   pub are_pieces : ArePieces s pieces follows
 
--- an end: the text that is read stops here, and no escape begins here, as at the first brace of `{{{{`
+-- An end: reading ends here, and no escape such as `{{{{` begins here.
 pub record IsEnd (s : RawText) (text : List ℕ) : Type 0 where
   pub ends_here : IsTrue (ends s text)
   pub hides_nothing : hides s text ≡ 0
 
--- the inside is pieces, an end follows it, and no earlier place between pieces is an end
+-- The inside consists of pieces, an end follows it, and no earlier position between pieces is an end.
 pub record IsInside (s : RawText) (inside follows : List ℕ) : Type 0 where
   pub is_between : IsBetweenPieces s inside follows
   pub end_follows : IsEnd s follows
   pub none_earlier : (before after : List ℕ) → inside ≡ before ++ after → after ≢ []
       → IsBetweenPieces s before (after ++ follows) → IsEnd s (after ++ follows) → ⊥
 
--- no place between pieces is an end
+-- No position between pieces is an end.
 abbrev pub HasNoEnd : RawText → List ℕ → Type 0
 HasNoEnd s text = (before follows : List ℕ) → text ≡ before ++ follows → IsBetweenPieces s before follows → IsEnd s follows → ⊥

@@ -1,12 +1,12 @@
--- The printed text, of a normal shape at an indentation.
+-- The printed text of a normal shape with an indentation.
 use Rattle.std.specs.Prelude.{ℕ, Bool, true, not, ◌&&◌, List, [], ◌∷◌, ◌++◌, ◌==◌, false, codes, Option, Some, None, map, if◌then◌else◌}
 use Rattle.std.specs.Fmt.{decimal}
 use Rattle.std.specs.List.{flat_map}
-use Rattle.justfile_word.specs.AttributeKind.{attribute_name}
-use Rattle.justfile_base.specs.Path.{path_text}
-use Rattle.justfile_word.specs.Signal.{signal_name}
-use Rattle.justfile_word.specs.declared.signal.Signal.{Signal}
-use Rattle.justfile_word.specs.declared.attribute_kind.AttributeKind.TheVariants.{Doc}
+use Rattle.justfile_vocabulary.specs.AttributeKind.{attribute_name}
+use Rattle.justfile_token.specs.Path.{path_text}
+use Rattle.justfile_vocabulary.specs.Signal.{signal_name}
+use Rattle.justfile_vocabulary.specs.declared.signal.Signal.{Signal}
+use Rattle.justfile_vocabulary.specs.declared.attribute_kind.AttributeKind.TheVariants.{Doc}
 use Rattle.justfile_model.specs.ContentKeys.{has_attribute, kind_of_attribute}
 use Rattle.justfile_model.specs.Docs.{doc_of}
 use Rattle.justfile_model.specs.declared.conditional_operator.ConditionalOperator.{ConditionalOperator}
@@ -14,12 +14,13 @@ use Rattle.justfile_model.specs.declared.conditional_operator.ConditionalOperato
 use Rattle.justfile_model.specs.declared.parameter_kind.ParameterKind.{ParameterKind}
 use Rattle.justfile_model.specs.declared.parameter_kind.ParameterKind.TheVariants.{Plus, Singular, Star}
 use Rattle.justfile_model.specs.Tree.{Expr, Or, And, Comparison, Concatenation, ListConcatenation, Join, Root, If, IfElse, Not, StringLiteral, FormatLiteral, FormatString, Backtick, Assert, AssertMessage, Variable, Call, Group, ListOf, Exprs, none, more, Parts, Last, Continue, Fragment, Text, Interpolation, BodyLine, Line, Quoted, Argument, Positional, Bare, Keyed, OptionName, NoOption, OwnName, Named, ArgumentRules, Attribute, Plain, Single, Texts, Env, Signals, Cache, Arg, Entry, Parameter, DependencyArgument, Dependency, Header, AliasParts, AssignmentParts, FunctionParts, ImportParts, ModuleParts, RecipeParts, SettingValue, Truth, Value, Interpreter, SettingParts, Content, Alias, Assignment, Function, Import, Module, Recipe, Setting, Unexport, Item, Newline, Comment, Construct, OrderedItem, Shape}
+use Rattle.justfile_vocabulary.specs.ByteNames as byte
 
--- a piece that is the same in every text; kept folded, so that a text stays a row of pieces
+-- a fixed part of a text; kept folded in proofs, so that a text stays a sequence of parts
 unfoldable pub fixed_text : List ℕ → List ℕ
 fixed_text bytes = bytes
 
--- what stands before the quotes of a literal
+-- the mark before the quotes of a literal
 abbrev pub mark_text : (expanded : Bool) → List ℕ
 mark_text true = fixed_text (codes "x")
 mark_text false = []
@@ -35,7 +36,7 @@ is_conditional (If c b) = true
 is_conditional (IfElse c b o) = true
 is_conditional _ = false
 
--- the other branch: a conditional as it is, all else in braces
+-- the `else` branch: a conditional as it is, and any other expression in braces
 abbrev pub other_text : (conditional : Bool) → List ℕ → List ℕ
 other_text true text = text
 other_text false text = fixed_text (codes "{ ") ++ text ++ fixed_text (codes " }")
@@ -63,7 +64,7 @@ abbrev mutual
   expr_text (Group e) = fixed_text (codes "(") ++ expr_text e ++ fixed_text (codes ")")
   expr_text (ListOf opener elements) = fixed_text (codes "[") ++ exprs_text elements ++ fixed_text (codes "]")
 
-  -- separated by a comma and a space
+  -- the expressions, separated by commas and spaces
   pub exprs_text : Exprs (List ℕ) (Unit {0}) → List ℕ
   exprs_text none = []
   exprs_text (more e none) = expr_text e
@@ -77,12 +78,12 @@ abbrev pub fragment_text : Fragment (List ℕ) (Unit {0}) → List ℕ
 fragment_text (Text lexeme) = lexeme
 fragment_text (Interpolation value) = fixed_text (codes "{{ ") ++ expr_text value ++ fixed_text (codes " }}")
 
--- a line of a body; one that is empty has no indentation
+-- a line of a body; an empty line isn't indented
 abbrev pub line_text : (indentation : List ℕ) → BodyLine (List ℕ) (Unit {0}) (Unit {0}) → List ℕ
 line_text indentation (Line number []) = []
 line_text indentation (Line number fragments) = indentation ++ flat_map fragment_text fragments
 
--- each line of a body on a line of its own, after a newline
+-- the lines of a body, each after a newline
 abbrev pub body_text : (indentation : List ℕ) → List (BodyLine (List ℕ) (Unit {0}) (Unit {0})) → List ℕ
 body_text indentation = flat_map (λ line. fixed_text (codes "\n") ++ line_text indentation line)
 
@@ -94,7 +95,7 @@ abbrev pub if_true : Bool → List ℕ → List ℕ
 if_true true text = text
 if_true false text = []
 
--- ---- attributes, by the arguments that they are printed with
+-- ---- attributes, by their printed arguments
 
 abbrev pub quoted_argument : Quoted (List ℕ) → Argument (List ℕ) (Unit {0})
 quoted_argument q = Positional tt (StringLiteral q.expanded q.token)
@@ -103,7 +104,7 @@ quoted_argument q = Positional tt (StringLiteral q.expanded q.token)
 abbrev pub signal_argument : Signal → Argument (List ℕ) (Unit {0})
 signal_argument s = Positional tt (StringLiteral false (fixed_text (codes "\"") ++ fixed_text (signal_name s) ++ fixed_text (codes "\"")))
 
--- a key with a value, if that is there
+-- a key with its value, if the value is present
 abbrev pub keyed_if : {X : Type 0} → (word : List ℕ) → (X → Expr (List ℕ) (Unit {0})) → Option X → List (Argument (List ℕ) (Unit {0}))
 keyed_if word f None = []
 keyed_if word f (Some x) = Keyed (fixed_text word) (f x) ∷ []
@@ -146,13 +147,13 @@ argument_text (Positional first value) = expr_text value
 argument_text (Bare key) = key
 argument_text (Keyed key value) = key ++ fixed_text (codes "=") ++ expr_text value
 
--- separated by a comma and a space
+-- the arguments, separated by commas and spaces
 abbrev pub arguments_text : List (Argument (List ℕ) (Unit {0})) → List ℕ
 arguments_text [] = []
 arguments_text (a ∷ []) = argument_text a
 arguments_text (a ∷ arguments) = argument_text a ++ fixed_text (codes ", ") ++ arguments_text arguments
 
--- in parentheses, if there are any
+-- the arguments in parentheses, or nothing if there are none
 abbrev pub parenthesized_arguments : List (Argument (List ℕ) (Unit {0})) → List ℕ
 parenthesized_arguments [] = []
 parenthesized_arguments arguments = fixed_text (codes "(") ++ arguments_text arguments ++ fixed_text (codes ")")
@@ -161,12 +162,12 @@ parenthesized_arguments arguments = fixed_text (codes "(") ++ arguments_text arg
 abbrev pub attribute_text : Attribute (List ℕ) (Unit {0}) → List ℕ
 attribute_text a = fixed_text (attribute_name (kind_of_attribute a)) ++ parenthesized_arguments (attribute_arguments a)
 
--- a comment at the end of a line, after a blank, if there is one
+-- a space and the comment at the end of a line, if there is one
 abbrev pub comment_text : Option (List ℕ) → List ℕ
 comment_text None = []
 comment_text (Some comment) = fixed_text (codes " ") ++ comment
 
--- each attribute on a line of its own
+-- an attribute with its comment on a line of its own
 abbrev pub entry_text : Entry (List ℕ) (Unit {0}) → List ℕ
 entry_text e = fixed_text (codes "[") ++ attribute_text e.attribute ++ fixed_text (codes "]") ++ comment_text e.comment ++ fixed_text (codes "\n")
 
@@ -178,7 +179,7 @@ abbrev pub doc_comment : List ℕ → List ℕ
 doc_comment [] = fixed_text (codes "#")
 doc_comment doc = fixed_text (codes "# ") ++ doc
 
--- a doc on a line of its own
+-- the comment of a doc, on a line of its own
 abbrev pub doc_line : List ℕ → List ℕ
 doc_line doc = doc_comment doc ++ fixed_text (codes "\n")
 
@@ -194,7 +195,7 @@ parameter_text p =
 abbrev pub dependency_argument_text : DependencyArgument (List ℕ) (Unit {0}) (Unit {0}) → List ℕ
 dependency_argument_text a = fixed_text (codes " ") ++ if_some (λ star. fixed_text (codes "*")) a.star ++ expr_text a.value
 
--- a dependency: in parentheses where there are arguments
+-- a dependency: in parentheses if it has arguments
 abbrev pub parenthesized : (star : Option (Unit {0})) (path : List ℕ) → List (DependencyArgument (List ℕ) (Unit {0}) (Unit {0})) → List ℕ
 parenthesized star path [] = path
 parenthesized star path arguments =
@@ -219,7 +220,7 @@ assignment_text a =
 abbrev pub alias_text : AliasParts (List ℕ) → List ℕ
 alias_text a = fixed_text (codes "alias ") ++ a.name ++ fixed_text (codes " := ") ++ path_text a.target
 
--- separated by a comma and a space
+-- the names, separated by commas and spaces
 abbrev pub names_text : List (List ℕ) → List ℕ
 names_text [] = []
 names_text (name ∷ []) = name
@@ -239,7 +240,7 @@ module_text m =
     fixed_text (codes "mod") ++ if_true m.optional (fixed_text (codes "?")) ++ fixed_text (codes " ") ++ m.name
     ++ if_some (λ path. fixed_text (codes " ") ++ file_path_text path) m.path
 
--- the value of a setting; none where it is true
+-- the value of a setting; nothing if it is `true`
 abbrev pub setting_value_text : SettingValue (List ℕ) (Unit {0}) → List ℕ
 setting_value_text (Truth true) = []
 setting_value_text (Truth false) = fixed_text (codes " := false")
@@ -252,7 +253,7 @@ setting_text s = fixed_text (codes "set ") ++ s.name ++ setting_value_text s.val
 abbrev pub recipe_text : RecipeParts (List ℕ) (Unit {0}) (Unit {0}) (Unit {0}) → (indentation : List ℕ) → List ℕ
 recipe_text r indentation = header_text r.header ++ comment_text r.comment ++ body_text indentation r.body
 
--- a construct without its doc and its attributes
+-- a construct without its doc and attributes
 abbrev pub content_text : Content (List ℕ) (Unit {0}) (Unit {0}) (Unit {0}) → (indentation : List ℕ) → List ℕ
 content_text (Alias parts) indentation = alias_text parts
 content_text (Assignment parts) indentation = assignment_text parts
@@ -263,7 +264,7 @@ content_text (Recipe parts) indentation = recipe_text parts indentation
 content_text (Setting parts) indentation = setting_text parts
 content_text (Unexport name) indentation = fixed_text (codes "unexport ") ++ name
 
--- the doc of a construct, where no attribute says it
+-- the doc of a construct, if no attribute sets it
 abbrev pub shown_doc : {A B C S : Type 0} → List (Entry A B) → Content A B C S → Option (List ℕ)
 shown_doc entries content = if has_attribute Doc entries then None else doc_of content
 
@@ -272,24 +273,24 @@ item_text Newline indentation = []
 item_text (Comment text) indentation = text
 item_text (Construct entries content) indentation = if_some doc_line (shown_doc entries content) ++ entries_text entries ++ content_text content indentation
 
--- what stands after an item: a newline after a line end, a space between two others
+-- the text after an item: a newline after a line end, nothing before one or at the end of the file, and otherwise a space
 abbrev pub item_end : {A B C S D : Type 0} → Item A B C S D → List (Item A B C S D) → List ℕ
 item_end Newline items = fixed_text (codes "\n")
 item_end i [] = []
 item_end i (Newline ∷ items) = []
 item_end i (j ∷ items) = fixed_text (codes " ")
 
--- the text of a file; the lines of bodies alone are indented
+-- the text of a file, in which only the lines of bodies are indented
 abbrev pub text : Shape → (indentation : List ℕ) → List ℕ
 text [] indentation = []
 text (i ∷ items) indentation = item_text i indentation ++ item_end i items ++ text items indentation
 
 abbrev pub ends_in_return : List ℕ → Bool
 ends_in_return [] = false
-ends_in_return (b ∷ []) = b == 13
+ends_in_return (b ∷ []) = b == byte.carriage_return
 ends_in_return (b ∷ bs) = ends_in_return bs
 
--- the last fragment is no text that ends in a carriage return: such a one would be read as part of the line's end
+-- the last fragment isn't a text that ends in a carriage return, which would be parsed as part of the line end
 abbrev pub printable_fragments : {B : Type 0} → List (Fragment (List ℕ) B) → Bool
 printable_fragments [] = true
 printable_fragments (Text lexeme ∷ []) = not (ends_in_return lexeme)

@@ -1,14 +1,14 @@
--- The rules that a written tree may break, each with what its message says, over what is kept of a token.
+-- The rules that a written tree can break, with the data for their messages, over a projection of tokens.
 use Rattle.std.specs.Prelude.{ℕ, Bool, List, [], ◌∷◌, Option, if◌then◌else◌}
-use Rattle.justfile_word.specs.declared.attribute_kind.AttributeKind.{AttributeKind}
-use Rattle.justfile_word.specs.declared.item_kind.ItemKind.{ItemKind}
-use Rattle.justfile_word.specs.declared.keyword.Keyword.{Keyword}
+use Rattle.justfile_vocabulary.specs.declared.attribute_kind.AttributeKind.{AttributeKind}
+use Rattle.justfile_vocabulary.specs.declared.item_kind.ItemKind.{ItemKind}
+use Rattle.justfile_vocabulary.specs.declared.keyword.Keyword.{Keyword}
 use Rattle.justfile_model.specs.Conditions.{VersionNumbers}
 use Rattle.justfile_model.specs.ContentLeaf.{LiteralValue}
 
--- A rule that is broken. A text is that of a literal; `T` is what is kept of a token.
+-- A rule that is broken. A text is that of a literal; `T` is the projection of tokens.
 pub data Rule (T : Type 0) : Type 0 where
-  -- of one attribute
+  -- rules of one attribute
   UnknownAttribute : (name : T) → Rule T
   AttributeArgumentCountMismatch : (attribute : T) (found least : ℕ) (most : Option ℕ) → Rule T
   AttributeArgumentExpression : (attribute : T) → Rule T
@@ -29,15 +29,15 @@ pub data Rule (T : Type 0) : Type 0 where
   ArgumentCountValue : (key : T) (value : List ℕ) → Rule T
   ArgumentCountParse : (key : T) (value : List ℕ) → Rule T
   ArgAttributeMinExceedsMax : (min max : ℕ) → Rule T
-  -- of the attributes of one item
+  -- rules of the attributes of one item
   DuplicateAttribute : (attribute first : T) → Rule T
   DuplicateArgAttribute : (arg : List ℕ) (first : T) → Rule T
-  -- what the literal holds that names the group, and its token
+  -- the value and the token of the literal that names the group
   DuplicateGroupAttribute : (value : LiteralValue) (group first : T) → Rule T
   InvalidAttribute : (item : ItemKind) (attribute : AttributeKind) → Rule T
-  -- of a recipe: an argument of which `arg` speaks is no parameter
+  -- rules of a recipe: an `arg` attribute doesn't name a parameter
   UndefinedArgAttribute : (argument : List ℕ) → Rule T
-  -- two options are called the same
+  -- two options have the same name
   DuplicateLongOption : (option : List ℕ) (recipe : T) → Rule T
   DuplicateShortOption : (option : ℕ) (recipe : T) → Rule T
   FlagWithDefault : (parameter : T) → Rule T
@@ -45,26 +45,26 @@ pub data Rule (T : Type 0) : Type 0 where
   NoCdAndWorkingDirectoryAttribute : (recipe : T) → Rule T
   ExitMessageAndNoExitMessageAttribute : (recipe : T) → Rule T
   ScriptAndShellAttribute : (recipe : T) → Rule T
-  -- of the stars of a dependency
+  -- rules of the stars of a dependency
   MappedDependencyMultipleStarredArguments : Rule T
   MappedDependencyWithoutStarredArgument : Rule T
   StarredArgumentOutsideMappedDependency : Rule T
-  -- of a setting that takes a plain literal: it has another value, or the literal's text is not what it takes
+  -- rules of a setting that takes a plain literal: it has another value, or the literal's text is invalid for the setting
   SettingExpression : (setting : Keyword) → Rule T
   InvalidIndentation : (message : List ℕ) → Rule T
   InvalidMinimumVersion : (version : List ℕ) → Rule T
   MinimumVersion : (minimum current : VersionNumbers) → Rule T
 
--- a rule that is broken, and the token of its refusal
+-- a broken rule, and the token at which it is reported
 pub record Broken (T : Type 0) : Type 0 where
   pub rule : Rule T
   pub token : T
 
--- the rule, at the token, where it is broken
+-- the rule at the token, if it is broken
 abbrev pub broken_if : {T : Type 0} → (is_broken : Bool) → Rule T → T → List (Broken T)
 broken_if is_broken rule token = if is_broken then record { rule = rule; token = token } ∷ [] else []
 
--- with what is kept of its tokens replaced
+-- the rules with another projection of their tokens
 module _ {T U : Type 0} (g : T → U) where
   abbrev pub over_rule : Rule T → Rule U
   over_rule (UnknownAttribute name) = UnknownAttribute (g name)

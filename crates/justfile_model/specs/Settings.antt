@@ -1,20 +1,20 @@
--- Settings by their keywords.
+-- The forms of settings.
 use Rattle.std.specs.Prelude.{Option, Some, None}
-use Rattle.justfile_word.specs.declared.keyword.Keyword.{Keyword}
-use Rattle.justfile_word.specs.declared.keyword.Keyword.TheVariants.{AllowDuplicateRecipes, AllowDuplicateVariables, DefaultList, DefaultScript, DotenvCommand, DotenvFilename, DotenvLoad, DotenvOverride, DotenvPath, DotenvRequired, Export, Fallback, Guards, IgnoreComments, Indentation, Lazy, Lists, MinimumVersion, NoCd, NoExitMessage, PositionalArguments, Quiet, ScriptInterpreter, Shell, Tempdir, Unstable, WindowsPowershell, WindowsShell, WorkingDirectory}
+use Rattle.justfile_vocabulary.specs.declared.keyword.Keyword.{Keyword}
+use Rattle.justfile_vocabulary.specs.declared.keyword.Keyword.TheVariants.{AllowDuplicateRecipes, AllowDuplicateVariables, DefaultList, DefaultScript, DotenvCommand, DotenvFilename, DotenvLoad, DotenvOverride, DotenvPath, DotenvRequired, Export, Fallback, Guards, IgnoreComments, Indentation, Lazy, Lists, MinimumVersion, NoCd, NoExitMessage, PositionalArguments, Quiet, ScriptInterpreter, Shell, Tempdir, Unstable, WindowsPowershell, WindowsShell, WorkingDirectory}
 
--- what follows the name of a setting
+-- the form of the value after the name of a setting
 pub data SettingForm : Type 0 where
   -- nothing, or `:=` and `true` or `false`
   TruthForm : SettingForm
   -- `:=` and an expression
   ExpressionForm : SettingForm
-  -- `:=` and expressions in brackets, one at least
+  -- `:=` and a list of expressions in brackets, at least one
   InterpreterForm : SettingForm
   -- `:=` and an expression that has to be a plain literal
   PlainForm : SettingForm
 
--- the form of the setting that a keyword is, if it is one
+-- the form of the setting with this keyword, if there is one
 abbrev pub setting_form : Keyword → Option SettingForm
 setting_form AllowDuplicateRecipes = Some TruthForm
 setting_form AllowDuplicateVariables = Some TruthForm

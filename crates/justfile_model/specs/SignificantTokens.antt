@@ -1,11 +1,11 @@
--- What the parser reads: all tokens but whitespace.
+-- The tokens that the parser reads: all but whitespace.
 use Rattle.std.specs.Prelude.{◌≡◌, ℕ, ◌+◌, Bool, true, false, cond, List, [], ◌∷◌, codes}
 use Rattle.std.specs.List.{AllByRecursion}
-use Rattle.justfile_word.specs.declared.token_kind.TokenKind.{TokenKind}
-use Rattle.justfile_word.specs.declared.token_kind.TokenKind.TheVariants.{BangEquals, BangTilde, BracketL, EqualsEquals, EqualsTilde, Identifier, Plus, PlusPlus, Slash, Whitespace}
+use Rattle.justfile_vocabulary.specs.declared.token_kind.TokenKind.{TokenKind}
+use Rattle.justfile_vocabulary.specs.declared.token_kind.TokenKind.TheVariants.{BangEquals, BangTilde, BracketL, EqualsEquals, EqualsTilde, Identifier, Plus, PlusPlus, Slash, Whitespace}
 use Rattle.justfile_model.specs.Tok.{Tok}
 
--- a token, and whether it is glued to the one before: no token stands between
+-- a token, and whether it is glued to the one before, that is, directly follows it without whitespace
 pub record SignificantToken : Type 0 where
   pub tok : Tok
   pub glued : Bool
@@ -14,12 +14,12 @@ abbrev pub is_whitespace : TokenKind → Bool
 is_whitespace Whitespace = true
 is_whitespace _ = false
 
--- the tokens but for whitespace, of which the first is glued or not
+-- the tokens without whitespace; the flag says whether the first one is glued
 abbrev pub significant_from : Bool → List Tok → List SignificantToken
 significant_from glued [] = []
 significant_from glued (t ∷ ts) = cond (is_whitespace t.kind) (significant_from false ts) (record { tok = t; glued = glued } ∷ significant_from true ts)
 
--- nothing stands before the first token, so it is glued to none
+-- the tokens of a file without whitespace; the first one isn't glued
 abbrev pub significant_tokens : List Tok → List SignificantToken
 significant_tokens = significant_from false
 
@@ -27,12 +27,12 @@ abbrev pub is_identifier : TokenKind → Bool
 is_identifier Identifier = true
 is_identifier _ = false
 
--- how many of the tokens are identifiers
+-- the number of identifiers
 abbrev pub identifiers : List SignificantToken → ℕ
 identifiers [] = 0
 identifiers (t ∷ ts) = cond (is_identifier t.tok.kind) 1 0 + identifiers ts
 
--- a token whose kind has one lexeme has that one, of the kinds that trees keep
+-- For the kinds that trees keep: if a kind has a single lexeme, the token has that lexeme.
 abbrev pub Spelling : TokenKind → List ℕ → Type 0
 Spelling EqualsEquals lexeme = lexeme ≡ codes "=="
 Spelling BangEquals lexeme = lexeme ≡ codes "!="

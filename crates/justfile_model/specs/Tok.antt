@@ -1,10 +1,10 @@
--- Tokens without their path and their source.
+-- Tokens without their path and source.
 use Rattle.std.specs.Prelude.{ℕ, List}
-use Rattle.justfile_word.specs.declared.token_kind.TokenKind.{TokenKind}
-use Rattle.justfile_base.specs.declared.token.Token.{Token}
-use Rattle.justfile_base.specs.Slice.{slice_of}
+use Rattle.justfile_vocabulary.specs.declared.token_kind.TokenKind.{TokenKind}
+use Rattle.justfile_token.specs.declared.token.Token.{Token}
+use Rattle.justfile_token.specs.Slice.{slice_of}
 
--- a token: its kind, its bytes, and the place where it begins
+-- a token: its kind, its bytes, and the position where it begins
 pub record Tok : Type 0 where
   pub kind : TokenKind
   pub lexeme : List ℕ
@@ -12,10 +12,10 @@ pub record Tok : Type 0 where
   pub line : ℕ
   pub column : ℕ
 
--- the token of this kind, with these bytes, at this place
+-- the token with this kind, these bytes and this position
 abbrev pub tok : TokenKind → List ℕ → (offset line column : ℕ) → Tok
 tok kind lexeme offset line column = record { kind = kind; lexeme = lexeme; offset = offset; line = line; column = column }
 
--- a token of the code, by its bytes
+-- a token of the code as a token of the definitions
 abbrev pub tok_of : Token → Tok
 tok_of t = record { kind = t.kind; lexeme = slice_of t.src.now t.offset t.length; offset = t.offset; line = t.line; column = t.column }

@@ -1,256 +1,256 @@
--- Syntax trees, over what stands at their leaves: `A` where a shape keeps a lexeme, `B` where it keeps nothing of a token, `C` where a
--- tree keeps the line of a token. In a tree these are tokens, tokens and numbers; in a shape lexemes, nothing and nothing. Items have two
--- more: `S` stands at the stars of dependencies, and `D` is what an item has of attributes. A written tree, which is what the grammar
--- gives, keeps the tokens of stars, and attributes as they are written. A tree keeps no place of a star, and has attributes by what they
--- mean, in the order of their content.
+-- Syntax trees, over the projections of tokens: `A` (`Leaf`) for lexemes that a shape keeps, `B` (`Position`) for tokens that a shape
+-- drops, and `C` (`LineNumber`) for the lines of bodies. They are tokens, tokens and line numbers in a tree; and lexemes, nothing and
+-- nothing in a shape. Items have two more parameters: `S` (`Star`) for the stars of dependencies, and `D` (`Attributes`) for the attributes
+-- of an item. A written tree, which the grammar derives, has the tokens of stars, and attributes as they are written. A tree has no tokens
+-- of stars, and has the meaning of attributes, in content order.
 use Rattle.std.specs.Prelude.{ℕ, Bool, List, [], ◌∷◌, map, Option, Some, None}
 use Rattle.std.specs.Option.{option_map}
-use Rattle.justfile_word.specs.declared.attribute_kind.AttributeKind.{AttributeKind}
-use Rattle.justfile_word.specs.declared.keyword.Keyword.{Keyword}
-use Rattle.justfile_word.specs.declared.signal.Signal.{Signal}
+use Rattle.justfile_vocabulary.specs.declared.attribute_kind.AttributeKind.{AttributeKind}
+use Rattle.justfile_vocabulary.specs.declared.keyword.Keyword.{Keyword}
+use Rattle.justfile_vocabulary.specs.declared.signal.Signal.{Signal}
 use Rattle.justfile_model.specs.declared.conditional_operator.ConditionalOperator.{ConditionalOperator}
 use Rattle.justfile_model.specs.declared.parameter_kind.ParameterKind.{ParameterKind}
 use Rattle.justfile_model.specs.Tok.{Tok}
 
 mutual
-  pub data Expr (A B : Type 0) : Type 0 where
+  pub data Expr (Leaf Position : Type 0) : Type 0 where
     -- `lhs || rhs`
-    Or : (lhs rhs : Expr A B) → Expr A B
+    Or : (lhs rhs : Expr Leaf Position) → Expr Leaf Position
     -- `lhs && rhs`
-    And : (lhs rhs : Expr A B) → Expr A B
-    Comparison : (lhs : Expr A B) (operator : ConditionalOperator) (token : B) (rhs : Expr A B) → Expr A B
+    And : (lhs rhs : Expr Leaf Position) → Expr Leaf Position
+    Comparison : (lhs : Expr Leaf Position) (operator : ConditionalOperator) (token : Position) (rhs : Expr Leaf Position) → Expr Leaf Position
     -- `lhs + rhs`
-    Concatenation : (lhs : Expr A B) (operator : B) (rhs : Expr A B) → Expr A B
+    Concatenation : (lhs : Expr Leaf Position) (operator : Position) (rhs : Expr Leaf Position) → Expr Leaf Position
     -- `lhs ++ rhs`
-    ListConcatenation : (lhs : Expr A B) (operator : B) (rhs : Expr A B) → Expr A B
+    ListConcatenation : (lhs : Expr Leaf Position) (operator : Position) (rhs : Expr Leaf Position) → Expr Leaf Position
     -- `lhs / rhs`
-    Join : (lhs : Expr A B) (operator : B) (rhs : Expr A B) → Expr A B
+    Join : (lhs : Expr Leaf Position) (operator : Position) (rhs : Expr Leaf Position) → Expr Leaf Position
     -- `/ rhs`
-    Root : (operator : B) (rhs : Expr A B) → Expr A B
+    Root : (operator : Position) (rhs : Expr Leaf Position) → Expr Leaf Position
     -- `if condition { branch }`
-    If : (condition branch : Expr A B) → Expr A B
-    -- `if condition { branch } else { other }`, or with `else other` where that is a conditional itself
-    IfElse : (condition branch other : Expr A B) → Expr A B
+    If : (condition branch : Expr Leaf Position) → Expr Leaf Position
+    -- `if condition { branch } else { other }`, or `else other` if that is a conditional itself
+    IfElse : (condition branch other : Expr Leaf Position) → Expr Leaf Position
     -- `!operand`
-    Not : (operand : Expr A B) → Expr A B
-    -- a string literal; it is expanded if it is marked `x`
-    StringLiteral : (expanded : Bool) (token : A) → Expr A B
-    -- a format string with nothing to fill in
-    FormatLiteral : (token : A) → Expr A B
-    -- a format string, from its start over an expression to its other parts
-    FormatString : (start : A) (e : Expr A B) (parts : Parts A B) → Expr A B
+    Not : (operand : Expr Leaf Position) → Expr Leaf Position
+    -- a string literal, which is expanded if it has the mark `x`
+    StringLiteral : (expanded : Bool) (token : Leaf) → Expr Leaf Position
+    -- a format string without interpolations
+    FormatLiteral : (token : Leaf) → Expr Leaf Position
+    -- a format string: its first part, an expression, and its other parts
+    FormatString : (start : Leaf) (e : Expr Leaf Position) (parts : Parts Leaf Position) → Expr Leaf Position
     -- a command between backticks
-    Backtick : (token : A) → Expr A B
+    Backtick : (token : Leaf) → Expr Leaf Position
     -- `assert(condition)`
-    Assert : (name : B) (condition : Expr A B) → Expr A B
+    Assert : (name : Position) (condition : Expr Leaf Position) → Expr Leaf Position
     -- `assert(condition, message)`
-    AssertMessage : (name : B) (condition message : Expr A B) → Expr A B
-    Variable : (name : A) → Expr A B
+    AssertMessage : (name : Position) (condition message : Expr Leaf Position) → Expr Leaf Position
+    Variable : (name : Leaf) → Expr Leaf Position
     -- `name(arguments)`
-    Call : (name : A) (arguments : Exprs A B) → Expr A B
+    Call : (name : Leaf) (arguments : Exprs Leaf Position) → Expr Leaf Position
     -- `(contents)`
-    Group : (contents : Expr A B) → Expr A B
+    Group : (contents : Expr Leaf Position) → Expr Leaf Position
     -- `[elements]`
-    ListOf : (opener : B) (elements : Exprs A B) → Expr A B
+    ListOf : (opener : Position) (elements : Exprs Leaf Position) → Expr Leaf Position
 
-  pub data Exprs (A B : Type 0) : Type 0 where
-    none : Exprs A B
-    more : (e : Expr A B) (others : Exprs A B) → Exprs A B
+  pub data Exprs (Leaf Position : Type 0) : Type 0 where
+    none : Exprs Leaf Position
+    more : (e : Expr Leaf Position) (others : Exprs Leaf Position) → Exprs Leaf Position
 
-  -- what stands after an expression in a format string
-  pub data Parts (A B : Type 0) : Type 0 where
-    Last : (token : A) → Parts A B
-    Continue : (token : A) (e : Expr A B) (parts : Parts A B) → Parts A B
+  -- the rest of a format string after one of its expressions
+  pub data Parts (Leaf Position : Type 0) : Type 0 where
+    Last : (token : Leaf) → Parts Leaf Position
+    Continue : (token : Leaf) (e : Expr Leaf Position) (parts : Parts Leaf Position) → Parts Leaf Position
 
--- a part of a line of a body: text that stands for itself, or an expression between `{{` and `}}`
-pub data Fragment (A B : Type 0) : Type 0 where
-  Text : (token : A) → Fragment A B
-  Interpolation : (value : Expr A B) → Fragment A B
+-- a part of a body line: a text, or an expression between `{{` and `}}`
+pub data Fragment (Leaf Position : Type 0) : Type 0 where
+  Text : (token : Leaf) → Fragment Leaf Position
+  Interpolation : (value : Expr Leaf Position) → Fragment Leaf Position
 
--- a line of a body, and the line of the file that it begins on
-pub data BodyLine (A B C : Type 0) : Type 0 where
-  Line : (number : C) (fragments : List (Fragment A B)) → BodyLine A B C
+-- a line of a body, with its line number in the file
+pub data BodyLine (Leaf Position LineNumber : Type 0) : Type 0 where
+  Line : (number : LineNumber) (fragments : List (Fragment Leaf Position)) → BodyLine Leaf Position LineNumber
 
--- a string literal; it is expanded if it is marked `x`
-pub record Quoted (A : Type 0) : Type 0 where
+-- a string literal, which is expanded if it has the mark `x`
+pub record Quoted (Leaf : Type 0) : Type 0 where
   pub expanded : Bool
-  pub token : A
+  pub token : Leaf
 
--- an argument of an attribute as it is written
-pub data Argument (A B : Type 0) : Type 0 where
-  -- an expression, and its first token
-  Positional : (first : B) (value : Expr A B) → Argument A B
+-- a written argument of an attribute
+pub data Argument (Leaf Position : Type 0) : Type 0 where
+  -- an expression, and the position of its first token
+  Positional : (first : Position) (value : Expr Leaf Position) → Argument Leaf Position
   -- `key`
-  Bare : (key : A) → Argument A B
+  Bare : (key : Leaf) → Argument Leaf Position
   -- `key=value`
-  Keyed : (key : A) (value : Expr A B) → Argument A B
+  Keyed : (key : Leaf) (value : Expr Leaf Position) → Argument Leaf Position
 
--- an attribute as it is written: its arguments in order
-pub record WrittenAttribute (A B : Type 0) : Type 0 where
-  pub name : A
-  pub arguments : List (Argument A B)
-  -- the comment after its line, of the last attribute on it; none of the others
+-- a written attribute, with its arguments in source order
+pub record WrittenAttribute (Leaf Position : Type 0) : Type 0 where
+  pub name : Leaf
+  pub arguments : List (Argument Leaf Position)
+  -- the comment at the end of its line, if it is the last attribute on the line
   pub comment : Option (List ℕ)
 
--- what an argument of a recipe is called as an option
-pub data OptionName (A B : Type 0) : Type 0 where
-  NoOption : OptionName A B
-  -- as the argument itself, where the key stands without a value
-  OwnName : (key : B) → OptionName A B
-  Named : (name : Quoted A) → OptionName A B
+-- the name of a parameter as an option
+pub data OptionName (Leaf Position : Type 0) : Type 0 where
+  NoOption : OptionName Leaf Position
+  -- the name of the parameter itself, where the key has no value
+  OwnName : (key : Position) → OptionName Leaf Position
+  Named : (name : Quoted Leaf) → OptionName Leaf Position
 
 -- a key and its value
-pub record Property (A B : Type 0) : Type 0 where
-  pub key : B
-  pub value : Expr A B
+pub record Property (Leaf Position : Type 0) : Type 0 where
+  pub key : Position
+  pub value : Expr Leaf Position
 
--- a number, and the key that it is the value of
-pub record Bound (B : Type 0) : Type 0 where
-  pub key : B
+-- the number that is the value of a key, and the key's position
+pub record Bound (Position : Type 0) : Type 0 where
+  pub key : Position
   pub number : ℕ
 
--- what the attribute `arg` says of a parameter
-pub record ArgumentRules (A B : Type 0) : Type 0 where
-  pub flag : Option B
-  pub help : Option (Property A B)
-  pub long : OptionName A B
-  pub max : Option (Bound B)
-  pub min : Option (Bound B)
-  pub multiple : Option B
-  pub name : Quoted A
-  pub pattern : Option (Property A B)
-  pub short : OptionName A B
-  pub value : Option (Expr A B)
+-- what an `arg` attribute sets for a parameter
+pub record ArgumentRules (Leaf Position : Type 0) : Type 0 where
+  pub flag : Option Position
+  pub help : Option (Property Leaf Position)
+  pub long : OptionName Leaf Position
+  pub max : Option (Bound Position)
+  pub min : Option (Bound Position)
+  pub multiple : Option Position
+  pub name : Quoted Leaf
+  pub pattern : Option (Property Leaf Position)
+  pub short : OptionName Leaf Position
+  pub value : Option (Expr Leaf Position)
 
--- An attribute by what it means. Those of one form are one case, with their kind.
-pub data Attribute (A B : Type 0) : Type 0 where
-  -- without arguments
-  Plain : (kind : AttributeKind) → Attribute A B
-  -- with one expression
-  Single : (kind : AttributeKind) (value : Expr A B) → Attribute A B
-  -- with literals
-  Texts : (kind : AttributeKind) (texts : List (Quoted A)) → Attribute A B
-  Env : (key value : Expr A B) → Attribute A B
-  -- `continue`: signals in their order, each once
-  Signals : (signals : List Signal) → Attribute A B
-  Cache : (extra inputs outputs : Option (Expr A B)) → Attribute A B
-  Arg : (rules : ArgumentRules A B) → Attribute A B
+-- the meaning of an attribute; kinds with the same form share a case
+pub data Attribute (Leaf Position : Type 0) : Type 0 where
+  -- an attribute without arguments
+  Plain : (kind : AttributeKind) → Attribute Leaf Position
+  -- an attribute with one expression
+  Single : (kind : AttributeKind) (value : Expr Leaf Position) → Attribute Leaf Position
+  -- an attribute with literals
+  Texts : (kind : AttributeKind) (texts : List (Quoted Leaf)) → Attribute Leaf Position
+  Env : (key value : Expr Leaf Position) → Attribute Leaf Position
+  -- `continue`: signals in declaration order, without duplicates
+  Signals : (signals : List Signal) → Attribute Leaf Position
+  Cache : (extra inputs outputs : Option (Expr Leaf Position)) → Attribute Leaf Position
+  Arg : (rules : ArgumentRules Leaf Position) → Attribute Leaf Position
 
--- an attribute of an item by what it means, the place of its name, and the comment that it is written with
-pub record Entry (A B : Type 0) : Type 0 where
-  pub name : B
-  pub attribute : Attribute A B
+-- an attribute of an item: the position of its name, its meaning, and its comment
+pub record Entry (Leaf Position : Type 0) : Type 0 where
+  pub name : Position
+  pub attribute : Attribute Leaf Position
   pub comment : Option (List ℕ)
 
-pub record Parameter (A B : Type 0) : Type 0 where
+pub record Parameter (Leaf Position : Type 0) : Type 0 where
   pub kind : ParameterKind
-  -- `$` stands before the name
+  -- the name has the prefix `$`
   pub export : Bool
-  pub name : A
-  pub default : Option (Expr A B)
+  pub name : Leaf
+  pub default : Option (Expr Leaf Position)
 
--- an argument of a dependency, starred or not
-pub record DependencyArgument (A B S : Type 0) : Type 0 where
-  pub star : Option S
-  pub value : Expr A B
+-- an argument of a dependency, with an optional star
+pub record DependencyArgument (Leaf Position Star : Type 0) : Type 0 where
+  pub star : Option Star
+  pub value : Expr Leaf Position
 
--- a dependency, by the names of its path; in a tree it is starred if one of its arguments is
-pub record Dependency (A B S : Type 0) : Type 0 where
-  pub star : Option S
-  pub path : List A
-  pub arguments : List (DependencyArgument A B S)
+-- a dependency, by the names of its path; in a tree it has a star exactly if one of its arguments has
+pub record Dependency (Leaf Position Star : Type 0) : Type 0 where
+  pub star : Option Star
+  pub path : List Leaf
+  pub arguments : List (DependencyArgument Leaf Position Star)
 
 -- the header of a recipe
-pub record Header (A B S : Type 0) : Type 0 where
-  -- `@` stands before the name
+pub record Header (Leaf Position Star : Type 0) : Type 0 where
+  -- the name has the prefix `@`
   pub quiet : Bool
-  pub name : A
-  pub parameters : List (Parameter A B)
-  -- the dependencies before `&&`, or all of them
-  pub priors : List (Dependency A B S)
-  pub subsequents : List (Dependency A B S)
+  pub name : Leaf
+  pub parameters : List (Parameter Leaf Position)
+  -- the dependencies before `&&`, or all if there is no `&&`
+  pub priors : List (Dependency Leaf Position Star)
+  pub subsequents : List (Dependency Leaf Position Star)
 
 -- `alias name := target`, by the names of the target's path
-pub record AliasParts (A : Type 0) : Type 0 where
-  pub name : A
-  pub target : List A
+pub record AliasParts (Leaf : Type 0) : Type 0 where
+  pub name : Leaf
+  pub target : List Leaf
 
--- `name := value`, with `eager` or `export` before it or not
-pub record AssignmentParts (A B : Type 0) : Type 0 where
+-- `name := value`, with an optional `eager` or `export` before it
+pub record AssignmentParts (Leaf Position : Type 0) : Type 0 where
   pub eager : Bool
   pub export : Bool
-  pub name : A
-  pub value : Expr A B
+  pub name : Leaf
+  pub value : Expr Leaf Position
 
 -- `name(parameters) := body`
-pub record FunctionParts (A B : Type 0) : Type 0 where
-  pub name : A
-  pub parameters : List A
-  pub body : Expr A B
+pub record FunctionParts (Leaf Position : Type 0) : Type 0 where
+  pub name : Leaf
+  pub parameters : List Leaf
+  pub body : Expr Leaf Position
 
 -- `import path`, or `import? path`
-pub record ImportParts (A : Type 0) : Type 0 where
+pub record ImportParts (Leaf : Type 0) : Type 0 where
   pub optional : Bool
-  pub path : Quoted A
+  pub path : Quoted Leaf
 
--- `mod name` or `mod? name`, with a path or without; a written one has no doc
-pub record ModuleParts (A : Type 0) : Type 0 where
+-- `mod name` or `mod? name`, with an optional path; a written one has no doc
+pub record ModuleParts (Leaf : Type 0) : Type 0 where
   pub doc : Option (List ℕ)
   pub optional : Bool
-  pub name : A
-  pub path : Option (Quoted A)
+  pub name : Leaf
+  pub path : Option (Quoted Leaf)
 
--- A recipe and the lines of its body; none if it has no body. A written one has no doc. The comment is the one between the header and the
--- body.
-pub record RecipeParts (A B C S : Type 0) : Type 0 where
+-- A recipe with the lines of its body, of which there are none if it has no body. A written one has no doc. The comment is the one between
+-- the header and the body.
+pub record RecipeParts (Leaf Position LineNumber Star : Type 0) : Type 0 where
   pub doc : Option (List ℕ)
-  pub header : Header A B S
+  pub header : Header Leaf Position Star
   pub comment : Option (List ℕ)
-  pub body : List (BodyLine A B C)
+  pub body : List (BodyLine Leaf Position LineNumber)
 
 -- the value of a setting
-pub data SettingValue (A B : Type 0) : Type 0 where
-  -- nothing, which is true, or a truth value
-  Truth : (value : Bool) → SettingValue A B
-  Value : (value : Expr A B) → SettingValue A B
+pub data SettingValue (Leaf Position : Type 0) : Type 0 where
+  -- a boolean, which is `true` if there is no value
+  Truth : (value : Bool) → SettingValue Leaf Position
+  Value : (value : Expr Leaf Position) → SettingValue Leaf Position
   -- `[command, arguments]`
-  Interpreter : (command : Expr A B) (arguments : Exprs A B) → SettingValue A B
+  Interpreter : (command : Expr Leaf Position) (arguments : Exprs Leaf Position) → SettingValue Leaf Position
 
--- `set name := value`; the name spells the keyword
-pub record SettingParts (A B : Type 0) : Type 0 where
+-- `set name := value`; the name is the keyword
+pub record SettingParts (Leaf Position : Type 0) : Type 0 where
   pub keyword : Keyword
-  pub name : A
-  pub value : SettingValue A B
+  pub name : Leaf
+  pub value : SettingValue Leaf Position
 
--- what may have attributes
-pub data Content (A B C S : Type 0) : Type 0 where
-  Alias : (parts : AliasParts A) → Content A B C S
-  Assignment : (parts : AssignmentParts A B) → Content A B C S
-  Function : (parts : FunctionParts A B) → Content A B C S
-  Import : (parts : ImportParts A) → Content A B C S
-  Module : (parts : ModuleParts A) → Content A B C S
-  Recipe : (parts : RecipeParts A B C S) → Content A B C S
-  Setting : (parts : SettingParts A B) → Content A B C S
+-- a construct, which can have attributes
+pub data Content (Leaf Position LineNumber Star : Type 0) : Type 0 where
+  Alias : (parts : AliasParts Leaf) → Content Leaf Position LineNumber Star
+  Assignment : (parts : AssignmentParts Leaf Position) → Content Leaf Position LineNumber Star
+  Function : (parts : FunctionParts Leaf Position) → Content Leaf Position LineNumber Star
+  Import : (parts : ImportParts Leaf) → Content Leaf Position LineNumber Star
+  Module : (parts : ModuleParts Leaf) → Content Leaf Position LineNumber Star
+  Recipe : (parts : RecipeParts Leaf Position LineNumber Star) → Content Leaf Position LineNumber Star
+  Setting : (parts : SettingParts Leaf Position) → Content Leaf Position LineNumber Star
   -- `unexport name`
-  Unexport : (name : A) → Content A B C S
+  Unexport : (name : Leaf) → Content Leaf Position LineNumber Star
 
-pub data Item (A B C S D : Type 0) : Type 0 where
+pub data Item (Leaf Position LineNumber Star Attributes : Type 0) : Type 0 where
   -- the end of a line, or a blank line
-  Newline : Item A B C S D
-  -- a comment without the white space at its end
-  Comment : (text : List ℕ) → Item A B C S D
-  -- a construct, after its attributes
-  Construct : (attributes : D) (content : Content A B C S) → Item A B C S D
+  Newline : Item Leaf Position LineNumber Star Attributes
+  -- a comment without trailing white space
+  Comment : (text : List ℕ) → Item Leaf Position LineNumber Star Attributes
+  -- a construct with its attributes
+  Construct : (attributes : Attributes) (content : Content Leaf Position LineNumber Star) → Item Leaf Position LineNumber Star Attributes
 
 -- an item as it is written
 abbrev pub WrittenItem : (A B C S : Type 0) → Type 0
 WrittenItem A B C S = Item A B C S (List (WrittenAttribute A B))
 
--- an item with what its attributes mean, in the order of their content
+-- an item with the meaning of its attributes, in content order
 abbrev pub OrderedItem : (A B C : Type 0) → Type 0
 OrderedItem A B C = Item A B C (Unit {0}) (List (Entry A B))
 
--- a tree of the grammar alone
+-- a tree that the grammar derives
 abbrev pub WrittenTree : Type 0
 WrittenTree = List (WrittenItem Tok Tok ℕ Tok)
 
@@ -263,7 +263,7 @@ WrittenShape = List (WrittenItem (List ℕ) (Unit {0}) (Unit {0}) (Unit {0}))
 abbrev pub Shape : Type 0
 Shape = List (OrderedItem (List ℕ) (Unit {0}) (Unit {0}))
 
--- `name := value`, with `eager` or `export` before it or not
+-- `name := value`, with an optional `eager` or `export` before it
 abbrev pub assignment_of : {A B : Type 0} → (eager export : Bool) → A → Expr A B → AssignmentParts A B
 assignment_of eager export name value = record { eager = eager; export = export; name = name; value = value }
 
@@ -291,32 +291,32 @@ commented_attribute comment w = record { name = w.name; arguments = w.arguments;
 abbrev pub commented_entry : {A B : Type 0} → (comment : List ℕ) → Entry A B → Entry A B
 commented_entry comment e = record { name = e.name; attribute = e.attribute; comment = Some comment }
 
--- the last element replaced
+-- the list with its last element replaced
 abbrev pub at_last : {X : Type 0} → (X → X) → List X → List X
 at_last f [] = []
 at_last f (x ∷ []) = f x ∷ []
 at_last f (x ∷ y ∷ xs) = x ∷ at_last f (y ∷ xs)
 
--- a comment put to the last element; without a comment they stay as they are
+-- the list with a comment added to its last element, if there is a comment
 abbrev pub commented : {X : Type 0} → (List ℕ → X → X) → (comment : Option (List ℕ)) → List X → List X
 commented put None xs = xs
 commented put (Some comment) xs = at_last (put comment) xs
 
--- the attributes of a line with the comment after it
+-- the attributes of a line, of which the last one gets the comment at the end of the line
 abbrev pub commented_line : {A B : Type 0} → (comment : Option (List ℕ)) → List (WrittenAttribute A B) → List (WrittenAttribute A B)
 commented_line = commented commented_attribute
 
--- lines with one more before them; an empty line before none is left out
+-- a line before others; an empty line at the end is dropped
 abbrev pub line_before : {A B C : Type 0} → BodyLine A B C → List (BodyLine A B C) → List (BodyLine A B C)
 line_before (Line number []) [] = []
 line_before l ls = l ∷ ls
 
--- lines without the empty ones at the end
+-- lines without empty ones at the end
 abbrev pub trimmed : {A B C : Type 0} → List (BodyLine A B C) → List (BodyLine A B C)
 trimmed [] = []
 trimmed (l ∷ ls) = line_before l (trimmed ls)
 
--- what is at the leaves replaced
+-- the tree with other projections of its tokens
 module _ {A B C D : Type 0} (f : A → C) (g : B → D) where
   abbrev mutual
     pub over_expr : Expr A B → Expr C D
@@ -466,7 +466,7 @@ module _ {A B C S A' B' C' S' : Type 0} (f : A → A') (g : B → B') (h : C →
   over_item attributes_over (Comment text) = Comment text
   over_item attributes_over (Construct attributes content) = Construct (attributes_over attributes) (over_content content)
 
--- without the places of stars
+-- without the tokens of stars
 abbrev pub starless_argument : {A B S : Type 0} → DependencyArgument A B S → DependencyArgument A B (Unit {0})
 starless_argument a = record { star = option_map (λ star. tt) a.star; value = a.value }
 
@@ -487,30 +487,30 @@ starless (Recipe parts) = Recipe (record { doc = parts.doc; header = starless_he
 starless (Setting parts) = Setting parts
 starless (Unexport name) = Unexport name
 
--- what a shape keeps of a token
+-- the projection of a leaf in a shape
 abbrev pub lexeme : Tok → List ℕ
 lexeme t = t.lexeme
 
--- what a shape keeps of a place
+-- the projection of a position in a shape
 abbrev pub nothing : {X : Type 0} → X → Unit {0}
 nothing x = tt
 
--- what a tree keeps of a token
+-- the projection of a token in a tree
 abbrev pub itself : Tok → Tok
 itself t = t
 
--- the line that a token begins on
+-- the line on which a token begins
 abbrev pub line_of : Tok → ℕ
 line_of t = t.line
 
--- an item of a tree without its places
+-- the shape of an item of a tree
 abbrev pub item_shape_of : OrderedItem Tok Tok ℕ → OrderedItem (List ℕ) (Unit {0}) (Unit {0})
 item_shape_of = over_item lexeme nothing nothing (λ star. star) (map (over_entry lexeme nothing))
 
--- the tree without its places
+-- the shape of a tree
 abbrev pub shape_of : Tree → Shape
 shape_of = map item_shape_of
 
--- the written tree without its places
+-- the shape of a written tree
 abbrev pub written_shape_of : WrittenTree → WrittenShape
 written_shape_of = map (over_item lexeme nothing nothing nothing (map (over_written_attribute lexeme nothing)))

@@ -1,23 +1,23 @@
--- Reading significant tokens to a written tree of tokens.
+-- Parses significant tokens to a written tree of tokens.
 use Rattle.std.specs.Prelude.{true, List, [], map, Result, Ok}
 use Rattle.justfile_model.specs.Features.{Noted}
 use Rattle.justfile_model.specs.Conditions.{Conditions}
 use Rattle.justfile_model.specs.AttributeReader as attribute_reader
 use Rattle.justfile_model.specs.AttributeReader.{AttributeLeaves}
-use Rattle.justfile_model.specs.ReadAttribute.{ReadAttribute, commented_both, entry_read, keep_both, token_sight}
+use Rattle.justfile_model.specs.ReadAttribute.{ReadAttribute, commented_both, entry_read, keep_both, token_view}
 use Rattle.justfile_model.specs.Reader as reader
-use Rattle.justfile_model.specs.Reading as reading
-use Rattle.justfile_model.specs.Reading.{Counters, ◌>>=◌, Leaves}
+use Rattle.justfile_model.specs.ReaderState as reading
+use Rattle.justfile_model.specs.ReaderState.{Counters, ◌>>=◌, Leaves}
 use Rattle.justfile_model.specs.SignificantTokens.{SignificantToken}
 use Rattle.justfile_model.specs.Tok.{Tok}
 use Rattle.justfile_model.specs.Tree.{WrittenAttribute, WrittenTree}
 
--- A written tree keeps its tokens, and no number. So numbers never run out: which tokens derive a tree does not depend on counters.
+-- A written tree keeps its tokens, but no numbers. So the counters never run out, and whether tokens derive a tree doesn't depend on them.
 abbrev pub token_leaves : Leaves Conditions SignificantToken Tok Tok Tok
 token_leaves = record {
   conditions = λ conditions. conditions;
   see = λ t. t;
-  spot = λ t. t.tok;
+  position = λ t. t.tok;
   name = λ t. t.tok;
   literal = λ t literal text. t.tok;
   text = λ t. t.tok;
@@ -29,22 +29,22 @@ token_leaves = record {
   has_number = λ number. true;
 }
 
--- its constructs have attributes as they are written
+-- the attributes of its constructs are kept as they are written
 abbrev pub token_attributes : AttributeLeaves Conditions Tok Tok (List (WrittenAttribute Tok Tok)) ReadAttribute
 token_attributes = record {
-  sight = token_sight;
+  view = token_view;
   keep = keep_both;
   entry = entry_read;
   comment = commented_both;
   attributes = λ conditions xs. map (λ (x : ReadAttribute). x.written) xs;
 }
 
--- what the file is read under, and where reading stands
+-- the state of the parser, which keeps the conditions of the file
 abbrev pub State : Type 0
 State = reading.State Conditions SignificantToken Tok
 
-abbrev pub Refusal : Type 0
-Refusal = reading.Refusal SignificantToken Tok
+abbrev pub ReadError : Type 0
+ReadError = reading.ReadError SignificantToken Tok
 
 abbrev pub Read : Type 0 → Type 0
 Read X = reading.Read Conditions SignificantToken Tok X
@@ -54,18 +54,18 @@ Taken = reading.Taken Conditions SignificantToken Tok
 
 -- the lines of attributes before a construct
 abbrev pub read_attributes : State → Read (List ReadAttribute)
-read_attributes = attribute_reader.attribute_lines token_leaves token_sight keep_both entry_read commented_both
+read_attributes = attribute_reader.attribute_lines token_leaves token_view keep_both entry_read commented_both
 
--- no number was drawn yet
+-- the counters before the first number
 abbrev pub unnumbered : Counters
 unnumbered = record { bindings = 0; constants = 0; recipes = 0 }
 
--- nothing is read yet
+-- the state before the first token
 abbrev pub start_state : Conditions → List SignificantToken → State
 start_state conditions tokens = record { run = conditions; depth = 0; left = tokens; noted = [] }
 
--- a file, and its features
-unfoldable pub tree_of_tokens : Conditions → List SignificantToken → Result (WrittenTree × List (Noted Tok)) Refusal
+-- the written tree of a file and its features, or the error
+unfoldable pub tree_of_tokens : Conditions → List SignificantToken → Result (WrittenTree × List (Noted Tok)) ReadError
 tree_of_tokens conditions tokens = do
   x ← reader.file token_leaves token_attributes unnumbered (start_state conditions tokens)
   Ok (x.0.0, x.1.noted)

@@ -1,5 +1,5 @@
--- The printed text where no attribute and no recipe has a comment: an attribute's line is its brackets alone, and a recipe is its header and
--- its body.
+-- The printed text of shapes in which no attribute and no recipe has a comment: the line of an attribute is its brackets only, and a recipe
+-- is its header and body.
 use Rattle.std.specs.Prelude.{◌≡◌, ℕ, List, [], ◌∷◌, ◌++◌, codes, None}
 use Rattle.std.specs.List.{flat_map}
 use Rattle.justfile_model.specs.Printing.{alias_text, assignment_text, attribute_text, body_text, doc_line, fixed_text, function_text, header_text, if_some, import_text, item_end, module_text, setting_text, shown_doc}
@@ -36,13 +36,13 @@ abbrev pub uncommented_text : Shape → (indentation : List ℕ) → List ℕ
 uncommented_text [] indentation = []
 uncommented_text (i ∷ items) indentation = uncommented_item i indentation ++ item_end i items ++ uncommented_text items indentation
 
--- ---- where that is the text
+-- ---- where this is the printed text
 
 abbrev pub HasNoEntryComments : {A B : Type 0} → List (Entry A B) → Type 0
 HasNoEntryComments [] = Unit {0}
 HasNoEntryComments (e ∷ entries) = (e.comment ≡ None) × HasNoEntryComments entries
 
--- no comment stands between the header and the body of a recipe
+-- there is no comment between the header and the body of a recipe
 abbrev pub HasNoBodyComment : {A B C S : Type 0} → Content A B C S → Type 0
 HasNoBodyComment (Alias parts) = Unit {0}
 HasNoBodyComment (Assignment parts) = Unit {0}

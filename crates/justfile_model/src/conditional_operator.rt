@@ -3,7 +3,7 @@ ghost use Rattle.justfile_model.specs.ConditionalOperator.{operator_sign};
 
 use std::fmt;
 
-/// What a comparison asks of its two sides.
+/// The operator of a comparison.
 #[derive(Clone, Copy, Debug, PartialEq, Eq, PartialOrd, Ord)]
 pub enum ConditionalOperator {
     /// `==`
@@ -17,7 +17,7 @@ pub enum ConditionalOperator {
 }
 
 impl ConditionalOperator {
-    /// Its sign.
+    /// Returns the operator's symbol.
     fn sign(self) -> &'static str
         ensures { result.now ≡ operator_sign self }
     {
@@ -30,7 +30,7 @@ impl ConditionalOperator {
     }
 }
 
-/// Width and alignment are left aside, as the sign is written whole.
+/// Ignores width and alignment: the symbol is written as it is.
 impl fmt::Display for ConditionalOperator {
     ghost use Rattle.std.specs.Prelude.{Some};
 

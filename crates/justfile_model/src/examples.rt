@@ -1,13 +1,13 @@
-//! Texts and their tokens or faults, computed by the checker.
+//! Examples of texts with their tokens or faults, checked by computation.
 ghost use Rattle.std.specs.Prelude.{false, [], ◌∷◌, codes};
-ghost use Rattle.justfile_base.specs.declared.delimiter.Delimiter.TheVariants.{Bracket, FormatString, Paren};
-ghost use Rattle.justfile_base.specs.declared.string_kind.StringDelimiter.TheVariants.{QuoteSingle};
-ghost use Rattle.justfile_word.specs.declared.token_kind.TokenKind.TheVariants.{AmpersandAmpersand, Asterisk, At, Backtick, Bang, BangEquals, BangTilde, BarBar, BraceL, BraceR, ByteOrderMark, Colon, ColonColon, ColonEquals, Comma, Comment, Dedent, Dollar, Eof, Eol, Equals, EqualsEquals, EqualsTilde, FormatStringContinue, FormatStringEnd, FormatStringStart, Identifier, Indent, InterpolationEnd, InterpolationStart, ParenL, ParenR, Plus, PlusPlus, QuestionMark, Slash, StringToken, Text, Unspecified, Whitespace};
+ghost use Rattle.justfile_token.specs.declared.delimiter.Delimiter.TheVariants.{Bracket, FormatString, Paren};
+ghost use Rattle.justfile_token.specs.declared.string_kind.StringDelimiter.TheVariants.{QuoteSingle};
+ghost use Rattle.justfile_vocabulary.specs.declared.token_kind.TokenKind.TheVariants.{AmpersandAmpersand, Asterisk, At, Backtick, Bang, BangEquals, BangTilde, BarBar, BraceL, BraceR, ByteOrderMark, Colon, ColonColon, ColonEquals, Comma, Comment, Dedent, Dollar, Eof, Eol, Equals, EqualsEquals, EqualsTilde, FormatStringContinue, FormatStringEnd, FormatStringStart, Identifier, Indent, InterpolationEnd, InterpolationStart, ParenL, ParenR, Plus, PlusPlus, QuestionMark, Slash, StringToken, Text, Unspecified, Whitespace};
 ghost use Rattle.justfile_model.specs.Tok.{tok};
 ghost use Rattle.justfile_model.specs.LexicalFault.{EscapeEndOfFile, InconsistentLeadingWhitespace, InvalidEscapeSequence, MismatchedClosingDelimiter, MixedLeadingWhitespace, UnexpectedCharacter, UnexpectedClosingDelimiter, UnexpectedEndOfToken, UnknownStartOfToken, UnpairedCarriageReturn, UnterminatedBacktick, UnterminatedInterpolation, UnterminatedString};
 ghost use Rattle.justfile_model.specs.Lexed.{IsFault, Lexed};
 
-/// Assignments, and every fixed token: the longest one comes first.
+/// Assignments, and all tokens of fixed text: the longest one is taken.
 pub fn one_line()
     ensures bare { Lexed (codes "a:=b") (tok Identifier (codes "a") 0 0 0 ∷ tok ColonEquals (codes ":=") 1 0 1 ∷
         tok Identifier (codes "b") 3 0 3 ∷ tok Eof [] 4 0 4 ∷ []) }
@@ -25,7 +25,7 @@ pub fn one_line()
         tok QuestionMark (codes "?") 26 0 26 ∷ tok At (codes "@") 27 0 27 ∷ tok Eof [] 28 0 28 ∷ []) }
 {}
 
-/// A single `&`, and bytes that begin no token.
+/// A single `&`, and bytes that don't begin a token.
 pub fn refused_tokens()
     ensures at_end { IsFault (codes "&") (UnexpectedEndOfToken (codes "&")) (tok Unspecified [] 1 0 1) }
     ensures before_another { IsFault (codes "&a") (UnexpectedCharacter (codes "&")) (tok Unspecified (codes "a") 1 0 1) }
@@ -35,7 +35,7 @@ pub fn refused_tokens()
     ensures digit { IsFault (codes "0") (UnknownStartOfToken 48) (tok Unspecified (codes "0") 0 0 0) }
 {}
 
-/// A closing delimiter matches the innermost open one.
+/// A closing delimiter has to match the innermost open one.
 pub fn refused_delimiters()
     ensures other { IsFault (codes "(]") (MismatchedClosingDelimiter Bracket 0 Paren) (tok Unspecified [] 1 0 1) }
     ensures none { IsFault (codes "]") (UnexpectedClosingDelimiter Bracket) (tok Unspecified [] 0 0 0) }
@@ -44,8 +44,8 @@ pub fn refused_delimiters()
         (tok Unspecified [] 5 1 2) }
 {}
 
-/// Leading blanks that differ from the level, or that mix spaces and tabs: in a body only the first
-/// ones, as many as the level has, are tested for both.
+/// Leading blanks that differ from the level, or that mix spaces and tabs. In a body only the first
+/// blanks are checked for a mix, as many as the level has.
 pub fn refused_indentation()
     ensures other { IsFault (codes "a:\n 0\n 1\n\t2\n") (InconsistentLeadingWhitespace (codes " ") (codes "\t"))
         (tok Unspecified (codes "\t") 9 3 0) }
@@ -56,7 +56,8 @@ pub fn refused_indentation()
         (tok Unspecified (codes " \t") 7 2 0) }
 {}
 
-/// What has no end points to where it begins, and a continued part of a format string to its `}}`.
+/// A literal without an end is reported where it begins, and a continued part of a format string at
+/// its `}}`.
 pub fn unterminated()
     ensures string { IsFault (codes "r a='asdf") UnterminatedString (tok Unspecified (codes "'") 4 0 4) }
     ensures tripled { IsFault (codes "'''a''") UnterminatedString (tok Unspecified (codes "'''") 0 0 0) }
@@ -65,8 +66,8 @@ pub fn unterminated()
     ensures interpolation { IsFault (codes "a:\n echo {{ foo") UnterminatedInterpolation (tok InterpolationStart (codes "{{") 9 1 6) }
 {}
 
-/// A lone carriage return is text in a body. Where another item follows, the levels close before
-/// the blank line, and it is refused.
+/// A single carriage return is text in a body. If another item follows, the levels close before the
+/// blank line, and the carriage return is an error.
 pub fn carriage_returns()
     ensures in_body { Lexed (codes "foo:\n  a\n\n  \r \n") (tok Identifier (codes "foo") 0 0 0 ∷ tok Colon (codes ":") 3 0 3 ∷
         tok Eol (codes "\n") 4 0 4 ∷ tok Indent (codes "  ") 5 1 0 ∷ tok Text (codes "a") 7 1 2 ∷ tok Eol (codes "\n") 8 1 3 ∷
@@ -75,8 +76,8 @@ pub fn carriage_returns()
     ensures after_body { IsFault (codes "foo:\n  a\n\n  \r \nb:\n") UnpairedCarriageReturn (tok Unspecified (codes "\r") 12 3 2) }
 {}
 
-/// An empty line inside a body stays in it. The levels close before the first of the blank lines
-/// after it.
+/// An empty line inside a body belongs to the body. The levels close before the first of the blank
+/// lines after the body.
 pub fn bodies()
     ensures empty_line { Lexed (codes "a:\n  b\n\n  c\n\n\nd:\n") (tok Identifier (codes "a") 0 0 0 ∷ tok Colon (codes ":") 1 0 1 ∷
         tok Eol (codes "\n") 2 0 2 ∷ tok Indent (codes "  ") 3 1 0 ∷ tok Text (codes "b") 5 1 2 ∷ tok Eol (codes "\n") 6 1 3 ∷
@@ -91,8 +92,8 @@ pub fn bodies()
         tok Eof [] 24 2 5 ∷ []) }
 {}
 
-/// An indent opens a level, and a line with fewer leading blanks closes those above. At the end of
-/// the text all are closed, blank lines or not.
+/// An indent opens a level, and a line with fewer leading blanks closes the levels above. At the
+/// end of the text all levels close, whether there are blank lines or not.
 pub fn levels()
     ensures closes_two { Lexed (codes " a\n  b\nc") (tok Indent (codes " ") 0 0 0 ∷ tok Identifier (codes "a") 1 0 1 ∷
         tok Eol (codes "\n") 2 0 2 ∷ tok Indent (codes "  ") 3 1 0 ∷ tok Identifier (codes "b") 5 1 2 ∷ tok Eol (codes "\n") 6 1 3 ∷
@@ -109,8 +110,8 @@ pub fn levels()
         tok Whitespace (codes "  ") 6 2 0 ∷ tok Dedent [] 8 2 2 ∷ tok Eof [] 8 2 2 ∷ []) }
 {}
 
-/// In an interpolation a line end is whitespace, and `}}` ends it where no delimiter is open. At
-/// the end of the text it is refused, and open delimiters are not.
+/// In an interpolation a line end is whitespace, and `}}` ends it if no delimiter is open. At the
+/// end of the text an open interpolation is an error; open delimiters aren't.
 pub fn interpolations()
     ensures line_end { Lexed (codes "a:\n {{\n b}}") (tok Identifier (codes "a") 0 0 0 ∷ tok Colon (codes ":") 1 0 1 ∷
         tok Eol (codes "\n") 2 0 2 ∷ tok Indent (codes " ") 3 1 0 ∷ tok InterpolationStart (codes "{{") 4 1 1 ∷
@@ -124,7 +125,8 @@ pub fn interpolations()
     ensures open_delimiter { Lexed (codes "(") (tok ParenL (codes "(") 0 0 0 ∷ tok Eof [] 1 0 1 ∷ []) }
 {}
 
-/// A line end is LF, or CR and LF. While a delimiter is open it is whitespace.
+/// A line end is a line feed, or a carriage return and a line feed. While a delimiter is open it is
+/// whitespace.
 pub fn line_ends()
     ensures crlf { Lexed (codes "a:\r\n\tb\r\n") (tok Identifier (codes "a") 0 0 0 ∷ tok Colon (codes ":") 1 0 1 ∷
         tok Eol (codes "\r\n") 2 0 2 ∷ tok Indent (codes "\t") 4 1 0 ∷ tok Text (codes "b") 5 1 1 ∷ tok Eol (codes "\r\n") 6 1 2 ∷
@@ -135,8 +137,8 @@ pub fn line_ends()
     ensures comment { Lexed (codes "#a\rb\n") (tok Comment (codes "#a\rb") 0 0 0 ∷ tok Eol (codes "\n") 4 0 4 ∷ tok Eof [] 5 0 5 ∷ []) }
 {}
 
-/// A backslash and a line end are whitespace with the blanks after them. With none after them the
-/// next token is at column 0.
+/// A backslash and a line end are whitespace, together with the blanks after them. Without such
+/// blanks the next token is at column 0.
 pub fn escaped_line_ends()
     ensures with_blanks { Lexed (codes "a := \\\n  b\n") (tok Identifier (codes "a") 0 0 0 ∷ tok Whitespace (codes " ") 1 0 1 ∷
         tok ColonEquals (codes ":=") 2 0 2 ∷ tok Whitespace (codes " ") 4 0 4 ∷ tok Whitespace (codes "\\\n  ") 5 0 5 ∷
@@ -151,7 +153,7 @@ pub fn escaped_line_ends()
     ensures carriage_return { IsFault (codes "\\\ra") UnpairedCarriageReturn (tok Unspecified (codes "\\\r") 0 0 0) }
 {}
 
-/// A quote right after the identifier `f` opens in format mode, a backtick never does, and four
+/// A quote directly after the identifier `f` begins a format string, and a backtick doesn't. Four
 /// braces are text.
 pub fn format_strings()
     ensures nested { Lexed (codes "x := f'a{{ f\"b{{c}}\" }}d'\n") (tok Identifier (codes "x") 0 0 0 ∷ tok Whitespace (codes " ") 1 0 1 ∷
@@ -174,8 +176,8 @@ pub fn format_strings()
         tok Eof [] 5 0 5 ∷ []) }
 {}
 
-/// In double quotes a backslash hides the character after it. A delimiter is tripled where it can
-/// be.
+/// In double quotes a backslash hides the character after it. Three quotes are always a tripled
+/// delimiter.
 pub fn strings()
     ensures hidden { Lexed (codes "\"\\\"\"") (tok StringToken (codes "\"\\\"\"") 0 0 0 ∷ tok Eof [] 4 0 4 ∷ []) }
     ensures raw { Lexed (codes "'\\'") (tok StringToken (codes "'\\'") 0 0 0 ∷ tok Eof [] 3 0 3 ∷ []) }

@@ -1,12 +1,12 @@
-//! Laws of the grammar, each the contract of a function that does nothing.
+//! Laws of the grammar. Each is the contract of a function with an empty body.
 ghost use Rattle.std.specs.Prelude.{◌≡◌, ◌<◌, ◌≤◌, ◌⊎◌, ℕ, ◌+◌, Bool, IsTrue, List, length, map, slice_index, Option, Some, IfSome, Ok, Err};
 ghost use Rattle.std.specs.Option.{option_map};
-ghost use Rattle.justfile_word.specs.Indentation.{IsIndentation};
+ghost use Rattle.justfile_vocabulary.specs.Indentation.{IsIndentation};
 ghost use Rattle.justfile_model.specs.Conditions.{Conditions, with_expander, with_limit};
 ghost use Rattle.justfile_model.specs.Enabled.{indentation_of};
-ghost use Rattle.justfile_model.specs.Expressions.{Under, Waived};
+ghost use Rattle.justfile_model.specs.Expressions.{BelowLimit, PastLimitAt};
 ghost use Rattle.justfile_model.specs.Features.{ConstructFeatures, Noted, over_noted};
-ghost use Rattle.justfile_model.specs.Files.{FileTree, FileDerives, NumbersFrom, Obeys, ShapeDerives, all_features, keeps_tokens, literals, ordered, bindings, recipes};
+ghost use Rattle.justfile_model.specs.Files.{FileTree, FileDerives, NumbersFrom, Obeys, ShapeDerives, all_features, to_tokens, literals, ordered, bindings, recipes};
 ghost use Rattle.justfile_model.specs.Grammar.{File};
 ghost use Rattle.justfile_model.specs.Lexed.{Lexed};
 ghost use Rattle.justfile_model.specs.Literals.{Literal, Expansions, Within, AreCookedTexts, string_text};
@@ -14,57 +14,62 @@ ghost use Rattle.justfile_model.specs.Need.{DerivesUnder, IsNeed};
 ghost use Rattle.justfile_model.specs.NormalShape.{normal};
 ghost use Rattle.justfile_model.specs.Printing.{printable, text};
 ghost use Rattle.justfile_model.specs.Reader.{items};
-ghost use Rattle.justfile_model.specs.Reading.{Counters, TooDeep};
-ghost use Rattle.justfile_model.specs.Refusals.{IsDue};
-ghost use Rattle.justfile_model.specs.Sight.{sees_tokens};
+ghost use Rattle.justfile_model.specs.ReaderState.{Counters, TooDeep};
+ghost use Rattle.justfile_model.specs.ReadErrors.{IsDue};
+ghost use Rattle.justfile_model.specs.LeafView.{views_tokens};
 ghost use Rattle.justfile_model.specs.SignificantTokens.{AllSpelled, SignificantToken, identifiers, significant_tokens};
 ghost use Rattle.justfile_model.specs.Tok.{Tok};
 ghost use Rattle.justfile_model.specs.Tree.{Tree, Shape, WrittenTree, lexeme, nothing, shape_of};
 ghost use Rattle.justfile_model.specs.Uncommented.{HasNoComments, uncommented_text};
-ghost use Rattle.justfile_model.specs.TreeReader.{Refusal, State, tree_of_tokens, token_attributes, token_leaves};
+ghost use Rattle.justfile_model.specs.TreeReader.{ReadError, State, tree_of_tokens, token_attributes, token_leaves};
 
-/// The reader and the grammar agree, and tokens derive at most one tree with its features.
+/// The parser and the grammar agree, and tokens derive at most one tree with its features.
 pub fn reads()
-    // A written tree is read exactly where the grammar derives it under the limit, and it obeys the conditions.
+    // A written tree is parsed exactly if the grammar derives it under the limit, and it obeys the
+    // conditions.
     ensures derives { (C : Conditions) (ts : List SignificantToken) (written : WrittenTree) (features : List (Noted Tok))
         → tree_of_tokens C ts ≡ Ok (written, features)
-        → (fs : List (ConstructFeatures Tok)) × File keeps_tokens (Under C.limit) written fs ts × Obeys C written
-        × (features ≡ all_features (sees_tokens C.expander) written fs) }
+        → (fs : List (ConstructFeatures Tok)) × File to_tokens (BelowLimit C.limit) written fs ts × Obeys C written
+        × (features ≡ all_features (views_tokens C.expander) written fs) }
     ensures read { (C : Conditions) (ts : List SignificantToken) (written : WrittenTree) (fs : List (ConstructFeatures Tok))
-        → File keeps_tokens (Under C.limit) written fs ts → Obeys C written
-        → tree_of_tokens C ts ≡ Ok (written, all_features (sees_tokens C.expander) written fs) }
-    // A tree derives exactly where a written tree is read that means it.
+        → File to_tokens (BelowLimit C.limit) written fs ts → Obeys C written
+        → tree_of_tokens C ts ≡ Ok (written, all_features (views_tokens C.expander) written fs) }
+    // A tree is derived exactly if a written tree with its meaning is parsed.
     ensures sound { (C : Conditions) (ts : List SignificantToken) (written : WrittenTree) (features : List (Noted Tok))
         → tree_of_tokens C ts ≡ Ok (written, features)
-        → (tree : Tree) × (ordered (sees_tokens C.expander) written ≡ Some tree) × FileDerives C ts tree features }
+        → (tree : Tree) × (ordered (views_tokens C.expander) written ≡ Some tree) × FileDerives C ts tree features }
     ensures complete { (C : Conditions) (ts : List SignificantToken) (tree : Tree) (features : List (Noted Tok))
         → FileDerives C ts tree features
-        → (written : WrittenTree) × (ordered (sees_tokens C.expander) written ≡ Some tree) × (tree_of_tokens C ts ≡ Ok (written, features)) }
-    // Where the expressions that are entered at the limit begin at some tokens, it is read, or too deep at one of them.
+        → (written : WrittenTree) × (ordered (views_tokens C.expander) written ≡ Some tree) × (tree_of_tokens C ts ≡ Ok (written, features)) }
+    // If only expressions that begin at the given tokens exceed the limit, the tree is parsed, or
+    // the error is the depth at one of these tokens.
     ensures deep { (C : Conditions) (ts : List SignificantToken) (written : WrittenTree) (fs : List (ConstructFeatures Tok))
         (Hit : Option SignificantToken → Bool)
-        → File keeps_tokens (Waived C.limit (λ at. IsTrue (Hit at))) written fs ts → Obeys C written
-        → (tree_of_tokens C ts ≡ Ok (written, all_features (sees_tokens C.expander) written fs)) ⊎ ((at : Option SignificantToken) × IsTrue (Hit at)
+        → File to_tokens (PastLimitAt C.limit (λ at. IsTrue (Hit at))) written fs ts → Obeys C written
+        → (tree_of_tokens C ts ≡ Ok (written, all_features (views_tokens C.expander) written fs)) ⊎ ((at : Option SignificantToken) × IsTrue (Hit at)
         × (tree_of_tokens C ts ≡ Err (TooDeep at))) }
-    // Without the limit: it is read, or some expression is too deep.
+    // If the grammar derives a tree without the limit, the tree is parsed, or the error is the
+    // depth at some token.
     ensures free { (C : Conditions) (ts : List SignificantToken) (written : WrittenTree) (fs : List (ConstructFeatures Tok))
         → FileTree ts written fs → Obeys C written
-        → (tree_of_tokens C ts ≡ Ok (written, all_features (sees_tokens C.expander) written fs)) ⊎ ((at : Option SignificantToken) × (tree_of_tokens C ts ≡ Err (TooDeep at))) }
-    // Where they begin at some tokens, it is refused for its first literal without a text, for a rule that it breaks, or as too
-    // deep at one of these tokens, and for nothing else.
+        → (tree_of_tokens C ts ≡ Ok (written, all_features (views_tokens C.expander) written fs)) ⊎ ((at : Option SignificantToken) × (tree_of_tokens C ts ≡ Err (TooDeep at))) }
+    // If only expressions that begin at the given tokens exceed the limit, an error is the first
+    // literal without a text, a broken rule, or the depth at one of these tokens.
     ensures due { (C : Conditions) (ts : List SignificantToken) (written : WrittenTree) (fs : List (ConstructFeatures Tok))
         (Hit : Option SignificantToken → Bool)
-        → File keeps_tokens (Waived C.limit (λ at. IsTrue (Hit at))) written fs ts
-        → (r : Refusal) → tree_of_tokens C ts ≡ Err r → IsDue C (λ at. IsTrue (Hit at)) written r }
-    // Of the grammar alone: for its first literal without a text, for a rule that it breaks, or as too deep somewhere.
+        → File to_tokens (PastLimitAt C.limit (λ at. IsTrue (Hit at))) written fs ts
+        → (r : ReadError) → tree_of_tokens C ts ≡ Err r → IsDue C (λ at. IsTrue (Hit at)) written r }
+    // By the grammar alone: an error is the first literal without a text, a broken rule, or the
+    // depth at some token.
     ensures refused { (C : Conditions) (ts : List SignificantToken) (written : WrittenTree) (fs : List (ConstructFeatures Tok))
         → FileTree ts written fs
-        → (r : Refusal) → tree_of_tokens C ts ≡ Err r → IsDue C (λ at. Unit {0}) written r }
+        → (r : ReadError) → tree_of_tokens C ts ≡ Err r → IsDue C (λ at. Unit {0}) written r }
     ensures one { (C : Conditions) (ts : List SignificantToken) (tree other : Tree) (features others : List (Noted Tok))
         → FileDerives C ts tree features → FileDerives C ts other others → (tree ≡ other) × (features ≡ others) }
 {}
 
-/// A tree has at most as many bindings and recipes as its tokens have identifiers, and counters grow by what the tree holds.
+/// A tree has at most as many bindings and recipes as its tokens have identifiers. The counters
+/// grow by the numbers of bindings and recipes in the tree.
 pub fn counts()
     ensures whole { (C : Conditions) (ts : List SignificantToken) (x : WrittenTree × List (Noted Tok)) → tree_of_tokens C ts ≡ Ok x
         → bindings x.0 + recipes x.0 ≤ identifiers ts }
@@ -76,8 +81,9 @@ pub fn counts()
         → x.0.1.constants ≡ n.constants }
 {}
 
-/// What derives under a limit derives under each greater one. Tokens that derive a tree have one need, the least limit under which
-/// they do, and derive a tree under each limit from there on.
+/// Tokens that derive a tree under a limit derive it under each greater one. Such tokens have
+/// exactly one need, the least limit under which they derive a tree, and every limit from there on
+/// suffices.
 pub fn needs()
     ensures raised { (C : Conditions) (ts : List SignificantToken) (limit : ℕ) → C.limit ≤ limit
         → (tree : Tree) (features : List (Noted Tok)) → FileDerives C ts tree features
@@ -89,27 +95,30 @@ pub fn needs()
         → IsNeed C ts n → m ≡ n }
     ensures enough { (C : Conditions) (ts : List SignificantToken) (need limit : ℕ)
         → IsNeed C ts need → need ≤ limit → DerivesUnder C ts limit }
-    // Whether a limit suffices depends on neither the expander nor the version: what derives under these conditions, and under
-    // others, derives under these with the limit of the others.
+    // Whether a limit suffices depends neither on the expander nor on the version: tokens that
+    // derive under these conditions and under others derive under these with the limit of the
+    // others.
     ensures relimited { (C D : Conditions) (ts : List SignificantToken) (tree other : Tree)
         (features others : List (Noted Tok)) → FileDerives C ts tree features
         → FileDerives D ts other others → FileDerives (with_limit D.limit C) ts tree features }
-    // What derives under another limit, and is refused under this one, is refused as too deep. Where the expressions that are
-    // entered at the limit begin at some tokens, it is refused at one of these.
+    // Tokens that derive under another limit, but not under this one, are too deep. If only
+    // expressions that begin at the given tokens exceed the limit, the error is at one of these
+    // tokens.
     ensures deep { (C : Conditions) (ts : List SignificantToken) (limit : ℕ) (tree : Tree)
         (features : List (Noted Tok)) → FileDerives (with_limit limit C) ts tree features
-        → (r : Refusal) → tree_of_tokens C ts ≡ Err r
+        → (r : ReadError) → tree_of_tokens C ts ≡ Err r
         → (at : Option SignificantToken) × (r ≡ TooDeep at) }
     ensures deep_at { (C : Conditions) (ts : List SignificantToken) (limit : ℕ) (tree : Tree)
         (features : List (Noted Tok)) (h : FileDerives (with_limit limit C) ts tree features)
-        (r : Refusal) → tree_of_tokens C ts ≡ Err r
+        (r : ReadError) → tree_of_tokens C ts ≡ Err r
         → (fs : List (ConstructFeatures Tok)) (Hit : Option SignificantToken → Bool)
-        → File keeps_tokens (Waived C.limit (λ at. IsTrue (Hit at))) h.written fs ts
+        → File to_tokens (PastLimitAt C.limit (λ at. IsTrue (Hit at))) h.written fs ts
         → (at : Option SignificantToken) × IsTrue (Hit at) × (r ≡ TooDeep at) }
 {}
 
-/// Of tokens whose kinds have the lexemes that are theirs, as those of a text have: a tree derives where its shape does, with features at
-/// the same places but for what is kept of them; and they derive at most one shape with its features. Literals have one row of texts.
+/// For tokens with the lexemes of their kinds, such as the tokens of a text: they derive a tree
+/// exactly if they derive its shape, with the same features up to the projections of their tokens.
+/// They derive at most one shape with its features. Literals have at most one list of texts.
 pub fn shapes()
     ensures spelled { (source : List ℕ) (tokens : List Tok) → Lexed source tokens → AllSpelled (significant_tokens tokens) }
     ensures forget { (C : Conditions) (ts : List SignificantToken) → AllSpelled ts → (tree : Tree) (features : List (Noted Tok))
@@ -126,7 +135,8 @@ pub fn shapes()
         → AreCookedTexts E literals others → texts ≡ others }
 {}
 
-/// The normal shape is its own, has the same literals, as many bindings and as many recipes, and is printable where the shape is.
+/// Normalizing a shape twice is the same as once. It keeps the literals, the numbers of bindings
+/// and recipes, and whether the shape is printable.
 pub fn normal_twice()
     ensures twice { (s : Shape) → normal (normal s) ≡ normal s }
     ensures same_literals { (s : Shape) → literals (normal s) ≡ literals s }
@@ -135,7 +145,8 @@ pub fn normal_twice()
     ensures same_printable { (s : Shape) → printable (normal s) ≡ printable s }
 {}
 
-/// How a file is indented is seen of its shape, and of its normal form. The literal that says it stands for an indentation.
+/// The indentation of a file depends on its shape only, and is the same for the normal form. The
+/// literal that sets it is an indentation.
 pub fn indentations()
     ensures shape { (tree : Tree) → indentation_of (shape_of tree) ≡ option_map lexeme (indentation_of tree) }
     ensures normal { (s : Shape) → indentation_of (normal s) ≡ indentation_of s }
@@ -144,7 +155,7 @@ pub fn indentations()
         (λ literal. (text : List ℕ) × (string_text literal ≡ Ok text) × IsIndentation text) }
 {}
 
-/// What derives where an expander answers less derives where it answers more.
+/// Tokens that derive with an expander derive the same with an expander that has more results.
 pub fn expanders()
     ensures tree { (C : Conditions) (F : Expansions) → Within C.expander F
         → (ts : List SignificantToken) (tree : Tree) (features : List (Noted Tok)) → FileDerives C ts tree features
@@ -154,17 +165,17 @@ pub fn expanders()
         → ShapeDerives (with_expander F C) ts shape features }
 {}
 
-/// The printed text is a function of the normal shape and the indentation.
+/// The printed text depends on the normal shape and the indentation only.
 pub fn printing()
     ensures { (s r : Shape) (indentation : List ℕ) → normal s ≡ normal r → text (normal s) indentation ≡ text (normal r) indentation }
 {}
 
-/// Where no attribute and no recipe has a comment, the printed text is that in which none is printed.
+/// If no attribute and no recipe has a comment, the printed text is the one that ignores comments.
 pub fn uncommented()
     ensures { (s : Shape) (indentation : List ℕ) → HasNoComments s → text (normal s) indentation ≡ uncommented_text (normal s) indentation }
 {}
 
-/// The numbers that one parse gives are distinct, and rise in the order of parsing.
+/// The numbers of a parse are distinct and ascend in the order of parsing.
 pub fn numbers_rise()
     ensures { (first : ℕ) (numbers : List ℕ) → NumbersFrom first numbers → (i j : ℕ) → i < j → j < length numbers
         → slice_index numbers i < slice_index numbers j }

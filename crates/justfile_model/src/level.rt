@@ -1,14 +1,14 @@
-/// How tightly the operators of an expression bind, from the loosest to the tightest.
+/// The precedence levels of expressions, from the loosest to the tightest.
 #[derive(Clone, Copy)]
 pub enum Level {
-    /// Sides of `||`; an expression is opened.
+    /// Operands of `||`. An expression at this level is one deeper than the expression around it.
     Expression,
-    /// Sides of `&&`.
+    /// Operands of `&&`.
     Disjunct,
-    /// Sides of a comparison.
+    /// Operands of a comparison.
     Compared,
-    /// Sides of `/`, `++` and `+`.
+    /// Operands of `/`, `++` and `+`.
     Conjunct,
-    /// What has no operator before or after it.
+    /// A value, which has no operator.
     Value,
 }

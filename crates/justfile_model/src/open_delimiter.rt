@@ -1,10 +1,10 @@
-use justfile_base::Delimiter;
+use justfile_token::Delimiter;
 
-/// An open delimiter, and the line on which it was opened; for a format string the line on which
-/// its first part ends.
+/// An open delimiter, and the line on which its token ends. For a format string that is the line on
+/// which the first part ends.
 #[derive(Clone, Copy, Debug, PartialEq, Eq)]
 pub struct OpenDelimiter {
-    /// What was opened.
+    /// The delimiter.
     pub delimiter: Delimiter,
     /// The line on which its token ends, from 0.
     pub line: usize,

@@ -1,6 +1,6 @@
 use crate::conditional_operator::ConditionalOperator;
 
-/// What stands between two expressions.
+/// An operator between two expressions.
 #[derive(Clone, Copy)]
 pub enum Operator {
     /// `||`

@@ -1,10 +1,10 @@
-//! Kinds of parameters.
+//! The kinds of parameters.
 ghost use Rattle.std.specs.Prelude.{◌≡◌};
 ghost use Rattle.std.specs.Option.{option_copied};
 ghost use Rattle.justfile_model.specs.ParameterKind.{kind_prefix};
 ghost use Rattle.justfile_model.specs.RecipeRules.{is_variadic};
 
-/// How many arguments a parameter takes.
+/// The number of arguments that a parameter takes.
 #[derive(Clone, Copy, Debug, PartialEq, Eq)]
 pub enum ParameterKind {
     /// `+name`: one or more.
@@ -16,7 +16,7 @@ pub enum ParameterKind {
 }
 
 impl ParameterKind {
-    /// What stands before the parameter, if anything does.
+    /// Returns the prefix of the parameter, if it has one.
     pub fn prefix(self) -> Option<&'static str>
         ensures { option_copied result ≡ kind_prefix self }
     {
@@ -27,7 +27,7 @@ impl ParameterKind {
         }
     }
 
-    /// Whether it takes several arguments.
+    /// Whether the parameter is variadic.
     pub fn is_variadic(self) -> bool
         ensures { result ≡ is_variadic self }
     {

@@ -1,11 +1,11 @@
-//! What is printed of headers and constructs, computed by the checker.
+//! Examples of printed headers and constructs, checked by computation.
 ghost use Rattle.std.specs.Prelude.{◌≡◌, false, true, [], ◌∷◌, None, Some, codes};
-ghost use Rattle.justfile_word.specs.declared.attribute_kind.AttributeKind.TheVariants.{Private};
+ghost use Rattle.justfile_vocabulary.specs.declared.attribute_kind.AttributeKind.TheVariants.{Private};
 ghost use Rattle.justfile_model.specs.Printing.{content_text, header_text, item_text};
 ghost use Rattle.justfile_model.specs.Tree.{Assignment, Construct, Line, ListOf, Plain, Recipe, Root, StringLiteral, Text, Variable, bare_entry, bare_recipe, commented_entry, more, none};
 ghost use Rattle.justfile_model.specs.declared.parameter_kind.ParameterKind.TheVariants.{Plus, Singular, Star};
 
-/// A header has its parameters before the colon, and its dependencies after it.
+/// A header has its parameters before the colon and its dependencies after it.
 pub fn headers()
     ensures bare { header_text (record { quiet = false; name = codes "foo"; parameters = []; priors = []; subsequents = [] }) ≡ codes "foo:" }
     ensures whole { header_text (record {
@@ -24,7 +24,7 @@ pub fn headers()
           } ∷ [];
       subsequents = record { star = None; path = codes "z" ∷ codes "y" ∷ []; arguments = [] } ∷ [];
     }) ≡ codes "@_build $mode='a' *args: dep *(x *[a, b]) && z::y" }
-    // Arguments stand side by side, a blank between.
+    // Arguments are separated by spaces.
     ensures arguments { header_text (record {
       quiet = false;
       name = codes "foo";
@@ -39,7 +39,7 @@ pub fn headers()
     }) ≡ codes "foo +n: *(b *x / y)" }
 {}
 
-/// The words before an assignment, and the doc of a recipe.
+/// The keywords before an assignment, and the doc of a recipe.
 pub fn constructs()
     ensures exported { content_text (Assignment (record { eager = false; export = true; name = codes "a"; value = Variable (codes "b") })) []
         ≡ codes "export a := b" }
@@ -47,11 +47,11 @@ pub fn constructs()
         ≡ codes "eager export a := b" }
     ensures doc { item_text (Construct [] (Recipe (record { doc = Some (codes "bar"); header = record { quiet = false; name = codes "foo"; parameters = []; priors = []; subsequents = [] }; comment = None; body = [] }))) []
         ≡ codes "# bar\nfoo:" }
-    // Before the attributes.
+    // A doc is printed before the attributes.
     ensures doc_first { item_text (Construct (bare_entry tt (Plain Private) ∷ [])
         (Recipe (record { doc = Some (codes "x"); header = record { quiet = false; name = codes "foo"; parameters = []; priors = []; subsequents = [] }; comment = None; body = [] }))) []
         ≡ codes "# x\n[private]\nfoo:" }
-    // At the ends of the lines of an attribute and of a header.
+    // Comments are printed at the ends of the lines of attributes and of the header.
     ensures comments { item_text (Construct (commented_entry (codes "# a") (bare_entry tt (Plain Private)) ∷ [])
         (Recipe (bare_recipe (record { quiet = false; name = codes "foo"; parameters = []; priors = []; subsequents = [] }) (Some (codes "# b")) (Line tt (Text (codes "x") ∷ []) ∷ [])))) (codes "  ")
         ≡ codes "[private] # a\nfoo: # b\n  x" }

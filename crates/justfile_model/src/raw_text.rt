@@ -1,4 +1,4 @@
-use justfile_base::StringKind;
+use justfile_token::StringKind;
 
 /// Text that is read byte by byte up to an end.
 #[derive(Clone, Copy, Debug, PartialEq, Eq)]
@@ -6,7 +6,7 @@ pub enum RawText {
     Comment,
     /// The text of a body line.
     Body,
-    /// What is inside a literal.
+    /// The inside of a literal.
     Literal {
         kind: StringKind,
         /// Whether the literal is a part of a format string.

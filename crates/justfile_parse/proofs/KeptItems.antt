@@ -1,5 +1,5 @@
--- Items that are moved to the first ones of a list, each with its doc.
-use Rattle.std.proofs.Common.{◌≡◌, ◌∙◌, ℕ, ◌+◌, ◌-◌, ◌<◌, ◌≤◌, ◌⊎◌, inl, inr, Bool, false, cond, All, List, [], ◌∷◌, ◌++◌, drop, length, map, get_or, set, take, Option, Some, None, reverse, refl, sym, ap, subst, arith}
+-- Items that are moved to the front of a list, each with its doc.
+use Rattle.std.proofs.Common.{◌≡◌, ◌∙◌, ℕ, ◌+◌, ◌-◌, ◌<◌, ◌≤◌, ◌⊎◌, inl, inr, Bool, true, false, cond, All, List, [], ◌∷◌, ◌++◌, drop, length, map, get_or, set, take, Option, Some, None, reverse, refl, sym, ap, subst, arith}
 use Rattle.std.specs.List.{swap, take-map}
 use Rattle.std.proofs.Math.Nat.{eq-or-lt_of_le}
 use Rattle.std.proofs.Math.Seq.{drop-length}
@@ -8,13 +8,15 @@ use Rattle.std.proofs.lemmas.List.Edits.{swap_is}
 use Rattle.std.proofs.lemmas.List.Elements.{All-set, All-take}
 use Rattle.std.proofs.lemmas.List.Sorted.{All-permutation, IsPermutation-swap}
 use Rattle.justfile_item.specs.declared.item.Item.{Item}
+use Rattle.justfile_item.specs.declared.item.Item.TheVariants as items
 use Rattle.justfile_model.specs.Docs.{Nothing, documented, item_with_doc, redocumented}
 use Rattle.justfile_model.specs.Files.{says_doc}
 use Rattle.justfile_model.specs.Tree as tree
-use Rattle.justfile_parse.specs.Docs.{LeafItem, doc_before, doc_first, doc_taken, says_no_doc, taken_docs, with_doc, with_item, with_items}
+use Rattle.justfile_parse.specs.Docs.{LeafItem, doc_before, doc_first, doc_taken, is_newline, says_no_doc, taken_docs, with_doc, with_item, with_items}
+use Rattle.justfile_parse.proofs.DocSteps.{line_end}
 use Rattle.justfile_parse.proofs.TakenDocs.{from_first}
 use Rattle.justfile_parse_item.specs.Tree.{item_tree}
-use Rattle.justfile_parse_item.specs.Whole.{AreWhole, IsWholeItem}
+use Rattle.justfile_parse_item.specs.DerivedFields.{HaveDerivedFields, HasDerivedItemFields}
 
 -- ---- an element that changes places with one before it
 
@@ -47,17 +49,17 @@ take_of_take : {X : Type 0} (n k : ℕ) (xs : List X) → n ≤ length (take k x
 take_of_take n k xs h = sym (take-append-le n (take k xs) (drop k xs) h) ∙ ap (λ (l : List _). take n l) (take-append-drop k xs)
 
 -- all that are there are whole, in any order
-pub swapped_whole : (xs ys : List Item) (k p : ℕ) → k < length xs → p < length xs → ys ≡ swap xs k p → AreWhole xs → AreWhole ys
-unfolding AreWhole
-swapped_whole xs ys k p below within e h = All-permutation IsWholeItem xs ys (IsPermutation-swap xs ys k p below within e) h
+pub swapped_whole : (xs ys : List Item) (k p : ℕ) → k < length xs → p < length xs → ys ≡ swap xs k p → HaveDerivedFields xs → HaveDerivedFields ys
+unfolding HaveDerivedFields
+swapped_whole xs ys k p below within e h = All-permutation HasDerivedItemFields xs ys (IsPermutation-swap xs ys k p below within e) h
 
-pub set_whole : (xs ys : List Item) (p : ℕ) (x : Item) → ys ≡ set xs p x → IsWholeItem x → AreWhole xs → AreWhole ys
-unfolding AreWhole
-set_whole xs ys p x e h whole = subst (All IsWholeItem) (sym e) (All-set IsWholeItem xs p x h whole)
+pub set_whole : (xs ys : List Item) (p : ℕ) (x : Item) → ys ≡ set xs p x → HasDerivedItemFields x → HaveDerivedFields xs → HaveDerivedFields ys
+unfolding HaveDerivedFields
+set_whole xs ys p x e h whole = subst (All HasDerivedItemFields) (sym e) (All-set HasDerivedItemFields xs p x h whole)
 
-pub cut_whole : (xs ys : List Item) (n : ℕ) → ys ≡ take n xs → AreWhole xs → AreWhole ys
-unfolding AreWhole
-cut_whole xs ys n e h = subst (All IsWholeItem) (sym e) (All-take IsWholeItem n xs h)
+pub cut_whole : (xs ys : List Item) (n : ℕ) → ys ≡ take n xs → HaveDerivedFields xs → HaveDerivedFields ys
+unfolding HaveDerivedFields
+cut_whole xs ys n e h = subst (All HasDerivedItemFields) (sym e) (All-take HasDerivedItemFields n xs h)
 
 -- ---- an item that is kept
 
@@ -88,6 +90,19 @@ module _ (xs : List Item) (kept place : ℕ) (x : Item) (order : kept ≤ place)
       (map-append item_tree (take kept xs) (x ∷ []) ∙ sym (ap (with_doc before (item_tree x)) none))
       ∙ sym next_taken
 
+  -- as the end of a line, which is made anew
+  pub kept_newline : (ys : List Item) → ys ≡ set xs kept items.Newline → is_newline (item_tree x) ≡ true → taken_docs (kept + 1) (place + 1) ys ≡ taken_docs kept place xs
+  kept_newline ys e newline =
+      ap (λ (l : List Item). with_items (map item_tree l) (map item_tree (drop (place + 1) ys)))
+      (ap (take (kept + 1)) e ∙ take_more_set xs kept items.Newline (omega (arith, order, within)))
+      ∙ ap (λ (l : List Item). with_items (map item_tree (take kept xs ++ items.Newline ∷ [])) (map item_tree l))
+      (ap (drop (place + 1)) e ∙ drop-set-lt (place + 1) xs kept items.Newline (omega (arith, order)))
+      ∙ ap (λ (l : List LeafItem). with_items l (map item_tree (drop (place + 1) xs)))
+      (map-append item_tree (take kept xs) (items.Newline ∷ [])
+      ∙ sym (ap (with_doc before tree.Newline) (not_wanted tree.Newline (doc_before before) refl))
+      ∙ ap (with_item before) (sym (line_end (item_tree x) newline)))
+      ∙ sym next_taken
+
   -- with a doc, in the place of the last two
   module _ (n m : ℕ) (two : n + 2 ≡ kept) (one : m ≡ n + 1) (y : Item) (zs ys : List Item) (zs_are : zs ≡ set xs place y) (e : ys ≡ swap zs n place) where
     in_zs : place < length zs
@@ -114,7 +129,7 @@ module _ (xs : List Item) (kept place : ℕ) (x : Item) (order : kept ≤ place)
         ∙ take-map item_tree n (take kept xs)
         ∙ ap (map item_tree) (take_of_take n kept xs (omega (arith, kept_count)))
 
-    pub documented_whole : IsWholeItem y → AreWhole xs → AreWhole ys
+    pub documented_whole : HasDerivedItemFields y → HaveDerivedFields xs → HaveDerivedFields ys
     documented_whole h whole = swapped_whole zs ys n place (omega (arith, two, order, in_zs)) in_zs e (set_whole xs zs place y zs_are h whole)
 
     pub kept_documented : doc_taken (item_tree x) (doc_before before) ≡ Some (item_tree y) → taken_docs m (place + 1) ys ≡ taken_docs kept place xs

@@ -1,37 +1,37 @@
--- No text has a fault of another layer, so no error of lexing is a fault of the program; nor is an error of parsing.
+-- No error of lexing or parsing is an internal error.
 use Rattle.std.proofs.Common.{◌≡◌, ℕ, zero, suc, Bool, true, false, cond, eqb, List, [], ◌∷◌, length, drop, get_or, Option, Some, None, Ok, Err, refl, sym, ap, ◌∙◌}
 use Rattle.std.specs.Prelude.{◌&&◌, not, nat_eq}
 use Rattle.std.specs.List.{starts_with}
 use Rattle.std.specs.Str.{bytes_eq}
-use Rattle.justfile_base.specs.StringKind.{delimiter_len, kind_of, token_kind_of}
-use Rattle.justfile_word.specs.declared.token_kind.TokenKind.TheVariants.{FormatStringStart}
+use Rattle.justfile_token.specs.StringKind.{delimiter_len, kind_of, token_kind_of}
+use Rattle.justfile_vocabulary.specs.declared.token_kind.TokenKind.TheVariants.{FormatStringStart}
 use Rattle.justfile_model.specs.Bytes.{is_interpolation_start, is_interpolation_end, is_mixed, closes_levels, first_char}
-use Rattle.justfile_base.specs.CompileErrorKind.{internal_message}
-use Rattle.justfile_word.specs.declared.byte_class.ByteClass.{ByteClass}
-use Rattle.justfile_word.specs.declared.byte_class.ByteClass.TheVariants as classes
-use Rattle.justfile_base.specs.declared.compile_error.CompileError.{CompileError}
-use Rattle.justfile_base.specs.declared.compile_error_kind.CompileErrorKind.{CompileErrorKind}
-use Rattle.justfile_base.specs.declared.compile_error_kind.CompileErrorKind.TheVariants.{Internal}
-use Rattle.justfile_base.specs.declared.delimiter.Delimiter.{Delimiter}
-use Rattle.justfile_word.specs.declared.keyword.Keyword.{Keyword}
-use Rattle.justfile_base.specs.declared.string_kind.StringDelimiter.{StringDelimiter}
-use Rattle.justfile_base.specs.declared.string_kind.StringDelimiter.TheVariants as delimiters
-use Rattle.justfile_base.specs.declared.string_kind.StringKind.{StringKind}
-use Rattle.justfile_base.specs.declared.token.Token.{Token}
-use Rattle.justfile_word.specs.declared.token_kind.TokenKind.{TokenKind}
+use Rattle.justfile_token.specs.CompileErrorKind.{internal_message}
+use Rattle.justfile_vocabulary.specs.declared.byte_class.ByteClass.{ByteClass}
+use Rattle.justfile_vocabulary.specs.declared.byte_class.ByteClass.TheVariants as classes
+use Rattle.justfile_token.specs.declared.compile_error.CompileError.{CompileError}
+use Rattle.justfile_token.specs.declared.compile_error_kind.CompileErrorKind.{CompileErrorKind}
+use Rattle.justfile_token.specs.declared.compile_error_kind.CompileErrorKind.TheVariants.{Internal}
+use Rattle.justfile_token.specs.declared.delimiter.Delimiter.{Delimiter}
+use Rattle.justfile_vocabulary.specs.declared.keyword.Keyword.{Keyword}
+use Rattle.justfile_token.specs.declared.string_kind.StringDelimiter.{StringDelimiter}
+use Rattle.justfile_token.specs.declared.string_kind.StringDelimiter.TheVariants as delimiters
+use Rattle.justfile_token.specs.declared.string_kind.StringKind.{StringKind}
+use Rattle.justfile_token.specs.declared.token.Token.{Token}
+use Rattle.justfile_vocabulary.specs.declared.token_kind.TokenKind.{TokenKind}
 use Rattle.justfile_literal.specs.Literal.{IsKindOf}
-use Rattle.justfile_word.specs.ByteClass.{class_of}
+use Rattle.justfile_vocabulary.specs.ByteClass.{class_of}
 use Rattle.justfile_model.specs.Lexed.{IsFault, IsSpan}
 use Rattle.justfile_model.specs.Literals as literals
-use Rattle.justfile_model.specs.Reading as reader
+use Rattle.justfile_model.specs.ReaderState as reader
 use Rattle.justfile_model.specs.TreeReader as model
 use Rattle.justfile_model.specs.SignificantTokens.{SignificantToken}
 use Rattle.justfile_attribute_rules.specs.RuleErrors.{SaysRule}
 use Rattle.justfile_model.specs.Rules as rules
 use Rattle.justfile_model.specs.Rules.{Rule}
 use Rattle.justfile_parse.specs.Errors.{IsErrorOf, IsUnexpected}
-use Rattle.justfile_parse_attribute.specs.Halting.{IsAfterVariadic, IsExpectedKeyword, IsExtraneous, IsUnknownSetting}
-use Rattle.justfile_model.specs.LexicalFault.{LexicalFault, NotLexical, LexicalRefusal, Here, Unclosed, lexical_fault_of}
+use Rattle.justfile_parse_attribute.specs.ParseErrors.{IsAfterVariadic, IsExpectedKeyword, IsExtraneous, IsUnknownSetting}
+use Rattle.justfile_model.specs.LexicalFault.{LexicalFault, NotLexical, LexicalError, Here, Unclosed, lexical_fault_of}
 use Rattle.justfile_model.specs.LiteralText.{raw_len}
 use Rattle.justfile_model.specs.Modes.{Mode, head_of, innermost, is_empty, mode, nested}
 use Rattle.justfile_model.specs.Next.{NextToken, doubled_token, fixed_token, unterminated, literal_part, closing_delimiter, format_kind, brace_by, closing, escaped_line_end, token_by_class, text_or, body_token, at_end_by, Region, InText, InInterpolation, Inline, region_by, token_in_region, token_within_line, blanks_or, layout, next_by, next, is_same, is_backtick, begins_blank_line, is_level, tested_blanks}
@@ -78,7 +78,8 @@ module _ (rest : List ℕ) where
       (if_lexical (eqb b 42) (token _ _)
       (if_lexical (eqb b 44) (token _ _)
       (if_lexical (eqb b 47) (token _ _)
-      (if_lexical (eqb b 63) (token _ _) (token _ _)))))))))))
+      (if_lexical (eqb b 63) (token _ _)
+      (if_lexical (eqb b 64) (token _ _) (here _ _ _ refl))))))))))))
 
   unterminated_lexical : (d : StringDelimiter) → is_lexical (unterminated d) ≡ true
   unterminated_lexical delimiters.Backtick = refl
@@ -99,7 +100,10 @@ module _ (rest : List ℕ) where
   brace_lexical (Some k) last = if_lexical (is_interpolation_end rest) (part_lexical k _ _ _ _) (close_lexical last _ _)
 
   closing_lexical : (last : Option OpenDelimiter) (b : ℕ) → Lexical (closing last b rest)
-  closing_lexical last b = if_lexical (eqb b 41) (close_lexical last _ _) (if_lexical (eqb b 93) (close_lexical last _ _) (brace_lexical (format_kind last) last))
+  closing_lexical last b =
+      if_lexical (eqb b 41) (close_lexical last _ _)
+      (if_lexical (eqb b 93) (close_lexical last _ _)
+      (if_lexical (eqb b 125) (brace_lexical (format_kind last) last) (here _ _ _ refl)))
 
   escape_lexical : Lexical (escaped_line_end rest)
   escape_lexical =
@@ -116,7 +120,10 @@ module _ (rest : List ℕ) where
   inline_lexical m classes.IdentifierStart = token _ _
   inline_lexical m classes.IdentifierContinue = here _ _ _ refl
   inline_lexical m classes.Quote = let k = kind_of rest in part_lexical k (m.after_f && not (is_backtick k.delimiter)) (delimiter_len k) FormatStringStart (token_kind_of k.delimiter)
-  inline_lexical m classes.Opener = if_lexical (eqb (get_or rest 0 0) 40) (token _ _) (if_lexical (eqb (get_or rest 0 0) 91) (token _ _) (token _ _))
+  inline_lexical m classes.Opener =
+      if_lexical (eqb (get_or rest 0 0) 40) (token _ _)
+      (if_lexical (eqb (get_or rest 0 0) 91) (token _ _)
+      (if_lexical (eqb (get_or rest 0 0) 123) (token _ _) (here _ _ _ refl)))
   inline_lexical m classes.Closer = closing_lexical (head_of m.openers) (get_or rest 0 0)
   inline_lexical m classes.Fixed = fixed_lexical (get_or rest 0 0)
   inline_lexical m classes.Lead = if_lexical (eqb (first_char rest) 65279) (token _ _) (here _ _ _ refl)
@@ -165,7 +172,7 @@ unfolding next
 next_lexical m [] = end_lexical m.interpolation m.levels
 next_lexical m (b ∷ bs) = next_by_lexical (b ∷ bs) m.line_start m
 
-span_lexical : (text : List ℕ) (earlier : List Tok) (fault : LexicalFault) (t : Tok) (refusal : LexicalRefusal) → lexical_found (Err refusal) ≡ true → IsSpan text earlier refusal fault t → is_lexical fault ≡ true
+span_lexical : (text : List ℕ) (earlier : List Tok) (fault : LexicalFault) (t : Tok) (refusal : LexicalError) → lexical_found (Err refusal) ≡ true → IsSpan text earlier refusal fault t → is_lexical fault ≡ true
 span_lexical text earlier fault t (Here p skip n) h s = ap is_lexical s.0 ∙ h
 span_lexical text earlier fault t (Unclosed u) h s = ap is_lexical s.0
 
@@ -221,7 +228,7 @@ expected_kind : (expected : List Keyword) (found : Token) (kind : CompileErrorKi
 expected_kind expected found (Internal message) h = absurd h
 expected_kind expected found _ h = refl
 
-pub refusal_not_internal : (tokens : List SignificantToken) (r : model.Refusal) (e : CompileError) → IsErrorOf tokens r e → internal_message e.kind ≡ None
+pub refusal_not_internal : (tokens : List SignificantToken) (r : model.ReadError) (e : CompileError) → IsErrorOf tokens r e → internal_message e.kind ≡ None
 refusal_not_internal tokens (reader.Unexpected at) e h = unexpected_kind e.kind e.token h.0
 refusal_not_internal tokens (reader.TooDeep at) e h = ap internal_message h.0
 refusal_not_internal tokens (reader.NotCooked fault t) e h = literal_kind fault e.kind h.0

@@ -1,17 +1,17 @@
--- What parsing answers.
+-- What parsing returns.
 use Rattle.std.specs.Prelude.{◌≡◌, ℕ, ◌⊎◌, ◌+◌, List, map, All, None}
 use Rattle.std.specs.Str.{IsUtf8}
-use Rattle.justfile_base.specs.CompileErrorKind.{internal_message, tokens_in}
-use Rattle.justfile_base.specs.declared.compile_error.CompileError.{CompileError}
-use Rattle.justfile_word.specs.Numerator.{bindings_of, recipes_of}
-use Rattle.justfile_base.specs.declared.fault.Fault.{Fault}
-use Rattle.justfile_base.specs.declared.fault.Fault.TheVariants as faults
-use Rattle.justfile_word.specs.declared.numerator.Numerator.{Numerator}
-use Rattle.justfile_base.specs.declared.token.Token.{Token}
+use Rattle.justfile_token.specs.CompileErrorKind.{internal_message, tokens_in}
+use Rattle.justfile_token.specs.declared.compile_error.CompileError.{CompileError}
+use Rattle.justfile_vocabulary.specs.Numerator.{bindings_of, recipes_of}
+use Rattle.justfile_token.specs.declared.fault.Fault.{Fault}
+use Rattle.justfile_token.specs.declared.fault.Fault.TheVariants as faults
+use Rattle.justfile_vocabulary.specs.declared.numerator.Numerator.{Numerator}
+use Rattle.justfile_token.specs.declared.token.Token.{Token}
 use Rattle.justfile_round_trip.specs.RoundTrip.{TextDerives}
-use Rattle.justfile_file.specs.Ast.{tree_of, features_of, cooked_texts, binding_numbers, recipe_numbers}
-use Rattle.justfile_file.specs.declared.ast.Ast.{Ast}
-use Rattle.justfile_model.specs.Answers.{IsFrom, IsLexicalError}
+use Rattle.justfile_ast.specs.Ast.{tree_of, features_of, cooked_texts, binding_numbers, recipe_numbers}
+use Rattle.justfile_ast.specs.declared.ast.Ast.{Ast}
+use Rattle.justfile_model.specs.LexResult.{IsFrom, IsLexicalError}
 use Rattle.justfile_model.specs.Conditions.{Conditions, with_limit}
 use Rattle.justfile_model.specs.Features.{Noted}
 use Rattle.justfile_model.specs.Files.{FileDerives, NumbersFrom, NumbersSuffice, bindings, recipes, literals}
@@ -21,37 +21,38 @@ use Rattle.justfile_model.specs.SignificantTokens.{significant_tokens}
 use Rattle.justfile_model.specs.Tok.{Tok, tok_of}
 use Rattle.justfile_model.specs.Tree.{Tree, lexeme}
 use Rattle.justfile_model.specs.UnstableFeatures.{unstable_features}
-use Rattle.justfile_word.specs.declared.list_feature.ListFeature.{ListFeature}
+use Rattle.justfile_vocabulary.specs.declared.list_feature.ListFeature.{ListFeature}
 use Rattle.justfile_parse.specs.Errors.{IsRefused, IsTooDeepError}
-use Rattle.justfile_parse_item.specs.Filled.{IsGivenItem}
+use Rattle.justfile_parse_item.specs.Filled.{IsFilledItem}
 use Rattle.justfile_parse.specs.WantsNumber.{WantsNumber}
 
--- the tokens, all of one source, are those of its text
+-- The tokens are those of one text, and have one source.
 pub record IsOneLex (tokens : List Token) : Type 0 where
   pub text : List ℕ
   pub utf8 : IsUtf8 text
   pub lexed : Lexed text (map tok_of tokens)
   pub source : All (λ t. t.src.now ≡ text) tokens
 
--- What a file has beside its tree. Its literals have their texts. Its bindings and its recipes have the numbers from the numerator's next on.
--- Its parts are what the parser gives them. Its features stand at tokens that `IsToken` allows, and it uses what is unstable as its tree says.
+-- What a file has besides its tree: the texts of its literals, the numbers of its bindings and recipes, which begin with the numerator's
+-- next, and the derived values of its items. Its uses of features are at tokens that `IsToken` allows, and it uses the unstable features
+-- that its tree uses.
 pub record IsFilled (expander : Expansions) (IsToken : Token → Type 0) (file_depth : ℕ) (import_offsets : List ℕ) (old new : Numerator) (ast : Ast) : Type 0 where
   pub cooks : AreCookedTexts expander (map (over_literal lexeme) (literals (tree_of ast))) (cooked_texts ast)
   pub numbered : NumbersFrom (bindings_of old) (binding_numbers ast)
   pub recipes_numbered : NumbersFrom (recipes_of old) (recipe_numbers ast)
   pub counted : bindings_of new ≡ bindings_of old + bindings (tree_of ast)
   pub recipes_counted : recipes_of new ≡ recipes_of old + recipes (tree_of ast)
-  pub given : All (IsGivenItem expander IsToken file_depth import_offsets) ast.items.items
+  pub given : All (IsFilledItem expander IsToken file_depth import_offsets) ast.items.items
   pub noted : All (λ (x : ListFeature × Token). IsToken x.1) ast.list_features.items
   pub unstable : ast.unstable_features.keys ≡ unstable_features (tree_of ast)
 
--- the file's tokens derive its tree and its features
+-- The file's tokens derive its tree and its features.
 pub record IsParsed (conditions : Conditions) (tokens : List Tok) (IsToken : Token → Type 0) (file_depth : ℕ) (import_offsets : List ℕ) (old new : Numerator) (ast : Ast) : Type 0 where
   pub derives : FileDerives conditions (significant_tokens tokens) (tree_of ast) (features_of ast)
   pub filled : IsFilled conditions.expander IsToken file_depth import_offsets old new ast
 
--- No tree derives; the error is that of the refusal, stands at one of the tokens, holds tokens among them alone, and is no fault of the program.
--- Where a tree derives under another limit, the error says that this one is exceeded.
+-- The tokens derive no tree. The error is the one for which they are refused, is at one of the tokens, holds only tokens among them, and
+-- isn't an internal error. If a tree derives under another limit, the error is that this limit is exceeded.
 pub record IsCompileError (conditions : Conditions) (tokens : List Tok) (IsToken : Token → Type 0) (e : CompileError) : Type 0 where
   pub derives_none : (tree : Tree) (features : List (Noted Tok)) → FileDerives conditions (significant_tokens tokens) tree features → ⊥
   pub among : IsToken e.token
@@ -61,8 +62,8 @@ pub record IsCompileError (conditions : Conditions) (tokens : List Tok) (IsToken
   pub deep : (limit : ℕ) (tree : Tree) (features : List (Noted Tok)) (d : FileDerives (with_limit limit conditions) (significant_tokens tokens) tree features)
       → IsTooDeepError conditions (significant_tokens tokens) d.written e
 
--- Why there is no file. `Numbers`: a number was wanted, its counter was at its end, and no tree that derives under any limit has numbers
--- enough. `Memory` says nothing.
+-- Why the tokens aren't a file. `Numbers`: a number was needed, its counter had reached its maximum, and the numbers suffice for no tree
+-- that derives under any limit. `Memory` implies nothing.
 abbrev pub IsUnparsed : Conditions → List Tok → (Token → Type 0) → Numerator → Numerator → Fault → Type 0
 IsUnparsed conditions tokens IsToken old new (faults.Compile e) = IsCompileError conditions tokens IsToken e
 IsUnparsed conditions tokens IsToken old new faults.Memory = Unit {0}
@@ -71,20 +72,20 @@ IsUnparsed conditions tokens IsToken old new faults.Numbers =
     × ((limit : ℕ) (tree : Tree) (features : List (Noted Tok)) → FileDerives (with_limit limit conditions) (significant_tokens tokens) tree features
     → NumbersSuffice (bindings_of old) (recipes_of old) tree → ⊥)
 
--- the text derives the file's tree and its features
+-- The text derives the file's tree and its features.
 pub record IsParsedText (conditions : Conditions) (path src : List ℕ) (file_depth : ℕ) (import_offsets : List ℕ) (old new : Numerator) (ast : Ast) : Type 0 where
   pub derives : TextDerives conditions src (tree_of ast) (features_of ast)
   pub filled : IsFilled conditions.expander (IsFrom path src) file_depth import_offsets old new ast
 
--- the text has tokens, and the error is that of their refusal
+-- The text has tokens, and the error is the one for which they are refused.
 pub record IsTextRefused (conditions : Conditions) (src : List ℕ) (e : CompileError) : Type 0 where
   pub tokens : List Tok
   pub lexed : Lexed src tokens
   pub refused : IsRefused conditions (significant_tokens tokens) e
 
--- The text derives no tree, which the error says at a part of the text and never as a fault of the program: it is the fault of lexing,
--- which leaves the numerator as it was, or that of the refusal of the text's tokens. The tokens that it holds have this path and this source.
--- Where the text derives a tree under another limit, the error says that this one is exceeded.
+-- The text derives no tree. The error is at a part of the text and isn't an internal error: it is the fault of lexing, which leaves the
+-- numerator unchanged, or the one for which the tokens are refused. The tokens in it have this path and this source. If the text derives a
+-- tree under another limit, the error is that this limit is exceeded.
 pub record IsTreeless (conditions : Conditions) (path src : List ℕ) (old new : Numerator) (e : CompileError) : Type 0 where
   pub derives_none : (tree : Tree) (features : List (Noted Tok)) → TextDerives conditions src tree features → ⊥
   pub from : IsFrom path src e.token
@@ -94,14 +95,14 @@ pub record IsTreeless (conditions : Conditions) (path src : List ℕ) (old new :
   pub deep : (limit : ℕ) (tree : Tree) (features : List (Noted Tok)) (d : TextDerives (with_limit limit conditions) src tree features)
       → IsTooDeepError conditions (significant_tokens d.tokens) d.file.written e
 
--- a number is wanted in the text's tokens, and its counter, where the new numerator stands, is at its end
+-- A number is needed in the text's tokens, and its counter, as it is in the new numerator, has reached its maximum.
 pub record TextWantsNumber (conditions : Conditions) (src : List ℕ) (old new : Numerator) : Type 0 where
   pub tokens : List Tok
   pub lexed : Lexed src tokens
   pub wants : WantsNumber conditions (significant_tokens tokens) old new
 
--- Why a text has no tree. `Numbers`: a number was wanted, its counter was at its end, and no tree that derives under any limit has numbers
--- enough. `Memory` says nothing.
+-- Why a text has no tree. `Numbers`: a number was needed, its counter had reached its maximum, and the numbers suffice for no tree that
+-- derives under any limit. `Memory` implies nothing.
 abbrev pub HasNoTree : Conditions → (path src : List ℕ) → Numerator → Numerator → Fault → Type 0
 HasNoTree conditions path src old new (faults.Compile e) = IsTreeless conditions path src old new e
 HasNoTree conditions path src old new faults.Memory = Unit {0}

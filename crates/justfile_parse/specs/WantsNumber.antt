@@ -1,17 +1,17 @@
--- Where a number is wanted.
+-- Where a number is needed and there is none: what was read before, and which counter has reached its maximum.
 use Rattle.std.specs.Prelude.{◌≡◌, ℕ, ◌+◌, ◌-◌, ◌^◌, Bool, true, false, List, [], Some, Ok, IsOk, codes}
-use Rattle.justfile_word.specs.declared.numerator.Numerator.{Numerator}
-use Rattle.justfile_word.specs.declared.item_kind.ItemKind.TheVariants as item_kinds
-use Rattle.justfile_word.specs.declared.token_kind.TokenKind.{TokenKind}
-use Rattle.justfile_word.specs.declared.token_kind.TokenKind.TheVariants as kinds
+use Rattle.justfile_vocabulary.specs.declared.numerator.Numerator.{Numerator}
+use Rattle.justfile_vocabulary.specs.declared.item_kind.ItemKind.TheVariants as item_kinds
+use Rattle.justfile_vocabulary.specs.declared.token_kind.TokenKind.{TokenKind}
+use Rattle.justfile_vocabulary.specs.declared.token_kind.TokenKind.TheVariants as kinds
 use Rattle.justfile_model.specs.Conditions.{Conditions}
 use Rattle.justfile_model.specs.HeaderReader as headers
 use Rattle.justfile_model.specs.PartReader as parts
-use Rattle.justfile_model.specs.ReadAttribute.{ReadAttribute, token_sight}
+use Rattle.justfile_model.specs.ReadAttribute.{ReadAttribute, token_view}
 use Rattle.justfile_model.specs.Reader as files
 use Rattle.justfile_model.specs.Reader.{after_mark, any_recipe, argument_rules, assignment, line, with_recipes}
-use Rattle.justfile_model.specs.Reading as reading
-use Rattle.justfile_model.specs.Reading.{Counters}
+use Rattle.justfile_model.specs.ReaderState as reading
+use Rattle.justfile_model.specs.ReaderState.{Counters}
 use Rattle.justfile_model.specs.SignificantTokens.{SignificantToken}
 use Rattle.justfile_model.specs.Tok.{Tok}
 use Rattle.justfile_model.specs.Tree.{ArgumentRules, WrittenItem, WrittenTree}
@@ -20,7 +20,7 @@ use Rattle.justfile_model.specs.declared.parameter_kind.ParameterKind.{Parameter
 use Rattle.justfile_model.specs.declared.parameter_kind.ParameterKind.TheVariants.{Plus, Singular, Star}
 use Rattle.justfile_parse_header.specs.Counting.{counters_of}
 
--- the attributes before a construct, which follows them
+-- the attributes before a construct
 abbrev pub attributes_at : State → Read (List ReadAttribute)
 attributes_at = files.attributes token_leaves token_attributes
 
@@ -30,9 +30,9 @@ next = reading.accept token_leaves
 
 -- ---- of an assignment
 
--- this word comes next, and a name and `:=` follow it
+-- this keyword, if it comes next and a name and `:=` follow it
 abbrev pub word_before : List ℕ → State → Taken
-word_before word = parts.accept_before token_leaves word (parts.is_assigned token_leaves)
+word_before word = parts.accept_keyword_before token_leaves word (parts.peek_assignment token_leaves)
 
 -- where an assignment begins: after `eager`, after `export`, or here
 pub data BeginsAssignment (s : State) : (eager export : Bool) → State → Type 0 where
@@ -40,8 +40,8 @@ pub data BeginsAssignment (s : State) : (eager export : Bool) → State → Type
   eager : {word : SignificantToken × State} → word_before (codes "eager") s ≡ Some word → BeginsAssignment s true false word.1
   export : {word : SignificantToken × State} → word_before (codes "export") s ≡ Some word → BeginsAssignment s false true word.1
 
--- An assignment comes next, after its attributes and a word or none, and up to the end of its value, and the counter of bindings is at its end: it
--- has no number for it.
+-- An assignment comes next, after its attributes and its keyword, if it has one. It is complete up to the end of its value, but the counter
+-- of bindings has reached its maximum, so the assignment gets no number.
 pub record LacksBinding (s : State) (n : Counters) : Type 0 where
   pub attributes : List ReadAttribute
   pub header : State
@@ -55,7 +55,7 @@ pub record LacksBinding (s : State) (n : Counters) : Type 0 where
 
 -- ---- of a parameter of a function
 
--- where a name begins: the counters, and what is left
+-- where a name begins: the counters, and the state
 abbrev pub NamePlace : Type 0
 NamePlace = Counters × State
 
@@ -63,15 +63,15 @@ NamePlace = Counters × State
 abbrev pub numbered_name : NamePlace → Read (Tok × Counters)
 numbered_name x = parts.numbered_name token_leaves x.0 x.1
 
--- names come next, a comma after each, and each of them gets its number
+-- Names come next, with a comma after each, and each of them gets its number.
 pub data AreNamed : (from to : NamePlace) → Type 0 where
   no_name : {x : NamePlace} → AreNamed x x
   a_name : {x y : NamePlace} {name : (Tok × Counters) × State} {comma : SignificantToken × State} → numbered_name x ≡ Ok name
       → next kinds.Comma name.1 ≡ Some comma → AreNamed (name.0.1, comma.1) y
       → AreNamed x y
 
--- A function comes next, after its attributes, which it may have. After names that got their numbers a name comes next, and the counter of bindings
--- is at its end: it has no number for it.
+-- A function comes next, after its attributes, which it may have. After names that got their numbers a name comes next, but the counter of
+-- bindings has reached its maximum, so the name gets no number.
 pub record LacksName (s : State) (old new : Counters) : Type 0 where
   pub attributes : List ReadAttribute
   pub header : State
@@ -90,37 +90,37 @@ pub record LacksName (s : State) (old new : Counters) : Type 0 where
 
 -- ---- of a parameter
 
--- what is said of parameters
+-- what `arg` attributes set for parameters
 abbrev pub Rules : Type 0
 Rules = List (ArgumentRules Tok Tok)
 
--- parameters that got their numbers, the counters after them, and where reading stands
+-- parameters that got their numbers, the counters after them, and the state
 abbrev pub Place : Rules → Type 0
-Place rules = headers.ParameterPlace token_leaves token_sight rules
+Place rules = headers.ParameterPlace token_leaves token_view rules
 
--- a parameter that takes so many arguments, after its `+` or `*`, with its default and its number
-abbrev pub parameter : (rules : Rules) → ParameterKind → Place rules → Read (headers.Parameters token_leaves token_sight rules)
-parameter rules = headers.parameter token_leaves token_sight rules
+-- a parameter of this kind, after its `+` or `*`, with its default and its number
+abbrev pub parameter : (rules : Rules) → ParameterKind → Place rules → Read (headers.Parameters token_leaves token_view rules)
+parameter rules = headers.parameter token_leaves token_view rules
 
--- parameters that take one argument come next, each of which gets its number
+-- Parameters that take one argument come next, and each of them gets its number.
 pub data AreNumbered (rules : Rules) : (from to : Place rules) → Type 0 where
   none : {x : Place rules} → AreNumbered rules x x
   more : {x y z : Place rules} → parameter rules Singular x ≡ Ok y → AreNumbered rules y z → AreNumbered rules x z
 
--- the place after what stands before the `$` or the name of a parameter that takes so many arguments: `+`, `*` or nothing
+-- the place after the prefix of a parameter of this kind: `+`, `*` or nothing
 pub data IsAfterPrefix (rules : Rules) (x : Place rules) : ParameterKind → Place rules → Type 0 where
   nothing : IsAfterPrefix rules x Singular x
   plus : {prefix : SignificantToken × State} → next kinds.Plus x.1 ≡ Some prefix → IsAfterPrefix rules x Plus (x.0, prefix.1)
   star : {prefix : SignificantToken × State} → next kinds.Asterisk x.1 ≡ Some prefix → IsAfterPrefix rules x Star (x.0, prefix.1)
 
--- A header comes next. After its name, and after parameters that got their numbers, a parameter comes next, with its default and without breaking
--- a rule, and the counter of bindings is at its end: it has no number for it. The counters before the header are the old ones, and those that
--- stand there are the new ones.
+-- A header comes next. After its name, and after parameters that got their numbers, a parameter comes next, with its default and without
+-- breaking a rule. But the counter of bindings has reached its maximum, so the parameter gets no number. The old counters are those before
+-- the header, the new ones those at this parameter.
 pub record HeaderLacks (rules : Rules) (s : State) (old new : Counters) : Type 0 where
   pub name : SignificantToken × State
   pub name_read : reading.expect token_leaves kinds.Identifier s ≡ Ok name
   pub options : Unit {0} × State
-  pub options_apart : headers.distinct_options token_leaves token_sight rules name.0 name.1 ≡ Ok options
+  pub options_apart : headers.distinct_options token_leaves token_view rules name.0 name.1 ≡ Ok options
   pub place : Place rules
   pub numbered : AreNumbered rules (([], old), options.1) place
   pub counters : place.0.1 ≡ new
@@ -135,7 +135,7 @@ pub data BeginsHeader (s : State) : State → Type 0 where
   at_once : BeginsHeader s s
   quiet : {mark : SignificantToken × State} → next kinds.At s ≡ Some mark → BeginsHeader s mark.1
 
--- a recipe comes next, after its attributes, and a parameter in its header has no number
+-- A recipe comes next, after its attributes, and a parameter in its header gets no number.
 pub record LacksParameter (s : State) (old new : Counters) : Type 0 where
   pub attributes : List ReadAttribute
   pub header : State
@@ -146,8 +146,8 @@ pub record LacksParameter (s : State) (old new : Counters) : Type 0 where
 
 -- ---- of a recipe
 
--- A recipe comes next, after its attributes and up to its end, which is that of its body if it has one. With the numbers of its parameters the
--- counters move from the old ones to the new, and that of recipes is at its end: it has no number for the recipe, which would draw one more.
+-- A recipe comes next, after its attributes. It is complete up to its end, which is that of its body if it has one. The numbers of its
+-- parameters move the counters from the old ones to the new. The counter of recipes has reached its maximum, so the recipe gets no number.
 pub record LacksRecipe (s : State) (old new : Counters) : Type 0 where
   pub attributes : List ReadAttribute
   pub header : State
@@ -159,26 +159,27 @@ pub record LacksRecipe (s : State) (old new : Counters) : Type 0 where
 
 -- ---- of a file
 
--- What comes next is no blank line and lacks a number: its own, or that of a parameter. The counters before it are the old ones, and those
--- where the number is wanted are the new ones.
+-- What comes next isn't a blank line, and lacks a number: its own, or that of a parameter. The old counters are those before it, the new
+-- ones those where the number is needed.
 pub data LacksNumber (s : State) (old : Counters) : (new : Counters) → Type 0 where
   binding : LacksBinding s old → LacksNumber s old old
   name_number : {new : Counters} → LacksName s old new → LacksNumber s old new
   parameter_number : {new : Counters} → LacksParameter s old new → LacksNumber s old new
   recipe_number : {new : Counters} → LacksRecipe s old new → LacksNumber s old new
 
--- what is left begins with lines, for which the counters move up, and that after them is left
+-- Lines come next, which move the counters up. The last two arguments are what there is after them.
 pub data AreLines : Counters → State → Counters → State → Type 0 where
   no_line : {n : Counters} {s : State} → AreLines n s n s
   a_line : {n m k : Counters} {s rest left : State} {items : WrittenTree} → line token_leaves token_attributes n s ≡ Ok ((items, m), rest) → AreLines m rest k left → AreLines n s k left
 
--- after lines whose bindings and recipes got their numbers, an assignment, a parameter of a function or of a recipe, or a recipe lacks its number
+-- After lines whose bindings and recipes got their numbers, an assignment, a parameter of a function or of a recipe, or a recipe lacks its
+-- number.
 pub record LinesWantNumber (s : State) (old new : Numerator) : Type 0 where
   pub left : State
   pub counters : Counters
   pub lines : AreLines (counters_of old) s counters left
   pub lacks : LacksNumber left counters (counters_of new)
 
--- a number is wanted in a file's tokens, and its counter, which counted up from the old numerator to the new, is at its end
+-- A number is needed in a file's tokens, and its counter, which counted up from the old numerator to the new, has reached its maximum.
 abbrev pub WantsNumber : Conditions → List SignificantToken → (old new : Numerator) → Type 0
 WantsNumber conditions tokens old new = LinesWantNumber (after_mark token_leaves token_attributes (start_state conditions tokens)) old new

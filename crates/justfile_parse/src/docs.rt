@@ -4,41 +4,44 @@ ghost use Rattle.std.specs.List.{starts_with};
 ghost use Rattle.std.specs.Option.{is_some, option_map};
 ghost use Rattle.justfile_attribute_set.specs.AttributeSet.{attributes_of};
 ghost use Rattle.justfile_attribute_set.specs.Attributes.{has_kind};
-ghost use Rattle.justfile_word.specs.declared.attribute_kind.AttributeKind.TheVariants as kinds;
+ghost use Rattle.justfile_vocabulary.specs.declared.attribute_kind.AttributeKind.TheVariants as kinds;
 ghost use Rattle.justfile_model.specs.Docs.{doc_in, documented, item_with_doc};
 ghost use Rattle.justfile_model.specs.Docs as before;
 ghost use Rattle.justfile_model.specs.Files.{says_doc};
+ghost use Rattle.justfile_item.specs.declared.item.Item.TheVariants as variants;
 ghost use Rattle.justfile_parse.specs.Docs.{comment_of, doc_before, is_newline, says_no_doc, taken_docs};
 ghost use Rattle.justfile_parse_item.specs.Tree.{item_tree};
-ghost use Rattle.justfile_parse_item.specs.Whole.{AreWhole, IsWholeItem};
+ghost use Rattle.justfile_parse_item.specs.DerivedFields.{HaveDerivedFields, HasDerivedItemFields};
 
 use justfile_attribute_set::AttributeSet;
-use justfile_base::AttributeKind;
 use justfile_item::Item;
+use justfile_vocabulary::AttributeKind;
 use std::alloc::{AllocError, Global};
 
-/// The items with their docs, in place of comments.
+/// Moves comments into the docs of the items after them, and returns the items that remain.
 ///
 /// # Errors
 ///
-/// `AllocError` if the program is out of memory.
+/// `AllocError` if memory runs out.
 pub(crate) fn take_docs<'src>(
     alloc: Global,
     mut items: Vec<Item<'src>>,
 ) -> Result<Vec<Item<'src>>, AllocError>
-    requires { AreWhole items.items }
-    ensures trees { IfOk result (λ docs. map item_tree docs.items ≡ documented says_doc before.Nothing (map item_tree items.entry.items)) }
-    ensures whole { IfOk result (λ docs. AreWhole docs.items) }
+    requires { HaveDerivedFields items.items }
+    ensures trees { IfOk result (λ docs. map item_tree docs.items
+        ≡ documented says_doc before.Nothing (map item_tree items.entry.items)) }
+    ensures whole { IfOk result (λ docs. HaveDerivedFields docs.items) }
 {
     set_docs(alloc, &mut items)?;
     Ok(items)
 }
 
-/// Gives each item its doc, in place of the comment before it.
+/// Moves the comment before each item into its doc.
 fn set_docs(alloc: Global, items: &mut Vec<Item<'_>>) -> Result<(), AllocError>
-    requires { AreWhole items.old.items }
-    ensures trees { OnOk result (map item_tree items.new.items ≡ documented says_doc before.Nothing (map item_tree items.old.items)) }
-    ensures whole { OnOk result (AreWhole items.new.items) }
+    requires { HaveDerivedFields items.old.items }
+    ensures trees { OnOk result (map item_tree items.new.items
+        ≡ documented says_doc before.Nothing (map item_tree items.old.items)) }
+    ensures whole { OnOk result (HaveDerivedFields items.new.items) }
 {
     let mut kept = 0;
     for place in 0..items.len() {
@@ -48,8 +51,9 @@ fn set_docs(alloc: Global, items: &mut Vec<Item<'_>>) -> Result<(), AllocError>
     Ok(())
 }
 
-/// Moves the item at a place to the first ones, which are kept, and gives it its doc in place of the
-/// comment before it. Returns how many are kept then.
+/// Moves the item at `place` to the end of the first `kept` items, which are done. If the comment
+/// before it becomes its doc, it takes the comment's place. Returns how many items are done now. A
+/// line end has no fields, so it isn't moved but made at its new place.
 fn keep_item(
     alloc: Global,
     items: &mut Vec<Item<'_>>,
@@ -58,11 +62,44 @@ fn keep_item(
 ) -> Result<usize, AllocError>
     requires order { kept ≤ place }
     requires within { place < vec_len items.old }
-    requires whole { AreWhole items.old.items }
+    requires whole { HaveDerivedFields items.old.items }
+    ensures trees { IfOk result (λ count. taken_docs count (place + 1) items.new.items
+        ≡ taken_docs kept place items.old.items) }
+    ensures order { IfOk result (λ count. count ≤ place + 1) }
+    ensures len { vec_len items.new ≡ vec_len items.old }
+    ensures whole { HaveDerivedFields items.new.items }
+{
+    if is_newline(&items[place]) {
+        end_line(&mut items[kept]);
+        return Ok(kept + 1);
+    }
+    move_item(alloc, items, kept, place)
+}
+
+/// Turns an item into a line end. Most are line ends already, and any other has to be dropped.
+fn end_line(item: &mut Item<'_>)
+    ensures { item.new ≡ variants.Newline }
+{
+    match item {
+        Item::Newline => {}
+        _ => *item = Item::Newline,
+    }
+}
+
+/// Moves the item at `place` as `keep_item` does, by swapping it with the item at its new place.
+fn move_item(
+    alloc: Global,
+    items: &mut Vec<Item<'_>>,
+    kept: usize,
+    place: usize,
+) -> Result<usize, AllocError>
+    requires order { kept ≤ place }
+    requires within { place < vec_len items.old }
+    requires whole { HaveDerivedFields items.old.items }
     ensures trees { IfOk result (λ count. taken_docs count (place + 1) items.new.items ≡ taken_docs kept place items.old.items) }
     ensures order { IfOk result (λ count. count ≤ place + 1) }
     ensures len { vec_len items.new ≡ vec_len items.old }
-    ensures whole { AreWhole items.new.items }
+    ensures whole { HaveDerivedFields items.new.items }
 {
     if wants_doc(&items[place]) {
         if let Some(doc) = find_doc(&items[..kept]) {
@@ -76,12 +113,13 @@ fn keep_item(
     Ok(kept + 1)
 }
 
-/// Sets the doc of an item that takes one.
+/// Sets the doc of a module or recipe.
 fn set_doc(item: &mut Item<'_>, text: String)
-    requires whole { IsWholeItem item.old }
+    requires whole { HasDerivedItemFields item.old }
     requires wanted { says_no_doc (item_tree item.old) ≡ true }
-    ensures tree { Some (item_tree item.new) ≡ item_with_doc says_doc (string_bytes text) (item_tree item.old) }
-    ensures whole { IsWholeItem item.new }
+    ensures tree { Some (item_tree item.new)
+        ≡ item_with_doc says_doc (string_bytes text) (item_tree item.old) }
+    ensures whole { HasDerivedItemFields item.new }
 {
     match item {
         Item::Module { doc, .. } => *doc = Some(text),
@@ -90,7 +128,7 @@ fn set_doc(item: &mut Item<'_>, text: String)
     }
 }
 
-/// Whether the item takes a doc, and neither an attribute nor a comment says it yet.
+/// Whether the item can have a doc, and neither an attribute nor a comment has set it yet.
 fn wants_doc(item: &Item<'_>) -> bool
     ensures { result ≡ says_no_doc (item_tree item.now) }
 {
@@ -105,16 +143,18 @@ fn wants_doc(item: &Item<'_>) -> bool
     }
 }
 
-/// Whether neither an attribute says a doc nor this text.
+/// Whether there is neither the attribute `doc` nor a doc from a comment.
 fn lacks_doc(attributes: &AttributeSet<'_>, doc: &Option<String>) -> bool
-    ensures { result ≡ (not (has_kind kinds.Doc (attributes_of attributes.now)) && not (is_some doc.now)) }
+    ensures { result
+        ≡ (not (has_kind kinds.Doc (attributes_of attributes.now)) && not (is_some doc.now)) }
 {
     doc.is_none() && !attributes.contains(AttributeKind::Doc)
 }
 
-/// The doc that ends these items: a comment and one line end, after a line end or nothing.
+/// Returns the doc at the end of these items: a comment and one line end, at the front of the file
+/// or after a line end.
 fn find_doc<'src>(items: &[Item<'src>]) -> Option<&'src str>
-    requires { AreWhole items.now }
+    requires { HaveDerivedFields items.now }
     ensures { option_map (λ doc. doc.now) result ≡ doc_before (map item_tree items.now) }
 {
     let count = items.len();
@@ -132,14 +172,14 @@ fn find_doc<'src>(items: &[Item<'src>]) -> Option<&'src str>
     }
 }
 
-/// Whether the item is the end of a line.
+/// Whether the item is a line end.
 fn is_newline(item: &Item<'_>) -> bool
     ensures { result ≡ is_newline (item_tree item.now) }
 {
     matches!(item, Item::Newline)
 }
 
-/// The comment that the item is, if it is one.
+/// Returns the text of a comment, or `None` if the item isn't one.
 fn find_comment<'src>(item: &Item<'src>) -> Option<&'src str>
     ensures { option_map (λ comment. comment.now) result ≡ comment_of (item_tree item.now) }
 {
@@ -149,7 +189,8 @@ fn find_comment<'src>(item: &Item<'src>) -> Option<&'src str>
     }
 }
 
-/// The doc that the first comment of a file is; one that begins `#!` is none.
+/// Returns the doc in the first comment of a file, or `None` if the comment begins with `#!` or is
+/// empty.
 fn find_first_doc(comment: &str) -> Option<&str>
     requires { IsTrue (starts_with nat_eq comment.now (codes "#")) }
     ensures { option_map (λ doc. doc.now) result ≡ doc_in before.Nothing comment.now }
@@ -160,7 +201,8 @@ fn find_first_doc(comment: &str) -> Option<&str>
     find_text(comment)
 }
 
-/// The text of a comment after its `#`, without the white space around it, if there is any.
+/// Returns the text of a comment after its `#`, without the whitespace around it, or `None` if that
+/// is empty.
 fn find_text(comment: &str) -> Option<&str>
     requires { IsTrue (starts_with nat_eq comment.now (codes "#")) }
     ensures { option_map (λ doc. doc.now) result ≡ doc_in before.LineEnd comment.now }

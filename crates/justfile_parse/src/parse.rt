@@ -1,54 +1,103 @@
-//! Files from tokens, and from texts: the public calls, and how a file is begun.
+//! Files from tokens and from texts: the public calls, and how a file begins.
 ghost use Rattle.std.specs.Prelude.{◌≡◌, ◌<◌, ◌≤◌, All, List, length, map, Contains, IfOk, IfErr, OnErr, string_bytes};
-ghost use Rattle.justfile_base.specs.Modulepath.{module_names, names_of};
-ghost use Rattle.justfile_word.specs.Numerator.{constants_of};
+ghost use Rattle.justfile_token.specs.Modulepath.{module_names, names_of};
+ghost use Rattle.justfile_vocabulary.specs.Numerator.{constants_of};
 ghost use Rattle.justfile_model.specs.Lexed.{Lexed};
 ghost use Rattle.justfile_model.specs.SignificantTokens.{identifiers, significant_tokens};
 ghost use Rattle.justfile_model.specs.Tok.{Tok, tok_of};
 ghost use Rattle.justfile_parse.specs.Parsing.{HasNoTree, IsOneLex, IsParsed, IsParsedText, IsUnparsed};
 ghost use Rattle.justfile_parse_expression.specs.Conditions.{conditions_of};
-ghost use Rattle.justfile_parse_expression.specs.Formats.{IsTable};
+ghost use Rattle.justfile_parse_expression.specs.FormatStrings.{IsTable};
 ghost use Rattle.justfile_parse_item.specs.Filled.{IsInTable};
 ghost use Rattle.justfile_parse_item.specs.ItemTable as reader;
 ghost use Rattle.justfile_parse_item.specs.ItemTable.{after_mark};
 ghost use Rattle.justfile_parse.specs.MethodResults.{IsErrorAt, IsFaultOf, IsNextPlace, IsRead, IsUnread};
 ghost use Rattle.justfile_parse_item.specs.MethodResults.{IsMoved};
-ghost use Rattle.justfile_parse.specs.Halting.{IsFaultOfHalt};
-ghost use Rattle.justfile_parse_item.specs.Whole.{AreWhole};
+ghost use Rattle.justfile_parse.specs.ErrorFaults.{IsFaultOfError};
+ghost use Rattle.justfile_parse_item.specs.DerivedFields.{HaveDerivedFields};
 ghost use Rattle.justfile_parse_expression.specs.Significant.{significant_of};
 ghost use Rattle.justfile_parse_item.specs.Tree.{item_tree};
 ghost use Rattle.justfile_parse_expression.specs.View.{state_of};
-ghost use Rattle.justfile_parse_expression.specs.declared.stop.Refusal.TheVariants.{Unexpected};
-ghost use Rattle.justfile_parse_header.specs.Counting.{ReadsCounted, counters_of};
+ghost use Rattle.justfile_parse_expression.specs.declared.expression_error.SyntaxError.TheVariants.{Unexpected};
+ghost use Rattle.justfile_parse_header.specs.Counting.{counters_of, ParsesCounted};
 
 use crate::docs::take_docs;
 use crate::unstable::with_unstable;
-use justfile_base::{
-    CompileError, CompileErrorKind, CompileResult, Expander, Fault, Modulepath, Namepath,
-    Numerator, Source, Token, TokenKind, Version,
-};
-use justfile_file::Ast;
+use justfile_ast::Ast;
+use justfile_expression::ListFeature;
 use justfile_item::Item;
 use justfile_lex::Lexer;
-use justfile_parse_attribute::Halt;
+use justfile_parse_attribute::ParseError;
 use justfile_parse_expression::significant::{TableEntry, significant};
-use justfile_parse_expression::{ExpressionParser, Refusal, Stop, Wanted};
+use justfile_parse_expression::{ExpectedTokens, ExpressionError, ExpressionParser, SyntaxError};
 use justfile_parse_item::parse_items;
-use justfile_tree::ListFeature;
+use justfile_token::{
+    CompileError, CompileErrorKind, CompileResult, Expander, Fault, Modulepath, Namepath, Source,
+    Token,
+};
+use justfile_vocabulary::{Numerator, TokenKind, Version};
 use std::alloc::{AllocError, Global};
 
-/// Reads files.
+/// Parses files.
 pub struct Parser;
 
 impl Parser {
-    /// The file whose tokens these are. At most `limit` of its expressions may be open in one another;
-    /// `RECURSION_LIMIT` is the usual limit.
+    /// Parses a file from its text, under a limit as for `parse`.
     ///
     /// # Errors
     ///
-    /// `Compile` if the tokens are no file, at one of them; `Numbers` if more numbers of bindings or
-    /// of recipes are wanted than there are; `Memory` if memory runs out. The numerator's counters
-    /// have then moved up by no more than the number of identifiers.
+    /// `Compile`, with a part of the text, if the text can't be lexed or its tokens aren't a file;
+    /// `Numbers` and `Memory` as for `parse`. If the text can't be lexed, the numerator is
+    /// unchanged.
+    pub fn parse_source<'src, X: Expander>(
+        alloc: Global,
+        numerator: &mut Numerator,
+        path: &'src str,
+        source: &Source<'_, '_>,
+        src: &'src str,
+        expander: &X,
+        current: Version,
+        limit: usize,
+    ) -> CompileResult<'src, Ast<'src>>
+        ensures parsed { IfOk result
+            (IsParsedText (conditions_of X.answer expander.now current limit) path.now src.now
+            source.now.file_depth source.now.import_offsets.now numerator.old numerator.new) }
+        ensures module_path { IfOk result (λ ast. names_of ast.module_path
+            ≡ module_names source.now.namepath) }
+        ensures working_directory { IfOk result (λ ast. string_bytes ast.working_directory
+            ≡ source.now.working_directory.now) }
+        ensures no_tree { IfErr result
+            (HasNoTree (conditions_of X.answer expander.now current limit) path.now src.now
+            numerator.old numerator.new) }
+        ensures moved { (tokens : List Tok) → Lexed src.now tokens
+            → IsMoved numerator.old numerator.new (identifiers (significant_tokens tokens)) }
+        ensures unmoved { ((tokens : List Tok) → Lexed src.now tokens → ⊥)
+            → numerator.new ≡ numerator.old }
+        ensures constants { constants_of numerator.new ≡ constants_of numerator.old }
+    {
+        let tokens = Lexer::lex(alloc, path, src)?;
+        Parser::parse(
+            alloc,
+            source.file_depth,
+            source.import_offsets,
+            source.namepath,
+            numerator,
+            tokens.as_slice(),
+            source.working_directory,
+            expander,
+            current,
+            limit,
+        )
+    }
+
+    /// Parses a file from its tokens, which have to be those of one source. At most `limit`
+    /// expressions may be nested in one another; `RECURSION_LIMIT` is the usual limit.
+    ///
+    /// # Errors
+    ///
+    /// `Compile`, with one of the tokens, if they aren't a file; `Numbers` if a binding or a recipe
+    /// needs a number and the counter has reached its maximum; `Memory` if memory runs out. On an
+    /// error, the numerator's counters have moved up by at most the number of identifiers.
     pub fn parse<'src, X: Expander>(
         alloc: Global,
         file_depth: u32,
@@ -63,12 +112,17 @@ impl Parser {
     ) -> CompileResult<'src, Ast<'src>>
         requires { IsOneLex tokens.now }
         ensures parsed { IfOk result (IsParsed (conditions_of X.answer expander.now current limit)
-            (map tok_of tokens.now) (Contains tokens.now) file_depth import_offsets.now numerator.old numerator.new) }
-        ensures module_path { IfOk result (λ ast. names_of ast.module_path ≡ module_names module_namepath.entry) }
-        ensures working_directory { IfOk result (λ ast. string_bytes ast.working_directory ≡ working_directory.now) }
-        ensures unparsed { IfErr result (IsUnparsed (conditions_of X.answer expander.now current limit)
+            (map tok_of tokens.now) (Contains tokens.now) file_depth import_offsets.now
+            numerator.old numerator.new) }
+        ensures module_path { IfOk result (λ ast. names_of ast.module_path
+            ≡ module_names module_namepath.entry) }
+        ensures working_directory { IfOk result (λ ast. string_bytes ast.working_directory
+            ≡ working_directory.now) }
+        ensures unparsed { IfErr result
+            (IsUnparsed (conditions_of X.answer expander.now current limit)
             (map tok_of tokens.now) (Contains tokens.now) numerator.old numerator.new) }
-        ensures moved { IsMoved numerator.old numerator.new (identifiers (significant_tokens (map tok_of tokens.now))) }
+        ensures moved { IsMoved numerator.old numerator.new
+            (identifiers (significant_tokens (map tok_of tokens.now))) }
     {
         let table = significant(alloc, tokens)?;
         let (items, list_features) = parse_table(
@@ -90,51 +144,9 @@ impl Parser {
             working_directory: working_directory.to_string(alloc)?,
         })
     }
-
-    /// The file that a text is, under a limit as for `parse`.
-    ///
-    /// # Errors
-    ///
-    /// `Compile` if the text has no tokens or they are no file, at a part of the text; `Numbers` and
-    /// `Memory` as for `parse`. The numerator is unchanged where the text has no tokens.
-    pub fn parse_source<'src, X: Expander>(
-        alloc: Global,
-        numerator: &mut Numerator,
-        path: &'src str,
-        source: &Source<'_, '_>,
-        src: &'src str,
-        expander: &X,
-        current: Version,
-        limit: usize,
-    ) -> CompileResult<'src, Ast<'src>>
-        ensures parsed { IfOk result (IsParsedText (conditions_of X.answer expander.now current limit)
-            path.now src.now source.now.file_depth source.now.import_offsets.now numerator.old numerator.new) }
-        ensures module_path { IfOk result (λ ast. names_of ast.module_path ≡ module_names source.now.namepath) }
-        ensures working_directory { IfOk result (λ ast. string_bytes ast.working_directory ≡ source.now.working_directory.now) }
-        ensures no_tree { IfErr result
-            (HasNoTree (conditions_of X.answer expander.now current limit) path.now src.now numerator.old numerator.new) }
-        ensures moved { (tokens : List Tok) → Lexed src.now tokens → IsMoved numerator.old numerator.new
-            (identifiers (significant_tokens tokens)) }
-        ensures unmoved { ((tokens : List Tok) → Lexed src.now tokens → ⊥) → numerator.new ≡ numerator.old }
-        ensures constants { constants_of numerator.new ≡ constants_of numerator.old }
-    {
-        let tokens = Lexer::lex(alloc, path, src)?;
-        Parser::parse(
-            alloc,
-            source.file_depth,
-            source.import_offsets,
-            source.namepath,
-            numerator,
-            tokens.as_slice(),
-            source.working_directory,
-            expander,
-            current,
-            limit,
-        )
-    }
 }
 
-/// The items of the file that a table of tokens is, and its features.
+/// Parses the items of a file from the table of its tokens. Also returns the uses of features.
 fn parse_table<'run, 'src, X: Expander>(
     alloc: Global,
     file_depth: u32,
@@ -146,12 +158,13 @@ fn parse_table<'run, 'src, X: Expander>(
     limit: usize,
 ) -> CompileResult<'src, (Vec<Item<'src>>, Vec<(ListFeature, Token<'src>)>)>
     requires { IsTable tokens.now }
-    ensures ok { IfOk result (λ x. IsRead (conditions_of X.answer expander.now current limit) tokens.now
-        file_depth import_offsets.now (map significant_of tokens.now) numerator.old numerator.new
-        (x.0.items, x.1.items)) }
+    ensures ok { IfOk result (λ x. IsRead (conditions_of X.answer expander.now current limit)
+        tokens.now file_depth import_offsets.now (map significant_of tokens.now)
+        numerator.old numerator.new (x.0.items, x.1.items)) }
     ensures err { IfErr result (IsUnread (conditions_of X.answer expander.now current limit)
         (map significant_of tokens.now) (IsInTable tokens.now) numerator.old numerator.new) }
-    ensures moved { IsMoved numerator.old numerator.new (identifiers (map significant_of tokens.now)) }
+    ensures moved { IsMoved numerator.old numerator.new
+        (identifiers (map significant_of tokens.now)) }
 {
     let mut parser = ExpressionParser::new(
         alloc,
@@ -164,21 +177,29 @@ fn parse_table<'run, 'src, X: Expander>(
     );
     match parse_file(&mut parser, numerator) {
         Ok(items) => Ok((take_docs(alloc, items)?, parser.list_features)),
-        Err(halt) => Err(make_fault(alloc, tokens, parser.peek_front(), &parser.wanted, halt)),
+        Err(error) => Err(make_fault(
+            alloc,
+            tokens,
+            parser.peek_front(),
+            &parser.expected_tokens,
+            error,
+        )),
     }
 }
 
-/// The items of a file, which may begin with a byte order mark, where no expression is open.
+/// Parses the items of a file, which may begin with a byte order mark. Requires that no expression
+/// is open.
 #[tactic(auto, using(justfile_parse_item::proofs::Loop::file_is))]
 fn parse_file<'src, X: Expander>(
     parser: &mut ExpressionParser<'_, 'src, X>,
     numerator: &mut Numerator,
-) -> Result<Vec<Item<'src>>, Halt<'src>>
+) -> Result<Vec<Item<'src>>, ParseError<'src>>
     requires { (state_of X.answer parser.old).depth ≡ 0 }
-    ensures reads { ReadsCounted (λ items. map item_tree items.items) result numerator.new (state_of X.answer parser.new)
-        (reader.file (counters_of numerator.old) (state_of X.answer parser.old)) }
-    ensures whole { IfOk result (λ items. AreWhole items.items) }
-    ensures moved { IsMoved numerator.old numerator.new (identifiers (map significant_of (state_of X.answer parser.old).left)) }
+    ensures reads { ParsesCounted X.answer (λ items. map item_tree items.items) result numerator.new
+        parser.old parser.new (reader.file (counters_of numerator.old)) }
+    ensures whole { IfOk result (λ items. HaveDerivedFields items.items) }
+    ensures moved { IsMoved numerator.old numerator.new
+        (identifiers (map significant_of (state_of X.answer parser.old).left)) }
 {
     accept_byte_order_mark(parser);
     parse_items(parser, numerator)
@@ -191,68 +212,77 @@ fn accept_byte_order_mark<X: Expander>(parser: &mut ExpressionParser<'_, '_, X>)
     let _mark = parser.accept(TokenKind::ByteOrderMark);
 }
 
-/// The fault for which reading halted, where this token is next and others are wanted.
+/// Makes the fault for a parse error, where `next` is the next token and `expected_tokens` would be
+/// allowed instead.
 fn make_fault<'src>(
     alloc: Global,
     tokens: &[TableEntry<'_, 'src>],
     next: Option<TableEntry<'_, 'src>>,
-    wanted: &Wanted,
-    halt: Halt<'src>,
+    expected_tokens: &ExpectedTokens,
+    failure: ParseError<'src>,
 ) -> Fault<'src>
     requires { 0 < length tokens.now }
-    ensures { IsFaultOfHalt tokens.now next.entry halt.entry result }
+    ensures { IsFaultOfError tokens.now next.entry failure.entry result }
 {
-    match halt {
-        Halt::Stopped(stop) => make_stop_fault(alloc, tokens, next, wanted, stop),
-        Halt::Broken(error) => Fault::Compile(Box::into_inner(error)),
+    match failure {
+        ParseError::Unreadable(cause) => expression_fault(
+            alloc,
+            tokens,
+            next,
+            expected_tokens,
+            cause,
+        ),
+        ParseError::BrokenRule(error) => Fault::Compile(Box::into_inner(error)),
     }
 }
 
-/// The fault for which reading stopped, where this token is next and others are wanted.
-fn make_stop_fault<'src>(
+/// Makes the fault for an expression error, where `next` is the next token and `expected_tokens`
+/// would be allowed instead.
+fn expression_fault<'src>(
     alloc: Global,
     tokens: &[TableEntry<'_, 'src>],
     next: Option<TableEntry<'_, 'src>>,
-    wanted: &Wanted,
-    stop: Stop<'src>,
+    expected_tokens: &ExpectedTokens,
+    cause: ExpressionError<'src>,
 ) -> Fault<'src>
     requires { 0 < length tokens.now }
-    ensures { IsFaultOf tokens.now next.entry stop.entry result }
+    ensures { IsFaultOf tokens.now next.entry cause.entry result }
 {
-    match stop {
-        Stop::Refused(refusal) => {
-            match make_error(alloc, find_place(tokens, next), wanted, refusal) {
+    match cause {
+        ExpressionError::Refused(refusal) => {
+            match make_error(alloc, find_place(tokens, next), expected_tokens, refusal) {
                 Ok(error) => Fault::Compile(error),
                 Err(_) => Fault::Memory,
             }
         }
-        Stop::Literal(refused) => Fault::Compile(Box::into_inner(refused).error),
-        Stop::Memory => Fault::Memory,
-        Stop::Numbers => Fault::Numbers,
+        ExpressionError::Literal(refused) => Fault::Compile(Box::into_inner(refused).error),
+        ExpressionError::Memory => Fault::Memory,
+        ExpressionError::Numbers => Fault::Numbers,
     }
 }
 
-/// The error of a refusal at a token, where others are wanted. Only their list takes memory.
+/// Makes the error for a token that is refused, where `expected_tokens` would be allowed instead.
+/// Only the list of these takes memory.
 fn make_error<'src>(
     alloc: Global,
     token: Token<'src>,
-    wanted: &Wanted,
-    refusal: Refusal,
+    expected_tokens: &ExpectedTokens,
+    refusal: SyntaxError,
 ) -> Result<CompileError<'src>, AllocError>
     ensures error { IfOk result (IsErrorAt refusal token.entry) }
     ensures memory { OnErr result (refusal ≡ Unexpected) }
 {
     let kind = match refusal {
-        Refusal::Unexpected => CompileErrorKind::UnexpectedToken {
-            expected: wanted.kinds(alloc)?,
+        SyntaxError::Unexpected => CompileErrorKind::UnexpectedToken {
+            expected: expected_tokens.kinds(alloc)?,
             found: token.kind,
         },
-        Refusal::TooDeep => CompileErrorKind::ParsingRecursionDepthExceeded,
+        SyntaxError::TooDeep => CompileErrorKind::ParsingRecursionDepthExceeded,
     };
     Ok(token.error(kind))
 }
 
-/// Where a refusal stands: at the next token, or at the last where none is left.
+/// Returns the token where a syntax error is reported: the next one, or the last if none is left.
 #[tactic(auto, using(crate::proofs::Tables::in_table, crate::proofs::Tables::last_at))]
 fn find_place<'src>(
     tokens: &[TableEntry<'_, 'src>],

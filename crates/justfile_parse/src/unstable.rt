@@ -1,26 +1,26 @@
-//! What a file uses that only an unstable justfile may.
+//! The unstable features that a file uses.
 ghost use Rattle.std.specs.Prelude.{◌≡◌, IfOk, OnOk};
 ghost use Rattle.std.specs.List.{list_any};
 ghost use Rattle.justfile_attribute_set.specs.AttributeSet.{entries_of};
-ghost use Rattle.justfile_word.specs.declared.attribute_kind.AttributeKind.TheVariants as kinds;
-ghost use Rattle.justfile_word.specs.declared.unstable_feature.UnstableFeature.TheVariants as features;
+ghost use Rattle.justfile_vocabulary.specs.declared.attribute_kind.AttributeKind.TheVariants as kinds;
+ghost use Rattle.justfile_vocabulary.specs.declared.unstable_feature.UnstableFeature.TheVariants as features;
 ghost use Rattle.justfile_model.specs.ContentKeys.{has_attribute};
 ghost use Rattle.justfile_model.specs.UnstableFeatures.{is_lists};
 ghost use Rattle.justfile_parse.specs.Unstable.{unstable_of, uses_feature, with_used};
 ghost use Rattle.justfile_setting.specs.Setting.{keyword_of};
 
 use justfile_attribute_set::AttributeSet;
-use justfile_base::{AttributeKind, UnstableFeature};
 use justfile_item::Item;
 use justfile_setting::Setting;
+use justfile_vocabulary::{AttributeKind, UnstableFeature};
 use std::alloc::{AllocError, Global};
 use std::collections::BTreeSet;
 
-/// The items, and what they use that is unstable.
+/// Returns the items, together with the unstable features that they use.
 ///
 /// # Errors
 ///
-/// `AllocError` if the program is out of memory.
+/// `AllocError` if memory runs out.
 pub(crate) fn with_unstable<'src>(
     alloc: Global,
     mut items: Vec<Item<'src>>,
@@ -32,11 +32,11 @@ pub(crate) fn with_unstable<'src>(
     Ok((items, features))
 }
 
-/// What these items use that is unstable; they stay as they are.
+/// Returns the unstable features that these items use, and leaves the items unchanged.
 ///
 /// # Errors
 ///
-/// `AllocError` if the program is out of memory.
+/// `AllocError` if memory runs out.
 #[tactic(auto, using(crate::proofs::UsedFeatures::features_are))]
 fn unstable_features(
     alloc: Global,

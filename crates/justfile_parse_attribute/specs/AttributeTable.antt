@@ -1,26 +1,26 @@
--- Reading the attributes of a table, with all that the parser's trees hold.
+-- The reader of the attributes in a table, whose trees hold all that the parser's trees hold.
 use Rattle.std.specs.Prelude.{ℕ, Bool, true, false, List, [], ◌∷◌, ◌++◌, Option, Ok}
-use Rattle.justfile_word.specs.declared.attribute_kind.AttributeKind.{AttributeKind}
-use Rattle.justfile_base.specs.declared.token.Token.{Token}
-use Rattle.justfile_word.specs.declared.token_kind.TokenKind.{TokenKind}
-use Rattle.justfile_word.specs.declared.token_kind.TokenKind.TheVariants as kinds
+use Rattle.justfile_vocabulary.specs.declared.attribute_kind.AttributeKind.{AttributeKind}
+use Rattle.justfile_token.specs.declared.token.Token.{Token}
+use Rattle.justfile_vocabulary.specs.declared.token_kind.TokenKind.{TokenKind}
+use Rattle.justfile_vocabulary.specs.declared.token_kind.TokenKind.TheVariants as kinds
 use Rattle.justfile_model.specs.AttributeReader as attributes
 use Rattle.justfile_model.specs.Meaning.{by_key, by_position}
 use Rattle.justfile_model.specs.NewAttribute.{new_entry}
-use Rattle.justfile_model.specs.Reading as reading
-use Rattle.justfile_model.specs.Reading.{◌>>=◌, choose}
-use Rattle.justfile_model.specs.Sight.{Sight}
+use Rattle.justfile_model.specs.ReaderState as reading
+use Rattle.justfile_model.specs.ReaderState.{◌>>=◌, choose}
+use Rattle.justfile_model.specs.LeafView.{LeafView}
 use Rattle.justfile_model.specs.Tree.{Argument, Entry, Expr, WrittenAttribute, commented_entry}
 use Rattle.justfile_parse_expression.specs.TableReader.{Read, Run, State, accept, expect, leaves}
-use Rattle.justfile_tree.specs.LeafSight.{sees_leaves}
-use Rattle.justfile_tree.specs.LeafTree.{Leaf}
+use Rattle.justfile_expression.specs.LeafViews.{views_leaves}
+use Rattle.justfile_expression.specs.LeafTree.{Leaf}
 use Rattle.justfile_parse_expression.specs.declared.significant.TableEntry.{TableEntry}
 
--- what is seen of leaves is the same in each run
-abbrev pub sight_of : Run → Sight Leaf Token
-sight_of run = sees_leaves
+-- the view of leaves, which is the same for each file
+abbrev pub view_of : Run → LeafView Leaf Token
+view_of run = views_leaves
 
--- of an attribute its meaning is kept
+-- what a tree holds of an attribute: its meaning
 abbrev pub meaning_kept : WrittenAttribute Leaf Token → Entry Leaf Token → Entry Leaf Token
 meaning_kept written entry = entry
 
@@ -34,39 +34,36 @@ abbrev pub Arguments : Type 0
 Arguments = List (Argument Leaf Token)
 
 abbrev pub argument_of_key : Leaf → Option (Expr Leaf Token) → Argument Leaf Token
-argument_of_key = attributes.argument_of_key leaves sight_of meaning_kept meaning_in
+argument_of_key = attributes.argument_of_key leaves view_of meaning_kept meaning_in
 
--- there is a key among the arguments
+-- whether there is a keyword argument
 abbrev pub some_key : Arguments → Bool
-some_key before = attributes.some_key leaves sight_of meaning_kept meaning_in (by_key before)
+some_key before = attributes.some_key leaves view_of meaning_kept meaning_in (by_key before)
 
--- an expression, with its first token
+-- an expression with its first token, as a positional argument
 abbrev pub placed : State → Read (Argument Leaf Token)
-placed = attributes.placed leaves sight_of meaning_kept meaning_in
+placed = attributes.placed leaves view_of meaning_kept meaning_in
 
 abbrev pub positional : (before : Arguments) → State → Read (Argument Leaf Token)
-positional = attributes.positional leaves sight_of meaning_kept meaning_in
+positional = attributes.positional leaves view_of meaning_kept meaning_in
 
 abbrev pub key_value : State → Read (Option (Expr Leaf Token))
-key_value = attributes.key_value leaves sight_of meaning_kept meaning_in
-
-abbrev pub is_repeated : Run → (before : Arguments) → TableEntry → Bool
-is_repeated = attributes.is_repeated leaves sight_of meaning_kept meaning_in
+key_value = attributes.key_value leaves view_of meaning_kept meaning_in
 
 abbrev pub keyed : (name : TableEntry) (before : Arguments) → State → Read (Argument Leaf Token)
-keyed = attributes.keyed leaves sight_of meaning_kept meaning_in
+keyed = attributes.keyed leaves view_of meaning_kept meaning_in
 
 abbrev pub begins_key : State → Bool
-begins_key = attributes.begins_key leaves sight_of meaning_kept meaning_in
+begins_key = attributes.begins_key leaves view_of meaning_kept meaning_in
 
 abbrev pub argument : (name : TableEntry) (keys : Bool) (before : Arguments) → State → Read (Argument Leaf Token)
-argument = attributes.argument leaves sight_of meaning_kept meaning_in
+argument = attributes.argument leaves view_of meaning_kept meaning_in
 
--- one after those that were read
+-- appends the element that was read to those before it
 abbrev pub then_last : {X : Type 0} → List X → X × State → Read (List X)
 then_last before x = Ok (before ++ x.0 ∷ [], x.1)
 
--- an argument after those that were read, and all of them
+-- an argument, appended to those before it
 unfoldable pub one_argument : (name : TableEntry) (keys : Bool) (before : Arguments) → State → Read Arguments
 one_argument name keys before s = argument name keys before s >>= then_last before
 
@@ -82,7 +79,7 @@ single_argument s = do
   a ← placed s
   Ok (a.0 ∷ [], a.1)
 
--- what stands after an element of a list: a comma, or the closing delimiter, and then the list is at its end
+-- what follows an element of a list: a comma, or the closing delimiter; whether the list is closed
 unfoldable pub separator : (closing : TokenKind) → State → Read Bool
 separator closing s =
     choose (accept kinds.Comma s)
@@ -91,7 +88,7 @@ separator closing s =
       Ok (true, closer.1))
     (λ comma. Ok (false, comma.1))
 
--- the closing parenthesis, or an argument and what stands after it; whether the arguments are at their end
+-- the closing parenthesis, or an argument and what follows it; whether the arguments are at their end
 unfoldable pub list_step : (name : TableEntry) (keys : Bool) (before : Arguments) → State → Read (Arguments × Bool)
 list_step name keys before s =
     choose (accept kinds.ParenR s)
@@ -102,31 +99,31 @@ list_step name keys before s =
     (λ closer. Ok ((before, true), closer.1))
 
 abbrev pub arguments_from : (name : TableEntry) (keys : Bool) → Arguments × State → Read Arguments
-arguments_from = attributes.arguments_from leaves sight_of meaning_kept meaning_in
+arguments_from = attributes.arguments_from leaves view_of meaning_kept meaning_in
 
 abbrev pub arguments : (name : TableEntry) (keys : Bool) → State → Read Arguments
-arguments = attributes.arguments leaves sight_of meaning_kept meaning_in
+arguments = attributes.arguments leaves view_of meaning_kept meaning_in
 
 abbrev pub kind_at : TableEntry → State → Read AttributeKind
-kind_at = attributes.kind_at leaves sight_of meaning_kept meaning_in
+kind_at = attributes.kind_at leaves view_of meaning_kept meaning_in
 
 abbrev pub made : (before : Entries) → TableEntry → AttributeKind → Arguments → State → Read (Entry Leaf Token)
-made = attributes.made leaves sight_of meaning_kept meaning_in
+made = attributes.made leaves view_of meaning_kept meaning_in
 
 abbrev pub attribute : (before : Entries) → State → Read (Entry Leaf Token)
-attribute = attributes.attribute leaves sight_of meaning_kept meaning_in
+attribute = attributes.attribute leaves view_of meaning_kept meaning_in
 
--- what is made of these arguments after others, and all of them, at the token of its name
+-- the attribute that these arguments make, at the token of its name, appended to those before it
 unfoldable pub one_made : (before : Entries) (name : Token) → AttributeKind → Arguments → State → Read Entries
 one_made before name kind arguments s = do
-  e ← attributes.read_made (new_entry sees_leaves before name kind (by_position arguments) (by_key arguments)) s
+  e ← attributes.read_made (new_entry views_leaves before name kind (by_position arguments) (by_key arguments)) s
   Ok (before ++ e.0 ∷ [], e.1)
 
--- an attribute after others, and all of them
+-- an attribute, appended to those before it
 unfoldable pub one_attribute : (before : Entries) → State → Read Entries
 one_attribute before s = attribute before s >>= then_last before
 
--- an attribute and what stands after it; whether the bracket is at its end
+-- an attribute and what follows it; whether the bracket is closed
 unfoldable pub bracket_step : (before : Entries) → State → Read (Entries × Bool)
 bracket_step before s = do
   all ← one_attribute before s
@@ -134,32 +131,32 @@ bracket_step before s = do
   Ok ((all.0, is_last.0), is_last.1)
 
 abbrev pub bracketed : Entries × State → Read Entries
-bracketed = attributes.bracketed leaves sight_of meaning_kept meaning_in
+bracketed = attributes.bracketed leaves view_of meaning_kept meaning_in
 
--- the text of a comment without the white space at its end
+-- the text of a comment without the whitespace at its end
 abbrev pub comment_in : TableEntry → List ℕ
 comment_in = reading.comment_in leaves
 
--- the end of a line, after this comment or none
+-- the end of a line, after its comment if it has one
 abbrev pub line_end_after : (comment : Option TableEntry) → State → Read (Option TableEntry)
-line_end_after = attributes.line_end_after leaves sight_of meaning_kept meaning_in
+line_end_after = attributes.line_end_after leaves view_of meaning_kept meaning_in
 
 -- the end of a line of attributes, and the comment before it, if there is one
 abbrev pub attributes_end : State → Read (Option TableEntry)
-attributes_end = attributes.attributes_end leaves sight_of meaning_kept meaning_in
+attributes_end = attributes.attributes_end leaves view_of meaning_kept meaning_in
 
--- the entries where the line of the last one ends after this comment or none
+-- the entries, with this comment attached to the last one
 abbrev pub commented_by : (comment : Option TableEntry) → Entries → Entries
-commented_by = attributes.commented_by leaves sight_of meaning_kept meaning_in commented_entry
+commented_by = attributes.commented_by leaves view_of meaning_kept meaning_in commented_entry
 
--- a line of attributes after its opening bracket, after others
+-- a line of attributes after its opening bracket, appended to those before it
 unfoldable pub attribute_line : (before : Entries) → State → Read Entries
 attribute_line before s = do
   ws ← bracketed (before, s)
   end ← attributes_end ws.1
   Ok (commented_by end.0 ws.0, end.1)
 
--- a line of attributes, if a bracket opens; whether the lines are at their end
+-- a line of attributes, if an opening bracket comes next; whether there are no more lines
 unfoldable pub line_step : (before : Entries) → State → Read (Entries × Bool)
 line_step before s =
     choose (accept kinds.BracketL s) (Ok ((before, true), s)) (λ opener. do
@@ -167,8 +164,8 @@ line_step before s =
       Ok ((ws.0, false), ws.1))
 
 abbrev pub attribute_lines_from : Entries × State → Read Entries
-attribute_lines_from = attributes.attribute_lines_from leaves sight_of meaning_kept meaning_in commented_entry
+attribute_lines_from = attributes.attribute_lines_from leaves view_of meaning_kept meaning_in commented_entry
 
 -- the lines of attributes before a construct
 abbrev pub attribute_lines : State → Read Entries
-attribute_lines = attributes.attribute_lines leaves sight_of meaning_kept meaning_in commented_entry
+attribute_lines = attributes.attribute_lines leaves view_of meaning_kept meaning_in commented_entry

@@ -1,15 +1,15 @@
--- Bounds of attributes that stand with their keys.
+-- Bounds of attributes, with their keys.
 use Rattle.std.specs.Prelude.{All, IsTrue, List}
 use Rattle.std.specs.Option.{is_some}
 use Rattle.justfile_attribute.specs.declared.attribute.Attribute.{Attribute}
 use Rattle.justfile_attribute.specs.declared.attribute.Attribute.TheVariants as variants
 
--- a bound stands with its key
+-- Each bound of an attribute has its key.
 abbrev pub IsKeyed : Attribute → Type 0
 IsKeyed (variants.Arg flag help help_property long long_key max max_key min min_key multiple name pattern short short_key value) =
     (IsTrue (is_some max) → IsTrue (is_some max_key)) × (IsTrue (is_some min) → IsTrue (is_some min_key))
 IsKeyed _ = Unit {0}
 
--- each bound of the attributes stands with its key
+-- Each bound of the attributes has its key.
 unfoldable pub AreKeyed : List Attribute → Type 0
 AreKeyed attributes = All IsKeyed attributes

@@ -1,4 +1,4 @@
--- The lines of the first `arg` and of the first `group` of each label, among attributes that are read.
+-- The lines where each label of an `arg` and of a `group` is first, among parsed attributes.
 use Rattle.std.specs.Prelude.{◌≡◌, ℕ, Bool, true, false, cond, List, [], ◌∷◌, ◌++◌, map, find, Option, Some, None, Result, Ok, String, string_bytes}
 use Rattle.std.specs.BTreeMap.{BTreeMap, get_by_text}
 use Rattle.std.specs.Coded.{Coded-set, coded_option, coded_ℕ}
@@ -6,9 +6,9 @@ use Rattle.std.specs.Option.{option_map}
 use Rattle.std.specs.Str.{bytes_eq}
 use Rattle.justfile_attribute.specs.declared.attribute.Attribute.{Attribute}
 use Rattle.justfile_attribute_rules.specs.Made.{Makes}
-use Rattle.justfile_base.specs.declared.fault.Fault.{Fault}
-use Rattle.justfile_base.specs.declared.string_literal.StringLiteral.{StringLiteral}
-use Rattle.justfile_base.specs.declared.token.Token.{Token}
+use Rattle.justfile_token.specs.declared.fault.Fault.{Fault}
+use Rattle.justfile_token.specs.declared.string_literal.StringLiteral.{StringLiteral}
+use Rattle.justfile_token.specs.declared.token.Token.{Token}
 use Rattle.justfile_model.specs.AttributeRules.{same_text}
 use Rattle.justfile_model.specs.ContentLeaf.{literal_value}
 use Rattle.justfile_model.specs.Meaning.{first_of, quoted_text}
@@ -18,10 +18,10 @@ use Rattle.justfile_model.specs.Tree as tree
 use Rattle.justfile_model.specs.Tree.{Entry, Quoted}
 use Rattle.justfile_parse_attribute.specs.Attributes.{entry_of_pair}
 use Rattle.justfile_parse_attribute.specs.declared.labels.Labels.{Labels}
-use Rattle.justfile_tree.specs.Content.{literal_content}
-use Rattle.justfile_tree.specs.LeafSight.{sees_leaves}
-use Rattle.justfile_tree.specs.LeafTree.{Leaf}
-use Rattle.justfile_word.specs.declared.attribute_kind.AttributeKind.TheVariants as kinds
+use Rattle.justfile_expression.specs.Content.{literal_content}
+use Rattle.justfile_expression.specs.LeafViews.{views_leaves}
+use Rattle.justfile_expression.specs.LeafTree.{Leaf}
+use Rattle.justfile_vocabulary.specs.declared.attribute_kind.AttributeKind.TheVariants as kinds
 use Rattle.justfile_written.specs.declared.written.Written.{Written}
 
 abbrev pub Seen : Type 0
@@ -36,16 +36,16 @@ abbrev pub group_label : Seen → Option (Quoted Leaf)
 group_label (tree.Texts kinds.Group texts) = first_of texts
 group_label _ = None
 
--- a label has this text
+-- whether a label has this text
 abbrev pub has_text : (text : List ℕ) → Option (Quoted Leaf) → Bool
 has_text text None = false
-has_text text (Some q) = same_text sees_leaves (quoted_text sees_leaves q) (Some text)
+has_text text (Some q) = same_text views_leaves (quoted_text views_leaves q) (Some text)
 
 -- the line of the first entry whose label has this text
 abbrev pub first_line : (Seen → Option (Quoted Leaf)) → (text : List ℕ) → List (Entry Leaf Token) → Option ℕ
 first_line label text entries = option_map (λ (e : Entry Leaf Token). e.name.line) (find (λ (e : Entry Leaf Token). has_text text (label e.attribute)) entries)
 
--- the labels of these entries are known, each with the line where it is first
+-- `labels` has the labels of these entries, each with the line where it is first.
 unfoldable pub AreKnown : Labels → List (Entry Leaf Token) → Type 0
 AreKnown labels entries =
     (text : List ℕ) → (get_by_text labels.arguments text ≡ first_line arg_label text entries) × (get_by_text labels.groups text ≡ first_line group_label text entries)
@@ -54,41 +54,41 @@ pub prop_known : (labels : Labels) (entries : List (Entry Leaf Token)) → IsPro
 unfolding AreKnown
 prop_known labels entries = hlevel (Coded-set (coded_option coded_ℕ))
 
--- the labels of all attributes but the last are known
+-- `labels` has the labels of all attributes but the last.
 pub record AreKnownBefore (labels : Labels) (pairs : List (Attribute × Written)) : Type 0 where
   pub before : List (Attribute × Written)
   pub last : Attribute × Written
   pub is : pairs ≡ before ++ last ∷ []
   pub known : AreKnown labels (map entry_of_pair before)
 
--- the labels stay as they are
+-- The labels are unchanged.
 abbrev pub AreSame : (old new : Labels) → Type 0
 AreSame old new = (new.arguments.entries ≡ old.arguments.entries) × (new.groups.entries ≡ old.groups.entries)
 
--- a line is noted at this text, and other texts keep theirs
+-- A line is stored for this text; the other texts keep theirs.
 abbrev pub IsNoted : {Y : Type 0} → (text : List ℕ) (line : ℕ) → (old new : BTreeMap (String Y) ℕ) → Type 0
 IsNoted text line old new = (q : List ℕ) → get_by_text new q ≡ cond (bytes_eq text q) (Some line) (get_by_text old q)
 
--- a line is noted at the label of an `arg` or else of a `group`
+-- A line is stored for the label of an `arg` (if `is_arg`) or `group` (otherwise).
 abbrev pub IsLabelNoted : (is_arg : Bool) (text : List ℕ) (line : ℕ) → (old new : Labels) → Type 0
 IsLabelNoted true text line old new = IsNoted text line old.arguments new.arguments × (new.groups.entries ≡ old.groups.entries)
 IsLabelNoted false text line old new = IsNoted text line old.groups new.groups × (new.arguments.entries ≡ old.arguments.entries)
 
--- the line at the label of an `arg` or else of a `group`
+-- the line stored for the label of an `arg` (if `is_arg`) or `group` (otherwise)
 abbrev pub line_at : (is_arg : Bool) (text : List ℕ) → Labels → Option ℕ
 line_at true text labels = get_by_text labels.arguments text
 line_at false text labels = get_by_text labels.groups text
 
--- the rule that another one with this label breaks
+-- the rule that a repeated label breaks
 abbrev pub label_rule : (is_arg : Bool) → StringLiteral → (first : Token) → Rule Token
 label_rule true l first = DuplicateArgAttribute (string_bytes l.cooked) first
 label_rule false l first = DuplicateGroupAttribute (literal_value (literal_content l)) l.token first
 
--- Nothing is refused where there is no line; else it is by the rule for each first token on that line.
+-- Nothing is refused if no line is stored. Otherwise the rule is broken, for any first token on that line.
 abbrev pub ChecksLine : (line : Option ℕ) → ((first : Token) → Rule Token) → (at : Token) → Result (Unit {0}) Fault → Type 0
 ChecksLine None rule at result = Makes (λ (u : Unit {0}). u) result (Ok tt)
 ChecksLine (Some line) rule at result = (first : Token) → first.line ≡ line → Makes (λ (u : Unit {0}). u) result (refuse (rule first) at)
 
--- by the line at its label
+-- The check of a label against the line stored for it.
 abbrev pub ChecksLabel : (is_arg : Bool) → StringLiteral → (at : Token) → Labels → Result (Unit {0}) Fault → Type 0
 ChecksLabel is_arg l at labels result = ChecksLine (line_at is_arg (string_bytes l.cooked) labels) (label_rule is_arg l) at result

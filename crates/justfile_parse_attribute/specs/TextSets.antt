@@ -9,6 +9,6 @@ use denote.Ref.{Bor}
 abbrev pub texts_in : BTreeSet (Bor (List ℕ)) → List (List ℕ)
 texts_in set = map (λ (t : Bor (List ℕ)). t.now) set.keys
 
--- the same texts are among both
+-- Both lists have the same texts.
 abbrev pub HaveSame : (xs ys : List (List ℕ)) → Type 0
 HaveSame xs ys = (t : List ℕ) → list_any (bytes_eq t) xs ≡ list_any (bytes_eq t) ys

@@ -1,22 +1,22 @@
-//! The arguments of an attribute while they are read.
+//! The arguments of an attribute while they are parsed.
 ghost use Rattle.std.specs.Prelude.{◌≡◌, ◌∷◌, ◌++◌, [], IsTrue, OnErr, OnOk, length, take};
-ghost use Rattle.justfile_base.specs.Token.{lexeme_of};
+ghost use Rattle.justfile_token.specs.Token.{lexeme_of};
 ghost use Rattle.justfile_parse_attribute.specs.ArgumentKeys.{AreTexts, are_keys_distinct, prop_texts};
 ghost use Rattle.justfile_parse_attribute.specs.TextSets.{HaveSame, texts_in};
 
 use crate::text_sets::{add_text, is_among};
-use justfile_base::{Name, Token};
-use justfile_parse_expression::Stop;
-use justfile_tree::Expression;
+use justfile_expression::Expression;
+use justfile_parse_expression::ExpressionError;
+use justfile_token::{Name, Token};
 use std::alloc::{AllocError, Global};
 use std::collections::BTreeSet;
 
-/// The arguments that were read of an attribute. None by position stands after a key.
+/// The arguments of an attribute parsed so far. No positional argument follows a keyword argument.
 #[derive(Drop)]
 pub(crate) struct Arguments<'src> {
-    /// Those by position, each with its first token.
+    /// The positional arguments, each with its first token.
     pub(crate) positional: Vec<(Token<'src>, Box<Expression<'src>>)>,
-    /// Those with keys, in their order.
+    /// The keyword arguments, in their order.
     pub(crate) keyed: Vec<(Name<'src>, Option<Box<Expression<'src>>>)>,
     /// The texts of the keys.
     pub(crate) texts: BTreeSet<&'src str>,
@@ -27,16 +27,16 @@ pub(crate) struct Arguments<'src> {
 impl<'src> Arguments<'src> {
     ghost use Rattle.std.specs.Prelude.{◌≡◌, [], ◌∷◌, ◌++◌, None, false};
     ghost use Rattle.std.specs.Option.{is_some, option_map};
-    ghost use Rattle.justfile_base.specs.Token.{lexeme_of};
+    ghost use Rattle.justfile_token.specs.Token.{lexeme_of};
     ghost use Rattle.justfile_model.specs.Meaning.{at_key, by_key};
     ghost use Rattle.justfile_model.specs.Tree as tree;
     ghost use Rattle.justfile_parse_attribute.specs.Attributes.{arguments_of};
     ghost use Rattle.justfile_parse_expression.specs.MethodResults.{UnlessMemory};
     ghost use Rattle.justfile_parse_attribute.specs.AttributeTable as reader;
-    ghost use Rattle.justfile_tree.specs.LeafSight.{sees_leaves};
-    ghost use Rattle.justfile_tree.specs.LeafTree.{Named, leaf_tree_of};
+    ghost use Rattle.justfile_expression.specs.LeafViews.{views_leaves};
+    ghost use Rattle.justfile_expression.specs.LeafTree.{Named, leaf_tree_of};
 
-    /// No arguments.
+    /// Returns an empty list of arguments.
     #[tactic(auto, using(crate::proofs::ArgumentTexts::no_texts), unfolding(crate::specs::Attributes::arguments_of, crate::specs::ArgumentKeys::are_keys_distinct))]
     pub(crate) fn new(alloc: Global) -> Self
         ensures { arguments_of result ≡ [] }
@@ -48,7 +48,7 @@ impl<'src> Arguments<'src> {
         }
     }
 
-    /// Whether there is a key among them.
+    /// Whether there are keyword arguments.
     #[tactic(auto, using(crate::proofs::ArgumentLists::key_counted))]
     pub(crate) fn has_key(&self) -> bool
         ensures { result ≡ reader.some_key (arguments_of self.now) }
@@ -59,53 +59,55 @@ impl<'src> Arguments<'src> {
     /// Whether there is a key with this text.
     #[tactic(auto, using(crate::proofs::ArgumentTexts::text_among))]
     pub(crate) fn has_text(&self, key: &str) -> bool
-        ensures { result ≡ is_some (at_key sees_leaves key.now (by_key (arguments_of self.now))) }
+        ensures { result ≡ is_some (at_key views_leaves key.now (by_key (arguments_of self.now))) }
     {
         is_among(&self.texts, key)
     }
 
-    /// Adds an argument by position.
+    /// Appends a positional argument.
     #[tactic(auto, using(crate::proofs::ArgumentLists::positional_last))]
     pub(crate) fn push_positional(
         &mut self,
         first: Token<'src>,
         value: Box<Expression<'src>>,
-    ) -> Result<(), Stop<'src>>
+    ) -> Result<(), ExpressionError<'src>>
         requires { reader.some_key (arguments_of self.old) ≡ false }
-        ensures { UnlessMemory result
-            (λ done. arguments_of self.new ≡ arguments_of self.old ++ tree.Positional first.entry (leaf_tree_of value.entry.value) ∷ []) }
+        ensures { UnlessMemory result (λ done. arguments_of self.new ≡ arguments_of self.old
+            ++ tree.Positional first.entry (leaf_tree_of value.entry.value) ∷ []) }
     {
         self.positional.push((first, value))?;
         Ok(())
     }
 
-    /// Adds an argument with a key that is not among them.
+    /// Appends a keyword argument whose key isn't among the keys yet.
     #[tactic(auto, using(crate::proofs::ArgumentTexts::kept_distinct, crate::proofs::ArgumentTexts::kept_texts))]
     pub(crate) fn push_keyed(
         &mut self,
         key: Name<'src>,
         value: Option<Box<Expression<'src>>>,
-    ) -> Result<(), Stop<'src>>
-        requires { is_some (at_key sees_leaves (lexeme_of key.token) (by_key (arguments_of self.old))) ≡ false }
+    ) -> Result<(), ExpressionError<'src>>
+        requires { is_some
+            (at_key views_leaves (lexeme_of key.token) (by_key (arguments_of self.old))) ≡ false }
         ensures { UnlessMemory result (λ done. arguments_of self.new ≡ arguments_of self.old
-            ++ reader.argument_of_key (Named key.entry.token None) (option_map (λ e. leaf_tree_of e.value) value.entry) ∷ []) }
+            ++ reader.argument_of_key (Named key.entry.token None)
+            (option_map (λ e. leaf_tree_of e.value) value.entry) ∷ []) }
     {
         let count = self.keyed.len();
         match push_key(&mut self.keyed, &mut self.texts, key, value) {
             Ok(()) => Ok(()),
             Err(_failed) => {
                 self.keyed.truncate(count);
-                Err(Stop::Memory)
+                Err(ExpressionError::Memory)
             }
         }
     }
 }
 
-/// Adds a key with its value to a list, and its text to a set.
+/// Appends a key with its value to a list, and adds its text to a set.
 ///
 /// # Errors
 ///
-/// `AllocError` if the program is out of memory.
+/// `AllocError` if memory runs out.
 #[tactic(auto, using(crate::proofs::ArgumentTexts::begins_pushed, crate::proofs::ArgumentTexts::begins_same))]
 fn push_key<'src>(
     keyed: &mut Vec<(Name<'src>, Option<Box<Expression<'src>>>)>,
@@ -113,7 +115,8 @@ fn push_key<'src>(
     key: Name<'src>,
     value: Option<Box<Expression<'src>>>,
 ) -> Result<(), AllocError>
-    ensures pushed { OnOk result (keyed.new.items ≡ keyed.old.items ++ (key.entry, value.entry) ∷ []) }
+    ensures pushed { OnOk result (keyed.new.items
+        ≡ keyed.old.items ++ (key.entry, value.entry) ∷ []) }
     ensures named { OnOk result (HaveSame
         (texts_in texts.old ++ lexeme_of key.entry.token ∷ []) (texts_in texts.new)) }
     ensures kept { OnErr result (texts.new.keys ≡ texts.old.keys) }

@@ -5,7 +5,7 @@ ghost use Rattle.justfile_parse_attribute.specs.AttributeTable as reader;
 
 use justfile_parse_expression::significant::TableEntry;
 
-/// The text of a comment, if there is one, without the white space at its end.
+/// Returns the text of a comment, if there is one, without the whitespace at its end.
 #[tactic(auto, unfolding(justfile_parse_expression::specs::TableReader::leaves))]
 pub fn comment_text<'src>(comment: Option<TableEntry<'_, 'src>>) -> Option<&'src str>
     ensures { option_copied result ≡ option_map reader.comment_in comment.entry }

@@ -1,4 +1,5 @@
-//! The first `arg` and the first `group` of each label, among the attributes of an item.
+//! The labels of an item's attributes: the argument of each `arg` and the name of each `group`. A
+//! label may not be repeated, and an error tells the line where it is first.
 ghost use Rattle.std.specs.Prelude.{◌≡◌, OnErr, OnOk};
 ghost use Rattle.std.specs.BTreeMap.{get_by_text};
 ghost use Rattle.std.specs.Option.{option_map};
@@ -6,17 +7,17 @@ ghost use Rattle.justfile_attribute.specs.Attribute.{leaf_attribute_of};
 ghost use Rattle.justfile_attribute_rules.specs.Made.{quoted_leaf};
 ghost use Rattle.justfile_model.specs.AttributeRules.{label_of};
 ghost use Rattle.justfile_parse_attribute.specs.Labels.{IsNoted};
-ghost use Rattle.justfile_tree.specs.LeafSight.{sees_leaves};
+ghost use Rattle.justfile_expression.specs.LeafViews.{views_leaves};
 
 use justfile_attribute::Attribute;
-use justfile_base::StringLiteral;
+use justfile_token::StringLiteral;
 use std::alloc::{AllocError, Global};
 use std::collections::BTreeMap;
 
-/// The lines of attributes by the texts of their labels.
+/// Lines of attributes by the texts of their labels.
 pub(crate) type LineMap = BTreeMap<String, usize>;
 
-/// Where each label of an `arg` and of a `group` is first.
+/// The line where each label is first, for `arg` and for `group`.
 #[derive(Drop)]
 pub(crate) struct Labels {
     /// The line of the first `arg` of each argument.
@@ -29,7 +30,7 @@ impl Labels {
     ghost use Rattle.std.specs.Prelude.{◌≡◌, [], OnErr, OnOk};
     ghost use Rattle.justfile_parse_attribute.specs.Labels.{AreSame, IsLabelNoted, line_at};
 
-    /// No labels.
+    /// Returns the empty set of labels.
     pub(crate) fn new(alloc: Global) -> Self
         ensures arguments { result.arguments.entries ≡ [] }
         ensures groups { result.groups.entries ≡ [] }
@@ -40,7 +41,8 @@ impl Labels {
         }
     }
 
-    /// The line of an `arg` or else of a `group` whose label has this text.
+    /// Returns the line of the first `arg` (if `is_arg`) or `group` (otherwise) with this label, or
+    /// `None` if there is none.
     pub(crate) fn find(&self, is_arg: bool, text: &str) -> Option<usize>
         ensures { result ≡ line_at is_arg text.now self.now }
     {
@@ -51,11 +53,11 @@ impl Labels {
         }
     }
 
-    /// Notes the line of an `arg` or else of a `group` at the text of its label.
+    /// Stores the line of an `arg` (if `is_arg`) or `group` (otherwise) with this label.
     ///
     /// # Errors
     ///
-    /// `AllocError` if the program is out of memory.
+    /// `AllocError` if memory runs out.
     pub(crate) fn note(
         &mut self,
         alloc: Global,
@@ -74,14 +76,14 @@ impl Labels {
     }
 }
 
-/// The line at a text.
+/// Returns the line stored for a text.
 fn find_line(lines: &LineMap, text: &str) -> Option<usize>
     ensures { result ≡ get_by_text lines.now text.now }
 {
     lines.get(text).copied()
 }
 
-/// Notes a line at a text.
+/// Stores a line for a text.
 #[tactic(auto, using(crate::proofs::KnownLabels::line_noted))]
 fn note_line(alloc: Global, lines: &mut LineMap, text: &str, line: usize) -> Result<(), AllocError>
     ensures ok { OnOk result (IsNoted text.now line lines.old lines.new) }
@@ -94,12 +96,14 @@ fn note_line(alloc: Global, lines: &mut LineMap, text: &str, line: usize) -> Res
     }
 }
 
-/// The literal whose text no other attribute of its kind has, of `arg` and of `group`.
+/// Returns the label of an `arg` or `group`: the literal whose text no other attribute of its kind
+/// may have. `None` for the other kinds.
 #[tactic(auto, using(crate::proofs::RepeatedAttributes::single_label, crate::proofs::RepeatedAttributes::script_label))]
-pub(crate) fn label<'run, 'src>(
+pub(crate) fn repeat_key<'run, 'src>(
     attribute: &'run Attribute<'src>,
 ) -> Option<&'run StringLiteral<'src>>
-    ensures { option_map (λ l. quoted_leaf l.now) result ≡ label_of sees_leaves (leaf_attribute_of attribute.now) }
+    ensures { option_map (λ l. quoted_leaf l.now) result
+        ≡ label_of views_leaves (leaf_attribute_of attribute.now) }
 {
     match attribute {
         Attribute::Arg { name, .. } => Some(name),

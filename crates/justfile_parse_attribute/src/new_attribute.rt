@@ -1,28 +1,29 @@
-//! Attributes from their arguments.
+//! Making attributes from their arguments.
 ghost use Rattle.std.specs.Prelude.{◌≡◌, ◌∷◌, ◌++◌, [], IfErr, IfOk, IsTrue, OnErr, OnOk};
 ghost use Rattle.justfile_attribute.specs.Attribute.{leaf_attribute_of};
-ghost use Rattle.justfile_attribute.specs.New.{IsWholeAttribute};
+ghost use Rattle.justfile_attribute.specs.New.{HasDerivedAttributeFields};
 ghost use Rattle.justfile_attribute_rules.specs.KeywordArguments.{keys_of};
 ghost use Rattle.justfile_attribute_rules.specs.Made.{Makes};
 ghost use Rattle.justfile_model.specs.Meaning.{by_key, by_position};
 ghost use Rattle.justfile_model.specs.NewAttribute as new;
 ghost use Rattle.justfile_parse_attribute.specs.ArgumentKeys.{HasKeys, are_keys_distinct};
-ghost use Rattle.justfile_base.specs.declared.fault.Fault.TheVariants.{Memory};
+ghost use Rattle.justfile_token.specs.declared.fault.Fault.TheVariants.{Memory};
 ghost use Rattle.justfile_parse_attribute.specs.AddedAttributes.{Adds};
 ghost use Rattle.justfile_parse_attribute.specs.Attributes.{arguments_of};
-ghost use Rattle.justfile_parse_attribute.specs.WholeAttributes.{KeepsWholePairs};
-ghost use Rattle.justfile_tree.specs.LeafSight.{sees_leaves};
+ghost use Rattle.justfile_parse_attribute.specs.DerivedAttributeFields.{KeepsDerivedPairFields};
+ghost use Rattle.justfile_expression.specs.LeafViews.{views_leaves};
 ghost use Rattle.justfile_written.specs.Written.{uncommented};
 
 use crate::arguments::Arguments;
 use justfile_attribute::Attribute;
 use justfile_attribute_rules::KeywordArguments;
-use justfile_base::{AttributeKind, CompileResult, Name};
-use justfile_tree::Expression;
+use justfile_expression::Expression;
+use justfile_token::{CompileResult, Name};
+use justfile_vocabulary::AttributeKind;
 use justfile_written::Written;
 use std::alloc::{AllocError, Global};
 
-/// Makes an attribute of its arguments, and adds it to those before it.
+/// Makes an attribute from its arguments, and appends it to `attributes`.
 ///
 /// # Errors
 ///
@@ -35,9 +36,10 @@ pub(crate) fn push_made<'src>(
     kind: AttributeKind,
     arguments: Arguments<'src>,
 ) -> CompileResult<'src>
-    ensures added { Adds result (new.new_attribute sees_leaves name.entry.token kind (by_position (arguments_of arguments.entry)) (by_key (arguments_of arguments.entry)))
+    ensures added { Adds result (new.new_attribute views_leaves name.entry.token
+        kind (by_position (arguments_of arguments.entry)) (by_key (arguments_of arguments.entry)))
         name.entry attributes.old.items attributes.new.items }
-    ensures whole { OnOk result (KeepsWholePairs attributes.old.items attributes.new.items) }
+    ensures whole { OnOk result (KeepsDerivedPairFields attributes.old.items attributes.new.items) }
     ensures kept { OnErr result (attributes.new.items ≡ attributes.old.items) }
 {
     match new_attribute(alloc, name, kind, arguments) {
@@ -46,7 +48,7 @@ pub(crate) fn push_made<'src>(
     }
 }
 
-/// Adds an attribute, without a comment.
+/// Appends an attribute without a comment.
 ///
 /// # Errors
 ///
@@ -56,7 +58,8 @@ fn push_pair<'src>(
     attribute: Attribute<'src>,
     name: Name<'src>,
 ) -> CompileResult<'src>
-    ensures added { OnOk result (attributes.new.items ≡ attributes.old.items ++ uncommented (attribute.entry, name.entry) ∷ []) }
+    ensures added { OnOk result (attributes.new.items
+        ≡ attributes.old.items ++ uncommented (attribute.entry, name.entry) ∷ []) }
     ensures memory { IfErr result (λ fault. fault ≡ Memory) }
     ensures kept { OnErr result (attributes.new.items ≡ attributes.old.items) }
 {
@@ -65,7 +68,7 @@ fn push_pair<'src>(
     Ok(())
 }
 
-/// The attribute of this kind that the arguments make.
+/// Makes the attribute of this kind with these arguments.
 ///
 /// # Errors
 ///
@@ -77,9 +80,9 @@ fn new_attribute<'src>(
     kind: AttributeKind,
     arguments: Arguments<'src>,
 ) -> CompileResult<'src, Attribute<'src>>
-    ensures made { Makes leaf_attribute_of result (new.new_attribute sees_leaves name.entry.token kind
-        (by_position (arguments_of arguments.entry)) (by_key (arguments_of arguments.entry))) }
-    ensures whole { IfOk result IsWholeAttribute }
+    ensures made { Makes leaf_attribute_of result (new.new_attribute views_leaves name.entry.token
+        kind (by_position (arguments_of arguments.entry)) (by_key (arguments_of arguments.entry))) }
+    ensures whole { IfOk result HasDerivedAttributeFields }
 {
     let Arguments {
         positional,
@@ -90,7 +93,7 @@ fn new_attribute<'src>(
     Attribute::new(alloc, name, kind, positional, keys)
 }
 
-/// The keys by their texts.
+/// Collects keyword arguments into a map by the texts of their keys.
 #[tactic(auto, using(crate::proofs::KeysPut::none_put, crate::proofs::KeysPut::one_put, crate::proofs::KeysPut::all_put))]
 fn keys_by_text<'src>(
     alloc: Global,

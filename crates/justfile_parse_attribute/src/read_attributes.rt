@@ -1,12 +1,12 @@
-//! The attributes of an item while they are read.
+//! The attributes of an item while they are parsed.
 ghost use Rattle.std.specs.Prelude.{◌≡◌, OnErr, OnOk, length, map, take};
 ghost use Rattle.justfile_model.specs.Meaning.{by_key, by_position};
 ghost use Rattle.justfile_model.specs.NewAttribute.{new_entry};
 ghost use Rattle.justfile_parse_attribute.specs.AddedAttributes.{AddsEntry};
 ghost use Rattle.justfile_parse_attribute.specs.Attributes.{arguments_of, entry_of_pair};
 ghost use Rattle.justfile_parse_attribute.specs.Labels.{AreKnown, AreSame, prop_known};
-ghost use Rattle.justfile_parse_attribute.specs.WholeAttributes.{KeepsWholePairs};
-ghost use Rattle.justfile_tree.specs.LeafSight.{sees_leaves};
+ghost use Rattle.justfile_parse_attribute.specs.DerivedAttributeFields.{KeepsDerivedPairFields};
+ghost use Rattle.justfile_expression.specs.LeafViews.{views_leaves};
 ghost use Rattle.justfile_written.specs.Written.{line_commented};
 
 use crate::arguments::Arguments;
@@ -14,11 +14,13 @@ use crate::labels::Labels;
 use crate::new_attribute::push_made;
 use crate::repeated::check_last;
 use justfile_attribute::Attribute;
-use justfile_base::{AttributeKind, CompileResult, Name};
+use justfile_token::{CompileResult, Name};
+use justfile_vocabulary::AttributeKind;
 use justfile_written::{Written, comment_last};
 use std::alloc::Global;
 
-/// The attributes that were read, none of which excludes another, with where each label is first.
+/// The attributes parsed so far, none of which conflicts with another, and the line where each
+/// label is first.
 #[derive(Drop)]
 pub(crate) struct ReadAttributes<'src> {
     /// The attributes, each with its name and its comment.
@@ -33,11 +35,11 @@ impl<'src> ReadAttributes<'src> {
     ghost use Rattle.justfile_model.specs.NewAttribute.{new_entry};
     ghost use Rattle.justfile_parse_attribute.specs.AddedAttributes.{AddsEntry};
     ghost use Rattle.justfile_parse_attribute.specs.Attributes.{arguments_of, entry_of_pair};
-    ghost use Rattle.justfile_parse_attribute.specs.WholeAttributes.{KeepsWholePairs};
-    ghost use Rattle.justfile_tree.specs.LeafSight.{sees_leaves};
+    ghost use Rattle.justfile_parse_attribute.specs.DerivedAttributeFields.{KeepsDerivedPairFields};
+    ghost use Rattle.justfile_expression.specs.LeafViews.{views_leaves};
     ghost use Rattle.justfile_written.specs.Written.{line_commented};
 
-    /// No attributes.
+    /// Returns the empty list of attributes.
     #[tactic(auto, using(crate::proofs::KnownLabels::none_known))]
     pub(crate) fn new(alloc: Global) -> Self
         ensures { result.pairs.items ≡ [] }
@@ -48,7 +50,7 @@ impl<'src> ReadAttributes<'src> {
         }
     }
 
-    /// Makes an attribute of its arguments, and adds it to those before it.
+    /// Makes an attribute from its arguments, and appends it.
     ///
     /// # Errors
     ///
@@ -61,9 +63,12 @@ impl<'src> ReadAttributes<'src> {
         kind: AttributeKind,
         arguments: Arguments<'src>,
     ) -> CompileResult<'src>
-        ensures added { AddsEntry result (new_entry sees_leaves (map entry_of_pair self.old.pairs.items) name.entry.token kind
-            (by_position (arguments_of arguments.entry)) (by_key (arguments_of arguments.entry))) name.entry self.old.pairs.items self.new.pairs.items }
-        ensures whole { OnOk result (KeepsWholePairs self.old.pairs.items self.new.pairs.items) }
+        ensures added { AddsEntry result
+            (new_entry views_leaves (map entry_of_pair self.old.pairs.items) name.entry.token kind
+            (by_position (arguments_of arguments.entry)) (by_key (arguments_of arguments.entry)))
+            name.entry self.old.pairs.items self.new.pairs.items }
+        ensures whole { OnOk result
+            (KeepsDerivedPairFields self.old.pairs.items self.new.pairs.items) }
     {
         let count = self.pairs.len();
         match push_checked(
@@ -82,7 +87,7 @@ impl<'src> ReadAttributes<'src> {
         }
     }
 
-    /// Gives the comment after a line of attributes, if there is one, to the last of them.
+    /// Attaches the comment after a line of attributes, if there is one, to the last attribute.
     #[tactic(auto, using(crate::proofs::KnownLabels::commented_known))]
     pub(crate) fn add_comment(&mut self, comment: Option<&'src str>)
         ensures { self.new.pairs.items ≡ line_commented comment.entry self.old.pairs.items }
@@ -90,7 +95,7 @@ impl<'src> ReadAttributes<'src> {
         comment_pairs(&mut self.pairs, comment);
     }
 
-    /// The attributes, each with its name and its comment.
+    /// Returns the attributes, each with its name and its comment.
     pub(crate) fn into_pairs(self) -> Vec<(Attribute<'src>, Written<'src>)>
         ensures { result.items ≡ self.entry.pairs.items }
     {
@@ -99,7 +104,7 @@ impl<'src> ReadAttributes<'src> {
     }
 }
 
-/// Makes an attribute of its arguments, and adds it to those before it, whose labels are known.
+/// Makes an attribute from its arguments, and appends it to `pairs`, whose labels are in `labels`.
 ///
 /// # Errors
 ///
@@ -114,9 +119,10 @@ fn push_checked<'src>(
     arguments: Arguments<'src>,
 ) -> CompileResult<'src>
     requires { AreKnown labels.old (map entry_of_pair pairs.old.items) }
-    ensures added { AddsEntry result (new_entry sees_leaves (map entry_of_pair pairs.old.items) name.entry.token kind
-        (by_position (arguments_of arguments.entry)) (by_key (arguments_of arguments.entry))) name.entry pairs.old.items pairs.new.items }
-    ensures whole { OnOk result (KeepsWholePairs pairs.old.items pairs.new.items) }
+    ensures added { AddsEntry result (new_entry views_leaves (map entry_of_pair pairs.old.items)
+        name.entry.token kind (by_position (arguments_of arguments.entry))
+        (by_key (arguments_of arguments.entry))) name.entry pairs.old.items pairs.new.items }
+    ensures whole { OnOk result (KeepsDerivedPairFields pairs.old.items pairs.new.items) }
     ensures known { OnOk result (AreKnown labels.new (map entry_of_pair pairs.new.items)) }
     ensures kept { OnErr result (AreSame labels.old labels.new) }
     ensures begins { take (length pairs.old.items) pairs.new.items ≡ pairs.old.items }
@@ -127,7 +133,7 @@ fn push_checked<'src>(
     }
 }
 
-/// Gives a comment, if there is one, to the last attribute.
+/// Attaches a comment, if there is one, to the last attribute.
 fn comment_pairs<'src>(
     pairs: &mut Vec<(Attribute<'src>, Written<'src>)>,
     comment: Option<&'src str>,

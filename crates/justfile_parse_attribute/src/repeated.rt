@@ -1,34 +1,34 @@
-//! Whether an attribute may stand after others of its item.
+//! Whether an attribute is allowed after the others of its item.
 ghost use Rattle.std.specs.Prelude.{◌≡◌, ◌∷◌, ◌++◌, [], false, None, OnErr, OnOk, map, string_bytes};
 ghost use Rattle.justfile_attribute.specs.Attribute.{leaf_attribute_of};
-ghost use Rattle.justfile_attribute_rules.specs.Made.{IsRefusedBy, Makes};
-ghost use Rattle.justfile_base.specs.declared.token.Token.{Token};
+ghost use Rattle.justfile_attribute_rules.specs.Made.{IsFaultOfRule, Makes};
+ghost use Rattle.justfile_token.specs.declared.token.Token.{Token};
 ghost use Rattle.justfile_model.specs.AttributeKinds.{is_repeatable, same_attribute};
 ghost use Rattle.justfile_model.specs.AttributeRules.{excludes, label_of};
 ghost use Rattle.justfile_model.specs.ContentKeys.{kind_of_attribute};
 ghost use Rattle.justfile_model.specs.ContentLeaf.{literal_value};
-ghost use Rattle.justfile_model.specs.NewAttribute as new;
 ghost use Rattle.justfile_model.specs.NewAttribute.{check_repeated};
 ghost use Rattle.justfile_model.specs.Rules.{DuplicateArgAttribute, DuplicateAttribute, DuplicateGroupAttribute};
 ghost use Rattle.justfile_parse_attribute.specs.AddedAttributes.{ChecksLast};
 ghost use Rattle.justfile_parse_attribute.specs.Attributes.{entry_of_pair};
 ghost use Rattle.justfile_parse_attribute.specs.Labels.{AreKnown, AreKnownBefore, AreSame, ChecksLabel, IsLabelNoted, label_rule};
-ghost use Rattle.justfile_tree.specs.Content.{literal_content};
-ghost use Rattle.justfile_tree.specs.LeafSight.{sees_leaves};
-ghost use Rattle.justfile_word.specs.declared.attribute_kind.AttributeKind.TheVariants.{Arg};
+ghost use Rattle.justfile_expression.specs.Content.{literal_content};
+ghost use Rattle.justfile_expression.specs.LeafViews.{views_leaves};
+ghost use Rattle.justfile_vocabulary.specs.declared.attribute_kind.AttributeKind.TheVariants.{Arg};
 
-use crate::labels::{Labels, label};
+use crate::labels::{Labels, repeat_key};
 use justfile_attribute::Attribute;
-use justfile_base::{AttributeKind, CompileErrorKind, CompileResult, Fault, Name, StringLiteral};
+use justfile_token::{CompileErrorKind, CompileResult, Fault, Name, StringLiteral};
+use justfile_vocabulary::AttributeKind;
 use justfile_written::Written;
 use std::alloc::Global;
 
-/// Refuses the last attribute if it may not stand after those before it, whose labels are known.
-/// Else its label becomes known.
+/// Checks that the last attribute is allowed after those before it, whose labels are in `labels`,
+/// and adds its label.
 ///
 /// # Errors
 ///
-/// `Compile` at its name; `Memory` if memory runs out.
+/// `Compile` at its name if it isn't allowed; `Memory` if memory runs out.
 #[tactic(auto, using(crate::proofs::RepeatedAttributes::checks_last, crate::proofs::RepeatedAttributes::checks_none, crate::proofs::KnownLabels::before_known, crate::proofs::KnownLabels::last_known, crate::proofs::KnownLabels::no_last))]
 pub(crate) fn check_last<'src>(
     alloc: Global,
@@ -46,12 +46,12 @@ pub(crate) fn check_last<'src>(
     }
 }
 
-/// Refuses an attribute that may not stand after others, whose labels are known. Else its label
-/// becomes known.
+/// Checks that an attribute is allowed after those in `before`, whose labels are in `labels`, and
+/// adds its label.
 ///
 /// # Errors
 ///
-/// `Compile` at its name; `Memory` if memory runs out.
+/// `Compile` at its name if it isn't allowed; `Memory` if memory runs out.
 #[tactic(auto, using(crate::proofs::KnownLabels::bare_known, crate::proofs::KnownLabels::labels_same, crate::proofs::KnownLabels::label_known, crate::proofs::KnownLabels::label_checked))]
 fn check_next<'src>(
     alloc: Global,
@@ -61,11 +61,13 @@ fn check_next<'src>(
     written: Written<'src>,
 ) -> CompileResult<'src>
     requires { AreKnown labels.old (map entry_of_pair before.now) }
-    ensures checks { Makes (λ _. tt) result (check_repeated sees_leaves (map entry_of_pair before.now) (entry_of_pair (attribute.now, written.entry))) }
-    ensures known { OnOk result (AreKnown labels.new (map entry_of_pair before.now ++ entry_of_pair (attribute.now, written.entry) ∷ [])) }
+    ensures checks { Makes (λ _. tt) result (check_repeated views_leaves
+        (map entry_of_pair before.now) (entry_of_pair (attribute.now, written.entry))) }
+    ensures known { OnOk result (AreKnown labels.new (map entry_of_pair before.now
+        ++ entry_of_pair (attribute.now, written.entry) ∷ [])) }
     ensures kept { OnErr result (AreSame labels.old labels.new) }
 {
-    match label(attribute) {
+    match repeat_key(attribute) {
         None => check_kind(before, attribute, written),
         Some(literal) => {
             let is_arg = is_argument(attribute);
@@ -74,11 +76,12 @@ fn check_next<'src>(
     }
 }
 
-/// Refuses an `arg` or else a `group` whose label is known. Else its label becomes known.
+/// Checks that the label of an `arg` (if `is_arg`) or `group` (otherwise) isn't in `labels` yet,
+/// and adds it.
 ///
 /// # Errors
 ///
-/// `Compile` at its name; `Memory` if memory runs out.
+/// `Compile` at its name if the label is repeated; `Memory` if memory runs out.
 #[tactic(auto, using(crate::proofs::KnownLabels::memory_checked))]
 fn check_label<'src>(
     alloc: Global,
@@ -88,7 +91,8 @@ fn check_label<'src>(
     name: Name<'src>,
 ) -> CompileResult<'src>
     ensures checks { ChecksLabel is_arg literal.now name.entry.token labels.old result }
-    ensures noted { OnOk result (IsLabelNoted is_arg (string_bytes literal.now.cooked) name.entry.token.line labels.old labels.new) }
+    ensures noted { OnOk result (IsLabelNoted is_arg (string_bytes literal.now.cooked)
+        name.entry.token.line labels.old labels.new) }
     ensures kept { OnErr result (AreSame labels.old labels.new) }
 {
     match find_label(alloc, labels, is_arg, literal, name) {
@@ -100,11 +104,11 @@ fn check_label<'src>(
     }
 }
 
-/// Refuses an `arg` or else a `group` whose label is known.
+/// Checks that the label of an `arg` (if `is_arg`) or `group` (otherwise) isn't in `labels` yet.
 ///
 /// # Errors
 ///
-/// `Compile` at its name; `Memory` if memory runs out.
+/// `Compile` at its name if the label is repeated; `Memory` if memory runs out.
 fn find_label<'src>(
     alloc: Global,
     labels: &Labels,
@@ -116,36 +120,38 @@ fn find_label<'src>(
 {
     match labels.find(is_arg, literal.cooked.as_str()) {
         None => Ok(()),
-        Some(line) => Err(repeated_label(alloc, is_arg, literal, name, line)),
+        Some(line) => Err(repeated_label_error(alloc, is_arg, literal, name, line)),
     }
 }
 
-/// The refusal of another `arg` or else `group` with the label of one on this line.
-fn repeated_label<'src>(
+/// Makes the fault for an `arg` (if `is_arg`) or `group` (otherwise) whose label was first on this
+/// line.
+fn repeated_label_error<'src>(
     alloc: Global,
     is_arg: bool,
     literal: &StringLiteral<'src>,
     name: Name<'src>,
     line: usize,
 ) -> Fault<'src>
-    ensures { (first : Token) → first.line ≡ line → IsRefusedBy (new.refuse {X = Unit {0}} (label_rule is_arg literal.now first) name.entry.token) result }
+    ensures { (first : Token) → first.line ≡ line
+        → IsFaultOfRule (label_rule is_arg literal.now first) name.entry.token result }
 {
     if is_arg {
-        repeated_argument(alloc, literal, name, line)
+        repeated_argument_error(alloc, literal, name, line)
     } else {
-        repeated_group(alloc, literal, name, line)
+        repeated_group_error(alloc, literal, name, line)
     }
 }
 
-/// The refusal of another `arg` of the argument of one on this line.
-fn repeated_argument<'src>(
+/// Makes the fault for an `arg` whose argument was first on this line.
+fn repeated_argument_error<'src>(
     alloc: Global,
     argument: &StringLiteral<'src>,
     name: Name<'src>,
     line: usize,
 ) -> Fault<'src>
-    ensures { (first : Token) → first.line ≡ line
-        → IsRefusedBy (new.refuse {X = Unit {0}} (DuplicateArgAttribute (string_bytes argument.now.cooked) first) name.entry.token) result }
+    ensures { (first : Token) → first.line ≡ line → IsFaultOfRule
+        (DuplicateArgAttribute (string_bytes argument.now.cooked) first) name.entry.token result }
 {
     match argument.cooked.as_str().to_string(alloc) {
         Ok(arg) => Fault::Compile(name.error(CompileErrorKind::DuplicateArgAttribute {
@@ -156,16 +162,17 @@ fn repeated_argument<'src>(
     }
 }
 
-/// The refusal of another `group` of the name of one on this line.
+/// Makes the fault for a `group` whose name was first on this line.
 #[tactic(auto, using(crate::proofs::RepeatedAttributes::copied_value))]
-fn repeated_group<'src>(
+fn repeated_group_error<'src>(
     alloc: Global,
     literal: &StringLiteral<'src>,
     name: Name<'src>,
     line: usize,
 ) -> Fault<'src>
     ensures { (first : Token) → first.line ≡ line
-        → IsRefusedBy (new.refuse {X = Unit {0}} (DuplicateGroupAttribute (literal_value (literal_content literal.now)) literal.now.token first) name.entry.token) result }
+        → IsFaultOfRule (DuplicateGroupAttribute (literal_value (literal_content literal.now))
+        literal.now.token first) name.entry.token result }
 {
     match literal.clone(alloc) {
         Ok(group) => Fault::Compile(name.error(CompileErrorKind::DuplicateGroupAttribute {
@@ -176,7 +183,7 @@ fn repeated_group<'src>(
     }
 }
 
-/// Whether it is an `arg`.
+/// Whether the attribute is an `arg`.
 #[tactic(auto, using(justfile_attribute::proofs::Ordered::kind_seen), unfolding(justfile_model::specs::AttributeKinds::same_attribute))]
 fn is_argument(attribute: &Attribute<'_>) -> bool
     ensures { result ≡ same_attribute (kind_of_attribute (leaf_attribute_of attribute.now)) Arg }
@@ -184,19 +191,20 @@ fn is_argument(attribute: &Attribute<'_>) -> bool
     attribute.kind() == AttributeKind::Arg
 }
 
-/// Refuses an attribute without a label that may not stand after others.
+/// Checks that an attribute without a label is allowed after those in `before`.
 ///
 /// # Errors
 ///
-/// `Compile` at its name.
+/// `Compile` at its name if it isn't allowed.
 #[tactic(auto, using(crate::proofs::KnownLabels::repeatable_checked, justfile_attribute::proofs::Ordered::kind_seen))]
 fn check_kind<'src>(
     before: &[(Attribute<'src>, Written<'src>)],
     attribute: &Attribute<'src>,
     written: Written<'src>,
 ) -> CompileResult<'src>
-    requires { label_of sees_leaves (leaf_attribute_of attribute.now) ≡ None }
-    ensures { Makes (λ _. tt) result (check_repeated sees_leaves (map entry_of_pair before.now) (entry_of_pair (attribute.now, written.entry))) }
+    requires { label_of views_leaves (leaf_attribute_of attribute.now) ≡ None }
+    ensures { Makes (λ _. tt) result (check_repeated views_leaves (map entry_of_pair before.now)
+        (entry_of_pair (attribute.now, written.entry))) }
 {
     if attribute.repeatable() {
         return Ok(());
@@ -204,41 +212,44 @@ fn check_kind<'src>(
     check_once(before, attribute, written)
 }
 
-/// Refuses an attribute of a kind that may stand once, after one of its kind.
+/// Checks that no attribute of its kind comes before an attribute that is allowed only once.
 ///
 /// # Errors
 ///
-/// `Compile` at its name.
+/// `Compile` at its name if there is one.
 #[tactic(auto, using(crate::proofs::RepeatedAttributes::repeated_later, crate::proofs::RepeatedAttributes::repeated_here, crate::proofs::RepeatedAttributes::repeated_end, crate::proofs::RepeatedAttributes::other_rule))]
 fn check_once<'src>(
     before: &[(Attribute<'src>, Written<'src>)],
     attribute: &Attribute<'src>,
     written: Written<'src>,
 ) -> CompileResult<'src>
-    requires label { label_of sees_leaves (leaf_attribute_of attribute.now) ≡ None }
+    requires repeat_key { label_of views_leaves (leaf_attribute_of attribute.now) ≡ None }
     requires once { is_repeatable (kind_of_attribute (leaf_attribute_of attribute.now)) ≡ false }
-    ensures { Makes (λ _. tt) result (check_repeated sees_leaves (map entry_of_pair before.now) (entry_of_pair (attribute.now, written.entry))) }
+    ensures { Makes (λ _. tt) result (check_repeated views_leaves (map entry_of_pair before.now)
+        (entry_of_pair (attribute.now, written.entry))) }
 {
     for earlier in before {
         if is_same_kind(&earlier.0, attribute) {
-            return Err(repeated_kind(written.name, earlier.1.name));
+            return Err(repeated_kind_error(written.name, earlier.1.name));
         }
     }
     Ok(())
 }
 
-/// Whether an attribute is of the kind of one that may stand once.
+/// Whether an attribute has the same kind as one that is allowed only once.
 #[tactic(auto, using(justfile_attribute::proofs::Ordered::kind_seen, crate::proofs::KnownLabels::excludes_kind), unfolding(justfile_model::specs::AttributeKinds::same_attribute))]
 fn is_same_kind(first: &Attribute<'_>, second: &Attribute<'_>) -> bool
     requires { is_repeatable (kind_of_attribute (leaf_attribute_of second.now)) ≡ false }
-    ensures { result ≡ excludes sees_leaves (leaf_attribute_of first.now) (leaf_attribute_of second.now) }
+    ensures { result
+        ≡ excludes views_leaves (leaf_attribute_of first.now) (leaf_attribute_of second.now) }
 {
     first.kind() == second.kind()
 }
 
-/// The refusal of another attribute of a kind that may stand once.
-fn repeated_kind<'src>(name: Name<'src>, first: Name<'src>) -> Fault<'src>
-    ensures { IsRefusedBy (new.refuse {X = Unit {0}} (DuplicateAttribute name.entry.token first.entry.token) name.entry.token) result }
+/// Makes the fault for a repeated attribute of a kind that is allowed only once.
+fn repeated_kind_error<'src>(name: Name<'src>, first: Name<'src>) -> Fault<'src>
+    ensures { IsFaultOfRule (DuplicateAttribute name.entry.token first.entry.token)
+        name.entry.token result }
 {
     Fault::Compile(name.error(CompileErrorKind::DuplicateAttribute {
         attribute: name,

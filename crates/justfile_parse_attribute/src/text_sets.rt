@@ -7,18 +7,18 @@ ghost use Rattle.justfile_parse_attribute.specs.TextSets.{HaveSame, texts_in};
 use std::alloc::AllocError;
 use std::collections::BTreeSet;
 
-/// Whether the text is among them.
+/// Whether the text is in the set.
 pub fn is_among(texts: &BTreeSet<&str>, text: &str) -> bool
     ensures { result ≡ list_any (bytes_eq text.now) (texts_in texts.now) }
 {
     texts.contains(text)
 }
 
-/// Adds a text.
+/// Adds a text to the set.
 ///
 /// # Errors
 ///
-/// `AllocError` if the program is out of memory.
+/// `AllocError` if memory runs out.
 #[tactic(auto, using(crate::proofs::TextSetLemmas::added))]
 pub fn add_text<'run>(texts: &mut BTreeSet<&'run str>, text: &'run str) -> Result<(), AllocError>
     ensures added { OnOk result

@@ -1,21 +1,21 @@
--- The reader's rules in the steps that the parser takes.
+-- The reader's rules, in the steps that the parser takes.
 use Rattle.std.proofs.Common.{◌≡◌, ℕ, Bool, true, false, List, [], ◌∷◌, Option, Some, None, Result, Ok, Err, codes, refl}
-use Rattle.justfile_base.specs.StringKind.{kind_of}
-use Rattle.justfile_base.specs.Token.{lexeme_of}
-use Rattle.justfile_word.specs.declared.format_string_part.FormatStringPart.TheVariants as string_parts
-use Rattle.justfile_base.specs.declared.token.Token.{Token}
-use Rattle.justfile_word.specs.declared.token_kind.TokenKind.{TokenKind}
-use Rattle.justfile_word.specs.declared.token_kind.TokenKind.TheVariants as kinds
+use Rattle.justfile_token.specs.StringKind.{kind_of}
+use Rattle.justfile_token.specs.Token.{lexeme_of}
+use Rattle.justfile_vocabulary.specs.declared.format_string_part.FormatStringPart.TheVariants as string_parts
+use Rattle.justfile_token.specs.declared.token.Token.{Token}
+use Rattle.justfile_vocabulary.specs.declared.token_kind.TokenKind.{TokenKind}
+use Rattle.justfile_vocabulary.specs.declared.token_kind.TokenKind.TheVariants as kinds
 use Rattle.justfile_model.specs.Expressions.{front}
 use Rattle.justfile_model.specs.Literals.{LiteralFault, cooked_text, format_text, string_of}
 use Rattle.justfile_model.specs.Tree as t
 use Rattle.justfile_model.specs.Tree.{Expr, Parts}
 use Rattle.justfile_model.specs.ExpressionReader as expressions
 use Rattle.justfile_model.specs.ExpressionReader.{by_text}
-use Rattle.justfile_model.specs.Reading.{◌>>=◌, choose}
+use Rattle.justfile_model.specs.ReaderState.{◌>>=◌, choose}
 use Rattle.justfile_parse_expression.specs.TableReader as r
 use Rattle.justfile_parse_expression.specs.TableReader.{At, Read, ReadExpr, State, accept, accept_word, assert, braced, condition, enclosed, expect, format_parts, format_string, group, leaves, list, literal_string, name, note_first, part, part_by, read, string_leaf, whole_format_string}
-use Rattle.justfile_tree.specs.LeafTree.{Leaf}
+use Rattle.justfile_expression.specs.LeafTree.{Leaf}
 use Rattle.justfile_model.specs.declared.level.Level.TheVariants.{Expression}
 use Rattle.justfile_parse_expression.specs.declared.significant.TableEntry.{TableEntry}
 use Rattle.justfile_model.proofs.ExpressionReading as laws

@@ -1,14 +1,14 @@
--- Expressions that nest to the right, as a row of links: each holds what stands before its right side.
+-- Expressions that nest to the right, as a row of links: each link holds what comes before its right side.
 use Rattle.std.specs.Prelude.{ℕ, zero, suc, Bool, false, List, [], ◌∷◌, Option, Some, None, Ok, codes}
-use Rattle.justfile_base.specs.declared.token.Token.{Token}
-use Rattle.justfile_word.specs.declared.list_feature.ListFeature.TheVariants as features
-use Rattle.justfile_word.specs.declared.token_kind.TokenKind.TheVariants as kinds
+use Rattle.justfile_token.specs.declared.token.Token.{Token}
+use Rattle.justfile_vocabulary.specs.declared.list_feature.ListFeature.TheVariants as features
+use Rattle.justfile_vocabulary.specs.declared.token_kind.TokenKind.TheVariants as kinds
 use Rattle.justfile_model.specs.ExpressionReader as expressions
 use Rattle.justfile_model.specs.ExpressionReader.{closed}
 use Rattle.justfile_model.specs.Expressions.{ends_open}
 use Rattle.justfile_model.specs.Features.{noted, noted_if}
 use Rattle.justfile_model.specs.Operators.{binary, feature_of, operand, right}
-use Rattle.justfile_model.specs.Reading.{◌>>=◌, choose, with}
+use Rattle.justfile_model.specs.ReaderState.{◌>>=◌, choose, with}
 use Rattle.justfile_model.specs.Tree as tree
 use Rattle.justfile_model.specs.Tree.{Expr}
 use Rattle.justfile_model.specs.declared.level.Level.{Level}
@@ -23,19 +23,19 @@ use Rattle.justfile_parse_expression.specs.declared.expression.Link.TheVariants 
 use Rattle.justfile_parse_expression.specs.declared.expression.Step as steps
 use Rattle.justfile_parse_expression.specs.declared.expression.Step.TheVariants as step_variants
 use Rattle.justfile_parse_expression.specs.declared.significant.TableEntry.{TableEntry}
-use Rattle.justfile_tree.specs.LeafTree.{Leaf, leaf_tree_of}
+use Rattle.justfile_expression.specs.LeafTree.{Leaf, leaf_tree_of}
 
 abbrev pub Tree : Type 0
 Tree = Expr Leaf Token
 
--- what comes next of a row: its last expression, or what a link makes of its right side
+-- what comes next in a row: its last expression, or the function that a link applies to its right side
 pub data StepTree : Type 0 where
   Last : Tree → StepTree
   Next : (Tree → Tree) → StepTree
 
 abbrev pub link_of : links.Link → Tree → Tree
-link_of (link_variants.Operation lhs operator token) = binary operator (leaf_tree_of lhs.value) token
-link_of (link_variants.Root token) = tree.Root token
+link_of (link_variants.Operation lhs operator token) = binary operator (leaf_tree_of lhs.value) token.now
+link_of (link_variants.Root token) = tree.Root token.now
 link_of (link_variants.Branch condition branch) = tree.IfElse (leaf_tree_of condition.value) (leaf_tree_of branch.value)
 
 abbrev pub step_of : steps.Step → StepTree
@@ -46,12 +46,12 @@ abbrev pub row_tree : List links.Link → (last : Tree) → Tree
 row_tree [] last = last
 row_tree (l ∷ ls) last = link_of l (row_tree ls last)
 
--- each right side of the loosest level is an expression that was opened, and is closed at the end
+-- closes the expressions that a row opens: at the loosest level, each right side is an expression of its own
 abbrev pub row_closed : Level → List links.Link → State → State
 row_closed k [] s = s
 row_closed k (l ∷ ls) s = closed k (row_closed k ls s)
 
--- after a left side: the operator, if there is one
+-- what follows a left side: the operator, if there is one
 abbrev pub link_by : (condition : Bool) → Tree × State → Option (Operator × TableEntry × State) → Read StepTree
 link_by c l None = Ok (Last l.0, l.1)
 link_by c l (Some op) = Ok (Next (binary op.0 l.0 op.1.token.now), with (noted_if (feature_of op.0 c) op.1.token.now) op.2)
@@ -59,7 +59,7 @@ link_by c l (Some op) = Ok (Next (binary op.0 l.0 op.1.token.now), with (noted_i
 unfoldable pub link : Level → Tree × State → Read StepTree
 link k l = link_by false l (accept_operator k l.1)
 
--- an operand, and the operator after it, if there is one; or the operator that stands before an operand alone
+-- an operand and the operator after it, if there is one; or a prefix operator
 unfoldable pub operand_step : State → Read StepTree
 operand_step s =
     choose {X = Read StepTree} (accept_word (codes "if") s)
@@ -68,20 +68,20 @@ operand_step s =
     (λ op. Ok (Next (tree.Root op.0.token.now), op.1)))
     (λ w. read (r.Conditional w.0 w.1) >>= λ e. Ok (Last e.0, e.1))
 
--- what comes next of a row, after an operator of the level; comparisons form no rows
+-- what comes next in a row, after an operator of the level; comparisons form no rows
 unfoldable pub step : Level → State → Read StepTree
 step Conjunct s = operand_step s
 step Value s = value s >>= λ e. Ok (Last e.0, e.1)
 step Compared s = read (At Conjunct false s) >>= λ e. Ok (Last e.0, e.1)
 step k s = enter k s >>= λ o. read (At (operand k) false o.1) >>= link k
 
--- the right side of an operator of the level, and what a link makes of it
+-- the right side of an operator of the level, joined with its link
 unfoldable pub row : Level → (make : Tree → Tree) → State → ReadExpr
 row k make s = read (At (right k) false s) >>= λ e. Ok (make e.0, closed k e.1)
 
 -- ---- conditionals
 
--- what comes next of a conditional: its end, or what a branch makes of the conditional after it, and the `if` of that
+-- what comes next in a conditional: its end, or a branch and the `if` of the conditional after it
 pub data BranchTree : Type 0 where
   End : Tree → BranchTree
   ElseIf : (Tree → Tree) → TableEntry → BranchTree
@@ -90,7 +90,7 @@ abbrev pub branch_of : arms.Branch → BranchTree
 branch_of (branch_variants.Last e) = End (leaf_tree_of e.value)
 branch_of (branch_variants.Next l word) = ElseIf (link_of l) word
 
--- the other branch in braces, after which no `else` may stand where it ends in a conditional without one
+-- the `else` branch in braces; if it ends in a conditional without `else`, no `else` may follow
 unfoldable pub last_branch : State → ReadExpr
 last_branch s = braced s >>= λ o. r.ended_by (ends_open o.0) o.0 o.1
 
@@ -105,13 +105,13 @@ branch word s =
     (last_branch e.1 >>= λ o. Ok (End (tree.IfElse c.0 b.0 o.0), o.1))
     (λ i. Ok (ElseIf (tree.IfElse c.0 b.0) i.0, i.1)))
 
--- a conditional after its `if`, and what a branch before it makes of it
+-- a conditional after its `if`, joined with the branch before it
 unfoldable pub branches : (make : Tree → Tree) → (word : TableEntry) → State → ReadExpr
 branches make word s = read (r.Conditional word s) >>= λ e. Ok (make e.0, e.1)
 
 -- ---- values
 
--- a value with no `!` before it
+-- a value without `!` before it
 unfoldable pub bare : State → ReadExpr
 bare s = literal s >>= λ l. expressions.literal_or leaves read l.0 l.1
 
@@ -119,6 +119,6 @@ abbrev pub negated : (count : ℕ) → Tree → Tree
 negated zero e = e
 negated (suc n) e = tree.Not (negated n e)
 
--- a value after so many `!`
+-- a value after `count` times `!`
 unfoldable pub negation : (count : ℕ) → State → ReadExpr
 negation n s = bare s >>= λ e. Ok (negated n e.0, e.1)

@@ -1,9 +1,11 @@
 pub mod Chains
 pub mod Conditions
 pub mod Fault
-pub mod Formats
+pub mod FormatStrings
 pub mod Literal
 pub mod MethodResults
+pub mod ParsedResults
+pub mod Plain
 pub mod Significant
 pub mod TableReader
 pub mod View

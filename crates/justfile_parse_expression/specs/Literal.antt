@@ -1,15 +1,15 @@
--- What is known of the literals and the comments among the tokens.
+-- What is known about the literals and comments among the tokens.
 use Rattle.std.specs.Prelude.{◌≡◌, ℕ, Bool, true, IsTrue, List, codes, nat_eq}
 use Rattle.std.specs.List.{starts_with}
-use Rattle.justfile_base.specs.StringKind.{kind_of}
-use Rattle.justfile_base.specs.Token.{lexeme_of}
-use Rattle.justfile_word.specs.declared.format_string_part.FormatStringPart.TheVariants as parts
-use Rattle.justfile_word.specs.declared.token_kind.TokenKind.{TokenKind}
-use Rattle.justfile_word.specs.declared.token_kind.TokenKind.TheVariants as kinds
+use Rattle.justfile_token.specs.StringKind.{kind_of}
+use Rattle.justfile_token.specs.Token.{lexeme_of}
+use Rattle.justfile_vocabulary.specs.declared.format_string_part.FormatStringPart.TheVariants as parts
+use Rattle.justfile_vocabulary.specs.declared.token_kind.TokenKind.{TokenKind}
+use Rattle.justfile_vocabulary.specs.declared.token_kind.TokenKind.TheVariants as kinds
 use Rattle.justfile_literal.specs.Literal.{is_quoted, is_part}
 use Rattle.justfile_parse_expression.specs.declared.significant.TableEntry.{TableEntry}
 
--- a literal is quoted, a part of a format string framed, and a comment begins with `#`
+-- a literal is quoted, a part of a format string has its delimiters, and a comment begins with `#`
 abbrev pub is_delimited : TokenKind → List ℕ → Bool
 is_delimited kinds.StringToken lexeme = is_quoted lexeme
 is_delimited kinds.Backtick lexeme = is_quoted lexeme
@@ -21,6 +21,6 @@ is_delimited _ lexeme = true
 abbrev pub is_sound : TableEntry → Bool
 is_sound entry = is_delimited entry.token.now.kind (lexeme_of entry.token.now)
 
--- a token of a kind, delimited if it is a literal or a comment
+-- The entry is of this kind, and delimited if it is a literal or a comment.
 abbrev pub IsOf : TokenKind → TableEntry → Type 0
 IsOf kind entry = (entry.token.now.kind ≡ kind) × IsTrue (is_sound entry)

@@ -1,12 +1,12 @@
 -- The table of significant tokens.
 use Rattle.std.specs.Prelude.{not, List}
 use Rattle.std.specs.List.{filter}
-use Rattle.justfile_base.specs.declared.token.Token.{Token}
+use Rattle.justfile_token.specs.declared.token.Token.{Token}
 use Rattle.justfile_model.specs.Tok.{tok_of}
 use Rattle.justfile_model.specs.SignificantTokens.{SignificantToken, is_whitespace}
 use Rattle.justfile_parse_expression.specs.declared.significant.TableEntry.{TableEntry}
 
--- what the definitions see of an entry
+-- an entry as the definitions see it
 abbrev pub significant_of : TableEntry → SignificantToken
 significant_of entry = record { tok = tok_of entry.token.now; glued = entry.glued }
 

@@ -1,40 +1,42 @@
--- Reading a table, with all that the parser's trees hold. That the definitions read the same trees of tokens is a law.
+-- The reader of tables, whose trees hold all that the parser's trees hold. A law says that it reads the same trees as the definitions over
+-- tokens.
 use Rattle.std.specs.Prelude.{ℕ, ◌-◌, ◌^◌, Bool, true, false, List, [], ◌∷◌, Option, Some, None, Ok, Err, not, ◌==◌, if◌then◌else◌}
-use Rattle.justfile_word.specs.Numerator.{number_of}
-use Rattle.justfile_base.specs.StringKind.{kind_of}
-use Rattle.justfile_base.specs.Token.{lexeme_of}
-use Rattle.justfile_word.specs.declared.format_string_part.FormatStringPart.{FormatStringPart}
-use Rattle.justfile_word.specs.declared.format_string_part.FormatStringPart.TheVariants as string_parts
-use Rattle.justfile_base.specs.declared.string_kind.StringKind.{StringKind}
-use Rattle.justfile_base.specs.declared.token.Token.{Token}
-use Rattle.justfile_word.specs.declared.token_kind.TokenKind.{TokenKind}
+use Rattle.justfile_vocabulary.specs.Numerator.{number_of}
+use Rattle.justfile_token.specs.StringKind.{kind_of}
+use Rattle.justfile_token.specs.Token.{lexeme_of}
+use Rattle.justfile_vocabulary.specs.declared.format_string_part.FormatStringPart.{FormatStringPart}
+use Rattle.justfile_vocabulary.specs.declared.format_string_part.FormatStringPart.TheVariants as string_parts
+use Rattle.justfile_token.specs.declared.string_kind.StringKind.{StringKind}
+use Rattle.justfile_token.specs.declared.token.Token.{Token}
+use Rattle.justfile_vocabulary.specs.declared.token_kind.TokenKind.{TokenKind}
+use Rattle.justfile_vocabulary.specs.declared.token_kind.TokenKind.TheVariants as kinds
 use Rattle.justfile_model.specs.Literals as literals
 use Rattle.justfile_model.specs.Conditions.{Conditions}
 use Rattle.justfile_model.specs.Literals.{format_text}
 use Rattle.justfile_model.specs.Tree as tree
 use Rattle.justfile_model.specs.Tree.{Expr}
-use Rattle.justfile_model.specs.Features.{uncompared}
+use Rattle.justfile_model.specs.Features.{called, uncompared}
 use Rattle.justfile_model.specs.ExpressionReader as expressions
-use Rattle.justfile_model.specs.Reading as reading
-use Rattle.justfile_model.specs.Reading.{◌>>=◌, Leaves, refused, with}
+use Rattle.justfile_model.specs.ReaderState as reading
+use Rattle.justfile_model.specs.ReaderState.{◌>>=◌, Leaves, refused, with}
 use Rattle.justfile_parse_expression.specs.Significant.{significant_of}
-use Rattle.justfile_tree.specs.LeafTree.{Leaf, Named, Literal, Command, Text, Assigned, Headed}
+use Rattle.justfile_expression.specs.LeafTree.{Leaf, Named, Literal, Command, Text, Assigned, Headed}
 use Rattle.justfile_model.specs.declared.level.Level.{Level}
 use Rattle.justfile_model.specs.declared.level.Level.TheVariants.{Expression, Disjunct, Compared}
 use Rattle.justfile_model.specs.Operators.{operator_of}
 use Rattle.justfile_model.specs.declared.operator.Operator.{Operator}
 use Rattle.justfile_parse_expression.specs.declared.significant.TableEntry.{TableEntry}
 
--- what stays while a file is read
+-- what stays the same while a file is read
 pub record Run : Type 0 where
   pub conditions : Conditions
   pub table : List TableEntry
   pub file_depth : ℕ
   pub import_offsets : List ℕ
 
--- ---- what a tree keeps
+-- ---- what a tree holds
 
--- a literal by its text, and how it was asked for it
+-- a literal with its text, and how it was written
 abbrev pub literal_leaf : Token → literals.Literal (List ℕ) → List ℕ → Leaf
 literal_leaf token (literals.Plain lexeme) text = Literal (record { token = token; cooked = text; expand = false; kind = kind_of lexeme; part = None })
 literal_leaf token (literals.Expanded lexeme) text = Literal (record { token = token; cooked = text; expand = true; kind = kind_of lexeme; part = None })
@@ -54,7 +56,7 @@ unfoldable pub leaves : Leaves Run TableEntry Leaf Token (Unit {0})
 leaves = record {
   conditions = λ run. run.conditions;
   see = significant_of;
-  spot = λ t. t.token.now;
+  position = λ t. t.token.now;
   name = λ t. Named t.token.now None;
   literal = λ t literal text. literal_leaf t.token.now literal text;
   text = λ t. Text t.token.now;
@@ -71,12 +73,12 @@ leaves = record {
 abbrev pub State : Type 0
 State = reading.State Run TableEntry Token
 
--- where reading begins, with no expression open
+-- the state at the front of a table, with no expression open
 abbrev pub begin : Run → State
 begin run = record { run = run; depth = 0; left = run.table; noted = [] }
 
-abbrev pub Refusal : Type 0
-Refusal = reading.Refusal TableEntry Token
+abbrev pub ReadError : Type 0
+ReadError = reading.ReadError TableEntry Token
 
 abbrev pub Read : Type 0 → Type 0
 Read X = reading.Read Run TableEntry Token X
@@ -108,7 +110,7 @@ accept_word = reading.accept_word leaves
 abbrev pub accept_marked : List ℕ → TokenKind → State → Option (TableEntry × State)
 accept_marked = reading.accept_marked leaves
 
--- an expression may be entered
+-- whether an expression may be opened
 abbrev pub is_within : Level → State → Bool
 is_within level s = expressions.is_within s.run.conditions.limit level s
 
@@ -121,7 +123,7 @@ expect = reading.expect leaves
 abbrev pub next_are : List TokenKind → State → Bool
 next_are = reading.next_are leaves
 
--- a string, of which the text is expanded or not
+-- a string, with its text expanded or not
 unfoldable pub string_leaf : (expanded : Bool) → TableEntry × State → Read Leaf
 string_leaf expanded = expressions.cooked leaves (λ leaf. leaf) (literals.string_of expanded)
 
@@ -137,7 +139,7 @@ backtick = expressions.backtick leaves
 abbrev pub literal : State → Read (Option (Expr Leaf Token))
 literal = expressions.literal leaves
 
--- a part of a format string of a kind
+-- a part of a format string with delimiters of a kind
 unfoldable pub part_by : StringKind → FormatStringPart → TableEntry × State → Read Leaf
 part_by kind part x =
     expressions.by_text leaves (λ text. Literal (record { token = x.0.token.now; cooked = text; expand = false; kind = kind; part = Some part })) x (format_text kind part (lexeme_of x.0.token.now))
@@ -145,7 +147,7 @@ part_by kind part x =
 abbrev pub part : (start : List ℕ) → State → Read (Leaf × Bool)
 part = expressions.part leaves
 
--- an expression of a level is opened, up to the limit of depth
+-- opens an expression of a level, up to the limit of depth
 unfoldable pub enter : Level → State → Read (Unit {0})
 enter level s = if is_within level s then Ok (tt, expressions.opened level s) else Err (refused reading.TooDeep s)
 
@@ -153,7 +155,7 @@ enter level s = if is_within level s then Ok (tt, expressions.opened level s) el
 unfoldable pub operation : Level → (condition : Bool) → Expr Leaf Token × State → ReadExpr
 operation level condition lhs = expressions.binary_tail leaves read level condition lhs (accept_operator level lhs.1)
 
--- the operators of the levels from comparisons up to this one, each with its right side, after a conjunct
+-- the operators of the levels from comparisons up to this one after a conjunct, each with its right side
 unfoldable pub operations : Level → (condition : Bool) → Expr Leaf Token × State → ReadExpr
 operations Expression condition lhs = operation Compared condition lhs >>= operation Disjunct condition >>= operation Expression condition
 operations Disjunct condition lhs = operation Compared condition lhs >>= operation Disjunct condition
@@ -165,7 +167,7 @@ abbrev pub front_operator : List TableEntry → Option Operator
 front_operator [] = None
 front_operator (t ∷ ts) = operator_of t.token.now.kind
 
--- an expression, and the delimiter after it
+-- an expression and the delimiter after it
 unfoldable pub enclosed : TokenKind → State → ReadExpr
 enclosed closing s = do
   e ← read (At Expression false s)
@@ -175,7 +177,7 @@ enclosed closing s = do
 abbrev pub condition : State → ReadExpr
 condition = expressions.condition leaves
 
--- a condition that is no comparison, noted at its first entry
+-- records a condition that isn't a comparison, at its first entry
 abbrev pub note_first : Expr Leaf Token → (first : Option TableEntry) → State → State
 note_first e None s = s
 note_first e (Some first) s = with (uncompared e first.token.now) s
@@ -183,23 +185,20 @@ note_first e (Some first) s = with (uncompared e first.token.now) s
 abbrev pub braced : State → ReadExpr
 braced = expressions.braced leaves
 
-abbrev pub otherwise : State → ReadExpr
-otherwise = expressions.otherwise leaves
-
 abbrev pub ended_by : Bool → Expr Leaf Token → State → ReadExpr
 ended_by = expressions.ended_by leaves
 
 abbrev pub element : TokenKind → State → Read (Expr Leaf Token × Bool)
 element = expressions.element leaves
 
--- an expression of a format string and the part after it, and whether that is the last
+-- an expression of a format string and the part after it, and whether that part is the last
 unfoldable pub pair : (start : List ℕ) → State → Read (Expr Leaf Token × Leaf × Bool)
 pair start s = do
   e ← read (At Expression false s)
   p ← part start e.1
   Ok ((e.0, p.0.0, p.0.1), p.1)
 
--- what follows the start of a format string, after any start
+-- what follows the start of a format string, as a function of that start
 unfoldable pub format_parts : (start : List ℕ) → State → Read (Leaf → Expr Leaf Token)
 format_parts start s = do
   e ← read (At Expression false s)
@@ -220,6 +219,12 @@ assert = expressions.assert leaves
 
 abbrev pub name : State → ReadExpr
 name = expressions.name leaves
+
+-- a call, after its name and the opening parenthesis
+unfoldable pub call : TableEntry → State → ReadExpr
+call word s = do
+  es ← read (expressions.Sequence kinds.ParenR s)
+  Ok (tree.Call (Named word.token.now None) es.0, with (called (lexeme_of word.token.now) word.token.now) es.1)
 
 abbrev pub group : State → ReadExpr
 group = expressions.group leaves

@@ -1,7 +1,7 @@
--- What the definitions see of the parser: all that it holds.
+-- The parser as the definitions see it: a state of the reader.
 use Rattle.std.specs.Prelude.{◌≡◌, ℕ, ◌<◌, ◌-◌, List, Option, Some, None, drop, length, Result}
-use Rattle.justfile_base.specs.declared.token.Token.{Token}
-use Rattle.justfile_word.specs.declared.list_feature.ListFeature.{ListFeature}
+use Rattle.justfile_token.specs.declared.token.Token.{Token}
+use Rattle.justfile_vocabulary.specs.declared.list_feature.ListFeature.{ListFeature}
 use Rattle.justfile_parse_expression.specs.Conditions.{conditions_of}
 use Rattle.justfile_parse_expression.specs.TableReader.{Run, State}
 use Rattle.justfile_parse_expression.specs.declared.parser.ExpressionParser.{ExpressionParser}
@@ -13,7 +13,7 @@ module _ {X : Type 0} (answer : X → List ℕ → Result (List ℕ) (List ℕ))
   abbrev pub run_of : ExpressionParser X → Run
   run_of p = record { conditions = conditions_of answer p.expander.now p.current p.limit; table = p.tokens.now; file_depth = p.file_depth; import_offsets = p.import_offsets.now }
 
-  -- where the parser would be at another entry
+  -- the state of the parser if entry `n` were next
   abbrev pub state_from : ExpressionParser X → ℕ → State
   state_from p n = state_at (run_of p) p.depth n p.list_features.items
 
@@ -21,10 +21,10 @@ module _ {X : Type 0} (answer : X → List ℕ → Result (List ℕ) (List ℕ))
   state_of p = state_from p p.next
 
 -- how many entries are left
-unfoldable pub left : {X : Type 0} → ExpressionParser X → ℕ
-left p = length p.tokens.now - p.next
+unfoldable pub tokens_left : {X : Type 0} → ExpressionParser X → ℕ
+tokens_left p = length p.tokens.now - p.next
 
--- Where something was taken, fewer entries are left. Where nothing was, the parser is as before.
+-- If something was taken, fewer entries are left. If nothing was, the parser is unchanged.
 abbrev pub Moves : {X Y : Type 0} → Option Y → (old new : ExpressionParser X) → Type 0
-Moves (Some y) old new = left new < left old
+Moves (Some y) old new = tokens_left new < tokens_left old
 Moves None old new = new ≡ old

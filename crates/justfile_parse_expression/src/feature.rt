@@ -1,40 +1,45 @@
 ghost use Rattle.std.specs.Prelude.{◌≡◌};
 ghost use Rattle.justfile_model.specs.Features.{function_feature, noted, noted_if, uncompared_feature};
-ghost use Rattle.justfile_model.specs.Reading.{with};
+ghost use Rattle.justfile_model.specs.ReaderState.{with};
 ghost use Rattle.justfile_parse_expression.specs.TableReader.{note_first};
-ghost use Rattle.justfile_tree.specs.LeafTree.{leaf_tree_of};
+ghost use Rattle.justfile_expression.specs.LeafTree.{leaf_tree_of};
 ghost use Rattle.justfile_parse_expression.specs.MethodResults.{UnlessMemory};
 
+use crate::expression_error::ExpressionError;
 use crate::parser::ExpressionParser;
 use crate::significant::TableEntry;
-use crate::stop::Stop;
-use justfile_base::{Expander, Token};
-use justfile_tree::{Expression, ListFeature};
+use justfile_expression::{Expression, ListFeature};
+use justfile_token::{Expander, Token};
 
 impl<'src, X: Expander> ExpressionParser<'_, 'src, X> {
-    ghost use Rattle.justfile_parse_expression.specs.View.{left, state_of};
+    ghost use Rattle.justfile_parse_expression.specs.View.{tokens_left, state_of};
 
-    /// Notes a feature that needs the setting for lists.
-    #[tactic(auto, unfolding(crate::specs::View::state_at, crate::specs::View::state_of, crate::specs::View::left))]
-    pub fn note(&mut self, feature: ListFeature, token: Token<'src>) -> Result<(), Stop<'src>>
-        ensures notes { UnlessMemory result
-            (λ done. state_of X.answer self.new ≡ with (noted feature token.entry) (state_of X.answer self.old)) }
-        ensures stays { left self.new ≡ left self.old }
+    /// Records a condition that isn't a comparison, at its first token.
+    pub(crate) fn note_condition(
+        &mut self,
+        condition: &Expression<'src>,
+        first: Option<TableEntry<'_, 'src>>,
+    ) -> Result<(), ExpressionError<'src>>
+        ensures notes { UnlessMemory result (λ done. state_of X.answer self.new
+            ≡ note_first (leaf_tree_of condition.now) first.entry (state_of X.answer self.old)) }
+        ensures stays { tokens_left self.new ≡ tokens_left self.old }
     {
-        self.list_features.push((feature, token))?;
-        Ok(())
+        match first {
+            Some(first) => self.note_if(find_condition_feature(condition), *first.token),
+            None => Ok(()),
+        }
     }
 
-    /// Notes a feature, if there is one.
+    /// Records the use of a feature, if there is one.
     #[tactic(auto, using(crate::proofs::Rest::with_none))]
     pub(crate) fn note_if(
         &mut self,
         feature: Option<ListFeature>,
         token: Token<'src>,
-    ) -> Result<(), Stop<'src>>
-        ensures notes { UnlessMemory result
-            (λ done. state_of X.answer self.new ≡ with (noted_if feature token.entry) (state_of X.answer self.old)) }
-        ensures stays { left self.new ≡ left self.old }
+    ) -> Result<(), ExpressionError<'src>>
+        ensures notes { UnlessMemory result (λ done. state_of X.answer self.new
+            ≡ with (noted_if feature token.entry) (state_of X.answer self.old)) }
+        ensures stays { tokens_left self.new ≡ tokens_left self.old }
     {
         match feature {
             Some(feature) => self.note(feature, token),
@@ -42,24 +47,27 @@ impl<'src, X: Expander> ExpressionParser<'_, 'src, X> {
         }
     }
 
-    /// Notes a condition that is no comparison, at its first token.
-    pub(crate) fn note_condition(
+    /// Records the use of a feature that needs the setting `lists`.
+    ///
+    /// # Errors
+    ///
+    /// Memory runs out.
+    #[tactic(auto, unfolding(crate::specs::View::state_at, crate::specs::View::state_of, crate::specs::View::tokens_left))]
+    pub fn note(
         &mut self,
-        condition: &Expression<'src>,
-        first: Option<TableEntry<'_, 'src>>,
-    ) -> Result<(), Stop<'src>>
-        ensures notes { UnlessMemory result
-            (λ done. state_of X.answer self.new ≡ note_first (leaf_tree_of condition.now) first.entry (state_of X.answer self.old)) }
-        ensures stays { left self.new ≡ left self.old }
+        feature: ListFeature,
+        token: Token<'src>,
+    ) -> Result<(), ExpressionError<'src>>
+        ensures notes { UnlessMemory result (λ done. state_of X.answer self.new
+            ≡ with (noted feature token.entry) (state_of X.answer self.old)) }
+        ensures stays { tokens_left self.new ≡ tokens_left self.old }
     {
-        match first {
-            Some(first) => self.note_if(find_condition_feature(condition), *first.token),
-            None => Ok(()),
-        }
+        self.list_features.push((feature, token))?;
+        Ok(())
     }
 }
 
-/// The feature that a condition is, if it is no comparison.
+/// Returns the feature that a condition uses: one if it isn't a comparison.
 #[tactic(auto, using(crate::proofs::Shapes::assert_plain, crate::proofs::Shapes::conditional_plain, crate::proofs::Shapes::format_plain, crate::proofs::Shapes::join_plain))]
 fn find_condition_feature(condition: &Expression<'_>) -> Option<ListFeature>
     ensures { result ≡ uncompared_feature (leaf_tree_of condition.now) }
@@ -84,7 +92,7 @@ fn find_condition_feature(condition: &Expression<'_>) -> Option<ListFeature>
     }
 }
 
-/// The feature that a function is, if it is one.
+/// Returns the feature that a call of this function uses, or `None` if it uses none.
 pub(crate) fn find_function_feature(name: &str) -> Option<ListFeature>
     ensures { result ≡ function_feature name.now }
 {

@@ -2,13 +2,14 @@
 ghost use Rattle.std.specs.Prelude.{◌≡◌, ◌<◌, IsTrue};
 ghost use Rattle.justfile_model.specs.Operators as operators;
 ghost use Rattle.justfile_model.specs.Operators.{is_binary, rank};
-ghost use Rattle.justfile_tree.specs.LeafTree.{leaf_tree_of};
+ghost use Rattle.justfile_expression.specs.LeafTree.{leaf_tree_of};
 
-use justfile_base::{Token, TokenKind};
+use justfile_expression::{ConditionalOperator, Expression, ListFeature};
 use justfile_model::{Level, Operator};
-use justfile_tree::{ConditionalOperator, Expression, ListFeature};
+use justfile_token::Token;
+use justfile_vocabulary::TokenKind;
 
-/// What stands to the left of the operators of a level.
+/// Returns the level of the left operands of this level's operators.
 pub(crate) fn find_left_level(level: Level) -> Level
     requires { IsTrue (is_binary level) }
     ensures is { result ≡ operators.operand level }
@@ -22,7 +23,7 @@ pub(crate) fn find_left_level(level: Level) -> Level
     }
 }
 
-/// The operator that a token of this kind is, if it is one.
+/// Returns the operator that a token of this kind is, or `None` if it isn't one.
 pub(crate) fn find_operator(kind: TokenKind) -> Option<Operator>
     ensures { result ≡ operators.operator_of kind }
 {
@@ -53,7 +54,8 @@ pub(crate) fn is_at(level: Level, operator: Operator) -> bool
     }
 }
 
-/// The feature that an operator is. The comparison that a condition begins with is none.
+/// Returns the feature that an operator uses, or `None` if it uses none. `condition` tells whether
+/// it is in first place in a condition; a comparison there uses none.
 pub(crate) fn find_feature(operator: Operator, condition: bool) -> Option<ListFeature>
     ensures { result ≡ operators.feature_of operator condition }
 {
@@ -71,14 +73,15 @@ pub(crate) fn find_feature(operator: Operator, condition: bool) -> Option<ListFe
     }
 }
 
-/// An operator between two expressions.
+/// Makes the expression that applies an operator to two expressions.
 pub(crate) fn make_operation<'src>(
     lhs: Box<Expression<'src>>,
     operator: Operator,
     token: Token<'src>,
     rhs: Box<Expression<'src>>,
 ) -> Expression<'src>
-    ensures { leaf_tree_of result ≡ operators.binary operator (leaf_tree_of lhs.entry.value) token.entry (leaf_tree_of rhs.entry.value) }
+    ensures { leaf_tree_of result ≡ operators.binary operator (leaf_tree_of lhs.entry.value)
+        token.entry (leaf_tree_of rhs.entry.value) }
 {
     match operator {
         Operator::Or => Expression::Or { lhs, rhs },

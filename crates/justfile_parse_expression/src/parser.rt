@@ -2,53 +2,55 @@
 ghost use Rattle.std.specs.Option.{is_some};
 ghost use Rattle.std.specs.Prelude.{◌≡◌, ◌<◌, ◌≤◌, ◌+◌, ℕ, false, List, None, drop, length, map, IsTrue, IfOk, OnOk, OnSome, IfSome};
 ghost use Rattle.std.specs.List.{list_all};
-ghost use Rattle.justfile_word.specs.Keyword.{keyword_text};
-ghost use Rattle.justfile_word.specs.declared.token_kind.TokenKind.TheVariants as kinds;
+ghost use Rattle.justfile_vocabulary.specs.Keyword.{keyword_text};
+ghost use Rattle.justfile_vocabulary.specs.declared.token_kind.TokenKind.TheVariants as kinds;
 ghost use Rattle.justfile_model.specs.Expressions.{front};
 ghost use Rattle.justfile_parse_expression.specs.Conditions.{conditions_of};
-ghost use Rattle.justfile_parse_expression.specs.Formats.{AreEnded, IsTable, prop_ended};
+ghost use Rattle.justfile_parse_expression.specs.FormatStrings.{AreEnded, IsTable, prop_ended};
 ghost use Rattle.justfile_parse_expression.specs.Literal.{IsOf, is_sound};
-ghost use Rattle.justfile_model.specs.Reading.{at, is_word, marks};
+ghost use Rattle.justfile_parse_expression.specs.Plain.{is_markable, is_plain};
+ghost use Rattle.justfile_model.specs.ReaderState.{at, is_word, marks};
 ghost use Rattle.justfile_model.specs.Versions.{version_numbers};
 ghost use Rattle.justfile_parse_expression.specs.TableReader as reader;
 ghost use Rattle.justfile_parse_expression.specs.MethodResults.{Peeks, Reads, Takes};
 ghost use Rattle.justfile_parse_expression.specs.Significant.{significant_of};
 
+use crate::expected_tokens::ExpectedTokens;
+use crate::expression_error::{ExpressionError, SyntaxError};
 use crate::significant::TableEntry;
-use crate::stop::{Refusal, Stop};
-use crate::wanted::Wanted;
-use justfile_base::{Expander, Keyword, Token, TokenKind, Version};
-use justfile_tree::ListFeature;
+use justfile_expression::ListFeature;
+use justfile_token::{Expander, Token};
+use justfile_vocabulary::{Keyword, TokenKind, Version};
 use std::alloc::Global;
 
 /// Reads a table of significant tokens from left to right.
 ///
-/// A method's name says what it does with the tokens that come next: `peek_` looks at them and takes none,
-/// `accept_` takes what it names if that is there, `expect_` refuses what is anything else, and `parse_`
-/// reads a construct, or says why there is none. A kind of token that they look for and do not find is
-/// wanted from then on. `detect_` looks as `peek_` does, and `take` takes as `accept` does, but what they
-/// do not find is not wanted.
+/// The beginning of a method's name says what it does with the next tokens: `peek_` looks at them
+/// and takes none, `accept_` takes what the name says if it comes next, `expect_` does so and
+/// refuses anything else, and `parse_` parses a construct, or returns why it can't. These methods
+/// add each kind of token that they look for and don't find to `expected_tokens`. `probe_` is
+/// `peek_`, and `take_` is `accept_`, without adding to `expected_tokens`.
 #[derive(Drop)]
 pub struct ExpressionParser<'run, 'src, X> {
     pub alloc: Global,
-    /// The running version.
+    /// The version of `just` that is running.
     pub(crate) current: Version,
-    /// How many expressions are open.
+    /// How many expressions are open: begun, and not yet ended.
     pub(crate) depth: usize,
     pub(crate) expander: &'run X,
     /// How many imports and modules lie between the file and the root.
     pub file_depth: u32,
-    /// The offsets of the imports that lead to the file that is read, the outermost first.
+    /// The byte offsets of the imports that lead to this file, the outermost first.
     pub import_offsets: &'run [usize],
-    /// How many expressions may be open in one another.
+    /// How many expressions may be nested in one another.
     pub(crate) limit: usize,
-    /// What was read that needs the setting for lists, each with its token, in order.
+    /// The uses of features that need the setting `lists`, each with its token, in order.
     pub list_features: Vec<(ListFeature, Token<'src>)>,
     /// The index of the next token.
     pub(crate) next: usize,
     pub tokens: &'run [TableEntry<'run, 'src>],
-    /// Which kinds are wanted in place of the next token.
-    pub wanted: Wanted,
+    /// The kinds of tokens that would be allowed in place of the next token.
+    pub expected_tokens: ExpectedTokens,
     ghost within: { next ≤ length tokens.now },
     ghost shallow: { depth ≤ limit },
     ghost nonempty: { 0 < length tokens.now },
@@ -57,9 +59,10 @@ pub struct ExpressionParser<'run, 'src, X> {
 }
 
 impl<'run, 'src, X: Expander> ExpressionParser<'run, 'src, X> {
-    ghost use Rattle.justfile_parse_expression.specs.View.{Moves, left, state_from, state_of};
+    ghost use Rattle.justfile_parse_expression.specs.View.{Moves, tokens_left, state_from, state_of};
 
-    /// The parser at the first token of a table, where no expression is open, and up to `limit` may be.
+    /// Returns a parser at the first token of a table, with no expression open, and up to `limit`
+    /// nested expressions allowed.
     #[tactic(auto, using(crate::proofs::Rest::begin_is), unfolding(crate::specs::View::state_of))]
     pub fn new(
         alloc: Global,
@@ -89,11 +92,11 @@ impl<'run, 'src, X: Expander> ExpressionParser<'run, 'src, X> {
             list_features: Vec::new(alloc),
             next: 0,
             tokens,
-            wanted: Wanted::new(),
+            expected_tokens: ExpectedTokens::new(),
         }
     }
 
-    /// The running version.
+    /// Returns the version of `just` that is running.
     #[tactic(auto, unfolding(crate::specs::View::state_at, crate::specs::View::state_of))]
     pub fn current(&self) -> Version
         ensures { (state_of X.answer self.now).run.conditions.current ≡ version_numbers result }
@@ -101,83 +104,30 @@ impl<'run, 'src, X: Expander> ExpressionParser<'run, 'src, X> {
         self.current
     }
 
-    /// The next token; it is not taken yet.
-    #[tactic(auto, using(crate::proofs::Rest::peeked, crate::proofs::Rest::ended, crate::proofs::Rest::sound_at))]
-    pub(crate) fn peek(&self) -> Option<TableEntry<'run, 'src>>
-        ensures within { OnSome result (self.now.next < length self.now.tokens.now) }
-        ensures peeks { Peeks result (state_of X.answer self.now) (state_from X.answer self.now (self.now.next + 1)) }
-        ensures sound { IfSome result (λ entry. IsTrue (is_sound entry)) }
-    {
-        if self.next < self.tokens.len() {
-            Some(self.tokens[self.next])
-        } else {
-            None
-        }
-    }
-
-    /// The next token, for callers that need only that token: `peek`, with the contract that says no
-    /// more.
+    /// Returns the next token without taking it: `peek`, with a shorter contract for callers that
+    /// need only the token.
     pub fn peek_front(&self) -> Option<TableEntry<'run, 'src>>
         ensures { result ≡ front (state_of X.answer self.now).left }
     {
         self.peek()
     }
 
-    /// The next token if it is of this kind; it is not taken yet. The kind is not wanted for that.
-    #[tactic(auto, unfolding(crate::specs::TableReader::leaves, justfile_model::specs::Reading::accept, justfile_model::specs::Reading::same_kind))]
-    pub fn detect_if(&self, kind: TokenKind) -> Option<TableEntry<'run, 'src>>
-        ensures within { OnSome result (self.now.next < length self.now.tokens.now) }
-        ensures takes { Takes result (state_from X.answer self.now (self.now.next + 1)) (reader.accept kind (state_of X.answer self.now)) }
-        ensures entry { IfSome result (λ entry. IsOf kind entry) }
-    {
-        match self.peek() {
-            Some(entry) if entry.token.kind == kind => Some(entry),
-            _ => None,
-        }
-    }
-
-    /// The next token if it is of this kind; it is not taken yet.
+    /// Returns the next token if it is of this kind, without taking it.
     pub fn peek_if(&self, kind: TokenKind) -> Option<TableEntry<'run, 'src>>
         ensures within { OnSome result (self.now.next < length self.now.tokens.now) }
-        ensures takes { Takes result (state_from X.answer self.now (self.now.next + 1)) (reader.accept kind (state_of X.answer self.now)) }
+        ensures takes { Takes result (state_from X.answer self.now (self.now.next + 1))
+            (reader.accept kind (state_of X.answer self.now)) }
         ensures entry { IfSome result (λ entry. IsOf kind entry) }
     {
-        let Some(entry) = self.detect_if(kind) else {
-            self.wanted.add(kind);
-            return None;
-        };
-        Some(entry)
-    }
-
-    /// Takes the next token if it is of this kind. The kind is not wanted for that: it is one of those
-    /// that a value begins with, which are wanted all at once.
-    #[tactic(auto, unfolding(crate::specs::View::state_of, crate::specs::View::left))]
-    pub(crate) fn take(&mut self, kind: TokenKind) -> Option<TableEntry<'run, 'src>>
-        ensures takes { Takes result (state_of X.answer self.new) (reader.accept kind (state_of X.answer self.old)) }
-        ensures moves { Moves result self.old self.new }
-        ensures entry { IfSome result (λ entry. IsOf kind entry) }
-    {
-        let entry = self.detect_if(kind)?;
-        self.next += 1;
-        self.wanted.clear();
-        Some(entry)
-    }
-
-    /// Takes the next token if it is of this kind.
-    pub fn accept(&mut self, kind: TokenKind) -> Option<TableEntry<'run, 'src>>
-        ensures takes { Takes result (state_of X.answer self.new) (reader.accept kind (state_of X.answer self.old)) }
-        ensures moves { Moves result self.old self.new }
-        ensures entry { IfSome result (λ entry. IsOf kind entry) }
-    {
-        let Some(entry) = self.take(kind) else {
-            self.wanted.add(kind);
+        let Some(entry) = self.probe_if(kind) else {
+            self.expected_tokens.add(kind);
             return None;
         };
         Some(entry)
     }
 
     /// Takes the next token if it is this keyword.
-    #[tactic(auto, unfolding(crate::specs::TableReader::leaves, justfile_model::specs::Reading::accept_word, crate::specs::View::state_of, crate::specs::View::left))]
+    #[tactic(auto, unfolding(crate::specs::TableReader::leaves, justfile_model::specs::ReaderState::accept_word, crate::specs::View::state_of, crate::specs::View::tokens_left))]
     #[inline(always)]
     pub fn accept_keyword(&mut self, keyword: Keyword) -> Option<TableEntry<'run, 'src>>
         ensures takes { Takes result (state_of X.answer self.new)
@@ -188,7 +138,7 @@ impl<'run, 'src, X: Expander> ExpressionParser<'run, 'src, X> {
         let entry = self.peek()?;
         if is_word(entry, keyword.lexeme()) {
             self.next += 1;
-            self.wanted.clear();
+            self.expected_tokens.clear();
             Some(entry)
         } else {
             None
@@ -196,10 +146,11 @@ impl<'run, 'src, X: Expander> ExpressionParser<'run, 'src, X> {
     }
 
     /// Whether the next token is this keyword.
-    #[tactic(auto, unfolding(crate::specs::TableReader::leaves, justfile_model::specs::Reading::accept_word))]
+    #[tactic(auto, unfolding(crate::specs::TableReader::leaves, justfile_model::specs::ReaderState::accept_word))]
     #[inline(always)]
     pub fn peek_keyword(&self, keyword: Keyword) -> bool
-        ensures { result ≡ is_some (reader.accept_word (keyword_text keyword) (state_of X.answer self.now)) }
+        ensures { result
+            ≡ is_some (reader.accept_word (keyword_text keyword) (state_of X.answer self.now)) }
     {
         match self.peek() {
             Some(entry) => is_word(entry, keyword.lexeme()),
@@ -207,9 +158,26 @@ impl<'run, 'src, X: Expander> ExpressionParser<'run, 'src, X> {
         }
     }
 
-    /// Takes the next token if it is this mark, and the string of this kind that is glued to it. The
-    /// string is returned. Few tokens stand before a string, so that is asked first.
-    #[tactic(auto, unfolding(crate::specs::View::state_of, crate::specs::View::left))]
+    /// Whether the next token begins a value that is neither a literal nor an assertion, and has no
+    /// `!` before it. It can be `false` for such a value.
+    #[tactic(auto, using(crate::proofs::Plain::plain_at), unfolding(crate::specs::View::state_of))]
+    #[inline(always)]
+    pub(crate) fn is_plain(&self) -> bool
+        ensures { IsTrue result
+            → reader.value (state_of X.answer self.now) ≡ reader.name (state_of X.answer self.now) }
+    {
+        if self.tokens.len() - self.next < 2 {
+            return false;
+        }
+        let first = self.tokens[self.next];
+        let second = self.tokens[self.next + 1];
+        begins_plain(first, second.token.kind)
+    }
+
+    /// Takes the next token if it is this mark, together with the string of this kind that is glued
+    /// to it, and returns the string. Tests first whether the second token is a string, because it
+    /// rarely is.
+    #[tactic(auto, unfolding(crate::specs::View::state_of, crate::specs::View::tokens_left))]
     #[inline(always)]
     pub(crate) fn accept_marked(
         &mut self,
@@ -227,11 +195,13 @@ impl<'run, 'src, X: Expander> ExpressionParser<'run, 'src, X> {
         None
     }
 
-    /// Whether the token after the next one is of this kind. If it is not, then nothing marks it.
-    #[tactic(auto, using(crate::proofs::QuickTests::unmarked, crate::proofs::Rest::marked_end), unfolding(crate::specs::View::state_of))]
+    /// Whether the token after the next one is of this kind. If it isn't, no mark precedes such a
+    /// token here.
+    #[tactic(auto, using(crate::proofs::Lengths::unmarked, crate::proofs::Rest::marked_end), unfolding(crate::specs::View::state_of))]
     #[inline(always)]
     fn is_second(&self, kind: TokenKind) -> bool
-        ensures { result ≡ false → (word : List ℕ) → reader.accept_marked word kind (state_of X.answer self.now) ≡ None }
+        ensures { result ≡ false → (word : List ℕ)
+            → reader.accept_marked word kind (state_of X.answer self.now) ≡ None }
     {
         if self.tokens.len() - self.next < 2 {
             return false;
@@ -240,9 +210,9 @@ impl<'run, 'src, X: Expander> ExpressionParser<'run, 'src, X> {
         entry.token.kind == kind
     }
 
-    /// Takes the next token if it is this mark, and the string of this kind that is glued to it. The
-    /// string is returned.
-    #[tactic(auto, using(crate::proofs::Rest::marked_here, crate::proofs::Rest::marked_end, crate::proofs::Rest::sound_at), unfolding(crate::specs::View::state_of, crate::specs::View::left))]
+    /// Takes the next token if it is this mark, together with the string of this kind that is glued
+    /// to it, and returns the string.
+    #[tactic(auto, using(crate::proofs::Rest::marked_here, crate::proofs::Rest::marked_end, crate::proofs::Rest::sound_at), unfolding(crate::specs::View::state_of, crate::specs::View::tokens_left))]
     #[inline(never)]
     fn take_marked(&mut self, mark: Keyword, kind: TokenKind) -> Option<TableEntry<'run, 'src>>
         ensures takes { Takes result (state_of X.answer self.new)
@@ -257,17 +227,18 @@ impl<'run, 'src, X: Expander> ExpressionParser<'run, 'src, X> {
         let entry = self.tokens[self.next + 1];
         if is_marked(first, mark.lexeme(), entry, kind) {
             self.next += 2;
-            self.wanted.clear();
+            self.expected_tokens.clear();
             Some(entry)
         } else {
             None
         }
     }
 
-    /// Whether the next token is this mark, and a string of this kind is glued to it.
-    #[tactic(auto, using(crate::proofs::Rest::marked_is, crate::proofs::Rest::marked_none), unfolding(crate::specs::View::state_of, crate::specs::View::left))]
+    /// Whether the next token is this mark, with a string of this kind glued to it.
+    #[tactic(auto, using(crate::proofs::Rest::marked_is, crate::proofs::Rest::marked_none), unfolding(crate::specs::View::state_of, crate::specs::View::tokens_left))]
     pub fn peek_marked(&self, mark: Keyword, kind: TokenKind) -> bool
-        ensures { result ≡ is_some (reader.accept_marked (keyword_text mark) kind (state_of X.answer self.now)) }
+        ensures { result
+            ≡ is_some (reader.accept_marked (keyword_text mark) kind (state_of X.answer self.now)) }
     {
         if self.tokens.len() - self.next < 2 {
             return false;
@@ -277,43 +248,111 @@ impl<'run, 'src, X: Expander> ExpressionParser<'run, 'src, X> {
         is_marked(first, mark.lexeme(), entry, kind)
     }
 
-    /// Takes the next token, which has to be of this kind.
-    #[tactic(auto, unfolding(justfile_model::specs::Reading::expect))]
-    pub fn expect(&mut self, kind: TokenKind) -> Result<TableEntry<'run, 'src>, Stop<'src>>
-        ensures reads { Reads (λ entry. entry) result (state_of X.answer self.new) (reader.expect kind (state_of X.answer self.old)) }
-        ensures progress { OnOk result (left self.new < left self.old) }
+    /// Takes the next token.
+    ///
+    /// # Errors
+    ///
+    /// The token is of another kind.
+    #[tactic(auto, unfolding(justfile_model::specs::ReaderState::expect))]
+    pub fn expect(
+        &mut self,
+        kind: TokenKind,
+    ) -> Result<TableEntry<'run, 'src>, ExpressionError<'src>>
+        ensures reads { Reads (λ entry. entry) result (state_of X.answer self.new)
+            (reader.expect kind (state_of X.answer self.old)) }
+        ensures progress { OnOk result (tokens_left self.new < tokens_left self.old) }
         ensures kind { IfOk result (λ entry. entry.token.now.kind ≡ kind) }
     {
         match self.accept(kind) {
             Some(entry) => Ok(entry),
-            None => Err(Stop::Refused(Refusal::Unexpected)),
+            None => Err(ExpressionError::Refused(SyntaxError::Unexpected)),
         }
     }
 
-    /// Whether the next tokens are of these kinds; none is taken yet. Where they are not, the first kind
-    /// is wanted.
+    /// Takes the next token if it is of this kind.
+    pub fn accept(&mut self, kind: TokenKind) -> Option<TableEntry<'run, 'src>>
+        ensures takes { Takes result (state_of X.answer self.new)
+            (reader.accept kind (state_of X.answer self.old)) }
+        ensures moves { Moves result self.old self.new }
+        ensures entry { IfSome result (λ entry. IsOf kind entry) }
+    {
+        let Some(entry) = self.accept_unrecorded(kind) else {
+            self.expected_tokens.add(kind);
+            return None;
+        };
+        Some(entry)
+    }
+
+    /// Takes the next token if it is of this kind. Doesn't add the kind to the expected tokens: the
+    /// caller looks for one of the kinds that a value begins with, and those are added all at once.
+    #[tactic(auto, unfolding(crate::specs::View::state_of, crate::specs::View::tokens_left))]
+    pub(crate) fn accept_unrecorded(&mut self, kind: TokenKind) -> Option<TableEntry<'run, 'src>>
+        ensures takes { Takes result (state_of X.answer self.new)
+            (reader.accept kind (state_of X.answer self.old)) }
+        ensures moves { Moves result self.old self.new }
+        ensures entry { IfSome result (λ entry. IsOf kind entry) }
+    {
+        let entry = self.probe_if(kind)?;
+        self.next += 1;
+        self.expected_tokens.clear();
+        Some(entry)
+    }
+
+    /// Returns the next token if it is of this kind, without taking it. Doesn't add the kind to the
+    /// expected tokens.
+    #[tactic(auto, unfolding(crate::specs::TableReader::leaves, justfile_model::specs::ReaderState::accept, justfile_model::specs::ReaderState::same_kind))]
+    pub fn probe_if(&self, kind: TokenKind) -> Option<TableEntry<'run, 'src>>
+        ensures within { OnSome result (self.now.next < length self.now.tokens.now) }
+        ensures takes { Takes result (state_from X.answer self.now (self.now.next + 1))
+            (reader.accept kind (state_of X.answer self.now)) }
+        ensures entry { IfSome result (λ entry. IsOf kind entry) }
+    {
+        match self.peek() {
+            Some(entry) if entry.token.kind == kind => Some(entry),
+            _ => None,
+        }
+    }
+
+    /// Returns the next token without taking it, or `None` if no token is left.
+    #[tactic(auto, using(crate::proofs::Rest::peeked, crate::proofs::Rest::ended, crate::proofs::Rest::sound_at))]
+    pub(crate) fn peek(&self) -> Option<TableEntry<'run, 'src>>
+        ensures within { OnSome result (self.now.next < length self.now.tokens.now) }
+        ensures peeks { Peeks result (state_of X.answer self.now)
+            (state_from X.answer self.now (self.now.next + 1)) }
+        ensures sound { IfSome result (λ entry. IsTrue (is_sound entry)) }
+    {
+        if self.next < self.tokens.len() {
+            Some(self.tokens[self.next])
+        } else {
+            None
+        }
+    }
+
+    /// Whether the next tokens are of these kinds; takes none. If they aren't, adds the first kind
+    /// to the expected tokens.
     pub fn peek_kinds(&self, kinds: &[TokenKind]) -> bool
         ensures is { result ≡ reader.next_are kinds.now (state_of X.answer self.now) }
-        ensures within { IsTrue result → length kinds.now ≤ left self.now }
+        ensures within { IsTrue result → length kinds.now ≤ tokens_left self.now }
     {
-        if self.detect_kinds(kinds) {
+        if self.probe_kinds(kinds) {
             return true;
         }
         self.want_first(kinds);
         false
     }
 
-    /// The first of these kinds is wanted.
+    /// Adds the first of these kinds to the expected tokens.
     fn want_first(&self, kinds: &[TokenKind]) {
         if let Some(kind) = kinds.first() {
-            self.wanted.add(*kind);
+            self.expected_tokens.add(*kind);
         }
     }
 
-    /// Whether the next tokens are of these kinds; none is taken yet, and none is wanted.
-    pub fn detect_kinds(&self, kinds: &[TokenKind]) -> bool
+    /// Whether the next tokens are of these kinds; takes none, and adds none to the expected
+    /// tokens.
+    pub fn probe_kinds(&self, kinds: &[TokenKind]) -> bool
         ensures is { result ≡ reader.next_are kinds.now (state_of X.answer self.now) }
-        ensures within { IsTrue result → length kinds.now ≤ left self.now }
+        ensures within { IsTrue result → length kinds.now ≤ tokens_left self.now }
     {
         let mut next = self.next;
         for kind in kinds {
@@ -325,28 +364,59 @@ impl<'run, 'src, X: Expander> ExpressionParser<'run, 'src, X> {
         true
     }
 
-    /// How many tokens are left.
-    #[tactic(auto, unfolding(crate::specs::View::left))]
+    /// Returns how many tokens are left.
+    #[tactic(auto, unfolding(crate::specs::View::tokens_left))]
     pub(crate) fn count_left(&self) -> usize
-        ensures { result ≡ left self.now }
+        ensures { result ≡ tokens_left self.now }
     {
         self.tokens.len() - self.next
     }
 
-    /// Takes so many tokens.
-    #[tactic(auto, using(crate::proofs::NextKinds::state_skip), unfolding(crate::specs::View::state_of, crate::specs::View::left))]
+    /// Takes `count` tokens.
+    #[tactic(auto, using(crate::proofs::NextKinds::state_skip), unfolding(crate::specs::View::state_of, crate::specs::View::tokens_left))]
     pub fn skip(&mut self, count: usize)
-        requires { count ≤ left self.old }
-        ensures rest { state_of X.answer self.new ≡ at (state_of X.answer self.old) (drop count (state_of X.answer self.old).left) }
-        ensures progress { left self.new ≤ left self.old }
+        requires { count ≤ tokens_left self.old }
+        ensures rest { state_of X.answer self.new
+            ≡ at (state_of X.answer self.old) (drop count (state_of X.answer self.old).left) }
+        ensures progress { tokens_left self.new ≤ tokens_left self.old }
     {
         self.next += count;
-        self.wanted.clear();
+        self.expected_tokens.clear();
     }
 }
 
-/// Whether the token is this word. Most names have another length than the word, and that is asked first.
-#[tactic(auto, using(crate::proofs::QuickTests::unequal), unfolding(justfile_model::specs::Reading::is_word, justfile_model::specs::Reading::same_kind))]
+/// Whether the token is a string of this kind that is glued to a mark with this word.
+#[tactic(auto, unfolding(justfile_model::specs::ReaderState::same_kind))]
+pub(crate) fn is_marked(
+    mark: TableEntry<'_, '_>,
+    word: &str,
+    entry: TableEntry<'_, '_>,
+    kind: TokenKind,
+) -> bool
+    ensures is { result
+        ≡ marks word.now kind (significant_of mark.entry) (significant_of entry.entry) }
+    ensures kind { IsTrue result → entry.entry.token.now.kind ≡ kind }
+{
+    entry.token.kind == kind && entry.glued && is_word(mark, word)
+}
+
+/// Whether a token with one of this kind after it begins a value that is neither a literal nor an
+/// assertion, and has no `!` before it.
+#[tactic(auto, unfolding(crate::specs::Plain::is_plain, justfile_model::specs::ReaderState::same_kind))]
+#[inline(always)]
+fn begins_plain(entry: TableEntry<'_, '_>, second: TokenKind) -> bool
+    ensures { result ≡ is_plain entry.entry second }
+{
+    let kind = entry.token.kind;
+    if kind == TokenKind::Identifier {
+        return !is_markable(second) && !is_word(entry, Keyword::Assert.lexeme());
+    }
+    kind == TokenKind::ParenL || kind == TokenKind::BracketL
+}
+
+/// Whether the token is this word. Compares the lengths first, because most names differ in length
+/// from the word.
+#[tactic(auto, using(crate::proofs::Lengths::unequal), unfolding(justfile_model::specs::ReaderState::is_word, justfile_model::specs::ReaderState::same_kind))]
 #[inline(always)]
 pub fn is_word(entry: TableEntry<'_, '_>, word: &str) -> bool
     ensures is { result ≡ is_word word.now (significant_of entry.entry) }
@@ -359,16 +429,11 @@ pub fn is_word(entry: TableEntry<'_, '_>, word: &str) -> bool
     lexeme.len() == word.len() && lexeme == word
 }
 
-/// Whether the token is a string of this kind, directly after a mark that is this word.
-#[tactic(auto, unfolding(justfile_model::specs::Reading::same_kind))]
-pub(crate) fn is_marked(
-    mark: TableEntry<'_, '_>,
-    word: &str,
-    entry: TableEntry<'_, '_>,
-    kind: TokenKind,
-) -> bool
-    ensures is { result ≡ marks word.now kind (significant_of mark.entry) (significant_of entry.entry) }
-    ensures kind { IsTrue result → entry.entry.token.now.kind ≡ kind }
+/// Whether a token of this kind may have a mark before it.
+#[tactic(auto, unfolding(justfile_model::specs::ReaderState::same_kind))]
+#[inline(always)]
+fn is_markable(kind: TokenKind) -> bool
+    ensures { result ≡ is_markable kind }
 {
-    entry.token.kind == kind && entry.glued && is_word(mark, word)
+    kind == TokenKind::StringToken || kind == TokenKind::FormatStringStart
 }

@@ -3,25 +3,32 @@ ghost use Rattle.justfile_model.specs.SignificantTokens.{is_whitespace, signific
 ghost use Rattle.justfile_model.specs.Tok.{tok_of};
 ghost use Rattle.justfile_parse_expression.specs.Significant.{significant_of, without_whitespace};
 
-use justfile_base::{Token, TokenKind};
+use justfile_token::Token;
+use justfile_vocabulary::TokenKind;
 use std::alloc::{AllocError, Global};
 
-/// A token that the parser reads.
+/// An entry of the table that the parser reads.
 #[derive(Clone, Copy)]
 pub struct TableEntry<'run, 'src> {
-    /// A token that is no whitespace.
+    /// A token that isn't whitespace.
     pub token: &'run Token<'src>,
-    /// Whether no token stands between it and the one before.
+    /// Whether it directly follows the token before, with no whitespace between them.
     pub glued: bool,
 }
 
-/// The tokens that the parser reads: all but whitespace.
+/// Returns the tokens that the parser reads: all but whitespace.
+///
+/// # Errors
+///
+/// Memory runs out.
 pub fn significant<'run, 'src>(
     alloc: Global,
     tokens: &'run [Token<'src>],
 ) -> Result<Vec<TableEntry<'run, 'src>>, AllocError>
-    ensures table { IfOk result (λ table. map significant_of table.items ≡ significant_tokens (map tok_of tokens.now)) }
-    ensures tokens { IfOk result (λ table. map (λ entry. entry.token.now) table.items ≡ without_whitespace tokens.now) }
+    ensures table { IfOk result (λ table. map significant_of table.items
+        ≡ significant_tokens (map tok_of tokens.now)) }
+    ensures tokens { IfOk result (λ table. map (λ entry. entry.token.now) table.items
+        ≡ without_whitespace tokens.now) }
 {
     let mut table = Vec::with_capacity(alloc, tokens.len())?;
     let mut glued = false;
@@ -42,13 +49,14 @@ fn is_whitespace(kind: TokenKind) -> bool
     matches!(kind, TokenKind::Whitespace)
 }
 
-/// Adds an entry to the table.
+/// Appends an entry to the table.
 fn push_entry<'run, 'src>(
     table: &mut Vec<TableEntry<'run, 'src>>,
     token: &'run Token<'src>,
     glued: bool,
 ) -> Result<(), AllocError>
-    ensures { OnOk result (table.new.items ≡ table.old.items ++ record { token = token.entry; glued = glued } ∷ []) }
+    ensures { OnOk result (table.new.items
+        ≡ table.old.items ++ record { token = token.entry; glued = glued } ∷ []) }
 {
     table.push(TableEntry { token, glued })?;
     Ok(())

@@ -1,4 +1,4 @@
--- The first attribute that speaks of each name.
+-- The first `arg` attribute for each name.
 use Rattle.std.proofs.Common.{◌≡◌, ◌∙◌, ℕ, All, Bool, Bor, true, false, cond, List, [], ◌∷◌, map, OnOk, Option, Result, Some, None, Ok, Err, refl, sym, ap, subst}
 use Rattle.std.proofs.lemmas.List.Elements.{All-head}
 use Rattle.std.proofs.lemmas.Map.Text.{btree_map_updates_str}
@@ -15,21 +15,21 @@ use Rattle.justfile_attribute.specs.Attribute.{leaf_attribute_of}
 use Rattle.justfile_attribute.specs.declared.attribute.Attribute.{Attribute}
 use Rattle.justfile_attribute_set.specs.Keys.{firsts}
 use Rattle.justfile_attribute_set.specs.Pairs.{Pair, leaf_entry_of}
-use Rattle.justfile_base.specs.Token.{lexeme_of}
-use Rattle.justfile_base.specs.declared.token.Token.{Token}
-use Rattle.justfile_header.specs.declared.parameter.Parameter.{Parameter}
+use Rattle.justfile_token.specs.Token.{lexeme_of}
+use Rattle.justfile_token.specs.declared.token.Token.{Token}
+use Rattle.justfile_recipe_header.specs.declared.parameter.Parameter.{Parameter}
 use Rattle.justfile_model.specs.AttributeRules.{arg_rules, rules_in}
 use Rattle.justfile_model.specs.RecipeRules.{rules_for}
 use Rattle.justfile_parse_attribute.specs.KeyedBounds.{AreKeyed, IsKeyed}
 use Rattle.justfile_parse_attribute.specs.TextSets.{texts_in}
-use Rattle.justfile_parse_header.specs.Arguments.{AreNames, IsKeyedOption, is_of, said_by, speaks_of}
+use Rattle.justfile_parse_header.specs.Arguments.{AreNames, IsKeyedOption, is_of, rules_by, rules_named}
 use Rattle.justfile_parse_header.specs.HeaderTable.{Rules}
-use Rattle.justfile_parse_header.specs.SpokenNames.{AreFirsts, Firsts, IsPut, IsPutAt, attribute_at, first_at}
+use Rattle.justfile_parse_header.specs.ArgNames.{AreFirsts, Firsts, IsPut, IsPutAt, attribute_at, first_at}
 use Rattle.justfile_parse_header.specs.Tree.{parameter_tree}
 use Rattle.justfile_parse_header.proofs.ReadNames.{among_names}
-use Rattle.justfile_parse_header.proofs.Spoken.{keyed_rest, rules_left, speaks_begins, speaks_here, speaks_later}
-use Rattle.justfile_tree.specs.LeafSight.{sees_leaves}
-use Rattle.justfile_tree.specs.LeafTree.{Named}
+use Rattle.justfile_parse_header.proofs.ArgRules.{keyed_rest, rules_left, speaks_begins, speaks_here, speaks_later}
+use Rattle.justfile_expression.specs.LeafViews.{views_leaves}
+use Rattle.justfile_expression.specs.LeafTree.{Named}
 
 -- ---- one that is put
 
@@ -77,24 +77,24 @@ then_put text a old new same (Err e) h = tt
 then_put text a old new same (Ok u) h = spoken_put text a old new same h
 
 -- one that speaks of none
-pub unspoken_put : (a : Attribute) (old : Firsts) → ((name : List ℕ) → is_of name (leaf_attribute_of a) ≡ false) → IsPut a old old
+pub unnamed_put : (a : Attribute) (old : Firsts) → ((name : List ℕ) → is_of name (leaf_attribute_of a) ≡ false) → IsPut a old old
 unfolding IsPut
-unspoken_put a old none name = or_none (attribute_at old name) ∙ ap (λ b. option_or (attribute_at old name) (cond b (Some a) None)) (sym (none name))
+unnamed_put a old none name = or_none (attribute_at old name) ∙ ap (λ b. option_or (attribute_at old name) (cond b (Some a) None)) (sym (none name))
 
 -- ---- one after another
 
 -- what an attribute says, or else the rest
-abbrev said_or : Option Attribute → (rest : Option Rules) → Option Rules
-said_or None rest = rest
-said_or (Some a) rest = rules_in (leaf_attribute_of a)
+abbrev rules_or : Option Attribute → (rest : Option Rules) → Option Rules
+rules_or None rest = rest
+rules_or (Some a) rest = rules_in (leaf_attribute_of a)
 
 abbrev IsKeyedSome : Option Attribute → Type 0
 IsKeyedSome None = Unit {0}
 IsKeyedSome (Some a) = IsKeyed a
 
-said_same : (o : Option (Bor Attribute)) → said_by o ≡ said_or (option_map (λ (a : Bor Attribute). a.now) o) None
-said_same None = refl
-said_same (Some a) = refl
+rules_same : (o : Option (Bor Attribute)) → rules_by o ≡ rules_or (option_map (λ (a : Bor Attribute). a.now) o) None
+rules_same None = refl
+rules_same (Some a) = refl
 
 keyed_same : (o : Option (Bor Attribute)) → IsKeyedSome (option_map (λ (a : Bor Attribute). a.now) o) → IsKeyedOption o
 keyed_same None h = h
@@ -102,7 +102,7 @@ keyed_same (Some a) h = h
 
 -- At each name is the first attribute so far that speaks of it, and others are left.
 pub record AreFirstsBefore (rules : List Rules) (found : Firsts) (left : List Attribute) : Type 0 where
-  pub said : (name : List ℕ) → said_or (attribute_at found name) (speaks_of (rules_left left) name) ≡ speaks_of rules name
+  pub rules_at : (name : List ℕ) → rules_or (attribute_at found name) (rules_named (rules_left left) name) ≡ rules_named rules name
   pub whole : (name : List ℕ) → IsKeyedSome (attribute_at found name)
   pub keyed : AreKeyed left
 
@@ -113,7 +113,7 @@ none_at found e name =
 pub firsts_begin : (ps : List Pair) (found : Firsts) (left : List Attribute) → found.entries ≡ [] → left ≡ firsts ps → AreKeyed left
     → AreFirstsBefore (arg_rules (map leaf_entry_of ps)) found left
 firsts_begin ps found left none is keyed = record {
-  said = λ name. ap (λ o. said_or o (speaks_of (rules_left left) name)) (none_at found none name) ∙ speaks_begins name ps left is;
+  rules_at = λ name. ap (λ o. rules_or o (rules_named (rules_left left) name)) (none_at found none name) ∙ speaks_begins name ps left is;
   whole = λ name. subst IsKeyedSome (sym (none_at found none name)) tt;
   keyed = keyed;
 }
@@ -121,29 +121,29 @@ firsts_begin ps found left none is keyed = record {
 pub firsts_end : (rules : List Rules) (found : Firsts) (left : List Attribute) → left ≡ [] → AreFirstsBefore rules found left → AreFirsts found rules
 unfolding AreFirsts
 firsts_end rules found left none h name = (
-  said_same (first_at found name) ∙ sym (ap (λ l. said_or (attribute_at found name) (speaks_of (rules_left l) name)) none) ∙ h.said name,
+  rules_same (first_at found name) ∙ sym (ap (λ l. rules_or (attribute_at found name) (rules_named (rules_left l) name)) none) ∙ h.rules_at name,
   keyed_same (first_at found name) (h.whole name),
 )
 
 module _ (rules : List Rules) (found : Firsts) (left : List Attribute) (a : Attribute) (rest : List Attribute) (is : left ≡ a ∷ rest)
     (so_far : AreFirstsBefore rules found left) where
   abbrev later : List ℕ → Option Rules
-  later name = speaks_of (rules_left rest) name
+  later name = rules_named (rules_left rest) name
 
-  abbrev put : (is_said : Bool) → Option Attribute
-  put is_said = cond is_said (Some a) None
+  abbrev put : (is_named : Bool) → Option Attribute
+  put is_named = cond is_named (Some a) None
 
   -- what it says comes before the rest
-  first_said : (name : List ℕ) (o : Option Attribute) → said_or (option_or o (put (is_of name (leaf_attribute_of a)))) (later name) ≡ said_or o (speaks_of (rules_left (a ∷ rest)) name)
-  first_said name (Some b) = refl
-  first_said name None = go (is_of name (leaf_attribute_of a)) refl
+  first_rules : (name : List ℕ) (o : Option Attribute) → rules_or (option_or o (put (is_of name (leaf_attribute_of a)))) (later name) ≡ rules_or o (rules_named (rules_left (a ∷ rest)) name)
+  first_rules name (Some b) = refl
+  first_rules name None = go (is_of name (leaf_attribute_of a)) refl
     where
-      go : (b : Bool) → is_of name (leaf_attribute_of a) ≡ b → said_or (put b) (later name) ≡ speaks_of (rules_left (a ∷ rest)) name
-      go true spoken = sym (speaks_here name a rest spoken)
-      go false spoken = sym (speaks_later name a rest spoken)
+      go : (b : Bool) → is_of name (leaf_attribute_of a) ≡ b → rules_or (put b) (later name) ≡ rules_named (rules_left (a ∷ rest)) name
+      go true named = sym (speaks_here name a rest named)
+      go false named = sym (speaks_later name a rest named)
 
-  first_keyed : (o : Option Attribute) (is_said : Bool) → IsKeyedSome o → IsKeyed a → IsKeyedSome (option_or o (put is_said))
-  first_keyed (Some b) is_said h k = h
+  first_keyed : (o : Option Attribute) (is_named : Bool) → IsKeyedSome o → IsKeyed a → IsKeyedSome (option_or o (put is_named))
+  first_keyed (Some b) is_named h k = h
   first_keyed None true h k = k
   first_keyed None false h k = tt
 
@@ -154,8 +154,8 @@ module _ (rules : List Rules) (found : Firsts) (left : List Attribute) (a : Attr
   pub firsts_go_on : (new : Firsts) → IsPut a found new → AreFirstsBefore rules new rest
   unfolding IsPut
   firsts_go_on new h = record {
-    said = λ name. ap (λ o. said_or o (later name)) (h name) ∙ first_said name (attribute_at found name)
-        ∙ ap (λ l. said_or (attribute_at found name) (speaks_of (rules_left l) name)) (sym is) ∙ so_far.said name;
+    rules_at = λ name. ap (λ o. rules_or o (later name)) (h name) ∙ first_rules name (attribute_at found name)
+        ∙ ap (λ l. rules_or (attribute_at found name) (rules_named (rules_left l) name)) (sym is) ∙ so_far.rules_at name;
     whole = λ name. subst IsKeyedSome (sym (h name)) (first_keyed (attribute_at found name) (is_of name (leaf_attribute_of a)) (so_far.whole name) keyed_here);
     keyed = keyed_rest left a rest is so_far.keyed;
   }
@@ -171,16 +171,16 @@ module _ (rules : List Rules) (found : Firsts) (are : AreFirsts found rules) whe
     abbrev among : Bool
     among = list_any (bytes_eq text) (texts_in names)
 
-    rules_are : (is : Bool) → among ≡ is → cond is None (speaks_of rules (lexeme_of name)) ≡ rules_for sees_leaves rules (map parameter_tree ps) (Named name None)
-    rules_are is h = ap (λ b. cond b None (speaks_of rules (lexeme_of name))) (sym (among_names ps names text name is named e h))
+    rules_are : (is : Bool) → among ≡ is → cond is None (rules_named rules (lexeme_of name)) ≡ rules_for views_leaves rules (map parameter_tree ps) (Named name None)
+    rules_are is h = ap (λ b. cond b None (rules_named rules (lexeme_of name))) (sym (among_names ps names text name is named e h))
 
     -- nothing is said of a name that was there before
-    pub named_before : among ≡ true → None ≡ rules_for sees_leaves rules (map parameter_tree ps) (Named name None)
+    pub named_before : among ≡ true → None ≡ rules_for views_leaves rules (map parameter_tree ps) (Named name None)
     named_before = rules_are true
 
     -- of another one, what the first attribute says that speaks of it
     pub named_first : among ≡ false → (other : List ℕ) → other ≡ lexeme_of name → (result : Option (Bor Attribute)) → result ≡ first_at found other
-        → said_by result ≡ rules_for sees_leaves rules (map parameter_tree ps) (Named name None)
+        → rules_by result ≡ rules_for views_leaves rules (map parameter_tree ps) (Named name None)
     unfolding AreFirsts
     named_first h other same result is =
-        ap said_by is ∙ (are other).0 ∙ ap (speaks_of rules) same ∙ rules_are false h
+        ap rules_by is ∙ (are other).0 ∙ ap (rules_named rules) same ∙ rules_are false h

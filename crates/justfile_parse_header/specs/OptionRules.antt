@@ -1,38 +1,38 @@
--- The options of a recipe in the steps in which they are checked, and the features that attributes note.
+-- The steps that check the options of a recipe, and the features that attributes use.
 use Rattle.std.specs.Prelude.{ℕ, Bool, List, [], ◌∷◌, ◌++◌, Option, Some, None, Ok, nat_eq}
 use Rattle.std.specs.List.{list_any}
 use Rattle.std.specs.Str.{bytes_eq}
-use Rattle.justfile_base.specs.declared.name.Name.{Name}
-use Rattle.justfile_base.specs.declared.token.Token.{Token}
+use Rattle.justfile_token.specs.declared.name.Name.{Name}
+use Rattle.justfile_token.specs.declared.token.Token.{Token}
 use Rattle.justfile_model.specs.AttributeRules.{rules_in}
 use Rattle.justfile_model.specs.Features.{Noted, rules_features}
 use Rattle.justfile_model.specs.HeaderReader.{obeying}
-use Rattle.justfile_model.specs.Reading.{◌>>=◌}
+use Rattle.justfile_model.specs.ReaderState.{◌>>=◌}
 use Rattle.justfile_model.specs.RecipeRules.{long_options, repeated_broken, short_options}
 use Rattle.justfile_model.specs.Rules.{Broken, DuplicateLongOption, DuplicateShortOption, Rule, broken_if}
 use Rattle.justfile_parse_expression.specs.TableReader.{Read, State}
 use Rattle.justfile_parse_header.specs.HeaderTable.{Rules}
 use Rattle.justfile_parse_header.specs.Options.{Meant, long_in, of_rules, short_in}
-use Rattle.justfile_tree.specs.LeafSight.{sees_leaves}
+use Rattle.justfile_expression.specs.LeafViews.{views_leaves}
 
--- what an attribute notes
+-- the features that an attribute uses
 abbrev pub features_in : Meant → List (Noted Token)
 features_in a = of_rules [] rules_features (rules_in a)
 
--- the place of a number that is there
+-- where a number is recorded, if it is set
 abbrev pub bound_place_in : (name : Token) (key : Option Name) (number : Option ℕ) → Option Token
 bound_place_in name key None = None
 bound_place_in name (Some key) (Some number) = Some key.token
 bound_place_in name None (Some number) = Some name
 
--- the long options that are called as one before them
+-- the rules that long options break whose name is taken
 abbrev pub longs_from : (recipe : Token) (before : List (List ℕ)) → List Rules → List (Broken Token)
-longs_from recipe before rules = repeated_broken bytes_eq (λ option. DuplicateLongOption option recipe) before (long_options sees_leaves rules)
+longs_from recipe before rules = repeated_broken bytes_eq (λ option. DuplicateLongOption option recipe) before (long_options views_leaves rules)
 
 abbrev pub shorts_from : (recipe : Token) (before : List ℕ) → List Rules → List (Broken Token)
-shorts_from recipe before rules = repeated_broken nat_eq (λ option. DuplicateShortOption option recipe) before (short_options sees_leaves rules)
+shorts_from recipe before rules = repeated_broken nat_eq (λ option. DuplicateShortOption option recipe) before (short_options views_leaves rules)
 
--- an option after others, which it may not repeat
+-- adds an option to those before it, which it may not repeat
 module _ {X : Type 0} (same : X → X → Bool) (rule : X → Rule Token) where
   abbrev pub option_step : (before : List X) → Option (X × Token) → State → Read (List X)
   option_step before None s = Ok (before, s)
@@ -40,11 +40,11 @@ module _ {X : Type 0} (same : X → X → Bool) (rule : X → Rule Token) where
     new ← obeying (broken_if (list_any (same option.0) before) (rule option.0) option.1) s
     Ok (before ++ option.0 ∷ [], new.1)
 
--- the long option of an attribute after those of others
+-- adds the long option of an attribute to those of others
 unfoldable pub long_step : (recipe : Token) (before : List (List ℕ)) → Meant → State → Read (List (List ℕ))
 long_step recipe before a s = option_step bytes_eq (λ option. DuplicateLongOption option recipe) before (long_in a) s
 
--- its short option
+-- adds the short option of an attribute to those of others
 unfoldable pub short_step : (recipe : Token) (before : List ℕ) → Meant → State → Read (List ℕ)
 short_step recipe before a s = option_step nat_eq (λ option. DuplicateShortOption option recipe) before (short_in a) s
 

@@ -1,24 +1,24 @@
--- All that the parser's trees hold of headers, without the places of boxes.
+-- The trees of headers, with all that the parser's trees hold except where boxes are.
 use Rattle.std.specs.Prelude.{List, map, take, drop, Option, Some, None}
 use Rattle.std.specs.Global.{Box}
 use Rattle.std.specs.Option.{option_map}
 use Rattle.justfile_attribute_set.specs.AttributeSet.{AttributeSet, leaf_entries_of}
-use Rattle.justfile_base.specs.Namepath.{names_in}
-use Rattle.justfile_base.specs.declared.name.Name.{Name}
-use Rattle.justfile_base.specs.declared.namepath.Namepath.{Namepath}
-use Rattle.justfile_base.specs.declared.token.Token.{Token}
-use Rattle.justfile_header.specs.declared.unresolved_dependency.DependencyArgument as header_arguments
-use Rattle.justfile_header.specs.Header.{is_starred, star_of}
-use Rattle.justfile_header.specs.declared.unresolved_dependency.UnresolvedDependency.{UnresolvedDependency}
-use Rattle.justfile_header.specs.declared.parameter.Parameter as header_parameters
+use Rattle.justfile_token.specs.Namepath.{names_in}
+use Rattle.justfile_token.specs.declared.name.Name.{Name}
+use Rattle.justfile_token.specs.declared.namepath.Namepath.{Namepath}
+use Rattle.justfile_token.specs.declared.token.Token.{Token}
+use Rattle.justfile_recipe_header.specs.declared.unresolved_dependency.DependencyArgument as header_arguments
+use Rattle.justfile_recipe_header.specs.Header.{is_starred, star_of}
+use Rattle.justfile_recipe_header.specs.declared.unresolved_dependency.UnresolvedDependency.{UnresolvedDependency}
+use Rattle.justfile_recipe_header.specs.declared.parameter.Parameter as header_parameters
 use Rattle.justfile_model.specs.AttributeRules.{arg_rules}
 use Rattle.justfile_model.specs.Tree as tree
 use Rattle.justfile_model.specs.Tree.{Expr}
 use Rattle.justfile_parse_header.specs.HeaderTable as reader
 use Rattle.justfile_parse_header.specs.declared.dependency.ReadArgument.{ReadArgument}
 use Rattle.justfile_parse_header.specs.declared.header.Header.{Header}
-use Rattle.justfile_tree.specs.LeafTree.{Leaf, Named, leaf_tree_of}
-use Rattle.justfile_tree.specs.declared.expression.Expression.{Expression}
+use Rattle.justfile_expression.specs.LeafTree.{Leaf, Named, leaf_tree_of}
+use Rattle.justfile_expression.specs.declared.expression.Expression.{Expression}
 
 -- a name of a path
 abbrev pub name_tree : Name → Leaf
@@ -34,7 +34,7 @@ value_tree value = option_map (λ (e : Box Expression). leaf_tree_of e.value) va
 
 -- ---- dependencies
 
--- an argument with its star, as it is read
+-- an argument with its star, while the arguments are read
 abbrev pub read_argument : ReadArgument → reader.StarredArgument
 read_argument a = record { star = a.star; value = leaf_tree_of a.value.value }
 
@@ -53,13 +53,13 @@ parameter_name p = Named p.name.token (Some p.number)
 abbrev pub parameter_tree : header_parameters.Parameter → reader.LeafParameter
 parameter_tree p = record { kind = p.kind; export = p.export; name = parameter_name p; default = value_tree p.default }
 
--- what a construct's attributes say of parameters
+-- what a construct's `arg` attributes set for parameters
 abbrev pub rules_of : AttributeSet → List reader.Rules
 rules_of attributes = arg_rules (leaf_entries_of attributes)
 
 -- ---- headers
 
--- a header: of its dependencies so many stand before `&&`
+-- a header, its dependencies split into those before `&&` and those after it
 abbrev pub header_tree : Header → reader.ReadHeader
 header_tree h = record {
   name = h.name;

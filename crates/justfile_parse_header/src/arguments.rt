@@ -1,75 +1,76 @@
-//! Of which parameter an `arg` attribute speaks.
+//! The parameters that `arg` attributes belong to.
 ghost use Rattle.std.specs.Prelude.{◌≡◌, IfOk, List, None, map, string_bytes};
 ghost use Rattle.std.specs.Option.{option_map};
 ghost use Rattle.justfile_attribute.specs.Attribute.{leaf_attribute_of};
-ghost use Rattle.justfile_attribute_rules.specs.Made.{IsRefusedBy, quoted_leaf};
-ghost use Rattle.justfile_model.specs.HeaderReader.{obeying};
-ghost use Rattle.justfile_model.specs.NewAttribute as new;
+ghost use Rattle.justfile_attribute_rules.specs.Made.{IsFaultOfRule, quoted_leaf};
 ghost use Rattle.justfile_model.specs.RecipeRules.{rules_for};
 ghost use Rattle.justfile_model.specs.Rules.{UndefinedArgAttribute};
-ghost use Rattle.justfile_parse_attribute.specs.Halting.{ReadsRuled};
-ghost use Rattle.justfile_parse_expression.specs.TableReader.{State};
+ghost use Rattle.justfile_parse_attribute.specs.ParseErrors.{ChecksRules};
 ghost use Rattle.justfile_parse_header.specs.HeaderTable as reader;
 ghost use Rattle.justfile_parse_header.specs.HeaderTable.{LeafParameter};
-ghost use Rattle.justfile_parse_header.specs.Arguments.{AreNames, IsKeyedOption, least_undefined, lesser_of, said_by, undefined_in};
-ghost use Rattle.justfile_parse_header.specs.SpokenNames.{AreFirsts};
+ghost use Rattle.justfile_parse_header.specs.Arguments.{AreNames, IsKeyedOption, least_undefined, lesser_of, rules_by, undefined_in};
+ghost use Rattle.justfile_parse_header.specs.ArgNames.{AreFirsts};
 ghost use Rattle.justfile_parse_header.specs.Tree.{parameter_tree, rules_of};
-ghost use Rattle.justfile_tree.specs.LeafSight.{sees_leaves};
-ghost use Rattle.justfile_tree.specs.LeafTree.{Named};
+ghost use Rattle.justfile_expression.specs.LeafViews.{views_leaves};
+ghost use Rattle.justfile_expression.specs.LeafTree.{Named};
 
+use crate::arg_names::{ArgRules, find_first};
 use crate::read_parameters::ReadParameters;
-use crate::spoken_names::{Spoken, find_first};
 use justfile_attribute::Attribute;
 use justfile_attribute_set::AttributeSet;
-use justfile_base::{CompileErrorKind, Fault, StringLiteral, Token};
-use justfile_header::Parameter;
 use justfile_parse_attribute::text_sets::{add_text, is_among};
-use justfile_parse_attribute::{Halt, make_halt};
+use justfile_parse_attribute::{ParseError, rule_error};
+use justfile_recipe_header::Parameter;
+use justfile_token::{CompileErrorKind, Fault, StringLiteral, Token};
 use std::alloc::{AllocError, Global};
 use std::collections::BTreeSet;
 
-/// What attributes say of a parameter of this name that stands after others: the first one of its
-/// name is spoken of.
+/// Returns the `arg` attribute of the parameter with this name, if it has one. It belongs to the
+/// first parameter with its name, so a parameter that repeats a name from `before` has none.
 pub(crate) fn find_rules<'run, 'src>(
-    spoken: &Spoken<'run, 'src>,
+    arg_attributes: &ArgRules<'run, 'src>,
     before: &ReadParameters<'src>,
     name: Token<'src>,
 ) -> Option<&'run Attribute<'src>>
-    requires { AreFirsts spoken.now.firsts (rules_of spoken.now.attributes.now) }
-    ensures rules { said_by result ≡ rules_for sees_leaves (rules_of spoken.now.attributes.now)
+    requires { AreFirsts arg_attributes.now.firsts (rules_of arg_attributes.now.attributes.now) }
+    ensures rules { rules_by result
+        ≡ rules_for views_leaves (rules_of arg_attributes.now.attributes.now)
         (map parameter_tree before.now.list.items) (Named name.entry None) }
     ensures keyed { IsKeyedOption result }
 {
     if is_among(&before.names, name.lexeme()) {
         return None;
     }
-    find_first(&spoken.firsts, name.lexeme())
+    find_first(&arg_attributes.firsts, name.lexeme())
 }
 
-/// Refuses attributes that speak of no parameter: of their arguments the one with the least text.
+/// Refuses `arg` attributes that name no parameter. The error is about the one whose name is the
+/// least as text.
 #[tactic(auto, using(crate::proofs::Undefined::is_defined, crate::proofs::Undefined::is_undefined))]
 pub(crate) fn check_defined<'src>(
     attributes: &AttributeSet<'src>,
     alloc: Global,
     parameters: &[Parameter<'src>],
-) -> Result<(), Halt<'src>>
-    ensures { (s : State) → ReadsRuled (λ _. tt) result s (obeying (reader.undefined (map parameter_tree parameters.now) (rules_of attributes.now)) s) }
+) -> Result<(), ParseError<'src>>
+    ensures { ChecksRules (reader.undefined (map parameter_tree parameters.now)
+        (rules_of attributes.now)) result }
 {
     match find_undefined(attributes, alloc, parameters)? {
         None => Ok(()),
-        Some(argument) => Err(make_halt(alloc, undefined_argument(alloc, argument))),
+        Some(argument) => Err(rule_error(alloc, undefined_argument_error(alloc, argument))),
     }
 }
 
-/// Of the arguments that attributes speak of and that are no parameters, the one with the least
-/// text, the first of these.
+/// Returns the name in an `arg` attribute that names no parameter. If there are several, returns
+/// the least as text, and the first of equal ones.
 #[tactic(auto, using(crate::proofs::Least::begins, crate::proofs::Least::goes_on, crate::proofs::Least::ends))]
 fn find_undefined<'run, 'src>(
     attributes: &'run AttributeSet<'src>,
     alloc: Global,
     parameters: &[Parameter<'src>],
 ) -> Result<Option<&'run StringLiteral<'src>>, AllocError>
-    ensures { IfOk result (λ found. option_map (λ l. quoted_leaf l.now) found ≡ least_undefined (map parameter_tree parameters.now) (rules_of attributes.now)) }
+    ensures { IfOk result (λ found. option_map (λ l. quoted_leaf l.now) found
+        ≡ least_undefined (map parameter_tree parameters.now) (rules_of attributes.now)) }
 {
     let names = parameter_names(alloc, parameters)?;
     let mut found: Option<&'run StringLiteral<'src>> = None;
@@ -78,11 +79,11 @@ fn find_undefined<'run, 'src>(
         let Some(attribute) = left.next() else {
             return Ok(found);
         };
-        found = lesser(found, undefined(attribute, &names));
+        found = min_by_text(found, undefined_parameter(attribute, &names));
     }
 }
 
-/// The names of parameters.
+/// Returns the set of the parameters' names.
 #[tactic(auto, using(crate::proofs::Texts::no_names, crate::proofs::Texts::one_name))]
 fn parameter_names<'src>(
     alloc: Global,
@@ -97,14 +98,15 @@ fn parameter_names<'src>(
     Ok(names)
 }
 
-/// The argument that an attribute speaks of, if it is none of these names of parameters.
+/// Returns the name in an `arg` attribute, if it isn't one of these names of parameters.
 #[tactic(auto, using(crate::proofs::Texts::outside))]
-fn undefined<'run, 'src>(
+fn undefined_parameter<'run, 'src>(
     attribute: &'run Attribute<'src>,
     names: &BTreeSet<&str>,
 ) -> Option<&'run StringLiteral<'src>>
     ensures { (parameters : List LeafParameter) → AreNames parameters names.now
-        → option_map (λ l. quoted_leaf l.now) result ≡ undefined_in parameters (leaf_attribute_of attribute.now) }
+        → option_map (λ l. quoted_leaf l.now) result
+        ≡ undefined_in parameters (leaf_attribute_of attribute.now) }
 {
     match attribute {
         Attribute::Arg { name, .. } => {
@@ -118,13 +120,14 @@ fn undefined<'run, 'src>(
     }
 }
 
-/// The one with the lesser text, the first of them where both have the same.
-fn lesser<'run, 'src>(
+/// Returns the literal with the lesser text, or the first if the texts are equal.
+fn min_by_text<'run, 'src>(
     first: Option<&'run StringLiteral<'src>>,
     second: Option<&'run StringLiteral<'src>>,
 ) -> Option<&'run StringLiteral<'src>>
     ensures { option_map (λ l. quoted_leaf l.now) result
-        ≡ lesser_of (option_map (λ l. quoted_leaf l.now) first.entry) (option_map (λ l. quoted_leaf l.now) second.entry) }
+        ≡ lesser_of (option_map (λ l. quoted_leaf l.now) first.entry)
+        (option_map (λ l. quoted_leaf l.now) second.entry) }
 {
     let Some(literal) = first else {
         return second;
@@ -139,9 +142,10 @@ fn lesser<'run, 'src>(
     }
 }
 
-/// The refusal of what is said of an argument that a recipe doesn't take.
-fn undefined_argument<'src>(alloc: Global, argument: &StringLiteral<'src>) -> Fault<'src>
-    ensures { IsRefusedBy (new.refuse {X = Unit {0}} (UndefinedArgAttribute (string_bytes argument.now.cooked)) argument.now.token) result }
+/// Makes the fault for an `arg` attribute that names no parameter.
+fn undefined_argument_error<'src>(alloc: Global, argument: &StringLiteral<'src>) -> Fault<'src>
+    ensures { IsFaultOfRule (UndefinedArgAttribute (string_bytes argument.now.cooked))
+        argument.now.token result }
 {
     match argument.cooked.as_str().to_string(alloc) {
         Ok(text) => Fault::Compile(

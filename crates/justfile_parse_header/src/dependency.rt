@@ -1,43 +1,67 @@
 //! The dependencies of a recipe.
 ghost use Rattle.std.specs.Prelude.{◌≡◌, false, ◌<◌, ◌≤◌, ◌∷◌, ◌++◌, [], OnOk, IfOk, map};
-ghost use Rattle.justfile_model.specs.HeaderReader.{obeying};
 ghost use Rattle.justfile_model.specs.Meaning.{first_of};
-ghost use Rattle.justfile_model.specs.Reading.{prepend};
+ghost use Rattle.justfile_model.specs.ReaderState.{prepend};
 ghost use Rattle.justfile_model.specs.RecipeRules.{stars};
 ghost use Rattle.justfile_model.specs.Tree.{over_dependency_argument};
-ghost use Rattle.justfile_parse_attribute.specs.Halting.{ReadsRuled};
-ghost use Rattle.justfile_parse_expression.specs.MethodResults.{Reads};
-ghost use Rattle.justfile_parse_expression.specs.TableReader.{State, leaves};
-ghost use Rattle.justfile_parse_expression.specs.View.{left, state_of};
+ghost use Rattle.justfile_parse_attribute.specs.ParseErrors.{ParsesRuled, ChecksRules};
+ghost use Rattle.justfile_parse_expression.specs.ParsedResults.{Parses};
+ghost use Rattle.justfile_parse_expression.specs.TableReader.{leaves};
+ghost use Rattle.justfile_parse_expression.specs.View.{tokens_left, state_of};
 ghost use Rattle.justfile_parse_header.specs.HeaderTable as reader;
 ghost use Rattle.justfile_parse_header.specs.Tree.{argument_tree, dependency_tree, read_argument};
 
 use crate::namepath::parse_namepath;
-use justfile_base::{CompileErrorKind, Expander, Fault, TokenKind};
-use justfile_header::{DependencyArgument, UnresolvedDependency};
-use justfile_parse_attribute::{Halt, make_halt};
+use justfile_expression::Expression;
+use justfile_parse_attribute::{ParseError, rule_error};
 use justfile_parse_expression::significant::TableEntry;
-use justfile_parse_expression::{ExpressionParser, Refusal, Stop};
-use justfile_tree::Expression;
+use justfile_parse_expression::{ExpressionError, ExpressionParser, SyntaxError};
+use justfile_recipe_header::{DependencyArgument, UnresolvedDependency};
+use justfile_token::{CompileErrorKind, Expander, Fault};
+use justfile_vocabulary::TokenKind;
 use std::alloc::{AllocError, Global};
 
-/// An argument of a dependency while the arguments are read.
+/// An argument of a dependency while the arguments are parsed.
 #[derive(Drop)]
 pub(crate) struct ReadArgument<'run, 'src> {
-    /// The star before it, if one is there.
+    /// The star before it, if there is one.
     pub(crate) star: Option<TableEntry<'run, 'src>>,
     pub(crate) value: Box<Expression<'src>>,
 }
 
-/// The dependencies up to what begins none, after those before them.
+/// Parses `&&` and the dependencies after it, at least one, if `&&` comes next. Appends them to
+/// `dependencies`.
+#[tactic(auto, using(crate::proofs::Dependencies::subsequents_none))]
+pub(crate) fn parse_subsequents<'src, X: Expander>(
+    parser: &mut ExpressionParser<'_, 'src, X>,
+    dependencies: &mut Vec<UnresolvedDependency<'src>>,
+) -> Result<(), ParseError<'src>>
+    ensures reads { ParsesRuled X.answer
+        (λ _. map dependency_tree dependencies.new.items) result parser.old parser.new
+        (λ s. prepend (map dependency_tree dependencies.old.items) (reader.subsequents s)) }
+    ensures progress { OnOk result (tokens_left parser.new ≤ tokens_left parser.old) }
+{
+    let Some(_operator) = parser.accept(TokenKind::AmpersandAmpersand) else {
+        return Ok(());
+    };
+    let priors = dependencies.len();
+    parse_dependencies(parser, dependencies)?;
+    if dependencies.len() == priors {
+        return Err(ParseError::Unreadable(ExpressionError::Refused(SyntaxError::Unexpected)));
+    }
+    Ok(())
+}
+
+/// Parses dependencies up to a token that doesn't begin one, and appends them to `dependencies`.
 #[tactic(auto, using(crate::proofs::Dependencies::dependencies_end, crate::proofs::Dependencies::dependencies_go_on))]
 pub(crate) fn parse_dependencies<'src, X: Expander>(
     parser: &mut ExpressionParser<'_, 'src, X>,
     dependencies: &mut Vec<UnresolvedDependency<'src>>,
-) -> Result<(), Halt<'src>>
-    ensures reads { ReadsRuled (λ _. map dependency_tree dependencies.new.items) result (state_of X.answer parser.new)
-        (prepend (map dependency_tree dependencies.old.items) (reader.dependencies (state_of X.answer parser.old))) }
-    ensures progress { OnOk result (left parser.new ≤ left parser.old) }
+) -> Result<(), ParseError<'src>>
+    ensures reads { ParsesRuled X.answer
+        (λ _. map dependency_tree dependencies.new.items) result parser.old parser.new
+        (λ s. prepend (map dependency_tree dependencies.old.items) (reader.dependencies s)) }
+    ensures progress { OnOk result (tokens_left parser.new ≤ tokens_left parser.old) }
 {
     'dependencies: loop {
         if !begins_dependency(parser) {
@@ -46,27 +70,6 @@ pub(crate) fn parse_dependencies<'src, X: Expander>(
         let dependency = parse_dependency(parser)?;
         dependencies.push(dependency)?;
     }
-}
-
-/// The dependencies after `&&`, one at least, if it comes next. They are added to those before it.
-#[tactic(auto, using(crate::proofs::Dependencies::subsequents_none))]
-pub(crate) fn parse_subsequents<'src, X: Expander>(
-    parser: &mut ExpressionParser<'_, 'src, X>,
-    dependencies: &mut Vec<UnresolvedDependency<'src>>,
-) -> Result<(), Halt<'src>>
-    ensures reads { ReadsRuled (λ _. map dependency_tree dependencies.new.items) result (state_of X.answer parser.new)
-        (prepend (map dependency_tree dependencies.old.items) (reader.subsequents (state_of X.answer parser.old))) }
-    ensures progress { OnOk result (left parser.new ≤ left parser.old) }
-{
-    let Some(_operator) = parser.accept(TokenKind::AmpersandAmpersand) else {
-        return Ok(());
-    };
-    let priors = dependencies.len();
-    parse_dependencies(parser, dependencies)?;
-    if dependencies.len() == priors {
-        return Err(Halt::Stopped(Stop::Refused(Refusal::Unexpected)));
-    }
-    Ok(())
 }
 
 /// Whether a dependency begins with the next token.
@@ -78,13 +81,15 @@ fn begins_dependency<X: Expander>(parser: &ExpressionParser<'_, '_, X>) -> bool
         || parser.peek_kinds(&[TokenKind::ParenL])
 }
 
-/// A path alone, or with arguments in parentheses, with a star before them or not.
+/// Parses a dependency: a path, or a path and its arguments in parentheses, which a star may
+/// precede.
 #[tactic(auto, using(justfile_parse_attribute::proofs::AttributeSteps::broken_first), unfolding(justfile_model::specs::HeaderReader::dependency))]
 fn parse_dependency<'src, X: Expander>(
     parser: &mut ExpressionParser<'_, 'src, X>,
-) -> Result<UnresolvedDependency<'src>, Halt<'src>>
-    ensures reads { ReadsRuled dependency_tree result (state_of X.answer parser.new) (reader.dependency (state_of X.answer parser.old)) }
-    ensures progress { OnOk result (left parser.new < left parser.old) }
+) -> Result<UnresolvedDependency<'src>, ParseError<'src>>
+    ensures reads { ParsesRuled X.answer dependency_tree result parser.old parser.new
+        reader.dependency }
+    ensures progress { OnOk result (tokens_left parser.new < tokens_left parser.old) }
 {
     if parser.peek_kinds(&[TokenKind::Identifier]) {
         return Ok(parse_bare(parser)?);
@@ -95,13 +100,14 @@ fn parse_dependency<'src, X: Expander>(
     }
 }
 
-/// A path alone.
+/// Parses a dependency without arguments.
 #[tactic(auto, unfolding(justfile_model::specs::HeaderReader::bare_dependency))]
 fn parse_bare<'src, X: Expander>(
     parser: &mut ExpressionParser<'_, 'src, X>,
-) -> Result<UnresolvedDependency<'src>, Stop<'src>>
-    ensures reads { Reads dependency_tree result (state_of X.answer parser.new) (reader.bare_dependency (state_of X.answer parser.old)) }
-    ensures progress { OnOk result (left parser.new < left parser.old) }
+) -> Result<UnresolvedDependency<'src>, ExpressionError<'src>>
+    ensures reads { Parses X.answer dependency_tree result parser.old parser.new
+        reader.bare_dependency }
+    ensures progress { OnOk result (tokens_left parser.new < tokens_left parser.old) }
 {
     let recipe = parse_namepath(parser)?;
     Ok(UnresolvedDependency {
@@ -110,14 +116,15 @@ fn parse_bare<'src, X: Expander>(
     })
 }
 
-/// A path and arguments in parentheses, after a star or not.
+/// Parses a path and its arguments in parentheses, after the star before them, if there is one.
 #[tactic(auto, using(justfile_parse_attribute::proofs::AttributeSteps::broken_first), unfolding(justfile_model::specs::HeaderReader::parenthesized))]
 fn parse_parenthesized<'run, 'src, X: Expander>(
     parser: &mut ExpressionParser<'run, 'src, X>,
     star: Option<TableEntry<'run, 'src>>,
-) -> Result<UnresolvedDependency<'src>, Halt<'src>>
-    ensures reads { ReadsRuled dependency_tree result (state_of X.answer parser.new) (reader.parenthesized star.entry (state_of X.answer parser.old)) }
-    ensures progress { OnOk result (left parser.new < left parser.old) }
+) -> Result<UnresolvedDependency<'src>, ParseError<'src>>
+    ensures reads { ParsesRuled X.answer dependency_tree result parser.old parser.new
+        (reader.parenthesized star.entry) }
+    ensures progress { OnOk result (tokens_left parser.new < tokens_left parser.old) }
 {
     parser.expect(TokenKind::ParenL)?;
     let recipe = parse_namepath(parser)?;
@@ -127,14 +134,14 @@ fn parse_parenthesized<'run, 'src, X: Expander>(
     Ok(UnresolvedDependency { arguments, recipe })
 }
 
-/// Arguments side by side, up to the closing parenthesis and with it.
+/// Parses arguments, which nothing separates, and the closing parenthesis.
 #[tactic(auto, using(crate::proofs::Dependencies::arguments_end, crate::proofs::Dependencies::arguments_go_on))]
 fn parse_arguments<'run, 'src, X: Expander>(
     parser: &mut ExpressionParser<'run, 'src, X>,
-) -> Result<Vec<ReadArgument<'run, 'src>>, Halt<'src>>
-    ensures reads { ReadsRuled (λ arguments. map read_argument arguments.items) result (state_of X.answer parser.new)
-        (reader.dependency_arguments ([], state_of X.answer parser.old)) }
-    ensures progress { OnOk result (left parser.new < left parser.old) }
+) -> Result<Vec<ReadArgument<'run, 'src>>, ParseError<'src>>
+    ensures reads { ParsesRuled X.answer (λ arguments. map read_argument arguments.items) result
+        parser.old parser.new (λ s. reader.dependency_arguments ([], s)) }
+    ensures progress { OnOk result (tokens_left parser.new < tokens_left parser.old) }
 {
     let mut arguments = Vec::new(parser.alloc);
     'arguments: loop {
@@ -146,15 +153,15 @@ fn parse_arguments<'run, 'src, X: Expander>(
     }
 }
 
-/// An argument after others, with a star before it or not.
+/// Parses an argument with or without a star, after those in `before`.
 #[tactic(auto, unfolding(justfile_model::specs::HeaderReader::dependency_argument))]
 fn parse_argument<'run, 'src, X: Expander>(
     parser: &mut ExpressionParser<'run, 'src, X>,
     before: &[ReadArgument<'run, 'src>],
-) -> Result<ReadArgument<'run, 'src>, Halt<'src>>
-    ensures reads { ReadsRuled read_argument result (state_of X.answer parser.new)
-        (reader.dependency_argument (map read_argument before.now) (state_of X.answer parser.old)) }
-    ensures progress { OnOk result (left parser.new < left parser.old) }
+) -> Result<ReadArgument<'run, 'src>, ParseError<'src>>
+    ensures reads { ParsesRuled X.answer read_argument result parser.old parser.new
+        (reader.dependency_argument (map read_argument before.now)) }
+    ensures progress { OnOk result (tokens_left parser.new < tokens_left parser.old) }
 {
     match parser.accept(TokenKind::Asterisk) {
         Some(star) => parse_starred(parser, before, star),
@@ -162,28 +169,29 @@ fn parse_argument<'run, 'src, X: Expander>(
     }
 }
 
-/// An argument without a star.
+/// Parses an argument without a star.
 #[tactic(auto, unfolding(justfile_model::specs::HeaderReader::plain_argument))]
 fn parse_plain<'run, 'src, X: Expander>(
     parser: &mut ExpressionParser<'run, 'src, X>,
-) -> Result<ReadArgument<'run, 'src>, Stop<'src>>
-    ensures reads { Reads read_argument result (state_of X.answer parser.new) (reader.plain_argument (state_of X.answer parser.old)) }
-    ensures progress { OnOk result (left parser.new < left parser.old) }
+) -> Result<ReadArgument<'run, 'src>, ExpressionError<'src>>
+    ensures reads { Parses X.answer read_argument result parser.old parser.new
+        reader.plain_argument }
+    ensures progress { OnOk result (tokens_left parser.new < tokens_left parser.old) }
 {
     let value = parser.parse_expression()?;
     Ok(ReadArgument { star: None, value })
 }
 
-/// An argument after its star, and after others. A second star is refused.
+/// Parses an argument after its star. Refuses the star if it is the second.
 #[tactic(auto, using(justfile_parse_attribute::proofs::AttributeSteps::broken_first), unfolding(justfile_model::specs::HeaderReader::starred_argument))]
 fn parse_starred<'run, 'src, X: Expander>(
     parser: &mut ExpressionParser<'run, 'src, X>,
     before: &[ReadArgument<'run, 'src>],
     star: TableEntry<'run, 'src>,
-) -> Result<ReadArgument<'run, 'src>, Halt<'src>>
-    ensures reads { ReadsRuled read_argument result (state_of X.answer parser.new)
-        (reader.starred_argument (map read_argument before.now) star.entry (state_of X.answer parser.old)) }
-    ensures progress { OnOk result (left parser.new < left parser.old) }
+) -> Result<ReadArgument<'run, 'src>, ParseError<'src>>
+    ensures reads { ParsesRuled X.answer read_argument result parser.old parser.new
+        (reader.starred_argument (map read_argument before.now) star.entry) }
+    ensures progress { OnOk result (tokens_left parser.new < tokens_left parser.old) }
 {
     check_first(parser.alloc, before, star)?;
     let value = parser.parse_value()?;
@@ -193,17 +201,17 @@ fn parse_starred<'run, 'src, X: Expander>(
     })
 }
 
-/// Refuses a star after another one.
+/// Refuses a star that isn't the first.
 fn check_first<'run, 'src>(
     alloc: Global,
     before: &[ReadArgument<'run, 'src>],
     star: TableEntry<'run, 'src>,
-) -> Result<(), Halt<'src>>
-    ensures { (s : State) → ReadsRuled (λ _. tt) result s (obeying (reader.second_star (map read_argument before.now) star.entry) s) }
+) -> Result<(), ParseError<'src>>
+    ensures { ChecksRules (reader.second_star (map read_argument before.now) star.entry) result }
 {
     match find_second(before, star) {
         None => Ok(()),
-        Some(second) => Err(make_halt(
+        Some(second) => Err(rule_error(
             alloc,
             Fault::Compile(
                 second
@@ -214,13 +222,14 @@ fn check_first<'run, 'src>(
     }
 }
 
-/// The second star, where this one stands after the arguments.
+/// Returns the second star, if the arguments and then `star` have one.
 #[tactic(auto, using(crate::proofs::Stars::second_later, crate::proofs::Stars::second_begins, crate::proofs::Stars::second_here, crate::proofs::Stars::second_end))]
 fn find_second<'run, 'src>(
     before: &[ReadArgument<'run, 'src>],
     star: TableEntry<'run, 'src>,
 ) -> Option<TableEntry<'run, 'src>>
-    ensures { result ≡ reader.second_from false (stars (map read_argument before.now) ++ star.entry ∷ []) }
+    ensures { result
+        ≡ reader.second_from false (stars (map read_argument before.now) ++ star.entry ∷ []) }
 {
     let mut found = false;
     for argument in before {
@@ -234,16 +243,18 @@ fn find_second<'run, 'src>(
     found.then_some(star)
 }
 
-/// Refuses a star before the parentheses without one in them, and one in them without one before.
+/// Refuses a star before the parentheses without a star in them, and a star in them without one
+/// before.
 fn check_stars<'run, 'src>(
     alloc: Global,
     star: Option<TableEntry<'run, 'src>>,
     arguments: &[ReadArgument<'run, 'src>],
-) -> Result<(), Halt<'src>>
-    ensures { (s : State) → ReadsRuled (λ _. tt) result s (obeying (reader.misplaced_star star.entry (map read_argument arguments.now)) s) }
+) -> Result<(), ParseError<'src>>
+    ensures { ChecksRules (reader.misplaced_star star.entry (map read_argument arguments.now))
+        result }
 {
     match (star, find_star(arguments)) {
-        (None, Some(first)) => Err(make_halt(
+        (None, Some(first)) => Err(rule_error(
             alloc,
             Fault::Compile(
                 first
@@ -251,7 +262,7 @@ fn check_stars<'run, 'src>(
                     .error(CompileErrorKind::StarredArgumentOutsideMappedDependency),
             ),
         )),
-        (Some(star), None) => Err(make_halt(
+        (Some(star), None) => Err(rule_error(
             alloc,
             Fault::Compile(
                 star.token
@@ -262,7 +273,7 @@ fn check_stars<'run, 'src>(
     }
 }
 
-/// The star of the first argument that has one.
+/// Returns the star of the first argument that has one.
 #[tactic(auto, using(crate::proofs::Stars::first_later, crate::proofs::Stars::first_here, crate::proofs::Stars::first_end))]
 fn find_star<'run, 'src>(arguments: &[ReadArgument<'run, 'src>]) -> Option<TableEntry<'run, 'src>>
     ensures { result ≡ first_of (stars (map read_argument arguments.now)) }
@@ -275,13 +286,14 @@ fn find_star<'run, 'src>(arguments: &[ReadArgument<'run, 'src>]) -> Option<Table
     None
 }
 
-/// What is kept of arguments.
+/// Turns parsed arguments into those of the tree.
 fn keep_arguments<'src>(
     alloc: Global,
     arguments: Vec<ReadArgument<'_, 'src>>,
 ) -> Result<Vec<DependencyArgument<'src>>, AllocError>
     ensures { IfOk result (λ kept. map argument_tree kept.items
-        ≡ map (over_dependency_argument (λ x. x) (λ x. x) leaves.star) (map read_argument arguments.entry.items)) }
+        ≡ map (over_dependency_argument (λ x. x) (λ x. x) leaves.star)
+        (map read_argument arguments.entry.items)) }
 {
     let mut kept = Vec::new(alloc);
     for argument in arguments {

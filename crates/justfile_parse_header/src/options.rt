@@ -1,43 +1,43 @@
-//! The options of a recipe, and what attributes say of parameters that needs the setting for lists.
+//! The options of a recipe, and the uses of its `arg` attributes that need the setting `lists`.
 ghost use Rattle.std.specs.Prelude.{◌≡◌, [], OnOk};
 ghost use Rattle.std.specs.List.{flat_map};
 ghost use Rattle.justfile_attribute.specs.Attribute.{leaf_attribute_of};
-ghost use Rattle.justfile_attribute_rules.specs.Made.{IsRefusedBy};
+ghost use Rattle.justfile_attribute_rules.specs.Made.{IsFaultOfRule};
 ghost use Rattle.justfile_model.specs.Features.{noted_at, rules_features};
-ghost use Rattle.justfile_model.specs.HeaderReader.{obeying};
 ghost use Rattle.justfile_model.specs.NewAttribute as new;
-ghost use Rattle.justfile_model.specs.Reading.{with};
+ghost use Rattle.justfile_model.specs.ReaderState.{with};
 ghost use Rattle.justfile_model.specs.Rules.{DuplicateLongOption, DuplicateShortOption};
-ghost use Rattle.justfile_parse_attribute.specs.Halting.{ReadsRuled};
+ghost use Rattle.justfile_parse_attribute.specs.ParseErrors.{ReadsRuled, ChecksRules};
 ghost use Rattle.justfile_parse_attribute.specs.TextSets.{HaveSame, texts_in};
 ghost use Rattle.justfile_parse_expression.specs.MethodResults.{UnlessMemory};
 ghost use Rattle.justfile_parse_expression.specs.TableReader.{State};
-ghost use Rattle.justfile_parse_expression.specs.View.{left, state_of};
+ghost use Rattle.justfile_parse_expression.specs.View.{tokens_left, state_of};
 ghost use Rattle.justfile_parse_header.specs.HeaderTable as reader;
 ghost use Rattle.justfile_parse_header.specs.OptionRules.{bound_place_in, features_in, long_step, longs_from, short_step, shorts_from, then_option};
 ghost use Rattle.justfile_parse_header.specs.Options.{long_in};
 ghost use Rattle.justfile_parse_header.specs.Tree.{rules_of};
 
-use crate::said::{find_long, find_short_option};
+use crate::arg_attribute::{find_long, find_short_option};
 use justfile_attribute::Attribute;
 use justfile_attribute_set::AttributeSet;
-use justfile_base::{CompileErrorKind, Expander, Fault, Name, Switch, Token};
+use justfile_expression::ListFeature;
 use justfile_parse_attribute::text_sets::{add_text, is_among};
-use justfile_parse_attribute::{Halt, make_halt};
-use justfile_parse_expression::{ExpressionParser, Stop};
-use justfile_tree::ListFeature;
+use justfile_parse_attribute::{ParseError, rule_error};
+use justfile_parse_expression::{ExpressionError, ExpressionParser};
+use justfile_token::{CompileErrorKind, Expander, Fault, Name, Token};
+use justfile_vocabulary::Switch;
 use std::alloc::Global;
 use std::collections::BTreeSet;
 
-/// Notes what attributes say of parameters that needs the setting for lists.
-#[tactic(auto, using(crate::proofs::Spoken::noting_begins, crate::proofs::Spoken::noting_goes_on, crate::proofs::Spoken::noting_ends))]
+/// Records what the `arg` attributes use that needs the setting `lists`.
+#[tactic(auto, using(crate::proofs::ArgRules::noting_begins, crate::proofs::ArgRules::noting_goes_on, crate::proofs::ArgRules::noting_ends))]
 pub(crate) fn note_rules<'src, X: Expander>(
     attributes: &AttributeSet<'src>,
     parser: &mut ExpressionParser<'_, 'src, X>,
-) -> Result<(), Stop<'src>>
-    ensures notes { UnlessMemory result
-        (λ done. state_of X.answer parser.new ≡ with (flat_map rules_features (rules_of attributes.now)) (state_of X.answer parser.old)) }
-    ensures stays { left parser.new ≡ left parser.old }
+) -> Result<(), ExpressionError<'src>>
+    ensures notes { UnlessMemory result (λ done. state_of X.answer parser.new
+        ≡ with (flat_map rules_features (rules_of attributes.now)) (state_of X.answer parser.old)) }
+    ensures stays { tokens_left parser.new ≡ tokens_left parser.old }
 {
     let mut rest = attributes.iter();
     'attributes: loop {
@@ -48,14 +48,14 @@ pub(crate) fn note_rules<'src, X: Expander>(
     }
 }
 
-/// Notes what an attribute says of its parameter, at its keys.
+/// Records what an attribute uses that needs the setting `lists`, at its keys.
 fn note_attribute<'src, X: Expander>(
     attribute: &Attribute<'src>,
     parser: &mut ExpressionParser<'_, 'src, X>,
-) -> Result<(), Stop<'src>>
-    ensures notes { UnlessMemory result
-        (λ done. state_of X.answer parser.new ≡ with (features_in (leaf_attribute_of attribute.now)) (state_of X.answer parser.old)) }
-    ensures stays { left parser.new ≡ left parser.old }
+) -> Result<(), ExpressionError<'src>>
+    ensures notes { UnlessMemory result (λ done. state_of X.answer parser.new
+        ≡ with (features_in (leaf_attribute_of attribute.now)) (state_of X.answer parser.old)) }
+    ensures stays { tokens_left parser.new ≡ tokens_left parser.old }
 {
     match attribute {
         Attribute::Arg {
@@ -85,16 +85,16 @@ fn note_attribute<'src, X: Expander>(
     }
 }
 
-/// Notes a feature at a key, if it is there.
+/// Records a feature at a key, if there is one.
 #[tactic(auto, using(justfile_parse_expression::proofs::Rest::with_none))]
 fn note_at<'src, X: Expander>(
     parser: &mut ExpressionParser<'_, 'src, X>,
     feature: ListFeature,
     key: Option<Token<'src>>,
-) -> Result<(), Stop<'src>>
-    ensures notes { UnlessMemory result
-        (λ done. state_of X.answer parser.new ≡ with (noted_at feature key.entry) (state_of X.answer parser.old)) }
-    ensures stays { left parser.new ≡ left parser.old }
+) -> Result<(), ExpressionError<'src>>
+    ensures notes { UnlessMemory result (λ done. state_of X.answer parser.new
+        ≡ with (noted_at feature key.entry) (state_of X.answer parser.old)) }
+    ensures stays { tokens_left parser.new ≡ tokens_left parser.old }
 {
     match key {
         Some(key) => parser.note(feature, key),
@@ -102,7 +102,8 @@ fn note_at<'src, X: Expander>(
     }
 }
 
-/// The place of a number that is there: its key, or the name of the argument where it has none.
+/// Returns where a number is recorded, if it is set: at its key, or at the name of the argument if
+/// it has no key.
 fn find_place<'src>(
     name: Token<'src>,
     key: Option<Name<'src>>,
@@ -117,26 +118,26 @@ fn find_place<'src>(
     }
 }
 
-/// Refuses options of a recipe that are called the same, long ones before short ones.
+/// Refuses options of a recipe with the same name, long ones before short ones.
 #[tactic(auto, using(crate::proofs::SameOptions::both_obeyed, crate::proofs::SameOptions::first_broken))]
 pub(crate) fn check_options<'src>(
     attributes: &AttributeSet<'src>,
     alloc: Global,
     recipe: Token<'src>,
-) -> Result<(), Halt<'src>>
-    ensures { (s : State) → ReadsRuled (λ _. tt) result s (obeying (reader.same_options recipe.entry (rules_of attributes.now)) s) }
+) -> Result<(), ParseError<'src>>
+    ensures { ChecksRules (reader.same_options recipe.entry (rules_of attributes.now)) result }
 {
     check_longs(attributes, alloc, recipe)?;
     check_shorts(attributes, alloc, recipe)
 }
 
-/// Refuses long options that are called the same.
+/// Refuses long options with the same name.
 fn check_longs<'run, 'src>(
     attributes: &'run AttributeSet<'src>,
     alloc: Global,
     recipe: Token<'src>,
-) -> Result<(), Halt<'src>>
-    ensures { (s : State) → ReadsRuled (λ _. tt) result s (obeying (longs_from recipe.entry [] (rules_of attributes.now)) s) }
+) -> Result<(), ParseError<'src>>
+    ensures { ChecksRules (longs_from recipe.entry [] (rules_of attributes.now)) result }
 {
     let mut before: BTreeSet<&'run str> = BTreeSet::new(alloc);
     let mut left = attributes.iter();
@@ -148,17 +149,17 @@ fn check_longs<'run, 'src>(
     }
 }
 
-/// Refuses the long option of an attribute if one before it is called the same, and else adds it.
+/// Refuses the long option of an attribute if its name is in `before`, and adds it otherwise.
 #[tactic(auto, using(crate::proofs::SameOptions::long_kept, crate::proofs::SameOptions::long_added, crate::proofs::SameOptions::long_same, crate::proofs::SameOptions::then_none, crate::proofs::SameOptions::then_some))]
 fn check_long<'run, 'src>(
     attribute: &'run Attribute<'src>,
     alloc: Global,
     recipe: Token<'src>,
     before: &mut BTreeSet<&'run str>,
-) -> Result<(), Halt<'src>>
+) -> Result<(), ParseError<'src>>
     ensures step { (s : State) → ReadsRuled
-        (λ _. then_option (texts_in before.old) (long_in (leaf_attribute_of attribute.now))) result s
-        (long_step recipe.entry (texts_in before.old) (leaf_attribute_of attribute.now) s) }
+        (λ _. then_option (texts_in before.old) (long_in (leaf_attribute_of attribute.now))) result
+        s (long_step recipe.entry (texts_in before.old) (leaf_attribute_of attribute.now) s) }
     ensures added { OnOk result (HaveSame
         (then_option (texts_in before.old) (long_in (leaf_attribute_of attribute.now)))
         (texts_in before.new)) }
@@ -167,20 +168,20 @@ fn check_long<'run, 'src>(
         return Ok(());
     };
     if is_among(before, option) {
-        return Err(make_halt(alloc, same_long(alloc, recipe, option, place)));
+        return Err(rule_error(alloc, same_long_error(alloc, recipe, option, place)));
     }
     add_text(before, option)?;
     Ok(())
 }
 
-/// The refusal of a long option that is called as one before it.
-fn same_long<'src>(
+/// Makes the fault for a long option whose name is taken.
+fn same_long_error<'src>(
     alloc: Global,
     recipe: Token<'src>,
     option: &str,
     place: Token<'src>,
 ) -> Fault<'src>
-    ensures { IsRefusedBy (new.refuse {X = Unit {0}} (DuplicateLongOption option.now recipe.entry) place.entry) result }
+    ensures { IsFaultOfRule (DuplicateLongOption option.now recipe.entry) place.entry result }
 {
     match option.to_string(alloc) {
         Ok(option) => Fault::Compile(place.error(CompileErrorKind::DuplicateOption {
@@ -191,13 +192,13 @@ fn same_long<'src>(
     }
 }
 
-/// Refuses short options that are called the same.
+/// Refuses short options with the same name.
 fn check_shorts<'src>(
     attributes: &AttributeSet<'src>,
     alloc: Global,
     recipe: Token<'src>,
-) -> Result<(), Halt<'src>>
-    ensures { (s : State) → ReadsRuled (λ _. tt) result s (obeying (shorts_from recipe.entry [] (rules_of attributes.now)) s) }
+) -> Result<(), ParseError<'src>>
+    ensures { ChecksRules (shorts_from recipe.entry [] (rules_of attributes.now)) result }
 {
     let mut before: Vec<char> = Vec::new(alloc);
     let mut left = attributes.iter();
@@ -209,14 +210,14 @@ fn check_shorts<'src>(
     }
 }
 
-/// Refuses the short option of an attribute if one before it is called the same.
+/// Refuses the short option of an attribute if it is in `before`, and adds it otherwise.
 #[tactic(auto, using(crate::proofs::SameOptions::short_none, crate::proofs::SameOptions::short_apart, crate::proofs::SameOptions::short_same))]
 fn check_short<'src>(
     attribute: &Attribute<'src>,
     alloc: Global,
     recipe: Token<'src>,
     before: &mut Vec<char>,
-) -> Result<(), Halt<'src>>
+) -> Result<(), ParseError<'src>>
     ensures { (s : State) → ReadsRuled (λ _. before.new.items) result s
         (short_step recipe.entry before.old.items (leaf_attribute_of attribute.now) s) }
 {
@@ -224,15 +225,15 @@ fn check_short<'src>(
         return Ok(());
     };
     if before.as_slice().contains(&option) {
-        return Err(make_halt(alloc, same_short(recipe, option, place)));
+        return Err(rule_error(alloc, same_short_error(recipe, option, place)));
     }
     before.push(option)?;
     Ok(())
 }
 
-/// The refusal of a short option that is called as one before it.
-fn same_short<'src>(recipe: Token<'src>, option: char, place: Token<'src>) -> Fault<'src>
-    ensures { IsRefusedBy (new.refuse {X = Unit {0}} (DuplicateShortOption option recipe.entry) place.entry) result }
+/// Makes the fault for a short option whose name is taken.
+fn same_short_error<'src>(recipe: Token<'src>, option: char, place: Token<'src>) -> Fault<'src>
+    ensures { IsFaultOfRule (DuplicateShortOption option recipe.entry) place.entry result }
 {
     Fault::Compile(place.error(CompileErrorKind::DuplicateOption {
         recipe: recipe.lexeme(),

@@ -1,86 +1,88 @@
 //! The parameters of a recipe.
 ghost use Rattle.std.specs.Prelude.{◌≡◌, ◌<◌, ◌≤◌, ◌∷◌, ◌++◌, [], OnOk, IfOk, map};
 ghost use Rattle.std.specs.Option.{is_some};
-ghost use Rattle.justfile_attribute_rules.specs.Made.{IsRefusedBy};
+ghost use Rattle.justfile_attribute_rules.specs.Made.{IsFaultOfRule};
 ghost use Rattle.justfile_attribute_set.specs.AttributeSet.{attributes_of};
-ghost use Rattle.justfile_base.specs.Token.{lexeme_of};
-ghost use Rattle.justfile_model.specs.HeaderReader.{obeying};
+ghost use Rattle.justfile_token.specs.Token.{lexeme_of};
 ghost use Rattle.justfile_model.specs.NewAttribute as new;
 ghost use Rattle.justfile_model.specs.RecipeRules.{is_variadic};
 ghost use Rattle.justfile_model.specs.Rules.{ArgAttributeRequiresMultipleOrVariadic, FlagWithDefault};
-ghost use Rattle.justfile_parse_attribute.specs.Halting.{IsAfterVariadicFault, ReadsRuled};
-ghost use Rattle.justfile_parse_expression.specs.MethodResults.{Reads};
-ghost use Rattle.justfile_parse_expression.specs.TableReader.{State};
-ghost use Rattle.justfile_parse_expression.specs.View.{left, state_of};
-ghost use Rattle.justfile_parse_header.specs.Arguments.{AreKeyed, said_by, IsKeyedOption};
-ghost use Rattle.justfile_parse_header.specs.Counting.{HasDrawn, ReadsCounted, counters_of, names, names_after};
+ghost use Rattle.justfile_parse_attribute.specs.ParseErrors.{IsAfterVariadicFault, ReadsRuled, ChecksRules};
+ghost use Rattle.justfile_parse_expression.specs.ParsedResults.{Parses};
+ghost use Rattle.justfile_parse_expression.specs.View.{tokens_left, state_of};
+ghost use Rattle.justfile_parse_header.specs.Arguments.{AreKeyed, rules_by, IsKeyedOption};
+ghost use Rattle.justfile_parse_header.specs.Counting.{TookBindingNumbers, counters_of, names, names_after, ParsesCounted};
 ghost use Rattle.justfile_parse_header.specs.HeaderTable as reader;
-ghost use Rattle.justfile_parse_header.specs.Said.{AreWholeParameters, KeepsWholeParameters, said_broken};
-ghost use Rattle.justfile_parse_header.specs.SpokenNames.{AreFirsts};
+ghost use Rattle.justfile_parse_header.specs.ArgAttribute.{HaveDerivedParameterFields, KeepsDerivedParameterFields, arg_attribute_broken};
+ghost use Rattle.justfile_parse_header.specs.ArgNames.{AreFirsts};
 ghost use Rattle.justfile_parse_header.specs.Tree.{parameter_tree, rules_of, value_tree};
 
+use crate::arg_attribute::{copy_arg_attribute, find_bound_key, is_flag, is_multiple};
+use crate::arg_names::{ArgRules, find_firsts};
 use crate::arguments::find_rules;
-use crate::number::draw_binding;
+use crate::number::next_binding_number;
 use crate::read_parameters::ReadParameters;
-use crate::said::{copy_said, find_bound_key, is_flag, is_multiple};
-use crate::spoken_names::{Spoken, find_firsts};
 use justfile_attribute::Attribute;
 use justfile_attribute_set::AttributeSet;
-use justfile_base::{CompileErrorKind, Expander, Fault, Name, Numerator, Token, TokenKind};
-use justfile_header::{Parameter, ParameterKind};
-use justfile_parse_attribute::{Halt, make_halt};
-use justfile_parse_expression::{ExpressionParser, Stop};
-use justfile_tree::Expression;
+use justfile_expression::Expression;
+use justfile_parse_attribute::{ParseError, rule_error};
+use justfile_parse_expression::{ExpressionError, ExpressionParser};
+use justfile_recipe_header::{Parameter, ParameterKind};
+use justfile_token::{CompileErrorKind, Expander, Fault, Name, Token};
+use justfile_vocabulary::{Numerator, TokenKind};
 use std::alloc::Global;
 
-/// The parameters of a recipe, and the colon after them.
+/// Parses the parameters of a recipe, and the colon after them.
 #[tactic(auto, unfolding(justfile_model::specs::HeaderReader::parameters))]
 pub(crate) fn parse_parameters<'src, X: Expander>(
     attributes: &AttributeSet<'src>,
     parser: &mut ExpressionParser<'_, 'src, X>,
     numerator: &mut Numerator,
-) -> Result<Vec<Parameter<'src>>, Halt<'src>>
+) -> Result<Vec<Parameter<'src>>, ParseError<'src>>
     requires { AreKeyed (attributes_of attributes.now) }
-    ensures reads { ReadsCounted (λ parameters. map parameter_tree parameters.items) result numerator.new (state_of X.answer parser.new)
-        (reader.parameters (rules_of attributes.now) (counters_of numerator.old) (state_of X.answer parser.old)) }
-    ensures whole { IfOk result (λ parameters. AreWholeParameters (rules_of attributes.now) parameters.items) }
-    ensures drawn { HasDrawn numerator.old numerator.new (names (state_of X.answer parser.old)) (names_after result (state_of X.answer parser.new)) }
-    ensures progress { OnOk result (left parser.new < left parser.old) }
+    ensures reads { ParsesCounted X.answer (λ parameters. map parameter_tree parameters.items)
+        result numerator.new parser.old parser.new
+        (reader.parameters (rules_of attributes.now) (counters_of numerator.old)) }
+    ensures whole { IfOk result
+        (λ parameters. HaveDerivedParameterFields (rules_of attributes.now) parameters.items) }
+    ensures drawn { TookBindingNumbers numerator.old numerator.new
+        (names (state_of X.answer parser.old)) (names_after result (state_of X.answer parser.new)) }
+    ensures progress { OnOk result (tokens_left parser.new < tokens_left parser.old) }
 {
     let firsts = find_firsts(attributes, parser.alloc)?;
-    let spoken = Spoken { attributes, firsts };
+    let arg_attributes = ArgRules { attributes, firsts };
     let mut parameters = ReadParameters::new(parser.alloc);
-    parse_singulars(&spoken, parser, numerator, &mut parameters)?;
-    parse_last(&spoken, parser, numerator, &mut parameters)?;
+    parse_singulars(&arg_attributes, parser, numerator, &mut parameters)?;
+    parse_last(&arg_attributes, parser, numerator, &mut parameters)?;
     parser.expect(TokenKind::Colon)?;
     Ok(parameters.into_list())
 }
 
-/// Parameters that take one argument, after those before them.
+/// Parses parameters that take one argument, and appends them to `parameters`.
 fn parse_singulars<'src, X: Expander>(
-    spoken: &Spoken<'_, 'src>,
+    arg_attributes: &ArgRules<'_, 'src>,
     parser: &mut ExpressionParser<'_, 'src, X>,
     numerator: &mut Numerator,
     parameters: &mut ReadParameters<'src>,
-) -> Result<(), Halt<'src>>
-    requires { AreFirsts spoken.now.firsts (rules_of spoken.now.attributes.now) }
-    ensures reads { ReadsCounted (λ _. map parameter_tree parameters.new.list.items) result
-        numerator.new (state_of X.answer parser.new)
-        (reader.singulars (rules_of spoken.now.attributes.now) (
-          (map parameter_tree parameters.old.list.items, counters_of numerator.old),
-          state_of X.answer parser.old,
-        )) }
-    ensures whole { OnOk result (KeepsWholeParameters (rules_of spoken.now.attributes.now)
+) -> Result<(), ParseError<'src>>
+    requires { AreFirsts arg_attributes.now.firsts (rules_of arg_attributes.now.attributes.now) }
+    ensures reads { ParsesCounted X.answer (λ _. map parameter_tree parameters.new.list.items)
+        result numerator.new parser.old parser.new
+        (λ s. reader.singulars (rules_of arg_attributes.now.attributes.now)
+        ((map parameter_tree parameters.old.list.items, counters_of numerator.old), s)) }
+    ensures whole { OnOk result
+        (KeepsDerivedParameterFields (rules_of arg_attributes.now.attributes.now)
         parameters.old.list.items parameters.new.list.items) }
-    ensures drawn { HasDrawn numerator.old numerator.new (names (state_of X.answer parser.old)) (names_after result (state_of X.answer parser.new)) }
-    ensures progress { OnOk result (left parser.new ≤ left parser.old) }
+    ensures drawn { TookBindingNumbers numerator.old numerator.new
+        (names (state_of X.answer parser.old)) (names_after result (state_of X.answer parser.new)) }
+    ensures progress { OnOk result (tokens_left parser.new ≤ tokens_left parser.old) }
 {
     'parameters: loop {
         if !begins_parameter(parser) {
             return Ok(());
         }
         parse_parameter(
-            spoken,
+            arg_attributes,
             parser,
             numerator,
             parameters,
@@ -96,75 +98,89 @@ fn begins_parameter<X: Expander>(parser: &ExpressionParser<'_, '_, X>) -> bool
     parser.peek_kinds(&[TokenKind::Identifier]) || parser.peek_kinds(&[TokenKind::Dollar])
 }
 
-/// The last parameter, if it takes several arguments.
+/// Parses the last parameter, if it is variadic (takes several arguments), and appends it to
+/// `parameters`.
 #[tactic(auto, unfolding(justfile_model::specs::HeaderReader::last_parameter))]
 fn parse_last<'src, X: Expander>(
-    spoken: &Spoken<'_, 'src>,
+    arg_attributes: &ArgRules<'_, 'src>,
     parser: &mut ExpressionParser<'_, 'src, X>,
     numerator: &mut Numerator,
     parameters: &mut ReadParameters<'src>,
-) -> Result<(), Halt<'src>>
-    requires { AreFirsts spoken.now.firsts (rules_of spoken.now.attributes.now) }
-    ensures reads { ReadsCounted (λ _. map parameter_tree parameters.new.list.items) result
-        numerator.new (state_of X.answer parser.new)
-        (reader.last_parameter (rules_of spoken.now.attributes.now) (
-          (map parameter_tree parameters.old.list.items, counters_of numerator.old),
-          state_of X.answer parser.old,
-        )) }
-    ensures whole { OnOk result (KeepsWholeParameters (rules_of spoken.now.attributes.now)
+) -> Result<(), ParseError<'src>>
+    requires { AreFirsts arg_attributes.now.firsts (rules_of arg_attributes.now.attributes.now) }
+    ensures reads { ParsesCounted X.answer (λ _. map parameter_tree parameters.new.list.items)
+        result numerator.new parser.old parser.new
+        (λ s. reader.last_parameter (rules_of arg_attributes.now.attributes.now)
+        ((map parameter_tree parameters.old.list.items, counters_of numerator.old), s)) }
+    ensures whole { OnOk result
+        (KeepsDerivedParameterFields (rules_of arg_attributes.now.attributes.now)
         parameters.old.list.items parameters.new.list.items) }
-    ensures drawn { HasDrawn numerator.old numerator.new (names (state_of X.answer parser.old)) (names_after result (state_of X.answer parser.new)) }
-    ensures progress { OnOk result (left parser.new ≤ left parser.old) }
+    ensures drawn { TookBindingNumbers numerator.old numerator.new
+        (names (state_of X.answer parser.old)) (names_after result (state_of X.answer parser.new)) }
+    ensures progress { OnOk result (tokens_left parser.new ≤ tokens_left parser.old) }
 {
     if let Some(_plus) = parser.accept(TokenKind::Plus) {
-        return parse_variadic(spoken, parser, numerator, parameters, ParameterKind::Plus);
+        return parse_variadic(
+            arg_attributes,
+            parser,
+            numerator,
+            parameters,
+            ParameterKind::Plus,
+        );
     }
     if let Some(_star) = parser.accept(TokenKind::Asterisk) {
-        return parse_variadic(spoken, parser, numerator, parameters, ParameterKind::Star);
+        return parse_variadic(
+            arg_attributes,
+            parser,
+            numerator,
+            parameters,
+            ParameterKind::Star,
+        );
     }
     Ok(())
 }
 
-/// A parameter that takes several arguments, which no name follows.
+/// Parses a variadic parameter, and appends it to `parameters`. No name may follow it.
 #[tactic(auto, unfolding(justfile_model::specs::HeaderReader::variadic))]
 fn parse_variadic<'src, X: Expander>(
-    spoken: &Spoken<'_, 'src>,
+    arg_attributes: &ArgRules<'_, 'src>,
     parser: &mut ExpressionParser<'_, 'src, X>,
     numerator: &mut Numerator,
     parameters: &mut ReadParameters<'src>,
     kind: ParameterKind,
-) -> Result<(), Halt<'src>>
-    requires { AreFirsts spoken.now.firsts (rules_of spoken.now.attributes.now) }
-    ensures reads { ReadsCounted (λ _. map parameter_tree parameters.new.list.items) result
-        numerator.new (state_of X.answer parser.new)
-        (reader.variadic (rules_of spoken.now.attributes.now) kind (
-          (map parameter_tree parameters.old.list.items, counters_of numerator.old),
-          state_of X.answer parser.old,
-        )) }
-    ensures whole { OnOk result (KeepsWholeParameters (rules_of spoken.now.attributes.now)
+) -> Result<(), ParseError<'src>>
+    requires { AreFirsts arg_attributes.now.firsts (rules_of arg_attributes.now.attributes.now) }
+    ensures reads { ParsesCounted X.answer (λ _. map parameter_tree parameters.new.list.items)
+        result numerator.new parser.old parser.new
+        (λ s. reader.variadic (rules_of arg_attributes.now.attributes.now) kind
+        ((map parameter_tree parameters.old.list.items, counters_of numerator.old), s)) }
+    ensures whole { OnOk result
+        (KeepsDerivedParameterFields (rules_of arg_attributes.now.attributes.now)
         parameters.old.list.items parameters.new.list.items) }
-    ensures drawn { HasDrawn numerator.old numerator.new (names (state_of X.answer parser.old)) (names_after result (state_of X.answer parser.new)) }
-    ensures progress { OnOk result (left parser.new < left parser.old) }
+    ensures drawn { TookBindingNumbers numerator.old numerator.new
+        (names (state_of X.answer parser.old)) (names_after result (state_of X.answer parser.new)) }
+    ensures progress { OnOk result (tokens_left parser.new < tokens_left parser.old) }
 {
-    parse_parameter(spoken, parser, numerator, parameters, kind)?;
+    parse_parameter(arg_attributes, parser, numerator, parameters, kind)?;
     expect_no_name(parser)
 }
 
-/// Refuses a name after a parameter that takes several arguments.
+/// Refuses a name after a variadic parameter.
 #[tactic(auto, unfolding(justfile_model::specs::HeaderReader::nothing_after, justfile_parse_expression::specs::TableReader::leaves))]
 fn expect_no_name<'src, X: Expander>(
     parser: &ExpressionParser<'_, 'src, X>,
-) -> Result<(), Halt<'src>>
-    ensures { ReadsRuled (λ _. tt) result (state_of X.answer parser.now) (reader.nothing_after (state_of X.answer parser.now)) }
+) -> Result<(), ParseError<'src>>
+    ensures { ReadsRuled (λ _. tt) result (state_of X.answer parser.now)
+        (reader.nothing_after (state_of X.answer parser.now)) }
 {
-    match parser.detect_if(TokenKind::Identifier) {
+    match parser.probe_if(TokenKind::Identifier) {
         None => Ok(()),
-        Some(name) => Err(make_halt(parser.alloc, after_variadic(*name.token))),
+        Some(name) => Err(rule_error(parser.alloc, after_variadic_error(*name.token))),
     }
 }
 
-/// The refusal of a name after a parameter that takes several arguments.
-fn after_variadic<'src>(name: Token<'src>) -> Fault<'src>
+/// Makes the fault for a name after a variadic parameter.
+fn after_variadic_error<'src>(name: Token<'src>) -> Fault<'src>
     ensures { IsAfterVariadicFault name.entry result }
 {
     Fault::Compile(name.error(CompileErrorKind::ParameterFollowsVariadicParameter {
@@ -172,83 +188,84 @@ fn after_variadic<'src>(name: Token<'src>) -> Fault<'src>
     }))
 }
 
-/// A parameter after others, exported or not.
+/// Parses a parameter with or without `$` before it, and appends it to `parameters`.
 fn parse_parameter<'src, X: Expander>(
-    spoken: &Spoken<'_, 'src>,
+    arg_attributes: &ArgRules<'_, 'src>,
     parser: &mut ExpressionParser<'_, 'src, X>,
     numerator: &mut Numerator,
     parameters: &mut ReadParameters<'src>,
     kind: ParameterKind,
-) -> Result<(), Halt<'src>>
-    requires { AreFirsts spoken.now.firsts (rules_of spoken.now.attributes.now) }
-    ensures reads { ReadsCounted (λ _. map parameter_tree parameters.new.list.items) result
-        numerator.new (state_of X.answer parser.new)
-        (reader.parameter (rules_of spoken.now.attributes.now) kind (
-          (map parameter_tree parameters.old.list.items, counters_of numerator.old),
-          state_of X.answer parser.old,
-        )) }
-    ensures whole { OnOk result (KeepsWholeParameters (rules_of spoken.now.attributes.now)
+) -> Result<(), ParseError<'src>>
+    requires { AreFirsts arg_attributes.now.firsts (rules_of arg_attributes.now.attributes.now) }
+    ensures reads { ParsesCounted X.answer (λ _. map parameter_tree parameters.new.list.items)
+        result numerator.new parser.old parser.new
+        (λ s. reader.parameter (rules_of arg_attributes.now.attributes.now) kind
+        ((map parameter_tree parameters.old.list.items, counters_of numerator.old), s)) }
+    ensures whole { OnOk result
+        (KeepsDerivedParameterFields (rules_of arg_attributes.now.attributes.now)
         parameters.old.list.items parameters.new.list.items) }
-    ensures drawn { HasDrawn numerator.old numerator.new (names (state_of X.answer parser.old)) (names_after result (state_of X.answer parser.new)) }
-    ensures progress { OnOk result (left parser.new < left parser.old) }
+    ensures drawn { TookBindingNumbers numerator.old numerator.new
+        (names (state_of X.answer parser.old)) (names_after result (state_of X.answer parser.new)) }
+    ensures progress { OnOk result (tokens_left parser.new < tokens_left parser.old) }
 {
     match parser.accept(TokenKind::Dollar) {
-        Some(_dollar) => parse_named(spoken, parser, numerator, parameters, kind, true),
-        None => parse_named(spoken, parser, numerator, parameters, kind, false),
+        Some(_dollar) => parse_named(arg_attributes, parser, numerator, parameters, kind, true),
+        None => parse_named(arg_attributes, parser, numerator, parameters, kind, false),
     }
 }
 
-/// A parameter from its name on, after others.
+/// Parses a parameter from its name on, and appends it to `parameters`.
 fn parse_named<'src, X: Expander>(
-    spoken: &Spoken<'_, 'src>,
+    arg_attributes: &ArgRules<'_, 'src>,
     parser: &mut ExpressionParser<'_, 'src, X>,
     numerator: &mut Numerator,
     parameters: &mut ReadParameters<'src>,
     kind: ParameterKind,
     export: bool,
-) -> Result<(), Halt<'src>>
-    requires { AreFirsts spoken.now.firsts (rules_of spoken.now.attributes.now) }
-    ensures reads { ReadsCounted (λ _. map parameter_tree parameters.new.list.items) result
-        numerator.new (state_of X.answer parser.new)
-        (reader.named_parameter (rules_of spoken.now.attributes.now) kind export
-        (map parameter_tree parameters.old.list.items, counters_of numerator.old)
-        (state_of X.answer parser.old)) }
-    ensures whole { OnOk result (KeepsWholeParameters (rules_of spoken.now.attributes.now)
+) -> Result<(), ParseError<'src>>
+    requires { AreFirsts arg_attributes.now.firsts (rules_of arg_attributes.now.attributes.now) }
+    ensures reads { ParsesCounted X.answer (λ _. map parameter_tree parameters.new.list.items)
+        result numerator.new parser.old parser.new
+        (reader.named_parameter (rules_of arg_attributes.now.attributes.now) kind export
+        (map parameter_tree parameters.old.list.items, counters_of numerator.old)) }
+    ensures whole { OnOk result
+        (KeepsDerivedParameterFields (rules_of arg_attributes.now.attributes.now)
         parameters.old.list.items parameters.new.list.items) }
-    ensures drawn { HasDrawn numerator.old numerator.new (names (state_of X.answer parser.old)) (names_after result (state_of X.answer parser.new)) }
-    ensures progress { OnOk result (left parser.new < left parser.old) }
+    ensures drawn { TookBindingNumbers numerator.old numerator.new
+        (names (state_of X.answer parser.old)) (names_after result (state_of X.answer parser.new)) }
+    ensures progress { OnOk result (tokens_left parser.new < tokens_left parser.old) }
 {
     let name = parser.expect(TokenKind::Identifier)?;
     let default = parse_default(parser)?;
-    let rules = find_rules(spoken, parameters, *name.token);
-    check_said(rules, parser.alloc, *name.token, default.is_some(), kind)?;
-    let said = copy_said(parser.alloc, rules)?;
-    let number = draw_binding(numerator)?;
+    let rules = find_rules(arg_attributes, parameters, *name.token);
+    check_arg_attribute(rules, parser.alloc, *name.token, default.is_some(), kind)?;
+    let arg_attribute = copy_arg_attribute(parser.alloc, rules)?;
+    let number = next_binding_number(numerator)?;
     parameters.push(Parameter {
         default,
         export,
-        flag: said.flag,
+        flag: arg_attribute.flag,
         help: None,
         kind,
-        long: said.long,
-        max: said.max,
-        min: said.min,
-        multiple: said.multiple,
+        long: arg_attribute.long,
+        max: arg_attribute.max,
+        min: arg_attribute.min,
+        multiple: arg_attribute.multiple,
         name: Name::from_identifier(*name.token),
         number,
-        short: said.short,
-        value: said.value,
+        short: arg_attribute.short,
+        value: arg_attribute.value,
     })?;
     Ok(())
 }
 
-/// The value that a parameter has by default, if `=` comes next.
+/// Parses the default value of a parameter, if `=` comes next.
 #[tactic(auto, unfolding(justfile_model::specs::HeaderReader::default_value))]
 fn parse_default<'src, X: Expander>(
     parser: &mut ExpressionParser<'_, 'src, X>,
-) -> Result<Option<Box<Expression<'src>>>, Stop<'src>>
-    ensures reads { Reads value_tree result (state_of X.answer parser.new) (reader.default_value (state_of X.answer parser.old)) }
-    ensures progress { OnOk result (left parser.new ≤ left parser.old) }
+) -> Result<Option<Box<Expression<'src>>>, ExpressionError<'src>>
+    ensures reads { Parses X.answer value_tree result parser.old parser.new reader.default_value }
+    ensures progress { OnOk result (tokens_left parser.new ≤ tokens_left parser.old) }
 {
     let Some(_equals) = parser.accept(TokenKind::Equals) else {
         return Ok(None);
@@ -256,28 +273,29 @@ fn parse_default<'src, X: Expander>(
     Ok(Some(parser.parse_value()?))
 }
 
-/// Refuses what is said of a parameter and goes with its default or with its kind not.
-fn check_said<'src>(
+/// Refuses an `arg` that conflicts with the parameter's default or kind.
+fn check_arg_attribute<'src>(
     rules: Option<&Attribute<'src>>,
     alloc: Global,
     name: Token<'src>,
     has_default: bool,
     kind: ParameterKind,
-) -> Result<(), Halt<'src>>
+) -> Result<(), ParseError<'src>>
     requires { IsKeyedOption rules }
-    ensures { (s : State) → ReadsRuled (λ _. tt) result s (obeying (said_broken name.entry has_default kind (said_by rules.entry)) s) }
+    ensures { ChecksRules (arg_attribute_broken name.entry has_default kind (rules_by rules.entry))
+        result }
 {
     let Some(attribute) = rules else {
         return Ok(());
     };
     if is_flag(attribute) && has_default {
-        return Err(make_halt(alloc, flag_with_default(alloc, name)));
+        return Err(rule_error(alloc, flag_with_default_error(alloc, name)));
     }
     if is_multiple(attribute) || is_variadic(kind) {
         return Ok(());
     }
     match find_bound_key(attribute) {
-        Some(key) => Err(make_halt(alloc, bound_alone(key))),
+        Some(key) => Err(rule_error(alloc, bound_alone_error(key))),
         None => Ok(()),
     }
 }
@@ -292,9 +310,9 @@ fn is_variadic(kind: ParameterKind) -> bool
     }
 }
 
-/// The refusal of a flag with a default.
-fn flag_with_default<'src>(alloc: Global, name: Token<'src>) -> Fault<'src>
-    ensures { IsRefusedBy (new.refuse {X = Unit {0}} (FlagWithDefault name.entry) name.entry) result }
+/// Makes the fault for a flag with a default value.
+fn flag_with_default_error<'src>(alloc: Global, name: Token<'src>) -> Fault<'src>
+    ensures { IsFaultOfRule (FlagWithDefault name.entry) name.entry result }
 {
     match name.lexeme().to_string(alloc) {
         Ok(parameter) => {
@@ -304,9 +322,11 @@ fn flag_with_default<'src>(alloc: Global, name: Token<'src>) -> Fault<'src>
     }
 }
 
-/// The refusal of `max` or `min`, whichever is the key, of a parameter that takes one argument.
-fn bound_alone<'src>(key: Name<'src>) -> Fault<'src>
-    ensures { IsRefusedBy (new.refuse {X = Unit {0}} (ArgAttributeRequiresMultipleOrVariadic key.entry.token) key.entry.token) result }
+/// Makes the fault for `max` or `min`, whichever is the key, on a parameter that takes one
+/// argument.
+fn bound_alone_error<'src>(key: Name<'src>) -> Fault<'src>
+    ensures { IsFaultOfRule (ArgAttributeRequiresMultipleOrVariadic key.entry.token)
+        key.entry.token result }
 {
     Fault::Compile(
         key.token.error(CompileErrorKind::ArgAttributeRequiresMultipleOrVariadic { key }),

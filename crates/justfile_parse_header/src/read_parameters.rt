@@ -1,16 +1,16 @@
-//! The parameters of a recipe while they are read.
+//! The parameters of a recipe while they are parsed.
 ghost use Rattle.std.specs.Prelude.{◌≡◌, ◌∷◌, ◌++◌, [], OnErr, OnOk, length, map, take};
-ghost use Rattle.justfile_base.specs.Token.{lexeme_of};
+ghost use Rattle.justfile_token.specs.Token.{lexeme_of};
 ghost use Rattle.justfile_parse_attribute.specs.TextSets.{HaveSame, texts_in};
 ghost use Rattle.justfile_parse_header.specs.Arguments.{AreNames, prop_names};
 ghost use Rattle.justfile_parse_header.specs.Tree.{parameter_tree};
 
-use justfile_header::Parameter;
 use justfile_parse_attribute::text_sets::add_text;
+use justfile_recipe_header::Parameter;
 use std::alloc::{AllocError, Global};
 use std::collections::BTreeSet;
 
-/// The parameters that were read, with the set of their names.
+/// The parameters parsed so far, and the set of their names.
 #[derive(Drop)]
 pub(crate) struct ReadParameters<'src> {
     pub(crate) list: Vec<Parameter<'src>>,
@@ -21,7 +21,7 @@ pub(crate) struct ReadParameters<'src> {
 impl<'src> ReadParameters<'src> {
     ghost use Rattle.std.specs.Prelude.{◌≡◌, ◌∷◌, ◌++◌, [], OnOk};
 
-    /// No parameters.
+    /// Returns an empty list of parameters.
     #[tactic(auto, using(crate::proofs::ReadNames::none_named))]
     pub(crate) fn new(alloc: Global) -> Self
         ensures { result.list.items ≡ [] }
@@ -32,11 +32,11 @@ impl<'src> ReadParameters<'src> {
         }
     }
 
-    /// Adds a parameter.
+    /// Appends a parameter.
     ///
     /// # Errors
     ///
-    /// `AllocError` if the program is out of memory.
+    /// `AllocError` if memory runs out.
     #[tactic(auto, using(crate::proofs::ReadNames::one_named, crate::proofs::ReadNames::still_named))]
     pub(crate) fn push(&mut self, parameter: Parameter<'src>) -> Result<(), AllocError>
         ensures { OnOk result (self.new.list.items ≡ self.old.list.items ++ parameter.entry ∷ []) }
@@ -51,7 +51,7 @@ impl<'src> ReadParameters<'src> {
         }
     }
 
-    /// The parameters.
+    /// Returns the parameters.
     pub(crate) fn into_list(self) -> Vec<Parameter<'src>>
         ensures { result.items ≡ self.entry.list.items }
     {
@@ -60,11 +60,11 @@ impl<'src> ReadParameters<'src> {
     }
 }
 
-/// Adds a parameter to a list, and its name to a set.
+/// Appends a parameter to a list, and adds its name to a set.
 ///
 /// # Errors
 ///
-/// `AllocError` if the program is out of memory.
+/// `AllocError` if memory runs out.
 #[tactic(auto, using(crate::proofs::ReadNames::begins_pushed, crate::proofs::ReadNames::begins_same))]
 fn push_named<'src>(
     list: &mut Vec<Parameter<'src>>,

@@ -1,47 +1,47 @@
--- Reading the items of a table, with all that the parser's trees hold.
+-- The reader of the items in a table, whose trees hold all that the parser's trees hold.
 use Rattle.std.specs.Prelude.{ℕ, Bool, false, List, [], ◌∷◌, Option, Ok, Err, codes, nat_eq}
 use Rattle.std.specs.List.{starts_with}
-use Rattle.justfile_base.specs.Token.{lexeme_of}
-use Rattle.justfile_base.specs.declared.token.Token.{Token}
+use Rattle.justfile_token.specs.Token.{lexeme_of}
+use Rattle.justfile_token.specs.declared.token.Token.{Token}
 use Rattle.justfile_model.specs.Tree as tree
 use Rattle.justfile_model.specs.Tree.{BodyLine, Entry, Fragment, OrderedItem, commented_entry}
-use Rattle.justfile_word.specs.declared.item_kind.ItemKind.{ItemKind}
-use Rattle.justfile_word.specs.declared.token_kind.TokenKind.{TokenKind}
+use Rattle.justfile_vocabulary.specs.declared.item_kind.ItemKind.{ItemKind}
+use Rattle.justfile_vocabulary.specs.declared.token_kind.TokenKind.{TokenKind}
 use Rattle.justfile_model.specs.AttributeReader as attributes
 use Rattle.justfile_model.specs.AttributeReader.{AttributeLeaves}
 use Rattle.justfile_model.specs.ContentKeys.{entry_cmp}
 use Rattle.justfile_model.specs.Order.{in_order}
 use Rattle.justfile_model.specs.Reader as files
-use Rattle.justfile_model.specs.Reading as reading
-use Rattle.justfile_model.specs.Reading.{Counters, refused}
-use Rattle.justfile_tree.specs.LeafSight.{sees_leaves}
-use Rattle.justfile_tree.specs.LeafTree.{Leaf, Text}
+use Rattle.justfile_model.specs.ReaderState as reading
+use Rattle.justfile_model.specs.ReaderState.{Counters, refused}
+use Rattle.justfile_expression.specs.LeafViews.{views_leaves}
+use Rattle.justfile_expression.specs.LeafTree.{Leaf, Text}
 use Rattle.justfile_parse_expression.specs.declared.significant.TableEntry.{TableEntry}
 use Rattle.justfile_parse_attribute.specs.AttributeTable.{Entries}
 use Rattle.justfile_parse_expression.specs.TableReader.{Read, Run, State, leaves}
 
--- the line begins with a text that begins `#!`
+-- whether the line begins with a text that begins with `#!`
 abbrev pub is_shebang : BodyLine Leaf Token ℕ → Bool
 is_shebang (tree.Line number (tree.Text (Text token) ∷ fragments)) = starts_with nat_eq (lexeme_of token) (codes "#!")
 is_shebang line = false
 
--- the first line begins with a text that begins `#!`
+-- whether the first line begins with a text that begins with `#!`
 abbrev pub has_shebang : List (BodyLine Leaf Token ℕ) → Bool
 has_shebang [] = false
 has_shebang (line ∷ lines) = is_shebang line
 
--- a construct has what its attributes mean, in the order of their content
+-- what a tree holds of a construct's attributes: their meaning, in the order of their content
 abbrev pub kept : AttributeLeaves Run Leaf Token Entries (Entry Leaf Token)
 kept = record {
-  sight = λ run. sees_leaves;
+  view = λ run. views_leaves;
   keep = λ written entry. entry;
   entry = λ entry. entry;
   comment = commented_entry;
-  attributes = λ run entries. in_order (entry_cmp sees_leaves) entries;
+  attributes = λ run entries. in_order (entry_cmp views_leaves) entries;
 }
 
-abbrev pub draw_recipe : Counters → State → Read (ℕ × Counters)
-draw_recipe = files.draw_recipe leaves
+abbrev pub next_recipe_number : Counters → State → Read (ℕ × Counters)
+next_recipe_number = files.next_recipe_number leaves
 
 abbrev pub fragment : State → Read (Fragment Leaf Token)
 fragment = files.fragment leaves
@@ -58,7 +58,7 @@ lines = files.lines leaves
 abbrev pub body : State → Read (List (BodyLine Leaf Token ℕ))
 body = files.body leaves
 
--- a comment before a body, or none, and the body
+-- the comment before a body, if there is one, and the body
 abbrev pub CommentedBody : Type 0
 CommentedBody = files.CommentedBody leaves
 
@@ -76,7 +76,7 @@ ReadItem = Read (OrderedItem Leaf Token ℕ × Counters)
 abbrev pub ReadItems : Type 0
 ReadItems = Read (List (OrderedItem Leaf Token ℕ) × Counters)
 
--- whether the next token is of this kind; then it is taken
+-- whether the next token is of this kind; takes it if it is
 abbrev pub accepted : TokenKind → State → Bool × State
 accepted = reading.accepted leaves
 
@@ -113,35 +113,31 @@ recipe = files.recipe leaves kept
 abbrev pub any_recipe : Entries → Counters → State → ReadItem
 any_recipe = files.any_recipe leaves kept
 
--- the attributes before a construct, which follows them
+-- the attributes before a construct
 abbrev pub item_attributes : State → Read Entries
 item_attributes = files.attributes leaves kept
 
 -- the entries in the order of their content
 abbrev pub in_content_order : Entries → Entries
-in_content_order entries = in_order (entry_cmp sees_leaves) entries
+in_content_order entries = in_order (entry_cmp views_leaves) entries
 
 -- the lines of attributes before a construct
 abbrev pub lines_of_attributes : State → Read Entries
-lines_of_attributes = attributes.attribute_lines leaves kept.sight kept.keep kept.entry kept.comment
+lines_of_attributes = attributes.attribute_lines leaves kept.view kept.keep kept.entry kept.comment
 
--- attributes that begin with this bracket stand before no blank line and no comment
+-- refuses attributes before a blank line or a comment, at their opening bracket
 abbrev pub before_item : (opener : TableEntry) → Entries × State → Read Entries
 before_item = files.before_item leaves kept
 
--- a blank line or a comment comes next
+-- whether a blank line or a comment comes next
 abbrev pub stands_alone : State → Bool
 stands_alone = files.stands_alone leaves kept
 
--- the attributes of an item of this kind with this name are those that it may have
+-- checks that an item of this kind with this name may have these attributes
 abbrev pub allowed : ItemKind → Entries → TableEntry → State → Read (Unit {0})
 allowed = files.allowed leaves kept
 
--- no two attributes of the recipe with this name exclude each other
-abbrev pub no_exclusion : Entries → TableEntry → State → Read (Unit {0})
-no_exclusion = files.no_exclusion leaves kept
-
--- a construct that begins with no word of its own, after its attributes
+-- a construct without a keyword, after its attributes
 abbrev pub wordless : Entries → Counters → State → ReadItem
 wordless = files.wordless leaves kept
 
@@ -173,11 +169,11 @@ items = files.items leaves kept
 abbrev pub file : Counters → State → ReadItems
 file = files.file leaves kept
 
--- what is left after a byte order mark, if one comes first
+-- the state after a byte order mark, if one comes first
 abbrev pub after_mark : State → State
 after_mark = files.after_mark leaves kept
 
--- nothing stands after the end of the file
+-- refuses tokens after the end of the file
 abbrev pub nothing_by : State → List TableEntry → Read (Unit {0})
 nothing_by s [] = Ok (tt, s)
 nothing_by s (t ∷ ts) = Err (refused reading.Unexpected s)

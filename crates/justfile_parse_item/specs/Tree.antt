@@ -1,11 +1,11 @@
--- All that the parser's trees hold, without the places of boxes.
+-- The trees of items, with all that the parser's trees hold except where boxes are.
 use Rattle.std.specs.Prelude.{ℕ, Bool, List, Option, Some, None, drop, map, string_bytes, take}
 use Rattle.std.specs.Option.{option_copied, option_map}
 use Rattle.justfile_attribute_set.specs.AttributeSet.{leaf_entries_of}
-use Rattle.justfile_base.specs.declared.name.Name.{Name}
-use Rattle.justfile_base.specs.declared.namepath.Namepath.{Namepath}
-use Rattle.justfile_word.specs.declared.number.Number.{Number}
-use Rattle.justfile_base.specs.declared.string_literal.StringLiteral as literals
+use Rattle.justfile_token.specs.declared.name.Name.{Name}
+use Rattle.justfile_token.specs.declared.namepath.Namepath.{Namepath}
+use Rattle.justfile_vocabulary.specs.declared.number.Number.{Number}
+use Rattle.justfile_token.specs.declared.string_literal.StringLiteral as literals
 use Rattle.justfile_attribute_set.specs.AttributeSet.{AttributeSet}
 use Rattle.justfile_line.specs.declared.fragment.Fragment as fragment
 use Rattle.justfile_line.specs.declared.fragment.Fragment.TheVariants as fragments
@@ -17,14 +17,14 @@ use Rattle.justfile_item.specs.declared.item.Item as item
 use Rattle.justfile_item.specs.declared.item.Item.TheVariants as items
 use Rattle.justfile_item.specs.declared.recipe.UnresolvedRecipe.{UnresolvedRecipe}
 use Rattle.justfile_item.specs.declared.set.Set.{Set}
-use Rattle.justfile_base.specs.declared.token.Token.{Token}
+use Rattle.justfile_token.specs.declared.token.Token.{Token}
 use Rattle.justfile_model.specs.Tree as tree
 use Rattle.justfile_model.specs.Tree.{Fragment, BodyLine, OrderedItem, Quoted, assignment_of}
 use Rattle.justfile_parse_header.specs.Tree.{dependency_tree, name_tree, parameter_tree, path_tree}
 use Rattle.justfile_setting.specs.LeafSetting.{leaf_value_of}
 use Rattle.justfile_setting.specs.Setting.{keyword_of}
-use Rattle.justfile_tree.specs.LeafTree.{AssignmentName, RecipeName, Leaf, Assigned, Headed, Literal, Named, Text, leaf_tree_of, literal_of}
-use Rattle.justfile_tree.specs.declared.expression.Expression.{Expression}
+use Rattle.justfile_expression.specs.LeafTree.{AssignmentName, RecipeName, Leaf, Assigned, Headed, Literal, Named, Text, leaf_tree_of, literal_of}
+use Rattle.justfile_expression.specs.declared.expression.Expression.{Expression}
 
 abbrev pub fragment_tree : fragment.Fragment → Fragment Leaf Token
 fragment_tree (fragments.Interpolation expression) = tree.Interpolation (leaf_tree_of expression)
@@ -50,7 +50,7 @@ abbrev pub function_tree : FunctionDefinition → OrderedItem Leaf Token ℕ
 function_tree f =
     tree.Construct (leaf_entries_of f.attributes) (tree.Function (record { name = name_tree f.name; parameters = map numbered_tree f.parameters.items; body = leaf_tree_of f.body.value }))
 
--- a literal that stands by itself
+-- a literal outside of expressions
 abbrev pub quoted_tree : literals.StringLiteral → Quoted Leaf
 quoted_tree literal = record { expanded = literal.expand; token = Literal (literal_of literal) }
 
@@ -70,7 +70,7 @@ unexport_tree attributes name = tree.Construct (leaf_entries_of attributes) (tre
 abbrev pub recipe_name : UnresolvedRecipe → RecipeName
 recipe_name r = record { file_depth = r.file_depth; import_offsets = r.import_offsets.items; name = r.name.token; number = r.number }
 
--- the doc of a recipe by its text
+-- the doc of a recipe, as text
 abbrev pub doc_text : UnresolvedRecipe → Option (List ℕ)
 doc_text r = option_map string_bytes r.doc
 

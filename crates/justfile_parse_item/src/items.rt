@@ -2,45 +2,48 @@
 ghost use Rattle.std.specs.Prelude.{◌≡◌, ◌<◌, ◌≤◌, ◌∷◌, ◌++◌, [], IfOk, IsTrue, OnOk, codes, map, nat_eq};
 ghost use Rattle.std.specs.List.{starts_with};
 ghost use Rattle.std.specs.Str.{trim_end};
-ghost use Rattle.justfile_base.specs.Token.{lexeme_of};
+ghost use Rattle.justfile_token.specs.Token.{lexeme_of};
 ghost use Rattle.justfile_model.specs.SignificantTokens.{identifiers};
 ghost use Rattle.justfile_model.specs.Tree as tree;
-ghost use Rattle.justfile_parse_header.specs.Counting.{ReadsCounted, counters_of};
+ghost use Rattle.justfile_parse_header.specs.Counting.{counters_of, ParsesCounted};
 ghost use Rattle.justfile_model.specs.Reader.{has_body};
-ghost use Rattle.justfile_model.specs.Reading.{prepend};
+ghost use Rattle.justfile_model.specs.ReaderState.{prepend};
 ghost use Rattle.justfile_model.specs.PartReader.{after_numbered};
 ghost use Rattle.justfile_item.specs.declared.item.Item.TheVariants as variants;
 ghost use Rattle.justfile_parse_item.specs.ItemTable as reader;
 ghost use Rattle.justfile_parse_item.specs.MethodResults.{IsMoved};
 ghost use Rattle.justfile_parse_expression.specs.MethodResults.{Reads, UnlessMemory};
-ghost use Rattle.justfile_parse_item.specs.Whole.{AreWhole, IsWholeItem, KeepsWhole};
+ghost use Rattle.justfile_parse_expression.specs.ParsedResults.{Parses};
+ghost use Rattle.justfile_parse_item.specs.DerivedFields.{HaveDerivedFields, HasDerivedItemFields, KeepsDerivedFields};
 ghost use Rattle.justfile_parse_expression.specs.Significant.{significant_of};
 ghost use Rattle.justfile_parse_item.specs.Tree.{item_tree};
-ghost use Rattle.justfile_parse_expression.specs.View.{left, state_of};
+ghost use Rattle.justfile_parse_expression.specs.View.{tokens_left, state_of};
 
-use crate::content::parse_construct;
-use justfile_base::{Expander, Numerator, Token, TokenKind};
+use crate::construct::parse_construct;
 use justfile_item::Item;
-use justfile_parse_attribute::Halt;
-use justfile_parse_expression::{ExpressionParser, Refusal, Stop};
+use justfile_parse_attribute::ParseError;
+use justfile_parse_expression::{ExpressionError, ExpressionParser, SyntaxError};
+use justfile_token::{Expander, Token};
+use justfile_vocabulary::{Numerator, TokenKind};
 use std::alloc::AllocError;
 
-/// The items up to the end of the file, where no expression is open.
+/// Parses the items up to the end of the file. Requires that no expression is open.
 ///
 /// # Errors
 ///
-/// A `Halt` if what is left of the table is no file, if more numbers of bindings or of recipes are wanted than there are, or if
-/// memory runs out.
+/// A `ParseError` if the rest of the table isn't a file, if the counter of bindings or of recipes
+/// has reached its maximum and a number is needed, or if memory runs out.
 #[tactic(auto, using(crate::proofs::Loop::moved, crate::proofs::Loop::moved_on))]
 pub fn parse_items<'src, X: Expander>(
     parser: &mut ExpressionParser<'_, 'src, X>,
     numerator: &mut Numerator,
-) -> Result<Vec<Item<'src>>, Halt<'src>>
+) -> Result<Vec<Item<'src>>, ParseError<'src>>
     requires { (state_of X.answer parser.old).depth ≡ 0 }
-    ensures reads { ReadsCounted (λ items. map item_tree items.items) result numerator.new (state_of X.answer parser.new)
-        (reader.items (counters_of numerator.old) (state_of X.answer parser.old)) }
-    ensures whole { IfOk result (λ items. AreWhole items.items) }
-    ensures moved { IsMoved numerator.old numerator.new (identifiers (map significant_of (state_of X.answer parser.old).left)) }
+    ensures reads { ParsesCounted X.answer (λ items. map item_tree items.items) result numerator.new
+        parser.old parser.new (reader.items (counters_of numerator.old)) }
+    ensures whole { IfOk result (λ items. HaveDerivedFields items.items) }
+    ensures moved { IsMoved numerator.old numerator.new
+        (identifiers (map significant_of (state_of X.answer parser.old).left)) }
 {
     let mut items = Vec::new(parser.alloc);
     'lines: loop {
@@ -52,32 +55,36 @@ pub fn parse_items<'src, X: Expander>(
     }
 }
 
-/// Nothing may stand after the end of the file.
-#[tactic(auto, unfolding(crate::specs::ItemTable::read_nothing, justfile_model::specs::Reading::refused))]
+/// Refuses tokens after the end of the file.
+#[tactic(auto, unfolding(crate::specs::ItemTable::read_nothing, justfile_model::specs::ReaderState::refused))]
 fn expect_nothing<'src, X: Expander>(
     parser: &ExpressionParser<'_, 'src, X>,
-) -> Result<(), Stop<'src>>
-    ensures { Reads (λ nothing. nothing) result (state_of X.answer parser.now) (reader.read_nothing (state_of X.answer parser.now)) }
+) -> Result<(), ExpressionError<'src>>
+    ensures { Reads (λ nothing. nothing) result (state_of X.answer parser.now)
+        (reader.read_nothing (state_of X.answer parser.now)) }
 {
     match parser.peek_front() {
-        Some(_entry) => Err(Stop::Refused(Refusal::Unexpected)),
+        Some(_entry) => Err(ExpressionError::Refused(SyntaxError::Unexpected)),
         None => Ok(()),
     }
 }
 
-/// The items of a line, where no expression is open.
-#[tactic(auto, using(crate::proofs::Lines::line_blank, crate::proofs::Moved::unmoved, crate::proofs::Wholes::newline_whole))]
+/// Parses a line, or an item of several lines, and appends its items. Requires that no expression
+/// is open.
+#[tactic(auto, using(crate::proofs::Lines::line_blank, crate::proofs::CounterSteps::unmoved, crate::proofs::DerivedItemFields::newline_whole))]
 fn parse_line<'src, X: Expander>(
     parser: &mut ExpressionParser<'_, 'src, X>,
     items: &mut Vec<Item<'src>>,
     numerator: &mut Numerator,
-) -> Result<(), Halt<'src>>
+) -> Result<(), ParseError<'src>>
     requires { (state_of X.answer parser.old).depth ≡ 0 }
-    ensures reads { ReadsCounted (λ _. map item_tree items.new.items) result numerator.new (state_of X.answer parser.new)
-        (after_numbered (map item_tree items.old.items) (reader.line (counters_of numerator.old) (state_of X.answer parser.old))) }
-    ensures whole { OnOk result (KeepsWhole items.old.items items.new.items) }
-    ensures progress { OnOk result (left parser.new < left parser.old) }
-    ensures moved { IsMoved numerator.old numerator.new (identifiers (map significant_of (state_of X.answer parser.old).left)) }
+    ensures reads { ParsesCounted X.answer (λ _. map item_tree items.new.items) result
+        numerator.new parser.old parser.new (λ s. after_numbered (map item_tree items.old.items)
+        (reader.line (counters_of numerator.old) s)) }
+    ensures whole { OnOk result (KeepsDerivedFields items.old.items items.new.items) }
+    ensures progress { OnOk result (tokens_left parser.new < tokens_left parser.old) }
+    ensures moved { IsMoved numerator.old numerator.new
+        (identifiers (map significant_of (state_of X.answer parser.old).left)) }
 {
     if let Some(_newline) = parser.accept(TokenKind::Eol) {
         push_newline(items)?;
@@ -89,18 +96,19 @@ fn parse_line<'src, X: Expander>(
     Ok(())
 }
 
-/// What begins a line that is not blank, where no expression is open.
-#[tactic(auto, using(crate::proofs::Moved::unmoved), unfolding(justfile_model::specs::Reader::on_line, justfile_parse_expression::specs::TableReader::leaves))]
+/// Parses an item that begins a line. Requires that no expression is open.
+#[tactic(auto, using(crate::proofs::CounterSteps::unmoved), unfolding(justfile_model::specs::Reader::on_line, justfile_parse_expression::specs::TableReader::leaves))]
 fn parse_item<'src, X: Expander>(
     parser: &mut ExpressionParser<'_, 'src, X>,
     numerator: &mut Numerator,
-) -> Result<Item<'src>, Halt<'src>>
+) -> Result<Item<'src>, ParseError<'src>>
     requires { (state_of X.answer parser.old).depth ≡ 0 }
-    ensures reads { ReadsCounted item_tree result numerator.new (state_of X.answer parser.new)
-        (reader.on_line (counters_of numerator.old) (state_of X.answer parser.old)) }
-    ensures whole { IfOk result IsWholeItem }
-    ensures progress { OnOk result (left parser.new < left parser.old) }
-    ensures moved { IsMoved numerator.old numerator.new (identifiers (map significant_of (state_of X.answer parser.old).left)) }
+    ensures reads { ParsesCounted X.answer item_tree result numerator.new parser.old parser.new
+        (reader.on_line (counters_of numerator.old)) }
+    ensures whole { IfOk result HasDerivedItemFields }
+    ensures progress { OnOk result (tokens_left parser.new < tokens_left parser.old) }
+    ensures moved { IsMoved numerator.old numerator.new
+        (identifiers (map significant_of (state_of X.answer parser.old).left)) }
 {
     if let Some(comment) = parser.accept(TokenKind::Comment) {
         return Ok(make_comment(*comment.token));
@@ -108,17 +116,18 @@ fn parse_item<'src, X: Expander>(
     parse_construct(parser, numerator)
 }
 
-/// What ends an item: after a body a line starts, and the line end before it is made.
-#[tactic(auto, using(crate::proofs::Lines::ended_body, crate::proofs::Lines::ended_after, crate::proofs::Wholes::newline_whole))]
+/// Parses the end of an item, and appends the line end. After a body the next token begins a line
+/// already, so there the line end is added without a token.
+#[tactic(auto, using(crate::proofs::Lines::ended_body, crate::proofs::Lines::ended_after, crate::proofs::DerivedItemFields::newline_whole))]
 fn parse_item_end<'src, X: Expander>(
     parser: &mut ExpressionParser<'_, 'src, X>,
     has_body: bool,
     items: &mut Vec<Item<'src>>,
-) -> Result<(), Stop<'src>>
-    ensures reads { Reads (λ _. map item_tree items.new.items) result (state_of X.answer parser.new)
-        (prepend (map item_tree items.old.items) (reader.ended has_body (state_of X.answer parser.old))) }
-    ensures whole { OnOk result (KeepsWhole items.old.items items.new.items) }
-    ensures progress { OnOk result (left parser.new ≤ left parser.old) }
+) -> Result<(), ExpressionError<'src>>
+    ensures reads { Parses X.answer (λ _. map item_tree items.new.items) result parser.old
+        parser.new (λ s. prepend (map item_tree items.old.items) (reader.ended has_body s)) }
+    ensures whole { OnOk result (KeepsDerivedFields items.old.items items.new.items) }
+    ensures progress { OnOk result (tokens_left parser.new ≤ tokens_left parser.old) }
 {
     if has_body {
         push_newline(items)?;
@@ -127,16 +136,17 @@ fn parse_item_end<'src, X: Expander>(
     parse_after_item(parser, items)
 }
 
-/// What stands after an item without a body: a comment that trails it, and the end of the line.
+/// Parses what follows an item without a body: a trailing comment, if there is one, and the end of
+/// the line.
 #[tactic(auto, using(crate::proofs::Lines::after_comment, crate::proofs::Lines::after_bare))]
 fn parse_after_item<'src, X: Expander>(
     parser: &mut ExpressionParser<'_, 'src, X>,
     items: &mut Vec<Item<'src>>,
-) -> Result<(), Stop<'src>>
-    ensures reads { Reads (λ _. map item_tree items.new.items) result (state_of X.answer parser.new)
-        (prepend (map item_tree items.old.items) (reader.item_rest (state_of X.answer parser.old))) }
-    ensures whole { OnOk result (KeepsWhole items.old.items items.new.items) }
-    ensures progress { OnOk result (left parser.new ≤ left parser.old) }
+) -> Result<(), ExpressionError<'src>>
+    ensures reads { Parses X.answer (λ _. map item_tree items.new.items) result
+        parser.old parser.new (λ s. prepend (map item_tree items.old.items) (reader.item_rest s)) }
+    ensures whole { OnOk result (KeepsDerivedFields items.old.items items.new.items) }
+    ensures progress { OnOk result (tokens_left parser.new ≤ tokens_left parser.old) }
 {
     match parser.accept(TokenKind::Comment) {
         Some(comment) => {
@@ -147,16 +157,17 @@ fn parse_after_item<'src, X: Expander>(
     }
 }
 
-/// The end of a line, which is an item, or that of the file, which is left.
-#[tactic(auto, using(crate::proofs::Lines::line_end_closes, crate::proofs::Lines::line_end_newline, crate::proofs::Wholes::newline_whole, crate::proofs::Wholes::same_whole))]
+/// Parses the end of a line, which is an item of its own, or finds the end of the file, which it
+/// doesn't take.
+#[tactic(auto, using(crate::proofs::Lines::line_end_closes, crate::proofs::Lines::line_end_newline, crate::proofs::DerivedItemFields::newline_whole, crate::proofs::DerivedItemFields::same_whole))]
 fn parse_line_end<'src, X: Expander>(
     parser: &mut ExpressionParser<'_, 'src, X>,
     items: &mut Vec<Item<'src>>,
-) -> Result<(), Stop<'src>>
-    ensures reads { Reads (λ _. map item_tree items.new.items) result (state_of X.answer parser.new)
-        (prepend (map item_tree items.old.items) (reader.line_end (state_of X.answer parser.old))) }
-    ensures whole { OnOk result (KeepsWhole items.old.items items.new.items) }
-    ensures progress { OnOk result (left parser.new ≤ left parser.old) }
+) -> Result<(), ExpressionError<'src>>
+    ensures reads { Parses X.answer (λ _. map item_tree items.new.items) result
+        parser.old parser.new (λ s. prepend (map item_tree items.old.items) (reader.line_end s)) }
+    ensures whole { OnOk result (KeepsDerivedFields items.old.items items.new.items) }
+    ensures progress { OnOk result (tokens_left parser.new ≤ tokens_left parser.old) }
 {
     if let Some(_end) = parser.peek_if(TokenKind::Eof) {
         return Ok(());
@@ -166,19 +177,22 @@ fn parse_line_end<'src, X: Expander>(
     Ok(())
 }
 
-/// A comment, without the white space at its end.
+/// Makes a comment, without the whitespace at its end.
 fn make_comment<'src>(comment: Token<'src>) -> Item<'src>
     requires { IsTrue (starts_with nat_eq (lexeme_of comment) (codes "#")) }
     ensures tree { item_tree result ≡ tree.Comment (trim_end (lexeme_of comment.entry)) }
-    ensures whole { IsWholeItem result }
+    ensures whole { HasDerivedItemFields result }
 {
     Item::Comment(comment.lexeme().trim_end())
 }
 
-/// Adds an item. Whether it has a body.
-fn push_parsed<'src>(items: &mut Vec<Item<'src>>, item: Item<'src>) -> Result<bool, Stop<'src>>
-    ensures trees { UnlessMemory result
-        (λ done. map item_tree items.new.items ≡ map item_tree items.old.items ++ item_tree item.entry ∷ []) }
+/// Appends an item, and returns whether it has a body.
+fn push_parsed<'src>(
+    items: &mut Vec<Item<'src>>,
+    item: Item<'src>,
+) -> Result<bool, ExpressionError<'src>>
+    ensures trees { UnlessMemory result (λ done. map item_tree items.new.items
+        ≡ map item_tree items.old.items ++ item_tree item.entry ∷ []) }
     ensures pushed { OnOk result (items.new.items ≡ items.old.items ++ item.entry ∷ []) }
     ensures body { IfOk result (λ answer. answer ≡ has_body (item_tree item.entry)) }
 {
@@ -188,14 +202,14 @@ fn push_parsed<'src>(items: &mut Vec<Item<'src>>, item: Item<'src>) -> Result<bo
     push_known(items, item, false)
 }
 
-/// Adds an item of which it is known whether it has a body, and returns that.
+/// Appends an item, and returns `has_body`, which tells whether it has a body.
 fn push_known<'src>(
     items: &mut Vec<Item<'src>>,
     item: Item<'src>,
     has_body: bool,
-) -> Result<bool, Stop<'src>>
-    ensures trees { UnlessMemory result
-        (λ done. map item_tree items.new.items ≡ map item_tree items.old.items ++ item_tree item.entry ∷ []) }
+) -> Result<bool, ExpressionError<'src>>
+    ensures trees { UnlessMemory result (λ done. map item_tree items.new.items
+        ≡ map item_tree items.old.items ++ item_tree item.entry ∷ []) }
     ensures pushed { OnOk result (items.new.items ≡ items.old.items ++ item.entry ∷ []) }
     ensures body { IfOk result (λ answer. answer ≡ has_body) }
 {
@@ -210,13 +224,15 @@ fn is_bodied(item: &Item<'_>) -> bool
     item.has_body()
 }
 
-/// Adds an item. Room is made first, since a push that may fail gives the item back, by a copy more.
+/// Appends an item. Reserves room first: a push that can fail would return the item on failure,
+/// which costs one more copy.
 ///
 /// # Errors
 ///
-/// `AllocError` if the program is out of memory.
+/// `AllocError` if memory runs out.
 fn push_item<'src>(items: &mut Vec<Item<'src>>, item: Item<'src>) -> Result<(), AllocError>
-    ensures trees { OnOk result (map item_tree items.new.items ≡ map item_tree items.old.items ++ item_tree item.entry ∷ []) }
+    ensures trees { OnOk result (map item_tree items.new.items
+        ≡ map item_tree items.old.items ++ item_tree item.entry ∷ []) }
     ensures pushed { OnOk result (items.new.items ≡ items.old.items ++ item.entry ∷ []) }
 {
     items.reserve(1)?;
@@ -224,9 +240,10 @@ fn push_item<'src>(items: &mut Vec<Item<'src>>, item: Item<'src>) -> Result<(), 
     Ok(())
 }
 
-/// Adds the end of a line. That is an item without fields, so no item is copied.
+/// Appends a line end. It is an item without fields, so this copies no item.
 fn push_newline(items: &mut Vec<Item<'_>>) -> Result<(), AllocError>
-    ensures trees { OnOk result (map item_tree items.new.items ≡ map item_tree items.old.items ++ tree.Newline ∷ []) }
+    ensures trees { OnOk result (map item_tree items.new.items
+        ≡ map item_tree items.old.items ++ tree.Newline ∷ []) }
     ensures pushed { OnOk result (items.new.items ≡ items.old.items ++ variants.Newline ∷ []) }
 {
     items.reserve(1)?;

@@ -1,11 +1,11 @@
-//! From tokens to the items of a file, as they stand, without docs.
+//! From tokens to the items of a file, in their order and without docs.
 #![tactic(auto)]
 
 mod alias;
 mod assignment;
+mod attribute_checks;
 mod body;
 mod construct;
-mod content;
 mod function;
 mod import;
 mod items;

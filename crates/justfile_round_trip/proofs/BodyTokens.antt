@@ -1,4 +1,4 @@
--- What is known of the next token in and around a body, in any text.
+-- Properties of the next token in and around a body, in any text.
 use Rattle.std.proofs.Common.{◌≡◌, ℕ, zero, suc, ◌+◌, ◌<◌, ◌≤◌, Bool, true, false, cond, eqb, ltb, List, [], ◌∷◌, ◌⊎◌, inl, inr, length, get_or, take, drop, Option, Some, None, Ok, Err, refl, sym, ap, ◌∙◌, subst, ⊎_elim, arith, length-take}
 use Rattle.std.specs.Prelude.{◌&&◌, ◌||◌, not, is_some, nat_eq}
 use Rattle.std.specs.List.{starts_with}
@@ -7,21 +7,21 @@ use Rattle.std.proofs.lemmas.Bool.{and_parts}
 use Rattle.std.proofs.lemmas.Bool.Decides.{nat_tests}
 use Rattle.std.proofs.lemmas.List.Sums.{prefix_len-le-length}
 use Rattle.std.proofs.lemmas.Slice.Eq.{bytes_eq-Decides}
-use Rattle.justfile_word.specs.declared.byte_class.ByteClass.{ByteClass}
-use Rattle.justfile_word.specs.declared.byte_class.ByteClass.TheVariants as classes
-use Rattle.justfile_base.specs.declared.delimiter.Delimiter.{Delimiter}
-use Rattle.justfile_base.specs.declared.delimiter.Delimiter.TheVariants.{Brace, Bracket, Paren}
-use Rattle.justfile_base.specs.declared.string_kind.StringDelimiter.{StringDelimiter}
-use Rattle.justfile_base.specs.declared.string_kind.StringDelimiter.TheVariants as delimiters
-use Rattle.justfile_base.specs.declared.string_kind.StringKind.{StringKind}
-use Rattle.justfile_word.specs.declared.token_kind.TokenKind.{TokenKind}
-use Rattle.justfile_word.specs.declared.token_kind.TokenKind.TheVariants as kinds
-use Rattle.justfile_word.specs.ByteClass.{class_of}
-use Rattle.justfile_base.specs.StringKind.{kind_of, token_kind_of}
+use Rattle.justfile_vocabulary.specs.declared.byte_class.ByteClass.{ByteClass}
+use Rattle.justfile_vocabulary.specs.declared.byte_class.ByteClass.TheVariants as classes
+use Rattle.justfile_token.specs.declared.delimiter.Delimiter.{Delimiter}
+use Rattle.justfile_token.specs.declared.delimiter.Delimiter.TheVariants.{Brace, Bracket, Paren}
+use Rattle.justfile_token.specs.declared.string_kind.StringDelimiter.{StringDelimiter}
+use Rattle.justfile_token.specs.declared.string_kind.StringDelimiter.TheVariants as delimiters
+use Rattle.justfile_token.specs.declared.string_kind.StringKind.{StringKind}
+use Rattle.justfile_vocabulary.specs.declared.token_kind.TokenKind.{TokenKind}
+use Rattle.justfile_vocabulary.specs.declared.token_kind.TokenKind.TheVariants as kinds
+use Rattle.justfile_vocabulary.specs.ByteClass.{class_of}
+use Rattle.justfile_token.specs.StringKind.{kind_of, token_kind_of}
 use Rattle.justfile_model.specs.declared.open_delimiter.OpenDelimiter.{OpenDelimiter}
 use Rattle.justfile_model.specs.declared.raw_text.RawText.TheVariants as raw_texts
 use Rattle.justfile_model.specs.Bytes.{blank, is_blank, blank_len, is_line_end, is_interpolation_start, is_interpolation_end, is_mixed, closes_levels, first_char}
-use Rattle.justfile_model.specs.LexicalFault.{LexicalRefusal}
+use Rattle.justfile_model.specs.LexicalFault.{LexicalError}
 use Rattle.justfile_model.specs.LiteralText.{raw_len, ends, pieces_len}
 use Rattle.justfile_model.specs.Modes.{Mode, is_empty, innermost, nested}
 use Rattle.justfile_model.specs.Next.{NextToken, doubled_token, fixed_token, literal_part, literal_token, is_same, closing_delimiter, brace_by, token_by_class, token_outside_text, text_or, body_token, at_end_by, Region, InText, InInterpolation, Inline, region_by, token_in_region, token_within_line, blanks_or, tested_blanks, is_level, layout, begins_blank_line, next_by, next}
@@ -51,7 +51,7 @@ record Plain (found : NextToken) : Type 0 where
 is : {k : TokenKind} {n : ℕ} → plain k ≡ true → Plain (Ok (k, n))
 is e = record { by = e }
 
-refused : {r : LexicalRefusal} → Plain (Err r)
+refused : {r : LexicalError} → Plain (Err r)
 refused = record { by = tt }
 
 either : (b : Bool) {x y : NextToken} → Plain x → Plain y → Plain (cond b x y)
@@ -76,7 +76,8 @@ module _ (rest : List ℕ) where
       (either (eqb b 42) (is refl)
       (either (eqb b 44) (is refl)
       (either (eqb b 47) (is refl)
-      (either (eqb b 63) (is refl) (is refl)))))))))))
+      (either (eqb b 63) (is refl)
+      (either (eqb b 64) (is refl) refused)))))))))))
 
   part_plain : (k : StringKind) (format : Bool) (opener : ℕ) (more whole : TokenKind) → plain more ≡ true → plain whole ≡ true → Plain (literal_part k format opener more whole rest)
   unfolding literal_part
@@ -108,10 +109,14 @@ module _ (rest : List ℕ) where
   inline_plain m classes.IdentifierStart = is refl
   inline_plain m classes.IdentifierContinue = refused
   inline_plain m classes.Quote = literal_plain m
-  inline_plain m classes.Opener = either (eqb (get_or rest 0 0) 40) (is refl) (either (eqb (get_or rest 0 0) 91) (is refl) (is refl))
+  inline_plain m classes.Opener =
+      either (eqb (get_or rest 0 0) 40) (is refl)
+      (either (eqb (get_or rest 0 0) 91) (is refl)
+      (either (eqb (get_or rest 0 0) 123) (is refl) refused))
   inline_plain m classes.Closer =
       either (eqb (get_or rest 0 0) 41) (close_plain _ Paren kinds.ParenR refl)
-      (either (eqb (get_or rest 0 0) 93) (close_plain _ Bracket kinds.BracketR refl) (brace_plain _ _))
+      (either (eqb (get_or rest 0 0) 93) (close_plain _ Bracket kinds.BracketR refl)
+      (either (eqb (get_or rest 0 0) 125) (brace_plain _ _) refused))
   inline_plain m classes.Fixed = fixed_plain (get_or rest 0 0)
   inline_plain m classes.Lead = either (eqb (first_char rest) 65279) (is refl) refused
   inline_plain m classes.Other =
@@ -220,10 +225,6 @@ plain_finds w m rest (Ok x) outside p = record { fact = plain_fact w m rest x.0 
 plain_finds w m rest (Err r) outside p = record { fact = tt }
 
 -- ---- the text of a body
-
--- a line end is at the front
-abbrev EndFact : List ℕ → ℕ → Type 0
-EndFact rest n = (is_line_end rest ≡ true) × ((b : Bool) → closes_levels b rest ≡ closes_levels true (drop n rest))
 
 past_end : (x : ℕ) (xs : List ℕ) → is_line_end (x ∷ xs) ≡ true → blank (class_of x) ≡ false
 unfolding class_of

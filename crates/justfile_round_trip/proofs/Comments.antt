@@ -1,4 +1,4 @@
--- A comment that was lexed is, without the white space at its end, a comment before any printed line end.
+-- A comment from a text, without trailing white space, is a comment before any printed line end.
 use Rattle.std.proofs.Common.{◌≡◌, ℕ, ◌≤◌, true, eqb, List, ◌++◌, length, get_or, drop, refl, sym, ap, ◌∙◌, arith, append_assoc, length-append}
 use Rattle.std.specs.Prelude.{chars}
 use Rattle.std.specs.Str.{IsUtf8, trim_end, drop_trailing_whitespace}
@@ -11,12 +11,9 @@ use Rattle.justfile_model.proofs.CommentEnds.{ends_before_feed, no_feeds, no_ret
 use Rattle.justfile_model.proofs.TrimLaws.{dropped_once, kept, kept_scalars}
 use Rattle.justfile_round_trip.proofs.Good.{GoodComment}
 use Rattle.justfile_round_trip.proofs.Literals.{front_byte}
-use Rattle.justfile_round_trip.proofs.Sound.{LexedComment}
+use Rattle.justfile_round_trip.proofs.TokenFacts.{LexedComment}
 
 module _ (l : List ℕ) (u : IsUtf8 l) (c : LexedComment l) where
-  cs : List ℕ
-  cs = chars l
-
   ds : List ℕ
   ds = drop_trailing_whitespace (chars l)
 

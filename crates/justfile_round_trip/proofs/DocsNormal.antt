@@ -1,4 +1,4 @@
--- Docs are taken of a normal form as of the shape itself.
+-- The docs of a normal form are those of the shape itself.
 use Rattle.std.proofs.Common.{◌≡◌, ℕ, Bool, true, false, cond, List, [], ◌∷◌, Option, Some, None, refl, sym, ap, ◌∙◌}
 use Rattle.justfile_model.specs.Docs.{Before, LineEnd, Other, comment_taken, doc_in, doc_or_comment, documented, redocumented, taken, wants_doc}
 use Rattle.justfile_model.specs.Files.{says_doc}

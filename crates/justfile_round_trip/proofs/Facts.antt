@@ -1,4 +1,4 @@
--- What is found at the front of a text has its fact: a name, a literal, a comment.
+-- The token at the start of a text has its properties: a name, a literal, a comment.
 use Rattle.std.proofs.Common.{◌≡◌, ℕ, zero, suc, ◌+◌, ◌<◌, Bool, true, false, cond, eqb, List, [], ◌∷◌, ◌++◌, length, get_or, take, drop, Option, Some, None, Ok, Err, refl, sym, ap, ◌∙◌, subst, arith, length-append, length-take, take-append-drop}
 use Rattle.std.specs.Prelude.{◌&&◌, ◌||◌, not, nat_eq}
 use Rattle.std.specs.Str.{bytes_eq}
@@ -6,27 +6,27 @@ use Rattle.std.specs.List.{prefix_len, starts_with}
 use Rattle.std.proofs.lemmas.Bool.{and_parts}
 use Rattle.std.proofs.lemmas.Bool.Decides.{nat_tests}
 use Rattle.std.proofs.lemmas.List.{append-nil}
-use Rattle.justfile_word.specs.declared.byte_class.ByteClass.{ByteClass}
-use Rattle.justfile_word.specs.declared.byte_class.ByteClass.TheVariants as classes
-use Rattle.justfile_base.specs.declared.delimiter.Delimiter.{Delimiter}
-use Rattle.justfile_base.specs.declared.delimiter.Delimiter.TheVariants.{Brace, Bracket, Paren}
-use Rattle.justfile_base.specs.declared.string_kind.StringDelimiter.{StringDelimiter}
-use Rattle.justfile_base.specs.declared.string_kind.StringDelimiter.TheVariants as delimiters
-use Rattle.justfile_base.specs.declared.string_kind.StringKind.{StringKind}
-use Rattle.justfile_word.specs.declared.token_kind.TokenKind.{TokenKind}
-use Rattle.justfile_word.specs.declared.token_kind.TokenKind.TheVariants as kinds
-use Rattle.justfile_word.specs.ByteClass.{class_of}
-use Rattle.justfile_base.specs.StringKind.{delimiter_len, is_quote, kind_of, token_kind_of}
+use Rattle.justfile_vocabulary.specs.declared.byte_class.ByteClass.{ByteClass}
+use Rattle.justfile_vocabulary.specs.declared.byte_class.ByteClass.TheVariants as classes
+use Rattle.justfile_token.specs.declared.delimiter.Delimiter.{Delimiter}
+use Rattle.justfile_token.specs.declared.delimiter.Delimiter.TheVariants.{Brace, Bracket, Paren}
+use Rattle.justfile_token.specs.declared.string_kind.StringDelimiter.{StringDelimiter}
+use Rattle.justfile_token.specs.declared.string_kind.StringDelimiter.TheVariants as delimiters
+use Rattle.justfile_token.specs.declared.string_kind.StringKind.{StringKind}
+use Rattle.justfile_vocabulary.specs.declared.token_kind.TokenKind.{TokenKind}
+use Rattle.justfile_vocabulary.specs.declared.token_kind.TokenKind.TheVariants as kinds
+use Rattle.justfile_vocabulary.specs.ByteClass.{class_of}
+use Rattle.justfile_token.specs.StringKind.{delimiter_len, is_quote, kind_of, token_kind_of}
 use Rattle.justfile_model.specs.declared.open_delimiter.OpenDelimiter.{OpenDelimiter}
 use Rattle.justfile_model.specs.declared.raw_text.RawText.TheVariants as raw_texts
 use Rattle.justfile_model.specs.Bytes.{in_word, word_len, is_line_end, is_interpolation_start, is_interpolation_end, is_mixed, closes_levels, first_char}
 use Rattle.justfile_model.specs.LiteralText.{raw_len, is_delimiter, pieces_len}
-use Rattle.justfile_model.specs.LexicalFault.{LexicalRefusal}
+use Rattle.justfile_model.specs.LexicalFault.{LexicalError}
 use Rattle.justfile_model.specs.Tok.{Tok}
 use Rattle.justfile_model.specs.Modes.{Mode, is_empty, head_of, innermost, nested}
 use Rattle.justfile_model.specs.Next.{NextToken, format_kind, doubled_token, fixed_token, opening, literal_part, literal_token, is_backtick, is_same, closing_delimiter, brace_by, closing, line_end_token, escaped_line_end, token_by_class, token_outside_text, text_or, body_token, at_end_by, Region, InText, InInterpolation, Inline, token_in_region, token_within_line, blanks_or, tested_blanks, is_level, layout, begins_blank_line, next_by, next}
 use Rattle.justfile_model.proofs.CutLemmas.{raw_stops, raw_within}
-use Rattle.justfile_round_trip.proofs.Reading.{drop_front}
+use Rattle.justfile_round_trip.proofs.LexedModes.{drop_front}
 use Rattle.justfile_round_trip.proofs.Inline.{Each, IsName, IsPart, delimiter_of, delimiter_length, assoc3, length3, literal_again, quote_is}
 use Rattle.justfile_round_trip.proofs.Good.{IsDelimited, IsString, IsCommand, IsFormatLiteral, IsFormatStart, IsPartOf, IsPartOfOpen}
 use Rattle.justfile_round_trip.proofs.FormatScans.{braces_front, closers_front, same_front, stable_closing, part_cut, start_opens}
@@ -164,7 +164,7 @@ module _ (m : Mode) (rest : List ℕ) where
   any : (k : TokenKind) (n : ℕ) → ((l following : List ℕ) → Fact m k l following) → Finds m rest (Ok (k, n))
   any k n f = record { fact = λ l following e len. f l following }
 
-  refused : {r : LexicalRefusal} → Finds m rest (Err r)
+  refused : {r : LexicalError} → Finds m rest (Err r)
   refused = record { fact = tt }
 
   twice_finds : (b : ℕ) (k : TokenKind) → ((l following : List ℕ) → Fact m k l following) → Finds m rest (doubled_token b k rest)
@@ -184,10 +184,14 @@ module _ (m : Mode) (rest : List ℕ) where
       if_finds (eqb b 42) (λ _. any _ _ (λ l i. tt)) (λ _.
       if_finds (eqb b 44) (λ _. any _ _ (λ l i. tt)) (λ _.
       if_finds (eqb b 47) (λ _. any _ _ (λ l i. tt)) (λ _.
-      if_finds (eqb b 63) (λ _. any _ _ (λ l i. tt)) (λ _. any _ _ (λ l i. tt))))))))))))
+      if_finds (eqb b 63) (λ _. any _ _ (λ l i. tt)) (λ _.
+      if_finds (eqb b 64) (λ _. any _ _ (λ l i. tt)) (λ _. refused))))))))))))
 
-  opening_finds : (b : ℕ) → Finds m rest (opening b)
-  opening_finds b = if_finds (eqb b 40) (λ _. any _ _ (λ l i. tt)) (λ _. if_finds (eqb b 91) (λ _. any _ _ (λ l i. tt)) (λ _. any _ _ (λ l i. tt)))
+  opening_finds : (b : ℕ) → Finds m rest (opening b rest)
+  opening_finds b =
+      if_finds (eqb b 40) (λ _. any _ _ (λ l i. tt)) (λ _.
+      if_finds (eqb b 91) (λ _. any _ _ (λ l i. tt)) (λ _.
+      if_finds (eqb b 123) (λ _. any _ _ (λ l i. tt)) (λ _. refused)))
 
   -- a literal or a part of one, of which the first bytes are known
   part_finds : (k : StringKind) (format : Bool) (opener : ℕ) (more whole : TokenKind)
@@ -271,7 +275,8 @@ module _ (m : Mode) (rest : List ℕ) where
   closing_finds : (b : ℕ) → Finds m rest (closing (head_of m.openers) b rest)
   closing_finds b =
       if_finds (eqb b 41) (λ _. close_finds (head_of m.openers) Paren kinds.ParenR (λ l i. tt)) (λ _.
-      if_finds (eqb b 93) (λ _. close_finds (head_of m.openers) Bracket kinds.BracketR (λ l i. tt)) (λ _. brace_finds _ (head_of m.openers) refl))
+      if_finds (eqb b 93) (λ _. close_finds (head_of m.openers) Bracket kinds.BracketR (λ l i. tt)) (λ _.
+      if_finds (eqb b 125) (λ _. brace_finds _ (head_of m.openers) refl) (λ _. refused)))
 
   line_end_finds : (n : ℕ) → Finds m rest (line_end_token m n)
   line_end_finds n = if_finds (nested m) (λ _. any kinds.Whitespace n (λ l i. tt)) (λ _. any kinds.Eol n (λ l i. tt))

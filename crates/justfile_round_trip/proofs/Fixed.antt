@@ -1,15 +1,15 @@
--- Fixed tokens inside one line are lexed back.
+-- Tokens of fixed text inside a line lex to the printer's tokens.
 use Rattle.std.proofs.Common.{◌≡◌, ◌≢◌, ℕ, Bool, false, cond, eqb, List, [], ◌∷◌, ◌++◌, length, get_or, Option, Ok, refl, sym, ap, ◌∙◌, subst}
-use Rattle.justfile_word.specs.declared.byte_class.ByteClass.TheVariants as classes
-use Rattle.justfile_base.specs.declared.delimiter.Delimiter.TheVariants.{Brace, Bracket, Paren}
-use Rattle.justfile_word.specs.declared.token_kind.TokenKind.{TokenKind}
-use Rattle.justfile_word.specs.declared.token_kind.TokenKind.TheVariants.{AmpersandAmpersand, Asterisk, At, Bang, BangEquals, BangTilde, BarBar, BraceL, BraceR, BracketL, BracketR, ColonColon, ColonEquals, Comma, Dollar, Eof, Equals, EqualsEquals, EqualsTilde, ParenL, ParenR, Plus, PlusPlus, QuestionMark, Slash}
-use Rattle.justfile_word.specs.ByteClass.{class_of}
+use Rattle.justfile_vocabulary.specs.declared.byte_class.ByteClass.TheVariants as classes
+use Rattle.justfile_token.specs.declared.delimiter.Delimiter.TheVariants.{Brace, Bracket, Paren}
+use Rattle.justfile_vocabulary.specs.declared.token_kind.TokenKind.{TokenKind}
+use Rattle.justfile_vocabulary.specs.declared.token_kind.TokenKind.TheVariants.{AmpersandAmpersand, Asterisk, Bang, BangEquals, BangTilde, BarBar, BraceL, BraceR, BracketL, BracketR, ColonColon, ColonEquals, Comma, Dollar, Eof, Equals, EqualsEquals, EqualsTilde, ParenL, ParenR, Plus, PlusPlus, QuestionMark, Slash}
+use Rattle.justfile_vocabulary.specs.ByteClass.{class_of}
 use Rattle.justfile_model.specs.declared.open_delimiter.OpenDelimiter.{OpenDelimiter}
 use Rattle.justfile_model.specs.Tok.{Tok}
 use Rattle.justfile_model.specs.Modes.{is_empty, opener, mode_after}
 use Rattle.justfile_model.specs.Next.{fixed_token, token_by_class}
-use Rattle.justfile_round_trip.proofs.Reading.{Mark, mark, LexesTo, step}
+use Rattle.justfile_round_trip.proofs.LexedModes.{Mark, mark, LexesTo, step}
 use Rattle.justfile_round_trip.proofs.Inline.{amid, amid_next, and_false, and_no}
 
 module _ {os : List OpenDelimiter} {ls : List (List ℕ)} {c : Bool} {i : Option Tok} {f : Bool} where
@@ -44,10 +44,6 @@ module _ {os : List OpenDelimiter} {ls : List (List ℕ)} {c : Bool} {i : Option
   pub question_mark_step : {more : List ℕ} {ts : List Mark} → LexesTo (amid os ls c i false) more ts → LexesTo (amid os ls c i f) (63 ∷ more) (mark QuestionMark (63 ∷ []) ∷ ts)
   unfolding class_of fixed_token
   question_mark_step k = fixed_step QuestionMark 63 ([]) refl refl refl (λ e. cc) (λ t. refl) k
-
-  pub at_step : {more : List ℕ} {ts : List Mark} → LexesTo (amid os ls c i false) more ts → LexesTo (amid os ls c i f) (64 ∷ more) (mark At (64 ∷ []) ∷ ts)
-  unfolding class_of fixed_token
-  at_step k = fixed_step At 64 ([]) refl refl refl (λ e. cc) (λ t. refl) k
 
   pub and_step : {more : List ℕ} {ts : List Mark} → LexesTo (amid os ls c i false) more ts → LexesTo (amid os ls c i f) (38 ∷ 38 ∷ more) (mark AmpersandAmpersand (38 ∷ 38 ∷ []) ∷ ts)
   unfolding class_of fixed_token
@@ -88,10 +84,6 @@ module _ {os : List OpenDelimiter} {ls : List (List ℕ)} {c : Bool} {i : Option
   pub plus_step : {more : List ℕ} {ts : List Mark} → LexesTo (amid os ls c i false) (32 ∷ more) ts → LexesTo (amid os ls c i f) (43 ∷ 32 ∷ more) (mark Plus (43 ∷ []) ∷ ts)
   unfolding class_of fixed_token
   plus_step k = fixed_step Plus 43 [] refl refl refl (λ e. cc) (λ t. refl) k
-
-  pub equals_step : {more : List ℕ} {ts : List Mark} → LexesTo (amid os ls c i false) (32 ∷ more) ts → LexesTo (amid os ls c i f) (61 ∷ 32 ∷ more) (mark Equals (61 ∷ []) ∷ ts)
-  unfolding class_of fixed_token
-  equals_step k = fixed_step Equals 61 [] refl refl refl (λ e. cc) (λ t. refl) k
 
   -- in front of what makes no other operator of it
   pub plus_before : (more : List ℕ) {ts : List Mark} → eqb (get_or more 0 0) 43 ≡ false → LexesTo (amid os ls c i false) more ts → LexesTo (amid os ls c i f) (43 ∷ more) (mark Plus (43 ∷ []) ∷ ts)

@@ -1,4 +1,4 @@
--- What is known of the items of a shape that is printed: they stand in lines, and their attributes and their contents are good.
+-- Good items of shapes: they are arranged in lines, and their attributes and contents are good.
 use Rattle.std.proofs.Common.{◌≡◌, ℕ, Bool, true, false, List, [], ◌∷◌, Option, refl}
 use Rattle.std.specs.Prelude.{◌||◌, not}
 use Rattle.justfile_model.specs.Modes.{is_empty}

@@ -1,10 +1,10 @@
--- Lines that are printed are lexed back: comments, the first token of a line, and line ends.
+-- Printed lines lex to the printer's tokens: comments, the first token of a line, and line ends.
 use Rattle.std.proofs.Common.{◌≡◌, ℕ, ◌+◌, Bool, true, false, cond, eqb, List, [], ◌∷◌, ◌++◌, length, take, drop, Option, None, Ok, refl, sym, ap, ◌∙◌, subst, arith}
 use Rattle.std.specs.Prelude.{◌&&◌, slice_index}
 use Rattle.std.specs.Str.{bytes_eq}
-use Rattle.justfile_word.specs.declared.byte_class.ByteClass.TheVariants as classes
-use Rattle.justfile_word.specs.declared.token_kind.TokenKind.TheVariants.{Comment, Eol, Identifier}
-use Rattle.justfile_word.specs.ByteClass.{class_of}
+use Rattle.justfile_vocabulary.specs.declared.byte_class.ByteClass.TheVariants as classes
+use Rattle.justfile_vocabulary.specs.declared.token_kind.TokenKind.TheVariants.{Comment, Eol, Identifier}
+use Rattle.justfile_vocabulary.specs.ByteClass.{class_of}
 use Rattle.justfile_model.specs.declared.open_delimiter.OpenDelimiter.{OpenDelimiter}
 use Rattle.justfile_model.specs.declared.raw_text.RawText.TheVariants as raw_texts
 use Rattle.justfile_model.specs.Bytes.{blank, in_word, blank_len}
@@ -12,7 +12,7 @@ use Rattle.justfile_model.specs.LiteralText.{raw_len}
 use Rattle.justfile_model.specs.Tok.{Tok}
 use Rattle.justfile_model.specs.Modes.{Mode, is_empty}
 use Rattle.justfile_model.specs.Next.{token_by_class, token_within_line, layout, at_line_start, begins_blank_line, next}
-use Rattle.justfile_round_trip.proofs.Reading.{Mark, mark, LexesTo, step, take_front, drop_front}
+use Rattle.justfile_round_trip.proofs.LexedModes.{Mark, mark, LexesTo, step, take_front, drop_front}
 use Rattle.justfile_round_trip.proofs.Inline.{Each, head_is, amid, amid_next, IsName, run_each}
 
 -- where an item begins
@@ -65,10 +65,6 @@ line_end c f {more} {ts} k = step (amid [] [] c None f) Eol (10 ∷ []) more ts 
 pub record IsComment (t : List ℕ) : Type 0 where
   pub first : slice_index t 0 ≡ 35
   pub ends : (more : List ℕ) → raw_len raw_texts.Comment (t ++ (10 ∷ more)) ≡ length t
-
-hash_class : (x : ℕ) → x ≡ 35 → class_of x ≡ classes.Other
-unfolding class_of
-hash_class x e = ap class_of e
 
 hash_found : (m : Mode) (x : ℕ) (xs : List ℕ) → x ≡ 35 → token_by_class m (class_of x) (x ∷ xs) ≡ Ok (Comment, raw_len raw_texts.Comment (x ∷ xs))
 unfolding token_by_class class_of

@@ -1,4 +1,4 @@
--- Lines without the empty ones at the end.
+-- Lines without empty ones at the end.
 use Rattle.std.proofs.Common.{◌≡◌, List, [], ◌∷◌, refl, ap, ◌∙◌}
 use Rattle.std.specs.Prelude.{◌&&◌}
 use Rattle.justfile_model.specs.Printing.{printable_fragments, printable_body}

@@ -1,4 +1,4 @@
--- Which limit of depth a text needs.
+-- The depth limit that a text needs.
 use Rattle.std.specs.Prelude.{ℕ, List}
 use Rattle.std.specs.Str.{IsUtf8}
 use Rattle.justfile_model.specs.Conditions.{Conditions}
@@ -7,7 +7,7 @@ use Rattle.justfile_model.specs.Need.{IsNeed}
 use Rattle.justfile_model.specs.SignificantTokens.{significant_tokens}
 use Rattle.justfile_model.specs.Tok.{Tok}
 
--- the need of a text is that of its tokens
+-- The need of a text is the need of its tokens.
 pub record TextNeeds (conditions : Conditions) (source : List ℕ) (need : ℕ) : Type 0 where
   pub utf8 : IsUtf8 source
   pub tokens : List Tok

@@ -1,12 +1,12 @@
--- What a text derives, and what is printed of it.
+-- The tree that a text derives, and its printed text.
 use Rattle.std.specs.Prelude.{◌≡◌, ℕ, ◌+◌, List, [], ◌∷◌, map, if◌then◌else◌}
 use denote.Enum.Bare.{sameb}
 use Rattle.std.specs.Str.{IsUtf8}
 use Rattle.justfile_model.specs.Tok.{Tok}
 use Rattle.justfile_model.specs.Lexed.{Lexed}
 use Rattle.justfile_model.specs.SignificantTokens.{significant_tokens}
-use Rattle.justfile_word.specs.contracts.list_feature.ListFeature.{the_type}
-use Rattle.justfile_word.specs.declared.list_feature.ListFeature.{ListFeature}
+use Rattle.justfile_vocabulary.specs.contracts.list_feature.ListFeature.{the_type}
+use Rattle.justfile_vocabulary.specs.declared.list_feature.ListFeature.{ListFeature}
 use Rattle.justfile_model.specs.Tree.{Tree, Shape, lexeme, shape_of}
 use Rattle.justfile_model.specs.Features.{Noted}
 use Rattle.justfile_model.specs.NormalShape.{normal}
@@ -15,14 +15,14 @@ use Rattle.justfile_model.specs.Conditions.{Conditions}
 use Rattle.justfile_model.specs.Literals.{over_literal, AreCookedTexts}
 use Rattle.justfile_model.specs.Files.{FileDerives, literals, bindings, recipes}
 
--- the tree of a text and its features, under the conditions
+-- The text derives the tree with these features under the conditions.
 pub record TextDerives (conditions : Conditions) (source : List ℕ) (tree : Tree) (features : List (Noted Tok)) : Type 0 where
   pub utf8 : IsUtf8 source
   pub tokens : List Tok
   pub lexed : Lexed source tokens
   pub file : FileDerives conditions (significant_tokens tokens) tree features
 
--- what is printed of a shape
+-- the printed text of a shape
 abbrev pub printed : Shape → (indentation : List ℕ) → List ℕ
 printed shape indentation = text (normal shape) indentation
 
@@ -31,8 +31,8 @@ abbrev pub times : {B : Type 0} → ListFeature → List (Noted B) → ℕ
 times feature [] = 0
 times feature (n ∷ ns) = (if sameb the_type n.0 feature then 1 else 0) + times feature ns
 
--- The text derives the normal form of the shape, the same texts of literals, as many bindings and as many recipes, and is what is printed
--- of that. Each feature is noted as often: where it stands among the others is left open.
+-- The text is the printed text of the shape. It derives the normal form of the shape, with the same texts of literals and the same numbers
+-- of bindings and recipes, and prints as itself. Each feature is noted equally often; their order can differ.
 pub record ReadsBack (conditions : Conditions) (shape : Shape) (features : List (Noted Tok)) (indentation source : List ℕ) : Type 0 where
   pub tree : Tree
   pub found : List (Noted Tok)

@@ -1,11 +1,12 @@
-//! What is printed reads back: the round trip of the syntax of justfiles, proved of the definitions alone.
+//! The round trip: printed text parses to what was printed. It is proved of the definitions,
+//! without code.
 #![tactic(auto)]
 
 ghost use Rattle.std.specs.Prelude.{◌≡◌, ℕ, ◌<◌, ◌≤◌, min, List, ◌++◌, length, take, drop, slice_index, Ok, true, false};
-ghost use Rattle.justfile_word.specs.Indentation.{IsIndentation};
-ghost use Rattle.justfile_base.specs.declared.string_kind.StringKind.{StringKind};
-ghost use Rattle.justfile_word.specs.declared.token_kind.TokenKind.TheVariants.{StringToken};
-ghost use Rattle.justfile_base.specs.StringKind.{is_quote};
+ghost use Rattle.justfile_vocabulary.specs.Indentation.{IsIndentation};
+ghost use Rattle.justfile_token.specs.declared.string_kind.StringKind.{StringKind};
+ghost use Rattle.justfile_vocabulary.specs.declared.token_kind.TokenKind.TheVariants.{StringToken};
+ghost use Rattle.justfile_token.specs.StringKind.{is_quote};
 ghost use Rattle.justfile_model.specs.Bytes.{is_interpolation_start};
 ghost use Rattle.justfile_model.specs.Conditions.{Conditions};
 ghost use Rattle.justfile_model.specs.Features.{Noted};
@@ -21,10 +22,10 @@ ghost use Rattle.justfile_round_trip.specs.LiteralModes.{before_start, has_no_st
 ghost use Rattle.justfile_round_trip.specs.Need.{TextNeeds};
 ghost use Rattle.justfile_round_trip.specs.RoundTrip.{TextDerives, ReadsBack, printed};
 
-/// What is printed of a printable shape of any text derives the normal form of that shape, with each
-/// feature as often, the same texts of literals, as many bindings and as many recipes. Two such shapes
-/// are printed alike, at one indentation, exactly if their normal forms are equal. What is printed of
-/// the printed text is the same text.
+/// The printed text of a printable shape derives the normal form of that shape, with each feature
+/// equally often, the same texts of literals, and the same numbers of bindings and recipes. Two
+/// such shapes have the same printed text, with the same indentation, exactly if their normal forms
+/// are equal. Printing the printed text gives the same text.
 pub fn reads_back()
     ensures back { (conditions : Conditions) (source : List ℕ) (tree : Tree) (features : List (Noted Tok))
         (indentation : List ℕ) → IsIndentation indentation → TextDerives conditions source tree features → printable (shape_of tree) ≡ true
@@ -42,8 +43,9 @@ pub fn reads_back()
     ensures stays_printable { (shape : Shape) → printable (normal shape) ≡ printable shape }
 {}
 
-/// A text that derives a tree has a need, the least limit of depth under which it does. What is printed of a printable shape of a text has
-/// the least need of all texts with the same normal form, whatever expander and version those are read with.
+/// A text that derives a tree has a need, the least depth limit under which it derives the tree.
+/// The printed text of a printable shape has the least need of all texts with the same normal form,
+/// whatever their expander and version.
 pub fn least_need()
     ensures need { (conditions : Conditions) (source : List ℕ) (tree : Tree)
         (features : List (Noted Tok)) → TextDerives conditions source tree features
@@ -56,22 +58,23 @@ pub fn least_need()
         → TextNeeds conditions (printed (shape_of tree) indentation) need → need ≤ others.limit }
 {}
 
-/// Format mode and plain mode agree on where the inside of a literal ends, but for a `{{` that
-/// nothing hides: a `{{{{` is passed in both, and so is what a backslash hides.
+/// Format mode and plain mode find the same end of a literal's inside, except at a `{{` that isn't
+/// hidden. Both skip a `{{{{` and what a backslash hides.
 pub fn modes_agree()
-    // Format mode ends at the first of two ends: that of plain mode, and such a `{{`.
+    // Format mode ends at the end of plain mode or at such a `{{`, whichever is first.
     ensures first_end { (kind : StringKind) (text : List ℕ)
         → raw_len (Literal kind true) text ≡ min (raw_len (Literal kind false) text) (before_start kind text) }
-    // Where format mode ends at a delimiter, or not before the text does, plain mode ends there too.
+    // If format mode ends at a delimiter or at the end of the text, plain mode ends there, too.
     ensures whole { (kind : StringKind) (text : List ℕ) → is_interpolation_start (drop (raw_len (Literal kind true) text) text) ≡ false
         → raw_len (Literal kind false) text ≡ raw_len (Literal kind true) text }
-    // Where it ends at a `{{`, plain mode goes on.
+    // If format mode ends at a `{{`, plain mode ends later.
     ensures part { (kind : StringKind) (text : List ℕ) → is_interpolation_start (drop (raw_len (Literal kind true) text) text) ≡ true
         → raw_len (Literal kind true) text < raw_len (Literal kind false) text }
-    // Where plain mode passes no `{{`, format mode ends there too.
+    // If the inside in plain mode has no `{{`, format mode ends at the same position.
     ensures plain { (kind : StringKind) (text : List ℕ) → has_no_start (take (raw_len (Literal kind false) text) text) ≡ true
         → raw_len (Literal kind true) text ≡ raw_len (Literal kind false) text }
-    // A string literal that was lexed in either mode is lexed alike in plain mode, before all that begins with no quote.
+    // A string token of either mode is the same token in plain mode, before any text that doesn't
+    // begin with a quote.
     ensures again { (m n : Mode) (lexeme following more : List ℕ) → is_quote (slice_index lexeme 0) ≡ true
         → literal_token m (lexeme ++ following) ≡ Ok (StringToken, length lexeme) → n.after_f ≡ false
         → is_quote (slice_index more 0) ≡ false → literal_token n (lexeme ++ more) ≡ Ok (StringToken, length lexeme) }

@@ -9,8 +9,8 @@ use justfile_syntax::switch::Switch;
 use row_notation::{Answer, Text, field_at};
 use std::alloc::{AllocError, Global};
 
-/// The kind of attributes that a text names, or `none`, with what is said of it. A kind that is
-/// written otherwise has `unspelled` after it.
+/// Writes the kind of attribute with this name and its properties, or `none`. Writes `unspelled`
+/// after it if the kind's own name differs.
 pub(crate) fn attribute_kind(answer: &mut Answer, text: &str) {
     let Some(kind) = AttributeKind::from_name(text) else {
         return answer.push("none");
@@ -22,7 +22,7 @@ pub(crate) fn attribute_kind(answer: &mut Answer, text: &str) {
     answer.push_if("unspelled", kind.name() != text)
 }
 
-/// The signal that a text names, and how it is written, or `none`.
+/// Writes the signal with this name, and the text that it displays, or `none`.
 pub(crate) fn signal(answer: &mut Answer, text: &str) {
     let Some(signal) = Signal::from_name(text) else {
         return answer.push("none");
@@ -31,7 +31,7 @@ pub(crate) fn signal(answer: &mut Answer, text: &str) {
     answer.push_made(signal.to_string(answer.alloc()))
 }
 
-/// The switch of this form, of which a short one has the first character of the name.
+/// Makes the switch of this form. A short one has the first character of the name.
 fn switch_of(alloc: Global, form: &str, name: &str) -> Result<Switch, AllocError> {
     match (form, name.chars().next()) {
         ("short", Some(character)) => Ok(Switch::Short(character)),
@@ -39,18 +39,18 @@ fn switch_of(alloc: Global, form: &str, name: &str) -> Result<Switch, AllocError
     }
 }
 
-/// How a switch is given.
+/// Returns the text that a switch displays.
 fn switch_text(alloc: Global, form: &str, name: &str) -> Result<String, AllocError> {
     switch_of(alloc, form, name)?.to_string(alloc)
 }
 
-/// How the switch of a form and a name is given.
+/// Writes the text that the switch of a form and a name displays.
 pub(crate) fn switch(answer: &mut Answer, fields: &[String]) {
     let (form, name) = (field_at(fields, 0), field_at(fields, 1));
     answer.push_made(switch_text(answer.alloc(), form, name))
 }
 
-/// Attributes, each in brackets and with a blank after it.
+/// Writes attributes, each in brackets and with a blank after it.
 pub(crate) fn put_attributes(attributes: &AttributeSet<'_>, shown: &mut Text) {
     for attribute in attributes.iter() {
         shown.put("[");
@@ -59,7 +59,8 @@ pub(crate) fn put_attributes(attributes: &AttributeSet<'_>, shown: &mut Text) {
     }
 }
 
-/// The attributes of the first item that has some, each with the offset of its name, and its comment.
+/// Writes the attributes of the first item that has any, each with the offset of its name, and its
+/// comment.
 pub(crate) fn attributes(items: &[Item<'_>], answer: &mut Answer) {
     for item in items {
         if push_attributes_of(item, answer) {
@@ -68,7 +69,7 @@ pub(crate) fn attributes(items: &[Item<'_>], answer: &mut Answer) {
     }
 }
 
-/// The attributes of an item, and whether it has some.
+/// Writes the attributes of an item, and returns whether it has any.
 fn push_attributes_of(item: &Item<'_>, answer: &mut Answer) -> bool {
     match item {
         Item::Alias(alias) => push_attributes(&alias.attributes, answer),
@@ -83,7 +84,8 @@ fn push_attributes_of(item: &Item<'_>, answer: &mut Answer) -> bool {
     }
 }
 
-/// Attributes, each with the offset of its name and its comment, and whether there are some.
+/// Writes attributes, each with the offset of its name and its comment, and returns whether there
+/// are any.
 fn push_attributes(attributes: &AttributeSet<'_>, answer: &mut Answer) -> bool {
     for attribute in attributes.iter() {
         push_attribute(attributes, attribute, answer);
@@ -91,7 +93,7 @@ fn push_attributes(attributes: &AttributeSet<'_>, answer: &mut Answer) -> bool {
     attributes.len() > 0
 }
 
-/// An attribute of a set, with the offset of its name, and in ‹› its comment if it has one.
+/// Writes an attribute of a set with the offset of its name, and in ‹› its comment if it has one.
 pub(crate) fn push_attribute<'src>(
     set: &AttributeSet<'src>,
     attribute: &Attribute<'src>,

@@ -1,4 +1,5 @@
-//! That each beginning of a text is answered, and settles once it is printed.
+//! Checks that each beginning of a text is parsed or refused, and that what it is printed to
+//! settles: prints to itself.
 
 use crate::expansion::Expansion;
 use crate::fields::indentation_of;
@@ -12,10 +13,10 @@ use justfile_syntax::indentation::Indentation;
 use justfile_syntax::parser::RECURSION_LIMIT;
 use row_notation::{Answer, Text};
 
-/// The indentations at which what is printed is to settle.
+/// The indentations at which the printed text has to settle.
 const INDENTATIONS: [&str; 3] = ["    ", "  ", "\t"];
 
-/// Says of a file that can be printed where what is printed does not settle.
+/// Writes where the printed text of a file doesn't settle, if the file can be printed.
 fn settles_everywhere(ast: &mut Ast<'_>, answer: &mut Answer) {
     if ast.printable() {
         for blanks in INDENTATIONS {
@@ -24,7 +25,7 @@ fn settles_everywhere(ast: &mut Ast<'_>, answer: &mut Answer) {
     }
 }
 
-/// Says where what is printed of a file at an indentation does not settle.
+/// Writes how the printed text of a file doesn't settle at an indentation, if it doesn't.
 fn settles_at(ast: &Ast<'_>, answer: &mut Answer, indentation: Indentation) {
     match ast.print(answer.alloc(), indentation) {
         Ok(printed) => settles(answer, indentation, RECURSION_LIMIT, printed.as_str()),
@@ -32,7 +33,7 @@ fn settles_at(ast: &Ast<'_>, answer: &mut Answer, indentation: Indentation) {
     }
 }
 
-/// Whether a refusal is a fault of the text, and not of the program or the machine.
+/// Whether a fault is one of the text, and not of the program or the machine.
 fn is_of_text(fault: &Fault<'_>) -> bool {
     match fault {
         Fault::Compile(error) => !matches!(error.kind, CompileErrorKind::Internal { .. }),
@@ -40,7 +41,7 @@ fn is_of_text(fault: &Fault<'_>) -> bool {
     }
 }
 
-/// Says what is wrong with the answer for a text, and answers whether it is a file.
+/// Writes what is wrong with the result for a text, and returns whether it is a file.
 fn is_file(answer: &mut Answer, text: &str) -> bool {
     match parse(answer.alloc(), &Expansion::Unchanged, RECURSION_LIMIT, text) {
         Ok(mut ast) => {
@@ -56,7 +57,8 @@ fn is_file(answer: &mut Answer, text: &str) -> bool {
     }
 }
 
-/// Whether a text is a file or refused, after what is wrong with the answers for its beginnings.
+/// Writes what is wrong with the results for a text's beginnings, and then whether the text is a
+/// file or refused.
 pub(crate) fn beginnings(answer: &mut Answer, text: &str) {
     let mut beginning = Text::new(answer.alloc());
     let mut is_whole = is_file(answer, "");

@@ -1,4 +1,4 @@
-//! Copies of parts of files, each of which is equal to what it is a copy of.
+//! Checks that copies of parts of files are equal to their originals.
 
 use justfile_syntax::assignment::Assignment;
 use justfile_syntax::fragment::Fragment;
@@ -6,7 +6,7 @@ use justfile_syntax::line::Line;
 use row_notation::Answer;
 use std::alloc::AllocError;
 
-/// Says that the copy that was made of a value is not equal to it.
+/// Writes the copy of a value if it isn't equal to the value.
 fn push_copy<T: PartialEq + Drop>(value: &T, copy: Result<T, AllocError>, answer: &mut Answer) {
     match copy {
         Ok(copy) => answer.push_if("uncopied", copy != *value),
@@ -14,7 +14,7 @@ fn push_copy<T: PartialEq + Drop>(value: &T, copy: Result<T, AllocError>, answer
     }
 }
 
-/// Says that a copy of an assignment is another one.
+/// Writes the copy of an assignment if it isn't equal to it.
 pub(crate) fn copies_assignment(assignment: &Assignment<'_>, answer: &mut Answer) {
     push_copy(assignment, assignment.clone(answer.alloc()), answer);
 }
@@ -23,7 +23,7 @@ fn copies_fragment(fragment: &Fragment<'_>, answer: &mut Answer) {
     push_copy(fragment, fragment.clone(answer.alloc()), answer);
 }
 
-/// Says that a copy of a line is another one, or one of a fragment of it another fragment.
+/// Writes the copy of a line if it isn't equal to it, or the copy of a fragment of it.
 pub(crate) fn copies_line(line: &Line<'_>, answer: &mut Answer) {
     push_copy(line, line.clone(answer.alloc()), answer);
     for fragment in &line.fragments {

@@ -1,4 +1,4 @@
-//! What the expander of a row answers.
+//! The expanders of rows.
 ghost use Rattle.justfile_rows.specs.Expansion.{answer_of};
 
 use justfile_syntax::expander::{ExpandFault, Expander};
@@ -7,20 +7,20 @@ use std::alloc::Global;
 /// An expander.
 #[derive(Clone, Copy)]
 pub(crate) enum Expansion<'row> {
-    /// It answers each text as it is.
+    /// It returns each text unchanged.
     Unchanged,
-    /// It puts each text in brackets.
+    /// It returns each text in brackets.
     Bracketed,
-    /// It answers this for each text.
+    /// It returns this text for each text.
     Constant(&'row str),
     /// It refuses each text with `no`.
     Refused,
-    /// It finds no memory.
+    /// It fails for lack of memory.
     Exhausted,
 }
 
 impl Expansion<'_> {
-    /// The expander that a field names, if it names one.
+    /// Returns the expander that a field names, or `None` if it names none.
     pub(crate) fn of(field: &str) -> Option<Self> {
         match field {
             "unchanged" => Some(Expansion::Unchanged),

@@ -1,16 +1,16 @@
-//! What fields of a row are besides texts.
+//! Fields of rows that aren't texts.
 
 use crate::expansion::Expansion;
 use crate::word::Word;
 use justfile_syntax::indentation::Indentation;
 use row_notation::{field_at, is_number};
 
-/// The indentation that a field is, and four spaces for a field that is none.
+/// Returns the indentation in a field, or four spaces if it isn't one.
 pub(crate) fn indentation_of(field: &str) -> Indentation {
     field.parse::<Indentation>().unwrap_or_default()
 }
 
-/// Whether something of a run has this name.
+/// Whether a part of a run with this name can be made to fail.
 fn is_breakable(name: &str) -> bool {
     matches!(
         name,
@@ -18,7 +18,7 @@ fn is_breakable(name: &str) -> bool {
     )
 }
 
-/// Whether the fields are of the kinds that a row with this word has.
+/// Whether the fields are of the kinds that a row with this word needs.
 pub(crate) fn are_readable(word: Word, fields: &[String]) -> bool {
     let first = field_at(fields, 0);
     match word {

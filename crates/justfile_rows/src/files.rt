@@ -36,7 +36,7 @@ const CURRENT: Version = Version {
     patch: 0,
 };
 
-/// The file that a text is under a limit of depth, with numbers from a numerator.
+/// Parses a text under a limit of depth, with numbers from a numerator.
 fn parse_from<'src>(
     alloc: Global,
     numerator: &mut Numerator,
@@ -55,7 +55,7 @@ fn parse_from<'src>(
     )
 }
 
-/// What a text is parsed to under a limit of depth, where the first numbers are 0.
+/// Parses a text under a limit of depth, with numbers from 0.
 pub(crate) fn parse<'src>(
     alloc: Global,
     expansion: &Expansion<'_>,
@@ -65,7 +65,7 @@ pub(crate) fn parse<'src>(
     parse_from(alloc, &mut Numerator::new(0), expansion, limit, text)
 }
 
-/// What a row's word asks of a file.
+/// Writes what a row's word asks for about a file.
 fn push_file(ast: &mut Ast<'_>, answer: &mut Answer, word: Word, fields: &[String]) {
     match word {
         Word::Expected | Word::Message | Word::Refused | Word::RefusedUnder => {
@@ -87,7 +87,7 @@ fn push_file(ast: &mut Ast<'_>, answer: &mut Answer, word: Word, fields: &[Strin
     }
 }
 
-/// What a row's word asks of a file's items.
+/// Writes what a row's word asks for about a file's items.
 fn push_of_items(items: &[Item<'_>], answer: &mut Answer, word: Word, fields: &[String]) {
     match word {
         Word::Attributes => attributes(items, answer),
@@ -102,7 +102,7 @@ fn push_of_items(items: &[Item<'_>], answer: &mut Answer, word: Word, fields: &[
     }
 }
 
-/// What a row's word asks of a file that is printed.
+/// Writes what a row's word asks for about a file's printed text.
 fn push_printed(ast: &Ast<'_>, answer: &mut Answer, word: Word, fields: &[String]) {
     let indentation = indentation_for(word, fields);
     match word {
@@ -113,7 +113,7 @@ fn push_printed(ast: &Ast<'_>, answer: &mut Answer, word: Word, fields: &[String
     }
 }
 
-/// The indentation of a row.
+/// Returns the indentation of a row.
 fn indentation_for(word: Word, fields: &[String]) -> Indentation {
     match word {
         Word::PrintsAt | Word::PrintsItem => indentation_of(field_at(fields, 0)),
@@ -121,14 +121,14 @@ fn indentation_for(word: Word, fields: &[String]) -> Indentation {
     }
 }
 
-/// What the first value of a file is made of, and what the file is printed as.
+/// Writes the parts of the first value of a file, and the file's printed text.
 fn push_value_and_text(ast: &Ast<'_>, answer: &mut Answer) {
     push_of_value(&ast.items, answer, Word::Value);
     copies(ast, answer, Indentation::default());
 }
 
-/// What a row's word asks of a file, and what it asks of a copy if that is something else. A file is
-/// printed and parsed again without a copy.
+/// Writes what a row's word asks for about a file, and also about its copy if that differs. For
+/// printing there is no copy: the file is printed and parsed again.
 fn push_file_and_copy(ast: &mut Ast<'_>, answer: &mut Answer, word: Word, fields: &[String]) {
     let mut found = Answer::new(answer.alloc());
     push_file(ast, &mut found, word, fields);
@@ -140,7 +140,8 @@ fn push_file_and_copy(ast: &mut Ast<'_>, answer: &mut Answer, word: Word, fields
     }
 }
 
-/// Whether a copy of the file is asked, too. What a file is printed as is asked of the file alone.
+/// Whether the word asks about a copy of the file, too. Words about printing ask only about the
+/// file.
 fn is_copied(word: Word) -> bool {
     !matches!(
         word,
@@ -148,7 +149,7 @@ fn is_copied(word: Word) -> bool {
     )
 }
 
-/// What a row's word asks of a copy of a file.
+/// Writes what a row's word asks for about a copy of a file.
 fn push_copy(ast: &Ast<'_>, answer: &mut Answer, word: Word, fields: &[String]) {
     match ast.clone(answer.alloc()) {
         Ok(mut copy) => push_file(&mut copy, answer, word, fields),
@@ -156,8 +157,8 @@ fn push_copy(ast: &Ast<'_>, answer: &mut Answer, word: Word, fields: &[String]) 
     }
 }
 
-/// What a row's word asks of its text. For `numbers` it stands after the numbers that a binding and
-/// a recipe would get next.
+/// Writes what a row's word asks for about its text. For `numbers`, first writes the next numbers
+/// of a binding and of a recipe.
 fn push_parsed(answer: &mut Answer, word: Word, fields: &[String]) {
     let mut numerator = numerator_of(word, fields);
     let text = text_of(word, fields);
@@ -175,7 +176,7 @@ fn push_parsed(answer: &mut Answer, word: Word, fields: &[String]) {
     answer.push_all(&found);
 }
 
-/// Why there is no file, as a row's word asks for it.
+/// Writes why there is no file, in the form that a row's word asks for.
 fn push_why(answer: &mut Answer, word: Word, text: &str, fault: &Fault<'_>) {
     match word {
         Word::Expected => push_expected(answer, text, fault),
@@ -184,7 +185,7 @@ fn push_why(answer: &mut Answer, word: Word, text: &str, fault: &Fault<'_>) {
     }
 }
 
-/// A number, or `none`.
+/// Writes a number, or `none`.
 fn push_number(answer: &mut Answer, number: Option<Number>) {
     match number {
         Some(number) => answer.push_number(number.0 as usize),
@@ -192,8 +193,8 @@ fn push_number(answer: &mut Answer, number: Option<Number>) {
     }
 }
 
-/// The numerator of a row: for `numbers` one that gave bindings the numbers below the first field,
-/// and recipes those below the second.
+/// Returns the numerator of a row. For `numbers` it has already given bindings the numbers below
+/// the first field, and recipes those below the second.
 fn numerator_of(word: Word, fields: &[String]) -> Numerator {
     if word != Word::Numbers {
         return Numerator::new(0);
@@ -205,7 +206,7 @@ fn numerator_of(word: Word, fields: &[String]) -> Numerator {
     numerator
 }
 
-/// The fields after the first one as one text.
+/// Joins the fields after the first one.
 fn join_fields(alloc: Global, fields: &[String]) -> Text {
     let mut joined = Text::new(alloc);
     for field in fields.iter().skip(1) {
@@ -214,7 +215,7 @@ fn join_fields(alloc: Global, fields: &[String]) -> Text {
     joined
 }
 
-/// The expander of a row.
+/// Returns the expander of a row.
 fn expansion_of(word: Word, fields: &[String]) -> Expansion<'_> {
     match word {
         Word::Expands => Expansion::of(field_at(fields, 0)).unwrap_or(Expansion::Unchanged),
@@ -223,7 +224,7 @@ fn expansion_of(word: Word, fields: &[String]) -> Expansion<'_> {
     }
 }
 
-/// The limit of depth of a row.
+/// Returns the limit of depth of a row.
 fn limit_of(word: Word, fields: &[String]) -> usize {
     match word {
         Word::CanonicalUnder | Word::PrintsUnder | Word::RefusedUnder => {
@@ -233,7 +234,7 @@ fn limit_of(word: Word, fields: &[String]) -> usize {
     }
 }
 
-/// The text of a row.
+/// Returns the text of a row.
 fn text_of(word: Word, fields: &[String]) -> &str {
     match word {
         Word::CanonicalUnder
@@ -250,7 +251,7 @@ fn text_of(word: Word, fields: &[String]) -> &str {
     }
 }
 
-/// What a row's word asks of its fields.
+/// Writes what a row's word asks for about its fields.
 pub(crate) fn push_fields(answer: &mut Answer, word: Word, fields: &[String]) {
     if word == Word::Beginnings {
         beginnings(answer, join_fields(answer.alloc(), fields).as_str());

@@ -1,4 +1,4 @@
-//! What is seen of the doc, the parameters and the dependencies of a recipe.
+//! Docs, parameters and dependencies of recipes, as rows show them.
 
 use crate::items::{put_expression, put_if, put_marked, put_name};
 use crate::values::push_parts;
@@ -9,7 +9,7 @@ use justfile_syntax::recipe::UnresolvedRecipe;
 use justfile_syntax::unresolved_dependency::{DependencyArgument, UnresolvedDependency};
 use row_notation::{Answer, Text};
 
-/// The doc of a recipe or a module in ‹›, if it has one.
+/// Writes the doc of a recipe or a module in ‹›, if it has one.
 pub(crate) fn put_doc(shown: &mut Text, doc: &Option<String>) {
     if let Some(text) = doc {
         put_marked(shown, "doc ", text.as_str());
@@ -17,7 +17,7 @@ pub(crate) fn put_doc(shown: &mut Text, doc: &Option<String>) {
     }
 }
 
-/// Parameters as they are written, each with its number.
+/// Writes parameters as they are printed, each with its number.
 pub(crate) fn put_parameters(parameters: &[Parameter<'_>], shown: &mut Text) {
     for parameter in parameters {
         shown.put(" ");
@@ -27,8 +27,8 @@ pub(crate) fn put_parameters(parameters: &[Parameter<'_>], shown: &mut Text) {
     }
 }
 
-/// Dependencies as they are written, after a colon if there are some. The first that runs after the
-/// recipe has `&&` before it.
+/// Writes dependencies as they are printed, after a colon if there are any, with `&&` before the
+/// first that runs after the recipe.
 pub(crate) fn put_dependencies(
     dependencies: &[UnresolvedDependency<'_>],
     shown: &mut Text,
@@ -41,7 +41,7 @@ pub(crate) fn put_dependencies(
     }
 }
 
-/// The doc of each recipe and each module of a file's items in ‹›, or `none`.
+/// Writes the doc of each recipe and module of a file's items in ‹›, or `none`.
 pub(crate) fn docs(items: &[Item<'_>], answer: &mut Answer) {
     for item in items {
         match item {
@@ -61,7 +61,7 @@ fn push_doc(answer: &mut Answer, doc: &Option<String>) {
     answer.push_text(shown);
 }
 
-/// Each parameter of a recipe: what it is written as, and what it is.
+/// Writes each parameter of a recipe: its printed text, and its fields.
 pub(crate) fn push_parameters(parameters: &[Parameter<'_>], answer: &mut Answer) {
     for parameter in parameters {
         answer.push_made(parameter.to_string(answer.alloc()));
@@ -83,7 +83,7 @@ fn push_parameter(parameter: &Parameter<'_>, answer: &mut Answer) {
     answer.push_text(shown);
 }
 
-/// The kind of a parameter, its prefix, and whether it takes several arguments.
+/// Writes the kind of a parameter, its prefix, and whether it takes several arguments.
 fn put_kind(parameter: &Parameter<'_>, shown: &mut Text) {
     shown.put_made(format!(in shown.alloc(); " {:?}", parameter.kind));
     if let Some(prefix) = parameter.kind.prefix() {
@@ -92,7 +92,7 @@ fn put_kind(parameter: &Parameter<'_>, shown: &mut Text) {
     put_if(shown, " variadic", parameter.kind.is_variadic());
 }
 
-/// A word and an expression in (), if there is one.
+/// Writes a word and an expression in (), if there is one.
 fn put_value(value: &Option<Box<Expression<'_>>>, shown: &mut Text, word: &str) {
     if let Some(expression) = value {
         shown.put(word);
@@ -102,14 +102,14 @@ fn put_value(value: &Option<Box<Expression<'_>>>, shown: &mut Text, word: &str) 
     }
 }
 
-/// A word and a number, if there is one.
+/// Writes a word and a number, if there is one.
 fn put_bound(shown: &mut Text, word: &str, bound: Option<u64>) {
     if let Some(number) = bound {
         shown.put_made(format!(in shown.alloc(); " {word} {number}"));
     }
 }
 
-/// What the attribute of a parameter says of it, in the order of the names.
+/// Writes what the `arg` attribute of a parameter sets, in the order of the fields' names.
 fn put_argument_rules(parameter: &Parameter<'_>, shown: &mut Text) {
     put_if(shown, " flag", parameter.flag);
     put_if(shown, " help", parameter.help.is_some());
@@ -125,7 +125,7 @@ fn put_argument_rules(parameter: &Parameter<'_>, shown: &mut Text) {
     put_value(&parameter.value, shown, " value");
 }
 
-/// What each parameter's default is made of, or `none`.
+/// Writes the parts of each parameter's default, or `none`.
 pub(crate) fn push_defaults(parameters: &[Parameter<'_>], answer: &mut Answer) {
     for parameter in parameters {
         match &parameter.default {
@@ -135,8 +135,8 @@ pub(crate) fn push_defaults(parameters: &[Parameter<'_>], answer: &mut Answer) {
     }
 }
 
-/// How many dependencies run before a recipe, and each dependency: what it is written as, and what
-/// it is.
+/// Writes how many dependencies run before a recipe, and each dependency: its printed text, and its
+/// fields.
 pub(crate) fn push_dependencies(recipe: &UnresolvedRecipe<'_>, answer: &mut Answer) {
     answer.push_number(recipe.priors);
     for dependency in &recipe.dependencies {
@@ -145,7 +145,7 @@ pub(crate) fn push_dependencies(recipe: &UnresolvedRecipe<'_>, answer: &mut Answ
     }
 }
 
-/// Whether an argument of a dependency is starred, the names of its path, and its arguments.
+/// Writes whether a dependency has a starred argument, the names of its path, and its arguments.
 fn push_dependency(dependency: &UnresolvedDependency<'_>, answer: &mut Answer) {
     let mut shown = Text::new(answer.alloc());
     shown.put(if dependency.starred() {
@@ -160,7 +160,7 @@ fn push_dependency(dependency: &UnresolvedDependency<'_>, answer: &mut Answer) {
     answer.push_text(shown);
 }
 
-/// The names of a dependency's path, each after a blank.
+/// Writes the names of a dependency's path, each after a blank.
 fn put_path(dependency: &UnresolvedDependency<'_>, shown: &mut Text) {
     for name in dependency.recipe.iter() {
         shown.put(" ");
@@ -168,14 +168,14 @@ fn put_path(dependency: &UnresolvedDependency<'_>, shown: &mut Text) {
     }
 }
 
-/// An argument in (), as it is written. What is starred has a star there.
+/// Writes an argument in (), as it is printed, after a star if it is starred.
 fn put_argument(argument: &DependencyArgument<'_>, shown: &mut Text) {
     shown.put(" (");
     shown.put_made(argument.to_string(shown.alloc()));
     shown.put(")");
 }
 
-/// What each argument of each dependency is made of.
+/// Writes the parts of each argument of each dependency.
 pub(crate) fn push_arguments(dependencies: &[UnresolvedDependency<'_>], answer: &mut Answer) {
     for dependency in dependencies {
         push_arguments_of(dependency.arguments.as_slice(), answer);

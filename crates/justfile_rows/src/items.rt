@@ -1,4 +1,4 @@
-//! What is seen of the items of a file.
+//! Items of files, as rows show them.
 
 use crate::attributes::put_attributes;
 use crate::headers::{put_dependencies, put_doc, put_parameters};
@@ -23,21 +23,21 @@ use justfile_syntax::unstable_feature::UnstableFeature;
 use row_notation::{Answer, Text};
 use std::collections::BTreeSet;
 
-/// What is handed in for each file.
+/// The arguments of `parse` that are the same for each file.
 pub(crate) const FILE_DEPTH: u32 = 2;
 
 pub(crate) const IMPORT_OFFSETS: &[usize] = &[3, 14];
 
 pub(crate) const WORKING_DIRECTORY: &str = "/home";
 
-/// A word, if it is so.
+/// Writes a word if `is_so`.
 pub(crate) fn put_if(shown: &mut Text, word: &str, is_so: bool) {
     if is_so {
         shown.put(word);
     }
 }
 
-/// A word, and a text in ‹›.
+/// Writes a word, and a text in ‹›.
 pub(crate) fn put_marked(shown: &mut Text, word: &str, text: &str) {
     shown.put(word);
     shown.put("‹");
@@ -49,12 +49,12 @@ pub(crate) fn put_name(shown: &mut Text, name: Name<'_>) {
     shown.put_made(name.to_string(shown.alloc()));
 }
 
-/// The text of an expression.
+/// Writes the printed text of an expression.
 pub(crate) fn put_expression(expression: &Expression<'_>, shown: &mut Text) {
     shown.put_made(expression.to_string(shown.alloc()));
 }
 
-/// A fragment of a line: a text in ‹›, an expression in ().
+/// Writes a fragment of a line: a text in ‹›, an expression in ().
 fn put_fragment(fragment: &Fragment<'_>, shown: &mut Text) {
     match fragment {
         Fragment::Text { token } => put_marked(shown, " ", token.lexeme()),
@@ -66,7 +66,7 @@ fn put_fragment(fragment: &Fragment<'_>, shown: &mut Text) {
     }
 }
 
-/// A line of a body: a bar, the number of the line, and its fragments.
+/// Writes a line of a body: a bar, the number of the line, and its fragments.
 fn put_line(line: &Line<'_>, shown: &mut Text) {
     shown.put(" | ");
     shown.put_number(line.number);
@@ -75,8 +75,8 @@ fn put_line(line: &Line<'_>, shown: &mut Text) {
     }
 }
 
-/// A recipe: its doc, its attributes, whether it is quiet, its name, its number, its parameters, its
-/// dependencies, and each line of its body.
+/// Writes a recipe: its doc, its attributes, whether it is quiet, its name, its number, its
+/// parameters, its dependencies, and each line of its body.
 fn put_recipe(recipe: &UnresolvedRecipe<'_>, shown: &mut Text) {
     put_doc(shown, &recipe.doc);
     put_attributes(&recipe.attributes, shown);
@@ -95,13 +95,13 @@ fn put_recipe(recipe: &UnresolvedRecipe<'_>, shown: &mut Text) {
     }
 }
 
-/// A literal: whether it is marked to be expanded, and what it stands for.
+/// Writes a literal: whether it is expanded, and its text.
 pub(crate) fn put_literal(literal: &StringLiteral<'_>, shown: &mut Text) {
     let word = if literal.expand { "marked " } else { "text " };
     put_marked(shown, word, literal.cooked.as_str());
 }
 
-/// A value, after a word for its form.
+/// Writes a value, after a word for its form.
 pub(crate) fn put_value(value: &Expression<'_>, shown: &mut Text) {
     match value {
         Expression::Backtick { contents, .. } => put_marked(shown, "command ", contents.as_str()),
@@ -117,8 +117,8 @@ pub(crate) fn put_value(value: &Expression<'_>, shown: &mut Text) {
     }
 }
 
-/// An assignment: its attributes, its marks, its name, its number, its depth, whether it is private,
-/// and its value.
+/// Writes an assignment: its attributes, its marks, its name, its number, its depth, whether it is
+/// private, and its value.
 fn put_assignment(assignment: &Assignment<'_>, shown: &mut Text) {
     put_attributes(&assignment.attributes, shown);
     put_if(shown, "eager ", assignment.eager);
@@ -136,7 +136,7 @@ fn put_assignment(assignment: &Assignment<'_>, shown: &mut Text) {
     put_value(&assignment.value, shown);
 }
 
-/// An alias: its attributes, its name, and the names of its target's path.
+/// Writes an alias: its attributes, its name, and the names of its target's path.
 fn put_alias(alias: &Alias<'_, Namepath<'_>>, shown: &mut Text) {
     put_attributes(&alias.attributes, shown);
     shown.put("alias ");
@@ -147,7 +147,8 @@ fn put_alias(alias: &Alias<'_, Namepath<'_>>, shown: &mut Text) {
     }
 }
 
-/// A function: its attributes, its name, its parameters, each with its number, and its value.
+/// Writes a function: its attributes, its name, its parameters, each with its number, and its
+/// value.
 fn put_function(function: &FunctionDefinition<'_>, shown: &mut Text) {
     put_attributes(&function.attributes, shown);
     shown.put("function ");
@@ -162,7 +163,8 @@ fn put_function(function: &FunctionDefinition<'_>, shown: &mut Text) {
     put_value(&function.body, shown);
 }
 
-/// What begins an import or a module: its attributes, and its word with `?` if the file may be missing.
+/// Writes the beginning of an import or a module: its attributes, and its keyword, with `?` if the
+/// file is optional.
 fn put_word(attributes: &AttributeSet<'_>, shown: &mut Text, word: &str, optional: bool) {
     put_attributes(attributes, shown);
     shown.put(word);
@@ -170,7 +172,7 @@ fn put_word(attributes: &AttributeSet<'_>, shown: &mut Text, word: &str, optiona
     shown.put(" ");
 }
 
-/// The path of a module after a blank, if it has one.
+/// Writes the path of a module after a blank, if it has one.
 fn put_path(path: &Option<StringLiteral<'_>>, shown: &mut Text) {
     if let Some(literal) = path {
         shown.put(" ");
@@ -178,7 +180,7 @@ fn put_path(path: &Option<StringLiteral<'_>>, shown: &mut Text) {
     }
 }
 
-/// The key of an item that is found by one, and of a recipe that of its name.
+/// Writes the key of an item that has one. That of a recipe is its name.
 fn push_key(item: &Item<'_>, answer: &mut Answer) {
     match item {
         Item::Alias(alias) => answer.push(alias.key()),
@@ -190,14 +192,14 @@ fn push_key(item: &Item<'_>, answer: &mut Answer) {
     }
 }
 
-/// The keys of the items that have some.
+/// Writes the keys of the items that have one.
 pub(crate) fn keys(items: &[Item<'_>], answer: &mut Answer) {
     for item in items {
         push_key(item, answer);
     }
 }
 
-/// What is seen of an item.
+/// Writes an item.
 fn put_item(item: &Item<'_>, shown: &mut Text) {
     match item {
         Item::Alias(alias) => put_alias(alias, shown),
@@ -240,15 +242,15 @@ fn push_item(item: &Item<'_>, answer: &mut Answer) {
     answer.push_text(shown);
 }
 
-/// What is seen of the items of a file.
+/// Writes the items of a file.
 fn push_items(items: &[Item<'_>], answer: &mut Answer) {
     for item in items {
         push_item(item, answer);
     }
 }
 
-/// What is seen of a file: a field for each item, whether the working directory is another one than
-/// was handed in, whether a feature is unstable, and whether the file says how it is indented.
+/// Writes a file: a field for each item, whether the working directory isn't the one passed to
+/// `parse`, whether a feature is unstable, and whether the file sets an indentation.
 pub(crate) fn file(ast: &Ast<'_>, answer: &mut Answer) {
     push_items(&ast.items, answer);
     answer.push_if(
@@ -259,8 +261,8 @@ pub(crate) fn file(ast: &Ast<'_>, answer: &mut Answer) {
     answer.push_if("indentation", ast.indentation().is_some());
 }
 
-/// The features of a file that need the setting for lists, each with the offset of its token and in
-/// ‹› its lexeme.
+/// Writes the uses of features that need the setting `lists`, each with the offset of its token and
+/// in ‹› its lexeme.
 pub(crate) fn features(answer: &mut Answer, features: &[(ListFeature, Token<'_>)]) {
     for (feature, token) in features {
         push_feature(answer, *feature, token);
@@ -276,14 +278,14 @@ fn push_feature(answer: &mut Answer, feature: ListFeature, token: &Token<'_>) {
     answer.push_text(shown);
 }
 
-/// The unstable features that a file uses.
+/// Writes the unstable features that a file uses.
 pub(crate) fn unstable(answer: &mut Answer, features: &BTreeSet<UnstableFeature>) {
     for feature in features {
         answer.push_made(format!(in answer.alloc(); "{feature:?}"));
     }
 }
 
-/// The indentation that a file says, or `none`.
+/// Writes the indentation that a file sets, or `none`.
 pub(crate) fn indented(ast: &Ast<'_>, answer: &mut Answer) {
     match ast.indentation() {
         Some(indentation) => answer.push_made(indentation.to_string(answer.alloc())),
@@ -291,14 +293,15 @@ pub(crate) fn indented(ast: &Ast<'_>, answer: &mut Answer) {
     }
 }
 
-/// What items are called that are there on this system.
+/// Writes the names of the items that are enabled on this system.
 pub(crate) fn enabled(items: &[Item<'_>], answer: &mut Answer) {
     for item in items {
         push_enabled(item, answer);
     }
 }
 
-/// What an item is called that is there. An item that has no name and isn't there is `missing`.
+/// Writes the name of an item that is enabled. An item without a name always is; if it isn't,
+/// writes `missing`.
 fn push_enabled(item: &Item<'_>, answer: &mut Answer) {
     if item.is_enabled() {
         push_name(item, answer);
@@ -307,7 +310,7 @@ fn push_enabled(item: &Item<'_>, answer: &mut Answer) {
     }
 }
 
-/// What an item is called, if it has a name; an import by its path.
+/// Writes the name of an item, if it has one. That of an import is its path.
 fn push_name(item: &Item<'_>, answer: &mut Answer) {
     match item {
         Item::Alias(alias) => answer.push(alias.name.lexeme()),

@@ -1,4 +1,4 @@
-//! Does what rows say, and compares.
+//! Runs rows, and compares what they find with what they expect.
 
 use crate::attributes::{attribute_kind, signal, switch};
 use crate::fields::are_readable;
@@ -10,19 +10,19 @@ use crate::word::Word;
 use row_notation::{Answer, field_at};
 use std::alloc::{AllocError, Global};
 
-/// What became of a row.
+/// The outcome of a row.
 #[derive(Drop)]
 pub(crate) enum Outcome {
     /// What was found is what is expected.
     Holds,
-    /// It is something else.
+    /// Something else was found.
     Fails { expected: String, found: String },
     /// The row can't be read.
     Unreadable,
 }
 
-/// What a row expects: the fields after those that it gives. `beginnings` expects its first field,
-/// `canonical` what it gives, and `canonical_under` what it gives after its limit.
+/// Returns what a row expects: the fields after its input. `beginnings` expects its first field,
+/// `canonical` its input, and `canonical_under` its input without the limit.
 fn expected(alloc: Global, word: Word, least: usize, fields: &[String]) -> Answer {
     let mut answer = Answer::new(alloc);
     for (place, field) in fields.iter().enumerate() {
@@ -33,7 +33,7 @@ fn expected(alloc: Global, word: Word, least: usize, fields: &[String]) -> Answe
     answer
 }
 
-/// Whether the field at a place is expected.
+/// Whether the field at an index is expected.
 fn is_expected(word: Word, least: usize, place: usize) -> bool {
     match word {
         Word::Beginnings => place == 0,
@@ -43,7 +43,7 @@ fn is_expected(word: Word, least: usize, place: usize) -> bool {
     }
 }
 
-/// What is found for a row.
+/// Returns what is found for a row.
 fn found(alloc: Global, word: Word, fields: &[String]) -> Answer {
     let mut answer = Answer::new(alloc);
     let text = field_at(fields, 0);
@@ -85,7 +85,7 @@ fn compared(
     Ok(Outcome::Fails { expected, found })
 }
 
-/// What becomes of a row whose word and fields these are.
+/// Runs the row with this word and these fields, and returns its outcome.
 pub(crate) fn outcome_of(alloc: Global, row: &[String]) -> Result<Outcome, AllocError> {
     let Some((written, fields)) = row.split_first() else {
         return Ok(Outcome::Unreadable);

@@ -1,4 +1,4 @@
-//! What texts are lexed to.
+//! Tokens of texts, as rows show them.
 
 use crate::refusal::{kind_of, place_after, push_fault};
 use crate::word::Word;
@@ -11,7 +11,7 @@ use justfile_syntax::token::Token;
 use justfile_syntax::token_kind::TokenKind;
 use row_notation::{Answer, Text};
 
-/// The lexemes that an answer leaves out.
+/// The lexemes that results leave out.
 static USUAL_LEXEMES: &[(TokenKind, &str)] = &[
     (TokenKind::AmpersandAmpersand, "&&"),
     (TokenKind::Asterisk, "*"),
@@ -48,7 +48,7 @@ static USUAL_LEXEMES: &[(TokenKind, &str)] = &[
     (TokenKind::Whitespace, " "),
 ];
 
-/// Whether an answer leaves a lexeme out.
+/// Whether results leave out this lexeme for tokens of this kind.
 fn is_usual(kind: TokenKind, lexeme: &str) -> bool {
     for (usual_kind, usual) in USUAL_LEXEMES {
         if *usual_kind == kind {
@@ -58,7 +58,7 @@ fn is_usual(kind: TokenKind, lexeme: &str) -> bool {
     false
 }
 
-/// A token: its kind, and in ‹› its lexeme if that is another than the usual one.
+/// Writes a token: its kind, and its lexeme in ‹› unless that is the usual one.
 fn push_token(answer: &mut Answer, token: &Token<'_>) {
     let kind = token.kind;
     let lexeme = token.lexeme();
@@ -72,7 +72,7 @@ fn push_token(answer: &mut Answer, token: &Token<'_>) {
     answer.push_text(shown);
 }
 
-/// Whether a token of a text follows this beginning of it.
+/// Whether a token of `text` comes directly after `before`.
 fn follows(text: &str, before: &str, token: &Token<'_>) -> bool {
     let (line, column) = place_after(text, before);
     token.offset == before.len()
@@ -83,8 +83,8 @@ fn follows(text: &str, before: &str, token: &Token<'_>) -> bool {
         && token.src == text
 }
 
-/// Each token, and `misplaced` after one that doesn't follow those before it. The lexemes are the
-/// text, or `joined` and what they are follows them.
+/// Writes each token, with `misplaced` after one that doesn't follow those before it. If the
+/// lexemes don't join to the text, writes `joined` and what they join to.
 fn push_tokens(answer: &mut Answer, text: &str, tokens: &[Token<'_>]) {
     let mut before = Text::new(answer.alloc());
     for token in tokens {
@@ -98,8 +98,8 @@ fn push_tokens(answer: &mut Answer, text: &str, tokens: &[Token<'_>]) {
     }
 }
 
-/// A lexical refusal: its kind, and the kind, the offset, the line, the column and the length of its
-/// token.
+/// Writes a lexical error: its kind, and the kind, the offset, the line, the column and the length
+/// of its token.
 fn push_error(answer: &mut Answer, error: &CompileError<'_>) {
     let token = error.token;
     answer.push_made(kind_of(answer.alloc(), &error.kind));
@@ -110,14 +110,14 @@ fn push_error(answer: &mut Answer, error: &CompileError<'_>) {
     answer.push_number(token.length);
 }
 
-/// What the kinds of tokens are written as in messages.
+/// Writes the texts that the kinds of tokens display in messages.
 fn push_kinds(answer: &mut Answer, tokens: &[Token<'_>]) {
     for token in tokens {
         answer.push_made(token.kind.to_string(answer.alloc()));
     }
 }
 
-/// The kinds of the significant tokens, and `glued` after one that no blank stands before.
+/// Writes the kinds of the significant tokens, with `glued` after one without whitespace before it.
 fn push_significant(answer: &mut Answer, tokens: &[Token<'_>]) {
     match significant(answer.alloc(), tokens) {
         Ok(table) => push_table(answer, table.as_slice()),
@@ -132,7 +132,7 @@ fn push_table(answer: &mut Answer, table: &[TableEntry<'_, '_>]) {
     }
 }
 
-/// The kind of the literal that the first token is, or why it is none.
+/// Writes the kind of the literal that the first token is, or why it isn't one.
 fn push_literal_kind(answer: &mut Answer, tokens: &[Token<'_>]) {
     if let Some(token) = tokens.first() {
         match StringKind::from_string_or_backtick(*token) {
@@ -142,13 +142,13 @@ fn push_literal_kind(answer: &mut Answer, tokens: &[Token<'_>]) {
     }
 }
 
-/// The delimiter of a literal, and whether it is tripled.
+/// Writes the delimiter of a literal, and whether it is tripled.
 pub(crate) fn push_string_kind(answer: &mut Answer, kind: StringKind) {
     answer.push_made(format!(in answer.alloc(); "{:?}", kind.delimiter));
     answer.push(if kind.indented { "tripled" } else { "single" });
 }
 
-/// What a row's word asks of the tokens of a text.
+/// Writes what a row's word asks for about the tokens of a text.
 fn push_lexed(answer: &mut Answer, word: Word, text: &str, tokens: &[Token<'_>]) {
     match word {
         Word::KindOf => push_literal_kind(answer, tokens),
@@ -158,7 +158,7 @@ fn push_lexed(answer: &mut Answer, word: Word, text: &str, tokens: &[Token<'_>])
     }
 }
 
-/// What a row's word asks of a text that is lexed, or why the text is refused.
+/// Lexes a text, and writes what a row's word asks for about it, or why it is refused.
 pub(crate) fn lex(answer: &mut Answer, word: Word, text: &str) {
     match Lexer::lex(answer.alloc(), "justfile", text) {
         Ok(tokens) => push_lexed(answer, word, text, tokens.as_slice()),

@@ -1,12 +1,13 @@
-//! Does what rows of data say, and compares what is found with what they expect.
+//! Runs rows of data, and compares what they find with what they expect.
 //!
-//! The arguments are the names of files of rows. A row has a word, which says what is done, the
-//! fields with which it is done, and the fields that are expected:
+//! The arguments are the names of files of rows. A row has a word, which says what it does, then
+//! its input, and then what it expects:
 //!
 //!     prints «a:=b» «a := b\n»
 //!
-//! Rows that fail or can't be read are printed, and last how many hold, fail and can't be read. The
-//! status is 0 if the files could be read. `docs/ROWS.md` has the notation and the words.
+//! The program prints the rows that fail or can't be read, and at the end how many hold, fail and
+//! can't be read. The exit status is 0 if the files could be read. `docs/ROWS.md` has the notation
+//! and the words.
 #![tactic(auto)]
 
 mod attributes;
@@ -44,7 +45,7 @@ struct Counts {
     unreadable: u64,
 }
 
-/// What becomes of a row.
+/// Returns the outcome of a row.
 fn outcome_of_row(rt: &HostRuntime, row: Row) -> io::Result<Outcome> {
     match row.fields()? {
         Some(fields) => Ok(outcome_of(rt.alloc(), fields.as_slice())?),
@@ -52,7 +53,7 @@ fn outcome_of_row(rt: &HostRuntime, row: Row) -> io::Result<Outcome> {
     }
 }
 
-/// Does what a row says, prints it if it does not hold, and counts it.
+/// Runs a row, prints it unless it holds, and counts it.
 fn run_row(rt: &HostRuntime, path: &str, row: Row, counts: &mut Counts) -> io::Result<()> {
     let line = row.line;
     match outcome_of_row(rt, row)? {
@@ -69,7 +70,7 @@ fn run_row(rt: &HostRuntime, path: &str, row: Row, counts: &mut Counts) -> io::R
     Ok(())
 }
 
-/// Does what the rows of a file say.
+/// Runs the rows of a file.
 fn run_file(rt: &HostRuntime, path: &str, counts: &mut Counts) -> io::Result<()> {
     let text = fs::read_to_string(rt, path)?;
     for row in rows_of(rt.alloc(), text.as_str())? {

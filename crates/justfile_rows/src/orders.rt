@@ -1,4 +1,4 @@
-//! How the values of a file are ordered.
+//! The order of a file's values.
 
 use crate::copies::copies_assignment;
 use justfile_syntax::expression::Expression;
@@ -7,7 +7,7 @@ use row_notation::{Answer, Text};
 use std::alloc::{AllocError, Global};
 use std::cmp::Ordering;
 
-/// How the value of each assignment compares with that of the next one. The end of a line stands
+/// Writes how the value of each assignment compares with that of the next one. A line end comes
 /// between two assignments.
 pub(crate) fn orders(items: &[Item<'_>], answer: &mut Answer) {
     for (place, item) in items.iter().enumerate() {
@@ -19,7 +19,7 @@ pub(crate) fn orders(items: &[Item<'_>], answer: &mut Answer) {
     }
 }
 
-/// How a value compares with that of the assignment at the place, if there is one.
+/// Writes how a value compares with that of the assignment at an index, if there is one.
 fn push_with_next<'src>(
     items: &[Item<'src>],
     answer: &mut Answer,
@@ -34,7 +34,7 @@ fn push_with_next<'src>(
     }
 }
 
-/// What was made, in a box.
+/// Moves a value into a box, if it was made.
 fn boxed<T: Drop>(alloc: Global, made: Result<T, AllocError>) -> Result<Box<T>, AllocError> {
     match made {
         Ok(value) => match Box::new(alloc, value) {
@@ -45,7 +45,7 @@ fn boxed<T: Drop>(alloc: Global, made: Result<T, AllocError>) -> Result<Box<T>, 
     }
 }
 
-/// A copy of a value.
+/// Returns a copy of a value in a box.
 pub(crate) fn copy_of<'src>(
     value: &Expression<'src>,
     alloc: Global,
@@ -53,7 +53,7 @@ pub(crate) fn copy_of<'src>(
     boxed(alloc, value.clone(alloc))
 }
 
-/// Says that a copy of a value is another value.
+/// Writes the copy of a value if it differs from the value.
 fn push_with_copy(value: &Expression<'_>, answer: &mut Answer) {
     match copy_of(value, answer.alloc()) {
         Ok(copy) => push_other(value, &copy, answer),
@@ -68,8 +68,8 @@ fn push_other<'src>(value: &Expression<'src>, copy: &Expression<'src>, answer: &
     );
 }
 
-/// How two values compare with their places, and after it how by what they hold. Where the ways to
-/// compare them disagree, `apart` stands after it.
+/// Writes how two values compare with their positions, and how they compare by content. Writes
+/// `apart` if the ways to compare them with their positions disagree.
 pub(crate) fn push_order<'src>(
     value: &Expression<'src>,
     other: &Expression<'src>,
@@ -83,14 +83,14 @@ pub(crate) fn push_order<'src>(
     answer.push_if("apart", !agrees(value, other, order));
 }
 
-/// Whether each way to compare two values with their places gives this order.
+/// Whether each way to compare two values with their positions results in this order.
 fn agrees<'src>(value: &Expression<'src>, other: &Expression<'src>, order: Ordering) -> bool {
     value.partial_cmp(other) == Some(order)
         && other.cmp(value) == order.reverse()
         && (value == other) == order.is_eq()
 }
 
-/// The sign of an order.
+/// Returns the sign of an order.
 fn sign(order: Ordering) -> &'static str {
     match order {
         Ordering::Less => "<",

@@ -1,5 +1,5 @@
-//! What files are printed as. A file is the first parameter wherever it is one: where its lifetimes
-//! come after others, the check passes its limit.
+//! Printed texts of files. Functions take the file as their first parameter, because its lifetimes
+//! after those of others make the check exceed its limit.
 
 use crate::expansion::Expansion;
 use crate::files::parse;
@@ -9,14 +9,14 @@ use justfile_syntax::indentation::Indentation;
 use justfile_syntax::item::Item;
 use row_notation::Answer;
 
-/// What a file is printed as at an indentation.
+/// Writes a file's printed text at an indentation.
 pub(crate) fn copies(ast: &Ast<'_>, answer: &mut Answer, indentation: Indentation) {
     answer.push_made(ast.print(answer.alloc(), indentation));
 }
 
-/// What a file is printed as at an indentation. After it stands `unprintable` if the file says that
-/// this would not parse back; else what the printed text is if it does not settle under a limit of
-/// depth.
+/// Writes a file's printed text at an indentation. If it says that it isn't printable, writes
+/// `unprintable` after it; otherwise, if the printed text doesn't settle under a limit of depth,
+/// writes what it is printed to instead.
 pub(crate) fn prints(ast: &Ast<'_>, answer: &mut Answer, indentation: Indentation, limit: usize) {
     let Ok(printed) = ast.print(answer.alloc(), indentation) else {
         return answer.fail();
@@ -29,8 +29,8 @@ pub(crate) fn prints(ast: &Ast<'_>, answer: &mut Answer, indentation: Indentatio
     }
 }
 
-/// Says that under a limit of depth a printed text is no file that can be printed and prints as this
-/// text, and what it is instead.
+/// Writes what a printed text is parsed and printed to under a limit of depth, unless that is the
+/// same text.
 pub(crate) fn settles(answer: &mut Answer, indentation: Indentation, limit: usize, printed: &str) {
     let mut again = Answer::new(answer.alloc());
     match parse(answer.alloc(), &Expansion::Unchanged, limit, printed) {
@@ -42,14 +42,15 @@ pub(crate) fn settles(answer: &mut Answer, indentation: Indentation, limit: usiz
     answer.push_unless("unsettled", &again, &expected);
 }
 
-/// What a file is printed as at an indentation, and whether it says that this would not parse back.
+/// Writes a file's printed text at an indentation, and whether the file says that it isn't
+/// printable.
 fn prints_once(ast: &mut Ast<'_>, answer: &mut Answer, indentation: Indentation) {
     copies(ast, answer, indentation);
     answer.push_if("unprintable", !ast.printable());
 }
 
-/// Whether the first of a file's items has a body, and what it is printed as alone at an indentation.
-/// After that stands what an alias, an assignment or a setting is written as.
+/// Writes whether the first item of a file has a body, and the item's own printed text at an
+/// indentation. For an alias, an assignment or a setting, also writes the text that it displays.
 pub(crate) fn prints_item(items: &[Item<'_>], answer: &mut Answer, indentation: Indentation) {
     if items.is_empty() {
         return answer.push("none");

@@ -16,7 +16,7 @@ struct Streams<'row> {
 }
 
 impl<'row> Streams<'row> {
-    /// Streams of a run whose standard input is this.
+    /// Makes the streams of a run with this standard input.
     fn new(alloc: Global, input: &'row [u8]) -> Self {
         Streams {
             input: Stream::new(alloc, input),
@@ -25,7 +25,8 @@ impl<'row> Streams<'row> {
         }
     }
 
-    /// Makes what a row names fail after so many calls, the last of which has at most so many bytes.
+    /// Makes the named part of a run fail after `calls` calls, the last of which has at most
+    /// `last_bytes` bytes.
     fn fail(&mut self, name: &str, calls: u32, last_bytes: usize) {
         match name {
             "reading" => self.input.fail_after(calls, last_bytes),
@@ -41,7 +42,7 @@ impl<'row> Streams<'row> {
         self.input.has_failed || self.output.has_failed || self.errors.has_failed
     }
 
-    /// Runs the program, and answers its status.
+    /// Runs the program, and returns its exit status.
     fn run(&mut self, alloc: Global, arguments: &[String]) -> u8 {
         run(
             alloc,
@@ -53,12 +54,12 @@ impl<'row> Streams<'row> {
     }
 }
 
-/// The text that bytes are, or `not UTF-8`.
+/// Returns the text that bytes encode, or `not UTF-8`.
 fn text_of(bytes: &[u8]) -> &str {
     str::from_utf8(bytes).unwrap_or("not UTF-8")
 }
 
-/// One argument, or none where it is empty.
+/// Returns a list of one argument, or of none if it is empty.
 fn arguments(alloc: Global, argument: &str) -> Result<Vec<String>, AllocError> {
     let mut arguments = Vec::new(alloc);
     if !argument.is_empty() {
@@ -67,7 +68,7 @@ fn arguments(alloc: Global, argument: &str) -> Result<Vec<String>, AllocError> {
     Ok(arguments)
 }
 
-/// Runs the program with one argument, or none where it is empty, and answers its status.
+/// Runs the program with one argument, or none if it is empty, and returns its exit status.
 fn run_over(answer: &mut Answer, argument: &str, streams: &mut Streams<'_>) -> u8 {
     match arguments(answer.alloc(), argument) {
         Ok(arguments) => streams.run(answer.alloc(), arguments.as_slice()),
@@ -78,7 +79,7 @@ fn run_over(answer: &mut Answer, argument: &str, streams: &mut Streams<'_>) -> u
     }
 }
 
-/// The status of a run, its output, and what it wrote to standard error.
+/// Writes the status of a run, its output, and what it wrote to standard error.
 fn push_run(answer: &mut Answer, argument: &str, streams: &mut Streams<'_>) {
     let status = run_over(answer, argument, streams);
     answer.push_number(status as usize);
@@ -86,7 +87,7 @@ fn push_run(answer: &mut Answer, argument: &str, streams: &mut Streams<'_>) {
     answer.push(text_of(&streams.errors.written));
 }
 
-/// The run of a row, in which the input, a stream or nothing fails.
+/// Writes the run of a row, in which the input, a stream or nothing fails.
 pub(crate) fn runs(answer: &mut Answer, word: Word, fields: &[String]) {
     let is_plain = word == Word::Run;
     let name = if is_plain { "" } else { field_at(fields, 0) };
@@ -104,8 +105,8 @@ pub(crate) fn runs(answer: &mut Answer, word: Word, fields: &[String]) {
 /// How many calls fail in turn at most.
 const MOST_CALLS: u32 = 100_000;
 
-/// The runs of a row in which each call of what it names fails in turn, at once and after one byte: what
-/// the first of them leaves behind, and what others leave behind that is something else.
+/// Runs a row once for each call of the named part, with that call failing, at once and after one
+/// byte. Writes what the first run leaves, and what other runs leave if it differs.
 pub(crate) fn breaks_each(answer: &mut Answer, fields: &[String]) {
     let mut plain = Streams::new(answer.alloc(), field_at(fields, 2).as_bytes());
     run_over(answer, field_at(fields, 1), &mut plain);
@@ -123,7 +124,8 @@ pub(crate) fn breaks_each(answer: &mut Answer, fields: &[String]) {
     }
 }
 
-/// What the run of a row leaves behind in which a call fails after so many others, and whether it failed.
+/// Runs a row with a call failing after `calls` others. Writes what the run leaves, and returns
+/// whether a call failed.
 fn break_at(
     answer: &mut Answer,
     fields: &[String],
@@ -144,13 +146,14 @@ fn break_at(
     streams.has_failed()
 }
 
-/// Puts a word if what was written to a stream is no beginning of what is written where nothing fails.
+/// Writes a word if what was written to a stream isn't a beginning of what is written to it if
+/// nothing fails.
 fn push_begun(answer: &mut Answer, word: &str, stream: &Stream<'_>, plain: &Stream<'_>) {
     answer.push_if(word, !plain.written.starts_with(&stream.written));
 }
 
-/// What a text is formatted to. After it stands what else the run leaves behind, and what a run
-/// over the formatted text and one that checks it do otherwise.
+/// Writes what a text is formatted to. Then writes what else the run leaves, and what goes wrong if
+/// the result is formatted or checked again.
 pub(crate) fn formats(answer: &mut Answer, source: &str) {
     let mut streams = Streams::new(answer.alloc(), source.as_bytes());
     let status = run_over(answer, "", &mut streams);
@@ -161,7 +164,8 @@ pub(crate) fn formats(answer: &mut Answer, source: &str) {
     push_again(answer, "--check", formatted, "");
 }
 
-/// What a run over a formatted text does but for writing what is expected.
+/// Runs the program over a formatted text, and writes what it does besides writing the expected
+/// text.
 fn push_again(answer: &mut Answer, argument: &str, formatted: &str, expected: &str) {
     let mut streams = Streams::new(answer.alloc(), formatted.as_bytes());
     let status = run_over(answer, argument, &mut streams);
@@ -170,7 +174,8 @@ fn push_again(answer: &mut Answer, argument: &str, formatted: &str, expected: &s
     push_rest(answer, status, &streams);
 }
 
-/// The status of a run if it is not 0, and what it wrote to standard error if it wrote something.
+/// Writes the status of a run if it isn't 0, and what it wrote to standard error if it wrote
+/// anything.
 fn push_rest(answer: &mut Answer, status: u8, streams: &Streams<'_>) {
     if status != 0 {
         answer.push_number(status as usize);

@@ -1,4 +1,4 @@
-//! What is seen of the first recipe of a file and of the lines of its body.
+//! The first recipe of a file and its body, as rows show them.
 
 use crate::copies::copies_line;
 use crate::headers::{push_arguments, push_defaults, push_dependencies, push_parameters};
@@ -9,7 +9,7 @@ use justfile_syntax::line::Line;
 use justfile_syntax::recipe::UnresolvedRecipe;
 use row_notation::{Answer, Text, field_at, number_at};
 
-/// What a row's word asks of the first recipe of a file's items.
+/// Writes what a row's word asks for about the first recipe of a file's items.
 pub(crate) fn push_of_recipe(
     items: &[Item<'_>],
     answer: &mut Answer,
@@ -24,7 +24,7 @@ pub(crate) fn push_of_recipe(
     answer.push("none")
 }
 
-/// What a row's word asks of a recipe.
+/// Writes what a row's word asks for about a recipe.
 fn push_part(recipe: &UnresolvedRecipe<'_>, answer: &mut Answer, word: Word, fields: &[String]) {
     match word {
         Word::Arguments => push_arguments(recipe.dependencies.as_slice(), answer),
@@ -36,8 +36,8 @@ fn push_part(recipe: &UnresolvedRecipe<'_>, answer: &mut Answer, word: Word, fie
     }
 }
 
-/// Which marks a recipe has, what of it is not as it was handed in, and in ‹› the comment before its
-/// body if it has one.
+/// Writes the marks of a recipe, which of its fields aren't what was passed to `parse`, and in ‹›
+/// the comment before its body if it has one.
 fn push_recipe(recipe: &UnresolvedRecipe<'_>, answer: &mut Answer) {
     answer.push_if("private", recipe.private);
     answer.push_if("quiet", recipe.quiet);
@@ -52,15 +52,15 @@ fn push_recipe(recipe: &UnresolvedRecipe<'_>, answer: &mut Answer) {
     }
 }
 
-/// A comment in ‹›.
+/// Writes a comment in ‹›.
 fn push_comment(answer: &mut Answer, comment: &str) {
     let mut shown = Text::new(answer.alloc());
     put_marked(&mut shown, "", comment);
     answer.push_text(shown);
 }
 
-/// What a row's word asks of a body: of the line that the row counts from 0, or the sigils of the
-/// first line.
+/// Writes what a row's word asks for about a body: about the line with the row's number, counted
+/// from 0, or the sigils of the first line.
 fn push_of_body(body: &[Line<'_>], answer: &mut Answer, word: Word, fields: &[String]) {
     let is_line = word == Word::Line;
     let at = if is_line { number_at(fields, 0) } else { 0 };
@@ -71,7 +71,7 @@ fn push_of_body(body: &[Line<'_>], answer: &mut Answer, word: Word, fields: &[St
     }
 }
 
-/// The sigils of a line, with guards or without.
+/// Writes the sigils of a line, with or without guards.
 fn push_sigils(line: &Line<'_>, answer: &mut Answer, guards: bool) {
     let Ok(sigils) = line.sigils(answer.alloc(), guards) else {
         return answer.fail();
@@ -81,7 +81,7 @@ fn push_sigils(line: &Line<'_>, answer: &mut Answer, guards: bool) {
     }
 }
 
-/// The number of a line of a body, what the line is, and whether its copies are others.
+/// Writes the number of a line of a body, its properties, and its copies if they differ from it.
 fn push_line(line: &Line<'_>, answer: &mut Answer) {
     answer.push_number(line.number);
     answer.push_if("comment", line.is_comment());

@@ -9,8 +9,8 @@ use justfile_syntax::token_kind::TokenKind;
 use row_notation::Answer;
 use std::alloc::{AllocError, Global};
 
-/// The line and the column after the text's beginning `before`. The last newline of a text begins
-/// no line.
+/// Returns the line and the column after `before`, a beginning of the text. A newline at the end of
+/// a text doesn't begin a line.
 pub(crate) fn place_after(text: &str, before: &str) -> (usize, usize) {
     let counted = if before.len() == text.len() {
         before.strip_suffix('\n').unwrap_or(before)
@@ -22,7 +22,7 @@ pub(crate) fn place_after(text: &str, before: &str) -> (usize, usize) {
     (line, before.len() - start)
 }
 
-/// A kind of error that holds the name of a key.
+/// Returns a kind of error that holds the name of a key.
 fn kind_with_key(alloc: Global, kind: &CompileErrorKind<'_>) -> Result<String, AllocError> {
     match kind {
         CompileErrorKind::ArgAttributeRequiresMultipleOrVariadic { key } => {
@@ -55,7 +55,7 @@ fn kind_with_key(alloc: Global, kind: &CompileErrorKind<'_>) -> Result<String, A
     }
 }
 
-/// The refusal of a group that is there on this line already, with what its literal holds.
+/// Returns the error for a group that was first on this line, with the text of its literal.
 fn kind_of_group(
     alloc: Global,
     first: usize,
@@ -74,7 +74,7 @@ fn kind_of_group(
     )
 }
 
-/// A kind of error that settings and paths of files bring.
+/// Returns a kind of error about settings and paths of files.
 fn kind_of_setting(alloc: Global, kind: &CompileErrorKind<'_>) -> Result<String, AllocError> {
     match kind {
         CompileErrorKind::ExpectedKeyword { expected, found } => {
@@ -88,8 +88,8 @@ fn kind_of_setting(alloc: Global, kind: &CompileErrorKind<'_>) -> Result<String,
     }
 }
 
-/// The name of a kind with what it holds: a name, a literal or a token with its offset, a version as it
-/// is written, and of an unexpected token not what is expected.
+/// Returns the name of a kind of error with what it holds: a name, literal or token with its
+/// offset, or a version as it is displayed. For an unexpected token, leaves out what is expected.
 pub(crate) fn kind_of(alloc: Global, kind: &CompileErrorKind<'_>) -> Result<String, AllocError> {
     match kind {
         CompileErrorKind::AttributeArgumentCountMismatch {
@@ -123,8 +123,8 @@ pub(crate) fn kind_of(alloc: Global, kind: &CompileErrorKind<'_>) -> Result<Stri
     }
 }
 
-/// A refusal: its kind, and the offset and the length of its token. Its line and its column stand
-/// after them, if they are others than those of the offset.
+/// Writes an error: its kind, and the offset and the length of its token. Also writes its line and
+/// column if they aren't those of the offset.
 pub(crate) fn push_refusal(answer: &mut Answer, text: &str, error: &CompileError<'_>) {
     let token = error.token;
     answer.push_made(kind_of(answer.alloc(), &error.kind));
@@ -137,7 +137,7 @@ pub(crate) fn push_refusal(answer: &mut Answer, text: &str, error: &CompileError
     }
 }
 
-/// Why there is no answer for a text.
+/// Writes why there is no result for a text.
 pub(crate) fn push_fault(answer: &mut Answer, text: &str, fault: &Fault<'_>) {
     match fault {
         Fault::Compile(error) => push_refusal(answer, text, error),
@@ -146,7 +146,8 @@ pub(crate) fn push_fault(answer: &mut Answer, text: &str, fault: &Fault<'_>) {
     }
 }
 
-/// The kinds of tokens that are expected, and after `but` the kind of the refused one; or another fault.
+/// Writes the kinds of tokens that are expected, and after `but` the kind of the refused one; or
+/// another fault.
 pub(crate) fn push_expected(answer: &mut Answer, text: &str, fault: &Fault<'_>) {
     match fault {
         Fault::Compile(error) => match &error.kind {
@@ -161,7 +162,7 @@ pub(crate) fn push_expected(answer: &mut Answer, text: &str, fault: &Fault<'_>) 
     }
 }
 
-/// What a refusal says; or another fault.
+/// Writes the message of an error; or another fault.
 pub(crate) fn push_message(answer: &mut Answer, text: &str, fault: &Fault<'_>) {
     match fault {
         Fault::Compile(error) => answer.push_made(format!(in answer.alloc(); "{error}")),
@@ -169,7 +170,7 @@ pub(crate) fn push_message(answer: &mut Answer, text: &str, fault: &Fault<'_>) {
     }
 }
 
-/// The names of kinds of tokens.
+/// Writes the names of kinds of tokens.
 fn push_kinds(answer: &mut Answer, kinds: &[TokenKind]) {
     for kind in kinds {
         let alloc = answer.alloc();

@@ -1,9 +1,10 @@
-//! Which numbers the variables of values get.
+//! The numbers that variables get when values are resolved.
 
 use crate::expansion::Expansion;
 use crate::files::parse;
 use crate::orders::{copy_of, push_order};
 use crate::refusal::push_fault;
+use justfile_expression::child;
 use justfile_syntax::expression::Expression;
 use justfile_syntax::interpreter::Interpreter;
 use justfile_syntax::item::Item;
@@ -11,12 +12,11 @@ use justfile_syntax::name::Name;
 use justfile_syntax::numerator::Number;
 use justfile_syntax::parser::RECURSION_LIMIT;
 use justfile_syntax::setting::Setting;
-use justfile_tree::child;
 use row_notation::{Answer, Text, field_at};
 use std::alloc::{AllocError, Global};
 use std::collections::HashMap;
 
-/// The numbers that a field gives to names, as `a=1,b=2`.
+/// Returns the numbers that a field assigns to names, as in `a=1,b=2`.
 fn numbers_of<'row>(
     alloc: Global,
     field: &'row str,
@@ -30,7 +30,7 @@ fn numbers_of<'row>(
     Ok(numbers)
 }
 
-/// Gives a name this number.
+/// Assigns a number to a name.
 fn insert<'row>(
     numbers: &mut HashMap<&'row str, Number>,
     name: &'row str,
@@ -42,8 +42,8 @@ fn insert<'row>(
     }
 }
 
-/// Which numbers the variables of a text's first item get: first by the bindings of the second field
-/// alone, and then by the context of the first field too.
+/// Writes the numbers that the variables of a text's first item get: first with the bindings of the
+/// second field alone, and then also with the context of the first field.
 pub(crate) fn resolves(answer: &mut Answer, fields: &[String]) {
     let text = field_at(fields, 2);
     match parse(answer.alloc(), &Expansion::Unchanged, RECURSION_LIMIT, text) {
@@ -52,7 +52,7 @@ pub(crate) fn resolves(answer: &mut Answer, fields: &[String]) {
     }
 }
 
-/// Makes the numbers of a row's fields.
+/// Resolves the items with the numbers in a row's fields.
 fn resolve_by_fields<'src>(items: &mut [Item<'src>], answer: &mut Answer, fields: &'src [String]) {
     let context = numbers_of(answer.alloc(), field_at(fields, 0));
     let bindings = numbers_of(answer.alloc(), field_at(fields, 1));
@@ -94,7 +94,7 @@ fn resolve_setting<'src>(
     push_setting(setting, answer);
 }
 
-/// Resolves a value, and compares it with what it was.
+/// Resolves a value, and compares it with its earlier state.
 fn resolve_value<'src>(
     value: &mut Expression<'src>,
     answer: &mut Answer,
@@ -120,13 +120,13 @@ fn resolve_from<'src>(
     push_resolved(before, value, answer);
 }
 
-/// The variables of a value, and how what it was before compares with it.
+/// Writes the variables of a value, and how its earlier state compares with it.
 fn push_resolved<'src>(before: &Expression<'src>, value: &Expression<'src>, answer: &mut Answer) {
     push_variables(value, answer);
     push_order(before, value, answer);
 }
 
-/// The variables of the values that a setting holds.
+/// Writes the variables of the values that a setting holds.
 fn push_setting(setting: &Setting<'_>, answer: &mut Answer) {
     match setting {
         Setting::DotenvCommand(value) => push_variables(value, answer),
@@ -141,7 +141,7 @@ fn push_setting(setting: &Setting<'_>, answer: &mut Answer) {
     }
 }
 
-/// The variables of an interpreter: those of its command, and then those of its arguments.
+/// Writes the variables of an interpreter: those of its command, and then those of its arguments.
 fn push_interpreter(interpreter: &Interpreter<Expression<'_>>, answer: &mut Answer) {
     push_variables(&interpreter.command, answer);
     for argument in &interpreter.arguments {
@@ -149,7 +149,8 @@ fn push_interpreter(interpreter: &Interpreter<Expression<'_>>, answer: &mut Answ
     }
 }
 
-/// The variables of a value: itself, those that stand in it, and those that stand in its parts.
+/// Writes the variables of a value: the value itself if it is one, and those in it and in its
+/// parts.
 fn push_variables(value: &Expression<'_>, answer: &mut Answer) {
     push_variable(value, answer);
     for place in 0..usize::MAX {
@@ -160,7 +161,7 @@ fn push_variables(value: &Expression<'_>, answer: &mut Answer) {
     }
 }
 
-/// The variables of a part: itself, and those that stand in it.
+/// Writes the variables of a part: the part itself if it is one, and those in it.
 fn push_part(part: &Expression<'_>, answer: &mut Answer) {
     push_variable(part, answer);
     for place in 0..usize::MAX {
@@ -171,14 +172,14 @@ fn push_part(part: &Expression<'_>, answer: &mut Answer) {
     }
 }
 
-/// A variable with its number, if the expression is one.
+/// Writes a variable with its number, if the expression is one.
 fn push_variable(expression: &Expression<'_>, answer: &mut Answer) {
     if let Expression::Variable { name, number } = expression {
         push_numbered(answer, name, *number);
     }
 }
 
-/// A name, with its number if it has one.
+/// Writes a name, with its number if it has one.
 fn push_numbered(answer: &mut Answer, name: &Name<'_>, number: Option<Number>) {
     let mut shown = Text::new(answer.alloc());
     shown.put(name.lexeme());

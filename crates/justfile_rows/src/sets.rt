@@ -1,4 +1,4 @@
-//! Sets of attributes that are made of entries and of pairs.
+//! Sets of attributes made from entries and from pairs.
 
 use crate::attributes::push_attribute;
 use justfile_syntax::attribute::Attribute;
@@ -8,7 +8,7 @@ use justfile_syntax::name::Name;
 use row_notation::Answer;
 use std::alloc::{AllocError, Global};
 
-/// The set that is made of the attributes of a file's first recipe.
+/// Writes the set that is made from the attributes of a file's first recipe.
 pub(crate) fn sets(items: &[Item<'_>], answer: &mut Answer) {
     for item in items {
         if let Item::Recipe(recipe) = item {
@@ -18,8 +18,7 @@ pub(crate) fn sets(items: &[Item<'_>], answer: &mut Answer) {
     answer.push("none")
 }
 
-/// What is said of the set that is made of a set's attributes and their copies with this name and
-/// this comment.
+/// Makes a set from a set's attributes and their copies with this name and comment, and writes it.
 fn push_joined<'src>(
     set: &AttributeSet<'src>,
     answer: &mut Answer,
@@ -32,8 +31,8 @@ fn push_joined<'src>(
     }
 }
 
-/// The set of a set's attributes from the last to the first, with a comment that no copy has, and
-/// then of copies of them that have this name and this comment.
+/// Makes a set from copies of a set's attributes in reverse order, with another comment, followed
+/// by copies with this name and comment.
 fn joined<'src>(
     set: &AttributeSet<'src>,
     alloc: Global,
@@ -47,14 +46,14 @@ fn joined<'src>(
     AttributeSet::from_entries(alloc, entries)
 }
 
-/// The set of a set's attributes with their names alone.
+/// Makes a set from a set's attributes and their names, without comments.
 fn named<'src>(set: &AttributeSet<'src>, alloc: Global) -> Result<AttributeSet<'src>, AllocError> {
     let mut pairs = Vec::new(alloc);
     put_pairs(&mut pairs, copies(set, alloc)?)?;
     AttributeSet::from_pairs(alloc, pairs)
 }
 
-/// Copies of a set's attributes with their names.
+/// Returns copies of a set's attributes with their names.
 fn copies<'src>(
     set: &AttributeSet<'src>,
     alloc: Global,
@@ -65,7 +64,7 @@ fn copies<'src>(
     }
 }
 
-/// Puts pairs after others.
+/// Appends pairs to others.
 fn put_pairs<'src, K: Drop>(
     pairs: &mut Vec<(K, Name<'src>)>,
     more: IntoNamed<'src, K>,
@@ -78,7 +77,7 @@ fn put_pairs<'src, K: Drop>(
     Ok(())
 }
 
-/// Puts the first of each pair after other entries, with this name or else its own, and with this
+/// Appends an entry for the first of each pair, with this name or else its own, and with this
 /// comment.
 fn put_entries<'src, K: Drop>(
     entries: &mut Vec<(K, Name<'src>, Option<&'src str>)>,
@@ -95,8 +94,8 @@ fn put_entries<'src, K: Drop>(
     Ok(())
 }
 
-/// The attributes of a set, its groups, and whether one is `private`. Where it is not equal to the
-/// set that it was made of, `unequal` stands after them.
+/// Writes the attributes of a set, its groups, and whether one is `private`. Writes `unequal` after
+/// them if the set isn't equal to `made`.
 fn push_set<'src>(set: &AttributeSet<'src>, made: &mut AttributeSet<'src>, answer: &mut Answer) {
     let is_equal = *set == *made && set.len() == made.len();
     push_members(made, answer);
@@ -104,8 +103,8 @@ fn push_set<'src>(set: &AttributeSet<'src>, made: &mut AttributeSet<'src>, answe
     push_named(made, answer);
 }
 
-/// Where the set of a set's attributes with their names alone is not equal to it, `unnamed`, and
-/// where it has a comment, `commented`.
+/// Writes `unnamed` if the set made from a set's attributes and names isn't equal to it, and
+/// `commented` if that set has a comment.
 fn push_named<'src>(set: &AttributeSet<'src>, answer: &mut Answer) {
     match named(set, answer.alloc()) {
         Ok(mut made) => {
@@ -121,7 +120,7 @@ fn has_comment(set: &mut AttributeSet<'_>) -> bool {
     set.written().iter().any(|pair| pair.1.comment.is_some())
 }
 
-/// The attributes of a set, its groups, and whether one is `private`.
+/// Writes the attributes of a set, its groups, and whether one is `private`.
 fn push_members(set: &AttributeSet<'_>, answer: &mut Answer) {
     for attribute in set {
         push_member(set, attribute, answer);
@@ -130,15 +129,15 @@ fn push_members(set: &AttributeSet<'_>, answer: &mut Answer) {
     answer.push_if("private", set.private());
 }
 
-/// An attribute of a set with the offset of its name and its comment. `missing` stands after it if
-/// the set says that it has none of this kind.
+/// Writes an attribute of a set with the offset of its name and its comment. Writes `missing` after
+/// it if the set says that it has none of this kind.
 fn push_member<'src>(set: &AttributeSet<'src>, attribute: &Attribute<'src>, answer: &mut Answer) {
     push_attribute(set, attribute, answer);
     answer.push_if("missing", !set.contains(attribute.kind()));
     push_first(set, attribute, answer);
 }
 
-/// The attribute that a set has first of another one's kind, if it is written otherwise.
+/// Writes the first attribute of the same kind in a set, if it displays another text.
 fn push_first<'src>(set: &AttributeSet<'src>, attribute: &Attribute<'src>, answer: &mut Answer) {
     match set.get(attribute.kind()) {
         Some(first) if *first == *attribute => {}
@@ -147,7 +146,7 @@ fn push_first<'src>(set: &AttributeSet<'src>, attribute: &Attribute<'src>, answe
     }
 }
 
-/// The names of a set's groups, after a word for them.
+/// Writes the names of a set's groups, after a word for them.
 fn push_groups(set: &AttributeSet<'_>, answer: &mut Answer) {
     match set.groups(answer.alloc()) {
         Ok(groups) => {

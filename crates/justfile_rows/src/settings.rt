@@ -1,4 +1,4 @@
-//! What is seen of settings.
+//! Settings, as rows show them.
 
 use crate::attributes::put_attributes;
 use crate::items::{put_if, put_literal, put_name, put_value};
@@ -11,7 +11,7 @@ use justfile_syntax::setting::Setting;
 use justfile_syntax::string_literal::StringLiteral;
 use row_notation::{Answer, Text};
 
-/// An interpreter: the values of its command and its arguments in brackets.
+/// Writes an interpreter: its command and its arguments in brackets.
 fn put_interpreter(interpreter: &Interpreter<Expression<'_>>, shown: &mut Text) {
     shown.put("[");
     put_value(&interpreter.command, shown);
@@ -22,13 +22,13 @@ fn put_interpreter(interpreter: &Interpreter<Expression<'_>>, shown: &mut Text) 
     shown.put("]");
 }
 
-/// The literal of an indentation, and after it the indentation in ‹›.
+/// Writes the literal of an indentation, and the indentation in ‹›.
 fn put_indentation(literal: &StringLiteral<'_>, shown: &mut Text, indentation: Indentation) {
     put_literal(literal, shown);
     shown.put_made(format!(in shown.alloc(); " ‹{indentation}›"));
 }
 
-/// What a setting is set to.
+/// Writes the value of a setting.
 fn put_setting(setting: &Setting<'_>, shown: &mut Text) {
     match setting {
         Setting::DotenvCommand(value) => put_value(value, shown),
@@ -45,7 +45,7 @@ fn put_setting(setting: &Setting<'_>, shown: &mut Text) {
     }
 }
 
-/// A setting as it stands in a file: its attributes, its name, and what it is set to.
+/// Writes a setting: its attributes, its name, and its value.
 pub(crate) fn put_set(set: &Set<'_>, shown: &mut Text) {
     put_attributes(&set.attributes, shown);
     shown.put("set ");
@@ -54,7 +54,7 @@ pub(crate) fn put_set(set: &Set<'_>, shown: &mut Text) {
     put_setting(&set.value, shown);
 }
 
-/// What each setting of a file's items is, and how it is written.
+/// Writes the properties of each setting of a file's items, and the text that it displays.
 pub(crate) fn settings(items: &[Item<'_>], answer: &mut Answer) {
     for item in items {
         if let Item::Setting(set) = item {
@@ -64,8 +64,8 @@ pub(crate) fn settings(items: &[Item<'_>], answer: &mut Answer) {
     }
 }
 
-/// Which setting it is, whether it is as if its value was left out, and after `!` which settings it
-/// conflicts with.
+/// Writes which setting it is, whether it is as if its value were left out, and after `!` which
+/// settings it conflicts with.
 fn push_setting(setting: &Setting<'_>, answer: &mut Answer) {
     let mut shown = Text::new(answer.alloc());
     shown.put_made(format!(in answer.alloc(); "{:?}", setting.keyword()));

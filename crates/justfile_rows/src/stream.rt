@@ -1,4 +1,4 @@
-//! Streams of the program, which may fail.
+//! Streams of the program that can be made to fail.
 
 use std::alloc::Global;
 use std::io::{self, ErrorKind, Read, Write};
@@ -9,22 +9,22 @@ pub(crate) const MOST_BYTES: usize = 2;
 /// A stream that is read or written to.
 #[derive(Drop)]
 pub(crate) struct Stream<'row> {
-    /// What is still to be read.
+    /// The bytes that are still to be read.
     pub(crate) unread: &'row [u8],
-    /// What was written.
+    /// The bytes that were written.
     pub(crate) written: Vec<u8>,
     /// After how many more reads or writes it fails.
     calls: u32,
-    /// How many bytes the last of them reads or writes at most.
+    /// How many bytes the last of these calls reads or writes at most.
     last_bytes: usize,
     /// Whether it has failed.
     pub(crate) has_failed: bool,
-    /// Whether it fails where it is flushed.
+    /// Whether flushing it fails.
     pub(crate) fails_at_flush: bool,
 }
 
 impl<'row> Stream<'row> {
-    /// A stream that gives these bytes, takes all that is written, and does not fail.
+    /// Makes a stream with these bytes to read, which takes all that is written, and doesn't fail.
     pub(crate) fn new(alloc: Global, unread: &'row [u8]) -> Self {
         Stream {
             unread,
@@ -36,13 +36,14 @@ impl<'row> Stream<'row> {
         }
     }
 
-    /// Makes it fail after so many reads or writes, the last of which has at most so many bytes.
+    /// Makes the stream fail after `calls` reads or writes, the last of which has at most
+    /// `last_bytes` bytes.
     pub(crate) fn fail_after(&mut self, calls: u32, last_bytes: usize) {
         self.calls = calls;
         self.last_bytes = last_bytes;
     }
 
-    /// Counts a read or a write, and answers how many bytes it may have.
+    /// Counts a read or a write, and returns how many bytes it can have.
     fn count(&mut self) -> io::Result<usize> {
         match self.calls.checked_sub(1) {
             Some(calls) => {

@@ -1,4 +1,4 @@
-//! Texts that are no justfiles: literals, versions, indentations, keywords, bytes, characters.
+//! Texts that aren't justfiles: literals, versions, indentations, keywords, bytes and characters.
 
 use crate::lexing::push_string_kind;
 use crate::refusal::push_fault;
@@ -25,7 +25,7 @@ const LITERAL: Token<'static> = Token {
     src: "a := \"\"\n",
 };
 
-/// What a text with escapes stands for, or why it is refused.
+/// Writes the text that a text with escapes stands for, or why it is refused.
 pub(crate) fn cooks(answer: &mut Answer, text: &str) {
     match cook_string(answer.alloc(), LITERAL, text) {
         Ok(cooked) => answer.push(cooked.as_str()),
@@ -33,12 +33,12 @@ pub(crate) fn cooks(answer: &mut Answer, text: &str) {
     }
 }
 
-/// What a text is without the indentation that its lines share.
+/// Writes a text without the indentation that its lines share.
 pub(crate) fn unindents(answer: &mut Answer, text: &str) {
     answer.push_made(unindent(answer.alloc(), text));
 }
 
-/// The version that a text is, and its three numbers, or why it is none.
+/// Writes the version in a text, and its three numbers, or why it isn't one.
 pub(crate) fn version(answer: &mut Answer, text: &str) {
     match text.parse::<Version>() {
         Ok(version) => {
@@ -51,7 +51,7 @@ pub(crate) fn version(answer: &mut Answer, text: &str) {
     }
 }
 
-/// The indentation that a text is, or why it is none.
+/// Writes the indentation in a text, or why it isn't one.
 pub(crate) fn indentation(answer: &mut Answer, text: &str) {
     match text.parse::<Indentation>() {
         Ok(indentation) => answer.push_made(indentation.to_string(answer.alloc())),
@@ -59,8 +59,7 @@ pub(crate) fn indentation(answer: &mut Answer, text: &str) {
     }
 }
 
-/// The keyword that a text is, or `none`. A keyword that is spelled or written otherwise has its
-/// texts after it.
+/// Writes the keyword in a text, or `none`. Writes its own texts after it if they differ.
 pub(crate) fn keyword(answer: &mut Answer, text: &str) {
     let Some(keyword) = Keyword::from_lexeme(text) else {
         return answer.push("none");
@@ -73,7 +72,7 @@ pub(crate) fn keyword(answer: &mut Answer, text: &str) {
     )
 }
 
-/// The class of a byte.
+/// Writes the class of a byte.
 pub(crate) fn class(answer: &mut Answer, text: &str) {
     match text.parse::<u8>() {
         Ok(byte) => answer.push_made(format!(in answer.alloc(); "{:?}", byte_class(byte))),
@@ -81,15 +80,15 @@ pub(crate) fn class(answer: &mut Answer, text: &str) {
     }
 }
 
-/// A character, if it is one of those that are wanted.
+/// Appends a character if `is_wanted`.
 fn put_wanted(wanted: &mut Text, character: char, is_wanted: bool) {
     if is_wanted {
         wanted.put_character(character);
     }
 }
 
-/// Of the characters from one number up to another those that an identifier may begin with, and
-/// those that it may go on with.
+/// Writes which of the characters from one number up to another an identifier can begin with, and
+/// which it can go on with.
 pub(crate) fn identifier(answer: &mut Answer, fields: &[String]) {
     let mut first = Text::new(answer.alloc());
     let mut later = Text::new(answer.alloc());
@@ -107,8 +106,8 @@ pub(crate) fn identifier(answer: &mut Answer, fields: &[String]) {
     answer.push_text(later)
 }
 
-/// The kind of the literal that a text begins with, or `none`: its kind, its delimiter, its token's
-/// kind, why it is refused where it does not end, and whether it has escapes.
+/// Writes the kind of the literal that a text begins with, or `none`: its kind, its delimiter, its
+/// token's kind, the error if it doesn't end, and whether it has escapes.
 pub(crate) fn opens(answer: &mut Answer, text: &str) {
     let Some(kind) = StringKind::from_token_start(text) else {
         return answer.push("none");

@@ -1,7 +1,8 @@
-//! What the first value of a file is made of.
+//! The parts of the first value of a file.
 
 use crate::lexing::push_string_kind;
 use crate::word::Word;
+use justfile_expression::child;
 use justfile_syntax::conditional_operator::ConditionalOperator;
 use justfile_syntax::expression::Expression;
 use justfile_syntax::item::Item;
@@ -9,11 +10,10 @@ use justfile_syntax::name::Name;
 use justfile_syntax::setting::Setting;
 use justfile_syntax::string_literal::StringLiteral;
 use justfile_syntax::token::Token;
-use justfile_tree::child;
 use row_notation::{Answer, Text};
 
-/// What a row's word asks of the first value of a file's items, or of the first path if there is no
-/// value.
+/// Writes what a row's word asks for about the first value of a file's items, or the first path if
+/// there is no value.
 pub(crate) fn push_of_value(items: &[Item<'_>], answer: &mut Answer, word: Word) {
     for item in items {
         if push_value_in(item, answer, word) {
@@ -23,8 +23,8 @@ pub(crate) fn push_of_value(items: &[Item<'_>], answer: &mut Answer, word: Word)
     push_of_path(items, answer, word)
 }
 
-/// What a row's word asks of the value of an item, and whether it has one: an assignment, a function
-/// or a setting.
+/// Writes what a row's word asks for about the value of an assignment, a function or a setting, and
+/// returns whether the item has one.
 fn push_value_in(item: &Item<'_>, answer: &mut Answer, word: Word) -> bool {
     match item {
         Item::Assignment(assignment) => push_value(&assignment.value, answer, word),
@@ -34,8 +34,8 @@ fn push_value_in(item: &Item<'_>, answer: &mut Answer, word: Word) -> bool {
     }
 }
 
-/// What a row's word asks of the expression that a setting is set to, of an interpreter its command,
-/// and whether there is one.
+/// Writes what a row's word asks for about a setting's expression, or the command of its
+/// interpreter, and returns whether there is one.
 fn push_value_set(setting: &Setting<'_>, answer: &mut Answer, word: Word) -> bool {
     match setting {
         Setting::DotenvCommand(value) => push_value(value, answer, word),
@@ -50,7 +50,7 @@ fn push_value_set(setting: &Setting<'_>, answer: &mut Answer, word: Word) -> boo
     }
 }
 
-/// What a row's word asks of a value. It is there.
+/// Writes what a row's word asks for about a value, and returns true.
 fn push_value(value: &Expression<'_>, answer: &mut Answer, word: Word) -> bool {
     if word == Word::Literal {
         push_place(value, answer);
@@ -60,7 +60,7 @@ fn push_value(value: &Expression<'_>, answer: &mut Answer, word: Word) -> bool {
     true
 }
 
-/// What a row's word asks of the first path of a file's items.
+/// Writes what a row's word asks for about the first path of a file's items.
 fn push_of_path(items: &[Item<'_>], answer: &mut Answer, word: Word) {
     for item in items {
         if push_path_in(item, answer, word) {
@@ -70,7 +70,8 @@ fn push_of_path(items: &[Item<'_>], answer: &mut Answer, word: Word) {
     answer.push("none")
 }
 
-/// What a row's word asks of the path of an import or a module, and whether there is one.
+/// Writes what a row's word asks for about the path of an import or a module, and returns whether
+/// there is one.
 fn push_path_in(item: &Item<'_>, answer: &mut Answer, word: Word) -> bool {
     match item {
         Item::Import { relative, .. } => push_path(relative, answer, word),
@@ -79,7 +80,7 @@ fn push_path_in(item: &Item<'_>, answer: &mut Answer, word: Word) -> bool {
     }
 }
 
-/// What a row's word asks of the path of a module, and whether it has one.
+/// Writes what a row's word asks for about the path of a module, and returns whether it has one.
 fn push_module_path(relative: &Option<StringLiteral<'_>>, answer: &mut Answer, word: Word) -> bool {
     match relative {
         Some(path) => push_path(path, answer, word),
@@ -87,7 +88,7 @@ fn push_module_path(relative: &Option<StringLiteral<'_>>, answer: &mut Answer, w
     }
 }
 
-/// What a row's word asks of a path. It is there.
+/// Writes what a row's word asks for about a path, and returns true.
 fn push_path(path: &StringLiteral<'_>, answer: &mut Answer, word: Word) -> bool {
     if word == Word::Literal {
         push_literal_place(path, answer);
@@ -97,7 +98,7 @@ fn push_path(path: &StringLiteral<'_>, answer: &mut Answer, word: Word) -> bool 
     true
 }
 
-/// What a value is as a literal.
+/// Writes a value as a literal.
 fn push_place(value: &Expression<'_>, answer: &mut Answer) {
     match value {
         Expression::StringLiteral { string_literal } => push_literal_place(string_literal, answer),
@@ -105,7 +106,7 @@ fn push_place(value: &Expression<'_>, answer: &mut Answer) {
     }
 }
 
-/// The kind of a literal, whether it is marked to be expanded, its lexeme and its offset.
+/// Writes the kind of a literal, whether it is expanded, its lexeme and its offset.
 fn push_literal_place(literal: &StringLiteral<'_>, answer: &mut Answer) {
     push_string_kind(answer, literal.kind);
     answer.push(if literal.expand { "marked" } else { "unmarked" });
@@ -114,8 +115,8 @@ fn push_literal_place(literal: &StringLiteral<'_>, answer: &mut Answer) {
     answer.push_if("part", literal.part.is_some());
 }
 
-/// What an expression is made of: its outermost form, with the token that is kept of it, and after
-/// it the texts of what stands inside.
+/// Writes the parts of an expression: its outermost form, with the token that it holds, and the
+/// texts of the expressions in it.
 pub(crate) fn push_parts(expression: &Expression<'_>, answer: &mut Answer) {
     match expression {
         Expression::FormatString { start, expressions } => {
@@ -128,8 +129,8 @@ pub(crate) fn push_parts(expression: &Expression<'_>, answer: &mut Answer) {
     }
 }
 
-/// A format string: each part, and between them the expressions. A part of another kind than the
-/// start has `another` after it.
+/// Writes a format string: its parts, and between them the expressions. Writes `another` after a
+/// part that isn't of the start's kind.
 fn push_format_string(
     expressions: &[(Expression<'_>, StringLiteral<'_>)],
     start: &StringLiteral<'_>,
@@ -143,7 +144,7 @@ fn push_format_string(
     }
 }
 
-/// The texts of the expressions that stand in this one.
+/// Writes the texts of the expressions in this one.
 fn push_children(expression: &Expression<'_>, answer: &mut Answer) {
     for place in 0..usize::MAX {
         match child(expression, place) {
@@ -153,12 +154,12 @@ fn push_children(expression: &Expression<'_>, answer: &mut Answer) {
     }
 }
 
-/// The text of an expression.
+/// Writes the text of an expression.
 fn push_expression(expression: &Expression<'_>, answer: &mut Answer) {
     answer.push_made(expression.to_string(answer.alloc()));
 }
 
-/// The form of an expression that is no format string, with the token that is kept of it.
+/// Writes the form of an expression that isn't a format string, with the token that it holds.
 fn push_form(expression: &Expression<'_>, answer: &mut Answer) {
     match expression {
         Expression::And { .. } => answer.push("&&"),
@@ -184,7 +185,7 @@ fn push_form(expression: &Expression<'_>, answer: &mut Answer) {
     }
 }
 
-/// An operator or the like at its token, with a word before it.
+/// Writes a word, and the token that an expression holds.
 fn push_head(answer: &mut Answer, word: &str, token: &Token<'_>) {
     let mut head = Text::new(answer.alloc());
     head.put(word);
@@ -194,7 +195,7 @@ fn push_head(answer: &mut Answer, word: &str, token: &Token<'_>) {
     answer.push_text(head);
 }
 
-/// A command: what stands between its backticks, and the command with them.
+/// Writes a command without and with its backticks.
 fn push_command(answer: &mut Answer, contents: &str, token: &Token<'_>) {
     answer.push("command");
     answer.push(contents);
@@ -206,8 +207,8 @@ fn push_comparison(answer: &mut Answer, operator: ConditionalOperator, token: &T
     push_head(answer, "", token)
 }
 
-/// A literal: the part of a format string that it is, or `text`, or `marked` if it is expanded, and
-/// what it stands for.
+/// Writes a literal: the part of a format string that it is, `text`, or `marked` if it is expanded;
+/// and its text.
 fn push_literal(literal: &StringLiteral<'_>, answer: &mut Answer) {
     match &literal.part {
         Some(part) => answer.push_made(format!(in answer.alloc(); "{part:?}")),

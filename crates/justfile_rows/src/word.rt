@@ -60,7 +60,7 @@ pub(crate) enum Word {
     Version,
 }
 
-/// The words as they are written, with the number of fields that a row has at least.
+/// The words, each with the least number of fields of its rows.
 static WORDS: &[(&str, Word, usize)] = &[
     ("arguments", Word::Arguments, 1),
     ("attribute_kind", Word::AttributeKind, 1),
@@ -120,7 +120,7 @@ static WORDS: &[(&str, Word, usize)] = &[
 ];
 
 impl Word {
-    /// The word that is written so, with the number of fields that its rows have at least.
+    /// Returns the word with this spelling, and the least number of fields of its rows.
     pub(crate) fn of(written: &str) -> Option<(Word, usize)> {
         let (_, word, least) = WORDS.iter().find(|row| row.0 == written)?;
         Some((*word, *least))

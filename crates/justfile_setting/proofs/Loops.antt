@@ -1,15 +1,15 @@
--- Loops that put the elements of a list, one after another.
+-- Loops that write the elements of a list, one after another.
 use Rattle.std.proofs.Common.{◌≡◌, ℕ, Result, Ok, Err, OnErr, ◌+◌, ◌<◌, List, [], ◌∷◌, ◌++◌, length, take, drop, get_or, sym, ap, ◌∙◌, subst}
 use Rattle.std.specs.List.{flat_map}
 use Rattle.std.proofs.lemmas.List.{take_more, flat_map_more, take-append-drop}
 use Rattle.std.proofs.lemmas.Grind.{flat_map-append}
 
--- what holds where a call failed holds at its `Err`
+-- what holds if a call failed holds at its `Err`
 pub at_err : {T E P : Type 0} (r : Result T E) → P → OnErr r P
 at_err (Ok x) p = tt
 at_err (Err e) p = p
 
--- of what a sink took, or failed to take
+-- for what a sink has written, and for where it failed
 module _ {S : Type 0} (took failed : S → List ℕ → S → Type 0)
     (more : (a b c : S) (xs ys : List ℕ) → took a xs b → took b ys c → took a (xs ++ ys) c)
     (later : (a b c : S) (xs ys : List ℕ) → took a xs b → failed b ys c → failed a (xs ++ ys) c)
@@ -21,7 +21,7 @@ module _ {S : Type 0} (took failed : S → List ℕ → S → Type 0)
   text_split : flat_map one (take (i + 1) xs) ++ flat_map one (drop (i + 1) xs) ≡ flat_map one xs
   text_split = sym (flat_map-append one (take (i + 1) xs) (drop (i + 1) xs)) ∙ ap (flat_map one) (take-append-drop (i + 1) xs)
 
-  -- one more is put
+  -- one more element is written
   pub took_next : (a b c : S) → took a (flat_map one (take i xs)) b → took b (one x) c → took a (flat_map one (take (i + 1) xs)) c
   took_next a b c p q = subst (λ (t : List ℕ). took a t c) text_more (more a b c _ _ p q)
 

@@ -1,28 +1,19 @@
 -- The text of a setting, by its parts.
 use Rattle.std.proofs.Common.{◌≡◌, ◌∙◌, ℕ, Bool, true, false, List, [], ◌∷◌, ◌++◌, codes, refl, sym, ap, append_assoc, append-nil, if◌then◌else◌}
-use Rattle.justfile_base.specs.StringLiteral.{format_mark}
-use Rattle.justfile_base.specs.Token.{lexeme_of}
-use Rattle.justfile_model.specs.Printing.{exprs_text, fixed_text, mark_text, setting_value_text}
+use Rattle.justfile_token.specs.StringLiteral.{format_mark}
+use Rattle.justfile_token.specs.Token.{lexeme_of}
+use Rattle.justfile_model.specs.Printing.{exprs_text, fixed_text, mark_text}
 use Rattle.justfile_model.specs.Tree as tree
-use Rattle.justfile_model.specs.Tree.{SettingValue, lexeme, nothing, over_exprs, over_setting_value}
-use Rattle.justfile_tree.specs.Expression.{exprs_of}
-use Rattle.justfile_tree.specs.Text.{text_of}
-use Rattle.justfile_tree.specs.declared.expression.Expression.{Expression}
+use Rattle.justfile_model.specs.Tree.{lexeme, nothing, over_exprs, over_setting_value}
+use Rattle.justfile_expression.specs.Expression.{exprs_of}
+use Rattle.justfile_expression.specs.Text.{text_of}
+use Rattle.justfile_expression.specs.declared.expression.Expression.{Expression}
 use Rattle.justfile_setting.specs.Print.{later_texts, value_text, value_text_of}
-use Rattle.justfile_setting.specs.Setting.{is_default}
 use Rattle.justfile_setting.specs.Value.{value_seen}
 use Rattle.justfile_setting.specs.declared.value.Value.{Value}
 use Rattle.justfile_setting.specs.declared.value.Value.TheVariants as values
 
--- what is printed of a value after the name is nothing where it is left out, and else `:=` and its text
-pub printed : (v : SettingValue (List ℕ) (Unit {0})) → setting_value_text v ≡ (if is_default v then [] else fixed_text (codes " := ") ++ value_text v)
-unfolding fixed_text
-printed (tree.Truth true) = refl
-printed (tree.Truth false) = refl
-printed (tree.Value value) = refl
-printed (tree.Interpreter command arguments) = refl
-
--- expressions, each but the first after a comma
+-- expressions with a comma and a space between them
 separated : (e : Expression) (es : List Expression) → text_of e ++ later_texts es ≡ exprs_text (over_exprs lexeme nothing (exprs_of (e ∷ es)))
 separated e [] = append-nil (text_of e)
 separated e (next ∷ es) =

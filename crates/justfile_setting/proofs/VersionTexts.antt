@@ -1,4 +1,4 @@
--- The version that a text is, as the code reads it and as the definitions do.
+-- The code and the definitions read the same version from a text.
 use Rattle.std.proofs.Common.{◌≡◌, ◌∙◌, ◌<◌, ◌≤◌, ◌==◌, ◌++◌, ℕ, suc, Bool, true, false, not, ◌&&◌, inl, inr, nat_lt, List, [], ◌∷◌, length, Option, Some, None, refl, sym, ap, arith, append_assoc, cond, ◌||◌, nat_eq, Ordering, Less, Equal, Greater, if◌then◌else◌}
 use Rattle.std.proofs.lemmas.Bool.{lt-ltb, ltb-false, ltb-true, le-ltb}
 use Rattle.std.proofs.lemmas.Bool.Decides.{eqb_tells}
@@ -8,10 +8,10 @@ use Rattle.std.specs.Char.{digit_value}
 use Rattle.std.specs.List.{list_all}
 use Rattle.std.specs.Ordering.{is_lt, is_some_and, partial_lt, partial_ordering_then}
 use Rattle.std.specs.Str.Parse.{AllDigits, digits_value}
-use Rattle.justfile_word.specs.NumberText.{HasNoDot, IsNumberText}
-use Rattle.justfile_word.specs.Version.{IsVersionText}
-use Rattle.justfile_word.specs.contracts.version.VersionPartialOrd.TheImpl as orders
-use Rattle.justfile_word.specs.declared.version.Version.{Version}
+use Rattle.justfile_vocabulary.specs.NumberText.{HasNoDot, IsNumberText}
+use Rattle.justfile_vocabulary.specs.Version.{IsVersionText}
+use Rattle.justfile_vocabulary.specs.contracts.version.VersionPartialOrd.TheImpl as orders
+use Rattle.justfile_vocabulary.specs.declared.version.Version.{Version}
 use Rattle.justfile_model.specs.Conditions.{VersionNumbers}
 use Rattle.justfile_model.specs.Versions.{between_dots, byte_before, is_above, is_number, version_in, version_numbers, version_of}
 
@@ -67,7 +67,7 @@ number_of (c ∷ cs) h =
     let written = left (not (length (c ∷ cs) == 0) && list_all is_decimal (c ∷ cs)) _ h in
     record { digits = (omega arith, decimals_of (c ∷ cs) (right _ _ written)); value = refl; fits = ltb-true _ _ (right _ _ h) }
 
--- ---- what stands between dots
+-- ---- the parts between dots
 
 no_dot_in : (text : List ℕ) → AllDigits 10 text → HasNoDot text
 no_dot_in [] h = tt
@@ -76,7 +76,7 @@ no_dot_in (c ∷ cs) h = ((λ e. let d = digit_from_value c h.0 in omega (arith,
 other_byte : (b : ℕ) (parts : List ℕ) (others : List (List ℕ)) → (b ≡ 46 → ⊥) → byte_before b (parts ∷ others) ≡ (b ∷ parts) ∷ others
 other_byte b part others h = elim (eqb_tells b 46) [ inl p ↦ absurd (h p.1) | inr q ↦ rw q.0 refl ]
 
--- a text without dots is one part
+-- a text without dots is a single part
 alone : (text : List ℕ) → HasNoDot text → between_dots text ≡ text ∷ []
 alone [] h = refl
 alone (b ∷ bs) h = ap (byte_before b) (alone bs h.1) ∙ other_byte b bs [] h.0
@@ -93,7 +93,7 @@ cut : (text rest : List ℕ) → HasNoDot text → between_dots (text ++ 46 ∷ 
 cut [] rest h = dot rest
 cut (b ∷ bs) rest h = ap (byte_before b) (cut bs rest h.1) ∙ other_byte b bs (between_dots rest) h.0
 
--- the text of parts, with a dot between each two
+-- parts with a dot between them
 abbrev joined : List (List ℕ) → List ℕ
 joined [] = []
 joined (part ∷ []) = part
@@ -133,11 +133,11 @@ module _ (text : List ℕ) (v : Version) (is : IsVersionText text v) where
       rw (number_is is.major v.major is.numbers.is_major) (rw (number_is is.minor v.minor is.numbers.is_minor) (rw (number_is is.patch v.patch is.numbers.is_patch)
       (λ i. Some (record { major = sym is.numbers.is_major.value i; minor = sym is.numbers.is_minor.value i; patch = sym is.numbers.is_patch.value i }))))
 
-  -- what the code reads as a version is that version
+  -- the version that the code reads is the one that the definitions read
   pub read : version_of text ≡ Some (version_numbers v)
   read = ap version_in parts_are ∙ numbered
 
--- three parts that are numbers make a version
+-- the case that the code reads no version
 module _ (text : List ℕ) (none : (v : Version) → ¬ IsVersionText text v) where
   abbrev the_none : Option VersionNumbers
   the_none = None
@@ -163,7 +163,7 @@ module _ (text : List ℕ) (none : (v : Version) → ¬ IsVersionText text v) wh
   unread_parts (a ∷ b ∷ c ∷ []) e = three a b c (sym e) _ refl
   unread_parts (a ∷ b ∷ c ∷ d ∷ parts) e = refl
 
-  -- what the code reads as no version is none
+  -- if the code reads no version, neither do the definitions
   pub unread : version_of text ≡ None
   unread = unread_parts (between_dots text) (rejoined text)
 

@@ -3,21 +3,21 @@ use Rattle.std.specs.Prelude.{◌≡◌}
 use Rattle.std.specs.Global.{Box}
 use Rattle.justfile_attribute.specs.Interpreters.{IsSameCommand}
 use Rattle.justfile_attribute.specs.declared.interpreter.Interpreter.{Interpreter}
-use Rattle.justfile_base.specs.StringLiteral.{IsSameLiteral}
-use Rattle.justfile_tree.specs.Copies.{IsSameExpression}
-use Rattle.justfile_tree.specs.declared.expression.Expression.{Expression}
+use Rattle.justfile_token.specs.StringLiteral.{IsSameLiteral}
+use Rattle.justfile_expression.specs.Copies.{IsSameExpression}
+use Rattle.justfile_expression.specs.declared.expression.Expression.{Expression}
 use Rattle.justfile_setting.specs.declared.setting.Setting.{Setting}
 use Rattle.justfile_setting.specs.declared.setting.Setting.TheVariants as settings
 
--- an expression, wherever its box lies
+-- expressions in boxes, compared by value
 abbrev pub IsSameBoxed : (copy original : Box Expression) → Type 0
 IsSameBoxed copy original = IsSameExpression copy.value original.value
 
--- an interpreter, wherever its box lies
+-- interpreters in boxes, compared by value
 abbrev pub IsSameBoxedCommand : (copy original : Box (Interpreter Expression)) → Type 0
 IsSameBoxedCommand copy original = IsSameCommand copy.value original.value
 
--- the copy of a setting is of its case and has its fields
+-- a copy of a setting: the same case, and all fields are the same
 abbrev pub IsSameSetting : (copy original : Setting) → Type 0
 IsSameSetting (settings.AllowDuplicateRecipes copy) (settings.AllowDuplicateRecipes original) = copy ≡ original
 IsSameSetting (settings.AllowDuplicateVariables copy) (settings.AllowDuplicateVariables original) = copy ≡ original

@@ -1,4 +1,4 @@
--- The forms of settings, as the code names them.
+-- The forms of settings as the definitions name them.
 use Rattle.justfile_model.specs.Settings as forms
 use Rattle.justfile_setting.specs.declared.form.SettingForm.{SettingForm}
 use Rattle.justfile_setting.specs.declared.form.SettingForm.TheVariants as cases

@@ -1,20 +1,20 @@
--- Settings after the variables in their expressions were given their numbers.
+-- Settings after resolution.
 use Rattle.std.specs.Prelude.{◌≡◌, ℕ, List, Option}
 use Rattle.std.specs.Global.{Box}
 use Rattle.std.specs.List.{AllZip}
-use Rattle.justfile_word.specs.declared.number.Number.{Number}
+use Rattle.justfile_vocabulary.specs.declared.number.Number.{Number}
 use Rattle.justfile_attribute.specs.declared.interpreter.Interpreter.{Interpreter}
-use Rattle.justfile_tree.specs.Resolved.{IsResolved}
-use Rattle.justfile_tree.specs.declared.expression.Expression.{Expression}
+use Rattle.justfile_expression.specs.Resolved.{IsResolved}
+use Rattle.justfile_expression.specs.declared.expression.Expression.{Expression}
 use Rattle.justfile_setting.specs.declared.setting.Setting.{Setting}
 use Rattle.justfile_setting.specs.declared.setting.Setting.TheVariants as settings
 
 module _ (numbers : (name : List ℕ) → Option Number) where
-  -- an expression in a box
+  -- the same for an expression in a box
   abbrev pub IsResolvedBoxed : (resolved original : Box Expression) → Type 0
   IsResolvedBoxed resolved original = IsResolved numbers resolved.value original.value
 
-  -- a command, with as many arguments as it had
+  -- the same for an interpreter
   pub record IsResolvedCommand (resolved original : Interpreter Expression) : Type 0 where
     pub command : IsResolved numbers resolved.command original.command
     pub arguments : AllZip (IsResolved numbers) resolved.arguments.items original.arguments.items
@@ -22,7 +22,7 @@ module _ (numbers : (name : List ℕ) → Option Number) where
   abbrev pub IsResolvedBoxedCommand : (resolved original : Box (Interpreter Expression)) → Type 0
   IsResolvedBoxedCommand resolved original = IsResolvedCommand resolved.value original.value
 
-  -- the setting is of its case; its expressions have their numbers, and what holds no expression is as it was
+  -- a setting of the same case: its expressions are resolved, and fields without expressions are the same
   abbrev pub IsResolvedSetting : (resolved original : Setting) → Type 0
   IsResolvedSetting (settings.AllowDuplicateRecipes resolved) (settings.AllowDuplicateRecipes original) = resolved ≡ original
   IsResolvedSetting (settings.AllowDuplicateVariables resolved) (settings.AllowDuplicateVariables original) = resolved ≡ original

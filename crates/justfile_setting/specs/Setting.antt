@@ -1,21 +1,21 @@
--- What the definitions see of a setting.
+-- The tree of a setting: the definitions' view of the code's type.
 use Rattle.std.specs.Prelude.{◌≡◌, ℕ, Bool, true, false, List, [], ◌∷◌, ◌++◌, string_bytes}
 use Rattle.std.specs.Global.{Box}
 use Rattle.std.specs.List.{flat_map}
 use Rattle.justfile_attribute.specs.declared.interpreter.Interpreter.{Interpreter}
-use Rattle.justfile_word.specs.Indentation.{indentation_text}
-use Rattle.justfile_word.specs.declared.keyword.Keyword.{Keyword}
-use Rattle.justfile_word.specs.declared.keyword.Keyword.TheVariants as words
-use Rattle.justfile_base.specs.declared.string_literal.StringLiteral.{StringLiteral}
+use Rattle.justfile_vocabulary.specs.Indentation.{indentation_text}
+use Rattle.justfile_vocabulary.specs.declared.keyword.Keyword.{Keyword}
+use Rattle.justfile_vocabulary.specs.declared.keyword.Keyword.TheVariants as words
+use Rattle.justfile_token.specs.declared.string_literal.StringLiteral.{StringLiteral}
 use Rattle.justfile_model.specs.Tok.{Tok}
 use Rattle.justfile_model.specs.Tree as tree
 use Rattle.justfile_model.specs.Tree.{Expr, Exprs, SettingValue, lexeme, nothing, over_setting_value}
-use Rattle.justfile_tree.specs.Expression.{expr_of, exprs_of, expr_cooked, literal_tok}
-use Rattle.justfile_tree.specs.declared.expression.Expression.{Expression}
+use Rattle.justfile_expression.specs.Expression.{expr_of, exprs_of, expr_cooked, literal_tok}
+use Rattle.justfile_expression.specs.declared.expression.Expression.{Expression}
 use Rattle.justfile_setting.specs.declared.setting.Setting.{Setting}
 use Rattle.justfile_setting.specs.declared.setting.Setting.TheVariants as settings
 
--- the keyword that the setting is named by
+-- the keyword that is the setting's name
 abbrev pub keyword_of : Setting → Keyword
 keyword_of (settings.AllowDuplicateRecipes value) = words.AllowDuplicateRecipes
 keyword_of (settings.AllowDuplicateVariables value) = words.AllowDuplicateVariables
@@ -47,7 +47,7 @@ keyword_of (settings.WindowsPowerShell value) = words.WindowsPowershell
 keyword_of (settings.WindowsShell interpreter) = words.WindowsShell
 keyword_of (settings.WorkingDirectory value) = words.WorkingDirectory
 
--- by the trees of expressions, and what is seen of a literal
+-- by functions for the trees of expressions and the leaves of literals
 module _ {A B : Type 0} (expression : Expression → Expr A B) (expressions : List Expression → Exprs A B) (leaf : StringLiteral → A) where
   -- an expression in a box
   abbrev pub boxed_by : Box Expression → SettingValue A B
@@ -90,11 +90,11 @@ module _ {A B : Type 0} (expression : Expression → Expr A B) (expressions : Li
   value_by (settings.WindowsShell interpreter) = interpreter_by interpreter
   value_by (settings.WorkingDirectory value) = boxed_by value
 
--- the tree of its value
+-- the tree of a setting's value
 abbrev pub value_of : Setting → SettingValue Tok Tok
 value_of = value_by expr_of exprs_of literal_tok
 
--- the tree of its value without places
+-- the shape of a setting's value: its tree with lexemes in place of tokens
 abbrev pub value_shape : Setting → SettingValue (List ℕ) (Unit {0})
 value_shape s = over_setting_value lexeme nothing (value_of s)
 
@@ -102,7 +102,7 @@ value_shape s = over_setting_value lexeme nothing (value_of s)
 abbrev pub interpreter_cooked : Box (Interpreter Expression) → List (List ℕ)
 interpreter_cooked i = expr_cooked i.value.command ++ flat_map expr_cooked i.value.arguments.items
 
--- the texts of its literals, in order
+-- the texts of a setting's literals, in order
 abbrev pub setting_cooked : Setting → List (List ℕ)
 setting_cooked (settings.DotenvCommand value) = expr_cooked value.value
 setting_cooked (settings.DotenvFilename value) = expr_cooked value.value
@@ -116,17 +116,17 @@ setting_cooked (settings.WindowsShell interpreter) = interpreter_cooked interpre
 setting_cooked (settings.WorkingDirectory value) = expr_cooked value.value
 setting_cooked _ = []
 
--- what the tree doesn't show of a setting: an indentation is the text of its literal
-abbrev pub IsWholeSetting : Setting → Type 0
-IsWholeSetting (settings.Indentation literal indentation) = indentation_text indentation ≡ string_bytes literal.cooked
-IsWholeSetting _ = Unit {0}
+-- the derived fields of a setting are right: an indentation is the text of its literal
+abbrev pub HasDerivedSettingFields : Setting → Type 0
+HasDerivedSettingFields (settings.Indentation literal indentation) = indentation_text indentation ≡ string_bytes literal.cooked
+HasDerivedSettingFields _ = Unit {0}
 
--- a truth value that is true may be left out
+-- a value that may be left out: `true`
 abbrev pub is_default : {A B : Type 0} → SettingValue A B → Bool
 is_default (tree.Truth value) = value
 is_default _ = false
 
--- the settings that must not stand beside it
+-- the names of the settings that conflict with this one
 abbrev pub conflicts : Setting → List Keyword
 conflicts (settings.DotenvCommand value) = words.DotenvFilename ∷ words.DotenvLoad ∷ words.DotenvPath ∷ words.DotenvRequired ∷ []
 conflicts (settings.DotenvFilename value) = words.DotenvCommand ∷ []

@@ -1,32 +1,33 @@
-//! Settings of keywords and values.
+//! The forms of settings, and settings from keywords and values.
 ghost use Rattle.std.specs.Prelude.{◌≡◌, Some};
 ghost use Rattle.std.specs.Option.{option_map};
 ghost use Rattle.justfile_model.specs.Settings as forms;
 ghost use Rattle.justfile_model.specs.Tree as tree;
 ghost use Rattle.justfile_setting.specs.Form.{form_of};
 ghost use Rattle.justfile_setting.specs.LeafSetting.{leaf_value_of};
-ghost use Rattle.justfile_setting.specs.Setting.{keyword_of, IsWholeSetting};
-ghost use Rattle.justfile_tree.specs.LeafTree.{leaf_tree_of, trees_of};
+ghost use Rattle.justfile_setting.specs.Setting.{keyword_of, HasDerivedSettingFields};
+ghost use Rattle.justfile_expression.specs.LeafTree.{leaf_tree_of, trees_of};
 
 use crate::setting::Setting;
 use justfile_attribute::Interpreter;
-use justfile_base::Keyword;
-use justfile_tree::Expression;
+use justfile_expression::Expression;
+use justfile_vocabulary::Keyword;
 
-/// What follows the name of a setting.
+/// What is written after the name of a setting.
 #[derive(Clone, Copy, Debug, PartialEq, Eq)]
 pub enum SettingForm {
     /// `:=` and an expression.
     Expression,
     /// `:=` and expressions in brackets.
     Interpreter,
-    /// `:=` and a plain literal.
+    /// `:=` and a plain string: not tripled, without `x` or `f` before it.
     Plain,
-    /// Nothing, or `:=` and a truth value.
+    /// Nothing, or `:=` and `true` or `false`.
     Truth,
 }
 
-/// The form of the setting that the keyword names, if it names one.
+/// Returns the form of the setting with this name, or `None` if the keyword isn't the name of a
+/// setting.
 pub fn setting_form(keyword: Keyword) -> Option<SettingForm>
     ensures { option_map form_of result ≡ forms.setting_form keyword }
 {
@@ -65,12 +66,12 @@ pub fn setting_form(keyword: Keyword) -> Option<SettingForm>
 }
 
 impl<'src> Setting<'src> {
-    /// The setting that takes a truth value.
+    /// Returns a setting that is true or false.
     pub fn from_truth(keyword: Keyword, value: bool) -> Self
         requires { forms.setting_form keyword ≡ Some forms.TruthForm }
         ensures keyword { keyword_of result ≡ keyword }
         ensures value { leaf_value_of result ≡ tree.Truth value }
-        ensures whole { IsWholeSetting result }
+        ensures whole { HasDerivedSettingFields result }
     {
         match keyword {
             Keyword::AllowDuplicateRecipes => Setting::AllowDuplicateRecipes(value),
@@ -96,12 +97,12 @@ impl<'src> Setting<'src> {
         }
     }
 
-    /// The setting that takes an expression.
+    /// Returns a setting with an expression.
     pub fn from_expression(keyword: Keyword, value: Box<Expression<'src>>) -> Self
         requires { forms.setting_form keyword ≡ Some forms.ExpressionForm }
         ensures keyword { keyword_of result ≡ keyword }
         ensures value { leaf_value_of result ≡ tree.Value (leaf_tree_of value.entry.value) }
-        ensures whole { IsWholeSetting result }
+        ensures whole { HasDerivedSettingFields result }
     {
         match keyword {
             Keyword::DotenvCommand => Setting::DotenvCommand(value),
@@ -113,15 +114,17 @@ impl<'src> Setting<'src> {
         }
     }
 
-    /// The setting that takes an interpreter.
+    /// Returns a setting with an interpreter.
     pub fn from_interpreter(
         keyword: Keyword,
         interpreter: Box<Interpreter<Expression<'src>>>,
     ) -> Self
         requires { forms.setting_form keyword ≡ Some forms.InterpreterForm }
         ensures keyword { keyword_of result ≡ keyword }
-        ensures value { leaf_value_of result ≡ tree.Interpreter (leaf_tree_of interpreter.entry.value.command) (trees_of interpreter.entry.value.arguments.items) }
-        ensures whole { IsWholeSetting result }
+        ensures value { leaf_value_of result
+            ≡ tree.Interpreter (leaf_tree_of interpreter.entry.value.command)
+            (trees_of interpreter.entry.value.arguments.items) }
+        ensures whole { HasDerivedSettingFields result }
     {
         match keyword {
             Keyword::ScriptInterpreter => Setting::ScriptInterpreter(interpreter),

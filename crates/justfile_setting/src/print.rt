@@ -1,19 +1,58 @@
-//! The text of settings.
+//! Printing of settings.
 ghost use Rattle.std.specs.Prelude.{◌≡◌, ◌++◌, OnOk, OnErr, codes};
 ghost use Rattle.std.specs.List.{flat_map};
-ghost use Rattle.justfile_base.specs.StringLiteral.{literal_text};
+ghost use Rattle.justfile_token.specs.StringLiteral.{literal_text};
 ghost use Rattle.justfile_model.specs.Printing.{fixed_text};
 ghost use Rattle.justfile_setting.specs.Print.{interpreter_text, later_texts, setting_output, truth_text, value_text_of};
-ghost use Rattle.justfile_tree.specs.Text.{text_of};
+ghost use Rattle.justfile_expression.specs.Text.{text_of};
 
 use crate::setting::Setting;
 use crate::value::Value;
 use justfile_attribute::Interpreter;
-use justfile_base::StringLiteral;
-use justfile_tree::{Expression, Sink, put_piece, write_expression};
+use justfile_expression::{Expression, Sink, put_piece, write_expression};
+use justfile_token::StringLiteral;
 use std::fmt;
 
-/// Puts a truth value.
+impl fmt::Display for Setting<'_> {
+    ghost use Rattle.std.specs.Prelude.{Some};
+
+    ghost output = { λ setting. Some (setting_output setting) };
+
+    fn fmt<W: fmt::Write>(&self, f: &mut fmt::Formatter<W>) -> fmt::Result {
+        write_setting(self, f)
+    }
+}
+
+/// Writes the same text as `Display`.
+impl fmt::Debug for Setting<'_> {
+    fn fmt<W: fmt::Write>(&self, f: &mut fmt::Formatter<W>) -> fmt::Result {
+        write_setting(self, f)
+    }
+}
+
+/// Writes the text of a setting, which is that of its value.
+#[tactic(auto, using(crate::proofs::SettingText::seen))]
+pub fn write_setting<S: Sink>(setting: &Setting<'_>, sink: &mut S) -> Result<(), S::Fault>
+    ensures ok { OnOk result (S.took sink.old (setting_output setting.now) sink.new) }
+    ensures err { OnErr result (S.failed sink.old (setting_output setting.now) sink.new) }
+{
+    write_value(&setting.value(), sink)
+}
+
+/// Writes the value of a setting.
+fn write_value<S: Sink>(value: &Value<'_, '_>, sink: &mut S) -> Result<(), S::Fault>
+    ensures ok { OnOk result (S.took sink.old (value_text_of value.now) sink.new) }
+    ensures err { OnErr result (S.failed sink.old (value_text_of value.now) sink.new) }
+{
+    match value {
+        Value::Truth(value) => write_truth(**value, sink),
+        Value::Expression(expression) => write_expression(expression, sink),
+        Value::Literal(literal) => write_literal(literal, sink),
+        Value::Interpreter(interpreter) => write_interpreter(interpreter, sink),
+    }
+}
+
+/// Writes `true` or `false`.
 fn write_truth<S: Sink>(value: bool, sink: &mut S) -> Result<(), S::Fault>
     ensures ok { OnOk result (S.took sink.old (truth_text value) sink.new) }
     ensures err { OnErr result (S.failed sink.old (truth_text value) sink.new) }
@@ -25,7 +64,7 @@ fn write_truth<S: Sink>(value: bool, sink: &mut S) -> Result<(), S::Fault>
     }
 }
 
-/// Puts a literal with its marks.
+/// Writes a literal with its marks.
 fn write_literal<S: Sink>(literal: &StringLiteral<'_>, sink: &mut S) -> Result<(), S::Fault>
     ensures ok { OnOk result (S.took sink.old (literal_text literal.now) sink.new) }
     ensures err { OnErr result (S.failed sink.old (literal_text literal.now) sink.new) }
@@ -34,27 +73,7 @@ fn write_literal<S: Sink>(literal: &StringLiteral<'_>, sink: &mut S) -> Result<(
     sink.put(literal.token.lexeme())
 }
 
-/// Puts an argument after a comma.
-fn write_later<S: Sink>(argument: &Expression<'_>, sink: &mut S) -> Result<(), S::Fault>
-    ensures ok { OnOk result (S.took sink.old (fixed_text (codes ", ") ++ text_of argument.now) sink.new) }
-    ensures err { OnErr result (S.failed sink.old (fixed_text (codes ", ") ++ text_of argument.now) sink.new) }
-{
-    put_piece(", ", sink)?;
-    write_expression(argument, sink)
-}
-
-/// Puts arguments, each after a comma.
-fn write_arguments<S: Sink>(arguments: &[Expression<'_>], sink: &mut S) -> Result<(), S::Fault>
-    ensures ok { OnOk result (S.took sink.old (later_texts arguments.now) sink.new) }
-    ensures err { OnErr result (S.failed sink.old (later_texts arguments.now) sink.new) }
-{
-    for argument in arguments {
-        write_later(argument, sink)?;
-    }
-    Ok(())
-}
-
-/// Puts a command and its arguments in brackets.
+/// Writes a command and its arguments in brackets.
 fn write_interpreter<S: Sink>(
     interpreter: &Interpreter<Expression<'_>>,
     sink: &mut S,
@@ -68,41 +87,22 @@ fn write_interpreter<S: Sink>(
     put_piece("]", sink)
 }
 
-/// Puts what a setting is set to.
-fn write_value<S: Sink>(value: &Value<'_, '_>, sink: &mut S) -> Result<(), S::Fault>
-    ensures ok { OnOk result (S.took sink.old (value_text_of value.now) sink.new) }
-    ensures err { OnErr result (S.failed sink.old (value_text_of value.now) sink.new) }
+/// Writes arguments, each with a comma and a space before it.
+fn write_arguments<S: Sink>(arguments: &[Expression<'_>], sink: &mut S) -> Result<(), S::Fault>
+    ensures ok { OnOk result (S.took sink.old (later_texts arguments.now) sink.new) }
+    ensures err { OnErr result (S.failed sink.old (later_texts arguments.now) sink.new) }
 {
-    match value {
-        Value::Truth(value) => write_truth(**value, sink),
-        Value::Expression(expression) => write_expression(expression, sink),
-        Value::Literal(literal) => write_literal(literal, sink),
-        Value::Interpreter(interpreter) => write_interpreter(interpreter, sink),
+    for argument in arguments {
+        write_later(argument, sink)?;
     }
+    Ok(())
 }
 
-/// Puts the text of a setting, which is that of its value.
-#[tactic(auto, using(crate::proofs::SettingText::seen))]
-pub fn write_setting<S: Sink>(setting: &Setting<'_>, sink: &mut S) -> Result<(), S::Fault>
-    ensures ok { OnOk result (S.took sink.old (setting_output setting.now) sink.new) }
-    ensures err { OnErr result (S.failed sink.old (setting_output setting.now) sink.new) }
+/// Writes an argument with a comma and a space before it.
+fn write_later<S: Sink>(argument: &Expression<'_>, sink: &mut S) -> Result<(), S::Fault>
+    ensures ok { OnOk result (S.took sink.old (fixed_text (codes ", ") ++ text_of argument.now) sink.new) }
+    ensures err { OnErr result (S.failed sink.old (fixed_text (codes ", ") ++ text_of argument.now) sink.new) }
 {
-    write_value(&setting.value(), sink)
-}
-
-impl fmt::Display for Setting<'_> {
-    ghost use Rattle.std.specs.Prelude.{Some};
-
-    ghost output = { λ setting. Some (setting_output setting) };
-
-    fn fmt<W: fmt::Write>(&self, f: &mut fmt::Formatter<W>) -> fmt::Result {
-        write_setting(self, f)
-    }
-}
-
-/// The text, as `Display` puts it.
-impl fmt::Debug for Setting<'_> {
-    fn fmt<W: fmt::Write>(&self, f: &mut fmt::Formatter<W>) -> fmt::Result {
-        write_setting(self, f)
-    }
+    put_piece(", ", sink)?;
+    write_expression(argument, sink)
 }

@@ -1,16 +1,16 @@
-//! The numbers of the variables that settings hold.
+//! Resolution of the variables in settings.
 ghost use Rattle.justfile_setting.specs.Resolved.{IsResolvedCommand, IsResolvedSetting};
-ghost use Rattle.justfile_tree.specs.Resolved.{number_of};
+ghost use Rattle.justfile_expression.specs.Resolved.{number_of};
 
 use crate::setting::Setting;
 use justfile_attribute::Interpreter;
-use justfile_base::Number;
-use justfile_tree::{Expression, resolve_expressions};
+use justfile_expression::{Expression, resolve_expressions};
+use justfile_vocabulary::Number;
 use std::collections::HashMap;
 
 impl<'src> Setting<'src> {
-    /// Gives each variable in the setting's expressions the number that the context has at its
-    /// name, or else the one that the bindings have, or else none. Nothing else changes.
+    /// Sets the number of each variable in the setting's expressions to that of its name in the
+    /// context, or else in the bindings, or else to `None`. Nothing else changes.
     pub fn resolve_variables(
         &mut self,
         context: Option<&HashMap<&'src str, Number>>,
@@ -52,13 +52,14 @@ impl<'src> Setting<'src> {
     }
 }
 
-/// Gives the variables of an interpreter's command and arguments their numbers.
+/// Sets the numbers of the variables in an interpreter's command and arguments.
 fn resolve_command<'src>(
     interpreter: &mut Interpreter<Expression<'src>>,
     context: Option<&HashMap<&'src str, Number>>,
     bindings: &HashMap<&'src str, Number>,
 )
-    ensures { IsResolvedCommand (number_of context.entry bindings.now) interpreter.new interpreter.old }
+    ensures { IsResolvedCommand (number_of context.entry bindings.now) interpreter.new
+        interpreter.old }
 {
     interpreter.command.resolve_variables(context, bindings);
     resolve_expressions(&mut interpreter.arguments, context, bindings);

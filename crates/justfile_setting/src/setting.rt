@@ -4,10 +4,11 @@ ghost use Rattle.justfile_setting.specs.Value.{value_seen};
 
 use crate::value::Value;
 use justfile_attribute::Interpreter;
-use justfile_base::{Indentation, Keyword, StringLiteral};
-use justfile_tree::Expression;
+use justfile_expression::Expression;
+use justfile_token::StringLiteral;
+use justfile_vocabulary::{Indentation, Keyword};
 
-/// What a justfile sets for all of its recipes.
+/// A setting of a justfile, with its value. `docs/LANGUAGE.md` lists them.
 #[derive(Drop)]
 pub enum Setting<'src> {
     AllowDuplicateRecipes(bool),
@@ -24,11 +25,11 @@ pub enum Setting<'src> {
     Fallback(bool),
     Guards(bool),
     IgnoreComments(bool),
-    /// The literal, and the indentation that its text is.
+    /// The literal, and its text as an indentation.
     Indentation(StringLiteral<'src>, Indentation),
     Lazy(bool),
     Lists(bool),
-    /// The literal, whose text is a version.
+    /// The literal. Its text is a version.
     MinimumVersion(StringLiteral<'src>),
     NoCd(bool),
     NoExitMessage(bool),
@@ -43,7 +44,7 @@ pub enum Setting<'src> {
     WorkingDirectory(Box<Expression<'src>>),
 }
 
-/// What stands against a command that loads variables.
+/// The settings that conflict with `dotenv-command`.
 static AGAINST_DOTENV_COMMAND: [Keyword; 4] = [
     Keyword::DotenvFilename,
     Keyword::DotenvLoad,
@@ -51,17 +52,17 @@ static AGAINST_DOTENV_COMMAND: [Keyword; 4] = [
     Keyword::DotenvRequired,
 ];
 
-/// What stands against a file that variables are loaded from.
+/// The setting that conflicts with those that load variables from a file.
 static AGAINST_DOTENV_FILE: [Keyword; 1] = [Keyword::DotenvCommand];
 
-/// What stands against staying in the directory.
+/// The setting that conflicts with `no-cd`.
 static AGAINST_NO_CD: [Keyword; 1] = [Keyword::WorkingDirectory];
 
-/// What stands against a directory to work in.
+/// The setting that conflicts with `working-directory`.
 static AGAINST_WORKING_DIRECTORY: [Keyword; 1] = [Keyword::NoCd];
 
 impl<'src> Setting<'src> {
-    /// The keyword that names the setting.
+    /// Returns the keyword that is the setting's name.
     pub fn keyword(&self) -> Keyword
         ensures { result ≡ keyword_of self.now }
     {
@@ -98,7 +99,17 @@ impl<'src> Setting<'src> {
         }
     }
 
-    /// What it is set to.
+    /// Whether the value is the one that a setting has if it is left out: `true`.
+    pub fn is_default(&self) -> bool
+        ensures { result ≡ is_default (value_of self.now) }
+    {
+        match self.value() {
+            Value::Truth(value) => *value,
+            _ => false,
+        }
+    }
+
+    /// Returns the value of the setting.
     pub(crate) fn value<'a>(&'a self) -> Value<'a, 'src>
         ensures { value_seen result ≡ value_of self.now }
     {
@@ -135,17 +146,7 @@ impl<'src> Setting<'src> {
         }
     }
 
-    /// Whether it is what it is where the value is left out: a truth value that is true.
-    pub fn is_default(&self) -> bool
-        ensures { result ≡ is_default (value_of self.now) }
-    {
-        match self.value() {
-            Value::Truth(value) => *value,
-            _ => false,
-        }
-    }
-
-    /// The settings that must not stand beside it.
+    /// Returns the names of the settings that conflict with this one.
     pub fn conflicts(&self) -> &'static [Keyword]
         ensures { result.now ≡ conflicts self.now }
     {

@@ -1,8 +1,8 @@
 use justfile_attribute::Interpreter;
-use justfile_base::StringLiteral;
-use justfile_tree::Expression;
+use justfile_expression::Expression;
+use justfile_token::StringLiteral;
 
-/// What a setting is set to.
+/// The value of a setting.
 #[derive(Clone, Copy)]
 pub enum Value<'a, 'src> {
     Truth(&'a bool),

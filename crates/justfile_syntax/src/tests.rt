@@ -1,5 +1,5 @@
-//! Calls that no text reaches. What texts are lexed, parsed and printed to stands in the rows of
-//! `justfile_rows`.
+//! Tests of calls that no text leads to. The rows of `justfile_rows` test what texts are lexed,
+//! parsed and printed to.
 
 mod attributes;
 mod excerpts;

@@ -1,4 +1,4 @@
--- The last of a list, with a comment.
+-- The last element of a list gets a comment.
 use Rattle.std.proofs.Common.{◌≡◌, ◌<◌, ◌-◌, ◌+◌, ℕ, zero, suc, true, List, [], ◌∷◌, length, Option, Some, None, slice_index_or, slice_set, refl, ap, arith}
 use Rattle.std.specs.Option.{is_some}
 use Rattle.justfile_written.specs.Written.{Comment, last_with_comment, line_commented, with_comment}

@@ -1,4 +1,4 @@
-//! Where attributes were written: their names, and the comments after their lines.
+//! The names and comments with which attributes were written.
 #![tactic(auto)]
 
 pub mod written;

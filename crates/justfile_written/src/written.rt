@@ -1,20 +1,20 @@
 ghost use Rattle.std.specs.Prelude.{◌≡◌, IfOk, map};
 ghost use Rattle.justfile_written.specs.Written.{commented, line_commented, uncommented};
 
-use justfile_base::Name;
+use justfile_token::Name;
 use std::alloc::{AllocError, Global};
 
-/// Where an attribute was written.
+/// How an attribute was written: its name and its comment.
 #[derive(Clone, Copy, Debug)]
 pub struct Written<'src> {
-    /// The name that it was written with.
+    /// The attribute's name in the source.
     pub name: Name<'src>,
-    /// The comment after its line, without the white space at its end. Only the last attribute of
-    /// its brackets has one.
+    /// The comment at the end of the attribute's line, without trailing white space. Only the last
+    /// attribute between two brackets can have one.
     pub comment: Option<&'src str>,
 }
 
-/// Gives the comment after a line of attributes, if there is one, to the last of them.
+/// Stores the comment at the end of a line of attributes, if there is one, in the last attribute.
 pub fn comment_last<'src, A>(pairs: &mut [(A, Written<'src>)], comment: Option<&'src str>)
     ensures { pairs.new ≡ line_commented comment.entry pairs.old }
 {
@@ -24,11 +24,11 @@ pub fn comment_last<'src, A>(pairs: &mut [(A, Written<'src>)], comment: Option<&
     }
 }
 
-/// Attributes with their names, none of which has a comment.
+/// Returns the attributes with their names and without comments.
 ///
 /// # Errors
 ///
-/// `AllocError` if the program is out of memory.
+/// `AllocError` if memory runs out.
 pub fn without_comments<'src, A: Drop>(
     alloc: Global,
     pairs: Vec<(A, Name<'src>)>,
@@ -43,11 +43,11 @@ pub fn without_comments<'src, A: Drop>(
     Ok(written)
 }
 
-/// Attributes with their names, and the comments of those that have one.
+/// Returns the attributes with their names, and with their comments where they have one.
 ///
 /// # Errors
 ///
-/// `AllocError` if the program is out of memory.
+/// `AllocError` if memory runs out.
 pub fn with_comments<'src, A: Drop>(
     alloc: Global,
     entries: Vec<(A, Name<'src>, Option<&'src str>)>,

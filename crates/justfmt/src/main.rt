@@ -7,8 +7,8 @@ use std::env;
 use std::io::{self, ErrorKind};
 use std::process::ExitCode;
 
-/// The arguments after the program's name. An argument that isn't UTF-8 makes them `?`, which is
-/// no argument of the program.
+/// Returns the arguments after the program's name. If one of them isn't UTF-8, returns `?` alone,
+/// which the program doesn't take.
 fn arguments(rt: &HostRuntime) -> io::Result<Vec<String>> {
     let alloc = rt.alloc();
     let mut arguments = Vec::new(alloc);
@@ -26,7 +26,7 @@ fn arguments(rt: &HostRuntime) -> io::Result<Vec<String>> {
     Ok(arguments)
 }
 
-/// Does what the arguments ask for, over the standard streams, and answers the exit status.
+/// Does what the arguments ask for on the standard streams, and returns the exit status.
 fn run_on_streams(rt: &HostRuntime, arguments: &[String]) -> u8 {
     let mut reader = rt.stdin();
     let mut writer = rt.stdout();

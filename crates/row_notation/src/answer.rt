@@ -1,28 +1,28 @@
-//! What is found and what is expected, in the notation of rows.
+//! What a row finds or expects, in the notation of rows.
 
 use crate::text::Text;
 use std::alloc::{AllocError, Global};
 
-/// Fields, separated by blanks, each in the one notation that it has here.
+/// Fields separated by blanks. Each has one notation, so equal answers have equal texts.
 #[derive(Drop)]
 pub struct Answer {
     notation: Text,
 }
 
 impl Answer {
-    /// No fields.
+    /// Returns an answer without fields.
     pub fn new(alloc: Global) -> Self {
         Answer {
             notation: Text::new(alloc),
         }
     }
 
-    /// The allocator of the answer.
+    /// Returns the allocator of the answer.
     pub fn alloc(&self) -> Global {
         self.notation.alloc()
     }
 
-    /// Puts a field after the others.
+    /// Appends a field.
     pub fn push(&mut self, field: &str) {
         self.separate();
         if is_word(field) {
@@ -32,14 +32,14 @@ impl Answer {
         }
     }
 
-    /// Puts a blank after the fields before.
+    /// Appends a blank if there are fields already.
     fn separate(&mut self) {
         if !self.notation.as_str().is_empty() {
             self.notation.put(" ");
         }
     }
 
-    /// Puts a field between its quotes.
+    /// Appends a field in quotes.
     fn quote(&mut self, field: &str) {
         self.notation.put("«");
         for character in field.chars() {
@@ -48,7 +48,7 @@ impl Answer {
         self.notation.put("»");
     }
 
-    /// Puts a character of a field between quotes, with an escape if it needs one.
+    /// Appends a character of a field in quotes, with an escape if it needs one.
     fn put_character(&mut self, character: char) {
         match character {
             '\n' => self.notation.put("\\n"),
@@ -60,14 +60,14 @@ impl Answer {
         }
     }
 
-    /// Puts the escape with a character's number.
+    /// Appends the escape with a character's number.
     fn put_code(&mut self, character: char) {
         let code = u32::from(character);
         let escape = format!(in self.alloc(); "\\u{{{code:x}}}");
         self.notation.put_made(escape);
     }
 
-    /// Puts a field that was made for this, where there was memory.
+    /// Appends a field, or records that memory ran out for it.
     pub fn push_made(&mut self, made: Result<String, AllocError>) {
         match made {
             Ok(field) => self.push(field.as_str()),
@@ -75,25 +75,25 @@ impl Answer {
         }
     }
 
-    /// Puts a text as a field.
+    /// Appends a text as a field.
     pub fn push_text(&mut self, text: Text) {
         self.push_made(text.finish());
     }
 
-    /// Puts a number.
+    /// Appends a number.
     pub fn push_number(&mut self, number: usize) {
         self.separate();
         self.notation.put_number(number);
     }
 
-    /// Puts a word if it is so.
+    /// Appends a word if `is_so`.
     pub fn push_if(&mut self, word: &str, is_so: bool) {
         if is_so {
             self.push(word);
         }
     }
 
-    /// Puts the fields of another answer.
+    /// Appends the fields of another answer.
     pub fn push_all(&mut self, other: &Answer) {
         if !other.notation.as_str().is_empty() {
             self.separate();
@@ -101,12 +101,12 @@ impl Answer {
         self.notation.put_text(&other.notation);
     }
 
-    /// Notes that memory ran out.
+    /// Records that memory ran out.
     pub fn fail(&mut self) {
         self.notation.fail();
     }
 
-    /// Puts a word and the fields of another answer, unless they are those of a third one.
+    /// Appends a word and the fields of `other`, unless these are the fields of `expected`.
     pub fn push_unless(&mut self, word: &str, other: &Answer, expected: &Answer) {
         if other.notation.as_str() != expected.notation.as_str() {
             self.push(word);
@@ -114,7 +114,11 @@ impl Answer {
         }
     }
 
-    /// The fields, if there was memory for all of them.
+    /// Returns the fields as text.
+    ///
+    /// # Errors
+    ///
+    /// Memory ran out for one of them.
     pub fn finish(self) -> Result<String, AllocError> {
         let Answer { notation } = self;
         notation.finish()
@@ -131,8 +135,8 @@ fn is_plain(character: char) -> bool {
     !matches!(character, ' ' | '\t' | '\n' | '\r' | '\\') && !is_unseen(character)
 }
 
-/// Whether a character needs an escape with its number: one of the notation, and one that can't be
-/// seen.
+/// Whether a character needs an escape with its number: because it has a meaning in the notation,
+/// or can't be seen.
 fn is_unseen(character: char) -> bool {
     matches!(
         character,

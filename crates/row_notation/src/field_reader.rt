@@ -4,14 +4,14 @@ use crate::text::Text;
 use std::alloc::{AllocError, Global};
 use std::mem;
 
-/// What stands before the next character.
+/// What comes before the next character.
 #[derive(Clone, Copy)]
 enum State {
     /// A blank, or nothing.
     Blank,
     /// A field without quotes.
     Word,
-    /// A text between quotes that is not closed yet.
+    /// A text in quotes that isn't closed yet.
     Text,
     /// The closing quote.
     Closed,
@@ -25,13 +25,13 @@ enum State {
     Code(u32),
     /// The digits of how many times a piece is repeated.
     Count(u32),
-    /// The piece that is repeated so many times.
+    /// The piece that is repeated this many times.
     Piece(u32),
-    /// What no field begins with or goes on with.
+    /// A character that no field allows there.
     Unreadable,
 }
 
-/// The fields that are read, and the one that is being read.
+/// The fields read so far, and the one that is being read.
 #[derive(Drop)]
 pub(crate) struct FieldReader {
     alloc: Global,
@@ -43,7 +43,7 @@ pub(crate) struct FieldReader {
 }
 
 impl FieldReader {
-    /// Nothing is read yet.
+    /// Returns a reader that has read nothing.
     pub(crate) fn new(alloc: Global) -> Self {
         FieldReader {
             alloc,
@@ -55,7 +55,7 @@ impl FieldReader {
         }
     }
 
-    /// Reads a line. No field goes on after its end, but a text where a backslash stands there.
+    /// Reads a line. Its end also ends a field, except a text that ends with a backslash there.
     pub(crate) fn read(&mut self, line: &str) {
         for character in line.chars() {
             self.state = self.take(character);
@@ -63,7 +63,7 @@ impl FieldReader {
         self.state = self.end_line();
     }
 
-    /// What the end of a line leaves.
+    /// Returns the state after the end of a line.
     fn end_line(&mut self) -> State {
         if let State::Backslash = self.state {
             return State::Continued;
@@ -74,11 +74,11 @@ impl FieldReader {
         }
     }
 
-    /// The fields, or none if they can't be read.
+    /// Returns the fields, or `None` if they can't be read.
     ///
     /// # Errors
     ///
-    /// If memory ran out.
+    /// Memory ran out.
     pub(crate) fn finish(self) -> Result<Option<Vec<String>>, AllocError> {
         let FieldReader {
             alloc: _,
@@ -97,7 +97,7 @@ impl FieldReader {
         }
     }
 
-    /// Takes a character, and answers what it leaves.
+    /// Takes a character, and returns the state after it.
     fn take(&mut self, character: char) -> State {
         match self.state {
             State::Blank => self.take_blank(character),
@@ -114,7 +114,7 @@ impl FieldReader {
         }
     }
 
-    /// A character where no field has begun.
+    /// Takes a character before the next field.
     fn take_blank(&mut self, character: char) -> State {
         match character {
             ' ' | '\t' => State::Blank,
@@ -123,7 +123,7 @@ impl FieldReader {
         }
     }
 
-    /// A character of a word, or the blank that ends it.
+    /// Takes a character of a word, or the blank after it.
     fn take_word(&mut self, character: char) -> State {
         match character {
             ' ' | '\t' => self.end_field(),
@@ -132,7 +132,7 @@ impl FieldReader {
         }
     }
 
-    /// A character of a text, or what ends it.
+    /// Takes a character of a text, or one with a meaning of its own in texts.
     fn take_text(&mut self, character: char) -> State {
         match character {
             '»' => State::Closed,
@@ -142,7 +142,8 @@ impl FieldReader {
         }
     }
 
-    /// The blanks at the front of a line do not belong to a text that goes on there.
+    /// Takes a character at the front of a line on which a text goes on. Blanks there don't belong
+    /// to the text.
     fn take_continuation(&mut self, character: char) -> State {
         match character {
             ' ' | '\t' => State::Continued,
@@ -150,7 +151,7 @@ impl FieldReader {
         }
     }
 
-    /// The blank that has to follow a text.
+    /// Takes the blank that has to follow a text.
     fn take_end_of_text(&mut self, character: char) -> State {
         match character {
             ' ' | '\t' => self.end_field(),
@@ -158,7 +159,7 @@ impl FieldReader {
         }
     }
 
-    /// What a backslash stands for with this character.
+    /// Takes the character after a backslash.
     fn take_escape(&mut self, character: char) -> State {
         match character {
             'n' => self.put('\n', State::Text),
@@ -170,7 +171,7 @@ impl FieldReader {
         }
     }
 
-    /// A digit of a character's number, or the brace that ends it.
+    /// Takes a digit of a character's number, or the brace that ends it.
     fn take_digit(&mut self, code: u32, character: char) -> State {
         if let Some(digit) = character.to_digit(16) {
             return State::Code(code.saturating_mul(16).saturating_add(digit));
@@ -181,7 +182,7 @@ impl FieldReader {
         }
     }
 
-    /// A character of a piece, or the bracket that ends it.
+    /// Takes a character of a repeated piece, or the bracket that ends it.
     fn take_piece(&mut self, count: u32, character: char) -> State {
         if character != '›' {
             self.piece.put_character(character);
@@ -194,7 +195,7 @@ impl FieldReader {
         State::Text
     }
 
-    /// Puts a character to the field, and goes on so.
+    /// Appends a character to the field, and returns `state`.
     fn put(&mut self, character: char, state: State) -> State {
         self.field.put_character(character);
         state
@@ -217,7 +218,7 @@ impl FieldReader {
     }
 }
 
-/// What the character after `\u` leaves.
+/// Returns the state after the character that follows `\u`.
 fn take_brace(character: char) -> State {
     if character == '{' {
         State::Code(0)
@@ -226,7 +227,7 @@ fn take_brace(character: char) -> State {
     }
 }
 
-/// What the first digit of a count leaves.
+/// Returns the state after the first digit of a count.
 fn take_first_digit(character: char) -> State {
     match character.to_digit(10) {
         Some(digit) => State::Count(digit),
@@ -234,7 +235,7 @@ fn take_first_digit(character: char) -> State {
     }
 }
 
-/// What a character leaves that is a digit of a count or the bracket that ends it.
+/// Returns the state after a character in a count: a further digit, or the bracket that ends it.
 fn take_count(count: u32, character: char) -> State {
     match character.to_digit(10) {
         Some(digit) => State::Count(count.saturating_mul(10).saturating_add(digit)),

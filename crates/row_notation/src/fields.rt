@@ -1,6 +1,6 @@
-//! The fields of a row by their places.
+//! Access to the fields of a row by their indices.
 
-/// The field at a place, and the empty text after the last one.
+/// Returns the field at an index, or the empty text if there is none.
 pub fn field_at(fields: &[String], place: usize) -> &str {
     match fields.get(place) {
         Some(field) => field.as_str(),
@@ -8,7 +8,7 @@ pub fn field_at(fields: &[String], place: usize) -> &str {
     }
 }
 
-/// The number that this field is, and 0 for a field that is none.
+/// Returns the number in this field, or 0 if it isn't a number.
 pub fn number_at(fields: &[String], place: usize) -> u32 {
     field_at(fields, place).parse::<u32>().unwrap_or(0)
 }

@@ -1,5 +1,5 @@
-//! The notation of rows of data: the rows of a file are read, and answers are written like their
-//! fields. `docs/ROWS.md` has the notation.
+//! The notation of rows of data: reads the rows of a file, and writes results like their fields.
+//! `docs/ROWS.md` has the notation.
 #![tactic(auto)]
 
 mod answer;

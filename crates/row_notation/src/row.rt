@@ -3,27 +3,31 @@
 use crate::field_reader::FieldReader;
 use std::alloc::{AllocError, Global};
 
-/// A row: the number of its first line, from 1, and its fields, if they can be read.
+/// A row: the number of its first line, and its fields, if they can be read.
 #[derive(Drop)]
 pub struct Row {
-    /// The number of the row's first line, from 1.
+    /// The number of the row's first line, counted from 1.
     pub line: usize,
     reader: FieldReader,
 }
 
 impl Row {
-    /// The row's fields, the first of which is its word, or none if they can't be read.
+    /// Returns the row's fields, of which the first is its word, or `None` if they can't be read.
     ///
     /// # Errors
     ///
-    /// If memory ran out.
+    /// Memory ran out.
     pub fn fields(self) -> Result<Option<Vec<String>>, AllocError> {
         let Row { line: _, reader } = self;
         reader.finish()
     }
 }
 
-/// The rows of a file, in order.
+/// Returns the rows of a file, in order.
+///
+/// # Errors
+///
+/// Memory ran out.
 pub fn rows_of(alloc: Global, text: &str) -> Result<Vec<Row>, AllocError> {
     let mut rows = Vec::new(alloc);
     for (index, line) in text.lines().enumerate() {
@@ -32,7 +36,7 @@ pub fn rows_of(alloc: Global, text: &str) -> Result<Vec<Row>, AllocError> {
     Ok(rows)
 }
 
-/// Reads a line: one that begins with a blank goes on with the row before it.
+/// Reads a line. One that begins with a blank continues the row before it.
 fn read_line(
     alloc: Global,
     rows: &mut Vec<Row>,

@@ -1,9 +1,9 @@
-//! Text that is written piece by piece.
+//! Texts written piece by piece.
 
 use std::alloc::{AllocError, Global};
 
-/// A text, and whether memory ran out for a piece of it. So what writes pieces has no error to
-/// hand on at each.
+/// A text, and whether memory ran out for a piece of it. So the methods that append pieces return
+/// no error; `finish` does.
 #[derive(Drop)]
 pub struct Text {
     alloc: Global,
@@ -12,7 +12,7 @@ pub struct Text {
 }
 
 impl Text {
-    /// The empty text.
+    /// Returns the empty text.
     pub fn new(alloc: Global) -> Self {
         Text {
             alloc,
@@ -21,36 +21,36 @@ impl Text {
         }
     }
 
-    /// The allocator of the text.
+    /// Returns the allocator of the text.
     pub fn alloc(&self) -> Global {
         self.alloc
     }
 
-    /// What is written.
+    /// Returns what was written.
     pub fn as_str(&self) -> &str {
         self.content.as_str()
     }
 
-    /// Writes a piece.
+    /// Appends a piece.
     pub fn put(&mut self, piece: &str) {
         if self.content.push_str(piece).is_err() {
             self.is_short = true;
         }
     }
 
-    /// Writes a character.
+    /// Appends a character.
     pub fn put_character(&mut self, character: char) {
         if self.content.push(character).is_err() {
             self.is_short = true;
         }
     }
 
-    /// Writes a number.
+    /// Appends a number.
     pub fn put_number(&mut self, number: usize) {
         self.put_made(number.to_string(self.alloc));
     }
 
-    /// Writes a piece that was made for this, where there was memory.
+    /// Appends a piece, or records that memory ran out for it.
     pub fn put_made(&mut self, made: Result<String, AllocError>) {
         match made {
             Ok(piece) => self.put(piece.as_str()),
@@ -58,7 +58,7 @@ impl Text {
         }
     }
 
-    /// Writes another text.
+    /// Appends another text.
     pub fn put_text(&mut self, other: &Text) {
         self.put(other.as_str());
         if other.is_short {
@@ -66,12 +66,16 @@ impl Text {
         }
     }
 
-    /// Notes that memory ran out.
+    /// Records that memory ran out.
     pub fn fail(&mut self) {
         self.is_short = true;
     }
 
-    /// The text, if there was memory for all of it.
+    /// Returns the text.
+    ///
+    /// # Errors
+    ///
+    /// Memory ran out for a piece of it.
     pub fn finish(self) -> Result<String, AllocError> {
         let Text {
             alloc: _,

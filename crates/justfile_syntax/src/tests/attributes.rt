@@ -1,4 +1,4 @@
-//! Keys of attributes that the parser gives to no attribute of their kind.
+//! Attributes made with keys that the parser never passes for their kind.
 
 use crate::attribute::{Attribute, AttributeKind, KeywordArguments};
 use crate::compile_error::CompileError;
@@ -11,8 +11,8 @@ use crate::token::Token;
 use std::alloc::Global;
 use std::process::Abort;
 
-/// The name of an attribute with keys after it, how many arguments it has by position, and the key
-/// that it does not take: the first in the order of their texts.
+/// The name of an attribute followed by keys, the number of its positional arguments, and the key
+/// that it refuses, with its offset: the first unknown one in the order of their texts.
 static UNKNOWN: &[(&str, usize, &str, usize)] = &[
     ("doc extra", 0, "extra", 4),
     ("confirm z y", 1, "y", 10),
@@ -23,7 +23,7 @@ static UNKNOWN: &[(&str, usize, &str, usize)] = &[
     ("script extra", 0, "extra", 7),
 ];
 
-/// So many arguments, each the name as a variable.
+/// Makes `count` positional arguments, each a variable with this name.
 fn arguments<'src>(
     rt: &impl Abort,
     alloc: Global,
@@ -39,7 +39,7 @@ fn arguments<'src>(
     arguments
 }
 
-/// The names as keys without values.
+/// Makes keyword arguments without values.
 fn keys<'src>(rt: &impl Abort, alloc: Global, names: &[Name<'src>]) -> KeywordArguments<'src> {
     let mut keys = KeywordArguments::new(alloc);
     for name in names {
@@ -48,7 +48,7 @@ fn keys<'src>(rt: &impl Abort, alloc: Global, names: &[Name<'src>]) -> KeywordAr
     keys
 }
 
-/// Sees that an error says this of a key, and stands at it.
+/// Checks that an error is about an unknown key `wanted` of the attribute `of`, at this offset.
 fn compare_error(rt: &impl Abort, error: &CompileError<'_>, of: &str, wanted: &str, at: usize) {
     match &error.kind {
         CompileErrorKind::UnknownAttributeKey { attribute, key } => {
@@ -60,7 +60,7 @@ fn compare_error(rt: &impl Abort, error: &CompileError<'_>, of: &str, wanted: &s
     same(rt, wanted, &error.token.offset, &at);
 }
 
-/// Sees that the attribute of this name, with these keys, is refused for one of them.
+/// Checks that the attribute with this name and these keys is refused for one of the keys.
 fn compare_refused<'src>(
     rt: &impl Abort,
     alloc: Global,

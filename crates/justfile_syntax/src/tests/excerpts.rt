@@ -1,4 +1,4 @@
-//! The excerpts that tokens are written as.
+//! The excerpts of tokens in messages.
 
 use crate::fault::Fault;
 use crate::lexer::Lexer;
@@ -7,7 +7,7 @@ use crate::token::Token;
 use std::alloc::Global;
 use std::process::Abort;
 
-/// The token at which a text is refused, or its end.
+/// Returns the token at which a text is refused, or else its last token.
 fn last_token<'src>(rt: &impl Abort, alloc: Global, text: &'src str) -> Token<'src> {
     match Lexer::lex(alloc, "justfile", text) {
         Ok(tokens) => *tokens.last().expect(rt, text),
@@ -16,7 +16,7 @@ fn last_token<'src>(rt: &impl Abort, alloc: Global, text: &'src str) -> Token<'s
     }
 }
 
-/// Sees that a token is written so.
+/// Checks the excerpt of a token.
 fn compare(rt: &impl Abort, alloc: Global, token: Token<'_>, excerpt: &str) {
     let written = token.to_string(alloc).expect(rt, excerpt);
     same_text(rt, token.src, written.as_str(), excerpt);

@@ -1,8 +1,8 @@
-//! What a part of a format string stands for that is read from one token, also from one that no
-//! text is lexed to.
+//! The texts of parts of format strings, each from one token, including tokens that lexing never
+//! returns.
 ghost use Rattle.std.specs.Prelude.{◌≡◌, IsTrue};
 ghost use Rattle.std.specs.List.{All};
-ghost use Rattle.justfile_base.specs.Token.{lexeme_of};
+ghost use Rattle.justfile_token.specs.Token.{lexeme_of};
 ghost use Rattle.justfile_literal.specs.Literal.{is_part};
 
 use crate::string_kind::{StringDelimiter, StringKind};
@@ -19,7 +19,7 @@ const SINGLE: StringKind = StringKind {
     indented: false,
 };
 
-/// The token that the whole text is.
+/// Makes a token of this kind from a whole text.
 fn whole(text: &str, kind: TokenKind) -> Token<'_>
     ensures { lexeme_of result ≡ text.now }
 {
@@ -34,8 +34,7 @@ fn whole(text: &str, kind: TokenKind) -> Token<'_>
     }
 }
 
-/// Sees that each format string without expressions, in single quotes, stands for the text beside
-/// it.
+/// Checks the text of each format string without expressions, in single quotes.
 fn compare(rt: &impl Abort, alloc: Global, rows: &[(&str, &str)])
     requires { All (λ row. IsTrue (is_part SINGLE FormatStringPart.Single row.0.now)) rows.now }
 {

@@ -1,11 +1,11 @@
-//! Interpreters of texts.
+//! Interpreters whose command and arguments are texts.
 
 use crate::interpreter::Interpreter;
 use crate::tests::support::{same, same_text};
 use std::alloc::Global;
 use std::process::Abort;
 
-/// Sees that an interpreter is the one that runs scripts where none is set.
+/// Checks that an interpreter is the default one for scripts.
 fn compare_default(interpreter: &Interpreter<String>, rt: &impl Abort, alloc: Global) {
     same_text(rt, "the command", interpreter.command.as_str(), "sh");
     same(rt, "arguments", &interpreter.arguments.len(), &1);

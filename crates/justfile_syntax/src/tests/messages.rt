@@ -1,4 +1,4 @@
-//! What errors say that no text brings, and counts and alternatives.
+//! Messages of errors that no text leads to, counts, and alternatives.
 
 use crate::attribute::AttributeKind;
 use crate::compile_error_kind::CompileErrorKind;
@@ -16,13 +16,13 @@ use std::alloc::Global;
 use std::fmt::Display;
 use std::process::Abort;
 
-/// Sees that a value is written so.
+/// Checks the text that a value displays.
 fn compare<T: Display>(rt: &impl Abort, alloc: Global, value: &T, text: &str) {
     let written = value.to_string(alloc).expect(rt, text);
     same_text(rt, text, written.as_str(), text);
 }
 
-/// Sees that a refusal at the token says this.
+/// Checks the message of an error at a token.
 fn says<'src>(
     rt: &impl Abort,
     alloc: Global,
@@ -82,7 +82,7 @@ fn alternatives(rt: HostRuntime) {
     );
 }
 
-/// Sees what is said of how many arguments a dependency has, and a function.
+/// Checks the messages for the number of arguments of a dependency and of a function.
 fn compare_counts(
     rt: &impl Abort,
     alloc: Global,
@@ -139,7 +139,7 @@ fn counts_of_arguments(rt: HostRuntime) {
     }
 }
 
-/// Names in a vector.
+/// Makes a vector of names.
 fn circle<'src>(rt: &impl Abort, alloc: Global, names: &[&'src str]) -> Vec<&'src str> {
     names.to_vec(alloc).expect(rt, "no memory")
 }
@@ -195,8 +195,8 @@ const THIRD: Token<'static> = Token {
     src: "\n\na",
 };
 
-/// A refusal of definitions that are repeated.
-fn repeated(place: usize) -> CompileErrorKind<'static> {
+/// Returns an error for repeated definitions.
+fn repeated_error(place: usize) -> CompileErrorKind<'static> {
     match place {
         0 => CompileErrorKind::Redefinition {
             first: 0,
@@ -224,7 +224,7 @@ fn repeated(place: usize) -> CompileErrorKind<'static> {
     }
 }
 
-/// What they say on the third line.
+/// Their messages on the third line.
 static REPEATED: &[&str] = &[
     "recipe `a` first defined on line 1 is redefined on line 3",
     "recipe `a` defined on line 1 is redefined as an alias on line 3",
@@ -237,11 +237,11 @@ static REPEATED: &[&str] = &[
 #[test]
 fn definitions_that_are_repeated(rt: HostRuntime) {
     for (place, text) in REPEATED.iter().enumerate() {
-        says(&rt, rt.alloc(), &THIRD, repeated(place), text);
+        says(&rt, rt.alloc(), &THIRD, repeated_error(place), text);
     }
 }
 
-/// A refusal of parameters, recipes and names.
+/// Returns an error for parameters, recipes and names.
 fn named(place: usize) -> CompileErrorKind<'static> {
     match place {
         0 => CompileErrorKind::DuplicateParameter {
@@ -264,7 +264,7 @@ fn named(place: usize) -> CompileErrorKind<'static> {
     }
 }
 
-/// What they say.
+/// Their messages.
 static NAMED: &[&str] = &[
     "recipe `a` has duplicate parameter `b`",
     "function `a` has duplicate parameter `b`",
@@ -283,7 +283,7 @@ fn parameters_recipes_and_names(rt: HostRuntime) {
     }
 }
 
-/// A refusal of lines and of what wants lists, or a fault of the program.
+/// Returns an error for lines or for features that need the setting `lists`, or an internal error.
 fn other(place: usize) -> CompileErrorKind<'static> {
     match place {
         0 => CompileErrorKind::GuardAndInfallibleSigil,
@@ -294,7 +294,7 @@ fn other(place: usize) -> CompileErrorKind<'static> {
     }
 }
 
-/// What they say.
+/// Their messages.
 static OTHER: &[&str] = &[
     "the guard `?` and infallible `-` sigils may not be used together",
     "recipe line has extra leading whitespace",
@@ -310,7 +310,7 @@ fn lists_and_the_rest(rt: HostRuntime) {
     }
 }
 
-/// A path of two names.
+/// Makes a path of two names.
 fn path<'src>(rt: &impl Abort, alloc: Global, names: &[Name<'src>]) -> Namepath<'src> {
     let (first, others) = names.split_first().expect(rt, "no name");
     let mut path = Namepath::from_name(alloc, *first).expect(rt, "no memory");

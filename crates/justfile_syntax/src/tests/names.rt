@@ -1,4 +1,4 @@
-//! Names, the paths that they make, and numbers.
+//! Names, paths of names, and numbers.
 
 use crate::assignment::Assignment;
 use crate::ast::Ast;
@@ -13,7 +13,7 @@ use crate::tests::support::{CURRENT, Unchanged, holds, names, same, same_text};
 use std::alloc::{AllocError, Global};
 use std::process::Abort;
 
-/// The path of a name and those after it.
+/// Makes the path of `first` and the names after it.
 fn path_from<'src>(
     alloc: Global,
     first: Name<'src>,
@@ -26,13 +26,13 @@ fn path_from<'src>(
     Ok(path)
 }
 
-/// The path of the names.
+/// Makes the path of these names.
 fn path<'src>(rt: &impl Abort, alloc: Global, names: &[Name<'src>]) -> Namepath<'src> {
     let (first, others) = names.split_first().expect(rt, "no name");
     path_from(alloc, *first, others).expect(rt, "no memory")
 }
 
-/// Sees that a path has these names, and is written so.
+/// Checks the names of a path, and the text that it displays.
 fn compare(rt: &impl Abort, alloc: Global, path: &Namepath<'_>, names: &[Name<'_>], text: &str) {
     let written = path.to_string(alloc).expect(rt, text);
     same_text(rt, text, written.as_str(), text);
@@ -58,14 +58,14 @@ fn namepaths(rt: HostRuntime) {
     compare(&rt, alloc, &longer, &names[..3], "a::b-1::_c");
 }
 
-/// Sees that a path of modules is written so.
+/// Checks the text that a path of modules displays.
 fn compare_written(rt: &impl Abort, alloc: Global, modules: &Modulepath, text: &str) {
     let written = modules.to_string(alloc).expect(rt, text);
     same_text(rt, text, written.as_str(), text);
 }
 
-/// Sees that the path of modules of these names is written so, that its copy is equal and stays so,
-/// and that it is written as the other text with another name after it.
+/// Checks the path of modules with the names in `text`: the text that it displays, that its copy is
+/// equal and doesn't change with it, and the text that it displays with one more name.
 fn compare_modules(rt: &impl Abort, alloc: Global, text: &str, (written, longer): (&str, &str)) {
     let namepath = path(rt, alloc, names(rt, alloc, text).as_slice());
     let mut modules = Modulepath::from_namepath(alloc, Some(&namepath)).expect(rt, text);
@@ -106,14 +106,14 @@ fn constants(rt: HostRuntime) {
     same(&rt, "the third", &numerator.constant(2), &Number(2));
 }
 
-/// Sees what the file of a module has of what was handed in.
+/// Checks what a module's file has from the arguments of `parse`.
 fn compare_file(ast: &mut Ast<'_>, rt: &impl Abort, alloc: Global) {
     compare_written(rt, alloc, &ast.module_path, "m::n");
     same_text(rt, "a file", ast.working_directory.as_str(), "/home/m");
     compare_items(&ast.items, rt);
 }
 
-/// Sees that the items of this file are an assignment and the end of its line.
+/// Checks that the items of this file are an assignment and a line end.
 fn compare_items(items: &[Item<'_>], rt: &impl Abort) {
     same(rt, "items", &items.len(), &2);
     match items.first() {
@@ -122,13 +122,13 @@ fn compare_items(items: &[Item<'_>], rt: &impl Abort) {
     }
 }
 
-/// Sees what the assignment of this file has of it.
+/// Checks what the assignment of this file has from the arguments of `parse`.
 fn compare_assignment(rt: &impl Abort, assignment: &Assignment<'_>) {
     same(rt, "an assignment", &assignment.file_depth, &3);
     same(rt, "an assignment", &assignment.number, &Number(5));
 }
 
-/// Sees what is parsed from the tokens of a text, the module of this path.
+/// Checks what the tokens of a text are parsed to, for the module with this path.
 fn compare_module(
     rt: &impl Abort,
     alloc: Global,

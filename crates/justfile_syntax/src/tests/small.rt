@@ -1,4 +1,4 @@
-//! What small types answer and write.
+//! What the calls of small types return, and what they display.
 
 use crate::conditional_operator::ConditionalOperator;
 use crate::delimiter::Delimiter;
@@ -12,7 +12,7 @@ use std::alloc::Global;
 use std::fmt::Display;
 use std::process::Abort;
 
-/// Sees that a value is written so.
+/// Checks the text that a value displays.
 fn compare<T: Display>(rt: &impl Abort, alloc: Global, value: &T, text: &str) {
     let written = value.to_string(alloc).expect(rt, text);
     same_text(rt, text, written.as_str(), text);
@@ -134,7 +134,7 @@ fn features_say_what_needs_the_setting(rt: HostRuntime) {
     }
 }
 
-/// Sees that a delimiter opens and closes so.
+/// Checks the texts of a delimiter's two sides.
 fn compare_delimiter(rt: &impl Abort, delimiter: Delimiter, open: &str, close: &str) {
     same_text(rt, close, delimiter.open(), open);
     same_text(rt, open, delimiter.close(), close);
@@ -156,7 +156,7 @@ fn interpolations_stand_in_braces(rt: HostRuntime) {
     same_text(&rt, "escape", Lexer::INTERPOLATION_ESCAPE, "{{{{");
 }
 
-/// The version that a text is.
+/// Returns the version that a text stands for.
 fn version(rt: &impl Abort, text: &str) -> Version {
     text.parse::<Version>().expect(rt, text)
 }

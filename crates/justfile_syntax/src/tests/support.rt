@@ -1,4 +1,4 @@
-//! What the tests of several files need.
+//! Helpers for the tests of several files.
 
 use crate::expander::{ExpandFault, Expander};
 use crate::lexer::Lexer;
@@ -16,7 +16,7 @@ pub(crate) const CURRENT: Version = Version {
     patch: 0,
 };
 
-/// An expander that leaves each text as it is.
+/// An expander that leaves each text unchanged.
 pub(crate) struct Unchanged;
 
 impl Expander for Unchanged {
@@ -29,33 +29,33 @@ impl Expander for Unchanged {
     }
 }
 
-/// Sees that a text is the wanted one. A failure names what it was found of.
+/// Checks that a text is the expected one. A failure names `of`, which it belongs to.
 pub(crate) fn same_text(rt: &impl Abort, of: &str, found: &str, wanted: &str) {
     assert_eq!(rt; found, wanted, "{of:?}");
 }
 
-/// Sees that a value is the wanted one. A failure names what it was found of.
+/// Checks that a value is the expected one. A failure names `of`, which it belongs to.
 pub(crate) fn same<T: Debug + PartialEq>(rt: &impl Abort, of: &str, found: &T, wanted: &T) {
     assert_eq!(rt; found, wanted, "{of:?}");
 }
 
-/// Sees that something is so of a text.
+/// Checks that a condition holds. A failure names `of`, which it belongs to.
 pub(crate) fn holds(rt: &impl Abort, of: &str, is_so: bool) {
     assert!(rt; is_so, "{of:?}");
 }
 
-/// The tokens of a text.
+/// Returns the tokens of a text.
 pub(crate) fn lexed<'src>(rt: &impl Abort, alloc: Global, text: &'src str) -> Vec<Token<'src>> {
     Lexer::lex(alloc, "justfile", text).expect(rt, text)
 }
 
-/// The first token of a text.
+/// Returns the first token of a text.
 pub(crate) fn first_token<'src>(rt: &impl Abort, alloc: Global, text: &'src str) -> Token<'src> {
     let tokens = lexed(rt, alloc, text);
     *tokens.first().expect(rt, "no token")
 }
 
-/// The identifiers of a text, in order.
+/// Returns the identifiers of a text, in order.
 pub(crate) fn names<'src>(rt: &impl Abort, alloc: Global, text: &'src str) -> Vec<Name<'src>> {
     let mut names = Vec::new(alloc);
     for token in &lexed(rt, alloc, text) {

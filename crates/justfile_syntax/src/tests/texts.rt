@@ -1,4 +1,4 @@
-//! The texts that values are written as.
+//! The texts that values display.
 
 use crate::item::ItemKind;
 use crate::keyed::Keyed;
@@ -11,7 +11,7 @@ use crate::token_kind::TokenKind;
 use std::alloc::{AllocError, Global};
 use std::process::Abort;
 
-/// Sees that an item's kind has this article and is written so.
+/// Checks the article of an item's kind, and the text that the kind displays.
 fn compare_kind(rt: &impl Abort, alloc: Global, kind: ItemKind, (article, text): (&str, &str)) {
     same_text(rt, text, kind.article(), article);
     let written = kind.to_string(alloc).expect(rt, text);
@@ -37,7 +37,7 @@ fn kinds_of_items(rt: HostRuntime) {
     compare_kind(&rt, alloc, ItemKind::Recipe, ("a", "recipe"));
 }
 
-/// Two names and a bar between them, padded so.
+/// Displays two names with a bar between them, with this padding.
 fn padded(
     alloc: Global,
     first: Name<'_>,
@@ -73,7 +73,7 @@ fn padded_names(rt: HostRuntime) {
     }
 }
 
-/// The literal that a token is, marked so.
+/// Makes the literal of a token, expanded or a part of a format string.
 fn literal<'src>(
     rt: &impl Abort,
     alloc: Global,
@@ -92,13 +92,13 @@ fn literal<'src>(
     }
 }
 
-/// Sees that a literal is written so.
+/// Checks the text that a literal displays.
 fn compare_written(rt: &impl Abort, alloc: Global, literal: &StringLiteral<'_>, text: &str) {
     let written = literal.to_string(alloc).expect(rt, text);
     same_text(rt, text, written.as_str(), text);
 }
 
-/// Sees that a literal is written so, and its copy too, which is equal to it.
+/// Checks the text that a literal displays, and that its copy displays the same and is equal to it.
 fn compare_literal(rt: &impl Abort, alloc: Global, literal: &StringLiteral<'_>, text: &str) {
     compare_written(rt, alloc, literal, text);
     let copy = literal.clone(alloc).expect(rt, text);

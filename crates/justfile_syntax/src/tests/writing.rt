@@ -1,4 +1,4 @@
-//! Printing to writers that take little, and that fail.
+//! Printing to writers that take few bytes, and that fail.
 
 use crate::ast::Ast;
 use crate::indentation::Indentation;
@@ -11,23 +11,23 @@ use std::alloc::Global;
 use std::io::{self, ErrorKind, Write};
 use std::process::Abort;
 
-/// What a writer answers at one call.
+/// The result of one call of a writer.
 #[derive(Clone, Copy)]
 enum Answer {
     /// An error of this kind.
     Error(ErrorKind),
-    /// That no byte was taken.
+    /// Success, with no byte taken.
     Nothing,
 }
 
 /// A writer that takes one byte at each call but one.
 #[derive(Drop)]
 struct OneByte {
-    /// What was taken.
+    /// The bytes that were taken.
     taken: Vec<u8>,
     /// How many calls come before the one that takes nothing.
     calls_before: Option<u32>,
-    /// What that call answers.
+    /// The result of that call.
     answer: Answer,
 }
 
@@ -51,8 +51,8 @@ impl Write for OneByte {
     }
 }
 
-/// How many calls come before the one that takes nothing, what that call answers, what was taken, and
-/// what is answered.
+/// How many calls come before the one that takes nothing, the result of that call, the bytes taken,
+/// and the result of printing.
 static ROWS: &[(Option<u32>, Answer, &str, Result<(), WriteFault>)] = &[
     (None, Answer::Nothing, "a := b\n", Ok(())),
     (
@@ -70,7 +70,7 @@ static ROWS: &[(Option<u32>, Answer, &str, Result<(), WriteFault>)] = &[
     (Some(2), Answer::Nothing, "a ", Err(WriteFault::Zero)),
 ];
 
-/// Sees what a file is written as to a writer, and what is answered.
+/// Checks what is printed to a writer, and the result.
 fn compare(
     ast: &Ast<'_>,
     rt: &impl Abort,
@@ -83,7 +83,7 @@ fn compare(
     same(rt, taken, &writer.taken.as_slice(), &taken.as_bytes());
 }
 
-/// Sees what a file is written as to the writer of each row.
+/// Checks what a file prints to the writer of each row.
 fn compare_rows(ast: &mut Ast<'_>, rt: &impl Abort, alloc: Global) {
     for (calls_before, answer, taken, result) in ROWS {
         let mut writer = OneByte {
@@ -95,7 +95,7 @@ fn compare_rows(ast: &mut Ast<'_>, rt: &impl Abort, alloc: Global) {
     }
 }
 
-/// Sees what the file that a text is is written as.
+/// Checks what the file of a text prints.
 fn compare_text(rt: &impl Abort, alloc: Global, text: &str) {
     let source = Source {
         file_depth: 0,

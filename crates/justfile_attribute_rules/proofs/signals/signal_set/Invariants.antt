@@ -4,7 +4,7 @@ use Rattle.justfile_attribute_rules.specs.Made.{quoted_leaves, signals_made}
 use Rattle.justfile_attribute_rules.proofs.Loops.{adds_up}
 use Rattle.justfile_attribute_rules.proofs.signals.signal_set.Given as goal
 
--- what is made of all of them goes on from these signals
+-- the result for all literals, from the signals so far and the literals that are left
 abbrev pub invariant-loop-literal : goal.invariant-loop-literal
 invariant-loop-literal l =
     (goal.iterator-loop-literal).can_next l.literal-iterator

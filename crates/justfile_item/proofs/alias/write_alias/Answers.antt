@@ -1,7 +1,7 @@
 use Rattle.std.proofs.Common.{◌≡◌, ℕ, List, ◌++◌, codes, ap, ◌∙◌, subst}
-use Rattle.justfile_base.specs.Namepath.{namepath_text}
-use Rattle.justfile_base.specs.Token.{lexeme_of}
-use Rattle.justfile_base.specs.declared.namepath.Namepath.{Namepath}
+use Rattle.justfile_token.specs.Namepath.{namepath_text}
+use Rattle.justfile_token.specs.Token.{lexeme_of}
+use Rattle.justfile_token.specs.declared.namepath.Namepath.{Namepath}
 use Rattle.justfile_model.specs.Printing.{fixed_text}
 use Rattle.justfile_line.proofs.Loops.{at_err}
 use Rattle.justfile_item.specs.ItemText.{alias_text_of}
@@ -9,7 +9,7 @@ use Rattle.justfile_item.specs.declared.alias.Alias.{Alias}
 use Rattle.justfile_item.proofs.ItemTexts.{alias_parts}
 use Rattle.justfile_item.proofs.alias.write_alias.Goals as goal
 
--- the pieces that are put are the text of the alias
+-- the written pieces are the text of the alias
 written : (a : Alias Namepath) (name : List ℕ) → name ≡ lexeme_of a.name.token
     → fixed_text (codes "alias ") ++ name ++ fixed_text (codes " := ") ++ namepath_text a.target ≡ alias_text_of a
 written a name e = ap (λ (n : List ℕ). fixed_text (codes "alias ") ++ n ++ fixed_text (codes " := ") ++ namepath_text a.target) e ∙ alias_parts a

@@ -1,13 +1,13 @@
 use Rattle.std.proofs.Common.{◌≡◌, ℕ, List, ◌∷◌, ◌++◌, ap, ◌∙◌, subst}
-use Rattle.justfile_base.specs.Token.{lexeme_of}
-use Rattle.justfile_base.specs.declared.name.Name.{Name}
-use Rattle.justfile_word.specs.declared.number.Number.{Number}
+use Rattle.justfile_token.specs.Token.{lexeme_of}
+use Rattle.justfile_token.specs.declared.name.Name.{Name}
+use Rattle.justfile_vocabulary.specs.declared.number.Number.{Number}
 use Rattle.justfile_line.proofs.Loops.{at_err}
 use Rattle.justfile_item.specs.ItemText.{later_names_text, parameter_names_text}
 use Rattle.justfile_item.proofs.ItemTexts.{names_some}
 use Rattle.justfile_item.proofs.function_definition.write_names.Goals as goal
 
--- the pieces that are put are the text of the names
+-- the written pieces are the text of the names
 written : (parameters : List (Name × Number)) (first : Name × Number) (rest : List (Name × Number)) (name : List ℕ) → parameters ≡ first ∷ rest
     → name ≡ lexeme_of first.0.token
     → name ++ later_names_text rest ≡ parameter_names_text parameters

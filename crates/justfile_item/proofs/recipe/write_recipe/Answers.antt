@@ -1,6 +1,6 @@
 use Rattle.std.proofs.Common.{◌≡◌, ℕ, List, ◌++◌, ap, subst}
 use Rattle.std.specs.Option.{option_copied}
-use Rattle.justfile_word.specs.Indentation.{indentation_text}
+use Rattle.justfile_vocabulary.specs.Indentation.{indentation_text}
 use Rattle.justfile_model.specs.Printing.{body_text, comment_text, header_text}
 use Rattle.justfile_line.specs.Body.{line_shapes}
 use Rattle.justfile_line.specs.declared.line.Line.{Line}
@@ -10,7 +10,7 @@ use Rattle.justfile_item.specs.Recipe.{unresolved_recipe_text}
 use Rattle.justfile_item.specs.declared.recipe.UnresolvedRecipe.{UnresolvedRecipe}
 use Rattle.justfile_item.proofs.recipe.write_recipe.Goals as goal
 
--- the pieces that are put are the text of the recipe
+-- the written pieces are the text of the recipe
 written : (r : UnresolvedRecipe) (indentation : List ℕ) (lines : List Line) → lines ≡ r.body.items
     → header_text (header_shape r) ++ comment_text (option_copied r.comment) ++ body_text indentation (line_shapes lines) ≡ unresolved_recipe_text r indentation
 written r indentation lines e =

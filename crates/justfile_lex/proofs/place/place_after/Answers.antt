@@ -1,4 +1,4 @@
-use Rattle.std.proofs.Common.{◌≡◌, ◌+◌, ◌-◌, subst, arith}
+use Rattle.std.proofs.Common.{◌≡◌, ◌-◌, subst, arith}
 use Rattle.justfile_model.specs.Places.{IsPlace}
 use Rattle.justfile_lex.proofs.PlaceLemmas.{place_on_line, line_within}
 use Rattle.justfile_lex.proofs.place.place_after.Goals as goal
@@ -10,7 +10,7 @@ pub overflow_step-at : goal.overflow_step-at
 overflow_step-at c = omega (arith, c.requires.order, c.requires.within, c.line_len-plain.ensures, line_within c.args.bytes.now c.args.from (c.args.to - c.args.from))
 
 pub loop-at-init : goal.loop-at-init
-loop-at-init c = place_on_line _ _ (c.args.to - c.args.from) _ _ _ c.requires.start (omega (arith, c.line_len-plain.ensures))
+loop-at-init c = place_on_line _ _ (c.args.to - c.args.from) _ _ _ c.requires.start (omega (arith, c.requires.order, c.requires.within)) c.line_len-plain.ensures
 
 pub returns : goal.returns
 returns c =

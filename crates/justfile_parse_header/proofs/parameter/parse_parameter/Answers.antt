@@ -1,5 +1,5 @@
 use Rattle.std.proofs.Common.{◌∙◌, false, ap, map, sym}
-use Rattle.justfile_word.specs.declared.token_kind.TokenKind.TheVariants as kinds
+use Rattle.justfile_vocabulary.specs.declared.token_kind.TokenKind.TheVariants as kinds
 use Rattle.justfile_parse_expression.specs.View.{state_of}
 use Rattle.justfile_parse_expression.specs.declared.parser.ExpressionParser.{ExpressionParser}
 use Rattle.justfile_parse_header.specs.Counting.{counters_of, names_after}
@@ -13,7 +13,7 @@ pub returns-in-Some-clause-reads : goal.returns-in-Some-clause-reads
 returns-in-Some-clause-reads g c =
     let A = g.X.Expander.answer in
     let x : reader.Parameters = (map parameter_tree c.args.parameters.now.list.items, counters_of c.args.numerator.now) in
-    rw (exported (rules_of c.args.spoken.now.attributes.now) c.args.kind x (state_of A c.args.parser.now) c.in-Some._dollar (state_of A c.accept.new.self) c.in-Some.ensures.takes)
+    rw (exported (rules_of c.args.arg_attributes.now.attributes.now) c.args.kind x (state_of A c.args.parser.now) c.in-Some._dollar (state_of A c.accept.new.self) c.in-Some.ensures.takes)
     c.parse_named.ensures.reads
 
 pub returns-in-Some-clause-drawn : goal.returns-in-Some-clause-drawn
@@ -25,7 +25,7 @@ returns-in-Some-clause-drawn g c =
 pub returns-in-None-clause-reads : goal.returns-in-None-clause-reads
 returns-in-None-clause-reads g c =
     let A = g.X.Expander.answer in
-    let rules = rules_of c.args.spoken.now.attributes.now in
+    let rules = rules_of c.args.arg_attributes.now.attributes.now in
     let x : reader.Parameters = (map parameter_tree c.args.parameters.now.list.items, counters_of c.args.numerator.now) in
     let here =
     unexported rules c.args.kind x (state_of A c.args.parser.now) c.in-None.ensures.takes

@@ -1,12 +1,11 @@
-use Rattle.std.proofs.Common.{◌+◌, is_ok, sym, refl, ap, subst, ◌∙◌, arith}
+use Rattle.std.proofs.Common.{◌+◌, is_ok, sym, refl, ap, subst, ◌∙◌}
 use Rattle.std.specs.Prelude.{map, reverse, Ok, All, IfSome}
 use Rattle.std.proofs.lemmas.List.Elements.{All-push}
 use Rattle.std.proofs.ResultArms.{chosen}
 use Rattle.std.proofs.lemmas.Str.{IsCharBoundary-from_rest}
 use Rattle.justfile_model.specs.Tok.{tok_of}
 use Rattle.justfile_model.specs.Lexed.{end_of}
-use Rattle.justfile_model.specs.Places.{IsPlace}
-use Rattle.justfile_model.specs.Answers.{IsFrom}
+use Rattle.justfile_model.specs.LexResult.{IsFrom}
 use Rattle.justfile_lex.proofs.LexerLemmas.{earlier_push, lexeme_len, stands_at, next_is, interpolation_from}
 use Rattle.justfile_lex.proofs.lexer.Lexer.push.Goals as goal
 
@@ -16,15 +15,11 @@ make_token-token-requires c =
     let end = IsCharBoundary-from_rest _ _ _ at.0 c.requires.cut in
     (end.0, at, end)
 
-pub overflow_add-end : goal.overflow_add-end
-overflow_add-end c =
+pub place_past-place-requires-clause-within : goal.place_past-place-requires-clause-within
+place_past-place-requires-clause-within c =
     let at = c.requires.lexing.at_end.cut in
-    omega (arith, (IsCharBoundary-from_rest _ _ _ at.0 c.requires.cut).0)
-
-pub place_after-self-requires-clause-within : goal.place_after-self-requires-clause-within
-place_after-self-requires-clause-within c =
-    let at = c.requires.lexing.at_end.cut in
-    omega (arith, c.as_bytes.ensures.len, (IsCharBoundary-from_rest _ _ _ at.0 c.requires.cut).0)
+    let end = IsCharBoundary-from_rest _ _ _ at.0 c.requires.cut in
+    (end.0, at, end)
 
 pub returns : goal.returns
 returns c =
@@ -52,6 +47,6 @@ returns c =
       at_end = record {
         offset_is = sym (ap end_of joined ∙ (λ i. c.make_token-token.ensures.at.offset_is i + len i));
         cut = end;
-        place = subst (λ s. IsPlace s (c.args.self.now.offset + c.args.length) c.place_after-self.result.line c.place_after-self.result.column) c.as_bytes.ensures.value c.place_after-self.ensures;
+        place = c.place_past-place.ensures;
       };
     }

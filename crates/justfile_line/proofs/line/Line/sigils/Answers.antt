@@ -6,7 +6,7 @@ use Rattle.justfile_line.specs.Sigil.{IsSigilOf}
 use Rattle.justfile_line.specs.declared.sigil.Sigil.{Sigil}
 use Rattle.justfile_line.proofs.line.Line.sigils.Goals as goal
 
--- the text that the line begins with is the one whose sigils were gathered
+-- the text at the front of the line is the one whose sigils were collected
 pub returns-in-Some : goal.returns-in-Some
 returns-in-Some c =
     let text : first_text c.args.self.now ≡ Some c.as_bytes.result.now =

@@ -1,0 +1,24 @@
+//! Expressions: their type, and how they are printed, compared, copied and resolved.
+#![tactic(auto)]
+
+mod children;
+mod content;
+pub mod expression;
+pub mod laws;
+mod leaf_order;
+mod list_operator;
+mod order;
+mod print;
+mod resolve;
+pub mod sink;
+mod sinks;
+mod words;
+
+pub use crate::children::child;
+pub use crate::content::{literal_content_cmp, token_content_cmp};
+pub use crate::expression::Expression;
+pub use crate::list_operator::ListOperator;
+pub use crate::print::{put_piece, write_expression};
+pub use crate::resolve::resolve_expressions;
+pub use crate::sink::Sink;
+pub use justfile_model::{ConditionalOperator, ListFeature};

@@ -1,0 +1,262 @@
+-- Which tokens have no line feed.
+use Rattle.std.proofs.Common.{◌≡◌, ℕ, zero, suc, ◌<◌, ◌≤◌, Bool, true, false, cond, eqb, ltb, List, [], ◌∷◌, length, get_or, take, drop, Option, Some, None, Ok, Err, refl, sym, subst, arith, get_or-drop}
+use Rattle.std.specs.Prelude.{◌||◌, ◌&&◌, not, nat_eq}
+use Rattle.std.specs.List.{starts_with}
+use Rattle.std.specs.Str.{bytes_eq}
+use Rattle.std.proofs.lemmas.List.{length-take}
+use Rattle.std.proofs.lemmas.Bool.{and_parts}
+use Rattle.std.proofs.lemmas.Bool.Decides.{nat_tests}
+use Rattle.std.proofs.lemmas.List.Sums.{prefix_len_passes}
+use Rattle.justfile_vocabulary.specs.declared.byte_class.ByteClass.{ByteClass}
+use Rattle.justfile_vocabulary.specs.declared.byte_class.ByteClass.TheVariants as classes
+use Rattle.justfile_vocabulary.specs.declared.token_kind.TokenKind.{TokenKind}
+use Rattle.justfile_vocabulary.specs.declared.token_kind.TokenKind.TheVariants.{BraceR, BracketR, FormatStringContinue, FormatStringEnd, InterpolationEnd, ParenR}
+use Rattle.justfile_vocabulary.specs.ByteClass.{class_of}
+use Rattle.justfile_token.specs.declared.delimiter.Delimiter.{Delimiter}
+use Rattle.justfile_token.specs.declared.delimiter.Delimiter.TheVariants.{Brace, Bracket, Paren}
+use Rattle.justfile_token.specs.declared.string_kind.StringDelimiter.{StringDelimiter}
+use Rattle.justfile_token.specs.declared.string_kind.StringDelimiter.TheVariants as delimiters
+use Rattle.justfile_token.specs.declared.string_kind.StringKind.{StringKind}
+use Rattle.justfile_token.specs.StringKind.{kind_of, token_kind_of}
+use Rattle.justfile_model.specs.declared.open_delimiter.OpenDelimiter.{OpenDelimiter}
+use Rattle.justfile_model.specs.declared.raw_text.RawText.TheVariants as raw_texts
+use Rattle.justfile_model.specs.Bytes.{is_blank, is_name_byte, blank_len, word_len, is_line_end, is_interpolation_start, is_interpolation_end, is_interpolation_escape, is_mixed, closes_levels, first_char}
+use Rattle.justfile_model.specs.LexicalFault.{LexicalError}
+use Rattle.justfile_model.specs.LiteralText.{hides, ends, pieces_len, raw_len}
+use Rattle.justfile_model.specs.Modes.{Mode, head_of, is_empty, innermost, nested}
+use Rattle.justfile_model.specs.Tok.{Tok}
+use Rattle.justfile_model.specs.Next.{NextToken, doubled_token, fixed_token, opening, literal_part, literal_token, is_same, closing_delimiter, format_kind, brace_by, closing, line_end_token, escaped_line_end, token_by_class, text_or, body_token, at_end_by, Region, InText, InInterpolation, Inline, region_by, token_in_region, token_within_line, blanks_or, tested_blanks, is_level, begins_blank_line, layout, next_by, next}
+use Rattle.justfile_model.proofs.CutLemmas.{blank_no_newline, word_no_newline, is_line_feed, not_newline}
+use Rattle.justfile_lex.specs.Lexing.{is_searched, HasNoFeed}
+
+-- Where a text's pieces have none.
+-- where so many bytes have none, the rest of the pieces has none
+abbrev NoFeed : (List ℕ → ℕ) → (List ℕ → Bool) → List ℕ → ℕ → Type 0
+NoFeed hide end bs n = HasNoFeed bs n → HasNoFeed bs (pieces_len hide end n bs)
+
+no_feed_in_pieces :
+    (hide : List ℕ → ℕ) (end : List ℕ → Bool)
+    → ((bs : List ℕ) → ltb 0 (hide bs) ≡ true → (i : ℕ) → i ≤ hide bs → eqb (get_or bs i 0) 10 ≡ false)
+    → ((bs : List ℕ) → end bs ≡ false → eqb (get_or bs 0 0) 10 ≡ false)
+    → (bs : List ℕ) (n : ℕ) → NoFeed hide end bs n
+unfolding pieces_len
+no_feed_in_pieces hide end hidden shown [] n = λ before i l. refl
+no_feed_in_pieces hide end hidden shown (b ∷ bs) (suc n) = λ before i l. go (no_feed_in_pieces hide end hidden shown bs n) before i l
+  where
+    go : NoFeed hide end bs n → HasNoFeed (b ∷ bs) (suc n) → (i : ℕ) → i < suc (pieces_len hide end n bs) → eqb (get_or (b ∷ bs) i 0) 10 ≡ false
+    go more before zero l = before 0 (omega arith)
+    go more before (suc i) l = more (λ i h. before (suc i) (omega arith)) i (omega arith)
+no_feed_in_pieces hide end hidden shown (b ∷ bs) zero = λ before i l. go (no_feed_in_pieces hide end hidden shown bs) _ _ refl refl i l
+  where
+    piece : (k : ℕ) → NoFeed hide end bs k → eqb b 10 ≡ false → HasNoFeed bs k → (i : ℕ) → i < suc (pieces_len hide end k bs) → eqb (get_or (b ∷ bs) i 0) 10 ≡ false
+    piece k more f before zero l = f
+    piece k more f before (suc i) l = more before i (omega arith)
+
+    go : ((k : ℕ) → NoFeed hide end bs k) → (t s : Bool) → ltb 0 (hide (b ∷ bs)) ≡ t → end (b ∷ bs) ≡ s → (i : ℕ) → i < cond t (suc (pieces_len hide end (hide (b ∷ bs)) bs)) (cond s 0 (suc (pieces_len hide end 0 bs))) → eqb (get_or (b ∷ bs) i 0) 10 ≡ false
+    go more true s h g i l = piece (hide (b ∷ bs)) (more _) (hidden (b ∷ bs) h 0 (omega arith)) (λ i l. hidden (b ∷ bs) h (suc i) (omega arith)) i l
+    go more false true h g i l = absurd (omega arith)
+    go more false false h g i l = piece 0 (more _) (shown (b ∷ bs) g) (λ i l. absurd (omega arith)) i l
+
+comment_shown : (bs : List ℕ) → is_line_end bs ≡ false → eqb (get_or bs 0 0) 10 ≡ false
+comment_shown bs h = grind (arith, nat_tests)
+
+body_shown : (bs : List ℕ) → (is_line_end bs || is_interpolation_start bs) ≡ false → eqb (get_or bs 0 0) 10 ≡ false
+body_shown bs h = grind (arith, nat_tests)
+
+body_hidden : (bs : List ℕ) → ltb 0 (hides raw_texts.Body bs) ≡ true → (i : ℕ) → i ≤ hides raw_texts.Body bs → eqb (get_or bs i 0) 10 ≡ false
+body_hidden bs h i l = go (is_interpolation_escape bs) refl h i l
+  where
+    four : (a b c d : ℕ) → (eqb a 123 && eqb b 123 && (eqb c 123 && eqb d 123)) ≡ true → (eqb a 10 ≡ false) × (eqb b 10 ≡ false) × (eqb c 10 ≡ false) × (eqb d 10 ≡ false)
+    four a b c d h = (grind (arith, nat_tests), grind (arith, nat_tests), grind (arith, nat_tests), grind (arith, nat_tests))
+
+    is_four : is_interpolation_escape bs ≡ true → (eqb (get_or bs 0 0) 123 && eqb (get_or bs 1 0) 123 && (eqb (get_or bs 2 0) 123 && eqb (get_or bs 3 0) 123)) ≡ true
+    is_four e = subst (λ (x : ℕ). (eqb (get_or bs 0 0) 123 && eqb (get_or bs 1 0) 123 && (eqb x 123 && eqb (get_or bs 3 0) 123)) ≡ true) (get_or-drop 2 bs 0 0) (subst (λ (x : ℕ). (eqb (get_or bs 0 0) 123 && eqb (get_or bs 1 0) 123 && (eqb (get_or (drop 2 bs) 0 0) 123 && eqb x 123)) ≡ true) (get_or-drop 2 bs 1 0) e)
+
+    pick : (i : ℕ) → i ≤ 3 → (eqb (get_or bs 0 0) 10 ≡ false) × (eqb (get_or bs 1 0) 10 ≡ false) × (eqb (get_or bs 2 0) 10 ≡ false) × (eqb (get_or bs 3 0) 10 ≡ false) → eqb (get_or bs i 0) 10 ≡ false
+    pick zero l f = f.0
+    pick (suc zero) l f = f.1
+    pick (suc (suc zero)) l f = f.2
+    pick (suc (suc (suc zero))) l f = f.3
+    pick (suc (suc (suc (suc i)))) l f = absurd (omega arith)
+
+    go : (t : Bool) → is_interpolation_escape bs ≡ t → ltb 0 (cond t 3 0) ≡ true → (i : ℕ) → i ≤ cond t 3 0 → eqb (get_or bs i 0) 10 ≡ false
+    go true e h i l = pick i l (four _ _ _ _ (is_four e))
+    go false e h i l = cc
+
+comment_feeds : (rest : List ℕ) → HasNoFeed rest (raw_len raw_texts.Comment rest)
+comment_feeds rest = no_feed_in_pieces (hides raw_texts.Comment) (ends raw_texts.Comment) (λ bs h. cc) comment_shown rest 0 (λ i h. absurd (omega arith))
+
+body_feeds : (rest : List ℕ) → HasNoFeed rest (raw_len raw_texts.Body rest)
+body_feeds rest = no_feed_in_pieces (hides raw_texts.Body) (ends raw_texts.Body) body_hidden body_shown rest 0 (λ i h. absurd (omega arith))
+
+blank_feeds : (rest : List ℕ) → HasNoFeed rest (blank_len rest)
+blank_feeds rest i l = blank_no_newline _ (prefix_len_passes is_blank rest i 0 l)
+
+word_feeds : (rest : List ℕ) → HasNoFeed rest (word_len rest)
+word_feeds rest i l = word_no_newline _ (prefix_len_passes is_name_byte rest i 0 l)
+
+-- Tokens, by case: a token that isn't searched has none.
+abbrev FeedsBy : List ℕ → NextToken → Type 0
+FeedsBy rest (Ok x) = is_searched x.0 ≡ false → HasNoFeed rest x.1
+FeedsBy rest (Err r) = Unit {0}
+
+record Feeds (rest : List ℕ) (found : NextToken) : Type 0 where
+  by_case : FeedsBy rest found
+
+module _ (rest : List ℕ) where
+  if_feeds : (b : Bool) {x y : NextToken} → (b ≡ true → Feeds rest x) → (b ≡ false → Feeds rest y) → Feeds rest (cond b x y)
+  if_feeds true f g = f refl
+  if_feeds false f g = g refl
+
+  -- a token that is searched
+  other : (k : TokenKind) (n : ℕ) → is_searched k ≡ true → Feeds rest (Ok (k, n))
+  other k n e = record { by_case = λ h. cc }
+
+  free : (k : TokenKind) (n : ℕ) → HasNoFeed rest n → Feeds rest (Ok (k, n))
+  free k n f = record { by_case = λ h. f }
+
+  -- a token without bytes
+  empty : (k : TokenKind) → Feeds rest (Ok (k, 0))
+  empty k = free k 0 (λ i l. absurd (omega arith))
+
+  -- a token of one byte, or of two, by its first byte
+  abbrev First : Type 0
+  First = eqb (get_or rest 0 0) 10 ≡ false
+
+  one : (k : TokenKind) → First → Feeds rest (Ok (k, 1))
+  one k f = free k 1 go
+    where
+      go : HasNoFeed rest 1
+      go zero l = f
+      go (suc i) l = absurd (omega arith)
+
+  two : (k : TokenKind) (c : ℕ) → eqb c 10 ≡ false → First → eqb (get_or rest 1 0) c ≡ true → Feeds rest (Ok (k, 2))
+  two k c e f h = free k 2 go
+    where
+      go : HasNoFeed rest 2
+      go zero l = f
+      go (suc zero) l = not_newline _ c e h
+      go (suc (suc i)) l = absurd (omega arith)
+
+  none : (r : LexicalError) → Feeds rest (Err r)
+  none r = record { by_case = tt }
+
+  doubled : (b : ℕ) (k : TokenKind) → eqb b 10 ≡ false → First → Feeds rest (doubled_token b k rest)
+  doubled b k e f = if_feeds (eqb (get_or rest 1 0) b) (two k b e f) (λ _. if_feeds (eqb (length (drop 1 rest)) 0) (λ _. none _) (λ _. none _))
+
+  fixed : (b : ℕ) → First → Feeds rest (fixed_token b rest)
+  unfolding fixed_token
+  fixed b f =
+      if_feeds (eqb b 33) (λ _. if_feeds (eqb (get_or rest 1 0) 61) (two _ 61 refl f) (λ _. if_feeds (eqb (get_or rest 1 0) 126) (two _ 126 refl f) (λ _. one _ f)))
+      (λ _. if_feeds (eqb b 38) (λ _. doubled 38 _ refl f)
+      (λ _. if_feeds (eqb b 124) (λ _. doubled 124 _ refl f)
+      (λ _. if_feeds (eqb b 43) (λ _. if_feeds (eqb (get_or rest 1 0) 43) (two _ 43 refl f) (λ _. one _ f))
+      (λ _. if_feeds (eqb b 61) (λ _. if_feeds (eqb (get_or rest 1 0) 61) (two _ 61 refl f) (λ _. if_feeds (eqb (get_or rest 1 0) 126) (two _ 126 refl f) (λ _. one _ f)))
+      (λ _. if_feeds (eqb b 58) (λ _. if_feeds (eqb (get_or rest 1 0) 61) (two _ 61 refl f) (λ _. if_feeds (eqb (get_or rest 1 0) 58) (two _ 58 refl f) (λ _. one _ f)))
+      (λ _. if_feeds (eqb b 36) (λ _. one _ f)
+      (λ _. if_feeds (eqb b 42) (λ _. one _ f)
+      (λ _. if_feeds (eqb b 44) (λ _. one _ f)
+      (λ _. if_feeds (eqb b 47) (λ _. one _ f)
+      (λ _. if_feeds (eqb b 63) (λ _. one _ f)
+      (λ _. if_feeds (eqb b 64) (λ _. one _ f) (λ _. none _))))))))))))
+
+  part : (k : StringKind) (format : Bool) (n : ℕ) (more whole : TokenKind) → is_searched more ≡ true → is_searched whole ≡ true → Feeds rest (literal_part k format n more whole rest)
+  unfolding literal_part
+  part k format n more whole em ew = if_feeds (eqb (raw_len (raw_texts.Literal k format) (drop n rest)) (length (drop n rest))) (λ _. none _) (λ _. if_feeds (format && is_interpolation_start (drop (raw_len (raw_texts.Literal k format) (drop n rest)) (drop n rest))) (λ _. other more _ em) (λ _. other whole _ ew))
+
+  literal : (m : Mode) → Feeds rest (literal_token m rest)
+  literal m = part (kind_of rest) _ _ _ _ refl (kinds (kind_of rest).delimiter)
+    where
+      kinds : (d : StringDelimiter) → is_searched (token_kind_of d) ≡ true
+      kinds delimiters.Backtick = refl
+      kinds _ = refl
+
+  close : (last : Option OpenDelimiter) (d : Delimiter) (k : TokenKind) → First → Feeds rest (closing_delimiter last d k)
+  close None d k f = none _
+  close (Some o) d k f = if_feeds (is_same o.delimiter d) (λ _. one k f) (λ _. none _)
+
+  brace : (format : Option StringKind) (last : Option OpenDelimiter) → First → Feeds rest (brace_by format last rest)
+  brace None last f = close last Brace BraceR f
+  brace (Some k) last f = if_feeds (is_interpolation_end rest) (λ _. part k true 2 FormatStringContinue FormatStringEnd refl refl) (λ _. close last Brace BraceR f)
+
+  closes : (last : Option OpenDelimiter) (b : ℕ) → First → Feeds rest (closing last b rest)
+  closes last b f = if_feeds (eqb b 41) (λ _. close last Paren ParenR f) (λ _. if_feeds (eqb b 93) (λ _. close last Bracket BracketR f) (λ _. if_feeds (eqb b 125) (λ _. brace (format_kind last) last f) (λ _. none _)))
+
+  opens : (b : ℕ) → First → Feeds rest (opening b rest)
+  opens b f = if_feeds (eqb b 40) (λ _. one _ f) (λ _. if_feeds (eqb b 91) (λ _. one _ f) (λ _. if_feeds (eqb b 123) (λ _. one _ f) (λ _. none _)))
+
+  line_end : (m : Mode) (n : ℕ) → Feeds rest (line_end_token m n)
+  line_end m n = if_feeds (nested m) (λ _. other _ _ refl) (λ _. other _ _ refl)
+
+  escape : Feeds rest (escaped_line_end rest)
+  escape = if_feeds (eqb (get_or rest 1 0) 10) (λ _. other _ _ refl) (λ _. if_feeds (eqb (get_or rest 1 0) 13) (λ _. if_feeds (eqb (get_or rest 2 0) 10) (λ _. other _ _ refl) (λ _. none _)) (λ _. if_feeds (eqb (length (drop 1 rest)) 0) (λ _. none _) (λ _. none _)))
+
+  by_class : (m : Mode) (k : ByteClass) → class_of (get_or rest 0 0) ≡ k → Feeds rest (token_by_class m k rest)
+  unfolding token_by_class
+  by_class m classes.Blank e = other _ _ refl
+  by_class m classes.LineFeed e = line_end m 1
+  by_class m classes.CarriageReturn e = if_feeds (eqb (get_or rest 1 0) 10) (λ _. line_end m 2) (λ _. none _)
+  by_class m classes.IdentifierStart e = free _ _ (word_feeds rest)
+  by_class m classes.IdentifierContinue e = none _
+  by_class m classes.Quote e = literal m
+  by_class m classes.Opener e = opens (get_or rest 0 0) (is_line_feed _ _ e)
+  by_class m classes.Closer e = closes (head_of m.openers) (get_or rest 0 0) (is_line_feed _ _ e)
+  by_class m classes.Fixed e = fixed (get_or rest 0 0) (is_line_feed _ _ e)
+  by_class m classes.Lead e = if_feeds (eqb (first_char rest) 65279) (λ _. other _ _ refl) (λ _. none _)
+  by_class m classes.Other e = if_feeds (eqb (get_or rest 0 0) 35) (λ _. free _ _ (comment_feeds rest)) (λ _. if_feeds (eqb (get_or rest 0 0) 92) (λ _. escape) (λ _. none _))
+
+  outside_text : (m : Mode) → Feeds rest (token_by_class m (class_of (get_or rest 0 0)) rest)
+  outside_text m = by_class m (class_of (get_or rest 0 0)) refl
+
+  ends_interpolation : is_interpolation_end rest ≡ true → Feeds rest (Ok (InterpolationEnd, 2))
+  ends_interpolation h = let both = and_parts _ _ h in two _ 125 refl (not_newline _ 125 refl both.0) both.1
+
+  body : Feeds rest (body_token rest)
+  unfolding body_token
+  body = by (raw_len raw_texts.Body rest) refl
+    where
+      by : (n : ℕ) → n ≡ raw_len raw_texts.Body rest → Feeds rest (text_or n (get_or rest 0 0))
+      by (suc n) e = free _ _ (subst (HasNoFeed rest) (sym e) (body_feeds rest))
+      by zero e = if_feeds (eqb (get_or rest 0 0) 10) (λ _. other _ _ refl) (λ _. if_feeds (eqb (get_or rest 0 0) 13) (λ _. other _ _ refl) (λ _. other _ _ refl))
+
+  within_line : (m : Mode) → Feeds rest (token_within_line m rest)
+  unfolding token_within_line
+  within_line m = by (region_by m.in_body m.interpolation)
+    where
+      by : (p : Region) → Feeds rest (token_in_region p m rest)
+      by InText = body
+      by InInterpolation = if_feeds (is_empty m.openers && is_interpolation_end rest) (λ h. ends_interpolation (and_parts _ _ h).1) (λ _. outside_text m)
+      by Inline = outside_text m
+
+  blanks : (m : Mode) (n : ℕ) → Feeds rest (blanks_or n m rest)
+  blanks m zero = within_line m
+  blanks m (suc n) = other _ _ refl
+
+  line_start : (m : Mode) (found following : List ℕ) → length found ≤ blank_len rest → Feeds rest (layout m found following rest)
+  unfolding layout
+  line_start m found following l =
+      if_feeds (nested m) (λ _. blanks m (length found))
+      (λ _. if_feeds (begins_blank_line following) (λ _. if_feeds (not (is_empty m.levels) && closes_levels false rest) (λ _. empty _) (λ _. blanks m (length found)))
+      (λ _. if_feeds (bytes_eq found (innermost m)) (λ _. blanks m (length found))
+      (λ _. if_feeds (is_level m.levels found) (λ _. empty _)
+      (λ _. if_feeds (m.in_body && starts_with nat_eq found (innermost m)) (λ _. blanks m (length (innermost m)))
+      (λ _. if_feeds (is_mixed (tested_blanks m found)) (λ _. none _)
+      (λ _. if_feeds (not (starts_with nat_eq found (innermost m))) (λ _. none _) (λ _. free _ _ (λ i h. blank_feeds rest i (omega (arith, l, h))))))))))
+
+  at_next : (m : Mode) (b : Bool) → Feeds rest (next_by b m rest)
+  at_next m true = line_start m (take (blank_len rest) rest) (drop (blank_len rest) rest) (omega (arith, length-take (blank_len rest) rest))
+  at_next m false = within_line m
+
+at_end : (o : Option Tok) (levels : List (List ℕ)) → Feeds [] (at_end_by o levels)
+at_end (Some t) levels = none [] _
+at_end None [] = empty [] _
+at_end None (l ∷ ls) = empty [] _
+
+next_feeds : (m : Mode) (rest : List ℕ) → Feeds rest (next m rest)
+unfolding next
+next_feeds m [] = at_end m.interpolation m.levels
+next_feeds m (b ∷ bs) = at_next (b ∷ bs) m m.line_start
+
+-- a token that isn't searched has no line feed
+pub token_feeds : (m : Mode) (rest : List ℕ) (k : TokenKind) (n : ℕ) → next m rest ≡ Ok (k, n) → is_searched k ≡ false → HasNoFeed rest n
+token_feeds m rest k n e = subst (FeedsBy rest) e (next_feeds m rest).by_case

@@ -1,0 +1,102 @@
+//! Paths of files.
+ghost use Rattle.std.specs.Prelude.{◌≡◌, ◌<◌, ◌≤◌, IfOk, OnOk};
+ghost use Rattle.justfile_vocabulary.specs.declared.token_kind.TokenKind.TheVariants as kinds;
+ghost use Rattle.justfile_parse_attribute.specs.ParseErrors.{ParsesRuled};
+ghost use Rattle.justfile_parse_expression.specs.Literal.{IsOf};
+ghost use Rattle.justfile_parse_expression.specs.ParsedResults.{Parses};
+ghost use Rattle.justfile_parse_expression.specs.TableReader as table;
+ghost use Rattle.justfile_parse_expression.specs.View.{tokens_left, state_of};
+ghost use Rattle.justfile_parse_item_parts.specs.PartTable as reader;
+ghost use Rattle.justfile_parse_item_parts.specs.Parts.{optional_path_tree, path_tree};
+
+use crate::refusals::expected_keyword;
+use justfile_parse_attribute::{ParseError, rule_error};
+use justfile_parse_expression::significant::TableEntry;
+use justfile_parse_expression::{ExpressionError, ExpressionParser, SyntaxError, is_word};
+use justfile_token::{Expander, StringLiteral};
+use justfile_vocabulary::{Keyword, TokenKind};
+
+/// Parses the path of a file, if one comes next.
+///
+/// # Errors
+///
+/// The tokens are refused, a literal has no text, or memory runs out.
+#[tactic(auto, using(justfile_parse_attribute::proofs::AttributeSteps::broken_first), unfolding(justfile_model::specs::PartReader::optional_path))]
+pub fn parse_optional_path<'src, X: Expander>(
+    parser: &mut ExpressionParser<'_, 'src, X>,
+) -> Result<Option<StringLiteral<'src>>, ParseError<'src>>
+    ensures reads { ParsesRuled X.answer optional_path_tree result parser.old parser.new
+        reader.optional_path }
+    ensures progress { OnOk result (tokens_left parser.new ≤ tokens_left parser.old) }
+{
+    if !begins_path(parser) {
+        return Ok(None);
+    }
+    let (_token, path) = parse_file_path(parser)?;
+    Ok(Some(path))
+}
+
+/// Parses the path of a file. Returns the token of its literal, and the literal.
+///
+/// # Errors
+///
+/// The tokens are refused, a literal has no text, or memory runs out.
+#[tactic(auto, using(justfile_parse_attribute::proofs::AttributeSteps::broken_first, crate::proofs::FilePaths::path_is))]
+pub fn parse_file_path<'run, 'src, X: Expander>(
+    parser: &mut ExpressionParser<'run, 'src, X>,
+) -> Result<(TableEntry<'run, 'src>, StringLiteral<'src>), ParseError<'src>>
+    ensures reads { ParsesRuled X.answer path_tree result parser.old parser.new reader.file_path }
+    ensures progress { OnOk result (tokens_left parser.new < tokens_left parser.old) }
+{
+    let expand = parse_mark(parser)?;
+    let token = expect_string(parser)?;
+    let path = parser.cook_literal(token, expand)?;
+    Ok((token, path))
+}
+
+/// Whether a path comes next, with or without a mark.
+fn begins_path<X: Expander>(parser: &ExpressionParser<'_, '_, X>) -> bool
+    ensures { result ≡ reader.begins_path (state_of X.answer parser.now) }
+{
+    parser.peek_kinds(&[TokenKind::StringToken])
+        || parser.peek_kinds(&[TokenKind::Identifier, TokenKind::StringToken])
+}
+
+/// Takes the mark `x` if an identifier comes next, and returns whether it did. Refuses any other
+/// identifier.
+#[tactic(auto, using(crate::proofs::Refused::errs), unfolding(justfile_model::specs::PartReader::expansion_mark, justfile_parse_expression::specs::TableReader::leaves))]
+fn parse_mark<'src, X: Expander>(
+    parser: &mut ExpressionParser<'_, 'src, X>,
+) -> Result<bool, ParseError<'src>>
+    ensures reads { ParsesRuled X.answer (λ expand. expand) result parser.old parser.new
+        reader.expansion_mark }
+    ensures progress { OnOk result (tokens_left parser.new ≤ tokens_left parser.old) }
+{
+    let Some(mark) = parser.accept(TokenKind::Identifier) else {
+        return Ok(false);
+    };
+    if is_word(mark, Keyword::X.lexeme()) {
+        Ok(true)
+    } else {
+        Err(rule_error(
+            parser.alloc,
+            expected_keyword(parser.alloc, &[Keyword::X], *mark.token),
+        ))
+    }
+}
+
+/// Takes the next token, which has to be a string.
+#[tactic(auto, unfolding(justfile_model::specs::ReaderState::expect))]
+fn expect_string<'run, 'src, X: Expander>(
+    parser: &mut ExpressionParser<'run, 'src, X>,
+) -> Result<TableEntry<'run, 'src>, ExpressionError<'src>>
+    ensures reads { Parses X.answer (λ entry. entry) result parser.old parser.new
+        (table.expect kinds.StringToken) }
+    ensures entry { IfOk result (IsOf kinds.StringToken) }
+    ensures progress { OnOk result (tokens_left parser.new < tokens_left parser.old) }
+{
+    match parser.accept(TokenKind::StringToken) {
+        Some(entry) => Ok(entry),
+        None => Err(ExpressionError::Refused(SyntaxError::Unexpected)),
+    }
+}

@@ -1,0 +1,40 @@
+-- Loops that write the elements of a list, one after another.
+use Rattle.std.proofs.Common.{◌≡◌, ℕ, Result, Ok, Err, OnOk, OnErr, ◌+◌, ◌<◌, List, [], ◌∷◌, ◌++◌, length, take, drop, get_or, sym, ap, ◌∙◌, subst}
+use Rattle.std.specs.List.{flat_map}
+use Rattle.std.proofs.lemmas.List.{take_more, flat_map_more, take-append-drop}
+use Rattle.std.proofs.lemmas.Grind.{flat_map-append}
+
+-- what holds if a call failed holds at its `Err`
+pub at_err : {T E P : Type 0} (r : Result T E) → P → OnErr r P
+at_err (Ok x) p = tt
+at_err (Err e) p = p
+
+-- what follows if a call succeeded, and what follows if it failed
+pub on_ok : {T E P Q : Type 0} (r : Result T E) → (P → Q) → OnOk r P → OnOk r Q
+on_ok (Ok x) f p = f p
+on_ok (Err e) f p = tt
+
+pub on_err : {T E P Q : Type 0} (r : Result T E) → (P → Q) → OnErr r P → OnErr r Q
+on_err (Ok x) f p = tt
+on_err (Err e) f p = f p
+
+-- for what a sink has written, and for where it failed
+module _ {S : Type 0} (took failed : S → List ℕ → S → Type 0)
+    (more : (a b c : S) (xs ys : List ℕ) → took a xs b → took b ys c → took a (xs ++ ys) c)
+    (later : (a b c : S) (xs ys : List ℕ) → took a xs b → failed b ys c → failed a (xs ++ ys) c)
+    (before : (a b : S) (xs ys : List ℕ) → failed a xs b → failed a (xs ++ ys) b)
+    {X : Type 0} (one : X → List ℕ) (xs : List X) (i : ℕ) (x : X) (h : i < length xs) (e : x ≡ get_or xs i x) where
+  text_more : flat_map one (take i xs) ++ one x ≡ flat_map one (take (i + 1) xs)
+  text_more = flat_map_more one [] (take i xs) x ∙ ap (flat_map one) (ap (λ y. take i xs ++ y ∷ []) e ∙ sym (take_more xs i x h))
+
+  text_split : flat_map one (take (i + 1) xs) ++ flat_map one (drop (i + 1) xs) ≡ flat_map one xs
+  text_split = sym (flat_map-append one (take (i + 1) xs) (drop (i + 1) xs)) ∙ ap (flat_map one) (take-append-drop (i + 1) xs)
+
+  -- one more element is written
+  pub took_next : (a b c : S) → took a (flat_map one (take i xs)) b → took b (one x) c → took a (flat_map one (take (i + 1) xs)) c
+  took_next a b c p q = subst (λ (t : List ℕ). took a t c) text_more (more a b c _ _ p q)
+
+  pub failed_next : (a b c : S) → took a (flat_map one (take i xs)) b → failed b (one x) c → failed a (flat_map one xs) c
+  failed_next a b c p q =
+      subst (λ (t : List ℕ). failed a t c) (ap (λ t. t ++ flat_map one (drop (i + 1) xs)) text_more ∙ text_split)
+      (before a c _ _ (later a b c _ _ p q))

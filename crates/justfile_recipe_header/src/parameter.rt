@@ -1,0 +1,182 @@
+ghost use Rattle.std.specs.Prelude.{◌≡◌, ◌++◌, OnOk, OnErr, IfOk, codes};
+ghost use Rattle.justfile_model.specs.Printing.{fixed_text, if_true};
+ghost use Rattle.justfile_recipe_header.specs.Header.{default_text, parameter_text_of, parameters_text};
+ghost use Rattle.justfile_recipe_header.specs.Parameter.{is_positive};
+
+use crate::parameter_kind::prefix;
+use crate::try_clone::{TryClone, copy_option, copy_text};
+use crate::write_to::{WriteTo, write_each};
+use justfile_expression::{Expression, Sink, put_piece, write_expression};
+use justfile_model::ParameterKind;
+use justfile_token::Name;
+use justfile_vocabulary::Number;
+use std::alloc::{AllocError, Global};
+use std::fmt;
+
+/// A parameter of a recipe, with what an `arg` attribute sets for it.
+#[derive(Drop, PartialEq)]
+pub struct Parameter<'src> {
+    /// The value if no argument is given.
+    pub default: Option<Box<Expression<'src>>>,
+    /// Whether the parameter is also exported as an environment variable, with `$` before its name.
+    pub export: bool,
+    /// Whether the parameter is an option without a value.
+    pub flag: bool,
+    /// The help text in the recipe's usage.
+    pub help: Option<String>,
+    /// How many arguments the parameter takes: one, any number, or at least one.
+    pub kind: ParameterKind,
+    /// The name as a long option.
+    pub long: Option<String>,
+    /// The greatest number of arguments, if it is limited.
+    pub max: Option<u64>,
+    /// The least number of arguments, if one is set.
+    pub min: Option<u64>,
+    /// Whether the option may be given more than once.
+    pub multiple: bool,
+    /// The name.
+    pub name: Name<'src>,
+    /// The number of the parameter. The numerator gives no other binding the same number.
+    pub number: Number,
+    /// The name as a short option.
+    pub short: Option<char>,
+    /// The value if the option is given without one.
+    pub value: Option<Box<Expression<'src>>>,
+}
+
+impl<'src> Parameter<'src> {
+    ghost use Rattle.justfile_recipe_header.specs.Copies.{IsSameParameter};
+    ghost use Rattle.justfile_recipe_header.specs.Parameter.{is_option, is_required};
+
+    /// Returns a copy of the parameter, or an error if out of memory.
+    pub fn clone(&self, alloc: Global) -> Result<Self, AllocError>
+        ensures { IfOk result (λ copy. IsSameParameter copy self.now) }
+    {
+        let default = copy_option(alloc, &self.default)?;
+        let value = copy_option(alloc, &self.value)?;
+        let help = copy_text(alloc, &self.help)?;
+        Ok(Parameter {
+            default,
+            export: self.export,
+            flag: self.flag,
+            help,
+            kind: self.kind,
+            long: copy_text(alloc, &self.long)?,
+            max: self.max,
+            min: self.min,
+            multiple: self.multiple,
+            name: self.name,
+            number: self.number,
+            short: self.short,
+            value,
+        })
+    }
+
+    /// Whether the parameter is an option: it has a long or a short option name.
+    pub fn is_option(&self) -> bool
+        ensures { result ≡ is_option self.now }
+    {
+        self.long.is_some() || self.short.is_some()
+    }
+
+    /// Whether an argument is required: the parameter has no default and isn't a flag, and its kind
+    /// isn't `*`, unless `min` is above 0.
+    pub fn is_required(&self) -> bool
+        ensures { result ≡ is_required self.now }
+    {
+        self.default.is_none()
+            && !self.flag
+            && (self.kind != ParameterKind::Star || is_positive(self.min))
+    }
+}
+
+impl TryClone for Parameter<'_> {
+    ghost use Rattle.justfile_recipe_header.specs.Copies.{IsSameParameter};
+
+    ghost is_copy = { IsSameParameter };
+
+    fn try_clone(&self, alloc: Global) -> Result<Self, AllocError> {
+        self.clone(alloc)
+    }
+}
+
+impl WriteTo for Parameter<'_> {
+    ghost piece_text = { parameter_text_of };
+
+    fn write<S: Sink>(&self, sink: &mut S) -> Result<(), S::Fault> {
+        write_parameter(self, sink)
+    }
+}
+
+impl fmt::Display for Parameter<'_> {
+    ghost use Rattle.std.specs.Prelude.{Some};
+
+    ghost output = { λ parameter. Some (parameter_text_of parameter) };
+
+    fn fmt<W: fmt::Write>(&self, f: &mut fmt::Formatter<W>) -> fmt::Result {
+        write_parameter(self, f)
+    }
+}
+
+/// Writes the same text as `Display`.
+impl fmt::Debug for Parameter<'_> {
+    fn fmt<W: fmt::Write>(&self, f: &mut fmt::Formatter<W>) -> fmt::Result {
+        write_parameter(self, f)
+    }
+}
+
+/// Whether a number is present and above 0.
+fn is_positive(number: Option<u64>) -> bool
+    ensures { result ≡ is_positive number }
+{
+    match number {
+        None => false,
+        Some(number) => 0 < number,
+    }
+}
+
+/// Writes the text of a parameter.
+pub fn write_parameter<S: Sink>(parameter: &Parameter<'_>, sink: &mut S) -> Result<(), S::Fault>
+    ensures ok { OnOk result (S.took sink.old (parameter_text_of parameter.now) sink.new) }
+    ensures err { OnErr result (S.failed sink.old (parameter_text_of parameter.now) sink.new) }
+{
+    sink.put(prefix(parameter.kind))?;
+    write_export(parameter.export, sink)?;
+    sink.put(parameter.name.lexeme())?;
+    write_default(&parameter.default, sink)
+}
+
+/// Writes the `$` of an exported parameter.
+fn write_export<S: Sink>(export: bool, sink: &mut S) -> Result<(), S::Fault>
+    ensures ok { OnOk result (S.took sink.old (if_true export (fixed_text (codes "$"))) sink.new) }
+    ensures err { OnErr result (S.failed sink.old (if_true export (fixed_text (codes "$"))) sink.new) }
+{
+    if export { put_piece("$", sink) } else { Ok(()) }
+}
+
+/// Writes the default of a parameter with `=` before it, or nothing if there is none.
+fn write_default<S: Sink>(
+    default: &Option<Box<Expression<'_>>>,
+    sink: &mut S,
+) -> Result<(), S::Fault>
+    ensures ok { OnOk result (S.took sink.old (default_text default.now) sink.new) }
+    ensures err { OnErr result (S.failed sink.old (default_text default.now) sink.new) }
+{
+    match default {
+        None => Ok(()),
+        Some(expression) => {
+            put_piece("=", sink)?;
+            write_expression(expression, sink)
+        }
+    }
+}
+
+/// Writes the parameters of a recipe, each after a space.
+#[tactic(auto, using(crate::proofs::Parts::parameters_parts))]
+pub fn write_parameters<S: Sink>(parameters: &[Parameter<'_>], sink: &mut S) -> Result<(), S::Fault>
+    ensures ok { OnOk result (S.took sink.old (parameters_text parameters.now) sink.new) }
+    ensures err { OnErr result (S.failed sink.old (parameters_text parameters.now) sink.new) }
+{
+    write_each(" ", parameters, sink)?;
+    Ok(())
+}

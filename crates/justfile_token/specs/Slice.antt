@@ -1,0 +1,11 @@
+-- Parts of a text.
+use Rattle.std.specs.Prelude.{ℕ, ◌+◌, ◌≤◌, List, length, take, drop}
+use Rattle.std.specs.Str.{IsCharBoundary}
+
+-- the `len` bytes of a text from an offset on
+abbrev pub slice_of : List ℕ → ℕ → ℕ → List ℕ
+slice_of text offset len = take len (drop offset text)
+
+-- The `len` bytes from an offset on lie in the text, and begin and end on character boundaries.
+abbrev pub IsWithin : List ℕ → ℕ → ℕ → Type 0
+IsWithin text offset len = (offset + len ≤ length text) × IsCharBoundary text offset × IsCharBoundary text (offset + len)
